@@ -4,7 +4,6 @@ pub mod BytesOfReading
 pub mod CountingToTaking
 pub mod CountsStaySmall
 pub mod FailuresOfSteps
-pub mod MarkAfterToken
 pub mod MarkerCounts
 pub mod MarksInTurn
 pub mod ReadingsToConversion

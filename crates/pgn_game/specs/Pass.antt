@@ -3,9 +3,9 @@
 -- the reading has given so far, t is a token, m a mark and ms are marks, f is a fault, u are bytes.
 -- `left_old` and `left_now` are the bytes that the source has left, at first and now; `before` and
 -- `after` those that the sink has taken. `told` is the mark that the other reading has told.
-use Rattle.std.specs.Prelude.{◌≡◌, ℕ, ◌+◌, ◌*◌, ◌^◌, ◌<◌, ◌≤◌, ◌⊎◌, ◌-◌, Bool, true, false, not, ◌||◌, ◌&&◌, ◌==◌, bytes_eq, is_some, List, [], ◌∷◌, ◌++◌, length, take, Option, None, Some, Result, Ok, Err, IfSome, OnOk}
+use Rattle.std.specs.Prelude.{◌≡◌, ℕ, ◌+◌, ◌*◌, ◌^◌, ◌<◌, ◌≤◌, ◌⊎◌, ◌-◌, Bool, true, false, not, ◌||◌, ◌&&◌, ◌==◌, bytes_eq, is_some, List, [], ◌∷◌, ◌++◌, length, Option, None, Some, Result, Ok, Err, IfSome}
 use Rattle.std.specs.Io.KnownBytes.{Appends, Consumes}
-use Rattle.pgn_layout.specs.Device.{AppendsFront, one_more}
+use Rattle.pgn_layout.specs.Device.{AppendsFront}
 use Rattle.pgn_lexer.specs.Tokens.{Kind, Token}
 use Rattle.pgn_lexer.specs.TokensOf.{tokens_of}
 use Rattle.pgn_lexer.specs.Decided.{decided}
@@ -16,21 +16,20 @@ use Rattle.pgn_game.specs.declared.reason.Reason.TheVariants.{ReadFault, WriteFa
 use Rattle.pgn_game.specs.declared.reason.Fault.{Fault}
 use Rattle.pgn_game.specs.declared.accepted.Accepted.{Accepted}
 use Rattle.pgn_game.specs.declared.accepted.Accepted.TheVariants.{More as Continues, Finished}
-use Rattle.pgn_game.specs.declared.marker.Marker.{Marker}
 use Rattle.pgn_game.specs.declared.checked.Mark.{Mark as CodeMark}
 use Rattle.pgn_game.specs.declared.checked.Taken.{Taken}
 use Rattle.pgn_game.specs.declared.checked.Taken.TheVariants.{More, Game as GameEnd, End}
 use Rattle.pgn_game.specs.Markers.{marker_text}
-use Rattle.pgn_game.specs.Profile.{Profile, Missing, counting, counts_as, takes_the_marker, with_missing}
-use Rattle.pgn_game.specs.Game.{Game, Part, no_part}
+use Rattle.pgn_game.specs.Profile.{Profile, counting, takes_the_marker}
+use Rattle.pgn_game.specs.Game.{Part, no_part}
 use Rattle.pgn_game.specs.FaultTable.{refusal, is_end}
 use Rattle.pgn_game.specs.Progress.{Next, going, whole, next, no_progress, read}
-use Rattle.pgn_game.specs.Text.{game_text, text_of, torn}
+use Rattle.pgn_game.specs.Text.{text_of, torn}
 use Rattle.pgn_game.specs.Due.{gain}
 use Rattle.pgn_game.specs.Conversion.{CountsDevices}
 use Rattle.pgn_game.specs.ReaderState.{ReaderState, Agrees, IsAccepted, as_written}
 use Rattle.pgn_game.specs.ConverterCalls.{Converter, HasRead}
-use Rattle.pgn_game.specs.Checked.{Mark, marks, marks_from, is_other, is_changed, compared_from}
+use Rattle.pgn_game.specs.Checked.{Mark, marks, marks_from, is_other, compared_from}
 
 -- the lexer, the reader, how many games were finished, the bytes that were read and not used, and
 -- whether the source has ended
@@ -45,12 +44,13 @@ pub record Pass : Type 0 where
 abbrev pub model_mark : CodeMark → Mark
 model_mark m = record { text = marker_text m.marker; at = m.at }
 
--- a profile that differs in nothing but a missing Result
-abbrev pub IsAlike : Profile → Profile → Type 0
-IsAlike q p = (missing : Missing) × (p ≡ with_missing q missing)
+-- The profile of the reader. While the other reading has told a mark, a missing Result counts as
+-- its marker; else it takes the marker of its game.
+abbrev pub profile_under : Profile → Option CodeMark → Profile
+profile_under q None = q
+profile_under q (Some m) = counting q (marker_text m.marker)
 
--- A reading as a converter of the profile q would see it: a missing Result takes the marker, though
--- for the second reading it counts as the marker that the first one has told.
+-- A reading as a converter of the profile q would see it.
 abbrev pub reading_under : Profile → ReaderState → ReaderState
 reading_under q r = record r { profile = q }
 
@@ -64,13 +64,14 @@ StandsIn false l unused given u left_old = StandsAfter l u (first unused) given 
 StandsIn true l unused given u left_old = HasLeft l u given × (unused ≡ []) × IfSome left_old (λ s. s ≡ u)
 
 -- The reading has given these tokens, and none is rejected.
-pub record HasGiven (q : Profile) (left_old left_now : Option (List ℕ)) (s : Pass) (given : List Token) : Type 0 where
+pub record HasGiven (q : Profile) (told : Option CodeMark) (left_old left_now : Option (List ℕ)) (s : Pass) (given : List Token) : Type 0 where
+  pub takes : q.missing_result ≡ takes_the_marker
   pub bytes : List ℕ
   pub consumed : Consumes left_old left_now (bytes ++ s.unused)
   pub stands : StandsIn s.has_ended s.lexer s.unused given bytes left_old
   pub counted : s.lexer.count ≡ length bytes
   pub has_read : HasRead q (as_converter q s) given
-  pub profile : IsAlike q s.reading.profile
+  pub profile : s.reading.profile ≡ profile_under q told
 
 -- What a reading keeps to before a fault and before its end: its counts stay small.
 pub record IsGoing (s : Pass) : Type 0 where
@@ -87,15 +88,6 @@ changed_reason _ = Changed
 abbrev pub as_changed : Fault → Fault
 as_changed f = record { at = f.at; reason = changed_reason f.reason }
 
--- while the other reading has told a mark, a missing Result counts as its marker; else it takes the
--- marker of its game
-abbrev pub missing_under : Option CodeMark → Missing
-missing_under None = takes_the_marker
-missing_under (Some m) = counts_as (marker_text m.marker)
-
-abbrev pub IsTold : Option CodeMark → ReaderState → Type 0
-IsTold told r = r.profile.missing_result ≡ missing_under told
-
 -- where a token leads that shows a difference
 abbrev pub shows_other : Option CodeMark → Next → Token → Bool
 shows_other None n t = false
@@ -107,112 +99,93 @@ rejects told q part t = is_some (refusal q part t.kind) || shows_other told (nex
 
 -- where a token leads, and what the step answers
 abbrev pub LeadsTo : Next → Token → Taken → Type 0
-LeadsTo (going part) t More = is_end t.kind ≡ false
-LeadsTo (going part) t End = is_end t.kind ≡ true
 LeadsTo (whole g) t (GameEnd m) = model_mark m ≡ record { text = g.marker; at = t.at }
+LeadsTo (going part) t More = Unit {0}
+LeadsTo (going part) t End = Unit {0}
 LeadsTo _ t _ = ⊥
 
 abbrev pub accepted_of : Taken → Accepted
 accepted_of (GameEnd m) = Finished
 accepted_of _ = Continues
 
--- whether the marker of a token shows a difference from the mark
-abbrev pub marks_differ : Option CodeMark → Option Marker → ℕ → Bool
-marks_differ (Some m) (Some marker) at = not (bytes_eq (marker_text marker) (marker_text m.marker) && (at == m.at))
+-- whether a marker shows a difference from the mark
+abbrev pub marks_differ : Option CodeMark → Option (List ℕ) → ℕ → Bool
+marks_differ (Some m) (Some marker) at = not (bytes_eq marker (marker_text m.marker) && (at == m.at))
 marks_differ _ _ at = false
 
--- What a token does to a reader that agrees with a part. It is taken: it is not rejected, and shows
--- no difference; what it adds was appended.
-pub record TakesToken (q : Profile) (part : Part) (told : Option CodeMark) (t : Token) (old new : ReaderState) (taken : Taken) (before after : Option (List ℕ)) : Type 0 where
+-- A token is taken: it is not rejected, and shows no difference; what it adds was appended.
+pub record TokenPasses (q : Profile) (part : Part) (told : Option CodeMark) (t : Token) (taken : Taken) (before after : Option (List ℕ)) : Type 0 where
   pub free : refusal q part t.kind ≡ None
   pub same : rejects told q part t ≡ false
   pub leads : LeadsTo (next part t.kind) t taken
+  pub appended : Appends before after (gain (as_written (profile_under q told)) part t.kind)
+
+-- a reader that agrees with the part has taken it
+pub record TakesToken (q : Profile) (part : Part) (told : Option CodeMark) (t : Token) (old new : ReaderState) (taken : Taken) (before after : Option (List ℕ)) : Type 0 where
+  pub passes : TokenPasses q part told t taken before after
+  pub kept : new.profile ≡ old.profile
   pub accepted : IsAccepted (reading_under q old) part t.kind (reading_under q new) (accepted_of taken) None None
-  pub appended : Appends before after (gain (as_written new.profile) part t.kind)
 
 -- It is not taken: it is rejected; or it shows a difference; or a write failed.
-pub data TokenFails (q : Profile) (part : Part) (told : Option CodeMark) (t : Token) (new : ReaderState) (before after : Option (List ℕ)) : Fault → Type 0 where
+pub data TokenFails (q : Profile) (part : Part) (told : Option CodeMark) (t : Token) (before after : Option (List ℕ)) : Fault → Type 0 where
   refused : (reason : Reason) → refusal q part t.kind ≡ Some reason → Appends before after []
-      → TokenFails q part told t new before after (record { at = t.at; reason = reason })
+      → TokenFails q part told t before after (record { at = t.at; reason = reason })
   other : rejects told q part t ≡ true → is_some told ≡ true → Appends before after []
-      → TokenFails q part told t new before after (record { at = t.at; reason = Changed })
-  unwritten : rejects told q part t ≡ false → AppendsFront before after (gain (as_written new.profile) part t.kind)
-      → TokenFails q part told t new before after (record { at = t.at; reason = WriteFault })
+      → TokenFails q part told t before after (record { at = t.at; reason = Changed })
+  unwritten : rejects told q part t ≡ false → AppendsFront before after (gain (as_written (profile_under q told)) part t.kind)
+      → TokenFails q part told t before after (record { at = t.at; reason = WriteFault })
 
 abbrev pub AfterToken : Profile → Part → Option CodeMark → Token → ReaderState → ReaderState → Result Taken Fault → Option (List ℕ) → Option (List ℕ) → Type 0
 AfterToken q part told t old new (Ok taken) before after = TakesToken q part told t old new taken before after
-AfterToken q part told t old new (Err f) before after = TokenFails q part told t new before after f
+AfterToken q part told t old new (Err f) before after = TokenFails q part told t before after f
 
 -- so for each profile whose missing Result takes the marker
 abbrev pub TakesKind : Option CodeMark → Kind → ℕ → ReaderState → ReaderState → Result Taken Fault → Option (List ℕ) → Option (List ℕ) → Type 0
 TakesKind told k at old new result before after =
-    (q : Profile) (part : Part) → q.missing_result ≡ takes_the_marker → IsAlike q old.profile → Agrees old part
-    → IsAlike q new.profile × AfterToken q part told (record { at = at; kind = k }) old new result before after
+    (q : Profile) (part : Part) → q.missing_result ≡ takes_the_marker → old.profile ≡ profile_under q told → Agrees old part
+    → AfterToken q part told (record { at = at; kind = k }) old new result before after
+
+-- a game that was finished ends by its marker, at this place
+abbrev pub EndsGame : Option (List ℕ) → ℕ → Taken → Type 0
+EndsGame (Some marker) at (GameEnd m) = model_mark m ≡ record { text = marker; at = at }
+EndsGame (Some marker) at _ = ⊥
+EndsGame None at taken = Unit {0}
 
 -- how many games were finished, with this token
 abbrev pub games_with : Taken → ℕ → ℕ
 games_with (GameEnd m) games = games + 1
 games_with _ games = games
 
--- a step that is not the last one took no end
-abbrev pub GoesBehind : Kind → Taken → Type 0
-GoesBehind k End = Unit {0}
-GoesBehind k _ = is_end k ≡ false
+-- the answer to the end, and to no other token
+abbrev pub is_last : Taken → Bool
+is_last End = true
+is_last _ = false
 
--- what a token that is taken leaves, for the next one
-pub record LeavesReader (told : Option CodeMark) (old new : ReaderState) (games_old games_new : ℕ) (taken : Taken) : Type 0 where
-  pub under : IsTold told new
-  pub plies : new.earlier_plies + new.text.plies ≤ old.earlier_plies + old.text.plies + 1
-  pub games : games_new ≡ games_with taken games_old
+abbrev pub TellsEnd : Kind → Taken → Type 0
+TellsEnd k taken = is_end k ≡ is_last taken
 
 -- the part before the next token
 abbrev pub part_after : Profile → List Token → Part
 part_after q given = (read q given).progress.part
 
--- The reading has taken one token more.
-pub record TakesOn (q : Profile) (left_old left_now : Option (List ℕ)) (told : Option CodeMark) (given : List Token) (t : Token) (new : Pass) (taken : Taken)
-    (before after : Option (List ℕ)) : Type 0 where
-  pub has_given : HasGiven q left_old left_now new (given ++ t ∷ [])
-  pub free : refusal q (part_after q given) t.kind ≡ None
-  pub same : rejects told q (part_after q given) t ≡ false
-  pub leads : LeadsTo (next (part_after q given) t.kind) t taken
-  pub appended : Appends before after (gain (as_written new.reading.profile) (part_after q given) t.kind)
-
--- It has taken the end, between games.
-pub record TakesEnd (q : Profile) (left_old : Option (List ℕ)) (told : Option CodeMark) (given : List Token) (t : Token) (new : Pass) : Type 0 where
-  pub whole : IfSome left_old (λ s. tokens_of s ≡ given ++ t ∷ [])
-  pub free : refusal q (part_after q given) t.kind ≡ None
-  pub same : rejects told q (part_after q given) t ≡ false
-  pub leads : LeadsTo (next (part_after q given) t.kind) t End
-  pub has_read : HasRead q (as_converter q new) (given ++ t ∷ [])
-
 -- the token t comes next in the text
 abbrev pub ComesNext : Option (List ℕ) → List Token → Token → Type 0
 ComesNext left_old given t = IfSome left_old (λ s. (ts : List Token) × (tokens_of s ≡ given ++ t ∷ ts))
 
--- or it has not taken the next one
-pub record TakeFails (q : Profile) (left_old : Option (List ℕ)) (told : Option CodeMark) (given : List Token) (new : ReaderState) (f : Fault)
+-- The reading has taken one token more: the end, or one behind which it goes on.
+pub record TakesOn (q : Profile) (left_old left_now : Option (List ℕ)) (told : Option CodeMark) (given : List Token) (t : Token) (new : Pass) (taken : Taken)
     (before after : Option (List ℕ)) : Type 0 where
+  pub has_given : is_last taken ≡ false → HasGiven q told left_old left_now new (given ++ t ∷ [])
+  pub whole : is_last taken ≡ true → IfSome left_old (λ s. tokens_of s ≡ given ++ t ∷ [])
+  pub has_read : HasRead q (as_converter q new) (given ++ t ∷ [])
+  pub passes : TokenPasses q (part_after q given) told t taken before after
+  pub end : TellsEnd t.kind taken
+
+-- or it has not taken the next one
+pub record TakeFails (q : Profile) (left_old : Option (List ℕ)) (told : Option CodeMark) (given : List Token) (f : Fault) (before after : Option (List ℕ)) : Type 0 where
   pub token : Token
   pub comes : ComesNext left_old given token
-  pub profile : IsAlike q new.profile
-  pub fails : TokenFails q (part_after q given) told token new before after f
-
--- what taking a token does to a reading that has given these tokens
-abbrev pub AfterTake : Profile → Option (List ℕ) → Option (List ℕ) → Option CodeMark → List Token → Pass → Result Taken Fault → Option (List ℕ) → Option (List ℕ) → Type 0
-AfterTake q left_old left_now told given new (Ok More) before after =
-    (HasGiven q left_old left_now new given × Appends before after []) ⊎ ((t : Token) × TakesOn q left_old left_now told given t new More before after)
-AfterTake q left_old left_now told given new (Ok (GameEnd m)) before after =
-    (t : Token) × TakesOn q left_old left_now told given t new (GameEnd m) before after
-AfterTake q left_old left_now told given new (Ok End) before after =
-    (t : Token) × TakesEnd q left_old told given t new
-AfterTake q left_old left_now told given new (Err f) before after =
-    TakeFails q left_old told given new.reading f before after
-
-abbrev pub Takes : Option CodeMark → Pass → Pass → Result Taken Fault → Option (List ℕ) → Option (List ℕ) → Type 0
-Takes told old new result before after =
-    (q : Profile) (left_old left_now : Option (List ℕ)) (given : List Token) → q.missing_result ≡ takes_the_marker
-    → HasGiven q left_old left_now old given → AfterTake q left_old left_now told given new result before after
+  pub fails : TokenFails q (part_after q given) told token before after f
 
 -- The source gives no more: a read failed behind the bytes u, or the byte at place 2^62 came.
 pub data ReadFails (left_old left_new : Option (List ℕ)) (given : List Token) : Fault → Type 0 where
@@ -221,137 +194,64 @@ pub data ReadFails (left_old left_new : Option (List ℕ)) (given : List Token) 
       → ReadFails left_old left_new given (record { at = length u; reason = InputTooLong })
 
 -- what reading bytes does
-abbrev pub AfterFill : Profile → Option (List ℕ) → Option (List ℕ) → List Token → Pass → Result Unit Fault → Type 0
-AfterFill q left_old left_new given new (Ok done) = HasGiven q left_old left_new new given
-AfterFill q left_old left_new given new (Err f) = ReadFails left_old left_new given f
+abbrev pub AfterFill : Profile → Option CodeMark → Option (List ℕ) → Option (List ℕ) → List Token → Pass → Result Unit Fault → Type 0
+AfterFill q told left_old left_new given new (Ok done) = HasGiven q told left_old left_new new given
+AfterFill q told left_old left_new given new (Err f) = ReadFails left_old left_new given f
 
--- the bytes that are read are not used yet
-abbrev pub IsFilled : Pass → Pass → Result Unit Fault → Type 0
-IsFilled old new (Ok done) = (new.has_ended ≡ true) ⊎ (0 < length new.unused)
-IsFilled old new (Err f) = Unit {0}
+abbrev pub Fills : Option (List ℕ) → Option (List ℕ) → Pass → Pass → Result Unit Fault → Type 0
+Fills left_before left_after old new result =
+    (q : Profile) (told : Option CodeMark) (left_old : Option (List ℕ)) (given : List Token) → HasGiven q told left_old left_before old given
+    → AfterFill q told left_old left_after given new result
 
-pub record Fills (left_before left_after : Option (List ℕ)) (old new : Pass) (result : Result Unit Fault) : Type 0 where
-  pub fills : (q : Profile) (left_old : Option (List ℕ)) (given : List Token) → HasGiven q left_old left_before old given
-      → AfterFill q left_old left_after given new result
-  pub kept : new ≡ record old { unused = new.unused; has_ended = new.has_ended }
-  pub filled : IsFilled old new result
-  pub going : OnOk result (IsGoing new)
-
--- what a step does
+-- What a step does to a reading that has given these tokens: it takes the next one, or reads bytes.
 abbrev pub AfterStep : Profile → Option (List ℕ) → Option (List ℕ) → Option CodeMark → List Token → Pass → Result Taken Fault → Option (List ℕ) → Option (List ℕ) → Type 0
-AfterStep q left_old left_new told given new (Ok taken) before after = AfterTake q left_old left_new told given new (Ok taken) before after
+AfterStep q left_old left_new told given new (Ok More) before after =
+    (HasGiven q told left_old left_new new given × Appends before after []) ⊎ ((t : Token) × TakesOn q left_old left_new told given t new More before after)
+AfterStep q left_old left_new told given new (Ok taken) before after =
+    (t : Token) × TakesOn q left_old left_new told given t new taken before after
 AfterStep q left_old left_new told given new (Err f) before after =
-    TakeFails q left_old told given new.reading f before after ⊎ (ReadFails left_old left_new given f × Appends before after [])
+    TakeFails q left_old told given f before after ⊎ (ReadFails left_old left_new given f × Appends before after [])
 
 abbrev pub Steps : Option (List ℕ) → Option (List ℕ) → Option CodeMark → Pass → Pass → Result Taken Fault → Option (List ℕ) → Option (List ℕ) → Type 0
 Steps left_before left_after told old new result before after =
-    (q : Profile) (left_old : Option (List ℕ)) (given : List Token) → q.missing_result ≡ takes_the_marker
-    → HasGiven q left_old left_before old given → AfterStep q left_old left_after told given new result before after
+    (q : Profile) (left_old : Option (List ℕ)) (given : List Token)
+    → HasGiven q told left_old left_before old given → AfterStep q left_old left_after told given new result before after
 
 -- So many steps are left at most, before the input ends: a step uses bytes, or a token that was
 -- waiting, or it reads bytes.
 abbrev pub until_read : Bool → List ℕ → ℕ
 until_read true unused = 0
-until_read false [] = 1
-until_read false (b ∷ bs) = 0
+until_read false unused = 1 - length unused
 
 abbrev pub steps_left : Pass → ℕ
 steps_left s = 4 * (2 ^ 62 - s.lexer.count) + waiting s.lexer + until_read s.has_ended s.unused
 
 -- What a step keeps. After the end no step is taken.
-pub record KeepsGoing (told : Option CodeMark) (old new : Pass) : Type 0 where
+pub record KeepsGoing (old new : Pass) : Type 0 where
   pub going : IsGoing new
-  pub under : IsTold told new.reading
   pub fewer : steps_left new < steps_left old
 
-abbrev pub Keeps : Option CodeMark → Pass → Pass → Result Taken Fault → Type 0
-Keeps told old new (Ok End) = Unit {0}
-Keeps told old new (Ok taken) = KeepsGoing told old new
-Keeps told old new (Err f) = IsTold told new.reading
-
-abbrev pub CountsReading : Reason → ℕ → ℕ → Type 0
-CountsReading ReadFault old new = new ≡ one_more old
-CountsReading WriteFault old new = ⊥
-CountsReading _ old new = new ≡ old
-
--- where only the sink is used
-abbrev pub CountsTaking : Reason → ℕ → ℕ → Type 0
-CountsTaking ReadFault old new = ⊥
-CountsTaking WriteFault old new = new ≡ one_more old
-CountsTaking _ old new = new ≡ old
-
-abbrev pub CountsTaken : {A : Type 0} → Result A Fault → ℕ → ℕ → Type 0
-CountsTaken (Ok x) old new = new ≡ old
-CountsTaken (Err f) old new = CountsTaking f.reason old new
+abbrev pub Keeps : Pass → Pass → Result Taken Fault → Type 0
+Keeps old new (Ok End) = Unit {0}
+Keeps old new (Ok taken) = KeepsGoing old new
+Keeps old new (Err f) = Unit {0}
 
 -- Which device counts a failure: the source, exactly if a read failed; the sink, exactly if a write
--- failed.
+-- failed. The counts are 0 of a device that is not there.
 abbrev pub CountsStep : {A : Type 0} → Result A Fault → ℕ → ℕ → ℕ → ℕ → Type 0
 CountsStep (Ok x) source_old source_new sink_old sink_new = (source_new ≡ source_old) × (sink_new ≡ sink_old)
 CountsStep (Err f) source_old source_new sink_old sink_new = CountsDevices f.reason source_old source_new sink_old sink_new
 
--- the source alone
-abbrev pub CountsRead : {A : Type 0} → Result A Fault → ℕ → ℕ → Type 0
-CountsRead (Ok x) old new = new ≡ old
-CountsRead (Err f) old new = CountsReading f.reason old new
+-- One game.
 
--- A game of the first reading.
+-- the first tokens of a text, behind which no game is begun
+pub record StandsBetween (q : Profile) (told : Option CodeMark) (left_old left_now : Option (List ℕ)) (given : List Token) (now : Pass) : Type 0 where
+  pub has_given : HasGiven q told left_old left_now now given
+  pub between : part_after q given ≡ no_part
 
 -- these are the marks of the tokens, whatever comes behind them
 abbrev pub HasMarked : Profile → List Token → List Mark → Type 0
 HasMarked q given ms = (ts : List Token) → marks q (given ++ ts) ≡ ms ++ marks_from q (read q given).progress ts
-
--- the tokens up to a mark, or up to the end
-pub record ReadsMark (q : Profile) (left_old left_new : Option (List ℕ)) (ms : List Mark) (m : CodeMark) (new : Pass) : Type 0 where
-  pub tokens : List Token
-  pub has_given : HasGiven q left_old left_new new tokens
-  pub marked : HasMarked q tokens (ms ++ model_mark m ∷ [])
-
-pub record ReadsToEnd (q : Profile) (left_old : Option (List ℕ)) (ms : List Mark) (new : Pass) : Type 0 where
-  pub tokens : List Token
-  pub whole : IfSome left_old (λ s. tokens_of s ≡ tokens)
-  pub has_read : HasRead q (as_converter q new) tokens
-  pub marked : HasMarked q tokens ms
-
--- or up to a fault
-pub data StopsAt (q : Profile) (left_old left_new : Option (List ℕ)) (given : List Token) : Fault → Type 0 where
-  refused : (t : Token) (reason : Reason) → ComesNext left_old given t → refusal q (part_after q given) t.kind ≡ Some reason
-      → StopsAt q left_old left_new given (record { at = t.at; reason = reason })
-  unread : (f : Fault) → ReadFails left_old left_new given f → StopsAt q left_old left_new given f
-
-pub record ReadsToFault (q : Profile) (left_old left_new : Option (List ℕ)) (ms : List Mark) (f : Fault) : Type 0 where
-  pub tokens : List Token
-  pub passes : (read q tokens).fault ≡ None
-  pub marked : HasMarked q tokens ms
-  pub stops : StopsAt q left_old left_new tokens f
-
-abbrev pub AfterRead : Profile → Option (List ℕ) → Option (List ℕ) → List Mark → Pass → Result (Option CodeMark) Fault → Type 0
-AfterRead q left_old left_new ms new (Ok (Some m)) = ReadsMark q left_old left_new ms m new
-AfterRead q left_old left_new ms new (Ok None) = ReadsToEnd q left_old ms new
-AfterRead q left_old left_new ms new (Err f) = ReadsToFault q left_old left_new ms f
-
-abbrev pub ReadsGame : Option (List ℕ) → Option (List ℕ) → Pass → Pass → Result (Option CodeMark) Fault → Type 0
-ReadsGame left_before left_after old new result =
-    (q : Profile) (left_old : Option (List ℕ)) (given : List Token) (ms : List Mark) → q.missing_result ≡ takes_the_marker
-    → HasGiven q left_old left_before old given → HasMarked q given ms → AfterRead q left_old left_after ms new result
-
--- what was read of the game so far
-pub record ReadsSoFar (q : Profile) (left_old left_now : Option (List ℕ)) (ms : List Mark) (now : Pass) : Type 0 where
-  pub tokens : List Token
-  pub has_given : HasGiven q left_old left_now now tokens
-  pub marked : HasMarked q tokens ms
-
-abbrev pub ReadsGameSoFar : Option (List ℕ) → Option (List ℕ) → Pass → Pass → Type 0
-ReadsGameSoFar left_before left_now old now =
-    (q : Profile) (left_old : Option (List ℕ)) (given : List Token) (ms : List Mark) → q.missing_result ≡ takes_the_marker
-    → HasGiven q left_old left_before old given → HasMarked q given ms → ReadsSoFar q left_old left_now ms now
-
--- it goes on behind a mark, fewer steps are left, and a missing Result still takes the marker
-abbrev pub GoesOn : Pass → Pass → Result (Option CodeMark) Fault → Type 0
-GoesOn old new (Ok (Some m)) = IsGoing new × (steps_left new < steps_left old) × IsTold None new.reading
-GoesOn old new _ = Unit {0}
-
--- A game of the second reading.
 
 -- The tokens show no difference from the marks ms, of which these are left, whatever comes behind
 -- both.
@@ -359,74 +259,69 @@ abbrev pub HasMatched : Profile → List Mark → List Token → List Mark → T
 HasMatched q ms given left =
     (ns : List Mark) (ts : List Token) → compared_from q (ms ++ ns) no_progress (given ++ ts) ≡ compared_from q (left ++ ns) (read q given).progress ts
 
--- what is written of the game that ends with the mark m, when these tokens were taken
-abbrev pub torn_after : Profile → CodeMark → List Token → List ℕ
-torn_after q m given = torn (counting q (marker_text m.marker)) (part_after q given)
-
--- the tokens up to the mark, and the game is written
-pub record WritesToMark (q : Profile) (left_old left_new : Option (List ℕ)) (ms : List Mark) (given : List Token) (new : Pass) (before after : Option (List ℕ)) : Type 0 where
+-- What was read of the game behind these tokens so far: no mark more, and no difference from the
+-- mark that was told. What is written of it was appended.
+pub record GoesSoFar (q : Profile) (told : Option CodeMark) (left_old left_now : Option (List ℕ)) (given : List Token) (now : Pass) (before after : Option (List ℕ)) : Type 0 where
   pub tokens : List Token
-  pub game : Game
-  pub has_given : HasGiven q left_old left_new new tokens
-  pub goes_on : IsGoing new
-  pub matched : HasMatched q ms tokens []
-  pub between : part_after q tokens ≡ no_part
-  pub one_game : (read q tokens).progress.games ≡ (read q given).progress.games ++ game ∷ []
-  pub appended : Appends before after (game_text q game)
-
--- how the second reading stops within a game
-pub data StopsWithin (q : Profile) (left_old left_new : Option (List ℕ)) (m : CodeMark) (given : List Token) (before after : Option (List ℕ)) : Fault → Type 0 where
-  differs : (t : Token) → ComesNext left_old given t → is_changed q (model_mark m) (part_after q given) t ≡ true → Appends before after (torn_after q m given)
-      → StopsWithin q left_old left_new m given before after (record { at = t.at; reason = Changed })
-  unwritten : (t : Token) → ComesNext left_old given t → is_changed q (model_mark m) (part_after q given) t ≡ false
-      → (n : ℕ) → n < length (gain (counting q (marker_text m.marker)) (part_after q given) t.kind)
-      → Appends before after (torn_after q m given ++ take n (gain (counting q (marker_text m.marker)) (part_after q given) t.kind))
-      → StopsWithin q left_old left_new m given before after (record { at = t.at; reason = WriteFault })
-  unread : (f : Fault) → ReadFails left_old left_new given f → Appends before after (torn_after q m given)
-      → StopsWithin q left_old left_new m given before after (as_changed f)
-
-pub record WritesToFault (q : Profile) (left_old left_new : Option (List ℕ)) (ms : List Mark) (m : CodeMark) (given : List Token) (f : Fault) (before after : Option (List ℕ)) : Type 0 where
-  pub tokens : List Token
-  pub passes : (read q tokens).fault ≡ None
-  pub matched : HasMatched q ms tokens (model_mark m ∷ [])
+  pub has_given : HasGiven q told left_old left_now now tokens
+  pub marked : (ms : List Mark) → HasMarked q given ms → HasMarked q tokens ms
+  pub matched : (m : CodeMark) (ms : List Mark) → told ≡ Some m → HasMatched q ms given (model_mark m ∷ []) → HasMatched q ms tokens (model_mark m ∷ [])
   pub no_game : (read q tokens).progress.games ≡ (read q given).progress.games
-  pub stops : StopsWithin q left_old left_new m tokens before after f
+  pub appended : Appends before after (torn (as_written (profile_under q told)) (part_after q tokens))
 
-abbrev pub AfterWrite : Profile → Option (List ℕ) → Option (List ℕ) → List Mark → CodeMark → List Token → Pass → Result Unit Fault → Option (List ℕ) → Option (List ℕ) → Type 0
-AfterWrite q left_old left_new ms m given new (Ok done) before after = WritesToMark q left_old left_new ms given new before after
-AfterWrite q left_old left_new ms m given new (Err f) before after = WritesToFault q left_old left_new ms m given f before after
+-- the game up to the answer of the last step
+pub record ReadsToLast (q : Profile) (told : Option CodeMark) (left_old left_new : Option (List ℕ)) (given : List Token) (answer : Result Taken Fault) (new : Pass)
+    (before after : Option (List ℕ)) : Type 0 where
+  pub left : Option (List ℕ)
+  pub mid : Option (List ℕ)
+  pub now : Pass
+  pub so : GoesSoFar q told left_old left given now before mid
+  pub last : AfterStep q left_old left_new told so.tokens new answer mid after
+
+abbrev pub last_of : Result (Option CodeMark) Fault → Result Taken Fault
+last_of (Ok (Some m)) = Ok (GameEnd m)
+last_of (Ok None) = Ok End
+last_of (Err f) = Err f
+
+abbrev pub ReadsGame : Option (List ℕ) → Option (List ℕ) → Option CodeMark → Pass → Pass → Result (Option CodeMark) Fault → Option (List ℕ) → Option (List ℕ) → Type 0
+ReadsGame left_before left_after told old new result before after =
+    (q : Profile) (left_old : Option (List ℕ)) (given : List Token)
+    → StandsBetween q told left_old left_before given old → ReadsToLast q told left_old left_after given (last_of result) new before after
+
+abbrev pub ReadsGameSoFar : Option (List ℕ) → Option (List ℕ) → Option CodeMark → Pass → Pass → Option (List ℕ) → Option (List ℕ) → Type 0
+ReadsGameSoFar left_before left_now told old now before after =
+    (q : Profile) (left_old : Option (List ℕ)) (given : List Token)
+    → StandsBetween q told left_old left_before given old → GoesSoFar q told left_old left_now given now before after
+
+-- it goes on behind a mark, and fewer steps are left
+abbrev pub GoesOn : Pass → Pass → Result (Option CodeMark) Fault → Type 0
+GoesOn old new (Ok (Some m)) = KeepsGoing old new
+GoesOn old new _ = Unit {0}
+
+-- The second reading has read a game up to its mark, or up to a fault. For the game before it a
+-- mark may have been told.
+abbrev pub AfterWrite : Profile → Option (List ℕ) → Option (List ℕ) → CodeMark → List Token → Pass → Result Unit Fault → Option (List ℕ) → Option (List ℕ) → Type 0
+AfterWrite q left_old left_new m given new (Ok done) before after =
+    (x : CodeMark) × ReadsToLast q (Some m) left_old left_new given (Ok (GameEnd x)) new before after × IsGoing new
+AfterWrite q left_old left_new m given new (Err f) before after =
+    (e : Fault) × ReadsToLast q (Some m) left_old left_new given (Err e) new before after × (f ≡ as_changed e)
 
 abbrev pub WritesGame : Option (List ℕ) → Option (List ℕ) → Pass → CodeMark → Pass → Result Unit Fault → Option (List ℕ) → Option (List ℕ) → Type 0
 WritesGame left_before left_after old m new result before after =
-    (q : Profile) (left_old : Option (List ℕ)) (given : List Token) (ms : List Mark) → q.missing_result ≡ takes_the_marker
-    → HasGiven q left_old left_before old given → part_after q given ≡ no_part → HasMatched q ms given (model_mark m ∷ [])
-    → AfterWrite q left_old left_after ms m given new result before after
-
--- what was written of the game so far
-pub record WritesSoFar (q : Profile) (left_old left_now : Option (List ℕ)) (ms : List Mark) (m : CodeMark) (given : List Token) (now : Pass) (before after : Option (List ℕ)) : Type 0 where
-  pub tokens : List Token
-  pub has_given : HasGiven q left_old left_now now tokens
-  pub matched : HasMatched q ms tokens (model_mark m ∷ [])
-  pub no_game : (read q tokens).progress.games ≡ (read q given).progress.games
-  pub appended : Appends before after (torn_after q m tokens)
-
-abbrev pub WritesGameSoFar : Option (List ℕ) → Option (List ℕ) → Pass → CodeMark → Pass → Option (List ℕ) → Option (List ℕ) → Type 0
-WritesGameSoFar left_before left_now old m now before after =
-    (q : Profile) (left_old : Option (List ℕ)) (given : List Token) (ms : List Mark) → q.missing_result ≡ takes_the_marker
-    → HasGiven q left_old left_before old given → part_after q given ≡ no_part → HasMatched q ms given (model_mark m ∷ [])
-    → WritesSoFar q left_old left_now ms m given now before after
+    (q : Profile) (told : Option CodeMark) (left_old : Option (List ℕ)) (given : List Token)
+    → StandsBetween q told left_old left_before given old → AfterWrite q left_old left_after m given new result before after
 
 -- Both readings, game by game.
 
 -- What both have given so far, up to a mark of each: the games are the same by their marks, and
 -- those of the second are written.
 pub record BothSoFar (q : Profile) (first_old first_now second_old second_now : Option (List ℕ)) (first second : Pass) (before after : Option (List ℕ)) : Type 0 where
-  pub first_tokens : List Token
-  pub second_tokens : List Token
   pub marks : List Mark
-  pub first_given : HasGiven q first_old first_now first first_tokens
-  pub second_given : HasGiven q second_old second_now second second_tokens
+  pub first_tokens : List Token
+  pub first_stands : StandsBetween q None first_old first_now first_tokens first
   pub marked : HasMarked q first_tokens marks
+  pub told : Option CodeMark
+  pub second_tokens : List Token
+  pub second_stands : StandsBetween q told second_old second_now second_tokens second
   pub matched : HasMatched q marks second_tokens []
-  pub between : part_after q second_tokens ≡ no_part
   pub written : Appends before after (text_of q (read q second_tokens).progress.games)

@@ -1,20 +1,21 @@
 //! Converts an input that is read twice, so that a missing Result takes the marker.
 ghost use Rattle.std.specs.Prelude.{◌≡◌, ◌-◌, ◌+◌, ◌≤◌, ◌<◌, ◌^◌, length, max, false, [], ℕ, List};
-ghost use Rattle.std.specs.Prelude.{Option, None, OnOk, IfOk, IfSome, IsTrue};
+ghost use Rattle.std.specs.Prelude.{Option, None, OnOk, IfOk, IfSome};
 ghost use Rattle.pgn_layout.specs.Device.{device};
 ghost use Rattle.pgn_lexer.specs.Scanned.{kind_of};
 ghost use Rattle.pgn_lexer.specs.Tokens.{HasLength};
 ghost use Rattle.pgn_game.specs.declared.reason.Reason.TheVariants.{Changed};
 ghost use Rattle.pgn_game.specs.Checked.{checked_profile};
 ghost use Rattle.pgn_game.specs.CheckedConversion.{TwoReadingsConvert, TwoReadingsCount};
-ghost use Rattle.pgn_game.specs.Pass.{CountsRead, CountsStep, CountsTaken, Fills, GoesBehind};
-ghost use Rattle.pgn_game.specs.Pass.{GoesOn, HasGiven};
-ghost use Rattle.pgn_game.specs.Pass.{IsGoing, IsTold, Keeps, LeavesReader, ReadsGame, Steps, Takes};
-ghost use Rattle.pgn_game.specs.Pass.{TakesKind, WritesGame, as_changed};
+ghost use Rattle.pgn_game.specs.FaultTable.{marker_of};
+ghost use Rattle.pgn_game.specs.Pass.{CountsStep, Fills, GoesOn, HasGiven, IsGoing, Keeps};
+ghost use Rattle.pgn_game.specs.Pass.{KeepsGoing, ReadsGame, Steps, TakesKind, TellsEnd};
+ghost use Rattle.pgn_game.specs.Pass.{EndsGame, WritesGame, as_changed, games_with};
 ghost use Rattle.pgn_game.specs.Pass.{marks_differ as do_marks_differ};
 ghost use Rattle.pgn_game.specs.ReaderState.{whole_plies};
 ghost use Rattle.pgn_game.specs.Size.{HoldsTwice};
 
+use crate::accepted::Accepted;
 use crate::conversion::Totals;
 use crate::converter::{MAX_INPUT_LENGTH, lexical};
 use crate::marker::{Marker, MissingResult};
@@ -81,7 +82,7 @@ pub fn convert_checked<const T: usize, const L: usize, Q: Source, R: Source, W: 
     let mut ahead = Pass::<T, L>::new(mode);
     let mut behind = Pass::<T, L>::new(mode);
     loop {
-        let Some(mark) = ahead.read_game(first)? else {
+        let Some(mark) = ahead.read_game(first, None, &mut Nowhere)? else {
             return Ok(behind.totals(ahead.reader.most_probes()));
         };
         behind.write_game(second, mark, writer)?;
@@ -135,8 +136,7 @@ impl<const T: usize, const L: usize> Pass<T, L> {
     fn new(mode: Mode) -> Self
         requires { 1 ≤ L }
         ensures given { (left : Option (List ℕ))
-            → HasGiven (checked_profile T (L - 1) mode) left left result [] }
-        ensures under { IsTold None result.reading }
+            → HasGiven (checked_profile T (L - 1) mode) None left left result [] }
         ensures going { IsGoing result }
     {
         let mut reader = Reader::new(mode);
@@ -160,31 +160,31 @@ impl<const T: usize, const L: usize> Pass<T, L> {
         ensures probes { result.most_probes ≡ max other_probes self.now.reading.most_probes }
         ensures bound { result.most_probes ≤ 1040 }
     {
-        let plies = if self.reader.is_between() {
-            self.reader.earlier_plies() + self.reader.plies()
-        } else {
-            self.reader.earlier_plies()
-        };
         Totals {
             games: self.games,
-            plies,
+            plies: self.reader.whole_plies(),
             most_probes: other_probes.max(self.reader.most_probes()),
         }
     }
 
     // Reads to the end of the next game, and returns its mark. `None` is the end of the input.
     //
-    // Nothing is written. A fault is the input's own, or `Reason::ReadFault`.
-    fn read_game<R: Source>(&mut self, source: &mut R) -> Result<Option<Mark>, Fault>
+    // `told` is the mark that the game has to end with, if the other reading has told it.
+    fn read_game<R: Source, W: Sink>(
+        &mut self,
+        source: &mut R,
+        told: Option<Mark>,
+        out: &mut W,
+    ) -> Result<Option<Mark>, Fault>
         requires going { IsGoing self.old }
-        requires under { IsTold None self.old.reading }
-        ensures reads { ReadsGame (R.left source.old) (R.left source.new) self.old self.new result }
+        ensures reads { ReadsGame (R.left source.old) (R.left source.new) told self.old self.new
+            result (W.taken out.old) (W.taken out.new) }
         ensures going { GoesOn self.old self.new result }
-        ensures counted { CountsRead result (R.failures source.old)
-            (R.failures source.new) }
+        ensures counted { CountsStep result (R.failures source.old) (R.failures source.new)
+            (W.failures out.old) (W.failures out.new) }
     {
         loop {
-            match self.step(source, None, &mut Nowhere)? {
+            match self.step(source, told, out)? {
                 Taken::More => {}
                 Taken::Game(mark) => return Ok(Some(mark)),
                 Taken::End => return Ok(None),
@@ -209,14 +209,10 @@ impl<const T: usize, const L: usize> Pass<T, L> {
     {
         self.reader
             .count_missing_result_as(MissingResult::CountsAs(mark.marker));
-        loop {
-            match self.step(source, Some(mark), out) {
-                Ok(Taken::More) => {}
-                Ok(Taken::Game(_)) => return Ok(()),
-                // Never: the end is a difference.
-                Ok(Taken::End) => return Ok(()),
-                Err(fault) => return Err(changed(fault)),
-            }
+        match self.read_game(source, Some(mark), out) {
+            // It is never `None`: the end is a difference.
+            Ok(_) => Ok(()),
+            Err(fault) => Err(changed(fault)),
         }
     }
 
@@ -231,62 +227,37 @@ impl<const T: usize, const L: usize> Pass<T, L> {
         out: &mut W,
     ) -> Result<Taken, Fault>
         requires going { IsGoing self.old }
-        requires told { IsTold told self.old.reading }
         ensures takes { Steps (R.left source.old) (R.left source.new) told self.old self.new
             result (W.taken out.old) (W.taken out.new) }
-        ensures keeps { Keeps told self.old self.new result }
+        ensures keeps { Keeps self.old self.new result }
         ensures counted { CountsStep result (R.failures source.old) (R.failures source.new)
             (W.failures out.old) (W.failures out.new) }
     {
         if self.has_ended {
-            return self.take_at_end(told, out);
+            match self.lexer.finish() {
+                // Never: `finish` gives a token or a fault.
+                Outcome::NeedMore => return Ok(Taken::More),
+                Outcome::Token(token) => {
+                    return take_token(
+                        token.kind,
+                        token.at,
+                        told,
+                        &mut self.reader,
+                        &mut self.games,
+                        out,
+                    );
+                }
+                Outcome::Fault(fault) => return Err(lexical(fault)),
+            }
         }
-        if !self.buffer.unused().is_empty() {
-            return self.take_in_buffer(told, out);
+        if self.buffer.unused().is_empty() {
+            self.fill(source)?;
+            return Ok(Taken::More);
         }
-        self.fill(source)?;
-        Ok(Taken::More)
-    }
-
-    // Takes the next token in the buffer, if there is one.
-    #[inline(always)]
-    fn take_in_buffer<W: Sink>(&mut self, told: Option<Mark>, out: &mut W) -> Result<Taken, Fault>
-        requires going { IsGoing self.old }
-        requires told { IsTold told self.old.reading }
-        requires within { (self.old.has_ended ≡ false) × (0 < length self.old.unused) }
-        ensures takes { Takes told self.old self.new result (W.taken out.old) (W.taken out.new) }
-        ensures keeps { Keeps told self.old self.new result }
-        ensures counted { CountsTaken result (W.failures out.old) (W.failures out.new) }
-    {
         tokens_rise();
         let scan = self.lexer.next(self.buffer.unused());
         self.buffer.skip(scan.used);
         match scan.outcome {
-            Outcome::NeedMore => Ok(Taken::More),
-            Outcome::Token(token) => take_token(
-                token.kind,
-                token.at,
-                told,
-                &mut self.reader,
-                &mut self.games,
-                out,
-            ),
-            Outcome::Fault(fault) => Err(lexical(fault)),
-        }
-    }
-
-    // Takes the next of the tokens that are left where the source has ended.
-    #[inline(never)]
-    fn take_at_end<W: Sink>(&mut self, told: Option<Mark>, out: &mut W) -> Result<Taken, Fault>
-        requires going { IsGoing self.old }
-        requires told { IsTold told self.old.reading }
-        requires behind { IsTrue self.old.has_ended }
-        ensures takes { Takes told self.old self.new result (W.taken out.old) (W.taken out.new) }
-        ensures keeps { Keeps told self.old self.new result }
-        ensures counted { CountsTaken result (W.failures out.old) (W.failures out.new) }
-    {
-        match self.lexer.finish() {
-            // Never: `finish` gives a token or a fault.
             Outcome::NeedMore => Ok(Taken::More),
             Outcome::Token(token) => take_token(
                 token.kind,
@@ -306,8 +277,8 @@ impl<const T: usize, const L: usize> Pass<T, L> {
         requires going { IsGoing self.old }
         requires empty { (self.old.has_ended ≡ false) × (self.old.unused ≡ []) }
         ensures fills { Fills (R.left source.old) (R.left source.new) self.old self.new result }
-        ensures counted { CountsRead result (R.failures source.old)
-            (R.failures source.new) }
+        ensures keeps { OnOk result (KeepsGoing self.old self.new) }
+        ensures counted { CountsStep result (R.failures source.old) (R.failures source.new) 0 0 }
     {
         let at = self.lexer.count();
         let room = MAX_INPUT_LENGTH - at;
@@ -349,32 +320,33 @@ fn take_token<const T: usize, const L: usize, W: Sink>(
     requires few { (reader.old.earlier_plies + reader.old.text.plies < 2 ^ 64 - 1)
         × (games.old < 2 ^ 64 - 1) }
     requires token { HasLength (kind_of kind) }
-    requires told { IsTold told reader.old }
     ensures takes { TakesKind told (kind_of kind.entry) at reader.old reader.new result
         (W.taken out.old) (W.taken out.new) }
-    ensures under { IsTold told reader.new }
-    ensures leaves { IfOk result (LeavesReader told reader.old reader.new games.old games.new) }
-    ensures behind { IfOk result (GoesBehind (kind_of kind.entry)) }
-    ensures counted { CountsTaken result (W.failures out.old) (W.failures out.new) }
+    ensures plies { reader.new.earlier_plies + reader.new.text.plies
+        ≤ reader.old.earlier_plies + reader.old.text.plies + 1 }
+    ensures games { IfOk result (λ taken. games.new ≡ games_with taken games.old) }
+    ensures end { IfOk result (TellsEnd (kind_of kind.entry)) }
+    ensures counted { CountsStep result 0 0 (W.failures out.old) (W.failures out.new) }
 {
-    let marker = Marker::of(kind);
-    if marks_differ(told, marker, at) {
+    if marks_differ(told, kind, at) {
         return Err(differs(at));
     }
-    if let Err(reason) = reader.accept(kind, out) {
-        return Err(Fault { at, reason });
+    match reader.accept(kind, out) {
+        Err(reason) => Err(Fault { at, reason }),
+        Ok(Accepted::Finished) => {
+            *games += 1;
+            Ok(game_end(kind, at))
+        }
+        Ok(Accepted::More) => {
+            if !is_end(kind) {
+                return Ok(Taken::More);
+            }
+            if told.is_some() {
+                return Err(differs(at));
+            }
+            Ok(Taken::End)
+        }
     }
-    if let Some(marker) = marker {
-        *games += 1;
-        return Ok(Taken::Game(Mark { marker, at }));
-    }
-    if !is_end(kind) {
-        return Ok(Taken::More);
-    }
-    if told.is_some() {
-        return Err(differs(at));
-    }
-    Ok(Taken::End)
 }
 
 // The fault of a token at which the readings differ.
@@ -387,16 +359,27 @@ fn differs(at: u64) -> Fault
     }
 }
 
-// Whether this marker, or its place, differs from the mark that the other reading has told. False
-// if the token is no marker, or if no mark was told.
+// Whether the token is a marker that differs from the mark that the other reading has told, or is
+// at another place. False if no mark was told.
 #[inline(always)]
-fn marks_differ(told: Option<Mark>, marker: Option<Marker>, at: u64) -> bool
-    ensures { result ≡ do_marks_differ told marker at }
+fn marks_differ(told: Option<Mark>, kind: TokenKind<'_>, at: u64) -> bool
+    ensures { result ≡ do_marks_differ told (marker_of (kind_of kind.entry)) at }
 {
-    let (Some(told), Some(marker)) = (told, marker) else {
+    let (Some(told), Some(marker)) = (told, Marker::of(kind)) else {
         return false;
     };
     marker.text() != told.marker.text() || at != told.at
+}
+
+// The end of a game by a token, which is its marker.
+fn game_end(kind: TokenKind<'_>, at: u64) -> Taken
+    ensures { EndsGame (marker_of (kind_of kind.entry)) at result }
+{
+    match Marker::of(kind) {
+        Some(marker) => Taken::Game(Mark { marker, at }),
+        // Never: only a marker finishes a game.
+        None => Taken::More,
+    }
 }
 
 // How many bytes to ask the source for: as many as fit into both the buffer and the room. If there

@@ -375,10 +375,7 @@ impl<const T: usize, const L: usize> Converter<T, L> {
         requires { self.now.fault ≡ None }
         ensures { result ≡ whole_plies self.now.reading }
     {
-        if self.reader.is_between() {
-            return self.reader.earlier_plies() + self.reader.plies();
-        }
-        self.reader.earlier_plies()
+        self.reader.whole_plies()
     }
 
     /// Returns the place of the next byte: where it began, and how many bytes were used since.

@@ -15,6 +15,7 @@ ghost use Rattle.pgn_game.specs.Profile.{counts_as, known_result};
 ghost use Rattle.pgn_game.specs.Markers.{marker_text, missing_of};
 ghost use Rattle.pgn_game.specs.Movetext.{movetext_from};
 ghost use Rattle.pgn_game.specs.ReaderState.{Accepts, Stays, FinishesAtMarker, CountsWrites};
+ghost use Rattle.pgn_game.specs.ReaderState.{whole_plies};
 ghost use Rattle.pgn_game.specs.TokenInMovetext.{ItemFits, is_frequent, may_have_movetext, model_item};
 ghost use Rattle.pgn_game.specs.TokenInMovetext.{fen_position as position_in_fen};
 ghost use Rattle.pgn_game.specs.PutResult.{BeginsText, CountsMove, Finds, PutsItems};
@@ -132,10 +133,14 @@ impl<const T: usize, const L: usize> Reader<T, L> {
         self.text.plies()
     }
 
-    /// Returns the number of moves outside variations of all games before this one.
-    pub fn earlier_plies(&self) -> u64
-        ensures { result ≡ self.now.earlier_plies }
+    /// Returns the number of moves outside variations of all whole games so far.
+    pub fn whole_plies(&self) -> u64
+        requires { self.now.earlier_plies + self.now.text.plies < 2 ^ 64 }
+        ensures { result ≡ whole_plies self.now }
     {
+        if self.is_between() {
+            return self.earlier_plies + self.text.plies();
+        }
         self.earlier_plies
     }
 

@@ -21,7 +21,8 @@ use Rattle.pgn_game.specs.MostTried.{CostsUnlessRefused, Tries, added}
 use Rattle.pgn_game.specs.Movetext.{HoldsItems}
 use Rattle.pgn_game.specs.ReaderState.{ReaderState, Agrees, HoldsText, IsAccepted, Leads, is_outside_the_table}
 use Rattle.pgn_game.specs.TokenInMovetext.{game_of, or_else, with_items}
-use Rattle.pgn_game.specs.Pass.{IsAlike, reading_under}
+use Rattle.pgn_game.specs.declared.checked.Mark.{Mark as CodeMark}
+use Rattle.pgn_game.specs.Pass.{profile_under, reading_under}
 use Rattle.pgn_game.proofs.refusals.RefusalsByStage.{name_refusal, test_failed}
 use Rattle.pgn_game.proofs.refusals.RefusalsInMovetext.{marker_whole, other_if, score_of}
 
@@ -105,6 +106,11 @@ goes_at _ part _ none = (_, refl)
 pub no_marker_goes : (part : Part) (k : Kind) → marker_of k ≡ None → (to : Part) × (next part k ≡ going to)
 no_marker_goes part k none = goes_at part.stage part k none
 
+-- A profile in which a missing Result counts as another text has the same mode.
+pub same_mode : (q : Profile) (told : Option CodeMark) → (profile_under q told).mode ≡ q.mode
+same_mode q None = refl
+same_mode q (Some m) = refl
+
 -- The reader agrees with a part in any profile of its mode.
 text_under : (q : Profile) (r : ReaderState) (part : Part) (stage : Stage) → q.mode ≡ r.profile.mode → HoldsText stage r part → HoldsText stage (reading_under q r) part
 text_under q r part InMovetext same h =
@@ -133,10 +139,9 @@ tries_under q p part k n same mode h = record {
 
 -- A token that the reader accepts is accepted under q too. This says nothing of what is written.
 pub accepted_under : (q : Profile) (part : Part) (k : Kind) (old new : ReaderState) (accepted : Accepted) (a c : Option (List ℕ))
-    → IsAlike q old.profile → new.profile ≡ old.profile → refusal old.profile part k ≡ refusal q part k → IsAccepted old part k new accepted a c
+    → old.profile.mode ≡ q.mode → new.profile ≡ old.profile → refusal old.profile part k ≡ refusal q part k → IsAccepted old part k new accepted a c
     → IsAccepted (reading_under q old) part k (reading_under q new) accepted None None
-accepted_under q part k old new accepted a c alike kept same h =
-    let mode : old.profile.mode ≡ q.mode = ap (λ (p : Profile). p.mode) alike.1 in
+accepted_under q part k old new accepted a c mode kept same h =
     record {
       free = sym same ∙ h.free;
       leads = leads_under q new (next part k) accepted (sym (ap (λ (p : Profile). p.mode) kept ∙ mode)) h.leads;

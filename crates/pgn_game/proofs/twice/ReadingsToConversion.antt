@@ -1,5 +1,5 @@
 -- From what the calls of each game return, in both readings, to the conversion.
-use Rattle.std.proofs.Common.{◌≡◌, ℕ, ◌+◌, ◌<◌, ◌≤◌, max, Bool, true, false, List, [], ◌∷◌, ◌++◌, length, take, Option, None, Some, Ok, IfSome, refl, sym, ap, subst, ◌∙◌, append_assoc, append-nil, length-append, arith, IsTrue, map, sum}
+use Rattle.std.proofs.Common.{◌≡◌, inl, inr, ◌||◌, is_some, Err, ℕ, ◌+◌, ◌<◌, ◌≤◌, max, Bool, true, false, List, [], ◌∷◌, ◌++◌, length, take, Option, None, Some, Ok, IfSome, refl, sym, ap, subst, ◌∙◌, append_assoc, append-nil, length-append, arith, IsTrue, map, sum}
 use Rattle.std.proofs.Math.Seq.{take-append-add}
 use Rattle.std.proofs.KnownBytes.{Appends-nil, Appends-trans}
 use Rattle.std.proofs.lemmas.Option.{IfSome_then}
@@ -10,26 +10,29 @@ use Rattle.pgn_layout.specs.Device.{Device, FailsOnce}
 use Rattle.pgn_lexer.specs.TokensOf.{tokens_of}
 use Rattle.pgn_lexer.specs.Decided.{decided}
 use Rattle.pgn_lexer.specs.Standing.{Standing, coming}
-use Rattle.pgn_game.proofs.Words.{Token, Changed, ReadFault, Fault, Profile, Missing, takes_the_marker, Game, no_part}
+use Rattle.pgn_game.proofs.Words.{Token, Reason, Changed, ReadFault, WriteFault, Fault, Profile, Missing, takes_the_marker, Game, no_part}
 use Rattle.pgn_game.specs.declared.conversion.Totals.{Totals}
 use Rattle.pgn_game.specs.declared.checked.Mark.{Mark as CodeMark}
 use Rattle.pgn_game.specs.Levels.{plies_of}
 use Rattle.pgn_game.specs.Text.{game_text, text_of, torn}
 use Rattle.pgn_game.specs.Progress.{Next, going, whole, next, Progress, progress_with, progress_after, Read, read, refused as is_refused, totals, verdict_of}
 use Rattle.pgn_game.specs.Due.{text_next, gain}
-use Rattle.pgn_game.specs.ReaderState.{whole_plies}
+use Rattle.pgn_game.specs.ReaderState.{is_outside_the_table, whole_plies}
 use Rattle.pgn_game.specs.ConverterCalls.{play_moves}
 use Rattle.pgn_game.specs.Conversion.{verdict_in}
 use Rattle.pgn_game.specs.MostTried.{MostTried}
 use Rattle.pgn_game.specs.Checked.{Mark, marks_from, is_other, is_changed, marks_after, Comparison, compared_from, compared, with_mark, torn_before, written_by, earlier_fault}
 use Rattle.pgn_game.specs.CheckedConversion.{AreConverted, AreTotalled, IsTokenPrefix, Decides, HasTaken, MatchesAllMarks, FirstStops, SecondStops, WriteStops, TwoReadingsFail, TwoReadingsConvert}
-use Rattle.pgn_game.specs.Pass.{Pass, model_mark, StandsIn, HasGiven, ReadFails, HasMarked, HasMatched, ReadsMark, ReadsToEnd, StopsAt, ReadsToFault, torn_after, WritesToMark, StopsWithin, WritesToFault, changed_reason, as_changed, BothSoFar}
+use Rattle.pgn_game.specs.declared.checked.Taken.TheVariants.{Game as GameEnd, End}
+use Rattle.pgn_game.specs.Pass.{AfterStep, BothSoFar, ComesNext, HasGiven, HasMarked, Pass, ReadFails, ReadsToLast, StandsIn, TokenFails, as_changed, changed_reason, model_mark, other, part_after, refused, unwritten}
 use Rattle.pgn_game.proofs.EqualReadings.{after_marks, marks_test, after_change, change_test, no_mark}
 use Rattle.pgn_game.proofs.tokens.NextGrows.{next_is}
 use Rattle.pgn_game.proofs.tokens.OneMoreToken.{read-refuses, text_of-snoc}
 use Rattle.pgn_game.proofs.tokens.AcceptedToConverter.{follows_first, in_games}
 use Rattle.pgn_game.proofs.tokens.WholeInput.{known_left}
-use Rattle.pgn_game.proofs.twice.MarksInTurn.{marked_none, matched_none, not_changed, both_read}
+use Rattle.pgn_game.proofs.twice.MarkerCounts.{refusals_are_inside}
+use Rattle.pgn_game.proofs.twice.MarksInTurn.{marked_none, matched_mark, matched_none, not_changed, both_read}
+use Rattle.pgn_game.proofs.twice.StepsToGame.{end_marked, game, game_marked, game_matched, game_written, one_game, stands, tokens as tokens_read}
 
 -- what follows for both texts, if both are known
 both_known : (o n : Option (List ℕ)) (A B : List ℕ → Type 0) (P : List ℕ → List ℕ → Type 0) → IfSome o A → IfSome n B → ((s r : List ℕ) → A s → B r → P s r)
@@ -59,25 +62,25 @@ decides true l unused u given d consumed (left, none, all) =
     let is : u ++ unused ≡ u = ap (λ (l : List ℕ). u ++ l) none ∙ append-nil u in
     Decides.at_end u (subst (Consumes d.before d.after) is consumed) all (coming l [], left)
 
-given_decides : (q : Profile) (d : Device) (s : Pass) (given : List Token) → HasGiven q d.before d.after s given → Decides d given
-given_decides q d s given h = decides s.has_ended s.lexer s.unused h.bytes given d h.consumed h.stands
+given_decides : (q : Profile) (told : Option CodeMark) (d : Device) (s : Pass) (given : List Token) → HasGiven q told d.before d.after s given → Decides d given
+given_decides q told d s given h = decides s.has_ended s.lexer s.unused h.bytes given d h.consumed h.stands
 
-pub given_first : (q : Profile) (left_old left_now : Option (List ℕ)) (s : Pass) (given : List Token) → HasGiven q left_old left_now s given
-    → IfSome left_old (λ r. (ts : List Token) × (tokens_of r ≡ given ++ ts))
-given_first q left_old left_now s given h = begins s.has_ended s.lexer s.unused h.bytes given left_old left_now h.consumed h.stands
+given_first : (q : Profile) (told : Option CodeMark) (left_old left_now : Option (List ℕ)) (s : Pass) (given : List Token) → HasGiven q told left_old left_now s given
+    → IfSome left_old (Begins given)
+given_first q told left_old left_now s given h = begins s.has_ended s.lexer s.unused h.bytes given left_old left_now h.consumed h.stands
 
-pub both_none : (q : Profile) (first second : Option (List ℕ)) (a b : Pass) (o : Option (List ℕ)) → HasGiven q first first a [] → HasGiven q second second b []
+pub both_none : (q : Profile) (first second : Option (List ℕ)) (a b : Pass) (o : Option (List ℕ)) → HasGiven q None first first a [] → HasGiven q None second second b []
     → BothSoFar q first first second second a b o o
 both_none q first second a b o first_given second_given =
     record {
-      first_tokens = [];
-      second_tokens = [];
       marks = [];
-      first_given = first_given;
-      second_given = second_given;
+      first_tokens = [];
+      first_stands = record { has_given = first_given; between = refl };
       marked = marked_none q;
+      told = None;
+      second_tokens = [];
+      second_stands = record { has_given = second_given; between = refl };
       matched = matched_none q;
-      between = refl;
       written = Appends-nil o;
     }
 
@@ -107,24 +110,24 @@ written_at_token q m ms games t (whole g) takes same =
     ap (λ (l : List ℕ). text_of q (games ++ g ∷ []) ++ l) (torn-between q ms) ∙ append-nil (text_of q (games ++ g ∷ [])) ∙ text_of-snoc q games g
     ∙ ap (λ (l : List ℕ). text_of q games ++ l) (under_mark q g m takes marker)
 
-module _ (q : Profile) (first_old first_now second_old second_now : Option (List ℕ)) (a b : Pass) (before mid : Option (List ℕ))
-    (so : BothSoFar q first_old first_now second_old second_now a b before mid) where
-  pub both_more : (m : CodeMark) (new_a new_b : Pass) (first_new second_new after : Option (List ℕ)) → ReadsMark q first_old first_new so.marks m new_a
-      → WritesToMark q second_old second_new (so.marks ++ model_mark m ∷ []) so.second_tokens new_b mid after
-      → BothSoFar q first_old first_new second_old second_new new_a new_b before after
-  both_more m new_a new_b first_new second_new after reads writes =
-      record {
-        first_tokens = reads.tokens;
-        second_tokens = writes.tokens;
-        marks = so.marks ++ model_mark m ∷ [];
-        first_given = reads.has_given;
-        second_given = writes.has_given;
-        marked = reads.marked;
-        matched = writes.matched;
-        between = writes.between;
-        written = subst (Appends before after) (sym (ap (text_of q) writes.one_game ∙ text_of-snoc q (read q so.second_tokens).progress.games writes.game))
-            (Appends-trans before mid after _ _ so.written writes.appended);
-      }
+pub both_more : (q : Profile) (first_old first_now second_old second_now : Option (List ℕ)) (a b : Pass) (before mid : Option (List ℕ)) (so : BothSoFar q first_old first_now second_old second_now a b before mid)
+    (m x : CodeMark) (new_a new_b : Pass) (first_new second_new after : Option (List ℕ)) → ReadsToLast q None first_old first_new so.first_tokens (Ok (GameEnd m)) new_a None None
+    → ReadsToLast q (Some m) second_old second_new so.second_tokens (Ok (GameEnd x)) new_b mid after → BothSoFar q first_old first_new second_old second_new new_a new_b before after
+both_more q first_old first_now second_old second_now a b before mid so m x new_a new_b first_new second_new after reads writes =
+    record {
+      marks = so.marks ++ model_mark m ∷ [];
+      first_tokens = tokens_read q None first_old first_new so.first_tokens m new_a None None reads;
+      first_stands = stands q None first_old first_new so.first_tokens m new_a None None reads;
+      marked = game_marked q None first_old first_new so.first_tokens m new_a None None reads so.marks so.marked;
+      told = Some m;
+      second_tokens = tokens_read q (Some m) second_old second_new so.second_tokens x new_b mid after writes;
+      second_stands = stands q (Some m) second_old second_new so.second_tokens x new_b mid after writes;
+      matched = game_matched q (Some m) second_old second_new so.second_tokens x new_b mid after writes m refl (so.marks ++ model_mark m ∷ []) (matched_mark q so.marks (model_mark m) so.second_tokens so.matched);
+      written = subst (Appends before after)
+          (sym (ap (text_of q) (one_game q (Some m) second_old second_new so.second_tokens x new_b mid after writes)
+          ∙ text_of-snoc q (read q so.second_tokens).progress.games (game q (Some m) second_old second_new so.second_tokens x new_b mid after writes)))
+          (Appends-trans before mid after _ _ so.written (game_written q (Some m) second_old second_new so.second_tokens x new_b mid after writes m refl));
+    }
 
 module _ (q : Profile) (first second sink : Device) (first_now : Option (List ℕ)) (a b : Pass)
     (so : BothSoFar q first.before first_now second.before second.after a b sink.before sink.after) where
@@ -141,7 +144,7 @@ module _ (q : Profile) (first second sink : Device) (first_now : Option (List �
   written = subst (HasTaken sink) (sym (append-nil (text_of q (read q so.second_tokens).progress.games))) so.written
 
   second_begins : IfSome second.before (Begins so.second_tokens)
-  second_begins = given_first q second.before second.after b so.second_tokens so.second_given
+  second_begins = given_first q so.told second.before second.after b so.second_tokens so.second_stands.has_given
 
   converted : (s r : List ℕ) (o : Option Fault) → compared q (tokens_of s) (tokens_of r) ≡ at_mark → (read q (tokens_of s)).fault ≡ o
       → AreConverted q s r (verdict_of (record { progress = (read q so.second_tokens).progress; fault = o })) sink
@@ -151,17 +154,19 @@ module _ (q : Profile) (first second sink : Device) (first_now : Option (List �
     subst (λ (f : Comparison). HasTaken sink (written_by q f)) (sym is) written,
   )
 
-  pub both_end : (new_a : Pass) (t : Totals) → ReadsToEnd q first.before so.marks new_a → t.games ≡ b.games → t.plies ≡ whole_plies b.reading
+  pub both_end : (new_a : Pass) (left_new : Option (List ℕ)) (t : Totals) → ReadsToLast q None first.before left_new so.first_tokens (Ok End) new_a None None → t.games ≡ b.games → t.plies ≡ whole_plies b.reading
       → t.most_probes ≡ max new_a.reading.most_probes b.reading.most_probes → new_a.reading.most_probes ≤ 1040 → b.reading.most_probes ≤ 1040
       → TwoReadingsConvert q first second sink (Ok t)
-  both_end new_a t end games plies probes first_bound second_bound =
-      let h = so.second_given.has_read in
+  both_end new_a left_new t reads games plies probes first_bound second_bound =
+      let end = reads.last.1 in
+      let tokens = reads.so.tokens ++ reads.last.0 ∷ [] in
+      let h = so.second_stands.has_given.has_read in
       let c : Progress = (read q so.second_tokens).progress in
       let same : totals (record { games = length c.games; plies = sum (map plies_of c.games) }) ≡ verdict_in t =
       ap (λ n. totals (record { games = n; plies = sum (map plies_of c.games) })) (sym (games ∙ h.games)) ∙ ap (λ n. totals (record { games = t.games; plies = n })) (sym (plies ∙ h.plies)) in
-      both_known first.before second.before (λ s. tokens_of s ≡ end.tokens) (Begins so.second_tokens) (λ s r. AreTotalled q s r t sink) end.whole second_begins
+      both_known first.before second.before (λ s. tokens_of s ≡ tokens) (Begins so.second_tokens) (λ s r. AreTotalled q s r t sink) (end.whole refl) second_begins
       (λ s r x y.
-      let is = last_mark (tokens_of s) (tokens_of r) end.tokens [] y.0 (x ∙ sym (append-nil end.tokens)) y.1 end.marked refl in
+      let is = last_mark (tokens_of s) (tokens_of r) tokens [] y.0 (x ∙ sym (append-nil tokens)) y.1 (end_marked q None first.before left_new so.first_tokens new_a None None so.marks reads so.marked) refl in
       record {
         converted = subst (λ v. AreConverted q s r v sink) same (converted s r None is (ap (λ (ts : List Token). (read q ts).fault) x ∙ end.has_read.passes));
         probes = record {
@@ -206,10 +211,11 @@ module _ (q : Profile) (first second sink : Device) (first_now : Option (List �
   first_unread tokens passes marked counts (ReadFails.too_long u rest consumed place some is_decided) =
       TwoReadingsFail.first_too_long u rest consumed place some (ends_first tokens u passes marked is_decided)
 
-  first_at : {f : Fault} (tokens : List Token) → (read q tokens).fault ≡ None → HasMarked q tokens so.marks → (f.reason ≡ ReadFault → FailsOnce first) → StopsAt q first.before first.after tokens f
-      → TwoReadingsFail q first second sink f
-  first_at tokens passes marked counts (StopsAt.unread f fails) = first_unread tokens passes marked counts fails
-  first_at tokens passes marked counts (StopsAt.refused t reason comes rejected) =
+  first_at : (f : Fault) (tokens : List Token) (t : Token) (a c : Option (List ℕ)) → (read q tokens).fault ≡ None → HasMarked q tokens so.marks → ComesNext first.before tokens t
+      → TokenFails q (part_after q tokens) None t a c f → (f.reason ≡ WriteFault → ⊥) → TwoReadingsFail q first second sink f
+  first_at f tokens t a c passes marked comes (other differs told wrote) no_write = absurd (cc)
+  first_at f tokens t a c passes marked comes (unwritten same wrote) no_write = absurd (no_write refl)
+  first_at f tokens t a c passes marked comes (refused reason rejected wrote) no_write =
       let f : Fault = record { at = t.at; reason = reason } in
       let c : Progress = (read q tokens).progress in
       TwoReadingsFail.refused f
@@ -219,80 +225,108 @@ module _ (q : Profile) (first second sink : Device) (first_now : Option (List �
       let is = last_mark (tokens_of s) (tokens_of r) tokens (t ∷ x.0) y.0 x.1 y.1 marked none in
       converted s r (Some f) is (ap (λ (ts : List Token). (read q ts).fault) x.1 ∙ ap (λ (r : Read). r.fault) (read-refuses q tokens t x.0 reason passes rejected))))
 
-  pub first_stops : (f : Fault) → (f.reason ≡ ReadFault → FailsOnce first) → ReadsToFault q first.before first.after so.marks f → TwoReadingsFail q first second sink f
-  first_stops f counts fails = first_at fails.tokens fails.passes fails.marked counts fails.stops
+  pub first_stops : (f : Fault) (new_a : Pass) → (f.reason ≡ ReadFault → FailsOnce first) → (f.reason ≡ WriteFault → ⊥)
+      → ReadsToLast q None first.before first.after so.first_tokens (Err f) new_a None None → TwoReadingsFail q first second sink f
+  first_stops f new_a counts no_write r = by_last r.last
+    where
+      passes : (read q r.so.tokens).fault ≡ None
+      passes = r.so.has_given.has_read.passes
+
+      by_last : AfterStep q first.before first.after None r.so.tokens new_a (Err f) r.mid None → TwoReadingsFail q first second sink f
+      by_last (inl fails) = first_at f r.so.tokens fails.token r.mid None passes (r.so.marked so.marks so.marked) fails.comes fails.fails no_write
+      by_last (inr (fails, wrote)) = first_unread r.so.tokens passes (r.so.marked so.marks so.marked) counts fails
+
+-- a reason of the fault table shows a change
+changes : (reason : Reason) → is_outside_the_table reason ≡ false → changed_reason reason ≡ Changed
+changes ReadFault h = absurd (cc)
+changes WriteFault h = absurd (cc)
+changes _ h = refl
 
 module _ (q : Profile) (first second sink : Device) (first_now second_now mid : Option (List ℕ)) (a b : Pass)
-    (so : BothSoFar q first.before first_now second.before second_now a b sink.before mid) (m : CodeMark) (new_a : Pass)
-    (reads : ReadsMark q first.before first.after so.marks m new_a) (tokens : List Token) (two : HasMatched q (so.marks ++ model_mark m ∷ []) tokens (model_mark m ∷ []))
-    (same_games : (read q tokens).progress.games ≡ (read q so.second_tokens).progress.games) where
+    (so : BothSoFar q first.before first_now second.before second_now a b sink.before mid) (m : CodeMark) (new_a new_b : Pass) (e : Fault)
+    (reads : ReadsToLast q None first.before first.after so.first_tokens (Ok (GameEnd m)) new_a None None)
+    (writes : ReadsToLast q (Some m) second.before second.after so.second_tokens (Err e) new_b mid sink.after) where
   abbrev mark : Mark
   mark = model_mark m
 
   abbrev under : Profile
   under = with_mark q mark
 
+  abbrev tokens : List Token
+  tokens = writes.so.tokens
+
   abbrev c : Progress
   c = (read q tokens).progress
 
+  abbrev first_tokens : List Token
+  first_tokens = tokens_read q None first.before first.after so.first_tokens m new_a None None reads
+
   -- the marks behind this one
   abbrev behind : List Token → List Mark
-  behind vs = marks_from q (read q reads.tokens).progress vs
+  behind vs = marks_from q (read q first_tokens).progress vs
 
-  first_begins : IfSome first.before (Begins reads.tokens)
-  first_begins = given_first q first.before first.after new_a reads.tokens reads.has_given
+  first_given : HasGiven q None first.before first.after new_a first_tokens
+  first_given = (stands q None first.before first.after so.first_tokens m new_a None None reads).has_given
 
-  first_decides : Decides first reads.tokens
-  first_decides = given_decides q first new_a reads.tokens reads.has_given
+  first_begins : IfSome first.before (Begins first_tokens)
+  first_begins = given_first q None first.before first.after new_a first_tokens first_given
 
-  goes : (xs us vs ws : List Token) → xs ≡ reads.tokens ++ vs → us ≡ tokens ++ ws → compared q xs us ≡ compared_from q (mark ∷ behind vs) c ws
-  goes xs us vs ws first second =
-      ap (λ (l : List Token). compared q l us) first ∙ ap (compared q (reads.tokens ++ vs)) second
-      ∙ both_read q reads.tokens tokens vs ws (so.marks ++ mark ∷ []) (mark ∷ []) reads.marked two
+  first_decides : Decides first first_tokens
+  first_decides = given_decides q None first new_a first_tokens first_given
+
+  goes : (xs us vs ws : List Token) → xs ≡ first_tokens ++ vs → us ≡ tokens ++ ws → compared q xs us ≡ compared_from q (mark ∷ behind vs) c ws
+  goes xs us vs ws is also =
+      ap (λ (l : List Token). compared q l us) is ∙ ap (compared q (first_tokens ++ vs)) also
+      ∙ both_read q first_tokens tokens vs ws (so.marks ++ mark ∷ []) (mark ∷ []) (game_marked q None first.before first.after so.first_tokens m new_a None None reads so.marks so.marked)
+      (writes.so.matched m (so.marks ++ mark ∷ []) refl (matched_mark q so.marks mark so.second_tokens so.matched))
 
   -- what is written of this game stands behind the games
-  all_written : (text : List ℕ) → Appends mid sink.after text → HasTaken sink (text_of q c.games ++ text)
+  all_written : (text : List ℕ) → Appends writes.mid sink.after text → HasTaken sink (text_of q c.games ++ (torn under c.part ++ text))
   all_written text wrote =
-      subst (λ (games : List Game). HasTaken sink (text_of q games ++ text)) (sym same_games) (Appends-trans sink.before mid sink.after _ _ so.written wrote)
+      subst (λ (games : List Game). HasTaken sink (text_of q games ++ (torn under c.part ++ text))) (sym writes.so.no_game)
+      (Appends-trans sink.before mid sink.after _ _ so.written (Appends-trans mid writes.mid sink.after _ _ writes.so.appended wrote))
+
+  torn_written : Appends writes.mid sink.after [] → HasTaken sink (text_of q c.games ++ torn under c.part)
+  torn_written wrote = subst (λ l. HasTaken sink (text_of q c.games ++ l)) (append-nil (torn under c.part)) (all_written [] wrote)
 
   -- `second` gives no token more
-  ends_second : (u : List ℕ) → tokens ≡ decided u → Appends mid sink.after (torn_after q m tokens) → SecondStops q first u sink
+  ends_second : (u : List ℕ) → tokens ≡ decided u → Appends writes.mid sink.after [] → SecondStops q first u sink
   ends_second u is_decided wrote =
-      let is = goes reads.tokens (decided u) [] [] (sym (append-nil reads.tokens)) (sym is_decided ∙ sym (append-nil tokens)) in
+      let is = goes first_tokens (decided u) [] [] (sym (append-nil first_tokens)) (sym is_decided ∙ sym (append-nil tokens)) in
       record {
-        tokens = reads.tokens;
+        tokens = first_tokens;
         decided_by = first_decides;
         fault = ap (λ (f : Comparison). f.fault) is;
         next_mark = (mark, [], ap (λ (f : Comparison). f.marks_left) is);
-        appended = subst (λ (f : Comparison). HasTaken sink (written_by q f)) (sym is) (all_written _ wrote);
+        appended = subst (λ (f : Comparison). HasTaken sink (written_by q f)) (sym is) (torn_written wrote);
       }
 
-  second_unread : {f : Fault} → ReadFails second.before second.after tokens f → (changed_reason f.reason ≡ ReadFault → FailsOnce second) → Appends mid sink.after (torn_after q m tokens)
+  second_unread : {f : Fault} → ReadFails second.before second.after tokens f → (changed_reason f.reason ≡ ReadFault → FailsOnce second) → Appends writes.mid sink.after []
       → TwoReadingsFail q first second sink (as_changed f)
   second_unread (ReadFails.unread u consumed is_decided) counts wrote = TwoReadingsFail.second_unread u consumed (counts refl) (ends_second u is_decided wrote)
   second_unread (ReadFails.too_long u rest consumed place some is_decided) counts wrote =
       TwoReadingsFail.second_too_long u rest consumed place some (ends_second u is_decided wrote)
 
   -- a write failed at a token
-  stops_at : q.missing_result ≡ takes_the_marker → (t : Token) → is_changed q mark c.part t ≡ false → (n : ℕ) → n < length (gain under c.part t.kind)
-      → Appends mid sink.after (torn under c.part ++ take n (gain under c.part t.kind)) → (r : List ℕ) → (us : List Token) × (tokens_of r ≡ tokens ++ t ∷ us)
+  stops_at : (t : Token) → is_changed q mark c.part t ≡ false → (n : ℕ) → n < length (gain under c.part t.kind)
+      → Appends writes.mid sink.after (take n (gain under c.part t.kind)) → (r : List ℕ) → (us : List Token) × (tokens_of r ≡ tokens ++ t ∷ us)
       → WriteStops q first (tokens_of r) t.at sink
-  stops_at takes t same n short wrote r y =
+  stops_at t same n short wrote r y =
       let games : List ℕ = text_of q c.games in
       let before_it : List ℕ = torn under c.part in
       let more : List ℕ = gain under c.part t.kind in
       let marks : List Mark = marks_after (next c.part t.kind) mark [] in
-      let none : reads.tokens ≡ reads.tokens ++ [] = sym (append-nil reads.tokens) in
-      let at_front : compared q reads.tokens tokens ≡ record { progress = c; marks_left = mark ∷ []; fault = None } = goes reads.tokens tokens [] [] none (sym (append-nil tokens)) in
-      let at_token : compared q reads.tokens (tokens ++ t ∷ []) ≡ record { progress = progress_after c t; marks_left = marks; fault = None } =
-      goes reads.tokens (tokens ++ t ∷ []) [] (t ∷ []) none refl ∙ change_test q mark [] c t [] ∙ ap (after_change q mark [] c t []) same in
-      let text : written_by q (compared q reads.tokens (tokens ++ t ∷ [])) ≡ (games ++ before_it) ++ more =
-      ap (written_by q) at_token ∙ written_at_token q mark [] c.games t (next c.part t.kind) takes (not_changed q mark c.part t same).1
+      let none : first_tokens ≡ first_tokens ++ [] = sym (append-nil first_tokens) in
+      let at_front : compared q first_tokens tokens ≡ record { progress = c; marks_left = mark ∷ []; fault = None } = goes first_tokens tokens [] [] none (sym (append-nil tokens)) in
+      let at_token : compared q first_tokens (tokens ++ t ∷ []) ≡ record { progress = progress_after c t; marks_left = marks; fault = None } =
+      goes first_tokens (tokens ++ t ∷ []) [] (t ∷ []) none refl ∙ change_test q mark [] c t [] ∙ ap (after_change q mark [] c t []) same in
+      let text : written_by q (compared q first_tokens (tokens ++ t ∷ [])) ≡ (games ++ before_it) ++ more =
+      ap (written_by q) at_token ∙ written_at_token q mark [] c.games t (next c.part t.kind) writes.so.has_given.takes (not_changed q mark c.part t same).1
       ∙ ap (λ (l : List ℕ). games ++ l) (next_is under c.part t.kind) ∙ sym (append_assoc games before_it more) in
       let front : games ++ (before_it ++ take n more) ≡ take (length (games ++ before_it) + n) ((games ++ before_it) ++ more) =
       sym (append_assoc games before_it (take n more)) ∙ sym (take-append-add (games ++ before_it) more n) in
       record {
-        tokens = reads.tokens;
+        tokens = first_tokens;
         decided_by = first_decides;
         front = tokens;
         token = t;
@@ -306,27 +340,32 @@ module _ (q : Profile) (first second sink : Device) (first_now second_now mid : 
         appended = subst (λ (l : List ℕ). HasTaken sink (take (length (games ++ before_it) + n) l)) (sym text) (subst (HasTaken sink) front (all_written _ wrote));
       }
 
-  second_at : {f : Fault} → q.missing_result ≡ takes_the_marker → (f.reason ≡ ReadFault → FailsOnce second) → StopsWithin q second.before second.after m tokens mid sink.after f
-      → TwoReadingsFail q first second sink f
-  second_at takes counts (StopsWithin.unread f fails wrote) = second_unread fails counts wrote
-  second_at takes counts (StopsWithin.unwritten t comes same n short wrote) =
-      TwoReadingsFail.unwritten t.at
-      (IfSome_then second.before {P = λ r. (us : List Token) × (tokens_of r ≡ tokens ++ t ∷ us)} {Q = λ r. WriteStops q first (tokens_of r) t.at sink} comes
-      (stops_at takes t same n short wrote))
-  second_at takes counts (StopsWithin.differs t comes changed wrote) =
+  second_differs : (t : Token) → ComesNext second.before tokens t → is_changed q mark c.part t ≡ true → Appends writes.mid sink.after []
+      → TwoReadingsFail q first second sink (record { at = t.at; reason = Changed })
+  second_differs t comes changed wrote =
       let f : Fault = record { at = t.at; reason = Changed } in
       TwoReadingsFail.refused f
-      (both_known first.before second.before (Begins reads.tokens) (λ r. (us : List Token) × (tokens_of r ≡ tokens ++ t ∷ us)) (λ s r. AreConverted q s r (is_refused f) sink) first_begins comes
+      (both_known first.before second.before (Begins first_tokens) (λ r. (us : List Token) × (tokens_of r ≡ tokens ++ t ∷ us)) (λ s r. AreConverted q s r (is_refused f) sink) first_begins comes
       (λ s r x y.
       let is : compared q (tokens_of s) (tokens_of r) ≡ record { progress = c; marks_left = mark ∷ behind x.0; fault = Some f } =
       goes (tokens_of s) (tokens_of r) x.0 (t ∷ y.0) x.1 y.1 ∙ change_test q mark (behind x.0) c t y.0 ∙ ap (after_change q mark (behind x.0) c t y.0) changed in (
         ap (λ (z : Comparison). verdict_of (record { progress = z.progress; fault = earlier_fault z.fault (read q (tokens_of s)).fault })) is,
-        subst (λ (z : Comparison). HasTaken sink (written_by q z)) (sym is) (all_written _ wrote),
+        subst (λ (z : Comparison). HasTaken sink (written_by q z)) (sym is) (torn_written wrote),
       )))
 
-pub second_stops : (q : Profile) (first second sink : Device) (first_now second_now mid : Option (List ℕ)) (a b : Pass)
-    (so : BothSoFar q first.before first_now second.before second_now a b sink.before mid) (m : CodeMark) (new_a : Pass) (f : Fault)
-    → q.missing_result ≡ takes_the_marker → ReadsMark q first.before first.after so.marks m new_a → (f.reason ≡ ReadFault → FailsOnce second)
-    → WritesToFault q second.before second.after (so.marks ++ model_mark m ∷ []) m so.second_tokens f mid sink.after → TwoReadingsFail q first second sink f
-second_stops q first second sink first_now second_now mid a b so m new_a f takes reads counts fails =
-    second_at q first second sink first_now second_now mid a b so m new_a reads fails.tokens fails.matched fails.no_game takes counts fails.stops
+  second_at : {f : Fault} (t : Token) → ComesNext second.before tokens t → TokenFails q c.part (Some m) t writes.mid sink.after f → TwoReadingsFail q first second sink (as_changed f)
+  second_at t comes (refused reason some wrote) =
+      subst (λ r. TwoReadingsFail q first second sink (record { at = t.at; reason = r })) (sym (changes reason (refusals_are_inside q c.part t.kind reason some)))
+      (second_differs t comes (ap (λ (o : Option Reason). is_some o || is_other mark (next c.part t.kind) t) some) wrote)
+  second_at t comes (other differs told wrote) = second_differs t comes differs wrote
+  second_at t comes (unwritten same (n, short, wrote)) =
+      TwoReadingsFail.unwritten t.at
+      (IfSome_then second.before {P = λ r. (us : List Token) × (tokens_of r ≡ tokens ++ t ∷ us)} {Q = λ r. WriteStops q first (tokens_of r) t.at sink} comes
+      (stops_at t same n short wrote))
+
+  pub second_stops : (changed_reason e.reason ≡ ReadFault → FailsOnce second) → TwoReadingsFail q first second sink (as_changed e)
+  second_stops counts = by_last writes.last
+    where
+      by_last : AfterStep q second.before second.after (Some m) tokens new_b (Err e) writes.mid sink.after → TwoReadingsFail q first second sink (as_changed e)
+      by_last (inl fails) = second_at fails.token fails.comes fails.fails
+      by_last (inr (fails, wrote)) = second_unread fails counts wrote

@@ -4,29 +4,26 @@ use Rattle.std.proofs.lemmas.List.{drop-drop, drop-take}
 use Rattle.std.proofs.KnownBytes.{Appends-nil}
 use Rattle.std.specs.Io.KnownBytes.{Consumes}
 use Rattle.pgn_lexer.specs.declared.token.LexFault.{LexFault}
-use Rattle.pgn_lexer.specs.Tokens as tokens
 use Rattle.pgn_lexer.specs.TokensOf.{tokens_of}
 use Rattle.pgn_lexer.specs.Laws.{IsLast, RisesTo, TokensRise}
 use Rattle.pgn_lexer.specs.PartialToken.{refusal as refusal_token}
 use Rattle.pgn_lexer.specs.Scanned.{more, token, fault}
 use Rattle.pgn_lexer.specs.Standing.{Standing, coming}
 use Rattle.pgn_lexer.specs.Stands.{AfterScan, FinishGivesToken, Follows, HasLeft, IsNext, StandsAfter, first, still}
-use Rattle.pgn_game.specs.declared.accepted.Accepted.TheVariants.{More as Continues}
 use Rattle.pgn_game.specs.declared.checked.Mark.{Mark as CodeMark}
 use Rattle.pgn_game.specs.declared.checked.Taken.{Taken}
 use Rattle.pgn_game.specs.declared.checked.Taken.TheVariants.{More, Game as GameEnd, End}
-use Rattle.pgn_game.proofs.Words.{Kind, Token, Lexical, Fault, Stage, Between, Profile, takes_the_marker, Pair, Game, Item, Part}
+use Rattle.pgn_game.proofs.Words.{Kind, Token, Lexical, Fault, Profile, takes_the_marker, Part}
 use Rattle.pgn_game.specs.FaultTable.{is_end}
-use Rattle.pgn_game.specs.Progress.{Next, going, whole, next}
 use Rattle.pgn_game.specs.MostTried.{Raises}
 use Rattle.pgn_game.specs.ReaderState.{Agrees, IsAccepted, ReaderState}
 use Rattle.pgn_game.specs.ConverterCalls.{HasRead}
-use Rattle.pgn_game.specs.Pass.{AfterTake, AfterToken, ComesNext, HasGiven, IsAlike, LeadsTo, Pass, StandsIn, TakeFails, TakesKind, TakesToken, as_converter, games_with, part_after, reading_under, refused}
+use Rattle.pgn_game.specs.Pass.{AfterStep, AfterToken, ComesNext, HasGiven, Pass, StandsIn, TakesKind, TakesOn, TakesToken, TellsEnd, accepted_of, as_converter, games_with, part_after, profile_under, reading_under, refused}
 use Rattle.pgn_game.proofs.tokens.AcceptedToConverter.{follows_first, has_read_game, has_read_more, lexical-refusal, still_none}
 use Rattle.pgn_game.proofs.tokens.StepsAtEnd.{Left, Nearer, is_the_end, left_by, let_go, nearer_by, tokens_left}
 use Rattle.pgn_game.proofs.tokens.StepsInPiece.{whole_piece}
 use Rattle.pgn_game.proofs.tokens.WholeInput.{known_left}
-use Rattle.pgn_game.proofs.twice.MarkerCounts.{agrees_under}
+use Rattle.pgn_game.proofs.twice.MarkerCounts.{agrees_under, same_mode}
 
 -- The lexer gave a token. It is the next one of the text, and the reading goes on behind it; behind
 -- the end there is nothing.
@@ -110,107 +107,62 @@ module _ (left_old left_now : Option (List ℕ)) (bytes : List ℕ) (given : Lis
   pub fault_at_end : (f : LexFault) → tokens_of bytes ≡ given ++ refusal_token f ∷ [] → ComesNext left_old given (refusal_token f)
   fault_at_end f cut = of_whole (λ s. (ts : List Token) × (tokens_of s ≡ given ++ refusal_token f ∷ ts)) ([], cut)
 
--- no end finishes a game
-end_goes : (s : Stage) (ps : List Pair) (name : List ℕ) (items : List Item) (g : Game) → next (record { stage = s; pairs = ps; name = name; items = items }) tokens.end ≡ whole g → ⊥
-end_goes Between ps name items g h = absurd (cc)
-end_goes _ ps name items g h = absurd (cc)
-
-not_the_end : (part : Part) (k : Kind) (g : Game) → next part k ≡ whole g → is_end k ≡ false
-not_the_end part k g h = by_flag (is_end k) refl
-  where
-    by_flag : (e : Bool) → is_end k ≡ e → is_end k ≡ false
-    by_flag true is = absurd (end_goes part.stage part.pairs part.name part.items g (subst (λ j. next part j ≡ whole g) (is_the_end k is) h))
-    by_flag false is = is
-
-more_goes : (n : Next) (t : Token) → LeadsTo n t More → is_end t.kind ≡ false
-more_goes (going part) t h = h
-more_goes (whole g) t h = absurd h
-
-end_leads : (n : Next) (t : Token) → LeadsTo n t End → is_end t.kind ≡ true
-end_leads (going part) t h = h
-end_leads (whole g) t h = absurd h
-
-game_leads : (part : Part) (t : Token) (m : CodeMark) (n : Next) → next part t.kind ≡ n → LeadsTo n t (GameEnd m) → is_end t.kind ≡ false
-game_leads part t m (going to) is h = absurd h
-game_leads part t m (whole g) is h = not_the_end part t.kind g is
-
 -- What was taken.
 module _ (q : Profile) (left_old left_now : Option (List ℕ)) (told : Option CodeMark) (given : List Token) (t : Token) (old new : Pass) (a c : Option (List ℕ))
-    (has_read : HasRead q (as_converter q old) given) (profile : IsAlike q new.reading.profile) (came : Came left_old left_now new.lexer new.unused new.has_ended given t) where
+    (takes : q.missing_result ≡ takes_the_marker) (profile : old.reading.profile ≡ profile_under q told) (has_read : HasRead q (as_converter q old) given)
+    (came : Came left_old left_now new.lexer new.unused new.has_ended given t) where
   abbrev part : Part
   part = part_after q given
 
   raised : {P : ℕ → Type 0} (o n : ℕ) → Raises P o n → o ≤ n
   raised o n h = omega (arith, h.most)
 
-  read_more : (taken : Taken) → TakesToken q part told t old.reading new.reading taken a c → new.games ≡ old.games
-      → IsAccepted (reading_under q old.reading) part t.kind (reading_under q new.reading) Continues None None
-      → HasRead q (as_converter q new) (given ++ t ∷ [])
-  read_more taken took games h =
-      subst (λ n. HasRead q (record (as_converter q new) { games = n }) (given ++ t ∷ [])) (sym games)
-      (has_read_more q (as_converter q old) given t new.lexer (reading_under q new.reading) false has_read refl (raised _ _ h.tried) h.free h.leads h.plies h.tried)
+  read_on : (taken : Taken) → IsAccepted (reading_under q old.reading) part t.kind (reading_under q new.reading) (accepted_of taken) None None
+      → HasRead q (record (as_converter q new) { games = games_with taken old.games }) (given ++ t ∷ [])
+  read_on (GameEnd m) h =
+      let_go q _ _ (has_read_game q (as_converter q old) given t new.lexer (reading_under q new.reading) false has_read refl (raised _ _ h.tried) h.free h.leads h.plies h.tried)
+  read_on More h = has_read_more q (as_converter q old) given t new.lexer (reading_under q new.reading) false has_read refl (raised _ _ h.tried) h.free h.leads h.plies h.tried
+  read_on End h = has_read_more q (as_converter q old) given t new.lexer (reading_under q new.reading) false has_read refl (raised _ _ h.tried) h.free h.leads h.plies h.tried
 
-  read_game : (m : CodeMark) → TakesToken q part told t old.reading new.reading (GameEnd m) a c → new.games ≡ old.games + 1 → HasRead q (as_converter q new) (given ++ t ∷ [])
-  read_game m took games =
-      let h = took.accepted in
-      subst (λ n. HasRead q (record (as_converter q new) { games = n }) (given ++ t ∷ [])) (sym games)
-      (let_go q _ _ (has_read_game q (as_converter q old) given t new.lexer (reading_under q new.reading) false has_read refl (raised _ _ h.tried) h.free h.leads h.plies h.tried))
+  takes_on : (taken : Taken) → TakesToken q part told t old.reading new.reading taken a c → new.games ≡ games_with taken old.games → TellsEnd t.kind taken
+      → TakesOn q left_old left_now told given t new taken a c
+  takes_on taken took games end =
+      let has_read : HasRead q (as_converter q new) (given ++ t ∷ []) =
+      subst (λ n. HasRead q (record (as_converter q new) { games = n }) (given ++ t ∷ [])) (sym games) (read_on taken took.accepted) in
+      record {
+        has_given = λ is.
+            let b = came.behind (end ∙ is) in
+            record { takes = takes; bytes = b.0; consumed = b.1; stands = b.2; counted = b.3; has_read = has_read; profile = took.kept ∙ profile };
+        whole = λ is. came.whole (end ∙ is);
+        has_read = has_read;
+        passes = took.passes;
+        end = end;
+      }
 
-  has_given : is_end t.kind ≡ false → HasRead q (as_converter q new) (given ++ t ∷ []) → HasGiven q left_old left_now new (given ++ t ∷ [])
-  has_given is h =
-      let b = came.behind is in
-      record { bytes = b.0; consumed = b.1; stands = b.2; counted = b.3; has_read = h; profile = profile }
-
-  pub taken : (r : Result Taken Fault) → AfterToken q part told t old.reading new.reading r a c → IfOk r (λ x. new.games ≡ games_with x old.games)
-      → AfterTake q left_old left_now told given new r a c
-  taken (Ok More) took games =
-      inr (
-        t,
-        record {
-          has_given = has_given (more_goes _ t took.leads) (read_more More took games took.accepted);
-          free = took.free;
-          same = took.same;
-          leads = took.leads;
-          appended = took.appended;
-        },
-      )
-  taken (Ok (GameEnd m)) took games = (
-    t,
-    record {
-      has_given = has_given (game_leads part t m _ refl took.leads) (read_game m took games);
-      free = took.free;
-      same = took.same;
-      leads = took.leads;
-      appended = took.appended;
-    },
-  )
-  taken (Ok End) took games = (
-    t,
-    record {
-      whole = came.whole (end_leads _ t took.leads);
-      free = took.free;
-      same = took.same;
-      leads = took.leads;
-      has_read = read_more End took games took.accepted;
-    },
-  )
-  taken (Err f) fails games = record { token = t; comes = came.comes; profile = profile; fails = fails }
+  pub taken : (r : Result Taken Fault) → AfterToken q part told t old.reading new.reading r a c → IfOk r (λ x. new.games ≡ games_with x old.games) → IfOk r (TellsEnd t.kind)
+      → AfterStep q left_old left_now told given new r a c
+  taken (Ok More) took games end = inr (t, takes_on More took games end)
+  taken (Ok (GameEnd m)) took games end = (t, takes_on (GameEnd m) took games end)
+  taken (Ok End) took games end = (t, takes_on End took games end)
+  taken (Err f) fails games end = inl (record { token = t; comes = came.comes; fails = fails })
 
 -- The reader agrees with the part under its own profile too.
-agrees_back : (q : Profile) (r : ReaderState) (part : Part) → IsAlike q r.profile → Agrees (reading_under q r) part → Agrees r part
-agrees_back q r part (text, is) agrees = agrees_under r.profile (reading_under q r) part (ap (λ (p : Profile). p.mode) is) agrees
+agrees_back : (q : Profile) (r : ReaderState) (told : Option CodeMark) (part : Part) → r.profile ≡ profile_under q told → Agrees (reading_under q r) part → Agrees r part
+agrees_back q r told part is agrees = agrees_under r.profile (reading_under q r) part (ap (λ (p : Profile). p.mode) is ∙ same_mode q told) agrees
 
--- a lexer does not show in what was read
-read_alike : (q : Profile) (s : Pass) (l : Standing) (unused : List ℕ) (given : List Token) → HasRead q (as_converter q s) given
-    → HasRead q (as_converter q (record s { lexer = l; unused = unused })) given
-read_alike q s l unused given h =
-    record { profile = h.profile; no_fault = h.no_fault; passes = h.passes; agrees = h.agrees; games = h.games; plies = h.plies; probed = h.probed; tried = h.tried; just_finished = h.just_finished }
+module _ (q : Profile) (left_old left_now : Option (List ℕ)) (told : Option CodeMark) (given : List Token) (s : Pass) (l : Standing) (has : HasGiven q told left_old left_now s given) where
+  -- a token that the lexer gave, and what the reader did with it
+  reads : (t : Token) (new : Pass) (result : Result Taken Fault) (a c : Option (List ℕ)) → Came left_old left_now new.lexer new.unused new.has_ended given t
+      → TakesKind told t.kind t.at s.reading new.reading result a c → IfOk result (λ x. new.games ≡ games_with x s.games) → IfOk result (TellsEnd t.kind)
+      → AfterStep q left_old left_now told given new result a c
+  reads t new result a c came h games end =
+      taken q left_old left_now told given t s new a c has.takes has.profile has.has_read came result
+      (h q (part_after q given) has.takes has.profile (agrees_back q s.reading told (part_after q given) has.profile has.has_read.agrees)) games end
 
-module _ (q : Profile) (left_old left_now : Option (List ℕ)) (told : Option CodeMark) (given : List Token) (s : Pass) (l : Standing) (takes : q.missing_result ≡ takes_the_marker)
-    (has : HasGiven q left_old left_now s given) where
-  reads : (t : Token) (r : ReaderState) (result : Result Taken Fault) (a c : Option (List ℕ)) → TakesKind told t.kind t.at s.reading r result a c
-      → IsAlike q r.profile × AfterToken q (part_after q given) told t s.reading r result a c
-  reads t r result a c h = h q (part_after q given) takes has.profile (agrees_back q s.reading (part_after q given) has.profile has.has_read.agrees)
+  fails_lexical : (f : LexFault) (o : Option (List ℕ)) → ComesNext left_old given (refusal_token f)
+      → AfterStep q left_old left_now told given s (Err (record { at = f.at; reason = Lexical f.reason })) o o
+  fails_lexical f o comes =
+      inl (record { token = refusal_token f; comes = comes; fails = refused (Lexical f.reason) (lexical-refusal q (part_after q given) f) (Appends-nil o) })
 
   -- Where the source has ended.
   module _ (ended : s.has_ended ≡ true) where
@@ -222,65 +174,51 @@ module _ (q : Profile) (left_old left_now : Option (List ℕ)) (told : Option Co
 
     pub token_at_end : (t : Token) (r : ReaderState) (games : ℕ) (result : Result Taken Fault) (a c : Option (List ℕ))
         → ((u : List ℕ) (ts : List Token) → HasLeft s.lexer u ts → IsNext u ts t.kind l t) → FinishGivesToken t.kind s.lexer l t
-        → TakesKind told t.kind t.at s.reading r result a c → IfOk result (λ x. games ≡ games_with x s.games)
-        → AfterTake q left_old left_now told given (record s { lexer = l; reading = r; games = games }) result a c
-    token_at_end t r games result a c goes gives h counted =
-        let new : Pass = record s { lexer = l; reading = r; games = games } in
+        → TakesKind told t.kind t.at s.reading r result a c → IfOk result (λ x. games ≡ games_with x s.games) → IfOk result (TellsEnd t.kind)
+        → AfterStep q left_old left_now told given (record s { lexer = l; reading = r; games = games }) result a c
+    token_at_end t r games result a c goes gives =
         let near = nearer_by t.kind s.lexer l t gives in
         let came : Came left_old left_now l [] true given t =
         came_at_end left_old left_now has.bytes given s.lexer l none_left waits.2 t (goes has.bytes given waits.0) (λ is. (subst (λ e. Nearer e s.lexer l) is near).1 ∙ has.counted) in
-        let is = reads t r result a c h in
-        taken q left_old left_now told given t s new a c has.has_read is.0
-        (subst (λ e. Came left_old left_now l s.unused e given t) (sym ended) (subst (λ xs. Came left_old left_now l xs true given t) (sym waits.1) came)) result is.1 counted
+        reads t (record s { lexer = l; reading = r; games = games }) result a c
+        (subst (λ e. Came left_old left_now l s.unused e given t) (sym ended) (subst (λ xs. Came left_old left_now l xs true given t) (sym waits.1) came))
 
     pub fails_at_end : (f : LexFault) (o : Option (List ℕ)) → ((u : List ℕ) (ts : List Token) → HasLeft s.lexer u ts → tokens_of u ≡ ts ++ refusal_token f ∷ [])
-        → TakeFails q left_old told given s.reading (record { at = f.at; reason = Lexical f.reason }) o o
-    fails_at_end f o goes =
-        record {
-          token = refusal_token f;
-          profile = has.profile;
-          comes = fault_at_end left_old left_now has.bytes given s.lexer l none_left waits.2 f (goes has.bytes given waits.0);
-          fails = refused (Lexical f.reason) (lexical-refusal q (part_after q given) f) (Appends-nil o);
-        }
+        → AfterStep q left_old left_now told given s (Err (record { at = f.at; reason = Lexical f.reason })) o o
+    fails_at_end f o goes = fails_lexical f o (fault_at_end left_old left_now has.bytes given s.lexer l none_left waits.2 f (goes has.bytes given waits.0))
 
   -- In the buffer.
-  module _ (not_ended : s.has_ended ≡ false) (used : ℕ) where
+  module _ (not_ended : s.has_ended ≡ false) (used : ℕ) (unused : List ℕ) (rest : unused ≡ drop used s.unused) where
     pub in_buffer_before : StandsAfter s.lexer has.bytes (first s.unused) given
     in_buffer_before = (subst (λ e. StandsIn e s.lexer s.unused given has.bytes left_old) not_ended has.stands).0
 
-    pub token_in_buffer : TokensRise → (t : Token) (r : ReaderState) (games : ℕ) (unused : List ℕ) (result : Result Taken Fault) (a c : Option (List ℕ))
-        → AfterScan has.bytes (first s.unused) given s.unused l used (token t) → unused ≡ drop used s.unused
-        → TakesKind told t.kind t.at s.reading r result a c → IfOk result (λ x. games ≡ games_with x s.games)
-        → AfterTake q left_old left_now told given (record s { lexer = l; reading = r; games = games; unused = unused }) result a c
-    token_in_buffer rise t r games unused result a c scan rest h counted =
-        let new : Pass = record s { lexer = l; reading = r; games = games; unused = unused } in
+    pub token_in_buffer : TokensRise → (t : Token) (r : ReaderState) (games : ℕ) (result : Result Taken Fault) (a c : Option (List ℕ))
+        → AfterScan has.bytes (first s.unused) given s.unused l used (token t)
+        → TakesKind told t.kind t.at s.reading r result a c → IfOk result (λ x. games ≡ games_with x s.games) → IfOk result (TellsEnd t.kind)
+        → AfterStep q left_old left_now told given (record s { lexer = l; reading = r; games = games; unused = unused }) result a c
+    token_in_buffer rise t r games result a c scan =
         let came = came_in_buffer left_old left_now s.unused has.bytes given l used has.consumed rise t scan in
-        let is = reads t r result a c h in
-        taken q left_old left_now told given t s new a c has.has_read is.0
-        (subst (λ e. Came left_old left_now l unused e given t) (sym not_ended) (subst (λ xs. Came left_old left_now l xs false given t) (sym rest) came)) result is.1 counted
+        reads t (record s { lexer = l; reading = r; games = games; unused = unused }) result a c
+        (subst (λ e. Came left_old left_now l unused e given t) (sym not_ended) (subst (λ xs. Came left_old left_now l xs false given t) (sym rest) came))
 
     pub fails_in_buffer : (f : LexFault) (o : Option (List ℕ)) → AfterScan has.bytes (first s.unused) given s.unused l used (fault f)
-        → TakeFails q left_old told given s.reading (record { at = f.at; reason = Lexical f.reason }) o o
-    fails_in_buffer f o scan =
-        record {
-          token = refusal_token f;
-          profile = has.profile;
-          comes = fault_in_buffer left_old left_now s.unused has.bytes given l used has.consumed f scan;
-          fails = refused (Lexical f.reason) (lexical-refusal q (part_after q given) f) (Appends-nil o);
-        }
+        → AfterStep q left_old left_now told given s (Err (record { at = f.at; reason = Lexical f.reason })) o o
+    fails_in_buffer f o scan = fails_lexical f o (fault_in_buffer left_old left_now s.unused has.bytes given l used has.consumed f scan)
 
-    pub more_in_buffer : (unused : List ℕ) → 0 < length s.unused → AfterScan has.bytes (first s.unused) given s.unused l used more → unused ≡ drop used s.unused
-        → HasGiven q left_old left_now (record s { lexer = l; unused = unused }) given
-    more_in_buffer unused some scan rest =
+    pub more_in_buffer : 0 < length s.unused → AfterScan has.bytes (first s.unused) given s.unused l used more
+        → HasGiven q told left_old left_now (record s { lexer = l; unused = unused }) given
+    more_in_buffer some scan =
         let none : unused ≡ [] = rest ∙ ap (λ n. drop n s.unused) scan.0 ∙ drop_of_length-le s.unused (le_refl (length s.unused)) in
         let after = none_in_buffer left_old left_now s.unused has.bytes given l used has.consumed scan some in
+        let h = has.has_read in
         record {
+          takes = has.takes;
           bytes = has.bytes ++ s.unused;
           consumed = subst (λ xs. Consumes left_old left_now ((has.bytes ++ s.unused) ++ xs)) (sym none) after.0;
           stands = subst (λ e. StandsIn e l unused given (has.bytes ++ s.unused) left_old) (sym not_ended)
               (subst (λ xs. StandsIn false l xs given (has.bytes ++ s.unused) left_old) (sym none) after.1);
           counted = after.2;
-          has_read = read_alike q s l unused given has.has_read;
+          has_read = record { profile = h.profile; no_fault = h.no_fault; passes = h.passes; agrees = h.agrees; games = h.games; plies = h.plies; probed = h.probed; tried = h.tried; just_finished = h.just_finished };
           profile = has.profile;
         }
 

@@ -1,10 +1,10 @@
-use Rattle.std.proofs.Common.{rules, ◌-◌, ◌++◌, ◌∷◌, [], max, refl, ap, ◌∙◌, arith}
+use Rattle.std.proofs.Common.{rules, ◌-◌, max, refl, ap, ◌∙◌, arith}
 use Rattle.std.proofs.lemmas.Result.{err_from_is_err_and}
 use Rattle.pgn_layout.specs.Device.{device, one_more}
 use Rattle.pgn_game.specs.Checked.{checked_profile}
-use Rattle.pgn_game.specs.Pass.{Pass, model_mark}
-use Rattle.pgn_game.proofs.twice.FailuresOfSteps.{first_counts, read_fails, second_counts, source_fails}
-use Rattle.pgn_game.proofs.twice.MarksInTurn.{matched_mark}
+use Rattle.pgn_game.proofs.Words.{Fault}
+use Rattle.pgn_game.specs.Pass.{Pass}
+use Rattle.pgn_game.proofs.twice.FailuresOfSteps.{first_counts, no_write, second_counts, source_fails}
 use Rattle.pgn_game.proofs.twice.ReadingsToConversion.{both_end, both_more, both_none, first_stops, second_stops}
 use Rattle.pgn_game.proofs.ReaderFitsInMemory.{pass_alike, pass_fits_reader}
 use Rattle.pgn_game.proofs.checked.convert_checked.Goals as goal
@@ -13,7 +13,6 @@ pub loop-mark-init : goal.loop-mark-init
 loop-mark-init g c =
     record {
       first_going = c.new-ahead.ensures.going;
-      first_under = c.new-ahead.ensures.under;
       second_going = c.new-behind.ensures.going;
       first = refl;
       second = refl;
@@ -25,14 +24,13 @@ pub returns-in_err-mark-clause-converts : goal.returns-in_err-mark-clause-conver
 returns-in_err-mark-clause-converts g c =
     let q = checked_profile g.row.T (g.row.L - 1) c.args.mode in
     let so = c.loop-mark.invariant in
-    let x = so.both in
     let f = c.in_err-mark.field-0.0 in
     let e = err_from_is_err_and c.from_residual.result c.from_residual.ensures.1 in
     rw (e.1, e.2)
     (first_stops q (device g.Q.Source.left g.Q.Source.failures c.args.first.now c.read_game.new.source)
     (device g.R.Source.left g.R.Source.failures c.args.second.now c.loop-mark.second) (device g.W.Sink.taken g.W.Sink.failures c.args.writer.now c.loop-mark.writer) _
-    c.loop-mark.ahead c.loop-mark.behind x f (λ is. read_fails f.reason _ _ c.in_err-mark.ensures.counted is ∙ ap one_more so.first)
-    (c.in_err-mark.ensures.reads q _ x.first_tokens x.marks refl x.first_given x.marked))
+    c.loop-mark.ahead c.loop-mark.behind so.both f c.read_game.new.self (λ is. source_fails f.reason _ _ _ _ c.in_err-mark.ensures.counted is ∙ ap one_more so.first)
+    (no_write f.reason _ _ c.in_err-mark.ensures.counted) (c.in_err-mark.ensures.reads q _ so.both.first_tokens so.both.first_stands))
 
 pub returns-in_default-clause-converts : goal.returns-in_default-clause-converts
 returns-in_default-clause-converts g c =
@@ -42,8 +40,7 @@ returns-in_default-clause-converts g c =
     let tried = c.most_probes.ensures.value ∙ ap (λ (s : Pass). s.reading.most_probes) c.ahead.view_is in
     both_end q (device g.Q.Source.left g.Q.Source.failures c.args.first.now c.read_game.new.source)
     (device g.R.Source.left g.R.Source.failures c.args.second.now c.loop-mark.second) (device g.W.Sink.taken g.W.Sink.failures c.args.writer.now c.loop-mark.writer) _
-    c.loop-mark.ahead c.loop-mark.behind x c.read_game.new.self c.totals.result
-    (reads q _ x.first_tokens x.marks refl x.first_given x.marked) c.totals.ensures.games c.totals.ensures.plies
+    c.loop-mark.ahead c.loop-mark.behind x c.read_game.new.self _ c.totals.result (reads q _ x.first_tokens x.first_stands) c.totals.ensures.games c.totals.ensures.plies
     (c.totals.ensures.probes ∙ ap (λ n. max n c.loop-mark.behind.reading.most_probes) tried) (omega (arith, tried, c.most_probes.ensures.bound))
     (omega (arith, c.totals.ensures.probes, c.totals.ensures.bound))
 
@@ -52,22 +49,18 @@ loop-mark-preserved g c =
     let q = checked_profile g.row.T (g.row.L - 1) c.args.mode in
     let so = c.loop-mark.invariant in
     let x = so.both in
-    let mark = model_mark c.in-Some.mark in
     let reads = rw c.in-Some.is at c.in_ok-mark.ensures.reads in
     let goes_on = rw c.in-Some.is at c.in_ok-mark.ensures.going in
-    let first = reads q _ x.first_tokens x.marks refl x.first_given x.marked in
-    let second =
-    c.in_ok-write_game.ensures.writes q _ x.second_tokens (x.marks ++ mark ∷ []) refl x.second_given x.between (matched_mark q x.marks mark x.second_tokens x.matched) in
+    let second = c.in_ok-write_game.ensures.writes q x.told _ x.second_tokens x.second_stands in
     record {
-      first_going = goes_on.0;
-      first_under = goes_on.2;
-      second_going = second.goes_on;
-      first = c.in_ok-mark.ensures.counted ∙ so.first;
+      first_going = goes_on.going;
+      second_going = second.2;
+      first = c.in_ok-mark.ensures.counted.0 ∙ so.first;
       second = c.in_ok-write_game.ensures.counted.0 ∙ so.second;
       sink = c.in_ok-write_game.ensures.counted.1 ∙ so.sink;
       both =
-          both_more q _ _ _ _ c.loop-mark.ahead c.loop-mark.behind _ _ x c.in-Some.mark c.read_game.new.self c.write_game.new.self (g.Q.Source.left c.read_game.new.source)
-          (g.R.Source.left c.write_game.new.source) (g.W.Sink.taken c.write_game.new.out) first second;
+          both_more q _ _ _ _ c.loop-mark.ahead c.loop-mark.behind _ _ x c.in-Some.mark second.0 c.read_game.new.self c.write_game.new.self _ _ _
+          (reads q _ x.first_tokens x.first_stands) second.1;
     }
 
 pub returns-in_err-write_game-clause-converts : goal.returns-in_err-write_game-clause-converts
@@ -75,17 +68,15 @@ returns-in_err-write_game-clause-converts g c =
     let q = checked_profile g.row.T (g.row.L - 1) c.args.mode in
     let so = c.loop-mark.invariant in
     let x = so.both in
-    let mark = model_mark c.in-Some.mark in
-    let f = c.in_err-write_game.field-0.0 in
     let reads = rw c.in-Some.is at c.in_ok-mark.ensures.reads in
-    let first = reads q _ x.first_tokens x.marks refl x.first_given x.marked in
+    let f = c.in_err-write_game.field-0.0 in
+    let second = c.in_err-write_game.ensures.writes q x.told _ x.second_tokens x.second_stands in
     let e = err_from_is_err_and c.from_residual-in_err-write_game.result c.from_residual-in_err-write_game.ensures.1 in
-    rw (e.1, e.2)
+    rw (e.1, e.2, second.2)
     (second_stops q (device g.Q.Source.left g.Q.Source.failures c.args.first.now c.read_game.new.source)
     (device g.R.Source.left g.R.Source.failures c.args.second.now c.write_game.new.source) (device g.W.Sink.taken g.W.Sink.failures c.args.writer.now c.write_game.new.out) _ _ _
-    c.loop-mark.ahead c.loop-mark.behind x c.in-Some.mark c.read_game.new.self f refl first
-    (λ is. source_fails f.reason _ _ _ _ c.in_err-write_game.ensures.counted is ∙ ap one_more so.second)
-    (c.in_err-write_game.ensures.writes q _ x.second_tokens (x.marks ++ mark ∷ []) refl x.second_given x.between (matched_mark q x.marks mark x.second_tokens x.matched)))
+    c.loop-mark.ahead c.loop-mark.behind x c.in-Some.mark c.read_game.new.self c.write_game.new.self second.0 (reads q _ x.first_tokens x.first_stands) second.1
+    (λ is. source_fails f.reason _ _ _ _ c.in_err-write_game.ensures.counted (ap (λ (x : Fault). x.reason) second.2 ∙ is) ∙ ap one_more so.second))
 
 pub returns-in_err-write_game-clause-counted : goal.returns-in_err-write_game-clause-counted
 returns-in_err-write_game-clause-counted g c =
@@ -94,7 +85,7 @@ returns-in_err-write_game-clause-counted g c =
     rw (e.1, e.2)
     (second_counts c.in_err-write_game.field-0.0.reason (device g.Q.Source.left g.Q.Source.failures c.args.first.now c.read_game.new.source)
     (device g.R.Source.left g.R.Source.failures c.args.second.now c.write_game.new.source) (device g.W.Sink.taken g.W.Sink.failures c.args.writer.now c.write_game.new.out) _ _
-    (c.in_ok-mark.ensures.counted ∙ so.first) so.second so.sink c.in_err-write_game.ensures.counted)
+    (c.in_ok-mark.ensures.counted.0 ∙ so.first) so.second so.sink c.in_err-write_game.ensures.counted)
 
 pub new-ahead-requires : goal.new-ahead-requires
 new-ahead-requires g c = (search pass_alike, c.requires.levels)
@@ -103,7 +94,7 @@ pub new-behind-requires : goal.new-behind-requires
 new-behind-requires g c = (search pass_alike, c.requires.levels)
 
 pub read_game-requires : goal.read_game-requires
-read_game-requires g c = (search pass_alike, (c.loop-mark.invariant.first_going, c.loop-mark.invariant.first_under))
+read_game-requires g c = (search pass_alike, c.loop-mark.invariant.first_going)
 
 pub write_game-requires : goal.write_game-requires
 write_game-requires g c = (search pass_alike, search rules)
@@ -126,9 +117,9 @@ returns-in_err-mark-clause-counted g c =
 pub returns-in_default-clause-counted : goal.returns-in_default-clause-counted
 returns-in_default-clause-counted g c =
     let so = c.loop-mark.invariant in
-    (c.in_ok-mark.ensures.counted ∙ so.first, so.second, so.sink)
+    (c.in_ok-mark.ensures.counted.0 ∙ so.first, so.second, so.sink)
 
 pub loop-mark-smaller : goal.loop-mark-smaller
 loop-mark-smaller g c =
     let goes_on = rw c.in-Some.is at c.in_ok-mark.ensures.going in
-    goes_on.1
+    goes_on.fewer

@@ -1,13 +1,12 @@
-use Rattle.std.proofs.Common.{◌≡◌, ◌-◌, None}
+use Rattle.std.proofs.Common.{◌≡◌, ◌-◌}
 use Rattle.pgn_game.specs.Checked.{checked_profile}
-use Rattle.pgn_game.specs.Pass.{BothSoFar, IsGoing, IsTold, steps_left}
+use Rattle.pgn_game.specs.Pass.{BothSoFar, IsGoing, steps_left}
 use Rattle.pgn_game.proofs.checked.convert_checked.Given as goal
 
 abbrev pub invariant-loop-mark : goal.invariant-loop-mark
 invariant-loop-mark g l =
     record {
       first_going : IsGoing l.ahead;
-      first_under : IsTold None l.ahead.reading;
       second_going : IsGoing l.behind;
       first : g.Q.Source.failures l.first ≡ g.Q.Source.failures l.fn.first;
       second : g.R.Source.failures l.second ≡ g.R.Source.failures l.fn.second;

@@ -1,57 +1,58 @@
-use Rattle.std.proofs.Common.{ℕ, true, length, refl, ap, ◌∙◌, inl, inr, arith}
-use Rattle.pgn_game.specs.Pass.{Pass}
-use Rattle.pgn_game.proofs.twice.BytesOfReading.{ended_here, fails_too_long, fails_unread, filled_here, going_filled, kept_of}
+use Rattle.std.proofs.Common.{ℕ, true, length, refl, sym, ap, subst, ◌∙◌, arith}
+use Rattle.pgn_game.specs.Pass.{HasGiven, IsGoing, Pass}
+use Rattle.pgn_game.proofs.twice.BytesOfReading.{ended_here, fails_too_long, fails_unread, filled_here}
+use Rattle.pgn_game.proofs.twice.CountsStaySmall.{keeps_filled, keeps_from}
 use Rattle.pgn_game.proofs.checked.Pass.fill.Goals as goal
 
 pub returns-in-Err-clause-fills : goal.returns-in-Err-clause-fills
-returns-in-Err-clause-fills g c =
-    record {
-      fills = λ q left_old given has.
-          fails_unread q left_old _ _ c.args.self.now c.args.self.now given has c.requires.empty.0 c.requires.empty.1 _ c.in-Err.ensures.fills
-          (c.count-at.ensures ∙ ap (λ (s : Pass). s.lexer.count) c.self.view_is);
-      kept = kept_of _ c.args.self.now _ _ c.self.view_is;
-      filled = tt;
-      going = tt;
-    }
+returns-in-Err-clause-fills g c q told left_old given has =
+    fails_unread q told left_old _ _ c.args.self.now given has c.requires.empty.0 c.requires.empty.1 _ c.in-Err.ensures.fills
+    (c.count-at.ensures ∙ ap (λ (s : Pass). s.lexer.count) c.self.view_is)
 
 pub returns-in-Ok-false-clause-fills : goal.returns-in-Ok-false-clause-fills
-returns-in-Ok-false-clause-fills g c =
+returns-in-Ok-false-clause-fills g c q told left_old given has =
     let read = rw c.in-Ok-false.field-0-test at c.in-Ok-false.ensures.fills in
-    record {
-      fills = λ q left_old given has.
-          ended_here q left_old _ _ c.args.self.now _ given has c.requires.empty.0 c.requires.empty.1 (kept_of _ c.args.self.now _ true c.self.view_is) refl read.0 read.1 read.2;
-      kept = kept_of _ c.args.self.now _ true c.self.view_is;
-      filled = inl refl;
-      going = going_filled c.args.self.now _ c.requires.going (kept_of _ c.args.self.now _ true c.self.view_is)
-          (omega (arith, c.requires.going.room, ap (length {A = ℕ}) read.0));
-    }
+    let here = subst (λ (s : Pass). HasGiven q told left_old (g.R.Source.left c.args.source.now) s given) (sym c.self.view_is) has in
+    let not_ended = ap (λ (s : Pass). s.has_ended) c.self.view_is ∙ c.requires.empty.0 in
+    let empty = ap (λ (s : Pass). s.unused) c.self.view_is ∙ c.requires.empty.1 in
+    ended_here q told left_old _ _ _ given here not_ended empty _ read.0 read.1 read.2
 
 pub returns-then-room-eq0-clause-fills : goal.returns-then-room-eq0-clause-fills
-returns-then-room-eq0-clause-fills g c =
+returns-then-room-eq0-clause-fills g c q told left_old given has =
     let read = rw c.in-Ok-true.field-0-test at c.in-Ok-true.ensures.fills in
-    record {
-      fills = λ q left_old given has.
-          fails_too_long q left_old _ _ c.args.self.now c.args.self.now given has c.requires.empty.0 c.requires.empty.1 _ _ read.1 read.0
-          (c.count-at.ensures ∙ ap (λ (s : Pass). s.lexer.count) c.self.view_is)
-          (omega (arith, c.if-room-eq0.true, c.count-at.ensures, c.requires.going.room, ap (λ (s : Pass). s.lexer.count) c.self.view_is));
-      kept = kept_of _ c.args.self.now _ _ c.self.view_is;
-      filled = tt;
-      going = tt;
-    }
+    let place = c.count-at.ensures ∙ ap (λ (s : Pass). s.lexer.count) c.self.view_is in
+    fails_too_long q told left_old _ _ c.args.self.now given has c.requires.empty.0 c.requires.empty.1 _ _ read.1 read.0 place
+    (omega (arith, c.if-room-eq0.true, place, c.requires.going.room))
 
 pub returns-else-room-eq0-clause-fills : goal.returns-else-room-eq0-clause-fills
-returns-else-room-eq0-clause-fills g c =
+returns-else-room-eq0-clause-fills g c q told left_old given has =
     let read = rw c.in-Ok-true.field-0-test at c.in-Ok-true.ensures.fills in
-    let place = ap (λ (s : Pass). s.lexer.count) c.self.view_is in
-    record {
-      fills = λ q left_old given has.
-          filled_here q left_old _ _ c.args.self.now _ given has c.requires.empty.0 c.requires.empty.1 (kept_of _ c.args.self.now _ _ c.self.view_is)
-          (ap (λ (s : Pass). s.has_ended) c.self.view_is ∙ c.requires.empty.0) read.1;
-      kept = kept_of _ c.args.self.now _ _ c.self.view_is;
-      filled = inr read.0;
-      going = going_filled c.args.self.now _ c.requires.going (kept_of _ c.args.self.now _ _ c.self.view_is)
-          (omega (arith, c.in-Ok-true.ensures.fits, c.bytes_to_read.ensures.room, c.if-room-eq0.false, c.count-at.ensures, place, c.requires.going.room));
-    }
+    let here = subst (λ (s : Pass). HasGiven q told left_old (g.R.Source.left c.args.source.now) s given) (sym c.self.view_is) has in
+    let not_ended = ap (λ (s : Pass). s.has_ended) c.self.view_is ∙ c.requires.empty.0 in
+    let empty = ap (λ (s : Pass). s.unused) c.self.view_is ∙ c.requires.empty.1 in
+    filled_here q told left_old _ _ _ given here not_ended empty _ read.1
+
+pub returns-in-Ok-false-clause-keeps : goal.returns-in-Ok-false-clause-keeps
+returns-in-Ok-false-clause-keeps g c =
+    let read = rw c.in-Ok-false.field-0-test at c.in-Ok-false.ensures.fills in
+    let going = subst IsGoing (sym c.self.view_is) c.requires.going in
+    let ended = ap (λ (s : Pass). s.has_ended) c.self.view_is ∙ c.requires.empty.0 in
+    let empty = ap (λ (s : Pass). s.unused) c.self.view_is ∙ c.requires.empty.1 in
+    keeps_from _ _ _ c.self.view_is
+    (keeps_filled _ c.fill.new.self true going (omega (arith, going.room, ap (length {A = ℕ}) read.0)) (rw (ended, empty) (omega arith)))
+
+pub returns-else-room-eq0-clause-keeps : goal.returns-else-room-eq0-clause-keeps
+returns-else-room-eq0-clause-keeps g c =
+    let read = rw c.in-Ok-true.field-0-test at c.in-Ok-true.ensures.fills in
+    let going = subst IsGoing (sym c.self.view_is) c.requires.going in
+    let ended = ap (λ (s : Pass). s.has_ended) c.self.view_is ∙ c.requires.empty.0 in
+    let empty = ap (λ (s : Pass). s.unused) c.self.view_is ∙ c.requires.empty.1 in
+    keeps_from _ _ _ c.self.view_is
+    (keeps_filled _ c.fill.new.self _ going (omega (arith, c.in-Ok-true.ensures.fits, c.bytes_to_read.ensures.room, c.if-room-eq0.false, c.count-at.ensures, going.room))
+    (rw (ended, empty) (omega (arith, read.0))))
+
+pub returns-in-Err-clause-counted : goal.returns-in-Err-clause-counted
+returns-in-Err-clause-counted g c = (c.in-Err.ensures.counted, refl)
 
 pub overflow_sub-room : goal.overflow_sub-room
 overflow_sub-room g c = omega (arith, c.count-at.ensures, ap (λ (s : Pass). s.lexer.count) c.self.view_is, c.requires.going.room)

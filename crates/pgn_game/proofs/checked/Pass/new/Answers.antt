@@ -18,6 +18,7 @@ returns-clause-given g c left =
     let is = c.count_missing_result_as.ensures
     ∙ ap (λ (r : ReaderState). record r { profile = record r.profile { missing_result = takes_the_marker } }) c.new-reader.ensures in
     record {
+      takes = refl;
       bytes = [];
       consumed = subst (Consumes left left) (sym c.new.ensures) (Consumes-nil left);
       stands = rw c.new.ensures (c.new-2.ensures.stands, inl refl);
@@ -33,7 +34,7 @@ returns-clause-given g c left =
         tried = subst (MostTried q []) (sym (ap (λ (r : ReaderState). r.most_probes) is)) (none no_progress);
         just_finished = tt;
       };
-      profile = (takes_the_marker, ap (λ (r : ReaderState). r.profile) is);
+      profile = ap (λ (r : ReaderState). r.profile) is;
     }
 
 pub new-reader-requires : goal.new-reader-requires
@@ -50,12 +51,6 @@ returns-clause-going g c =
       few_plies = omega (arith, few, ap (λ (r : ReaderState). r.earlier_plies) is, ap (λ (r : ReaderState). r.text.plies) is);
       room = omega (arith, count, ap (length {A = ℕ}) c.new.ensures);
     }
-
-pub returns-clause-under : goal.returns-clause-under
-returns-clause-under g c =
-    let is = c.count_missing_result_as.ensures
-    ∙ ap (λ (r : ReaderState). record r { profile = record r.profile { missing_result = takes_the_marker } }) c.new-reader.ensures in
-    ap (λ (r : ReaderState). r.profile.missing_result) is
 
 pub count_missing_result_as-requires : goal.count_missing_result_as-requires
 count_missing_result_as-requires g c = search pass_fits_reader

@@ -1,8 +1,19 @@
-use Rattle.std.proofs.Common.{arith, ◌∙◌}
+use Rattle.std.proofs.Common.{arith, refl, le_refl, ◌∙◌}
 use Rattle.std.proofs.lemmas.Result.{err_from_is_err_and}
-use Rattle.pgn_game.proofs.twice.FailuresOfSteps.{no_write}
-use Rattle.pgn_game.proofs.twice.StepsToGame.{read_fault, read_game, read_more, read_to_end}
+use Rattle.pgn_game.proofs.twice.FailuresOfSteps.{behind_still}
+use Rattle.pgn_game.proofs.twice.StepsToGame.{goes_more, goes_none}
 use Rattle.pgn_game.proofs.checked.Pass.read_game.Goals as goal
+
+pub loop-mark-init : goal.loop-mark-init
+loop-mark-init g c =
+    record {
+      going = c.requires.going;
+      told = refl;
+      fewer = le_refl _;
+      source = refl;
+      sink = refl;
+      reads = λ q left_old given stands. goes_none q c.args.told left_old _ given c.args.self.now _ stands;
+    }
 
 pub loop-mark-preserved : goal.loop-mark-preserved
 loop-mark-preserved g c =
@@ -11,45 +22,51 @@ loop-mark-preserved g c =
     let keeps = rw c.in-More.is at c.in_ok-step.ensures.keeps in
     record {
       going = keeps.going;
-      under = keeps.under;
+      told = refl;
       fewer = omega (arith, so.fewer, keeps.fewer);
       source = c.in_ok-step.ensures.counted.0 ∙ so.source;
-      reads = λ q left_old given ms takes has marked.
-          let x = so.reads q left_old given ms takes has marked in
-          read_more q left_old (g.R.Source.left c.loop-mark.source) (g.R.Source.left c.step.new.source) ms c.loop-mark.self c.step.new.self x (step q left_old x.tokens takes x.has_given);
+      sink = c.in_ok-step.ensures.counted.1 ∙ so.sink;
+      reads = λ q left_old given stands.
+          let x = so.reads q left_old given stands in
+          goes_more q c.args.told left_old _ _ given c.loop-mark.self c.step.new.self _ _ _ x (step q left_old x.tokens x.has_given);
     }
-
-pub returns-in-Game-clause-reads : goal.returns-in-Game-clause-reads
-returns-in-Game-clause-reads g c q left_old given ms takes has marked =
-    let step = rw c.in-Game.is at c.in_ok-step.ensures.takes in
-    let x = c.loop-mark.invariant.reads q left_old given ms takes has marked in
-    read_game q left_old (g.R.Source.left c.loop-mark.source) (g.R.Source.left c.step.new.source) ms c.loop-mark.self c.step.new.self x c.in-Game.mark (step q left_old x.tokens takes x.has_given)
-
-pub returns-in-Game-clause-going : goal.returns-in-Game-clause-going
-returns-in-Game-clause-going g c =
-    let keeps = rw c.in-Game.is at c.in_ok-step.ensures.keeps in
-    (keeps.going, omega (arith, c.loop-mark.invariant.fewer, keeps.fewer), keeps.under)
-
-pub returns-in-End-clause-reads : goal.returns-in-End-clause-reads
-returns-in-End-clause-reads g c q left_old given ms takes has marked =
-    let step = rw c.in-End.is at c.in_ok-step.ensures.takes in
-    let x = c.loop-mark.invariant.reads q left_old given ms takes has marked in
-    read_to_end q left_old (g.R.Source.left c.loop-mark.source) (g.R.Source.left c.step.new.source) ms c.loop-mark.self c.step.new.self x (step q left_old x.tokens takes x.has_given)
-
-pub returns-in_err-step-clause-reads : goal.returns-in_err-step-clause-reads
-returns-in_err-step-clause-reads g c q left_old given ms takes has marked =
-    let x = c.loop-mark.invariant.reads q left_old given ms takes has marked in
-    let e = err_from_is_err_and c.from_residual.result c.from_residual.ensures.1 in
-    let f = c.in_err-step.field-0.0 in
-    rw (e.1, e.2) (read_fault q left_old (g.R.Source.left c.loop-mark.source) (g.R.Source.left c.step.new.source) ms c.loop-mark.self c.step.new.self x f (c.in_err-step.ensures.takes q left_old x.tokens takes x.has_given) (no_write f.reason _ _ c.in_err-step.ensures.counted))
 
 pub loop-mark-smaller : goal.loop-mark-smaller
 loop-mark-smaller g c =
     let keeps = rw c.in-More.is at c.in_ok-step.ensures.keeps in
     keeps.fewer
 
+pub returns-in-Game-clause-reads : goal.returns-in-Game-clause-reads
+returns-in-Game-clause-reads g c q left_old given stands =
+    let step = rw c.in-Game.is at c.in_ok-step.ensures.takes in
+    let x = c.loop-mark.invariant.reads q left_old given stands in
+    record { left = _; mid = _; now = _; so = x; last = step q left_old x.tokens x.has_given }
+
+pub returns-in-Game-clause-going : goal.returns-in-Game-clause-going
+returns-in-Game-clause-going g c =
+    let keeps = rw c.in-Game.is at c.in_ok-step.ensures.keeps in
+    record { going = keeps.going; fewer = omega (arith, c.loop-mark.invariant.fewer, keeps.fewer) }
+
 pub returns-in-Game-clause-counted : goal.returns-in-Game-clause-counted
-returns-in-Game-clause-counted g c = c.in_ok-step.ensures.counted.0 ∙ c.loop-mark.invariant.source
+returns-in-Game-clause-counted g c = (c.in_ok-step.ensures.counted.0 ∙ c.loop-mark.invariant.source, c.in_ok-step.ensures.counted.1 ∙ c.loop-mark.invariant.sink)
+
+pub returns-in-End-clause-reads : goal.returns-in-End-clause-reads
+returns-in-End-clause-reads g c q left_old given stands =
+    let step = rw c.in-End.is at c.in_ok-step.ensures.takes in
+    let x = c.loop-mark.invariant.reads q left_old given stands in
+    record { left = _; mid = _; now = _; so = x; last = step q left_old x.tokens x.has_given }
 
 pub returns-in-End-clause-counted : goal.returns-in-End-clause-counted
-returns-in-End-clause-counted g c = c.in_ok-step.ensures.counted.0 ∙ c.loop-mark.invariant.source
+returns-in-End-clause-counted g c = (c.in_ok-step.ensures.counted.0 ∙ c.loop-mark.invariant.source, c.in_ok-step.ensures.counted.1 ∙ c.loop-mark.invariant.sink)
+
+pub returns-in_err-step-clause-reads : goal.returns-in_err-step-clause-reads
+returns-in_err-step-clause-reads g c q left_old given stands =
+    let x = c.loop-mark.invariant.reads q left_old given stands in
+    let e = err_from_is_err_and c.from_residual.result c.from_residual.ensures.1 in
+    rw (e.1, e.2) (record { left = _; mid = _; now = _; so = x; last = c.in_err-step.ensures.takes q left_old x.tokens x.has_given })
+
+pub returns-in_err-step-clause-counted : goal.returns-in_err-step-clause-counted
+returns-in_err-step-clause-counted g c =
+    let so = c.loop-mark.invariant in
+    let e = err_from_is_err_and c.from_residual.result c.from_residual.ensures.1 in
+    rw (e.1, e.2) (behind_still c.in_err-step.field-0.0.reason _ _ _ _ _ _ so.source so.sink c.in_err-step.ensures.counted)

@@ -1,30 +1,22 @@
 use Rattle.std.proofs.Common.{◌+◌, max, arith, ap, ◌∙◌}
+use Rattle.pgn_game.specs.ReaderState.{whole_plies}
 use Rattle.pgn_game.specs.Pass.{Pass}
 use Rattle.pgn_game.proofs.ReaderFitsInMemory.{pass_fits_reader}
 use Rattle.pgn_game.proofs.checked.Pass.totals.Goals as goal
 
-pub is_between-requires : goal.is_between-requires
-is_between-requires g c = search pass_fits_reader
-
-pub earlier_plies-requires : goal.earlier_plies-requires
-earlier_plies-requires g c = search pass_fits_reader
-
-pub plies-requires : goal.plies-requires
-plies-requires g c = search pass_fits_reader
-
-pub earlier_plies-plies-requires : goal.earlier_plies-plies-requires
-earlier_plies-plies-requires g c = search pass_fits_reader
+pub whole_plies-requires : goal.whole_plies-requires
+whole_plies-requires g c =
+    let place = ap (λ (s : Pass). s.reading.earlier_plies + s.reading.text.plies) c.self.view_is in
+    (search pass_fits_reader, omega (arith, place, c.requires.few))
 
 pub most_probes-requires : goal.most_probes-requires
 most_probes-requires g c = search pass_fits_reader
 
-pub overflow_add-plies : goal.overflow_add-plies
-overflow_add-plies g c =
-    let place = ap (λ (s : Pass). s.reading.earlier_plies + s.reading.text.plies) c.self.view_is in
-    omega (arith, c.earlier_plies.ensures, c.plies.ensures, place, c.requires.few)
-
 pub returns-clause-games : goal.returns-clause-games
 returns-clause-games g c = ap (λ (s : Pass). s.games) c.self.view_is
+
+pub returns-clause-plies : goal.returns-clause-plies
+returns-clause-plies g c = c.whole_plies.ensures ∙ ap (λ (s : Pass). whole_plies s.reading) c.self.view_is
 
 pub returns-clause-probes : goal.returns-clause-probes
 returns-clause-probes g c =
