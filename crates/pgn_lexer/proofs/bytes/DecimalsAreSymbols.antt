@@ -42,7 +42,7 @@ last_digit n ds high front =
     let value : number_of (ds ++ ((48 + n % 10) ∷ [])) ≡ 10 * number_of ds + ((48 + n % 10) - 48) =
     fold-append (λ n d. 10 * n + (d - 48)) 0 ds ((48 + n % 10) ∷ []) in
     record {
-      digits = all_append is_digit ds _ front.digits (both_true (digit_passes (n % 10) low) refl);
+      digits = all_append is_digit ds _ front.digits (both_true (digit_passes _ low) refl);
       value = value ∙ ap (λ m. 10 * m + ((48 + n % 10) - 48)) front.value ∙ omega arith;
       some = omega (arith, length-append ds ((48 + n % 10) ∷ []));
     }
@@ -52,7 +52,7 @@ number_written = decimal_by_steps IsNumber one_digit last_digit
 
 -- digits are a symbol
 digit_starts : (b : ℕ) → is_digit b ≡ true → starts_symbol b ≡ true
-digit_starts b e = cases (is_letter b)
+digit_starts b e = cases _
   where
     cases : (l : Bool) → (l || is_digit b) ≡ true
     cases true = refl
@@ -61,14 +61,14 @@ digit_starts b e = cases (is_letter b)
 digits_continue : (ds : List ℕ) → list_all is_digit ds ≡ true → list_all continues_symbol ds ≡ true
 digits_continue [] all = refl
 digits_continue (d ∷ ds) all =
-    let first = both (is_digit d) (list_all is_digit ds) all in
+    let first = both (is_digit d) (list_all _ ds) all in
     both_true (start_continues d (digit_starts d first.0)) (digits_continue ds first.1)
 
 symbol_of : (n : ℕ) (ds : List ℕ) → IsNumber n ds → length ds ≤ 255 → IsSymbol ds
 symbol_of n [] h fits = absurd (omega (arith, h.some))
 symbol_of n (d ∷ ds) h fits =
     record {
-      begins = digit_starts d (both (is_digit d) (list_all is_digit ds) h.digits).0;
+      begins = digit_starts d (both _ (list_all _ ds) h.digits).0;
       bytes = digits_continue (d ∷ ds) h.digits;
       fits = fits;
     }
@@ -78,4 +78,4 @@ numbers_are_symbols n small =
     let h = number_written n small in
     let short : length (decimal n) ≤ 20 =
     length-decimal-le 20 n (omega arith) (omega arith) small in
-    (symbol_of n (decimal n) h (omega arith), h.digits)
+    (symbol_of n _ h (omega arith), h.digits)

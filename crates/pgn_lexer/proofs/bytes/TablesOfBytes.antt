@@ -21,7 +21,7 @@ at_number f zero k i d less = absurd (omega arith)
 at_number f (suc n) k zero d less = let same : k ≡ k + 0 = omega arith in ap f same
 at_number f (suc n) k (suc i) d less =
     let same : k + 1 + i ≡ k + suc i = omega arith in
-    at_number f n (k + 1) i d (omega arith) ∙ ap f same
+    at_number f n _ i d (omega arith) ∙ ap f same
 
 pub class_at : (table : List Class) (b : ℕ) → table ≡ map class (numbers 256 0) → b < 256 → get_or table b LineEnd ≡ class b
 class_at table b are less =

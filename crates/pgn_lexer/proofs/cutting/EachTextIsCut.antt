@@ -36,7 +36,7 @@ record Split (p : ℕ → Bool) (s : List ℕ) : Type 0 where
 
 split : (p : ℕ → Bool) (s : List ℕ) → Split p s
 split p [] = record { run = []; rest = []; cut = refl; all = refl; stop = tt; shorter = omega arith }
-split p (b ∷ s) = cases (split p s) (p b) refl
+split p (b ∷ s) = cases (split p s) _ refl
   where
     cases : Split p s → (c : Bool) → p b ≡ c → Split p (b ∷ s)
     cases h true e = let less : length h.rest ≤ length s = h.shorter in record { run = b ∷ h.run; rest = h.rest; cut = ap (λ l. b ∷ l) h.cut; all = both_true e h.all; stop = h.stop; shorter = omega arith }
@@ -75,7 +75,7 @@ one_more n b front s write h =
       raw = front ++ h.raw;
       text = b ∷ h.text;
       rest = h.rest;
-      cut = ap (λ l. front ++ l) h.cut ∙ sym (append_assoc front h.raw h.rest);
+      cut = ap (λ l. front ++ l) h.cut ∙ sym (append_assoc front h.raw _);
       written = write h;
       fits = omega arith;
       stop = subst (λ m. Stop m h.rest) same h.stop;
@@ -94,7 +94,7 @@ has_data : (k n : ℕ) (s : List ℕ) → length s ≤ k → n ≤ 255 → HasDa
 has_data k n [] short fits = stops_here n [] fits (at_line_end n [] tt)
 has_data zero n (b ∷ s) short fits = absurd (omega arith)
 has_data (suc k) n (b ∷ s) short fits =
-    by_class (string_class b) (string_says b) (nat_lt n 255) refl s short (λ s short fits. has_data k (n + 1) s short fits)
+    by_class (string_class b) (string_says b) _ refl s short (λ s short fits. has_data k _ s short fits)
   where
     full : (d : Bool) → nat_lt n 255 ≡ d → d ≡ false → n ≡ 255
     full d e no_room = let more : 255 ≤ n = ltb-false n 255 (e ∙ no_room) in omega arith
@@ -103,7 +103,7 @@ has_data (suc k) n (b ∷ s) short fits =
     behind s room short on e = subst (λ b. HasData n (b ∷ s)) (sym (eqb-true b 92 e)) (next s short)
       where
         lone : (s : List ℕ) → StopsAt is_escaped s → length s ≤ k → HasData n (92 ∷ s)
-        lone s stop short = one_more n 92 (92 ∷ []) s (λ h. rules.lone h.raw h.text h.rest (subst (StopsAt is_escaped) h.cut stop) h.written) (on s short (omega arith))
+        lone s stop short = one_more n 92 (92 ∷ []) s (λ h. rules.lone h.raw h.text h.rest (subst (StopsAt _) h.cut stop) h.written) (on s short (omega arith))
 
         next : (s : List ℕ) → length (b ∷ s) ≤ suc k → HasData n (92 ∷ s)
         next [] short = lone [] tt (omega arith)
@@ -137,13 +137,13 @@ CommentSays b comments.CloseBrace = (b == 125) ≡ true
 CommentSays b comments.Control = is_control b ≡ true
 
 comment_says : (b : ℕ) → CommentSays b (comment_class b)
-comment_says b = cases (continues_word b) (is_line_end b) (is_blank b) (b == 125) refl refl refl refl (agreed refl)
+comment_says b = cases _ _ _ _ refl refl refl refl (agreed refl)
   where
     agreed : (w : continues_word b ≡ continues_word b) → continues_word b ≡ false → is_control b ≡ tells_control_in_comment (comment_class b)
     agreed w other = agree_below_at is_control (λ k. tells_control_in_comment (comment_class k)) 128 b refl (small (nat_le 128 b) refl)
       where
         small : (h : Bool) → nat_le 128 b ≡ h → b < 128
-        small true e = absurd (false≢true (sym other ∙ or_right ((nat_le 33 b && nat_le b 126) && not (b == 125)) (nat_le 128 b) e))
+        small true e = absurd (false≢true (sym other ∙ or_right ((nat_le 33 b && nat_le b 126) && not _) (nat_le 128 b) e))
         small false e = leb-false 128 b e
 
     cases : (w l s c : Bool) → continues_word b ≡ w → is_line_end b ≡ l → is_blank b ≡ s → (b == 125) ≡ c
@@ -172,7 +172,7 @@ module _ (n at : ℕ) (on : Further n) where
   one_refusal first s m r bad = (_, rules.refuses first at m s r bad)
 
   a_symbol : (first : Bool) (b : ℕ) (bs : List ℕ) → starts_symbol b ≡ true → length bs ≤ n → Split continues_symbol bs → Cut (rules.outside first) at (b ∷ bs)
-  a_symbol first b bs e short h = cut_as _ at (b ∷ bs) (b ∷ (h.run ++ h.rest)) (ap (λ l. b ∷ l) h.cut) (cases (nat_le (length (b ∷ h.run)) 255) refl)
+  a_symbol first b bs e short h = cut_as _ at (b ∷ bs) (b ∷ (h.run ++ h.rest)) (ap (λ l. b ∷ l) h.cut) (cases _ refl)
     where
       cases : (c : Bool) → nat_le (length (b ∷ h.run)) 255 ≡ c → Cut (rules.outside first) at (b ∷ (h.run ++ h.rest))
       cases true fits = let less : length h.rest ≤ length bs = h.shorter in one_token first (b ∷ h.run) h.rest _ (rules.symbol b h.run h.rest e (h.all, h.stop) (leb-true _ 255 fits)) (omega arith)
@@ -183,13 +183,13 @@ module _ (n at : ℕ) (on : Further n) where
     where
       cases : (run : List ℕ) → list_all is_digit run ≡ true → Cut (rules.outside first) at (36 ∷ (run ++ h.rest))
       cases [] all = one_refusal first _ 0 _ (rules.lone_dollar h.rest h.stop)
-      cases (d ∷ ds) all = by_number (nat_le (number_of (d ∷ ds)) 255) refl
+      cases (d ∷ ds) all = by_number (nat_le _ 255) refl
         where
           by_number : (c : Bool) → nat_le (number_of (d ∷ ds)) 255 ≡ c → Cut (rules.outside first) at (36 ∷ d ∷ (ds ++ h.rest))
           by_number true small =
               let less : length h.rest ≤ length bs = h.shorter in
-              one_token first (36 ∷ d ∷ ds) h.rest _ (rules.glyph d ds h.rest (both (is_digit d) (list_all is_digit ds) all).0 ((both (is_digit d) (list_all is_digit ds) all).1, h.stop) (leb-true _ 255 small)) (omega arith)
-          by_number false large = one_refusal first _ 0 _ (rules.large_glyph d ds h.rest (both (is_digit d) (list_all is_digit ds) all).0 ((both (is_digit d) (list_all is_digit ds) all).1, h.stop) (leb-false _ 255 large))
+              one_token first (36 ∷ d ∷ ds) h.rest _ (rules.glyph d ds h.rest (both _ _ all).0 ((both _ _ all).1, h.stop) (leb-true _ 255 small)) (omega arith)
+          by_number false large = one_refusal first _ 0 _ (rules.large_glyph d ds h.rest (both _ _ all).0 ((both _ _ all).1, h.stop) (leb-false _ 255 large))
 
   a_suffix : (first : Bool) (b : ℕ) (bs : List ℕ) → is_suffix b ≡ true → length bs ≤ n → Split is_suffix bs → Cut (rules.outside first) at (b ∷ bs)
   a_suffix first b bs e short h = cut_as _ at (b ∷ bs) (b ∷ (h.run ++ h.rest)) (ap (λ l. b ∷ l) h.cut) (cases h.run h.all)
@@ -221,35 +221,35 @@ module _ (n at : ℕ) (on : Further n) where
       cases (c ∷ d ∷ run) all = one_refusal first _ 0 _ (rules.bad_suffix (b ∷ c ∷ d ∷ run) h.rest (both_true e all, h.stop) (omega arith))
 
   a_string : (first : Bool) (bs : List ℕ) → length bs ≤ n → HasData 0 bs → Cut (rules.outside first) at (34 ∷ bs)
-  a_string first bs short h = cut_as _ at (34 ∷ bs) (34 ∷ (h.raw ++ h.rest)) (ap (λ l. 34 ∷ l) h.cut) (cases h.rest (0 + length h.text) refl h.stop h.written h.shorter)
+  a_string first bs short h = cut_as _ at (34 ∷ bs) (34 ∷ (h.raw ++ h.rest)) (ap (λ l. 34 ∷ l) h.cut) (cases _ _ refl h.stop h.written h.shorter)
     where
       fit : length h.text ≤ 255
       fit = let f : 0 + length h.text ≤ 255 = h.fits in omega arith
 
       cases : (rest : List ℕ) (m : ℕ) → m ≡ 0 + length h.text → Stop m rest → Data h.raw h.text rest → length rest ≤ length bs → Cut (rules.outside first) at (34 ∷ (h.raw ++ rest))
-      cases _ _ same (at_line_end m s stop) written less = one_refusal first _ 0 _ (rules.open_string h.raw h.text s written fit stop)
+      cases _ _ same (at_line_end m s stop) written less = one_refusal first _ 0 _ (rules.open_string h.raw _ s written fit stop)
       cases _ _ same (at_quote m s) written less =
-          cut_as _ at (34 ∷ (h.raw ++ 34 ∷ s)) ((34 ∷ (h.raw ++ 34 ∷ [])) ++ s) (ap (λ l. 34 ∷ l) (sym (append_assoc h.raw (34 ∷ []) s)))
-          (one_token first (34 ∷ (h.raw ++ 34 ∷ [])) s _ (rules.string h.raw h.text s written fit) (omega arith))
-      cases _ _ same (at_barred m b s bad other) written less = one_refusal first _ (1 + length h.raw) _ (rules.control_in_string b h.raw h.text s written fit bad other)
+          cut_as _ at (34 ∷ (h.raw ++ 34 ∷ s)) ((34 ∷ (h.raw ++ 34 ∷ [])) ++ s) (ap (λ l. 34 ∷ l) (sym (append_assoc h.raw _ s)))
+          (one_token first (34 ∷ (h.raw ++ 34 ∷ [])) s _ (rules.string h.raw _ s written fit) (omega arith))
+      cases _ _ same (at_barred m b s bad other) written less = one_refusal first _ (1 + length h.raw) _ (rules.control_in_string b h.raw _ s written fit bad other)
       cases _ _ same (too_long m b s full more) written less = one_refusal first _ 0 _ (rules.long_string b h.raw h.text s written (omega arith) more)
 
   -- outside strings and comments
   from_outside : (first : Bool) (b : ℕ) (bs : List ℕ) → length bs ≤ n → (c : Class) → ClassSays b c → Cut (rules.outside first) at (b ∷ bs)
-  from_outside first b bs short classes.LineEnd says = let more = on (rules.outside (is_line_end b)) (at + 1) bs short in (_, rules.space first at b bs more.0 (or_left (is_line_end b) (is_blank b) says) more.1)
-  from_outside first b bs short classes.Space says = let more = on (rules.outside (is_line_end b)) (at + 1) bs short in (_, rules.space first at b bs more.0 (or_right (is_line_end b) (is_blank b) says.1) more.1)
+  from_outside first b bs short classes.LineEnd says = let more = on (rules.outside _) (at + 1) bs short in (_, rules.space first at b bs more.0 (or_left _ _ says) more.1)
+  from_outside first b bs short classes.Space says = let more = on (rules.outside _) (at + 1) bs short in (_, rules.space first at b bs more.0 (or_right (is_line_end b) (is_blank b) says.1) more.1)
   from_outside false b bs short classes.Percent says = subst (λ b. Cut (rules.outside false) at (b ∷ bs)) (sym (eqb-true b 37 says)) (_, rules.stray_percent at bs)
-  from_outside true b bs short classes.Percent says = subst (λ b. Cut (rules.outside true) at (b ∷ bs)) (sym (eqb-true b 37 says)) (escape_line (split (λ b. not (is_line_end b)) bs))
+  from_outside true b bs short classes.Percent says = subst (λ b. Cut (rules.outside true) at (b ∷ bs)) (sym (eqb-true b 37 says)) (escape_line (split _ bs))
     where
       escape_line : Split (λ b. not (is_line_end b)) bs → Cut (rules.outside true) at (37 ∷ bs)
       escape_line h =
           let less : length h.rest ≤ length bs = h.shorter in
           let more = on (rules.outside false) (at + 1 + length h.run) h.rest (omega arith) in
           cut_as _ at (37 ∷ bs) (37 ∷ (h.run ++ h.rest)) (ap (λ l. 37 ∷ l) h.cut) (_, rules.escape_line at h.run h.rest more.0 (h.all, h.stop) more.1)
-  from_outside first b bs short classes.SymbolStart says = a_symbol first b bs says short (split continues_symbol bs)
+  from_outside first b bs short classes.SymbolStart says = a_symbol first b bs says short (split _ bs)
   from_outside first b bs short classes.Quote says = subst (λ b. Cut (rules.outside first) at (b ∷ bs)) (sym (eqb-true b 34 says)) (a_string first bs short (has_data (length bs) 0 bs (omega arith) (omega arith)))
-  from_outside first b bs short classes.Dollar says = subst (λ b. Cut (rules.outside first) at (b ∷ bs)) (sym (eqb-true b 36 says)) (a_glyph first bs short (split is_digit bs))
-  from_outside first b bs short classes.Suffix says = a_suffix first b bs says short (split is_suffix bs)
+  from_outside first b bs short classes.Dollar says = subst (λ b. Cut (rules.outside first) at (b ∷ bs)) (sym (eqb-true b 36 says)) (a_glyph first bs short (split _ bs))
+  from_outside first b bs short classes.Suffix says = a_suffix first b bs says short (split _ bs)
   from_outside first b bs short classes.OpenBrace says =
       let more = on (rules.comment true) (at + 1) bs short in subst (λ b. Cut (rules.outside first) at (b ∷ bs)) (sym (eqb-true b 123 says)) (_, rules.opens_brace first at bs more.0 more.1)
   from_outside first b bs short classes.Semicolon says =
@@ -266,7 +266,7 @@ module _ (n at : ℕ) (on : Further n) where
   from_outside first b bs short (classes.Refused _) says = absurd says
 
   a_word : (braces : Bool) (b : ℕ) (bs : List ℕ) → continues_word b ≡ true → length bs ≤ n → Split continues_word bs → Cut (rules.comment braces) at (b ∷ bs)
-  a_word braces b bs e short h = cut_as _ at (b ∷ bs) (b ∷ (h.run ++ h.rest)) (ap (λ l. b ∷ l) h.cut) (cases (nat_le (length (b ∷ h.run)) 79) refl)
+  a_word braces b bs e short h = cut_as _ at _ (b ∷ (h.run ++ h.rest)) (ap (λ l. b ∷ l) h.cut) (cases _ refl)
     where
       cases : (c : Bool) → nat_le (length (b ∷ h.run)) 79 ≡ c → Cut (rules.comment braces) at (b ∷ (h.run ++ h.rest))
       cases true fits =
@@ -276,12 +276,12 @@ module _ (n at : ℕ) (on : Further n) where
 
   -- in a comment
   from_comment : (braces : Bool) (b : ℕ) (bs : List ℕ) → length bs ≤ n → (c : CommentClass) → CommentSays b c → Cut (rules.comment braces) at (b ∷ bs)
-  from_comment braces b bs short comments.WordByte says = a_word braces b bs says short (split continues_word bs)
-  from_comment true b bs short comments.LineEnd says = let more = on (rules.comment true) (at + 1) bs short in (_, rules.between_words true at b bs more.0 (or_left (is_line_end b) (is_blank b) says) refl more.1)
+  from_comment braces b bs short comments.WordByte says = a_word braces b bs says short (split _ bs)
+  from_comment true b bs short comments.LineEnd says = let more = on (rules.comment true) (at + 1) bs short in (_, rules.between_words true at b bs _ (or_left _ _ says) refl more.1)
   from_comment false b bs short comments.LineEnd says = let more = on (rules.outside true) (at + 1) bs short in (_, rules.closes_line at b bs more.0 says more.1)
-  from_comment true b bs short comments.Space says = let more = on (rules.comment true) (at + 1) bs short in (_, rules.between_words true at b bs more.0 (or_right (is_line_end b) (is_blank b) says) refl more.1)
+  from_comment true b bs short comments.Space says = let more = on (rules.comment true) (at + 1) bs short in (_, rules.between_words true at b bs _ (or_right _ _ says) refl more.1)
   from_comment false b bs short comments.Space says =
-      let more = on (rules.comment false) (at + 1) bs short in (_, rules.between_words false at b bs more.0 (or_right (is_line_end b) (is_blank b) says) (ap not (blank_class b says).1) more.1)
+      let more = on (rules.comment false) (at + 1) bs short in (_, rules.between_words false at b bs _ (or_right _ _ says) (ap not (blank_class b says).1) more.1)
   from_comment true b bs short comments.CloseBrace says = let more = on (rules.outside false) (at + 1) bs short in subst (λ b. Cut (rules.comment true) at (b ∷ bs)) (sym (eqb-true b 125 says)) (_, rules.closes_brace at bs more.0 more.1)
   from_comment false b bs short comments.CloseBrace says = subst (λ b. Cut (rules.comment false) at (b ∷ bs)) (sym (eqb-true b 125 says)) (_, rules.brace_in_line at bs)
   from_comment braces b bs short comments.Control says = (_, rules.control_in_comment braces at b bs says)
@@ -299,8 +299,8 @@ cut_tokens : (w : Where) (at : ℕ) (s : List ℕ) → Cuts w at s (tokens_from 
 cut_tokens w at s = let h = exists (length s) w at s (omega arith) in subst (Cuts w at s) (cuts_is w at s h.0 h.1) h.1
 
 lexes_are : (s : List ℕ) (ts : List Token) → Lexes s ts → ts ≡ tokens_of s
-lexes_are _ _ (rules.marked s ts h) = cuts_is (rules.outside true) 3 s ts h
-lexes_are _ _ (rules.unmarked s ts none h) = cuts_is (rules.outside true) 0 s ts h ∙ sym (unmarked s none)
+lexes_are _ _ (rules.marked s ts h) = cuts_is _ 3 s ts h
+lexes_are _ _ (rules.unmarked s ts none h) = cuts_is _ 0 s ts h ∙ sym (unmarked s none)
 
 -- a text with a mark begins with it
 mark_cut : (s : List ℕ) → has_mark s ≡ true → (rest : List ℕ) × (s ≡ 239 ∷ 187 ∷ 191 ∷ rest)
@@ -308,16 +308,16 @@ mark_cut [] e = absurd (false≢true e)
 mark_cut (a ∷ []) e = absurd (false≢true e)
 mark_cut (a ∷ b ∷ []) e = absurd (false≢true e)
 mark_cut (a ∷ b ∷ c ∷ s) e =
-    let two = both ((a == 239) && (b == 187)) (c == 191) e in
+    let two = both _ (c == 191) e in
     let one = both (a == 239) (b == 187) two.0 in
     (s, ap (λ x. x ∷ b ∷ c ∷ s) (eqb-true a 239 one.0) ∙ ap (λ x. 239 ∷ x ∷ c ∷ s) (eqb-true b 187 one.1) ∙ ap (λ x. 239 ∷ 187 ∷ x ∷ s) (eqb-true c 191 two.1))
 
 tokens_lex : (s : List ℕ) → Lexes s (tokens_of s)
-tokens_lex s = cases (has_mark s) refl
+tokens_lex s = cases _ refl
   where
     cases : (m : Bool) → has_mark s ≡ m → Lexes s (tokens_of s)
     cases true e = let h = mark_cut s e in subst (λ s. Lexes s (tokens_of s)) (sym h.1) (rules.marked h.0 _ (cut_tokens (rules.outside true) 3 h.0))
-    cases false e = subst (Lexes s) (sym (unmarked s e)) (rules.unmarked s _ e (cut_tokens (rules.outside true) 0 s))
+    cases false e = subst (Lexes s) (sym (unmarked s e)) (rules.unmarked s _ e (cut_tokens _ 0 s))
 
 pub lexes_once : LexesOnce
 lexes_once s ts = (lexes_are s ts, λ e. subst (Lexes s) (sym e) (tokens_lex s))

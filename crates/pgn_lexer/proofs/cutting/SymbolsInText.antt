@@ -82,4 +82,4 @@ one_of whole (x ∷ given) rest t all = one_of whole given rest t all.1
 
 pub symbols_stand_in_text : SymbolsStandInText
 symbols_stand_in_text s given rest t is =
-    one_of s given rest t (subst (AllStand s) is (lexed_stands s (tokens_of s) ((lexes_once s (tokens_of s)).1 refl)))
+    one_of s given rest t (subst (AllStand s) is (lexed_stands s _ ((lexes_once s _).1 refl)))

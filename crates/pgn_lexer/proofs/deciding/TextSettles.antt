@@ -55,7 +55,7 @@ settles n [] place h enough sound not_failed = record { given = []; later = toke
 settles zero (b ∷ u) place h enough sound not_failed = absurd (omega arith)
 settles (suc n) (b ∷ u) place h enough sound not_failed =
     by_step (after_byte place h b).held (after_byte place h b).step (step_gives place h b sound)
-    (λ new fewer sound not_failed. settles n u (place + 1) new fewer sound not_failed) (λ new fewer sound not_failed. settles n (b ∷ u) place new fewer sound not_failed)
+    (λ new fewer sound not_failed. settles n u _ new fewer sound not_failed) (λ new fewer sound not_failed. settles n (b ∷ u) place new fewer sound not_failed)
   where
     by_step : (new : PartialToken) (step : Step) → StepGives (front_of place h b) new step
         → ((new : PartialToken) → 3 * length u + pending new ≤ n → IsSound (place + 1) new → HasNotFailed new.mode → Settles (λ s. tokens_to_come (place + 1) new (u ++ s)))
@@ -81,7 +81,7 @@ text_settles u = settles (3 * length u) u 0 at_start (omega arith) (record { roo
 pub decided_is_prefix : DecidedIsPrefix
 decided_is_prefix u s =
     let h : Settles (λ s. tokens_of (u ++ s)) = text_settles u in
-    let all : decided u ≡ h.given = decided_is h.given u h.later h.comes ∙ ap (λ l. h.given ++ l) h.none ∙ append-nil h.given in
+    let all : decided u ≡ h.given = decided_is h.given u h.later h.comes ∙ ap (λ l. h.given ++ l) h.none ∙ append-nil _ in
     (h.later s, h.comes s ∙ ap (λ l. l ++ h.later s) (sym all))
 
 -- the front of a front is one
@@ -89,10 +89,10 @@ pub prefix_trans : (xs ys zs : List Token) → IsPrefix xs ys → IsPrefix ys zs
 prefix_trans xs ys zs p q = (p.0 ++ q.0, q.1 ∙ ap (λ l. l ++ q.0) p.1 ∙ append_assoc xs p.0 q.0)
 
 take_while_front : (p : Token → Bool) (ts : List Token) → IsPrefix (take_while p ts) ts
-take_while_front p ts = (drop (prefix_len p ts) ts, sym (take-append-drop (prefix_len p ts) ts))
+take_while_front p ts = (drop _ ts, sym (take-append-drop _ ts))
 
 pub known_is_prefix : KnownIsPrefix
 known_is_prefix u s b =
     let front : IsPrefix (decided (u ++ b ∷ [])) (tokens_of ((u ++ b ∷ []) ++ s)) = decided_is_prefix (u ++ b ∷ []) s in
-    let whole : IsPrefix (decided (u ++ b ∷ [])) (tokens_of (u ++ b ∷ s)) = (front.0, sym (ap tokens_of (append_assoc u (b ∷ []) s)) ∙ front.1) in
-    prefix_trans (known u b) (decided (u ++ b ∷ [])) (tokens_of (u ++ b ∷ s)) (take_while_front (λ t. nat_lt t.at (length u)) (decided (u ++ b ∷ []))) whole
+    let whole : IsPrefix (decided (u ++ b ∷ [])) (tokens_of (u ++ b ∷ s)) = (front.0, sym (ap tokens_of (append_assoc u _ s)) ∙ front.1) in
+    prefix_trans _ _ _ (take_while_front _ _) whole

@@ -64,14 +64,14 @@ begin_gives classes.Quote place b h ended waits fits =
     record {
       sound = record { room = (omega arith, tt); placed = omega arith };
       not_failed = tt;
-      comes = λ s. ap (λ r. onto place (string_at r) (tokens_from (place + 1) quotes s)) (sym (with_front-nil (reading place (place + 1) 0 false s)));
+      comes = λ s. ap (λ r. onto place (string_at r) (tokens_from (place + 1) quotes s)) (sym (with_front-nil _));
     }
 begin_gives classes.Dollar place b h ended waits fits = record { sound = record { room = (fits, tt); placed = omega arith }; not_failed = tt; comes = λ s. refl }
 begin_gives classes.Suffix place b h ended waits fits =
     record {
       sound = record { room = (fits, tt); placed = omega arith };
       not_failed = tt;
-      comes = λ s. ap (λ f. onto place f (tokens_from (place + 1) in_suffix s)) (suffix_first place b (take_while is_suffix s) (b == 33) refl);
+      comes = λ s. ap (λ f. onto place f (tokens_from (place + 1) in_suffix s)) (suffix_first place b _ _ refl);
     }
 begin_gives classes.OpenBrace place b h ended waits fits =
     record { sound = record { room = (fits, tt); placed = tt }; not_failed = tt; before = omega arith; lengths = tt; ends_at = refl; closed = refl; few = omega arith; comes = λ s. refl }

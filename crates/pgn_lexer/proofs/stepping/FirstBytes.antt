@@ -44,7 +44,7 @@ start_gives at b text fits true e =
     record { sound = record { room = (fits, tt); placed = refl }; not_failed = tt; comes = λ s. ap (λ x. tokens_of (x ∷ s)) (eqb-true b 239 e) }
 start_gives at b text fits false e =
     let h : PartialToken = record { mode = modes.Start; at = at; text = text } in
-    same_front _ _ (λ s. unmarked (b ∷ s) (other_first b s e)) _ _ (begin_line_gives (class b) 0 b h (tokens_of []) 0 fits)
+    same_front _ _ (λ s. unmarked (b ∷ s) (other_first b s e)) _ _ (begin_line_gives _ 0 b h (tokens_of []) 0 fits)
 
 pub after_ef_gives : (at b : ℕ) (text : List ℕ) → length text ≤ 255 → (c : Bool) → (b == 187) ≡ c
     → let h : PartialToken = record { mode = modes.AfterEf; at = at; text = text } in

@@ -10,7 +10,7 @@ returns-in-End c =
 pub returns-in-Token : goal.returns-in-Token
 returns-in-Token c =
     let ran = rw c.in-Token.is at c.run-used.ensures in
-    ((refl, λ _. tt, scans_of _ _ _ _ _ _ c.self.view_is (scans_form _ _ _ _ _ c.in-Token.form _ c.token.ensures.at c.token.ensures.kind ran)), record { used = ran.within; after = tt })
+    ((refl, λ _. tt, scans_of _ _ _ _ _ _ c.self.view_is (scans_form _ _ _ _ _ _ _ c.token.ensures.at c.token.ensures.kind ran)), record { used = ran.within; after = tt })
 
 pub returns-in-Fault : goal.returns-in-Fault
 returns-in-Fault c =
