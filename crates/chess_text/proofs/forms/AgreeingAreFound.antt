@@ -169,7 +169,7 @@ tells true p m x h = by_next (legal p m) refl h
     by_next None e g = absurd (cc)
     by_next (Some q) e g =
         let is : record { mv = m; next = q } ≡ x = cc in
-        record { says = refl; same = sym (ap (λ (y : Played). y.mv) is); after = e ∙ ap (λ (y : Played). Some y.next) is }
+        record { says = refl; same = cc; after = e ∙ ap (λ (y : Played). Some y.next) is }
 
 -- each move that is found agrees, and the position after it is with it
 pub record Agrees (p : Parts) (f : Form) (x : Played) : Type 0 where
@@ -236,7 +236,7 @@ module _ (p : Parts) (f : Form) where
   one_to x [] e h = absurd (cc)
   one_to x (y ∷ []) e h =
       let is : y ≡ x = cc in
-      let e : agreeing p f ≡ x ∷ [] = e ∙ ap (λ (z : Played). z ∷ []) is in
+      let e : agreeing p f ≡ x ∷ [] = cc in
       let a = first_agrees x [] e in
       (a.holds, a.after, alone x e)
   one_to x (y ∷ z ∷ more) e h = absurd (cc)

@@ -10,7 +10,7 @@ marks_alone-none (c ∷ s) h = rw h refl
 
 all-append : (t m : List ℕ) → list_all is_mark m ≡ true → list_all is_mark (t ++ m) ≡ list_all is_mark t
 all-append [] m h = h
-all-append (c ∷ t) m h = ap (λ b. is_mark c && b) (all-append t m h)
+all-append (c ∷ t) m h = cc (all-append t m h)
 
 -- marks at the end change nothing
 pub before_marks-append : (t m : List ℕ) → list_all is_mark m ≡ true → before_marks (t ++ m) ≡ before_marks t
@@ -35,9 +35,7 @@ pub cut_at_marks : (s : List ℕ) (n : ℕ) → 0 < n → n ≤ length s → lis
 cut_at_marks s n started within marks h =
     let last : take n s ≡ take (n - 1) s ++ get_or s (n - 1) 0 ∷ [] =
     ap (λ k. take k s) (sym (again n started)) ∙ take_more s (n - 1) 0 (omega arith) in
-    ap (λ t. before_marks t) (sym (take-append-drop n s))
-    ∙ (before_marks-append (take n s) (drop n s) marks
-    ∙ (ap (λ t. before_marks t) last ∙ (before_marks-last (take (n - 1) s) (get_or s (n - 1) 0) h ∙ sym last)))
+    cc (take-append-drop n s, before_marks-append (take n s) (drop n s) marks, before_marks-last (take (n - 1) s) (get_or s (n - 1) 0) h)
   where
     again : (n : ℕ) → 0 < n → (n - 1) + 1 ≡ n
     again n h = omega arith

@@ -53,14 +53,14 @@ reads_one p long = refl
 
 pub played_none : (b : Bool) (p : Parts) (m : Move) → legal p m ≡ None → played b p m ≡ None
 played_none false p m h = refl
-played_none true p m h = ap (with_next m) h
+played_none true p m h = cc
 
 pub played_some : (b : Bool) (p q : Parts) (m : Move) → b ≡ true → legal p m ≡ Some q → played b p m ≡ Some (record { mv = m; next = q })
-played_some true p q m e h = ap (with_next m) h
+played_some true p q m e h = cc
 played_some false p q m e h = absurd (false≢true e)
 
 pub played_not : (b : Bool) (p : Parts) (m : Move) → b ≡ false → played b p m ≡ None
-played_not b p m e = ap (λ (x : Bool). played x p m) e
+played_not b p m e = cc
 
 no_next : (o : Option Parts) → is_some o ≡ false → o ≡ None
 no_next None h = refl
@@ -72,7 +72,7 @@ next_of (Some q) h = (q, refl)
 
 module _ (p : Parts) (long : Bool) (m : Move) (is : m ≡ castling_move p.side long) where
   answer_of : (o : Option Played) → played (describes p (Castle long) (castling_move p.side long)) p (castling_move p.side long) ≡ o → only (cons_option o []) ≡ move_of_form p (Castle long)
-  answer_of o h = ap (λ (x : Option Played). only (cons_option x [])) (sym h) ∙ sym (reads_one p long)
+  answer_of o h = cc (reads_one p long)
 
   pub castling_illegal : is_legal p m ≡ false → Err NoMove ≡ move_of_form p (Castle long)
   castling_illegal h =
@@ -81,13 +81,11 @@ module _ (p : Parts) (long : Bool) (m : Move) (is : m ≡ castling_move p.side l
   pub castling_found : is_legal p m ≡ true → is_castling p m ≡ true → with_next_position p (Ok m) ≡ move_of_form p (Castle long)
   castling_found h named =
       let (q, leads) = next_of (legal p m) h in
-      ap (λ (o : Option Parts). ok_or (with_next m o) NoMove) leads ∙ found q leads
+      cc (found q leads)
     where
       found : (q : Parts) → legal p m ≡ Some q → Ok (record { mv = m; next = q }) ≡ move_of_form p (Castle long)
       found q leads =
-          ap (λ (n : Move). Ok (record { mv = n; next = q })) is
-          ∙ answer_of (Some (record { mv = castling_move p.side long; next = q }))
-          (played_some _ p q (castling_move p.side long) (described p long (castling_move p.side long) refl ∙ subst (λ (n : Move). is_castling p n ≡ true) is named) (subst (λ (n : Move). legal p n ≡ Some q) is leads))
+          cc (answer_of (Some (record { mv = castling_move p.side long; next = q })) (played_some _ p q (castling_move p.side long) (described p long (castling_move p.side long) refl ∙ subst (λ (n : Move). is_castling p n ≡ true) is named) (subst (λ (n : Move). legal p n ≡ Some q) is leads)))
 
   pub castling_other : is_castling p m ≡ false → Err NoMove ≡ move_of_form p (Castle long)
   castling_other named =

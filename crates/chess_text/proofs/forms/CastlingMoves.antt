@@ -158,6 +158,4 @@ and_second false y h = absurd (false≢true h)
 -- where the code has seen the king
 pub castling_by_files : (p : Parts) (m : Move) (king : Bool) (files : ℕ) → is_some (step p m) ≡ true → king ≡ own p King m.from → king ≡ true → files ≡ abs_diff m.from.file m.to.file → nat_lt 1 files ≡ is_castling p m
 castling_by_files p m king files steps seen stands count =
-    ap (nat_lt 1) count
-    ∙ sym (and_second (own p King m.from) (nat_lt 1 (abs_diff m.from.file m.to.file)) (sym seen ∙ stands))
-    ∙ sym (castling_is_far p m steps)
+    cc (and_second (own p King m.from) (nat_lt 1 (abs_diff m.from.file m.to.file)) (sym seen ∙ stands), castling_is_far p m steps)

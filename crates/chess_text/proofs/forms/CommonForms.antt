@@ -24,15 +24,7 @@ module _ (k : Kind) (file : Option ℕ) (a b : ℕ) (moved : Option Form) (is : 
       by_target None e = tt
       by_target (Some to) e =
           let target : (a ∷ b ∷ [] ≡ square_text to) × (on_board to ≡ true) = target_spelled (a ∷ b ∷ []) to e in
-          form_read s (Man k file None to None)
-          (record {
-            bare = s;
-            marks = [];
-            joined = sym (append-nil s);
-            spells_bare = record { letters = letters; capture = capture; promoted = []; joined = joined to target.0; letters_fit = letters_fit; capture_fits = capture_fits; promoted_fits = refl };
-            marks_alone = refl;
-          })
-          (ap₂ (λ x y. (x && true) && y) below target.1)
+          cc (form_read s (Man k file None to None) (record { bare = s; marks = []; joined = sym (append-nil s); spells_bare = record { letters = letters; capture = capture; promoted = []; joined = joined to target.0; letters_fit = letters_fit; capture_fits = capture_fits; promoted_fits = refl }; marks_alone = refl; }) (ap₂ (λ x y. (x && true) && y) below target.1))
 
 -- e4
 pub pawn_move : (s : List ℕ) (moved : Option Form) → length s ≡ 2 → moved ≡ piece_move_if (Some Pawn) None None (square_of (file_of (get_or s 0 0)) (rank_of (get_or s 1 0))) None → IfSome moved (λ f. form_of s ≡ Some f)

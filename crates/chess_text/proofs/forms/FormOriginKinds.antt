@@ -42,7 +42,7 @@ module _ (p : Parts) (f : Form) (i : ℕ) (low : i < 64) where
   one_more : take (i + 1) squares ≡ take i squares ++ nth_square i ∷ []
   one_more =
       let within : i < length squares = omega (arith, squares_long) in
-      take_more squares i (nth_square i) within ∙ ap (λ (s : Square). take i squares ++ s ∷ []) (square_at i (nth_square i) low)
+      cc (take_more squares i (nth_square i) within, square_at i (nth_square i) low)
 
   -- the kinds of one square more
   pub kinds_more : (kinds : List OriginKind) → length kinds ≡ 64 → take i kinds ≡ map (origin_kind p f) (take i squares)
@@ -59,8 +59,7 @@ module _ (p : Parts) (f : Form) (i : ℕ) (low : i < 64) where
       ≡ count_by (λ s. is_step_of_form p f (form_move p.side f s)) (take i squares) + step_count p f (nth_square i)
   counts_more =
       let within : i < length squares = omega (arith, squares_long) in
-      sum_by_more (λ s. cond (is_step_of_form p f (form_move p.side f s)) 1 0) squares i (nth_square i) within
-      ∙ ap (λ (s : Square). count_by (λ t. is_step_of_form p f (form_move p.side f t)) (take i squares) + step_count p f s) (square_at i (nth_square i) low)
+      cc (sum_by_more (λ s. cond (is_step_of_form p f (form_move p.side f s)) 1 0) squares i (nth_square i) within, square_at i (nth_square i) low)
 
 -- at most one pair for a square
 pub pairs_few : (p : Parts) (f : Form) (s : Square) → step_count p f s ≤ 1
@@ -101,7 +100,7 @@ found_counts h k same [] = refl
 found_counts h k same (x ∷ xs) =
     let others = found_counts h k same xs in
     let more = sum_by-cons (λ y. cond (is_legal_kind y) 1 0) (k x) (map k xs) in
-    first_apart (h x) (filter_map h xs) ∙ ap₂ (λ (m n : ℕ). m + n) (same x) others ∙ sym more
+    cc (first_apart (h x) (filter_map h xs), same x)
   where
     first_apart : (o : Option Played) (ys : List Played) → length (cons_option o ys) ≡ length (cons_option o []) + length ys
     first_apart None ys = omega arith

@@ -41,7 +41,7 @@ not_empty [] n e h = absurd (omega (arith, e, h))
 not_empty (c ∷ s) n e h = omega arith
 
 ends_in : (s : List ℕ) (n : ℕ) → last_byte s ≡ n → 0 < n → s ≡ front s ++ n ∷ []
-ends_in s n e h = snoc_again s (not_empty s n e h) ∙ ap (λ c. front s ++ c ∷ []) e
+ends_in s n e h = cc (snoc_again s (not_empty s n e h))
 
 is_it : (s : List ℕ) (n : ℕ) → (last_byte s == n) ≡ true → 0 < n → s ≡ front s ++ n ∷ []
 is_it s n h low = ends_in s n (eqb-true (last_byte s) n h) low
@@ -108,7 +108,7 @@ found p [] x h = absurd (cc)
 found {X} p (y ∷ xs) x h = by_test (p y) refl (found p xs x) h
   where
     by_test : (b : Bool) → p y ≡ b → (find p xs ≡ Some x → p x ≡ true) → (if b then Some y else find p xs) ≡ Some x → p x ≡ true
-    by_test true e more g = ap (λ z. p z) (sym (same_some y x g)) ∙ e
+    by_test true e more g = cc (same_some y x g)
     by_test false e more g = more g
 
 promotion_byte : (c : ℕ) (q : Promotion) → promotion_of c ≡ Some q → c ≡ promotion_letter q
@@ -139,7 +139,7 @@ promotion_spelled s = by_byte (promotion_at_end s) refl
     by_sign q true e h =
         record {
           text = 61 ∷ promotion_letter q ∷ [];
-          joined = h ∙ (ap (λ t. t ++ promotion_letter q ∷ []) (is_it (front s) 61 e (omega arith)) ∙ append_assoc (front (front s)) (61 ∷ []) (promotion_letter q ∷ []));
+          joined = cc (is_it (front s) 61 e (omega arith), append_assoc (front (front s)) (61 ∷ []) (promotion_letter q ∷ []));
           fits = with_sign q;
         }
     by_sign q false e h = record { text = promotion_letter q ∷ []; joined = h; fits = without_sign q }
@@ -157,9 +157,9 @@ own_letter Knight = refl
 own_letter Pawn = refl
 
 pub kind_spelled : (s : List ℕ) (k : Kind) → kind_of_text s ≡ Some k → is_among s (letter_texts k) ≡ true
-kind_spelled [] k h = ap (λ j. is_among [] (letter_texts j)) (sym (same_some Pawn k h))
+kind_spelled [] k h = cc (same_some Pawn k h)
 kind_spelled (c ∷ d ∷ s) k h = absurd (cc)
-kind_spelled (c ∷ []) k h = ap (λ d. is_among (d ∷ []) (letter_texts k)) (sym (eqb-true (letter k) c (found (λ j. letter j == c) kinds k h))) ∙ own_letter k
+kind_spelled (c ∷ []) k h = cc (eqb-true (letter k) c (found (λ j. letter j == c) kinds k h), own_letter k)
 
 -- All of it.
 
@@ -190,9 +190,9 @@ piece_move_spelled s f h =
         let x : Part (front (front d)) b capture_texts = capture_spelled (front (front d)) in
         let r : (b ≡ a ++ hint_text rank_digit (rank_at_end b)) × (below_eight (rank_at_end b) ≡ true) = rank_spelled b in
         let i : (a ≡ l ++ hint_text file_letter (file_at_end a)) × (below_eight (file_at_end a) ≡ true) = file_spelled a in
-        let r_is : b ≡ (l ++ hint_text file_letter (file_at_end a)) ++ hint_text rank_digit (rank_at_end b) = r.0 ∙ ap (λ u. u ++ hint_text rank_digit (rank_at_end b)) i.0 in
-        let x_is : front (front d) ≡ ((l ++ hint_text file_letter (file_at_end a)) ++ hint_text rank_digit (rank_at_end b)) ++ x.text = x.joined ∙ ap (λ u. u ++ x.text) r_is in
-        let d_is : d ≡ (((l ++ hint_text file_letter (file_at_end a)) ++ hint_text rank_digit (rank_at_end b)) ++ x.text) ++ square_text to = t.0 ∙ ap (λ u. u ++ square_text to) x_is in
+        let r_is : b ≡ (l ++ hint_text file_letter (file_at_end a)) ++ hint_text rank_digit (rank_at_end b) = cc in
+        let x_is : front (front d) ≡ ((l ++ hint_text file_letter (file_at_end a)) ++ hint_text rank_digit (rank_at_end b)) ++ x.text = cc in
+        let d_is : d ≡ (((l ++ hint_text file_letter (file_at_end a)) ++ hint_text rank_digit (rank_at_end b)) ++ x.text) ++ square_text to = cc in
         let piece_move : Told s (Man k (file_at_end a) (rank_at_end b) to (promotion_at_end s)) =
         record {
           spelled = record { letters = l; capture = x.text; promoted = p.text; joined = p.joined ∙ ap (λ u. u ++ p.text) d_is; letters_fit = kind_spelled l k e; capture_fits = x.fits; promoted_fits = p.fits };

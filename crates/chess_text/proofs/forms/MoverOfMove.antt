@@ -64,9 +64,7 @@ same_kind-refl Pawn = refl
 
 pub mover : (p : Parts) (m : Move) (x : Piece) → is_legal p m ≡ true → at p.board m.from ≡ Some x → own p x.kind m.from ≡ true
 mover p m x h there =
-    ap (λ (cell : Option Piece). has_piece p.side x.kind cell) there
-    ∙ and_from (same_colour p.side x.colour) (same_kind x.kind x.kind)
-    (ap (λ (cell : Option Piece). has_colour p.side cell) (sym there) ∙ mover_colour p m h) (same_kind-refl x.kind)
+    cc (and_from (same_colour p.side x.colour) (same_kind x.kind x.kind) (ap (λ (cell : Option Piece). has_colour p.side cell) (sym there) ∙ mover_colour p m h) (same_kind-refl x.kind))
 
 -- a piece of one kind is of no other
 pub other_kind : (c : Colour) (j k : Kind) (cell : Option Piece) → has_piece c j cell ≡ true → same_kind j k ≡ false → has_piece c k cell ≡ false
@@ -90,9 +88,7 @@ to_false false h = refl
 
 pub piece_takes : (p : Parts) (m : Move) (k : Kind) → own p k m.from ≡ true → same_kind k Pawn ≡ false → is_capture p m ≡ not (is_empty p.board m.to)
 piece_takes p m k h apart =
-    ap (λ b. not (is_empty p.board m.to) || b)
-    (to_false (is_en_passant p m) (λ g. false≢true (sym (other_kind p.side k Pawn (at p.board m.from) h apart) ∙ passing_pawn p m g)))
-    ∙ or_false (not (is_empty p.board m.to))
+    cc (to_false (is_en_passant p m) (λ g. false≢true (sym (other_kind p.side k Pawn (at p.board m.from) h apart) ∙ passing_pawn p m g)), or_false (not (is_empty p.board m.to)))
   where
     or_false : (b : Bool) → (b || false) ≡ b
     or_false true = refl
@@ -118,7 +114,7 @@ may_have_rivals Pawn h g = absurd (g refl)
 
 -- as the code asks
 pub something : (p : Parts) (m : Move) (cell : Option Piece) (b : Bool) → cell ≡ at p.board m.to → b ≡ is_some cell → b ≡ not (is_empty p.board m.to)
-something p m cell b e f = f ∙ (full cell ∙ ap (λ (x : Option Piece). not (is_none x)) e)
+something p m cell b e f = cc (full cell)
   where
     full : (x : Option Piece) → is_some x ≡ not (is_none x)
     full None = refl
@@ -131,15 +127,15 @@ castles_to p m right wing h =
     let moved = and_parts ((right && is_none m.promotion) && is_king_move p m wing.end) (stand_ready p wing.rook && (is_unattacked p 4 && (is_unattacked p wing.crossing && is_unattacked p wing.end))) h in
     let leads = (and_parts (right && is_none m.promotion) (is_king_move p m wing.end) moved.0).1 in
     let ends = (and_parts (same_square m.from (home p 4)) (same_square m.to (home p wing.end)) leads).1 in
-    ap (λ (s : Square). s.file) (squares_same m.to (home p wing.end) ends)
+    cc (squares_same m.to (home p wing.end) ends)
 
 pub castling_written : (p : Parts) (m : Move) → is_castling p m ≡ true → castling_text (m.to.file == 2) ≡ king_text p m
 castling_written p m h = by_wing (castles_short p m) (castles_long p m) refl refl h
   where
     by_wing : (a b : Bool) → castles_short p m ≡ a → castles_long p m ≡ b → (a || b) ≡ true
         → castling_text (m.to.file == 2) ≡ (if a then castling_text false else if b then castling_text true else codes "K" ++ capture_text p m ++ square_text m.to)
-    by_wing true b e f g = ap (λ n. castling_text (n == 2)) (castles_to p m (short_right p.side p.rights) short_wing e)
-    by_wing false true e f g = ap (λ n. castling_text (n == 2)) (castles_to p m (long_right p.side p.rights) long_wing f)
+    by_wing true b e f g = cc (castles_to p m (short_right p.side p.rights) short_wing e)
+    by_wing false true e f g = cc (castles_to p m (long_right p.side p.rights) long_wing f)
     by_wing false false e f g = absurd (false≢true g)
 
 pub step_written : (p : Parts) (m : Move) → is_castling p m ≡ false → king_text p m ≡ codes "K" ++ capture_text p m ++ square_text m.to

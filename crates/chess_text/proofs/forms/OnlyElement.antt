@@ -102,7 +102,7 @@ length-found {X} {Y} h (x ∷ xs) = by_found (h x) (length-found h xs) ∙ sym (
 
 pub filter_map-map : {X Y Z : Type 0} (h : Y → Option Z) (f : X → Y) (xs : List X) → filter_map h (map f xs) ≡ filter_map (λ x. h (f x)) xs
 filter_map-map h f [] = refl
-filter_map-map {X} {Y} {Z} h f (x ∷ xs) = ap (λ (zs : List Z). cons_option (h (f x)) zs) (filter_map-map h f xs)
+filter_map-map {X} {Y} {Z} h f (x ∷ xs) = cc (filter_map-map h f xs)
 
 -- a filter that loses nothing
 pub filter_map-filter : {X Y : Type 0} (h : X → Option Y) (c : X → Bool) → ((x : X) → c x ≡ false → h x ≡ None) → (xs : List X) → filter_map h (filter c xs) ≡ filter_map h xs
@@ -110,8 +110,8 @@ filter_map-filter h c lost [] = refl
 filter_map-filter {X} {Y} h c lost (x ∷ xs) = by_test (c x) refl (filter_map-filter h c lost xs)
   where
     by_test : (b : Bool) → c x ≡ b → filter_map h (filter c xs) ≡ filter_map h xs → filter_map h (cond b (x ∷ filter c xs) (filter c xs)) ≡ filter_map h (x ∷ xs)
-    by_test true e rest = ap (λ (ys : List Y). cons_option (h x) ys) rest
-    by_test false e rest = rest ∙ ap (λ (o : Option Y). cons_option o (filter_map h xs)) (sym (lost x e))
+    by_test true e rest = cc
+    by_test false e rest = cc (lost x e)
 
 -- The only element.
 
@@ -140,9 +140,7 @@ only_permuted h xs ys perm =
 -- one element more
 pub found_more : {X Y : Type 0} (h : X → Option Y) (xs : List X) (i : ℕ) (d : X) (o : Option Y) → i < length xs → o ≡ h (get_or xs i d) → filter_map h (take (i + 1) xs) ≡ filter_map h (take i xs) ++ cons_option o []
 found_more {X} {Y} h xs i d o low is =
-    ap (λ (ys : List X). filter_map h ys) (take_more xs i d low)
-    ∙ filter_map-append h (take i xs) (get_or xs i d ∷ [])
-    ∙ ap (λ (p : Option Y). filter_map h (take i xs) ++ cons_option p []) (sym is)
+    cc (take_more xs i d low, filter_map-append h (take i xs) (get_or xs i d ∷ []))
 
 pub only_so_far : (o : Option Played) → ok_or o NoMove ≡ only (option_to_list o)
 only_so_far None = refl
@@ -151,22 +149,17 @@ only_so_far (Some x) = refl
 -- a second one, wherever it was found
 pub only_two : {X : Type 0} (h : X → Option Played) (xs : List X) (n : ℕ) (x y : Played) → filter_map h (take n xs) ≡ (x ∷ []) ++ (y ∷ []) → only (filter_map h xs) ≡ Err Ambiguous
 only_two {X} h xs n x y e =
-    ap (λ (zs : List X). only (filter_map h zs)) (sym (take-append-drop n xs))
-    ∙ ap only (filter_map-append h (take n xs) (drop n xs))
-    ∙ ap (λ (zs : List Played). only (zs ++ filter_map h (drop n xs))) e
+    cc (take-append-drop n xs, filter_map-append h (take n xs) (drop n xs))
 
 -- What a loop has found after the first i elements: nothing, or one.
 module _ {X : Type 0} (h : X → Option Played) (xs : List X) (i : ℕ) (found : Option Played) (so_far : filter_map h (take i xs) ≡ option_to_list found) where
   pub still_none : (d : X) (o : Option Played) → i < length xs → o ≡ h (get_or xs i d) → o ≡ None → filter_map h (take (i + 1) xs) ≡ option_to_list found
   still_none d o low is none =
-      found_more h xs i d o low is
-      ∙ ap₂ (λ (ys : List Played) (p : Option Played). ys ++ cons_option p []) so_far none
-      ∙ append-nil (option_to_list found)
+      cc (found_more h xs i d o low is, append-nil (option_to_list found))
 
   pub first_one : (d : X) (o : Option Played) (y : Played) → i < length xs → o ≡ h (get_or xs i d) → o ≡ Some y → is_some found ≡ false → filter_map h (take (i + 1) xs) ≡ y ∷ []
   first_one d o y low is some none =
-      found_more h xs i d o low is
-      ∙ ap₂ (λ (ys : List Played) (p : Option Played). ys ++ cons_option p []) (so_far ∙ nothing found none) some
+      cc (found_more h xs i d o low is, nothing found none)
     where
       nothing : (f : Option Played) → is_some f ≡ false → option_to_list f ≡ []
       nothing None e = refl
@@ -190,4 +183,4 @@ module _ {X : Type 0} (h : X → Option Played) (xs : List X) (i : ℕ) (found :
 
   pub at_the_end : length xs ≤ i → ok_or found NoMove ≡ only (filter_map h xs)
   at_the_end all =
-      only_so_far found ∙ ap only (sym so_far) ∙ ap (λ (ys : List X). only (filter_map h ys)) (take_all i xs all)
+      cc (only_so_far found, take_all i xs all)

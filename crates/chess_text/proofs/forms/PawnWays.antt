@@ -134,14 +134,10 @@ pawn_takes p m pawn legal = by_way (pawn_way p m legal pawn)
   where
     straight : m.from.file ≡ m.to.file → is_empty p.board m.to ≡ true → is_capture p m ≡ not (m.from.file == m.to.file)
     straight file free =
-        ap₂ (λ a b. not a || b) free
-        (to_false (is_en_passant p m) (λ h.
-        let hits = (and_parts (attacks p.board m.from m.to) (has_piece (other p.side) Pawn (at p.board (captured_pawn m))) (and_parts ((own p Pawn m.from && promotion_fits p m) && (is_target p.target m.to && is_empty p.board m.to)) (attacks p.board m.from m.to && has_piece (other p.side) Pawn (at p.board (captured_pawn m))) h).1).0 in
-        gap_apart m.from.file m.to.file file (pawn_attack p.side (at p.board m.from) p.board m.from m.to pawn hits).0))
-        ∙ ap not (sym (eq-eqb m.from.file m.to.file file))
+        cc (to_false (is_en_passant p m) (λ h. let hits = (and_parts (attacks p.board m.from m.to) (has_piece (other p.side) Pawn (at p.board (captured_pawn m))) (and_parts ((own p Pawn m.from && promotion_fits p m) && (is_target p.target m.to && is_empty p.board m.to)) (attacks p.board m.from m.to && has_piece (other p.side) Pawn (at p.board (captured_pawn m))) h).1).0 in gap_apart m.from.file m.to.file file (pawn_attack p.side (at p.board m.from) p.board m.from m.to pawn hits).0), eq-eqb m.from.file m.to.file file)
 
     by_way : PawnWay p m → is_capture p m ≡ not (m.from.file == m.to.file)
-    by_way (takes g a f) = ap (λ b. not b || is_en_passant p m) f ∙ sideways m.from.file m.to.file g
-    by_way (passes g a t e) = ap (λ b. not (is_empty p.board m.to) || b) e ∙ (or_true (not (is_empty p.board m.to)) ∙ sideways m.from.file m.to.file g)
+    by_way (takes g a f) = cc (sideways m.from.file m.to.file g)
+    by_way (passes g a t e) = cc (or_true (not (is_empty p.board m.to)), sideways m.from.file m.to.file g)
     by_way (advances s a f) = straight s f
     by_way (doubles s a b e f) = straight s f

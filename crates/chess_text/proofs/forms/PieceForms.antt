@@ -50,7 +50,7 @@ module _ (p : Parts) (k : Kind) (file rank : Option ℕ) (to : Square) (promotio
       stands (same_square-refl to) (same_promotion-refl promotion)
 
   pub tried_own : (s : Square) → own p k s ≡ true → played (piece_move_fits p file rank (move_from to promotion s)) p (move_from to promotion s) ≡ from_square p (Man k file rank to promotion) to promotion s
-  tried_own s stands = ap (λ (b : Bool). played b p (move_from to promotion s)) (sym (describes_own s stands))
+  tried_own s stands = cc (describes_own s stands)
 
   -- from no other square than a candidate
   only_candidates : CandidatesComplete → (s : Square) → is_candidate p k to s ≡ false → from_square p (Man k file rank to promotion) to promotion s ≡ None
@@ -72,9 +72,7 @@ module _ (p : Parts) (k : Kind) (file rank : Option ℕ) (to : Square) (promotio
       → only (filter_map (from_square p (Man k file rank to promotion) to promotion) xs) ≡ move_of_form p (Man k file rank to promotion)
   unfolding agreeing
   reads_candidates complete xs perm =
-      only_permuted (from_square p (Man k file rank to promotion) to promotion) xs (candidates p k to) (IsPermutation-sym (candidates p k to) xs perm)
-      ∙ ap only (filter_map-filter (from_square p (Man k file rank to promotion) to promotion) (is_candidate p k to) (only_candidates complete) squares)
-      ∙ ap only (sym (filter_map-map (λ m. played (describes p (Man k file rank to promotion) m) p m) (move_from to promotion) squares))
+      cc (only_permuted (from_square p (Man k file rank to promotion) to promotion) xs (candidates p k to) (IsPermutation-sym (candidates p k to) xs perm), filter_map-filter (from_square p (Man k file rank to promotion) to promotion) (is_candidate p k to) (only_candidates complete) squares, filter_map-map (λ m. played (describes p (Man k file rank to promotion) m) p m) (move_from to promotion) squares)
 
 -- such a piece stands on each candidate
 pub candidates_own : (p : Parts) (k : Kind) (t : Square) (xs : List Square) → IsPermutation (candidates p k t) xs → All (λ s. own p k s ≡ true) xs
@@ -87,6 +85,4 @@ pub tried_at : (p : Parts) (k : Kind) (file rank : Option ℕ) (to : Square) (pr
     → (i : ℕ) (s : Square) (o : Option Played) → i < length xs → s ≡ get_or xs i s → o ≡ played (piece_move_fits p file rank (move_from to promotion s)) p (move_from to promotion s)
     → o ≡ from_square p (Man k file rank to promotion) to promotion (get_or xs i s)
 tried_at p k file rank to promotion xs perm i s o low is tried =
-    tried
-    ∙ tried_own p k file rank to promotion s (subst (λ (t : Square). own p k t ≡ true) (sym is) (candidates_own p k to xs perm i s low))
-    ∙ ap (λ (t : Square). from_square p (Man k file rank to promotion) to promotion t) is
+    cc (tried_own p k file rank to promotion s (subst (λ (t : Square). own p k t ≡ true) (sym is) (candidates_own p k to xs perm i s low)))

@@ -24,14 +24,14 @@ end_of : (t : List ℕ) (c : ℕ) → length (t ++ c ∷ []) - 1 ≡ length t
 end_of t c = omega (arith, length-append t (c ∷ []))
 
 pub last_byte-snoc : (t : List ℕ) (c : ℕ) → last_byte (t ++ c ∷ []) ≡ c
-last_byte-snoc t c = ap (λ n. get_or (t ++ c ∷ []) n 0) (end_of t c) ∙ get_or-append_seam t c [] 0
+last_byte-snoc t c = cc (end_of t c, get_or-append_seam t c [] 0)
 
 pub front-snoc : (t : List ℕ) (c : ℕ) → front (t ++ c ∷ []) ≡ t
-front-snoc t c = ap (λ n. take n (t ++ c ∷ [])) (end_of t c) ∙ take-append_seam t (c ∷ [])
+front-snoc t c = cc (end_of t c, take-append_seam t (c ∷ []))
 
 pub snoc_again : (s : List ℕ) → 0 < length s → s ≡ front s ++ last_byte s ∷ []
 snoc_again s h =
-    let whole : take ((length s - 1) + 1) s ≡ s = ap (λ n. take n s) (up (length s) h) ∙ take_all (length s) s (omega arith) in
+    let whole : take ((length s - 1) + 1) s ≡ s = cc (up (length s) h, take_all (length s) s (omega arith)) in
     sym whole ∙ take_more s (length s - 1) 0 (omega arith)
   where
     up : (n : ℕ) → 0 < n → (n - 1) + 1 ≡ n
@@ -41,7 +41,7 @@ no_mark_end : (s : List ℕ) → is_mark (last_byte s) ≡ false → before_mark
 no_mark_end [] h = refl
 no_mark_end (c ∷ s) h =
     let again : c ∷ s ≡ front (c ∷ s) ++ last_byte (c ∷ s) ∷ [] = snoc_again (c ∷ s) (omega arith) in
-    ap (λ t. before_marks t) again ∙ (before_marks-last (front (c ∷ s)) (last_byte (c ∷ s)) h ∙ sym again)
+    cc (before_marks-last (front (c ∷ s)) (last_byte (c ∷ s)) h)
 
 -- One of the ways to write a part.
 
@@ -110,15 +110,15 @@ record FileRead (s t : List ℕ) (file : Option ℕ) : Type 0 where
 file_read : (s : List ℕ) (k : Kind) (file : Option ℕ) → below_eight file ≡ true → Letters s k → FileRead s (s ++ hint_text file_letter file) file
 file_read s k None h l =
     subst (λ t. FileRead s t None) (sym (append-nil s))
-    (record { told = l.no_file; before = ap (λ o. front_if (is_some o) s) l.no_file; no_rank = l.no_rank; no_x = l.no_x })
+    (record { told = l.no_file; before = cc; no_rank = l.no_rank; no_x = l.no_x })
 file_read s k (Some n) h l =
     let last : last_byte (s ++ (97 + n) ∷ []) ≡ 97 + n = last_byte-snoc s (97 + n) in
-    let there : file_at_end (s ++ (97 + n) ∷ []) ≡ Some n = ap (λ c. file_of c) last ∙ file_back n h in
+    let there : file_at_end (s ++ (97 + n) ∷ []) ≡ Some n = cc (file_back n h) in
     record {
       told = there;
-      before = ap (λ o. front_if (is_some o) (s ++ (97 + n) ∷ [])) there ∙ front-snoc s (97 + n);
-      no_rank = ap (λ c. rank_of c) last ∙ file_no_rank n h;
-      no_x = ap (λ c. c == 120) last ∙ file_no_x n h;
+      before = cc (front-snoc s (97 + n));
+      no_rank = cc (file_no_rank n h);
+      no_x = cc (file_no_x n h);
     }
 
 record RankRead (s t : List ℕ) (rank : Option ℕ) : Type 0 where
@@ -128,14 +128,14 @@ record RankRead (s t : List ℕ) (rank : Option ℕ) : Type 0 where
 
 rank_read : (s : List ℕ) (rank : Option ℕ) → below_eight rank ≡ true → rank_of (last_byte s) ≡ None → (last_byte s == 120) ≡ false → RankRead s (s ++ hint_text rank_digit rank) rank
 rank_read s None h none no_x =
-    subst (λ t. RankRead s t None) (sym (append-nil s)) (record { told = none; before = ap (λ o. front_if (is_some o) s) none; no_x = no_x })
+    subst (λ t. RankRead s t None) (sym (append-nil s)) (record { told = none; before = cc; no_x = no_x })
 rank_read s (Some n) h none no_x =
     let last : last_byte (s ++ (49 + n) ∷ []) ≡ 49 + n = last_byte-snoc s (49 + n) in
-    let there : rank_at_end (s ++ (49 + n) ∷ []) ≡ Some n = ap (λ c. rank_of c) last ∙ rank_back n h in
+    let there : rank_at_end (s ++ (49 + n) ∷ []) ≡ Some n = cc (rank_back n h) in
     record {
       told = there;
-      before = ap (λ o. front_if (is_some o) (s ++ (49 + n) ∷ [])) there ∙ front-snoc s (49 + n);
-      no_x = ap (λ c. c == 120) last ∙ rank_no_x n h;
+      before = cc (front-snoc s (49 + n));
+      no_x = cc (rank_no_x n h);
     }
 
 -- The x.
@@ -167,8 +167,8 @@ target_read s to h =
     ap (λ c. rank_of c) last ∙ rank_back to.rank (second_of_two (nat_lt to.file 8) (nat_lt to.rank 8) h) in
     subst (λ t. TargetRead s t to) (sym apart)
     (record {
-      told = ap (λ o. square_of o (rank_of (last_byte ((s ++ a ∷ []) ++ b ∷ [])))) file ∙ ap (λ o. square_of (Some to.file) o) rank;
-      before = ap (λ t. front t) fore ∙ front-snoc s a;
+      told = cc;
+      before = cc (front-snoc s a);
       last = last;
     })
 
@@ -215,7 +215,7 @@ record PromotionRead (s t : List ℕ) (promotion : Option Promotion) : Type 0 wh
 -- behind the digit of a rank
 promotion_read : (s p : List ℕ) (n : ℕ) (promotion : Option Promotion) → is_among p (promotion_texts promotion) ≡ true → nat_lt n 8 ≡ true → last_byte s ≡ 49 + n → PromotionRead s (s ++ p) promotion
 promotion_read s p n None h low last =
-    let none : promotion_at_end s ≡ None = ap (λ c. promotion_of c) last ∙ digit_no_promotion n low in
+    let none : promotion_at_end s ≡ None = cc (digit_no_promotion n low) in
     subst (λ t. PromotionRead s t None) (sym (ap (λ u. s ++ u) (one_of p [] h) ∙ append-nil s))
     (record {
       told = none;
@@ -233,7 +233,7 @@ promotion_read s p n (Some q) h low last =
   where
     by_letter : (t : List ℕ) → before_sign t ≡ s → PromotionRead s (t ++ promotion_letter q ∷ []) (Some q)
     by_letter t before =
-        let there : promotion_at_end (t ++ promotion_letter q ∷ []) ≡ Some q = ap (λ c. promotion_of c) (last_byte-snoc t (promotion_letter q)) ∙ promotion_back q in
+        let there : promotion_at_end (t ++ promotion_letter q ∷ []) ≡ Some q = cc (last_byte-snoc t (promotion_letter q), promotion_back q) in
         record {
           told = there;
           before = rw there (ap (λ u. before_sign u) (front-snoc t (promotion_letter q)) ∙ before);
@@ -283,9 +283,9 @@ piece_move_read s k file rank to promotion h g =
     let t : TargetRead c d to = target_read c to here in
     let p : PromotionRead d (d ++ h.promoted) promotion =
     promotion_read d h.promoted to.rank promotion h.promoted_fits (second_of_two (nat_lt to.file 8) (nat_lt to.rank 8) here) t.last in
-    let before : before_target d ≡ b = ap (λ u. before_capture u) t.before ∙ x in
+    let before : before_target d ≡ b = cc in
     let kind : kind_of_text (before_file (before_rank b)) ≡ Some k = ap (λ u. kind_of_text (before_file u)) r.before ∙ (ap (λ u. kind_of_text u) f.before ∙ letters.named) in
-    let file_is : file_at_end (before_rank b) ≡ file = ap (λ u. file_at_end u) r.before ∙ f.told in
+    let file_is : file_at_end (before_rank b) ≡ file = cc in
     let piece_move : piece_move_of (d ++ h.promoted) ≡ Some (Man k file rank to promotion) =
     ap₂ (λ u q. piece_move_at u q) p.before p.told
     ∙ (ap₂ (λ u o. piece_move_before u o promotion) before t.told
@@ -293,7 +293,7 @@ piece_move_read s k file rank to promotion h g =
     ∙ ap₂ (λ o q. piece_move_if (Some k) o q (Some to) promotion) file_is r.told)) in
     let bare : BareRead (d ++ h.promoted) (Man k file rank to promotion) =
     record {
-      told = ap (λ o. castle_or o (piece_move_of (d ++ h.promoted))) (no_castle (d ++ h.promoted) p.ends) ∙ piece_move;
+      told = cc (no_castle (d ++ h.promoted) p.ends);
       whole = no_mark_end (d ++ h.promoted) p.ends.no_mark;
     } in
     subst (λ u. BareRead u (Man k file rank to promotion)) (sym h.joined) bare
@@ -317,4 +317,4 @@ bare_read s (Man k file rank to promotion) h g = piece_move_read s k file rank t
 pub form_read : (s : List ℕ) (f : Form) → Spells s f → is_form f ≡ true → form_of s ≡ Some f
 form_read s f h g =
     let bare : BareRead h.bare f = bare_read h.bare f h.spells_bare g in
-    ap (λ t. form_of t) h.joined ∙ (ap (λ t. bare_form t) (before_marks-append h.bare h.marks h.marks_alone ∙ bare.whole) ∙ bare.told)
+    cc (before_marks-append h.bare h.marks h.marks_alone)

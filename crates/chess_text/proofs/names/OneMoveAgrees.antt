@@ -158,7 +158,7 @@ module _ (p : Parts) (m n : Move) (pawn_m : own p Pawn m.from ≡ true) (pawn_n 
   same_rank h g = behind p.side n.from.rank m.from.rank m.to.rank (subst (λ (s : Square). is_ahead p.side n.from.rank s.rank ≡ true) there g) h
 
   to_file : n.to.file ≡ m.to.file
-  to_file = ap (λ (s : Square). s.file) there
+  to_file = cc
 
   -- with the file told
   by_file : n.from.file ≡ m.from.file → gap m.from.file m.to.file ≡ 1 → is_ahead p.side m.from.rank m.to.rank ≡ true → PawnWay p n → n.from ≡ m.from
@@ -174,7 +174,7 @@ over p x y pawn there straight ahead file low high free =
     no_one p.side (at p.board (crossed x)) free (subst (λ (s : Square). own p Pawn s ≡ true) place pawn)
   where
     rank : (x.from.rank + x.to.rank) / 2 ≡ y.from.rank
-    rank = ap₂ (λ a b. (a + b) / 2) low high ∙ between p.side y.from.rank x.to.rank high (subst (λ (s : Square). is_ahead p.side y.from.rank s.rank ≡ true) there ahead)
+    rank = cc (between p.side y.from.rank x.to.rank high (subst (λ (s : Square). is_ahead p.side y.from.rank s.rank ≡ true) there ahead))
 
     place : y.from ≡ crossed x
     place = ap₂ square (straight ∙ (ap (λ (s : Square). s.file) there ∙ sym file)) (sym rank)
@@ -185,14 +185,14 @@ past p x y there ahead taken file low high free =
     no_one (other p.side) (at p.board (crossed x)) free (subst (λ (s : Square). has_piece (other p.side) Pawn (at p.board s) ≡ true) place taken)
   where
     rank : (x.from.rank + x.to.rank) / 2 ≡ y.from.rank
-    rank = ap₂ (λ a b. (a + b) / 2) low high ∙ between p.side y.from.rank x.to.rank high (subst (λ (s : Square). is_ahead p.side y.from.rank s.rank ≡ true) there ahead)
+    rank = cc (between p.side y.from.rank x.to.rank high (subst (λ (s : Square). is_ahead p.side y.from.rank s.rank ≡ true) there ahead))
 
     place : captured_pawn y ≡ crossed x
     place = ap₂ square (ap (λ (s : Square). s.file) there ∙ sym file) (sym rank)
 
 module _ (p : Parts) (m n : Move) (pawn_m : own p Pawn m.from ≡ true) (pawn_n : own p Pawn n.from ≡ true) (there : n.to ≡ m.to) where
   file_of_target : n.from.file ≡ n.to.file → m.from.file ≡ m.to.file → n.from.file ≡ m.from.file
-  file_of_target h g = h ∙ (ap (λ (s : Square). s.file) there ∙ sym g)
+  file_of_target h g = cc
 
   not_empty : is_empty p.board n.to ≡ false → is_empty p.board m.to ≡ true → ⊥
   not_empty h g = both_ways (is_empty p.board m.to) (subst (λ (s : Square). is_empty p.board s ≡ false) there h) g

@@ -23,11 +23,11 @@ any-cond test false y ys = refl
 
 pub any-filter : {Y : Type 0} (test p : Y → Bool) (ys : List Y) → list_any test (filter p ys) ≡ list_any (λ y. p y && test y) ys
 any-filter test p [] = refl
-any-filter test p (y ∷ ys) = any-cond test (p y) y (filter p ys) ∙ ap (λ v. (p y && test y) || v) (any-filter test p ys)
+any-filter test p (y ∷ ys) = cc (any-cond test (p y) y (filter p ys), any-filter test p ys)
 
 any-same : {Y : Type 0} (f g : Y → Bool) → ((y : Y) → f y ≡ g y) → (ys : List Y) → list_any f ys ≡ list_any g ys
 any-same f g h [] = refl
-any-same f g h (y ∷ ys) = ap₂ (λ a b. a || b) (h y) (any-same f g h ys)
+any-same f g h (y ∷ ys) = cc (h y, any-same f g h ys)
 
 abbrev pub seen : Parts → Move → (Square → Bool) → List Square → Bool
 seen p m test xs = list_any (λ s. is_rival p m s && test s) xs
@@ -68,10 +68,7 @@ and_true false = refl
 one_more : (p : Parts) (m : Move) (test : Square → Bool) (xs : List Square) (n : ℕ) (s : Square) (before after rival : Bool)
     → n < length xs → s ≡ get_or xs n s → rival ≡ is_rival p m s → before ≡ seen p m test (take n xs) → after ≡ (before || (rival && test s)) → after ≡ seen p m test (take (n + 1) xs)
 one_more p m test xs n s before after rival low is e f g =
-    g
-    ∙ (ap₂ (λ a b. a || (b && test s)) f e
-    ∙ (ap (λ t. seen p m test (take n xs) || (is_rival p m t && test t)) is
-    ∙ sym (list_any_more (λ t. is_rival p m t && test t) xs n s low)))
+    cc (list_any_more (λ t. is_rival p m t && test t) xs n s low)
 
 pub found_more : (p : Parts) (m : Move) (xs : List Square) (n : ℕ) (s : Square) (rival any file rank any' file' rank' : Bool)
     → n < length xs → s ≡ get_or xs n s → rival ≡ is_rival p m s → Found p m xs n any file rank
@@ -86,9 +83,9 @@ found_more p m xs n s rival any file rank any' file' rank' low is e f a b c =
 
 -- and in the end
 pub all_found : (p : Parts) (m : Move) (test : Square → Bool) (xs : List Square) (n : ℕ) → length xs ≤ n → seen p m test (take n xs) ≡ seen p m test xs
-all_found p m test xs n h = ap (λ ys. seen p m test ys) (take_all n xs h)
+all_found p m test xs n h = cc (take_all n xs h)
 
 pub apart_same : (s : Square) (others : List Square) (any file rank : Bool) → any ≡ list_any (λ r. true) others → file ≡ on_file s others → rank ≡ on_rank s others
     → disambiguation_by s any file rank ≡ disambiguation s others
 apart_same s others any file rank a b c =
-    ap (λ t. disambiguation_by s t file rank) a ∙ ap₂ (λ t u. disambiguation_by s (list_any (λ r. true) others) t u) b c
+    cc

@@ -121,7 +121,7 @@ record Flags (j : ℕ) (any file rank : Bool) : Type 0 where
   rank_is : 2 < j → rank ≡ true
 
 letter_is_digit : (f r : ℕ) → r < 8 → (97 + f) ∷ [] ≡ (49 + r) ∷ [] → ⊥
-letter_is_digit f r low e = let same : 97 + f ≡ 49 + r = ap (λ (s : List ℕ). get_or s 0 0) e in omega (arith, same, low)
+letter_is_digit f r low e = let same : 97 + f ≡ 49 + r = cc in omega (arith, same, low)
 
 flags : (s : Square) (any file rank : Bool) (j : ℕ) → s.rank < 8 → j < 4 → disambiguation_by s any file rank ≡ slice_index_or (disambiguations s) j [] → Flags j any file rank
 flags s any file rank zero low high told = record { any_is = λ h. absurd (omega (arith, h)); file_is = λ h. absurd (omega (arith, h)); rank_is = λ h. absurd (omega (arith, h)) }

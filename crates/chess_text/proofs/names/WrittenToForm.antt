@@ -141,7 +141,7 @@ san_spelled p m v =
     record {
       bare = kind_text v.piece.kind p m;
       marks = mark (legal p m);
-      joined = ap (λ (o : Option Piece). piece_text o p m ++ mark (legal p m)) v.there;
+      joined = cc;
       spells_bare = kind_spelled v.piece.kind p m;
       marks_alone = marks_alone (legal p m);
     }
@@ -224,11 +224,7 @@ unpromoted p m k h stands apart =
 pub piece_move_described : (p : Parts) (m : Move) (k : Kind) (file rank : Option ℕ) (promotion : Option Promotion) → own p k m.from ≡ true → hints_fit file rank m.from ≡ true → m.promotion ≡ promotion → is_castling p m ≡ false
     → describes p (Man k file rank m.to promotion) m ≡ true
 piece_move_described p m k file rank promotion stands hints becomes plain =
-    and_from (own p k m.from && hints_fit file rank m.from) ((same_square m.to m.to && same_promotion m.promotion promotion) && not (is_castling p m))
-    (and_from (own p k m.from) (hints_fit file rank m.from) stands hints)
-    (and_from (same_square m.to m.to && same_promotion m.promotion promotion) (not (is_castling p m))
-    (and_from (same_square m.to m.to) (same_promotion m.promotion promotion) (same_square-refl m.to) (subst (λ (q : Option Promotion). same_promotion m.promotion q ≡ true) becomes (same_promotion-refl m.promotion)))
-    (ap not plain))
+    cc (and_from (own p k m.from && hints_fit file rank m.from) ((same_square m.to m.to && same_promotion m.promotion promotion) && not (is_castling p m)) (and_from (own p k m.from) (hints_fit file rank m.from) stands hints) (and_from (same_square m.to m.to && same_promotion m.promotion promotion) (not (is_castling p m)) (and_from (same_square m.to m.to) (same_promotion m.promotion promotion) (same_square-refl m.to) (subst (λ (q : Option Promotion). same_promotion m.promotion q ≡ true) becomes (same_promotion-refl m.promotion))) (ap not plain)))
 
 pub itself : (n : ℕ) → (n == n) ≡ true
 itself n = eq-eqb n n refl

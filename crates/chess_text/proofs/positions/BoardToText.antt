@@ -16,8 +16,7 @@ pub record WrittenTo (b : Board) (text : List ℕ) (i : ℕ) : Type 0 where
 
 ends : (b : Board) → rank_text 0 (row b 7) ++ lower b 7 ≡ placement_text b
 ends b =
-    ap (λ t. rank_text 0 (row b 7) ++ 47 ∷ (rank_text 0 (row b 6) ++ 47 ∷ (rank_text 0 (row b 5) ++ 47 ∷ (rank_text 0 (row b 4) ++ 47 ∷ (rank_text 0 (row b 3) ++ 47 ∷ (rank_text 0 (row b 2) ++ 47 ∷ (rank_text 0 (row b 1) ++ 47 ∷ t)))))))
-    (append-nil (rank_text 0 (row b 0)))
+    cc (append-nil (rank_text 0 (row b 0)))
 
 length-lower : (b : Board) (n : ℕ) → length (lower b n) ≤ 9 * n
 length-lower b zero = omega arith
@@ -43,7 +42,7 @@ next_rank b text rank i so_far h e low =
     down : rank ≡ rank_text 0 (row b (6 - i)) → lower b (7 - i) ≡ 47 ∷ (rank ++ lower b (7 - (i + 1)))
     down e =
         let one_less : 7 - i ≡ suc (6 - i) = omega (arith, h) in let same : 6 - i ≡ 7 - (i + 1) = omega (arith, h) in
-        ap (λ n. lower b n) one_less ∙ ap (λ t. 47 ∷ (t ++ lower b (6 - i))) (sym e) ∙ ap (λ n. 47 ∷ (rank ++ lower b n)) same
+        cc
 
 pub last_rank_written : (b : Board) (text : List ℕ) (i : ℕ) → WrittenTo b text i → 7 ≤ i → text ≡ placement_text b
 last_rank_written b text i so_far h =

@@ -61,11 +61,9 @@ pub no_rank : (s : List ℕ) (i : ℕ) → i < length s
 no_rank s i h test = by_item (is_item (get_or s i 0)) refl
   where
     by_item : (b : Bool) → is_item (get_or s i 0) ≡ b → is_rank s ≡ false
-    by_item false e = ap (λ b. b && (length (cells_of s) == 8)) (list_all_at is_item s i 0 h e)
+    by_item false e = cc (list_all_at is_item s i 0 h e)
     by_item true e =
-        and_false (list_all is_item s) (length (cells_of s) == 8)
-        (too_many (length (cells_of (take i s)) + length (cells_at (get_or s i 0))) (length (cells_of s))
-        (sym (ap (λ b. b && nat_le (length (cells_of (take i s)) + length (cells_at (get_or s i 0))) 8) e) ∙ test) (cells-around s i h))
+        cc (and_false (list_all is_item s) (length (cells_of s) == 8) (too_many (length (cells_of (take i s)) + length (cells_at (get_or s i 0))) (length (cells_of s)) (sym (ap (λ b. b && nat_le (length (cells_of (take i s)) + length (cells_at (get_or s i 0))) 8) e) ∙ test) (cells-around s i h)))
 
 pub no_cells : (s : List ℕ) → is_rank s ≡ false → None ≡ (if is_rank s then Some (cells_of s) else None)
 no_cells s h = rw h refl

@@ -30,8 +30,8 @@ run_is_short (suc n) = let some : (suc n == 0) ≡ false = grind (arith, nat_tes
 
 -- empty squares lengthen the run
 run_on : (k n : ℕ) (cells : Board) → rank_text n (replicate k None ++ cells) ≡ rank_text (n + k) cells
-run_on zero n cells = let same : n + 0 ≡ n = omega arith in ap (λ m. rank_text m cells) (sym same)
-run_on (suc k) n cells = let same : n + 1 + k ≡ n + suc k = omega arith in run_on k (n + 1) cells ∙ ap (λ m. rank_text m cells) same
+run_on zero n cells = let same : n + 0 ≡ n = omega arith in cc
+run_on (suc k) n cells = let same : n + 1 + k ≡ n + suc k = omega arith in cc (run_on k (n + 1) cells)
 
 rank_is_short : (s : List ℕ) (n : ℕ) → list_all is_item s ≡ true → length (rank_text n (cells_of s)) ≤ length (run_text n) + length s
 rank_is_short [] n h = omega arith
@@ -54,7 +54,7 @@ rank_is_short (c ∷ s) n h =
 -- A board.
 
 same_front : (a b c d : Board) → length a ≡ length b → a ++ c ≡ b ++ d → a ≡ b
-same_front a b c d e h = sym (take_past a c) ∙ ap₂ (λ n (t : Board). take n t) e h ∙ take_past b d
+same_front a b c d e h = cc (take_past a c, take_past b d)
 
 same_rows : (b : Board) (rs : List ℕ) (ts : List (List ℕ)) → length rs ≡ length ts → list_all is_rank ts ≡ true
     → flat_map (λ r. row b r) rs ≡ flat_map cells_of ts → map (λ r. row b r) rs ≡ map (λ t. cells_of t) ts
@@ -66,7 +66,7 @@ same_rows b (r ∷ rs) (t ∷ ts) e good h =
     let front : row b r ≡ cells_of t = same_front (row b r) (cells_of t) (flat_map (λ r. row b r) rs) (flat_map cells_of ts) (sym long) h in
     let back : flat_map (λ r. row b r) rs ≡ flat_map cells_of ts =
     append_cancel_left (cells_of t) (flat_map (λ r. row b r) rs) (flat_map cells_of ts) (ap (λ (c : Board). c ++ flat_map (λ r. row b r) rs) (sym front) ∙ h) in
-    ap₂ (λ (c : Board) (cs : List Board). c ∷ cs) front (same_rows b rs ts (omega (arith, e)) (second_of_two (is_rank t) (list_all is_rank ts) good) back)
+    cc (same_rows b rs ts (omega (arith, e)) (second_of_two (is_rank t) (list_all is_rank ts) good) back)
 
 join_is_short : (ss : List (List ℕ)) → list_all is_rank ss ≡ true
     → length (join_with_byte 47 (map (λ (c : Board). rank_text 0 c) (map (λ s. cells_of s) ss))) ≤ length (join_with_byte 47 ss)
@@ -93,20 +93,15 @@ reverse_next x xs = reverse-append (x ∷ []) xs
 all_reversed : (ss : List (List ℕ)) → list_all is_rank ss ≡ true → list_all is_rank (reverse ss) ≡ true
 all_reversed [] h = refl
 all_reversed (s ∷ ss) h =
-    ap (λ (ts : List (List ℕ)). list_all is_rank ts) (reverse_next s ss)
-    ∙ list_all-append is_rank (reverse ss) (s ∷ [])
-    ∙ ap₂ (λ a b. a && (b && true)) (all_reversed ss (second_of_two (is_rank s) (list_all is_rank ss) h)) (first_of_two (is_rank s) (list_all is_rank ss) h)
+    cc (reverse_next s ss, list_all-append is_rank (reverse ss) (s ∷ []), all_reversed ss (second_of_two (is_rank s) (list_all is_rank ss) h), first_of_two (is_rank s) (list_all is_rank ss) h)
 
 cells_reversed : (ss : List (List ℕ)) → reverse (map (λ t. cells_of t) ss) ≡ map (λ t. cells_of t) (reverse ss)
 cells_reversed [] = refl
 cells_reversed (s ∷ ss) =
-    reverse_next (cells_of s) (map (λ t. cells_of t) ss)
-    ∙ ap (λ (bs : List Board). bs ++ cells_of s ∷ []) (cells_reversed ss)
-    ∙ sym (map-append (λ t. cells_of t) (reverse ss) (s ∷ []))
-    ∙ ap (λ (ts : List (List ℕ)). map (λ t. cells_of t) ts) (sym (reverse_next s ss))
+    cc (reverse_next (cells_of s) (map (λ t. cells_of t) ss), cells_reversed ss, map-append (λ t. cells_of t) (reverse ss) (s ∷ []), reverse_next s ss)
 
 there_and_back : (ss : List (List ℕ)) → reverse (map (λ t. cells_of t) (reverse ss)) ≡ map (λ t. cells_of t) ss
-there_and_back ss = cells_reversed (reverse ss) ∙ ap (λ (ts : List (List ℕ)). map (λ t. cells_of t) ts) (reverse-reverse ss)
+there_and_back ss = cc (cells_reversed (reverse ss), reverse-reverse ss)
 
 board_is_short : (s : List ℕ) (b : Board) → SpellsBoard s b → length b ≡ 64 → length (placement_text b) ≤ length s
 board_is_short s b spells long =

@@ -100,8 +100,8 @@ rank_spelled cells h = (rank_stands 0 cells (omega (arith, h))).spelled
 rank_good : (cells : Board) → length cells ≡ 8 → is_rank (rank_text 0 cells) ≡ true
 rank_good cells h =
     let stands : RankStands 0 cells = rank_stands 0 cells (omega (arith, h)) in
-    let eight : length (cells_of (rank_text 0 cells)) ≡ 8 = ap (λ (b : Board). length b) stands.spelled ∙ h in
-    ap₂ (λ a n. a && (n == 8)) stands.items eight
+    let eight : length (cells_of (rank_text 0 cells)) ≡ 8 = cc in
+    cc
 
 -- A board: its rows one after another.
 
@@ -113,19 +113,18 @@ gets b k (suc n) = get_or b k None ∷ gets b (k + 1) n
 gets_are : (b : Board) (k n : ℕ) → k + n ≡ length b → drop k b ≡ gets b k n
 gets_are b k zero h = drop_all k b (omega (arith, h))
 gets_are b k (suc n) h =
-    drop-cons b k None (omega (arith, h))
-    ∙ ap (λ (c : Board). get_or b k None ∷ c) (ap (λ i. drop i b) (sym (add-one k)) ∙ gets_are b (k + 1) n (omega (arith, h)))
+    cc (drop-cons b k None (omega (arith, h)), add-one k, gets_are b (k + 1) n (omega (arith, h)))
 
 pub board_rows : (b : Board) → length b ≡ 64 → b ≡ flat_map (λ rank. row b rank) (0 ∷ 1 ∷ 2 ∷ 3 ∷ 4 ∷ 5 ∷ 6 ∷ 7 ∷ [])
 board_rows b h = gets_are b 0 64 (sym h)
 
 rows_spelled : (b : Board) (rs : List ℕ) → flat_map (λ rank. row b rank) rs ≡ flat_map cells_of (map (λ rank. rank_text 0 (row b rank)) rs)
 rows_spelled b [] = refl
-rows_spelled b (r ∷ rs) = ap₂ (λ (c d : Board). c ++ d) (sym (rank_spelled (row b r) refl)) (rows_spelled b rs)
+rows_spelled b (r ∷ rs) = cc (rank_spelled (row b r) refl, rows_spelled b rs)
 
 rows_good : (b : Board) (rs : List ℕ) → list_all is_rank (map (λ rank. rank_text 0 (row b rank)) rs) ≡ true
 rows_good b [] = refl
-rows_good b (r ∷ rs) = ap₂ (λ c d. c && d) (rank_good (row b r) refl) (rows_good b rs)
+rows_good b (r ∷ rs) = cc (rank_good (row b r) refl, rows_good b rs)
 
 board_spelled : (b : Board) → length b ≡ 64 → SpellsBoard (placement_text b) b
 board_spelled b h =

@@ -30,7 +30,7 @@ pub once : FenOnce
 once s p q f g = let same : Ok p ≡ Ok q = sym (spelled_is_read s p f) ∙ spelled_is_read s q g in cc
 
 answered : (k : ℕ) (fault : FenFault) → at_field k ≡ Err fault → fault.field ≡ k
-answered k fault h = let same : fault ≡ record { field = k } = cc in ap (λ (f : FenFault). f.field) same
+answered k fault h = let same : fault ≡ record { field = k } = cc in cc
 
 lowest_of : (b : Option Board) (c : Option Colour) (r : Option Rights) (t : Option (Option Square)) (m n : Option ℕ) (fault : FenFault)
     → if_position (parts_or_fault b c r t m n) ≡ Err fault

@@ -25,18 +25,18 @@ position_past p (x ∷ t) y r h e =
 
 pub take_past : {A : Type 0} (t s : List A) → take (length t) (t ++ s) ≡ t
 take_past [] s = refl
-take_past (x ∷ t) s = ap (λ u. x ∷ u) (take_past t s)
+take_past (x ∷ t) s = cc (take_past t s)
 
 drop_past : (t : List ℕ) (y : ℕ) (r : List ℕ) → drop (suc (length t)) (t ++ y ∷ r) ≡ r
 drop_past [] y r = refl
 drop_past (x ∷ t) y r = drop_past t y r
 
 pub before_it : (p : ℕ → Bool) (t : List ℕ) (y : ℕ) (r : List ℕ) → lacks p t ≡ true → p y ≡ true → before_first p (t ++ y ∷ r) ≡ t
-before_it p t y r h e = ap (λ n. take n (t ++ y ∷ r)) (position_past p t y r h e) ∙ take_past t (y ∷ r)
+before_it p t y r h e = cc (position_past p t y r h e, take_past t (y ∷ r))
 
 pub after_it : (p : ℕ → Bool) (t : List ℕ) (y : ℕ) (r : List ℕ) → lacks p t ≡ true → p y ≡ true → after_first p (t ++ y ∷ r) ≡ r
 after_it p t y r h e =
-    ap (λ n. drop (n + 1) (t ++ y ∷ r)) (position_past p t y r h e) ∙ ap (λ n. drop n (t ++ y ∷ r)) (add-one (length t)) ∙ drop_past t y r
+    cc (position_past p t y r h e, add-one (length t), drop_past t y r)
 
 -- the six fields of six texts that are joined
 pub record SixFields (s a b c d e f : List ℕ) : Type 0 where
@@ -56,14 +56,14 @@ six_fields a b c d e f ha hb hc hd he =
     let s4 : List ℕ = e ++ 32 ∷ f in
     let s0 : List ℕ = a ++ 32 ∷ s1 in
     let r1 : rest 1 s0 ≡ s1 = after_it is_space a 32 s1 ha refl in
-    let r2 : rest 2 s0 ≡ s2 = ap (λ t. after_first is_space t) r1 ∙ after_it is_space b 32 s2 hb refl in
-    let r3 : rest 3 s0 ≡ s3 = ap (λ t. after_first is_space t) r2 ∙ after_it is_space c 32 s3 hc refl in
-    let r4 : rest 4 s0 ≡ s4 = ap (λ t. after_first is_space t) r3 ∙ after_it is_space d 32 s4 hd refl in
+    let r2 : rest 2 s0 ≡ s2 = cc (after_it is_space b 32 s2 hb refl) in
+    let r3 : rest 3 s0 ≡ s3 = cc (after_it is_space c 32 s3 hc refl) in
+    let r4 : rest 4 s0 ≡ s4 = cc (after_it is_space d 32 s4 hd refl) in
     record {
       first = before_it is_space a 32 s1 ha refl;
-      second = ap (λ t. before_first is_space t) r1 ∙ before_it is_space b 32 s2 hb refl;
-      third = ap (λ t. before_first is_space t) r2 ∙ before_it is_space c 32 s3 hc refl;
-      fourth = ap (λ t. before_first is_space t) r3 ∙ before_it is_space d 32 s4 hd refl;
-      fifth = ap (λ t. before_first is_space t) r4 ∙ before_it is_space e 32 f he refl;
-      sixth = ap (λ t. after_first is_space t) r4 ∙ after_it is_space e 32 f he refl;
+      second = cc (before_it is_space b 32 s2 hb refl);
+      third = cc (before_it is_space c 32 s3 hc refl);
+      fourth = cc (before_it is_space d 32 s4 hd refl);
+      fifth = cc (before_it is_space e 32 f he refl);
+      sixth = cc (after_it is_space e 32 f he refl);
     }

@@ -10,7 +10,7 @@ use Rattle.chess_text.specs.Placement.{run_text, rank_text}
 
 next : (n i : ℕ) (cells : Board) → i < length cells → rank_text n (drop i cells) ≡ rank_text n (get_or cells i None ∷ drop (i + 1) cells)
 next n i cells h =
-    ap (λ (b : Board). rank_text n b) (drop-cons cells i None h) ∙ ap (λ k. rank_text n (get_or cells i None ∷ drop k cells)) (sym (add-one i))
+    cc (drop-cons cells i None h, add-one i)
 
 pub rank_text-empty : (n i : ℕ) (cells : Board) → i < length cells → get_or cells i None ≡ None
     → rank_text n (drop i cells) ≡ rank_text (n + 1) (drop (i + 1) cells)
@@ -41,7 +41,7 @@ pub empty_square : (rank : Board) (text : List ℕ) (run i : ℕ) (cells : Board
     → get_or cells i None ≡ None → WrittenSoFar rank text (run + 1) (i + 1) cells
 empty_square rank text run i cells so_far h e =
     record {
-      whole = ap (λ t. text ++ t) (sym (rank_text-empty run i cells (omega (arith, h, so_far.eight)) e)) ∙ so_far.whole;
+      whole = cc (rank_text-empty run i cells (omega (arith, h, so_far.eight)) e);
       run_before = omega (arith, so_far.run_before);
       eight = so_far.eight;
     }
@@ -76,7 +76,7 @@ room_for_piece rank text run i cells x so_far long h e =
 
 pub at_end : (rank : Board) (text : List ℕ) (run i : ℕ) (cells : Board) → WrittenSoFar rank text run i cells → 8 ≤ i
     → text ++ run_text run ≡ rank_text 0 rank
-at_end rank text run i cells so_far h = ap (λ (b : Board). text ++ rank_text run b) (sym (drop_all i cells (omega (arith, h, so_far.eight)))) ∙ so_far.whole
+at_end rank text run i cells so_far h = cc (drop_all i cells (omega (arith, h, so_far.eight)))
 
 pub room_at_end : (rank : Board) (text : List ℕ) (run i : ℕ) (cells : Board) → WrittenSoFar rank text run i cells → length rank ≡ 8
     → 8 ≤ i → length text + length (run_text run) ≤ 8

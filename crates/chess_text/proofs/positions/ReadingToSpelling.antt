@@ -48,15 +48,15 @@ side_spelled s c h = by_tests (bytes_eq s (codes "w")) (bytes_eq s (codes "b")) 
   where
     by_tests : (w b : Bool) → bytes_eq s (codes "w") ≡ w → bytes_eq s (codes "b") ≡ b
         → (if w then Some White else (if b then Some Black else None)) ≡ Some c → s ≡ side_text c
-    by_tests true b e f g = same_bytes s (codes "w") e ∙ ap (λ d. side_text d) (same_some White c g)
-    by_tests false true e f g = same_bytes s (codes "b") f ∙ ap (λ d. side_text d) (same_some Black c g)
+    by_tests true b e f g = cc (same_bytes s (codes "w") e, same_some White c g)
+    by_tests false true e f g = cc (same_bytes s (codes "b") f, same_some Black c g)
     by_tests false false e f g = absurd (cc)
 
 pub rights_spelled : (s : List ℕ) (r : Rights) → rights_of s ≡ Some r → s ≡ rights_text r
 rights_spelled s r h = by_test (bytes_eq s (rights_text (rights_named s))) refl h
   where
     by_test : (b : Bool) → bytes_eq s (rights_text (rights_named s)) ≡ b → (if b then Some (rights_named s) else None) ≡ Some r → s ≡ rights_text r
-    by_test true e g = same_bytes s (rights_text (rights_named s)) e ∙ ap (λ d. rights_text d) (same_some (rights_named s) r g)
+    by_test true e g = cc (same_bytes s (rights_text (rights_named s)) e, same_some (rights_named s) r g)
     by_test false e g = absurd (cc)
 
 shifted_file : (file rank : ℕ) → is_target file rank ≡ true → 97 + (file - 97) ≡ file
@@ -79,15 +79,14 @@ target_spelled [] t h = absurd (cc)
 target_spelled (c ∷ []) t h = by_test (c == 45) refl h
   where
     by_test : (b : Bool) → (c == 45) ≡ b → (if b then Some None else None) ≡ Some t → c ∷ [] ≡ target_text t
-    by_test true e g = ap (λ x. x ∷ []) (eqb-true c 45 e) ∙ ap (λ u. target_text u) (same_some None t g)
+    by_test true e g = cc (eqb-true c 45 e, same_some None t g)
     by_test false e g = absurd (cc)
 target_spelled (file ∷ rank ∷ []) t h = by_test (is_target file rank) refl h
   where
     by_test : (b : Bool) → is_target file rank ≡ b → (if b then Some (Some (square (file - 97) (rank - 49))) else None) ≡ Some t
         → file ∷ rank ∷ [] ≡ target_text t
     by_test true e g =
-        ap₂ (λ x y. x ∷ y ∷ []) (sym (shifted_file file rank e)) (sym (shifted_rank file rank e))
-        ∙ ap (λ u. target_text u) (same_some (Some (square (file - 97) (rank - 49))) t g)
+        cc (shifted_file file rank e, shifted_rank file rank e, same_some (Some (square (file - 97) (rank - 49))) t g)
     by_test false e g = absurd (cc)
 target_spelled (file ∷ rank ∷ c ∷ s) t h = absurd (cc)
 
@@ -124,8 +123,7 @@ some_digit s n spells =
 pub spaced : (s : List ℕ) → 0 < length (after_first is_space s) → s ≡ before_first is_space s ++ 32 ∷ after_first is_space s
 spaced s h =
     let inside : position_or_len is_space s < length s = omega (arith, h, length-drop (position_or_len is_space s + 1) s) in
-    split_at_first is_space s 0 inside
-    ∙ ap (λ c. before_first is_space s ++ c ∷ after_first is_space s) (eqb-true (get_or s (position_or_len is_space s) 0) 32 (passes_at_first is_space s 0 inside))
+    cc (split_at_first is_space s 0 inside, eqb-true (get_or s (position_or_len is_space s) 0) 32 (passes_at_first is_space s 0 inside))
 
 not_shorter : (s : List ℕ) → length (before_first is_space s) ≤ length s
 not_shorter s = omega (arith, length-take (position_or_len is_space s) s)
@@ -151,12 +149,12 @@ there p (Some b) (Some c) (Some r) (Some t) (Some m) None h = absurd (cc)
 there p (Some b) (Some c) (Some r) (Some t) (Some m) (Some n) h =
     let same : record { board = b; side = c; rights = r; target = t; half = m; full = n } ≡ p = cc in
     record {
-      board = ap (λ (q : Parts). Some q.board) same;
-      side = ap (λ (q : Parts). Some q.side) same;
-      rights = ap (λ (q : Parts). Some q.rights) same;
-      target = ap (λ (q : Parts). Some q.target) same;
-      half = ap (λ (q : Parts). Some q.half) same;
-      full = ap (λ (q : Parts). Some q.full) same;
+      board = cc;
+      side = cc;
+      rights = cc;
+      target = cc;
+      half = cc;
+      full = cc;
     }
 
 record Good (p : Parts) (r : Result Parts FenFault) : Type 0 where

@@ -87,8 +87,7 @@ six_joined a b c d e f =
 
 pub six_written : (p : Parts) (text : List ℕ) → FiveWritten p text → text ++ 32 ∷ decimal p.full ≡ fen_text p
 six_written p text five =
-    ap (λ t. t ++ 32 ∷ decimal p.full) five.whole
-    ∙ six_joined (placement_text p.board) (side_text p.side) (rights_text p.rights) (target_text p.target) (decimal p.half) (decimal p.full)
+    cc (six_joined (placement_text p.board) (side_text p.side) (rights_text p.rights) (target_text p.target) (decimal p.half) (decimal p.full))
 
 -- 71 bytes for the board, 1 for the side, 4 for the rights, 2 for the target, 5 for each number,
 -- and five spaces

@@ -33,7 +33,7 @@ differs p c d h g = by_test (c == d) refl
 pub all_lack : (p : ℕ → Bool) (d : ℕ) → p d ≡ false → (s : List ℕ) → list_all p s ≡ true → lacks (λ c. c == d) s ≡ true
 all_lack p d h [] g = refl
 all_lack p d h (c ∷ s) g =
-    ap₂ (λ a b. a && b) (differs p c d h (first_of_two (p c) (list_all p s) g)) (all_lack p d h s (second_of_two (p c) (list_all p s) g))
+    cc (differs p c d h (first_of_two (p c) (list_all p s) g), all_lack p d h s (second_of_two (p c) (list_all p s) g))
 
 -- Field 1.
 
@@ -43,15 +43,13 @@ rank_lacks d h s g = all_lack is_item d h s (first_of_two (list_all is_item s) (
 ranks_lack : (d : ℕ) → is_item d ≡ false → (ss : List (List ℕ)) → list_all is_rank ss ≡ true → list_all (λ s. lacks (λ c. c == d) s) ss ≡ true
 ranks_lack d h [] g = refl
 ranks_lack d h (s ∷ ss) g =
-    ap₂ (λ a b. a && b) (rank_lacks d h s (first_of_two (is_rank s) (list_all is_rank ss) g)) (ranks_lack d h ss (second_of_two (is_rank s) (list_all is_rank ss) g))
+    cc (rank_lacks d h s (first_of_two (is_rank s) (list_all is_rank ss) g), ranks_lack d h ss (second_of_two (is_rank s) (list_all is_rank ss) g))
 
 joined_lacks : (ss : List (List ℕ)) → list_all (λ s. lacks is_space s) ss ≡ true → lacks is_space (join_with_byte 47 ss) ≡ true
 joined_lacks [] g = refl
 joined_lacks (s ∷ []) g = first_of_two (lacks is_space s) true g
 joined_lacks (s ∷ t ∷ ss) g =
-    list_all-append (λ c. not (is_space c)) s (47 ∷ join_with_byte 47 (t ∷ ss))
-    ∙ ap₂ (λ a b. a && b) (first_of_two (lacks is_space s) (list_all (λ s. lacks is_space s) (t ∷ ss)) g)
-    (joined_lacks (t ∷ ss) (second_of_two (lacks is_space s) (list_all (λ s. lacks is_space s) (t ∷ ss)) g))
+    cc (list_all-append (λ c. not (is_space c)) s (47 ∷ join_with_byte 47 (t ∷ ss)), first_of_two (lacks is_space s) (list_all (λ s. lacks is_space s) (t ∷ ss)) g, joined_lacks (t ∷ ss) (second_of_two (lacks is_space s) (list_all (λ s. lacks is_space s) (t ∷ ss)) g))
 
 one_part : (s : List ℕ) → lacks is_slash s ≡ true → ranks s ≡ s ∷ []
 one_part [] h = refl
@@ -68,9 +66,7 @@ one_part (c ∷ s) h =
 joined_ranks : (s : List ℕ) (ss : List (List ℕ)) → list_all (λ s. lacks is_slash s) (s ∷ ss) ≡ true → ranks (join_with_byte 47 (s ∷ ss)) ≡ s ∷ ss
 joined_ranks s [] h = one_part s (first_of_two (lacks is_slash s) true h)
 joined_ranks s (t ∷ ss) h =
-    slice_split-around is_slash s 47 (join_with_byte 47 (t ∷ ss)) refl
-    ∙ ap₂ (λ (a b : List (List ℕ)). a ++ b) (one_part s (first_of_two (lacks is_slash s) (list_all (λ s. lacks is_slash s) (t ∷ ss)) h))
-    (joined_ranks t ss (second_of_two (lacks is_slash s) (list_all (λ s. lacks is_slash s) (t ∷ ss)) h))
+    cc (slice_split-around is_slash s 47 (join_with_byte 47 (t ∷ ss)) refl, one_part s (first_of_two (lacks is_slash s) (list_all (λ s. lacks is_slash s) (t ∷ ss)) h), joined_ranks t ss (second_of_two (lacks is_slash s) (list_all (λ s. lacks is_slash s) (t ∷ ss)) h))
 
 eight_ranks : (ss : List (List ℕ)) → length ss ≡ 8 → list_all is_rank ss ≡ true → ranks (join_with_byte 47 ss) ≡ ss
 eight_ranks [] e h = absurd (omega (arith, e))
@@ -78,13 +74,13 @@ eight_ranks (s ∷ ss) e h = joined_ranks s ss (ranks_lack 47 refl (s ∷ ss) h)
 
 pub board_read : (s : List ℕ) (b : Board) → SpellsBoard s b → placement_of s ≡ Some b
 board_read s b spells =
-    let same : ranks s ≡ spells.rank_texts = ap (λ t. ranks t) spells.joined ∙ eight_ranks spells.rank_texts spells.eight spells.each in
-    let eight : length (ranks s) ≡ 8 = ap (λ (ss : List (List ℕ)). length ss) same ∙ spells.eight in
-    let good : is_placement s ≡ true = ap₂ (λ n ok. (n == 8) && ok) eight (ap (λ (ss : List (List ℕ)). list_all is_rank ss) same ∙ spells.each) in
+    let same : ranks s ≡ spells.rank_texts = cc (eight_ranks spells.rank_texts spells.eight spells.each) in
+    let eight : length (ranks s) ≡ 8 = cc in
+    let good : is_placement s ≡ true = cc in
     rw (good, same) (ap (λ x. Some x) (sym spells.cells))
 
 pub board_lacks : (s : List ℕ) (b : Board) → SpellsBoard s b → lacks is_space s ≡ true
-board_lacks s b spells = ap (λ t. lacks is_space t) spells.joined ∙ joined_lacks spells.rank_texts (ranks_lack 32 refl spells.rank_texts spells.each)
+board_lacks s b spells = cc (joined_lacks spells.rank_texts (ranks_lack 32 refl spells.rank_texts spells.each))
 
 -- Fields 2 and 3.
 
@@ -140,7 +136,7 @@ target_read c (Some t) h =
 
 target_lacks : (t : Option Square) → lacks is_space (target_text t) ≡ true
 target_lacks None = refl
-target_lacks (Some t) = ap₂ (λ a b. a && (b && true)) (no_space t.file 97 (omega arith)) (no_space t.rank 49 (omega arith))
+target_lacks (Some t) = cc (no_space t.file 97 (omega arith), no_space t.rank 49 (omega arith))
   where
     no_space : (n k : ℕ) → 32 < k → not (k + n == 32) ≡ true
     no_space n k h = grind (arith, nat_tests)

@@ -25,11 +25,11 @@ pub ranks_left : (text : List ℕ) (left start : ℕ) → 0 < left → start ≤
 ranks_left text zero start above within cut = absurd (omega (arith, above))
 ranks_left text (suc n) start above within cut =
     let same : suc n - 1 ≡ n = omega arith in
-    ap (λ k. ranks (take k text)) (sym same) ∙ cut ∙ ap (λ (parts : List (List ℕ)). parts ++ drop start (take (suc n - 1) text) ∷ []) (earlier start within)
+    cc (earlier start within)
   where
     earlier : (k : ℕ) → k ≤ length (take (suc n - 1) text) → ranks_before k (take (suc n - 1) text) ≡ ranks_before k text
     earlier zero low = refl
-    earlier (suc k) low = ap (λ t. ranks t) (take-take k (suc n - 1) text (omega (arith, low, length-take (suc n - 1) text)))
+    earlier (suc k) low = cc (take-take k (suc n - 1) text (omega (arith, low, length-take (suc n - 1) text)))
 
 and_true : (b : Bool) → (b && true) ≡ b
 and_true true = refl
@@ -41,10 +41,10 @@ and_false false = refl
 
 list_all-last : (before : List (List ℕ)) (last : List ℕ) → list_all is_rank (before ++ last ∷ []) ≡ (list_all is_rank before && is_rank last)
 list_all-last before last =
-    list_all-append is_rank before (last ∷ []) ∙ ap (λ b. list_all is_rank before && b) (and_true (is_rank last))
+    cc (list_all-append is_rank before (last ∷ []), and_true (is_rank last))
 
 cells-last : (before : List (List ℕ)) (last : List ℕ) → flat_map cells_of (reverse (before ++ last ∷ [])) ≡ cells_of last ++ flat_map cells_of (reverse before)
-cells-last before last = ap (λ parts. flat_map cells_of parts) (reverse-append before (last ∷ []))
+cells-last before last = cc (reverse-append before (last ∷ []))
 
 second_true : (a b : Bool) → (a && b) ≡ true → b ≡ true
 second_true true b h = h

@@ -12,7 +12,7 @@ of_fault : (p : Parts) (o : Option PositionFault) → length p.board ≡ 64
     → (if (length p.board == 64) && is_none o then Ok p else at_field 7) ≡ (if is_none o then Ok p else at_field 7)
 of_fault p o long =
     let all : (length p.board == 64) ≡ true = grind (arith, nat_tests) in
-    ap (λ x. if x && is_none o then Ok p else at_field 7) all
+    cc
 
 no_fault : (p q : Parts) (o : Option PositionFault) → Ok q ≡ built_unless o p → Ok q ≡ (if is_none o then Ok p else at_field 7)
 no_fault p q None h = cc

@@ -28,12 +28,12 @@ permuted xs ys zs same perm = subst (λ (us : List Square). IsPermutation xs us)
 -- There is one origin alone.
 
 lone_is : (xs : List Square) (s : Square) → Some s ≡ lone xs → xs ≡ s ∷ []
-lone_is (x ∷ []) s e = ap (λ (o : Option Square). elim o [ Some y ↦ y ∷ [] | None ↦ [] ]) (sym e)
+lone_is (x ∷ []) s e = cc
 lone_is [] s e = absurd (cc)
 lone_is (x ∷ y ∷ ys) s e = absurd (cc)
 
 one_there : (xs : List Square) (s : Square) → Some s ≡ lone xs → length xs ≡ 1
-one_there xs s e = ap (λ (ys : List Square). length ys) (lone_is xs s e)
+one_there xs s e = cc (lone_is xs s e)
 
 only_found : (o : Option Played) → ok_or o NoMove ≡ only (cons_option o [])
 only_found None = refl
@@ -44,9 +44,7 @@ lone_gives : CandidatesComplete → (p : Parts) (k : Kind) (file rank : Option �
     → ok_or (played (piece_move_fits p file rank (move_from to promotion s)) p (move_from to promotion s)) NoMove ≡ move_of_form p (Man k file rank to promotion)
 lone_gives complete p k file rank to promotion s alone =
     let perm : IsPermutation (candidates p k to) (s ∷ []) = subst (λ (xs : List Square). IsPermutation (candidates p k to) xs) (lone_is (candidates p k to) s alone) (IsPermutation-refl (candidates p k to)) in
-    ap (λ (o : Option Played). ok_or o NoMove) (tried_own p k file rank to promotion s (candidates_own p k to (s ∷ []) perm 0 s (omega arith)))
-    ∙ only_found (from_square p (Man k file rank to promotion) to promotion s)
-    ∙ reads_candidates p k file rank to promotion complete (s ∷ []) perm
+    cc (tried_own p k file rank to promotion s (candidates_own p k to (s ∷ []) perm 0 s (omega arith)), only_found (from_square p (Man k file rank to promotion) to promotion s), reads_candidates p k file rank to promotion complete (s ∷ []) perm)
 
 pub returns-then-is_some-clause-answer : goal.returns-then-is_some-clause-answer
 returns-then-is_some-clause-answer c =

@@ -37,10 +37,10 @@ push_disambiguated_text-requires c =
 
 -- what is written and tried for a piece of that kind
 unmarked_is : (p : Parts) (m : Move) (x : Piece) (k : Kind) → at p.board m.from ≡ Some x → x.kind ≡ k → unmarked p m ≡ kind_text k p m
-unmarked_is p m x k e is = ap (λ o. piece_text o p m) e ∙ ap (λ l. kind_text l p m) is
+unmarked_is p m x k e is = cc
 
 pairs_are : (p : Parts) (m : Move) (x : Piece) (k : Kind) → at p.board m.from ≡ Some x → x.kind ≡ k → disambiguation_pairs p m ≡ kind_pairs k p m
-pairs_are p m x k e is = ap (λ o. piece_pairs o p m) e ∙ ap (λ l. kind_pairs l p m) is
+pairs_are p m x k e is = cc
 
 pub returns-in-King-clause-text : goal.returns-in-King-clause-text
 returns-in-King-clause-text c =
