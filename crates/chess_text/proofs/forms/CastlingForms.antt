@@ -1,18 +1,5 @@
 -- What a form of castling names: the one move that is tried, or none.
-use Rattle.std.proofs.Common.{◌≡◌, Bool, true, false, ◌&&◌, ◌||◌, [], refl, sym, ◌∙◌, ap, subst, arith}
-use Rattle.std.specs.Prelude.{Option, None, Some, Ok, Err, is_none, is_some}
-use Rattle.std.specs.Option.{ok_or}
-use Rattle.std.specs.List.{cons_option}
-use Rattle.std.proofs.lemmas.Bool.{false≢true, and_parts}
-use Rattle.chess_rules.specs.declared.position.Move.{Move}
-use Rattle.chess_rules.specs.declared.position.Parts.{Parts}
-use Rattle.chess_rules.specs.Square.{Square, same_square}
-use Rattle.chess_rules.specs.Step.{home, Wing, short_wing, long_wing, short_right, long_right, is_king_move, stand_ready, is_unattacked, castles, castles_short, castles_long}
-use Rattle.chess_rules.specs.Legal.{legal, is_legal}
-use Rattle.chess_text.specs.declared.form.Form.TheVariants.{Castle}
-use Rattle.chess_text.specs.declared.resolution.Played.{Played}
-use Rattle.chess_text.specs.declared.resolution.SanFault.TheVariants.{NoMove}
-use Rattle.chess_text.specs.MoveOfForm.{is_castling, describes, with_next, with_next_position, played, castling_move, agreeing, only, move_of_form}
+use Rattle.chess_text.proofs.Words.{◌≡◌, Bool, true, false, ◌&&◌, ◌||◌, [], refl, sym, ◌∙◌, ap, subst, arith, Option, None, Some, Ok, Err, is_none, is_some, ok_or, cons_option, false≢true, and_parts, Move, Parts, Square, same_square, home, Wing, short_wing, long_wing, short_right, long_right, is_king_move, stand_ready, is_unattacked, castles, castles_short, castles_long, legal, is_legal, Castle, Played, NoMove, is_castling, describes, with_next, with_next_position, played, castling_move, agreeing, only, move_of_form}
 use Rattle.chess_text.proofs.forms.CastlingMoves.{squares_same}
 
 -- where castling leads

@@ -1,26 +1,6 @@
 -- The kinds of squares for a form, one after another, and how many legal moves they count.
-use Rattle.std.proofs.Common.{◌≡◌, ℕ, ◌+◌, ◌<◌, ◌≤◌, Bool, true, false, cond, ◌&&◌, List, [], ◌∷◌, ◌++◌, map, length, take, set, get_or, refl, sym, ◌∙◌, ap, ap₂, subst, arith}
-use Rattle.std.specs.Prelude.{Option, None, Some, Ok, Err, ◌↔◌, is_some, count_by, if◌then◌else◌}
-use Rattle.std.specs.List.{range_with_len, filter, filter_map, cons_option}
-use Rattle.std.proofs.lemmas.List.{take_more, take_more_set, map-append}
-use Rattle.std.proofs.lemmas.List.FromFn.{get_or-map-range_with_len}
-use Rattle.std.proofs.lemmas.List.Sums.{sum_by-cons, sum_by_more}
-use Rattle.std.proofs.lemmas.Bool.{both_ways}
-use Rattle.chess_rules.specs.declared.piece.Colour.{Colour}
-use Rattle.chess_rules.specs.declared.piece.Colour.TheVariants.{White, Black}
-use Rattle.chess_rules.specs.declared.position.Move.{Move}
-use Rattle.chess_rules.specs.declared.position.Parts.{Parts}
-use Rattle.chess_rules.specs.Square.{Square, square, squares, same_square}
-use Rattle.chess_rules.specs.Step.{step, home, home_rank, short_wing, long_wing, short_right, long_right}
-use Rattle.chess_rules.specs.Legal.{king_is_safe, if_safe}
-use Rattle.chess_text.specs.declared.form.Form.{Form}
-use Rattle.chess_text.specs.declared.form.Form.TheVariants.{Castle, Man}
-use Rattle.chess_text.specs.declared.form_origins.OriginKind.{OriginKind}
+use Rattle.chess_text.proofs.Words.{◌≡◌, ℕ, ◌+◌, ◌<◌, ◌≤◌, Bool, true, false, cond, ◌&&◌, List, [], ◌∷◌, ◌++◌, map, length, take, set, get_or, refl, sym, ◌∙◌, ap, ap₂, subst, arith, Option, None, Some, Ok, Err, ◌↔◌, is_some, count_by, if◌then◌else◌, range_with_len, filter, filter_map, cons_option, take_more, take_more_set, map-append, get_or-map-range_with_len, sum_by-cons, sum_by_more, both_ways, Colour, White, Black, Move, Parts, Square, square, squares, same_square, step, home, home_rank, short_wing, long_wing, short_right, long_right, king_is_safe, if_safe, Form, Castle, Man, OriginKind, Played, NoMove, Ambiguous, describes, with_next, played, move_from, agreeing, only, form_move, is_step_of_form, kind_of_move, origin_kind, origins_of_form, step_count, nth_square, is_legal_kind, count_legal, LegalOriginsDecide}
 use Rattle.chess_text.specs.declared.form_origins.OriginKind.TheVariants.{NoStep, Unsafe, Legal}
-use Rattle.chess_text.specs.declared.resolution.Played.{Played}
-use Rattle.chess_text.specs.declared.resolution.SanFault.TheVariants.{NoMove, Ambiguous}
-use Rattle.chess_text.specs.MoveOfForm.{describes, with_next, played, move_from, agreeing, only}
-use Rattle.chess_text.specs.FormOrigins.{form_move, is_step_of_form, kind_of_move, origin_kind, origins_of_form, step_count, nth_square, is_legal_kind, count_legal, LegalOriginsDecide}
 use Rattle.chess_text.proofs.forms.CastlingForms.{castles_ends, played_not}
 use Rattle.chess_text.proofs.forms.OnlyElement.{filter_map-map, filter_map-filter}
 use Rattle.chess_text.proofs.forms.PieceForms.{same_square-refl}

@@ -1,12 +1,5 @@
 -- The move that a search has kept, with the position after it.
-use Rattle.std.proofs.Common.{◌≡◌, Bool, true, false, ◌&&◌, refl, sym, ap}
-use Rattle.std.specs.Prelude.{Option, None, Some, is_some}
-use Rattle.std.proofs.lemmas.Bool.{false≢true, and_parts}
-use Rattle.chess_rules.specs.declared.position.Move.{Move}
-use Rattle.chess_rules.specs.declared.position.Parts.{Parts}
-use Rattle.chess_rules.specs.Legal.{legal, is_legal}
-use Rattle.chess_text.specs.declared.resolution.Played.{Played}
-use Rattle.chess_text.specs.MoveOfForm.{with_next, played}
+use Rattle.chess_text.proofs.Words.{◌≡◌, Bool, true, false, ◌&&◌, refl, sym, ap, Option, None, Some, is_some, false≢true, and_parts, Move, Parts, legal, is_legal, Played, with_next, played}
 
 abbrev pub with_position : Parts → Option Move → Option Played
 with_position p None = None

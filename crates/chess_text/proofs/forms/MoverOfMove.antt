@@ -1,22 +1,6 @@
 -- Whose move a legal move is, and which ones take.
-use Rattle.std.proofs.Common.{◌≡◌, ℕ, Bool, true, false, not, ◌&&◌, ◌||◌, inl, inr, refl, sym, ◌∙◌, ap, arith}
-use Rattle.std.specs.Prelude.{◌==◌, Option, None, Some, is_none, is_some, codes, if◌then◌else◌, ◌++◌}
-use Rattle.std.proofs.lemmas.Bool.{false≢true, and_parts, and_from, or_cases}
-use Rattle.std.proofs.lemmas.Bool.Decides.{nat_tests}
-use Rattle.chess_rules.specs.declared.piece.Colour.{Colour}
-use Rattle.chess_rules.specs.declared.piece.Kind.{Kind}
-use Rattle.chess_rules.specs.declared.piece.Kind.TheVariants.{King, Queen, Rook, Bishop, Knight, Pawn}
-use Rattle.chess_rules.specs.declared.piece.Piece.{Piece}
-use Rattle.chess_rules.specs.declared.position.Move.{Move}
-use Rattle.chess_rules.specs.declared.position.Parts.{Parts}
-use Rattle.chess_rules.specs.Square.{Square, same_square}
-use Rattle.chess_rules.specs.Board.{at, has_colour, has_piece, same_colour, kind_number, same_kind, is_empty, other}
-use Rattle.chess_rules.specs.Attacks.{attacks}
-use Rattle.chess_rules.specs.Step.{own, home, Wing, short_wing, long_wing, short_right, long_right, is_piece_step, is_pawn_way, is_pawn_step, promotion_fits, is_target, captured_pawn, is_en_passant, is_king_move, stand_ready, is_unattacked, castles, castles_short, castles_long}
-use Rattle.chess_rules.specs.Legal.{is_legal}
-use Rattle.chess_text.specs.Letter.{square_text}
-use Rattle.chess_text.specs.MoveOfForm.{is_castling}
-use Rattle.chess_text.specs.San.{is_capture, capture_text, castling_text, king_text, has_rivals}
+use Rattle.chess_text.proofs.Words.{◌≡◌, ℕ, Bool, true, false, not, ◌&&◌, ◌||◌, inl, inr, refl, sym, ◌∙◌, ap, arith, ◌==◌, Option, None, Some, is_none, is_some, codes, if◌then◌else◌, ◌++◌, false≢true, and_parts, and_from, or_cases, nat_tests, Colour, Kind, King, Queen, Rook, Bishop, Knight, Pawn, Piece, Move, Parts, Square, same_square, at, has_colour, has_piece, same_colour, kind_number, same_kind, is_empty, other, attacks, own, home, Wing, short_wing, long_wing, short_right, long_right, is_piece_step, is_pawn_way, is_pawn_step, promotion_fits, captured_pawn, is_en_passant, is_king_move, stand_ready, is_unattacked, castles, castles_short, castles_long, is_legal, square_text, is_castling, is_capture, capture_text, castling_text, king_text, has_rivals}
+use Rattle.chess_rules.specs.Step.{is_target}
 use Rattle.chess_text.proofs.forms.CastlingMoves.{stepped, squares_same, castling_goes_far}
 
 -- The piece that moves is of the side to move.

@@ -1,17 +1,6 @@
 -- Lists of what is found, and the only element of one.
-use Rattle.std.proofs.Common.{◌≡◌, ◌⊎◌, inl, inr, ℕ, zero, suc, ◌+◌, ◌<◌, ◌≤◌, Bool, true, false, cond, List, [], ◌∷◌, ◌++◌, map, length, take, drop, get_or, append-nil, Option, None, Some, refl, sym, ◌∙◌, ap, ap₂, subst, arith}
-use Rattle.std.specs.Prelude.{Ok, Err, sum_by}
-use Rattle.std.specs.Option.{option_to_list, ok_or, is_some}
-use Rattle.std.specs.List.{filter, filter_map, cons_option, Contains}
-use Rattle.std.specs.List.Sorted.{IsPermutation}
-use Rattle.std.proofs.lemmas.Bool.{false≢true}
-use Rattle.std.proofs.lemmas.List.{take_more, take_all, take-append-drop}
-use Rattle.std.proofs.lemmas.List.Sums.{sum_by-cons}
-use Rattle.std.proofs.lemmas.List.Elements.{filter_map-append}
-use Rattle.std.proofs.lemmas.List.Sorted.{Contains-permutation, sum_by-IsPermutation}
-use Rattle.chess_text.specs.declared.resolution.Played.{Played}
-use Rattle.chess_text.specs.declared.resolution.SanFault.TheVariants.{NoMove, Ambiguous}
-use Rattle.chess_text.specs.MoveOfForm.{only}
+use Rattle.chess_text.proofs.Words.{◌≡◌, ◌⊎◌, inl, inr, ℕ, zero, suc, ◌+◌, ◌<◌, ◌≤◌, Bool, true, false, cond, List, [], ◌∷◌, ◌++◌, map, length, take, drop, get_or, append-nil, Option, None, Some, refl, sym, ◌∙◌, ap, ap₂, subst, arith, Ok, Err, sum_by, option_to_list, ok_or, filter, filter_map, cons_option, Contains, IsPermutation, false≢true, take_more, take_all, take-append-drop, sum_by-cons, filter_map-append, Contains-permutation, sum_by-IsPermutation, Played, NoMove, Ambiguous, only}
+use Rattle.std.specs.Option.{is_some}
 
 -- Elements.
 

@@ -1,22 +1,6 @@
 -- The ways in which a pawn goes.
-use Rattle.std.proofs.Common.{◌≡◌, ℕ, inl, inr, Bool, true, false, not, ◌&&◌, ◌||◌, refl, sym, ◌∙◌, ap, ap₂, arith}
-use Rattle.std.specs.Prelude.{◌==◌, Option, None, Some, is_none}
-use Rattle.std.proofs.lemmas.Bool.{false≢true, and_parts, or_cases, eqb-true, eq-eqb}
-use Rattle.std.proofs.lemmas.Bool.Decides.{nat_tests}
-use Rattle.chess_rules.specs.declared.piece.Colour.{Colour}
-use Rattle.chess_rules.specs.declared.piece.Colour.TheVariants.{White, Black}
-use Rattle.chess_rules.specs.declared.piece.Kind.{Kind}
-use Rattle.chess_rules.specs.declared.piece.Kind.TheVariants.{King, Queen, Rook, Bishop, Knight, Pawn}
-use Rattle.chess_rules.specs.declared.piece.Piece.{Piece}
-use Rattle.chess_rules.specs.declared.position.Move.{Move}
-use Rattle.chess_rules.specs.declared.position.Parts.{Parts}
-use Rattle.chess_rules.specs.Square.{Square, gap}
-use Rattle.chess_rules.specs.Board.{Board, at, has_colour, has_piece, same_colour, same_kind, is_empty, other}
-use Rattle.chess_rules.specs.Attacks.{attacks, cell_attacks, kind_attacks, is_ahead}
-use Rattle.chess_rules.specs.Step.{own, is_piece_step, is_advance, is_double_step, is_pawn_capture, is_pawn_way, is_pawn_step, promotion_fits, is_target, captured_pawn, crossed, pawn_rank, double_rank, is_en_passant}
-use Rattle.chess_rules.specs.Legal.{is_legal}
-use Rattle.chess_text.specs.MoveOfForm.{is_castling}
-use Rattle.chess_text.specs.San.{is_capture}
+use Rattle.chess_text.proofs.Words.{◌≡◌, ℕ, inl, inr, Bool, true, false, not, ◌&&◌, ◌||◌, refl, sym, ◌∙◌, ap, ap₂, arith, ◌==◌, Option, None, Some, is_none, false≢true, and_parts, or_cases, eqb-true, eq-eqb, nat_tests, Colour, White, Black, Kind, King, Queen, Rook, Bishop, Knight, Pawn, Piece, Move, Parts, Square, gap, Board, at, has_colour, has_piece, same_colour, same_kind, is_empty, other, attacks, cell_attacks, kind_attacks, is_ahead, own, is_piece_step, is_advance, is_double_step, is_pawn_capture, is_pawn_way, is_pawn_step, promotion_fits, captured_pawn, crossed, pawn_rank, double_rank, is_en_passant, is_legal, is_castling, is_capture}
+use Rattle.chess_rules.specs.Step.{is_target}
 use Rattle.chess_text.proofs.forms.CastlingMoves.{stepped, castling_goes_far}
 use Rattle.chess_text.proofs.forms.MoverOfMove.{other_kind}
 

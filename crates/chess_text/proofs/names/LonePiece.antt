@@ -1,18 +1,5 @@
 -- A piece that alone of its kind may go to the target has no rivals.
-use Rattle.std.proofs.Common.{◌≡◌, ◌≤◌, inl, inr, Bool, true, false, not, ◌&&◌, ◌||◌, List, [], ◌∷◌, length, refl, sym, ◌∙◌, ap, arith}
-use Rattle.std.specs.Prelude.{Option, None, Some, is_some}
-use Rattle.std.specs.List.{list_any}
-use Rattle.std.proofs.lemmas.Bool.{false≢true, and_parts, and_from, or_cases}
-use Rattle.std.proofs.lemmas.List.Sorted.{IsPermutation-refl}
-use Rattle.chess_rules.specs.declared.piece.Kind.{Kind}
-use Rattle.chess_rules.specs.declared.position.Move.{Move}
-use Rattle.chess_rules.specs.declared.position.Parts.{Parts}
-use Rattle.chess_rules.specs.Square.{Square, squares, on_board, same_square}
-use Rattle.chess_rules.specs.Step.{own}
-use Rattle.chess_rules.specs.Legal.{legal, is_legal}
-use Rattle.chess_rules.specs.Candidate.{is_candidate, candidates}
-use Rattle.chess_rules.specs.Laws.{CandidatesComplete}
-use Rattle.chess_text.specs.San.{from_square, rivals}
+use Rattle.chess_text.proofs.Words.{◌≡◌, ◌≤◌, inl, inr, Bool, true, false, not, ◌&&◌, ◌||◌, List, [], ◌∷◌, length, refl, sym, ◌∙◌, ap, arith, Option, None, Some, is_some, list_any, false≢true, and_parts, and_from, or_cases, IsPermutation-refl, Kind, Move, Parts, Square, squares, on_board, same_square, own, legal, is_legal, is_candidate, candidates, CandidatesComplete, from_square, rivals}
 use Rattle.chess_text.proofs.forms.CastlingMoves.{stepped, squares_same}
 use Rattle.chess_text.proofs.forms.AgreeingAreFound.{in_squares, any_contained}
 use Rattle.chess_text.proofs.forms.PieceForms.{same_square-refl}

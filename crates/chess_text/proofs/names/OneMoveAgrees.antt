@@ -1,27 +1,5 @@
 -- No other legal move agrees with the form that is written.
-use Rattle.std.proofs.Common.{◌≡◌, ℕ, ◌+◌, ◌/◌, Bool, true, false, not, ◌&&◌, refl, sym, ◌∙◌, ap, ap₂, subst, arith}
-use Rattle.std.specs.Prelude.{◌==◌, Option, None, Some, is_none}
-use Rattle.std.specs.List.{list_any}
-use Rattle.std.proofs.lemmas.Bool.{false≢true, both_ways, and_parts, and_from, eqb-true}
-use Rattle.std.proofs.lemmas.Bool.Decides.{nat_tests}
-use Rattle.chess_rules.specs.declared.piece.Colour.{Colour}
-use Rattle.chess_rules.specs.declared.piece.Colour.TheVariants.{White, Black}
-use Rattle.chess_rules.specs.declared.piece.Kind.{Kind}
-use Rattle.chess_rules.specs.declared.piece.Kind.TheVariants.{King, Queen, Rook, Bishop, Knight, Pawn}
-use Rattle.chess_rules.specs.declared.piece.Piece.{Piece}
-use Rattle.chess_rules.specs.declared.piece.Promotion.{Promotion}
-use Rattle.chess_rules.specs.declared.position.Move.{Move}
-use Rattle.chess_rules.specs.declared.position.Parts.{Parts}
-use Rattle.chess_rules.specs.Square.{Square, square, squares, on_board, gap, same_square}
-use Rattle.chess_rules.specs.Board.{at, has_piece, same_colour, same_kind, is_empty, other}
-use Rattle.chess_rules.specs.Attacks.{is_ahead}
-use Rattle.chess_rules.specs.Position.{is_position}
-use Rattle.chess_rules.specs.Step.{own, captured_pawn, crossed, pawn_rank, double_rank, castles_short, castles_long, short_right, long_right, short_wing, long_wing}
-use Rattle.chess_rules.specs.Legal.{is_legal}
-use Rattle.chess_rules.specs.Laws.{OneKing}
-use Rattle.chess_text.specs.declared.form.Form.TheVariants.{Man}
-use Rattle.chess_text.specs.MoveOfForm.{hints_fit, same_promotion, is_castling, describes, agrees}
-use Rattle.chess_text.specs.San.{from_square, is_rival, rivals, is_capture, on_file, on_rank}
+use Rattle.chess_text.proofs.Words.{◌≡◌, ℕ, ◌+◌, ◌/◌, Bool, true, false, not, ◌&&◌, refl, sym, ◌∙◌, ap, ap₂, subst, arith, ◌==◌, Option, None, Some, is_none, list_any, false≢true, both_ways, and_parts, and_from, eqb-true, nat_tests, Colour, White, Black, Kind, King, Queen, Rook, Bishop, Knight, Pawn, Piece, Promotion, Move, Parts, Square, square, squares, on_board, gap, same_square, at, has_piece, same_colour, same_kind, is_empty, other, is_ahead, is_position, own, captured_pawn, crossed, pawn_rank, double_rank, castles_short, castles_long, short_right, long_right, short_wing, long_wing, is_legal, OneKing, Man, hints_fit, same_promotion, is_castling, describes, agrees, from_square, is_rival, rivals, is_capture, on_file, on_rank}
 use Rattle.chess_text.proofs.forms.CastlingMoves.{stepped, squares_same}
 use Rattle.chess_text.proofs.forms.CastlingForms.{castles_ends}
 use Rattle.chess_text.proofs.forms.AgreeingAreFound.{in_squares, any_contained, promotions_same, move_of}

@@ -1,21 +1,6 @@
 -- The rivals of a move, found among the candidates for its target.
-use Rattle.std.proofs.Common.{◌≡◌, ℕ, ◌+◌, ◌<◌, ◌≤◌, Bool, true, false, cond, not, ◌&&◌, ◌||◌, List, [], ◌∷◌, length, take, get_or, refl, sym, ◌∙◌, ap, ap₂}
-use Rattle.std.specs.Prelude.{◌==◌, Option, None, Some, is_some, filter}
-use Rattle.std.specs.List.{list_any}
-use Rattle.std.specs.List.Sorted.{IsPermutation}
-use Rattle.std.proofs.lemmas.Bool.{false≢true, and_parts}
-use Rattle.std.proofs.lemmas.List.{take_all}
-use Rattle.std.proofs.lemmas.List.Folds.{list_any_more}
-use Rattle.std.proofs.lemmas.List.Sorted.{list_any-IsPermutation}
-use Rattle.chess_rules.specs.declared.piece.Kind.{Kind}
-use Rattle.chess_rules.specs.declared.position.Move.{Move}
-use Rattle.chess_rules.specs.declared.position.Parts.{Parts}
-use Rattle.chess_rules.specs.Square.{Square, squares, same_square}
-use Rattle.chess_rules.specs.Step.{own}
-use Rattle.chess_rules.specs.Legal.{legal, is_legal}
-use Rattle.chess_rules.specs.Candidate.{sees, is_candidate, candidates}
-use Rattle.chess_rules.specs.Laws.{CandidatesComplete}
-use Rattle.chess_text.specs.San.{from_square, is_rival, rivals, on_file, on_rank, disambiguation_by, disambiguation}
+use Rattle.chess_text.proofs.Words.{◌≡◌, ℕ, ◌+◌, ◌<◌, ◌≤◌, Bool, true, false, cond, not, ◌&&◌, ◌||◌, List, [], ◌∷◌, length, take, get_or, refl, sym, ◌∙◌, ap, ap₂, ◌==◌, Option, None, Some, is_some, list_any, IsPermutation, false≢true, and_parts, take_all, list_any_more, list_any-IsPermutation, Kind, Move, Parts, Square, squares, same_square, own, legal, is_legal, sees, is_candidate, candidates, CandidatesComplete, from_square, is_rival, rivals, on_file, on_rank, disambiguation_by, disambiguation}
+use Rattle.std.specs.Prelude.{filter}
 
 any-cond : {Y : Type 0} (test : Y → Bool) (b : Bool) (y : Y) (ys : List Y) → list_any test (cond b (y ∷ ys) ys) ≡ ((b && test y) || list_any test ys)
 any-cond test true y ys = refl

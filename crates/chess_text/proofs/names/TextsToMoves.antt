@@ -1,25 +1,5 @@
 -- What the texts of legal moves name.
-use Rattle.std.proofs.Common.{◌≡◌, ◌≢◌, ℕ, zero, suc, ◌+◌, ◌<◌, Bool, true, false, not, ◌&&◌, List, [], ◌∷◌, ◌++◌, append-nil, get_or, refl, sym, ◌∙◌, ap, subst, arith}
-use Rattle.std.specs.Prelude.{◌==◌, nat_lt, Option, None, Some, slice_index_or}
-use Rattle.std.specs.List.{list_any, Any}
-use Rattle.std.proofs.lemmas.Bool.{false≢true, and_parts, and_from, ltb-true}
-use Rattle.std.proofs.lemmas.List.Folds.{Any-from_list_any}
-use Rattle.chess_rules.specs.declared.piece.Kind.{Kind}
-use Rattle.chess_rules.specs.declared.piece.Kind.TheVariants.{King, Queen, Rook, Bishop, Knight, Pawn}
-use Rattle.chess_rules.specs.declared.position.Move.{Move}
-use Rattle.chess_rules.specs.declared.position.Parts.{Parts}
-use Rattle.chess_rules.specs.Square.{Square, squares, on_board, same_square}
-use Rattle.chess_rules.specs.Board.{same_kind}
-use Rattle.chess_rules.specs.Step.{own}
-use Rattle.chess_rules.specs.Legal.{legal, is_legal}
-use Rattle.chess_rules.specs.Laws.{OneKing}
-use Rattle.chess_text.specs.declared.form.Form.{Form}
-use Rattle.chess_text.specs.declared.form.Form.TheVariants.{Man}
-use Rattle.chess_text.specs.Letter.{letter, file_letter, rank_digit, square_text}
-use Rattle.chess_text.specs.Form.{Spells, is_form, below_eight, hint_text}
-use Rattle.chess_text.specs.MoveOfForm.{hints_fit, agrees, describes}
-use Rattle.chess_text.specs.San.{is_capture, capture_text, from_square, is_rival, rivals, on_file, on_rank, disambiguation_by, has_rivals, mark, san}
-use Rattle.chess_text.specs.Laws.{Names, SingleReading, disambiguations, text_with, ShorterIsAmbiguous}
+use Rattle.chess_text.proofs.Words.{◌≡◌, ◌≢◌, ℕ, zero, suc, ◌+◌, ◌<◌, Bool, true, false, not, ◌&&◌, List, [], ◌∷◌, ◌++◌, append-nil, get_or, refl, sym, ◌∙◌, ap, subst, arith, ◌==◌, nat_lt, Option, None, Some, slice_index_or, list_any, Any, false≢true, and_parts, and_from, ltb-true, Any-from_list_any, Kind, King, Queen, Rook, Bishop, Knight, Pawn, Move, Parts, Square, squares, on_board, same_square, same_kind, own, legal, is_legal, OneKing, Form, Man, letter, file_letter, rank_digit, square_text, Spells, is_form, below_eight, hint_text, hints_fit, agrees, describes, is_capture, capture_text, from_square, is_rival, rivals, on_file, on_rank, disambiguation_by, has_rivals, mark, san, Names, SingleReading, disambiguations, text_with, ShorterIsAmbiguous}
 use Rattle.chess_text.proofs.forms.CastlingMoves.{stepped}
 use Rattle.chess_text.proofs.forms.SpellingToForm.{form_read}
 use Rattle.chess_text.proofs.forms.PieceForms.{same_square-refl}

@@ -1,26 +1,6 @@
 -- The form that the text of a legal move spells.
-use Rattle.std.proofs.Common.{◌≡◌, ℕ, inl, inr, Bool, true, false, not, ◌&&◌, ◌||◌, List, [], ◌∷◌, ◌++◌, append-nil, refl, sym, ◌∙◌, ap, ap₂, subst}
-use Rattle.std.specs.Prelude.{◌==◌, nat_lt, Option, None, Some, is_none, codes, if◌then◌else◌}
-use Rattle.std.specs.List.{list_all, list_any}
-use Rattle.std.proofs.lemmas.Bool.{false≢true, and_parts, and_from, or_cases, eq-eqb}
-use Rattle.chess_rules.specs.declared.piece.Kind.{Kind}
-use Rattle.chess_rules.specs.declared.piece.Kind.TheVariants.{King, Queen, Rook, Bishop, Knight, Pawn}
-use Rattle.chess_rules.specs.declared.piece.Piece.{Piece}
-use Rattle.chess_rules.specs.declared.piece.Promotion.{Promotion}
+use Rattle.chess_text.proofs.Words.{◌≡◌, ℕ, inl, inr, Bool, true, false, not, ◌&&◌, ◌||◌, List, [], ◌∷◌, ◌++◌, append-nil, refl, sym, ◌∙◌, ap, ap₂, subst, ◌==◌, nat_lt, Option, None, Some, is_none, codes, if◌then◌else◌, list_all, list_any, false≢true, and_parts, and_from, or_cases, eq-eqb, Kind, King, Queen, Rook, Bishop, Knight, Pawn, Piece, Promotion, Move, Parts, Square, on_board, same_square, at, has_colour, same_kind, attacks, own, is_piece_step, is_pawn_step, is_pawn_way, is_en_passant, promotion_fits, castles_short, castles_long, short_right, long_right, short_wing, long_wing, legal, is_legal, is_check, is_mate, Form, Castle, Man, letter, file_letter, rank_digit, square_text, SpellsBare, Spells, is_among, letter_texts, hint_text, capture_texts, promotion_texts, is_mark, below_eight, is_form, hints_fit, same_promotion, is_castling, describes, agrees, is_capture, capture_if, capture_text, pawn_capture, promotion_text, castling_text, king_text, disambiguated_text, kind_text, piece_text, mark, san, disambiguation_by, rivals, on_file, on_rank, has_rivals}
 use Rattle.chess_rules.specs.declared.piece.Promotion.TheVariants as become
-use Rattle.chess_rules.specs.declared.position.Move.{Move}
-use Rattle.chess_rules.specs.declared.position.Parts.{Parts}
-use Rattle.chess_rules.specs.Square.{Square, on_board, same_square}
-use Rattle.chess_rules.specs.Board.{at, has_colour, same_kind}
-use Rattle.chess_rules.specs.Attacks.{attacks}
-use Rattle.chess_rules.specs.Step.{own, is_piece_step, is_pawn_step, is_pawn_way, is_en_passant, promotion_fits, castles_short, castles_long, short_right, long_right, short_wing, long_wing}
-use Rattle.chess_rules.specs.Legal.{legal, is_legal, is_check, is_mate}
-use Rattle.chess_text.specs.declared.form.Form.{Form}
-use Rattle.chess_text.specs.declared.form.Form.TheVariants.{Castle, Man}
-use Rattle.chess_text.specs.Letter.{letter, file_letter, rank_digit, square_text}
-use Rattle.chess_text.specs.Form.{SpellsBare, Spells, is_among, letter_texts, hint_text, capture_texts, promotion_texts, is_mark, below_eight, is_form}
-use Rattle.chess_text.specs.MoveOfForm.{hints_fit, same_promotion, is_castling, describes, agrees}
-use Rattle.chess_text.specs.San.{is_capture, capture_if, capture_text, pawn_capture, promotion_text, castling_text, king_text, disambiguated_text, kind_text, piece_text, mark, san, disambiguation_by, rivals, on_file, on_rank, has_rivals}
 use Rattle.chess_text.proofs.forms.CastlingMoves.{stepped, castling_goes_far}
 use Rattle.chess_text.proofs.forms.CastlingForms.{castles_ends}
 use Rattle.chess_text.proofs.forms.PieceForms.{same_square-refl, same_promotion-refl}

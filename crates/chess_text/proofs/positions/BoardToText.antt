@@ -1,8 +1,6 @@
 -- The canonical text of a board, rank by rank.
-use Rattle.std.proofs.Common.{◌≡◌, ℕ, zero, suc, ◌+◌, ◌-◌, ◌*◌, ◌<◌, ◌≤◌, List, [], ◌∷◌, ◌++◌, length, append_assoc, append-nil, sym, ◌∙◌, ap, arith, length-append}
-use Rattle.chess_rules.specs.Board.{Board}
+use Rattle.chess_text.proofs.Words.{◌≡◌, ℕ, zero, suc, ◌+◌, ◌-◌, ◌*◌, ◌<◌, ◌≤◌, List, [], ◌∷◌, ◌++◌, length, append_assoc, append-nil, sym, ◌∙◌, ap, arith, length-append, Board, rank_text, row, placement_text}
 use Rattle.chess_text.proofs.positions.RankToText.{length-rank_text}
-use Rattle.chess_text.specs.Placement.{rank_text, row, placement_text}
 
 -- the n lowest ranks from the upper one on, each after a slash
 abbrev pub lower : Board → ℕ → List ℕ

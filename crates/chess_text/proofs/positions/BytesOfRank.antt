@@ -1,16 +1,6 @@
 -- What the bytes of a rank stand for.
-use Rattle.std.proofs.Common.{◌≡◌, ℕ, ◌+◌, ◌-◌, ◌<◌, ◌≤◌, Bool, true, false, ◌&&◌, ◌==◌, nat_le, List, [], ◌∷◌, ◌++◌, length, get_or, take, drop, replicate, refl, sym, ◌∙◌, ap, arith, length-append}
-use Rattle.std.specs.Prelude.{Option, None, Some, Result, Ok, Err, is_ok, if◌then◌else◌}
+use Rattle.chess_text.proofs.Words.{◌≡◌, ℕ, ◌+◌, ◌-◌, ◌<◌, ◌≤◌, Bool, true, false, ◌&&◌, ◌==◌, nat_le, List, [], ◌∷◌, ◌++◌, length, get_or, take, drop, replicate, refl, sym, ◌∙◌, ap, arith, length-append, Option, None, Some, Result, Ok, Err, is_ok, if◌then◌else◌, OnOk, false≢true, nat_tests, list_all, take-replicate, take-append-drop, take_more, flat_map-append, list_all_at, Piece, is_run, is_item, cells_at, cells_of, is_rank}
 use Rattle.std.specs.Bool.{OnTrue}
-use Rattle.std.specs.Result.{OnOk}
-use Rattle.std.proofs.lemmas.Bool.{false≢true}
-use Rattle.std.proofs.lemmas.Bool.Decides.{nat_tests}
-use Rattle.std.specs.List.{list_all}
-use Rattle.std.proofs.lemmas.List.{take-replicate, take-append-drop, take_more}
-use Rattle.std.proofs.lemmas.List.Concat.{flat_map-append}
-use Rattle.std.proofs.lemmas.List.Folds.{list_all_at}
-use Rattle.chess_rules.specs.declared.piece.Piece.{Piece}
-use Rattle.chess_text.specs.Placement.{is_run, is_item, cells_at, cells_of, is_rank}
 
 pub on_true_from_ok : {T E P Q : Type 0} (r : Result T E) (b : Bool) → b ≡ is_ok r → OnOk r P → (P → Q) → OnTrue b Q
 on_true_from_ok (Ok x) b e p f = rw e (f p)

@@ -1,29 +1,5 @@
 -- The canonical text of a position spells it.
-use Rattle.std.proofs.Common.{◌≡◌, ℕ, zero, suc, ◌+◌, ◌-◌, ◌*◌, ◌^◌, ◌<◌, ◌≤◌, ◌==◌, nat_le, Bool, true, false, not, ◌&&◌, List, [], ◌∷◌, ◌++◌, length, get_or, drop, reverse, replicate, drop-cons, add-one, append_assoc, append-nil, refl, sym, ◌∙◌, ap, ap₂, arith, rules}
-use Rattle.std.specs.Prelude.{None, Some, decimal, flat_map, map, fold, is_none, if◌then◌else◌}
-use Rattle.std.specs.List.{list_all}
-use Rattle.std.proofs.lemmas.Bool.{false≢true, eqb-true}
-use Rattle.std.proofs.lemmas.Bool.Decides.{nat_tests}
-use Rattle.std.proofs.lemmas.List.{replicate_more, drop_all}
-use Rattle.std.proofs.lemmas.List.Concat.{flat_map-append}
-use Rattle.std.proofs.lemmas.List.Folds.{list_all-append}
-use Rattle.std.proofs.lemmas.Fmt.{decimal_nonempty, digits_decimal, digits_value-decimal}
-use Rattle.std.proofs.lemmas.Str.Parse.{IsNumeralModel, numerals_by_fold}
-use Rattle.chess_rules.specs.declared.piece.Colour.TheVariants.{White, Black}
-use Rattle.chess_rules.specs.declared.piece.Kind.{Kind}
-use Rattle.chess_rules.specs.declared.piece.Kind.TheVariants.{King, Queen, Rook, Bishop, Knight, Pawn}
-use Rattle.chess_rules.specs.declared.piece.Colour.{Colour}
-use Rattle.chess_rules.specs.declared.piece.Piece.{Piece}
-use Rattle.chess_rules.specs.declared.position.Parts.{Parts}
-use Rattle.chess_rules.specs.declared.position.PositionFault.TheVariants.{Kings, PawnOnEdge, KingCapturable, TargetRank, NumberRange}
-use Rattle.chess_rules.specs.Square.{lines}
-use Rattle.chess_rules.specs.Board.{Board, other}
-use Rattle.chess_rules.specs.Attacks.{king_attacked}
-use Rattle.chess_rules.specs.Position.{is_position, one_king, pawn_on_edge, target_fits}
-use Rattle.chess_text.specs.Letter.{piece_letter}
-use Rattle.chess_text.specs.Placement.{is_run, is_item, is_rank, cells_at, cells_of, run_text, rank_text, row, placement_text}
-use Rattle.chess_text.specs.Field.{is_digit, value}
-use Rattle.chess_text.specs.Fen.{SpellsBoard, SpellsNumber, Fen, fen_text}
+use Rattle.chess_text.proofs.Words.{◌≡◌, ℕ, zero, suc, ◌+◌, ◌-◌, ◌*◌, ◌^◌, ◌<◌, ◌≤◌, ◌==◌, nat_le, Bool, true, false, not, ◌&&◌, List, [], ◌∷◌, ◌++◌, length, get_or, drop, reverse, replicate, drop-cons, add-one, append_assoc, append-nil, refl, sym, ◌∙◌, ap, ap₂, arith, rules, None, Some, decimal, flat_map, map, fold, is_none, if◌then◌else◌, list_all, false≢true, eqb-true, nat_tests, replicate_more, drop_all, flat_map-append, list_all-append, decimal_nonempty, digits_decimal, digits_value-decimal, IsNumeralModel, numerals_by_fold, White, Black, Kind, King, Queen, Rook, Bishop, Knight, Pawn, Colour, Piece, Parts, Kings, PawnOnEdge, KingCapturable, TargetRank, NumberRange, lines, Board, other, king_attacked, is_position, one_king, pawn_on_edge, target_fits, piece_letter, is_run, is_item, is_rank, cells_at, cells_of, run_text, rank_text, row, placement_text, is_digit, value, SpellsBoard, SpellsNumber, Fen, fen_text}
 use Rattle.chess_text.proofs.positions.SixFieldsJoined.{length-number}
 use Rattle.chess_text.proofs.positions.FieldsOfText.{first_of_two, second_of_two}
 

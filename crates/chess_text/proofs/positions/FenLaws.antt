@@ -1,21 +1,5 @@
 -- The laws of the definitions of texts.
-use Rattle.std.proofs.Common.{◌≡◌, ℕ, ◌+◌, ◌-◌, ◌==◌, nat_le, nat_lt, ◌&&◌, ◌||◌, Bool, true, false, List, [], ◌∷◌, refl, sym, ◌∙◌, ap, arith}
-use Rattle.std.proofs.lemmas.Bool.{false≢true, eqb-true}
-use Rattle.std.proofs.lemmas.Bool.Decides.{nat_tests}
-use Rattle.std.specs.Prelude.{Option, None, Some, Ok, Err, is_some, if◌then◌else◌}
-use Rattle.std.specs.List.{prefix_len}
-use Rattle.chess_rules.specs.declared.piece.Colour.{Colour}
-use Rattle.chess_rules.specs.declared.position.Rights.{Rights}
-use Rattle.chess_rules.specs.declared.position.Parts.{Parts}
-use Rattle.chess_rules.specs.declared.piece.Colour.TheVariants.{White, Black}
-use Rattle.chess_rules.specs.Square.{Square, square}
-use Rattle.chess_rules.specs.Board.{Board}
-use Rattle.chess_rules.specs.Position.{is_position, target_fits}
-use Rattle.chess_text.specs.declared.fen.FenFault.{FenFault}
-use Rattle.chess_text.specs.Placement.{placement_of}
-use Rattle.chess_text.specs.Field.{side_of, rights_of, target_of, is_target, number_of}
-use Rattle.chess_text.specs.Fen.{field, at_field, parts_or_fault, if_position}
-use Rattle.chess_text.specs.Laws.{ReadingIsSpelling, FenOnce, FaultIsLowest, CanonicalSpells, CanonicalFits, CanonicalIsShortest, FieldsAreSpellings}
+use Rattle.chess_text.proofs.Words.{◌≡◌, ℕ, ◌+◌, ◌-◌, ◌==◌, nat_le, nat_lt, ◌&&◌, ◌||◌, Bool, true, false, List, [], ◌∷◌, refl, sym, ◌∙◌, ap, arith, false≢true, eqb-true, nat_tests, Option, None, Some, Ok, Err, is_some, if◌then◌else◌, prefix_len, Colour, Rights, Parts, White, Black, Square, square, Board, is_position, target_fits, FenFault, placement_of, side_of, rights_of, target_of, is_target, number_of, field, at_field, parts_or_fault, if_position, ReadingIsSpelling, FenOnce, FaultIsLowest, CanonicalSpells, CanonicalFits, CanonicalIsShortest, FieldsAreSpellings}
 use Rattle.chess_text.proofs.positions.SixFieldsJoined.{length-fen_text}
 use Rattle.chess_text.proofs.positions.SpellingToReading.{spelled_is_read, board_read, side_read, rights_read, target_read, number_read}
 use Rattle.chess_text.proofs.positions.ReadingToSpelling.{read_is_spelled, board_spelled, side_spelled, rights_spelled, target_spelled, number_spelled, same_some}

@@ -1,12 +1,5 @@
 -- The canonical text of a rank, square by square.
-use Rattle.std.proofs.Common.{◌≡◌, ℕ, zero, suc, ◌+◌, ◌<◌, ◌≤◌, ◌==◌, false, List, [], ◌∷◌, ◌++◌, length, get_or, drop, drop-cons, add-one, refl, sym, ◌∙◌, ap, arith, append_assoc, length-append}
-use Rattle.std.specs.Prelude.{None, Some}
-use Rattle.std.proofs.lemmas.Bool.Decides.{nat_tests}
-use Rattle.std.proofs.lemmas.List.{drop_all}
-use Rattle.chess_rules.specs.declared.piece.Piece.{Piece}
-use Rattle.chess_rules.specs.Board.{Board}
-use Rattle.chess_text.specs.Letter.{piece_letter}
-use Rattle.chess_text.specs.Placement.{run_text, rank_text}
+use Rattle.chess_text.proofs.Words.{◌≡◌, ℕ, zero, suc, ◌+◌, ◌<◌, ◌≤◌, ◌==◌, false, List, [], ◌∷◌, ◌++◌, length, get_or, drop, drop-cons, add-one, refl, sym, ◌∙◌, ap, arith, append_assoc, length-append, None, Some, nat_tests, drop_all, Piece, Board, piece_letter, run_text, rank_text}
 
 next : (n i : ℕ) (cells : Board) → i < length cells → rank_text n (drop i cells) ≡ rank_text n (get_or cells i None ∷ drop (i + 1) cells)
 next n i cells h =

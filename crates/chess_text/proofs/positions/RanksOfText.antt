@@ -1,10 +1,5 @@
 -- What stands between the slashes of a text.
-use Rattle.std.proofs.Common.{◌≡◌, ℕ, zero, suc, ◌-◌, ◌<◌, ◌≤◌, Bool, true, false, List, [], ◌∷◌, ◌++◌, length, get_or, take, drop, drop-cons, refl, sym, ◌∙◌, ap, arith}
-use Rattle.std.specs.List.{slice_split, onto_first}
-use Rattle.std.proofs.lemmas.List.{take-append-drop}
-use Rattle.std.proofs.lemmas.List.Splits.{slice_split-cons_yes, slice_split-cons_no, length-slice_split}
-use Rattle.chess_text.specs.Placement.{ranks, is_slash}
-use Rattle.chess_text.specs.Ranks.{ranks_before}
+use Rattle.chess_text.proofs.Words.{◌≡◌, ℕ, zero, suc, ◌-◌, ◌<◌, ◌≤◌, Bool, true, false, List, [], ◌∷◌, ◌++◌, length, get_or, take, drop, drop-cons, refl, sym, ◌∙◌, ap, arith, slice_split, onto_first, take-append-drop, slice_split-cons_yes, slice_split-cons_no, length-slice_split, ranks, is_slash, ranks_before}
 
 onto_first-append : {X : Type 0} (x : X) (a b : List (List X)) → 0 < length a → onto_first x (a ++ b) ≡ onto_first x a ++ b
 onto_first-append x [] b h = absurd (omega (arith, h))

@@ -1,24 +1,5 @@
 -- What is read of a text is spelled by it.
-use Rattle.std.proofs.Common.{◌≡◌, ℕ, ◌+◌, ◌-◌, ◌<◌, ◌≤◌, ◌==◌, nat_le, Bool, true, false, ◌&&◌, ◌||◌, List, [], ◌∷◌, ◌++◌, length, get_or, refl, sym, ◌∙◌, ap, ap₂, arith, length-drop}
-use Rattle.std.specs.Prelude.{Option, None, Some, Result, Ok, Err, bytes_eq, codes, flat_map, reverse, if◌then◌else◌}
-use Rattle.std.specs.List.{list_all, before_first, after_first, position_or_len}
-use Rattle.std.proofs.lemmas.Bool.{false≢true, eqb-true}
-use Rattle.std.proofs.lemmas.Bool.Decides.{nat_tests}
-use Rattle.std.proofs.lemmas.List.{length-take}
-use Rattle.std.proofs.lemmas.List.Splits.{join_with_byte-slice_split}
-use Rattle.std.proofs.lemmas.List.Sums.{split_at_first, passes_at_first}
-use Rattle.std.proofs.lemmas.Slice.Eq.{bytes_eq-Decides}
-use Rattle.chess_rules.specs.declared.piece.Colour.{Colour}
-use Rattle.chess_rules.specs.declared.piece.Colour.TheVariants.{White, Black}
-use Rattle.chess_rules.specs.declared.position.Rights.{Rights}
-use Rattle.chess_rules.specs.declared.position.Parts.{Parts}
-use Rattle.chess_rules.specs.Square.{Square, square}
-use Rattle.chess_rules.specs.Board.{Board}
-use Rattle.chess_rules.specs.Position.{is_position}
-use Rattle.chess_text.specs.declared.fen.FenFault.{FenFault}
-use Rattle.chess_text.specs.Placement.{ranks, is_rank, is_placement, placement_of, cells_of}
-use Rattle.chess_text.specs.Field.{side_text, side_of, right_letter, or_dash, rights_text, rights_named, rights_of, target_text, target_of, is_target, is_number, is_digit, number_of, value}
-use Rattle.chess_text.specs.Fen.{SpellsBoard, SpellsNumber, Fen, is_space, rest, field, at_field, parts_or_fault, parts_read, if_position, read}
+use Rattle.chess_text.proofs.Words.{◌≡◌, ℕ, ◌+◌, ◌-◌, ◌<◌, ◌≤◌, ◌==◌, nat_le, Bool, true, false, ◌&&◌, ◌||◌, List, [], ◌∷◌, ◌++◌, length, get_or, refl, sym, ◌∙◌, ap, ap₂, arith, length-drop, Option, None, Some, Result, Ok, Err, bytes_eq, codes, flat_map, reverse, if◌then◌else◌, list_all, before_first, after_first, position_or_len, false≢true, eqb-true, nat_tests, length-take, join_with_byte-slice_split, split_at_first, passes_at_first, bytes_eq-Decides, Colour, White, Black, Rights, Parts, Square, square, Board, is_position, FenFault, ranks, is_rank, is_placement, placement_of, cells_of, side_text, side_of, right_letter, or_dash, rights_text, rights_named, rights_of, target_text, target_of, is_target, is_number, is_digit, number_of, value, SpellsBoard, SpellsNumber, Fen, is_space, rest, field, at_field, parts_or_fault, parts_read, if_position, read}
 use Rattle.chess_text.proofs.positions.FieldsOfText.{first_of_two, second_of_two}
 
 pub same_some : {A : Type 0} (x y : A) → Some x ≡ Some y → x ≡ y

@@ -1,16 +1,5 @@
 -- The six fields of the canonical text, one after another, and how long they are.
-use Rattle.std.proofs.Common.{◌≡◌, ℕ, ◌≤◌, Bool, true, false, List, [], ◌∷◌, ◌++◌, length, append_assoc, refl, ◌∙◌, ap, arith, length-append}
-use Rattle.std.specs.Prelude.{Option, None, Some, decimal}
-use Rattle.std.specs.List.{join_with_byte}
-use Rattle.std.proofs.lemmas.Fmt.{length-decimal-le}
-use Rattle.chess_rules.specs.declared.piece.Colour.{Colour}
-use Rattle.chess_rules.specs.declared.piece.Colour.TheVariants.{White, Black}
-use Rattle.chess_rules.specs.declared.position.Rights.{Rights}
-use Rattle.chess_rules.specs.declared.position.Parts.{Parts}
-use Rattle.chess_rules.specs.Square.{Square}
-use Rattle.chess_text.specs.Placement.{placement_text}
-use Rattle.chess_text.specs.Field.{side_text, rights_text, or_dash, right_letter, target_text}
-use Rattle.chess_text.specs.Fen.{fen_text}
+use Rattle.chess_text.proofs.Words.{◌≡◌, ℕ, ◌≤◌, Bool, true, false, List, [], ◌∷◌, ◌++◌, length, append_assoc, refl, ◌∙◌, ap, arith, length-append, Option, None, Some, decimal, join_with_byte, length-decimal-le, Colour, White, Black, Rights, Parts, Square, placement_text, side_text, rights_text, or_dash, right_letter, target_text, fen_text}
 use Rattle.chess_text.proofs.positions.BoardToText.{length-placement_text}
 
 length-side_text : (c : Colour) → length (side_text c) ≡ 1

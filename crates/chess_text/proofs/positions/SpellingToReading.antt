@@ -1,23 +1,5 @@
 -- A text that spells a position is read as that position.
-use Rattle.std.proofs.Common.{◌≡◌, ℕ, ◌+◌, ◌-◌, ◌<◌, ◌==◌, nat_le, nat_lt, Bool, true, false, not, ◌&&◌, ◌||◌, List, [], ◌∷◌, ◌++◌, length, refl, sym, ◌∙◌, ap, ap₂, arith}
-use Rattle.std.specs.Prelude.{Option, None, Some, Ok, is_none, if◌then◌else◌}
-use Rattle.std.specs.List.{list_all, join_with_byte}
-use Rattle.std.proofs.lemmas.Bool.{false≢true, eqb-true}
-use Rattle.std.proofs.lemmas.Bool.Decides.{nat_tests}
-use Rattle.std.proofs.lemmas.List.Folds.{list_all-append}
-use Rattle.std.proofs.lemmas.List.Splits.{slice_split-cons_no}
-use Rattle.chess_rules.specs.declared.piece.Colour.{Colour}
-use Rattle.chess_rules.specs.declared.piece.Colour.TheVariants.{White, Black}
-use Rattle.chess_rules.specs.declared.position.Rights.{Rights}
-use Rattle.chess_rules.specs.declared.position.Parts.{Parts}
-use Rattle.chess_rules.specs.declared.position.PositionFault.TheVariants.{Kings, PawnOnEdge, KingCapturable, TargetRank, NumberRange}
-use Rattle.chess_rules.specs.Square.{Square, square, on_board}
-use Rattle.chess_rules.specs.Board.{Board, other}
-use Rattle.chess_rules.specs.Attacks.{king_attacked}
-use Rattle.chess_rules.specs.Position.{is_position, one_king, pawn_on_edge, target_fits, target_rank}
-use Rattle.chess_text.specs.Placement.{ranks, is_slash, is_item, is_rank, is_placement, placement_of, cells_of}
-use Rattle.chess_text.specs.Field.{side_text, side_of, rights_text, rights_of, target_text, target_of, is_target, is_digit, is_number, number_of}
-use Rattle.chess_text.specs.Fen.{SpellsBoard, SpellsNumber, Fen, is_space, field, parts_or_fault, read}
+use Rattle.chess_text.proofs.Words.{◌≡◌, ℕ, ◌+◌, ◌-◌, ◌<◌, ◌==◌, nat_le, nat_lt, Bool, true, false, not, ◌&&◌, ◌||◌, List, [], ◌∷◌, ◌++◌, length, refl, sym, ◌∙◌, ap, ap₂, arith, Option, None, Some, Ok, is_none, if◌then◌else◌, list_all, join_with_byte, false≢true, eqb-true, nat_tests, list_all-append, slice_split-cons_no, Colour, White, Black, Rights, Parts, Kings, PawnOnEdge, KingCapturable, TargetRank, NumberRange, Square, square, on_board, Board, other, king_attacked, is_position, one_king, pawn_on_edge, target_fits, target_rank, ranks, is_slash, is_item, is_rank, is_placement, placement_of, cells_of, side_text, side_of, rights_text, rights_of, target_text, target_of, is_target, is_digit, is_number, number_of, SpellsBoard, SpellsNumber, Fen, is_space, field, parts_or_fault, read}
 use Rattle.chess_text.proofs.positions.RanksOfText.{slice_split-around}
 use Rattle.chess_text.proofs.positions.FieldsOfText.{lacks, first_of_two, second_of_two, SixFields, six_fields}
 

@@ -1,15 +1,5 @@
 -- The board that a text spells, rank by rank from its last one.
-use Rattle.std.proofs.Common.{◌≡◌, ℕ, zero, suc, ◌+◌, ◌-◌, ◌*◌, ◌<◌, ◌≤◌, ◌==◌, Bool, true, false, ◌&&◌, List, [], ◌∷◌, ◌++◌, length, take, drop, reverse, inl, inr, refl, sym, ◌∙◌, ap, arith, append_assoc, length-append}
-use Rattle.std.specs.Prelude.{None, Some, Result, Ok, Err, is_ok, is_err, flat_map, if◌then◌else◌}
-use Rattle.std.specs.List.{list_all}
-use Rattle.std.proofs.lemmas.Bool.Decides.{nat_tests}
-use Rattle.std.specs.Result.{OnOk}
-use Rattle.std.proofs.lemmas.Bool.{false≢true, cases_lt}
-use Rattle.std.proofs.lemmas.List.{take-take, length-take, take_rest, reverse-append}
-use Rattle.std.proofs.lemmas.List.Folds.{list_all-append}
-use Rattle.chess_rules.specs.Board.{Board}
-use Rattle.chess_text.specs.Placement.{ranks, is_item, is_rank, is_placement, cells_of, placement_of}
-use Rattle.chess_text.specs.Ranks.{ranks_before}
+use Rattle.chess_text.proofs.Words.{◌≡◌, ℕ, zero, suc, ◌+◌, ◌-◌, ◌*◌, ◌<◌, ◌≤◌, ◌==◌, Bool, true, false, ◌&&◌, List, [], ◌∷◌, ◌++◌, length, take, drop, reverse, inl, inr, refl, sym, ◌∙◌, ap, arith, append_assoc, length-append, None, Some, Result, Ok, Err, is_ok, is_err, flat_map, if◌then◌else◌, list_all, nat_tests, OnOk, false≢true, cases_lt, take-take, length-take, take_rest, reverse-append, list_all-append, Board, ranks, is_item, is_rank, is_placement, cells_of, placement_of, ranks_before}
 
 -- the cells are those of the ranks that were read; those before are left
 pub record ReadSoFar (text : List ℕ) (left : ℕ) (cells : Board) : Type 0 where

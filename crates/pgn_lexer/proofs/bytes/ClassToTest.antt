@@ -1,16 +1,7 @@
 -- What a class says of a byte, and what a test says of its class.
-use Rattle.std.proofs.Common.{◌≡◌, ℕ, ◌<◌, Bool, true, false, inl, inr, refl, sym, subst, ◌∙◌, arith}
-use Rattle.std.specs.Prelude.{◌||◌, ◌&&◌, ◌⊎◌, not, nat_le, ◌==◌, if◌then◌else◌}
-use Rattle.std.proofs.lemmas.Bool.{eqb-true, leb-true, false≢true, agree_below_at}
-use Rattle.pgn_lexer.specs.declared.token.LexReason.TheVariants.{StrayByte, ControlByte, Reserved}
+use Rattle.pgn_lexer.proofs.Words.{◌≡◌, ℕ, ◌<◌, Bool, true, false, inl, inr, refl, sym, subst, ◌∙◌, arith, ◌||◌, ◌&&◌, ◌⊎◌, not, nat_le, ◌==◌, if◌then◌else◌, eqb-true, leb-true, false≢true, agree_below_at, StrayByte, ControlByte, Reserved, Class, LineEnd, Space, Percent, SymbolStart, Quote, Dollar, Suffix, OpenBrace, Semicolon, Alone, Refused, CommentClass, is_line_end, is_blank, is_control, starts_symbol, is_suffix, continues_word, class, comment_class, is_stray}
 use Rattle.pgn_lexer.specs.declared.class.Single.TheVariants as singles
-use Rattle.pgn_lexer.specs.declared.class.Class.{Class}
-use Rattle.pgn_lexer.specs.declared.class.Class.TheVariants.{LineEnd, Space, Percent, SymbolStart, Quote, Dollar, Suffix, OpenBrace, Semicolon, Alone, Refused}
-use Rattle.pgn_lexer.specs.declared.class.CommentClass.{CommentClass}
 use Rattle.pgn_lexer.specs.declared.class.CommentClass.TheVariants as comments
-use Rattle.pgn_lexer.specs.Bytes.{is_line_end, is_blank, is_control, starts_symbol, is_suffix, continues_word}
-use Rattle.pgn_lexer.specs.Spelling.{class, comment_class}
-use Rattle.pgn_lexer.specs.Lexes.{is_stray}
 
 -- a test of two that holds, or of one and another
 pub either : (a b : Bool) → (a || b) ≡ true → (a ≡ true) ⊎ (b ≡ true)

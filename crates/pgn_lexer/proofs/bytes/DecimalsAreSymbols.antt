@@ -1,15 +1,6 @@
 -- Numbers in decimal.
-use Rattle.std.proofs.Common.{◌≡◌, ℕ, ◌+◌, ◌-◌, ◌*◌, ◌/◌, ◌%◌, ◌^◌, ◌<◌, ◌≤◌, Bool, true, false, List, [], ◌∷◌, ◌++◌, length, refl, ap, ◌∙◌, arith, length-append}
-use Rattle.std.specs.Prelude.{◌||◌, decimal}
-use Rattle.std.specs.Cmp.Derive.{both_true}
-use Rattle.std.specs.List.{list_all}
-use Rattle.std.proofs.lemmas.Bool.{le-leb}
+use Rattle.pgn_lexer.proofs.Words.{◌≡◌, ℕ, ◌+◌, ◌-◌, ◌*◌, ◌/◌, ◌%◌, ◌^◌, ◌<◌, ◌≤◌, Bool, true, false, List, [], ◌∷◌, ◌++◌, length, refl, ap, ◌∙◌, arith, length-append, ◌||◌, decimal, both_true, list_all, le-leb, fold-append, is_letter, is_digit, starts_symbol, continues_symbol, NumbersAreSymbols, IsSymbol, number_of}
 use Rattle.std.proofs.lemmas.Fmt.{decimal_by_steps, length-decimal-le}
-use Rattle.std.proofs.lemmas.List.Sums.{fold-append}
-use Rattle.pgn_lexer.specs.Bytes.{is_letter, is_digit, starts_symbol, continues_symbol}
-use Rattle.pgn_lexer.specs.Laws.{NumbersAreSymbols}
-use Rattle.pgn_lexer.specs.Sound.{IsSymbol}
-use Rattle.pgn_lexer.specs.Spelling.{number_of}
 use Rattle.pgn_lexer.proofs.bytes.ClassToTest.{both}
 use Rattle.pgn_lexer.proofs.cutting.TokensAreSound.{start_continues}
 

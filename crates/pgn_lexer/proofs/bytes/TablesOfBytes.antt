@@ -1,14 +1,7 @@
 -- The tables of bytes hold what is said of each byte.
-use Rattle.std.proofs.Common.{◌≡◌, ℕ, zero, suc, ◌+◌, ◌<◌, Bool, false, List, [], ◌∷◌, ap, ◌∙◌, arith, get_or}
-use Rattle.std.specs.Prelude.{map}
-use Rattle.pgn_lexer.specs.declared.class.Class.{Class}
-use Rattle.pgn_lexer.specs.declared.class.Class.TheVariants.{LineEnd}
-use Rattle.pgn_lexer.specs.declared.class.CommentClass.{CommentClass}
+use Rattle.pgn_lexer.proofs.Words.{◌≡◌, ℕ, zero, suc, ◌+◌, ◌<◌, Bool, false, List, [], ◌∷◌, ap, ◌∙◌, arith, get_or, map, Class, LineEnd, CommentClass, StringClass, continues_symbol, class, comment_class, string_class}
 use Rattle.pgn_lexer.specs.declared.class.CommentClass.TheVariants as comments
-use Rattle.pgn_lexer.specs.declared.class.StringClass.{StringClass}
 use Rattle.pgn_lexer.specs.declared.class.StringClass.TheVariants as strings
-use Rattle.pgn_lexer.specs.Bytes.{continues_symbol}
-use Rattle.pgn_lexer.specs.Spelling.{class, comment_class, string_class}
 
 -- n numbers from k on
 abbrev pub numbers : ℕ → ℕ → List ℕ

@@ -1,25 +1,10 @@
 -- Each text can be cut.
-use Rattle.std.proofs.Common.{◌≡◌, ℕ, zero, suc, ◌+◌, ◌<◌, ◌≤◌, Bool, true, false, inl, inr, List, [], ◌∷◌, ◌++◌, length, refl, sym, ap, subst, ◌∙◌, append_assoc, arith, length-append}
-use Rattle.std.specs.Prelude.{◌||◌, ◌&&◌, ◌⊎◌, not, nat_le, nat_lt, ◌==◌, if◌then◌else◌}
-use Rattle.std.specs.List.{list_all}
-use Rattle.std.specs.Cmp.Derive.{both_true}
-use Rattle.std.proofs.lemmas.Bool.{eqb-true, leb-true, leb-false, ltb-true, ltb-false, false≢true, agree_below_at}
-use Rattle.pgn_lexer.specs.declared.token.LexReason.{LexReason}
-use Rattle.pgn_lexer.specs.declared.token.LexReason.TheVariants.{StrayByte, ControlByte, Reserved}
+use Rattle.pgn_lexer.proofs.Words.{◌≡◌, ℕ, zero, suc, ◌+◌, ◌<◌, ◌≤◌, Bool, true, false, inl, inr, List, [], ◌∷◌, ◌++◌, length, refl, sym, ap, subst, ◌∙◌, append_assoc, arith, length-append, ◌||◌, ◌&&◌, ◌⊎◌, not, nat_le, nat_lt, ◌==◌, if◌then◌else◌, list_all, both_true, eqb-true, leb-true, leb-false, ltb-true, ltb-false, false≢true, agree_below_at, LexReason, StrayByte, ControlByte, Reserved, Class, CommentClass, StringClass, is_line_end, is_blank, is_control, is_digit, starts_symbol, continues_symbol, is_suffix, continues_word, Kind, Token, class, comment_class, string_class, number_of, tokens_from, tokens_of, has_mark, LexesOnce, StopsAt, IsAtLineEnd, IsRun, is_escaped, is_barred, is_plain, Data, IsSuffix, SpellsToken, Refuses, Where, Cuts, Lexes}
 use Rattle.pgn_lexer.specs.declared.class.Single.TheVariants as singles
-use Rattle.pgn_lexer.specs.declared.class.Class.{Class}
 use Rattle.pgn_lexer.specs.declared.class.Class.TheVariants as classes
-use Rattle.pgn_lexer.specs.declared.class.CommentClass.{CommentClass}
 use Rattle.pgn_lexer.specs.declared.class.CommentClass.TheVariants as comments
-use Rattle.pgn_lexer.specs.declared.class.StringClass.{StringClass}
 use Rattle.pgn_lexer.specs.declared.class.StringClass.TheVariants as strings
-use Rattle.pgn_lexer.specs.Bytes.{is_line_end, is_blank, is_control, is_digit, starts_symbol, continues_symbol, is_suffix, continues_word}
-use Rattle.pgn_lexer.specs.Tokens.{Kind, Token}
-use Rattle.pgn_lexer.specs.Spelling.{class, comment_class, string_class, number_of}
-use Rattle.pgn_lexer.specs.TokensOf.{tokens_from, tokens_of, has_mark}
-use Rattle.pgn_lexer.specs.Laws.{LexesOnce}
 use Rattle.pgn_lexer.specs.Lexes as rules
-use Rattle.pgn_lexer.specs.Lexes.{StopsAt, IsAtLineEnd, IsRun, is_escaped, is_barred, is_plain, Data, IsSuffix, SpellsToken, Refuses, Where, Cuts, Lexes}
 use Rattle.pgn_lexer.proofs.stepping.FirstBytes.{unmarked}
 use Rattle.pgn_lexer.proofs.bytes.ClassToTest.{either, both, ClassSays, class_says, blank_class, tells_control_in_comment}
 use Rattle.pgn_lexer.proofs.cutting.StringData.{StringSays, string_says}

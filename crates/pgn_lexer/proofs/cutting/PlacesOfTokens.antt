@@ -1,26 +1,11 @@
 -- Where tokens stand.
-use Rattle.std.proofs.Common.{◌≡◌, ℕ, ◌+◌, ◌<◌, ◌≤◌, inl, inr, Bool, true, false, cond, List, [], ◌∷◌, ◌++◌, length, refl, ap, ◌∙◌, arith}
-use Rattle.std.specs.Prelude.{take_while, nat_lt, drop, nat_le, ◌==◌, if◌then◌else◌}
-use Rattle.std.specs.List.{AllByRecursion}
-use Rattle.std.proofs.lemmas.Bool.{lt-ltb, le-ltb}
-use Rattle.pgn_lexer.specs.declared.class.Single.{Single}
+use Rattle.pgn_lexer.proofs.Words.{◌≡◌, ℕ, ◌+◌, ◌<◌, ◌≤◌, inl, inr, Bool, true, false, cond, List, [], ◌∷◌, ◌++◌, length, refl, ap, ◌∙◌, arith, take_while, nat_lt, drop, nat_le, ◌==◌, if◌then◌else◌, AllByRecursion, lt-ltb, le-ltb, Single, Class, CommentClass, StringClass, SymbolTooLong, StringTooLong, WordTooLong, GlyphRange, UnclosedString, ControlByte, LexReason, is_digit, continues_symbol, is_suffix, continues_word, Kind, Token, symbol, glyph, word, IsLast, RisesTo, TokensRise, kind_of_single, class, comment_class, string_class, Found, gives, stops, Reading, closed, broken, datum, reading, symbol_at, word_at, glyph_at, numbered_at, suffix_at, string_at, number_of, Within, begins_class, begins_first, begins_after, begins_word, begins_brace, begins_line, begins, next, onto, at_end, tokens_from, take_while-cons}
 use Rattle.pgn_lexer.specs.declared.class.Single.TheVariants as singles
-use Rattle.pgn_lexer.specs.declared.class.Class.{Class}
 use Rattle.pgn_lexer.specs.declared.class.Class.TheVariants as classes
-use Rattle.pgn_lexer.specs.declared.class.CommentClass.{CommentClass}
 use Rattle.pgn_lexer.specs.declared.class.CommentClass.TheVariants as comments
-use Rattle.pgn_lexer.specs.declared.class.StringClass.{StringClass}
 use Rattle.pgn_lexer.specs.declared.class.StringClass.TheVariants as strings
-use Rattle.pgn_lexer.specs.declared.token.LexReason.TheVariants.{SymbolTooLong, StringTooLong, WordTooLong, GlyphRange, UnclosedString, ControlByte}
-use Rattle.pgn_lexer.specs.declared.token.LexReason.{LexReason}
-use Rattle.pgn_lexer.specs.Bytes.{is_digit, continues_symbol, is_suffix, continues_word}
-use Rattle.pgn_lexer.specs.Tokens.{Kind, Token, symbol, glyph, word}
 use Rattle.pgn_lexer.specs.Spelling as spelling
-use Rattle.pgn_lexer.specs.Laws.{IsLast, RisesTo, TokensRise}
-use Rattle.pgn_lexer.specs.Spelling.{kind_of_single, class, comment_class, string_class, Found, gives, stops, Reading, closed, broken, datum, reading, symbol_at, word_at, glyph_at, numbered_at, suffix_at, string_at, number_of}
 use Rattle.pgn_lexer.specs.TokensOf as places
-use Rattle.pgn_lexer.specs.TokensOf.{Within, begins_class, begins_first, begins_after, begins_word, begins_brace, begins_line, begins, next, onto, at_end, tokens_from}
-use Rattle.std.proofs.lemmas.List.Sums.{take_while-cons}
 
 -- What begins at a place stands there or further on, and is a rejection or a token that is not the
 -- last.

@@ -1,16 +1,7 @@
 -- The data of a string, as they are written.
-use Rattle.std.proofs.Common.{◌≡◌, ℕ, ◌+◌, ◌<◌, ◌≤◌, Bool, true, false, List, [], ◌∷◌, ◌++◌, length, refl, sym, ap, subst, ◌∙◌, arith}
-use Rattle.std.specs.Prelude.{◌||◌, not, nat_lt, ◌==◌, if◌then◌else◌}
-use Rattle.std.proofs.lemmas.Bool.{eqb-true, false≢true, ltb-true, ltb-false, lt-ltb, le-ltb}
-use Rattle.pgn_lexer.specs.declared.token.LexReason.TheVariants.{ControlByte, StringTooLong, UnclosedString}
-use Rattle.pgn_lexer.specs.declared.class.StringClass.{StringClass}
+use Rattle.pgn_lexer.proofs.Words.{◌≡◌, ℕ, ◌+◌, ◌<◌, ◌≤◌, Bool, true, false, List, [], ◌∷◌, ◌++◌, length, refl, sym, ap, subst, ◌∙◌, arith, ◌||◌, not, nat_lt, ◌==◌, if◌then◌else◌, eqb-true, false≢true, ltb-true, ltb-false, lt-ltb, le-ltb, ControlByte, StringTooLong, UnclosedString, StringClass, is_line_end, string_class, Reading, closed, broken, datum, reading, after_quoted, tokens_from, with_front, StopsAt, IsAtLineEnd, is_escaped, is_barred, is_plain, Data, no_data, plain, escaped, lone}
 use Rattle.pgn_lexer.specs.declared.class.StringClass.TheVariants as strings
-use Rattle.pgn_lexer.specs.Bytes.{is_line_end}
-use Rattle.pgn_lexer.specs.Spelling.{string_class, Reading, closed, broken, datum, reading}
 use Rattle.pgn_lexer.specs.TokensOf as places
-use Rattle.pgn_lexer.specs.TokensOf.{after_quoted, tokens_from}
-use Rattle.pgn_lexer.specs.PartialToken.{with_front}
-use Rattle.pgn_lexer.specs.Lexes.{StopsAt, IsAtLineEnd, is_escaped, is_barred, is_plain, Data, no_data, plain, escaped, lone}
 use Rattle.pgn_lexer.proofs.stepping.ByteOutside.{with_front-nil}
 use Rattle.pgn_lexer.proofs.stepping.ByteInString.{read_plain, read_escaped}
 

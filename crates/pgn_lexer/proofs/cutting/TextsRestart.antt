@@ -1,27 +1,11 @@
 -- The tokens behind a symbol or an asterisk, and those behind white space.
-use Rattle.std.proofs.Common.{◌≡◌, ℕ, zero, suc, ◌+◌, Bool, true, false, cond, ◌&&◌, List, [], ◌∷◌, ◌++◌, length, refl, sym, ap, ◌∙◌, arith, append_assoc, subst, length-append}
-use Rattle.std.specs.Prelude.{take_while, drop, nat_le, replicate, None, ◌==◌, if◌then◌else◌}
-use Rattle.std.proofs.lemmas.List.{length-replicate}
-use Rattle.std.proofs.lemmas.List.Sums.{take_while-cons}
-use Rattle.pgn_lexer.specs.declared.class.Class.{Class}
+use Rattle.pgn_lexer.proofs.Words.{◌≡◌, ℕ, zero, suc, ◌+◌, Bool, true, false, cond, ◌&&◌, List, [], ◌∷◌, ◌++◌, length, refl, sym, ap, ◌∙◌, arith, append_assoc, subst, length-append, take_while, drop, nat_le, replicate, None, ◌==◌, if◌then◌else◌, length-replicate, take_while-cons, Class, Single, CommentClass, SymbolTooLong, is_digit, continues_symbol, is_suffix, continues_word, Kind, Token, EndsAt, symbol, glyph, LineStart, Outside, PartialToken, coming, StandsAfter, CanBeMarker, TextsRestart, class, comment_class, Found, gives, stops, closed, broken, Reading, kind_of_single, symbol_at, string_at, glyph_at, suffix_at, reading, number_of, Within, after_class, after_run, begins_class, begins_first, begins_after, begins_word, begins_brace, begins_line, begins, next, onto, at_end, tokens_from, tokens_of, has_mark}
 use Rattle.pgn_lexer.specs.declared.class.Class.TheVariants as classes
-use Rattle.pgn_lexer.specs.declared.class.Single.{Single}
 use Rattle.pgn_lexer.specs.declared.class.Single.TheVariants as singles
-use Rattle.pgn_lexer.specs.declared.class.CommentClass.{CommentClass}
 use Rattle.pgn_lexer.specs.declared.class.CommentClass.TheVariants as comments
-use Rattle.pgn_lexer.specs.declared.token.LexReason.TheVariants.{SymbolTooLong}
-use Rattle.pgn_lexer.specs.Bytes.{is_digit, continues_symbol, is_suffix, continues_word}
-use Rattle.pgn_lexer.specs.Tokens.{Kind, Token, EndsAt, symbol, glyph}
-use Rattle.pgn_lexer.specs.declared.partial_token.Mode.TheVariants.{LineStart, Outside}
-use Rattle.pgn_lexer.specs.PartialToken.{PartialToken}
-use Rattle.pgn_lexer.specs.Standing.{coming}
-use Rattle.pgn_lexer.specs.Stands.{StandsAfter}
 use Rattle.pgn_lexer.specs.WhiteSpace.{white_space}
-use Rattle.pgn_lexer.specs.Laws.{CanBeMarker, TextsRestart}
 use Rattle.pgn_lexer.specs.Spelling as spelling
-use Rattle.pgn_lexer.specs.Spelling.{class, comment_class, Found, gives, stops, closed, broken, Reading, kind_of_single, symbol_at, string_at, glyph_at, suffix_at, reading, number_of}
 use Rattle.pgn_lexer.specs.TokensOf as places
-use Rattle.pgn_lexer.specs.TokensOf.{Within, after_class, after_run, begins_class, begins_first, begins_after, begins_word, begins_brace, begins_line, begins, next, onto, at_end, tokens_from, tokens_of, has_mark}
 
 -- the tokens from a place behind a run of symbol bytes on
 abbrev Behind : ℕ → List ℕ → List ℕ → List Token

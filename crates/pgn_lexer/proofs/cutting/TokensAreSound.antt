@@ -1,16 +1,6 @@
 -- What the tokens that the rules cut are made of.
-use Rattle.std.proofs.Common.{◌≡◌, ℕ, ◌≤◌, Bool, true, false, not, inl, inr, List, ◌∷◌, refl, arith}
-use Rattle.std.specs.Prelude.{◌||◌, ◌⊎◌, map, ◌==◌}
-use Rattle.std.specs.Cmp.Derive.{both_true}
-use Rattle.std.specs.List.{AllByRecursion, list_all}
-use Rattle.std.proofs.lemmas.Bool.{eqb-true, false≢true}
-use Rattle.pgn_lexer.specs.Bytes.{starts_symbol, continues_symbol}
+use Rattle.pgn_lexer.proofs.Words.{◌≡◌, ℕ, ◌≤◌, Bool, true, false, not, inl, inr, List, ◌∷◌, refl, arith, ◌||◌, ◌⊎◌, map, ◌==◌, both_true, AllByRecursion, list_all, eqb-true, false≢true, starts_symbol, continues_symbol, is_escaped, is_barred, Data, IsSingle, IsSuffix, SpellsToken, Where, Cuts, Lexes, TokensAreSound, IsSoundKind, CommentsClose, AreSoundTokens, Kind, Token, tokens_of}
 use Rattle.pgn_lexer.specs.Lexes as rules
-use Rattle.pgn_lexer.specs.Lexes.{is_escaped, is_barred, Data, IsSingle, IsSuffix, SpellsToken, Where, Cuts, Lexes}
-use Rattle.pgn_lexer.specs.Laws.{TokensAreSound}
-use Rattle.pgn_lexer.specs.Sound.{IsSoundKind, CommentsClose, AreSoundTokens}
-use Rattle.pgn_lexer.specs.Tokens.{Kind, Token}
-use Rattle.pgn_lexer.specs.TokensOf.{tokens_of}
 use Rattle.pgn_lexer.proofs.bytes.ClassToTest.{either}
 use Rattle.pgn_lexer.proofs.cutting.EachTextIsCut.{lexes_once}
 

@@ -1,17 +1,8 @@
 -- Written tokens, read back.
-use Rattle.std.proofs.Common.{◌≡◌, ℕ, ◌+◌, ◌≤◌, Bool, true, false, not, List, [], ◌∷◌, ◌++◌, length, refl, sym, ap, subst, ◌∙◌, arith}
-use Rattle.std.specs.Prelude.{◌||◌, ◌&&◌, map, ◌==◌, decimal, if◌then◌else◌}
-use Rattle.std.specs.List.{AllByRecursion, list_all}
-use Rattle.std.proofs.lemmas.Bool.{eqb-true, false≢true}
-use Rattle.pgn_lexer.specs.Bytes.{is_line_end, is_space, is_digit, starts_symbol, continues_symbol, continues_word}
-use Rattle.pgn_lexer.specs.Laws.{PiecesAreReadBack, KindsAreReadBack}
+use Rattle.pgn_lexer.proofs.Words.{◌≡◌, ℕ, ◌+◌, ◌≤◌, Bool, true, false, not, List, [], ◌∷◌, ◌++◌, length, refl, sym, ap, subst, ◌∙◌, arith, ◌||◌, ◌&&◌, map, ◌==◌, decimal, if◌then◌else◌, AllByRecursion, list_all, eqb-true, false≢true, is_line_end, is_space, is_digit, starts_symbol, continues_symbol, continues_word, PiecesAreReadBack, KindsAreReadBack, StopsAt, is_escaped, is_barred, is_plain, Data, SpellsToken, Where, Cuts, Lexes, IsSymbol, IsWord, CommentsClose, Kind, Token, has_mark, written, Piece, token, space, text_of_pieces, kinds_in, tokens_at, IsPiece, IsEndedBy, AreEnded, IsReadable}
 use Rattle.pgn_lexer.specs.Lexes as rules
-use Rattle.pgn_lexer.specs.Lexes.{StopsAt, is_escaped, is_barred, is_plain, Data, SpellsToken, Where, Cuts, Lexes}
-use Rattle.pgn_lexer.specs.Sound.{IsSymbol, IsWord, CommentsClose}
 use Rattle.pgn_lexer.specs.Tokens as tokens
-use Rattle.pgn_lexer.specs.Tokens.{Kind, Token}
-use Rattle.pgn_lexer.specs.TokensOf.{has_mark}
-use Rattle.pgn_lexer.specs.Written.{escaped, written, Piece, token, space, text_of_pieces, kinds_in, tokens_at, IsPiece, IsEndedBy, AreEnded, IsReadable}
+use Rattle.pgn_lexer.specs.Written.{escaped}
 use Rattle.pgn_lexer.proofs.bytes.ClassToTest.{both}
 use Rattle.pgn_lexer.proofs.cutting.EachTextIsCut.{lexes_once}
 use Rattle.pgn_lexer.proofs.bytes.DecimalsAreSymbols.{IsNumber, number_written}

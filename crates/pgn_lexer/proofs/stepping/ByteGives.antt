@@ -1,20 +1,8 @@
 -- Each byte, and the end of the text, gives the tokens that come.
-use Rattle.std.proofs.Common.{◌≡◌, ℕ, ◌+◌, ◌<◌, ◌≤◌, List, [], ◌∷◌, length, refl, sym, ap, subst, arith}
-use Rattle.std.specs.Prelude.{nat_lt, nat_le, ◌==◌, ◌-◌, ◌*◌, Some}
-use Rattle.pgn_lexer.specs.declared.token.LexFault.{LexFault}
-use Rattle.pgn_lexer.specs.declared.partial_token.Mode.{Mode}
+use Rattle.pgn_lexer.proofs.Words.{◌≡◌, ℕ, ◌+◌, ◌<◌, ◌≤◌, List, [], ◌∷◌, length, refl, sym, ap, subst, arith, nat_lt, nat_le, ◌==◌, ◌-◌, ◌*◌, Some, LexFault, Mode, TokenForm, is_line_end, is_digit, continues_symbol, is_suffix, HasLength, symbol, glyph, word, end, class, comment_class, string_class, symbol_at, word_at, suffix_at, in_glyph, onto, tokens_from, PartialToken, IsSound, HasNotFailed, tokens_to_come, kind_in, token_of, refusal, pending, spelling, fault_met, fault_in_mode, after_byte, after_byte_in, after_end, after_end_in, AfterByte, IsAfterEnd, glyph_of, reached_after}
 use Rattle.pgn_lexer.specs.declared.partial_token.Mode.TheVariants as modes
-use Rattle.pgn_lexer.specs.declared.partial_token.TokenForm.{TokenForm}
 use Rattle.pgn_lexer.specs.declared.partial_token.Reached.{Reached}
 use Rattle.pgn_lexer.specs.declared.partial_token.Reached.TheVariants as reached
-use Rattle.pgn_lexer.specs.Bytes.{is_line_end, is_digit, continues_symbol, is_suffix}
-use Rattle.pgn_lexer.specs.Tokens.{HasLength, symbol, glyph, word, end}
-use Rattle.pgn_lexer.specs.Spelling.{class, comment_class, string_class, symbol_at, word_at, suffix_at}
-use Rattle.pgn_lexer.specs.TokensOf.{in_glyph, onto, tokens_from}
-use Rattle.pgn_lexer.specs.PartialToken.{PartialToken, IsSound, HasNotFailed, tokens_to_come, kind_in, token_of, refusal, pending, spelling, fault_met}
-use Rattle.pgn_lexer.specs.Standing.{fault_in_mode}
-use Rattle.pgn_lexer.specs.ByteResult.{after_byte, after_byte_in, after_end, after_end_in, AfterByte, IsAfterEnd, glyph_of}
-use Rattle.pgn_lexer.specs.RunResult.{reached_after}
 use Rattle.pgn_lexer.proofs.stepping.StepGives.{Gives, front_of}
 use Rattle.pgn_lexer.proofs.stepping.RunOfBytes.{run_closes}
 use Rattle.pgn_lexer.proofs.stepping.FirstBytes.{start_gives, after_ef_gives, after_ef_bb_gives, escape_line_gives}

@@ -1,18 +1,9 @@
 -- A byte in a comment.
-use Rattle.std.proofs.Common.{◌≡◌, ℕ, ◌+◌, ◌<◌, ◌≤◌, Bool, true, false, List, [], ◌∷◌, ◌++◌, length, refl, ap, ◌∙◌, arith, length-append}
-use Rattle.std.specs.Prelude.{take_while, nat_lt, ◌==◌, if◌then◌else◌}
-use Rattle.std.proofs.lemmas.Bool.{ltb-true, ltb-false, le-leb, lt-leb}
-use Rattle.pgn_lexer.specs.declared.token.LexReason.TheVariants.{WordTooLong}
-use Rattle.pgn_lexer.specs.declared.class.CommentClass.{CommentClass}
+use Rattle.pgn_lexer.proofs.Words.{◌≡◌, ℕ, ◌+◌, ◌<◌, ◌≤◌, Bool, true, false, List, [], ◌∷◌, ◌++◌, length, refl, ap, ◌∙◌, arith, length-append, take_while, nat_lt, ◌==◌, if◌then◌else◌, ltb-true, ltb-false, le-leb, lt-leb, WordTooLong, CommentClass, is_line_end, is_blank, continues_word, Token, word, comment_class, gives, stops, word_at, brace, line, begins_brace, begins_line, after_brace, after_line, onto, tokens_from, PartialToken}
 use Rattle.pgn_lexer.specs.declared.class.CommentClass.TheVariants as comments
 use Rattle.pgn_lexer.specs.declared.partial_token.Mode.TheVariants as modes
 use Rattle.pgn_lexer.specs.declared.partial_token.TokenForm.TheVariants as forms
 use Rattle.pgn_lexer.specs.declared.partial_token.Step.TheVariants as steps
-use Rattle.pgn_lexer.specs.Bytes.{is_line_end, is_blank, continues_word}
-use Rattle.pgn_lexer.specs.Tokens.{Token, word}
-use Rattle.pgn_lexer.specs.Spelling.{comment_class, gives, stops, word_at}
-use Rattle.pgn_lexer.specs.TokensOf.{brace, line, begins_brace, begins_line, after_brace, after_line, onto, tokens_from}
-use Rattle.pgn_lexer.specs.PartialToken.{PartialToken}
 use Rattle.pgn_lexer.specs.ByteResult as after
 use Rattle.pgn_lexer.proofs.stepping.RunOfBytes.{run_grows, run_breaks, run_ends, run_closes}
 use Rattle.pgn_lexer.proofs.stepping.StepGives.{Front, Gives, front_of}

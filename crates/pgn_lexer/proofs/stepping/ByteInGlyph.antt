@@ -1,20 +1,10 @@
 -- A byte in a glyph or a suffix.
-use Rattle.std.proofs.Common.{◌≡◌, ℕ, ◌+◌, ◌-◌, ◌*◌, ◌<◌, ◌≤◌, Bool, true, false, List, [], ◌∷◌, ◌++◌, length, refl, ap, ◌∙◌, arith}
-use Rattle.std.specs.Prelude.{take_while, nat_le, ◌==◌, ◌&&◌, if◌then◌else◌}
-use Rattle.std.proofs.lemmas.Bool.{leb-true, leb-false, le-leb, lt-leb}
-use Rattle.pgn_lexer.specs.declared.token.LexReason.TheVariants.{LoneDollar, GlyphRange, BadSuffix}
+use Rattle.pgn_lexer.proofs.Words.{◌≡◌, ℕ, ◌+◌, ◌-◌, ◌*◌, ◌<◌, ◌≤◌, Bool, true, false, List, [], ◌∷◌, ◌++◌, length, refl, ap, ◌∙◌, arith, take_while, nat_le, ◌==◌, ◌&&◌, if◌then◌else◌, leb-true, leb-false, le-leb, lt-leb, LoneDollar, GlyphRange, BadSuffix, Used, EndsBefore, is_digit, is_suffix, glyph, gives, stops, number_from, numbered_at, glyph_at, suffix_at, in_glyph, in_suffix, outside, onto, tokens_from, PartialToken, spelling, into, fails}
 use Rattle.pgn_lexer.specs.declared.partial_token.Mode.TheVariants as modes
 use Rattle.pgn_lexer.specs.declared.partial_token.TokenForm.TheVariants as forms
-use Rattle.pgn_lexer.specs.declared.partial_token.Step.TheVariants.{Used, EndsBefore}
 use Rattle.pgn_lexer.specs.declared.partial_token.SuffixRun.{SuffixRun}
 use Rattle.pgn_lexer.specs.declared.partial_token.SuffixRun.TheVariants as runs
-use Rattle.pgn_lexer.specs.Bytes.{is_digit, is_suffix}
-use Rattle.pgn_lexer.specs.Tokens.{glyph}
-use Rattle.pgn_lexer.specs.Spelling.{gives, stops, number_from, numbered_at, glyph_at, suffix_at}
-use Rattle.pgn_lexer.specs.TokensOf.{in_glyph, in_suffix, outside, onto, tokens_from}
-use Rattle.pgn_lexer.specs.PartialToken.{PartialToken, spelling}
 use Rattle.pgn_lexer.specs.ByteResult as after
-use Rattle.pgn_lexer.specs.ByteResult.{into, fails}
 use Rattle.pgn_lexer.proofs.stepping.RunOfBytes.{take_while-true, take_while-false, glyph_goes, glyph_ends, suffix_goes, suffix_ends, run_grows, run_breaks, run_ends, run_closes}
 use Rattle.pgn_lexer.proofs.stepping.StepGives.{Gives, front_of}
 

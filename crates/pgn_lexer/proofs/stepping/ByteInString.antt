@@ -1,18 +1,8 @@
 -- A byte in a string.
-use Rattle.std.proofs.Common.{◌≡◌, ℕ, ◌+◌, ◌<◌, ◌≤◌, Bool, true, false, List, [], ◌∷◌, ◌++◌, length, refl, sym, ap, ◌∙◌, append-nil, append_assoc, arith, length-append}
-use Rattle.std.specs.Prelude.{nat_lt, if◌then◌else◌}
-use Rattle.std.proofs.lemmas.Bool.{ltb-true}
-use Rattle.pgn_lexer.specs.declared.token.LexReason.TheVariants.{ControlByte, StringTooLong, UnclosedString}
-use Rattle.pgn_lexer.specs.declared.class.StringClass.{StringClass}
+use Rattle.pgn_lexer.proofs.Words.{◌≡◌, ℕ, ◌+◌, ◌<◌, ◌≤◌, Bool, true, false, List, [], ◌∷◌, ◌++◌, length, refl, sym, ap, ◌∙◌, append-nil, append_assoc, arith, length-append, nat_lt, if◌then◌else◌, ltb-true, ControlByte, StringTooLong, UnclosedString, StringClass, Used, Token, str, string_class, Reading, closed, broken, datum, reading, string_at, quotes, after_quoted, onto, tokens_from, PartialToken, with_front, AfterByte, into, grown, fails}
 use Rattle.pgn_lexer.specs.declared.class.StringClass.TheVariants as strings
 use Rattle.pgn_lexer.specs.declared.partial_token.Mode.TheVariants as modes
-use Rattle.pgn_lexer.specs.declared.partial_token.Step.TheVariants.{Used}
-use Rattle.pgn_lexer.specs.Tokens.{Token, str}
-use Rattle.pgn_lexer.specs.Spelling.{string_class, Reading, closed, broken, datum, reading, string_at}
-use Rattle.pgn_lexer.specs.TokensOf.{quotes, after_quoted, onto, tokens_from}
-use Rattle.pgn_lexer.specs.PartialToken.{PartialToken, with_front}
 use Rattle.pgn_lexer.specs.ByteResult as after
-use Rattle.pgn_lexer.specs.ByteResult.{AfterByte, into, grown, fails}
 use Rattle.pgn_lexer.proofs.stepping.StepGives.{Gives, front_of}
 
 -- data read so far go in front, one by one

@@ -1,17 +1,8 @@
 -- A byte outside strings and comments.
-use Rattle.std.proofs.Common.{◌≡◌, ℕ, ◌+◌, ◌≤◌, Bool, true, false, List, [], ◌∷◌, ◌++◌, length, refl, sym, ap, arith}
-use Rattle.std.specs.Prelude.{take_while, ◌==◌, if◌then◌else◌}
-use Rattle.pgn_lexer.specs.declared.class.Single.{Single}
+use Rattle.pgn_lexer.proofs.Words.{◌≡◌, ℕ, ◌+◌, ◌≤◌, Bool, true, false, List, [], ◌∷◌, ◌++◌, length, refl, sym, ap, arith, take_while, ◌==◌, if◌then◌else◌, Single, Class, is_suffix, Token, EndsAt, HasLength, glyph, is_run, kind_of_single, Reading, closed, broken, gives, reading, suffix_at, string_at, begins_class, begins_first, after_class, after_first, in_suffix, quotes, onto, tokens_from, PartialToken, spelling, with_front, begin, begin_line}
 use Rattle.pgn_lexer.specs.declared.class.Single.TheVariants as singles
-use Rattle.pgn_lexer.specs.declared.class.Class.{Class}
 use Rattle.pgn_lexer.specs.declared.class.Class.TheVariants as classes
 use Rattle.pgn_lexer.specs.declared.partial_token.SuffixRun.TheVariants as runs
-use Rattle.pgn_lexer.specs.Bytes.{is_suffix}
-use Rattle.pgn_lexer.specs.Tokens.{Token, EndsAt, HasLength, glyph, is_run}
-use Rattle.pgn_lexer.specs.Spelling.{kind_of_single, Reading, closed, broken, gives, reading, suffix_at, string_at}
-use Rattle.pgn_lexer.specs.TokensOf.{begins_class, begins_first, after_class, after_first, in_suffix, quotes, onto, tokens_from}
-use Rattle.pgn_lexer.specs.PartialToken.{PartialToken, spelling, with_front}
-use Rattle.pgn_lexer.specs.ByteResult.{begin, begin_line}
 use Rattle.pgn_lexer.proofs.stepping.StepGives.{Front, Gives}
 
 pub with_front-nil : (r : Reading) → with_front [] r ≡ r

@@ -1,15 +1,8 @@
 -- The end of the text gives what is left.
-use Rattle.std.proofs.Common.{◌≡◌, ℕ, ◌<◌, List, [], ◌∷◌, ◌++◌, refl, sym, ap, subst, ◌∙◌, append_assoc}
-use Rattle.std.specs.Prelude.{None}
-use Rattle.pgn_lexer.specs.declared.token.LexFault.{LexFault}
+use Rattle.pgn_lexer.proofs.Words.{◌≡◌, ℕ, ◌<◌, List, [], ◌∷◌, ◌++◌, refl, sym, ap, subst, ◌∙◌, append_assoc, None, LexFault, TokenForm, Token, end, PartialToken, tokens_to_come, token_of, kind_in, fault_met, Scanned, fault, Standing, coming, waiting, fault_in_mode, FinishGivesToken, IsNext, HasLeft, Finishes}
 use Rattle.pgn_lexer.specs.declared.class.Single.TheVariants as singles
-use Rattle.pgn_lexer.specs.declared.partial_token.TokenForm.{TokenForm}
 use Rattle.pgn_lexer.specs.declared.partial_token.TokenForm.TheVariants as forms
-use Rattle.pgn_lexer.specs.Tokens.{Token, end}
-use Rattle.pgn_lexer.specs.PartialToken.{PartialToken, tokens_to_come, token_of, kind_in, fault_met}
-use Rattle.pgn_lexer.specs.Scanned.{Scanned, token, fault}
-use Rattle.pgn_lexer.specs.Standing.{Standing, coming, waiting, fault_in_mode}
-use Rattle.pgn_lexer.specs.Stands.{FinishGivesToken, IsNext, HasLeft, Finishes}
+use Rattle.pgn_lexer.specs.Scanned.{token}
 use Rattle.pgn_lexer.proofs.stepping.ByteGives.{ClosesToken, ClosesFault, ClosesEnd}
 use Rattle.pgn_lexer.proofs.stepping.StandsAfterCalls.{not_failed_fault, same_parts}
 

@@ -1,17 +1,6 @@
 -- The first bytes of a text, and a byte of an escape line.
-use Rattle.std.proofs.Common.{◌≡◌, ℕ, ◌+◌, ◌≤◌, Bool, true, false, List, [], ◌∷◌, length, refl, ap, ◌∙◌, drop}
-use Rattle.std.specs.Prelude.{◌==◌, ◌&&◌, if◌then◌else◌}
-use Rattle.std.proofs.lemmas.Bool.{eqb-true}
-use Rattle.pgn_lexer.specs.declared.token.LexReason.TheVariants.{StrayByte}
+use Rattle.pgn_lexer.proofs.Words.{◌≡◌, ℕ, ◌+◌, ◌≤◌, Bool, true, false, List, [], ◌∷◌, length, refl, ap, ◌∙◌, drop, ◌==◌, ◌&&◌, if◌then◌else◌, eqb-true, StrayByte, Step, Used, Ends, EndsBefore, Fault, is_line_end, Token, class, column, in_escape_line, tokens_from, tokens_of, has_mark, PartialToken, into, fails, begin_line}
 use Rattle.pgn_lexer.specs.declared.partial_token.Mode.TheVariants as modes
-use Rattle.pgn_lexer.specs.declared.partial_token.Step.{Step}
-use Rattle.pgn_lexer.specs.declared.partial_token.Step.TheVariants.{Used, Ends, EndsBefore, Fault}
-use Rattle.pgn_lexer.specs.Bytes.{is_line_end}
-use Rattle.pgn_lexer.specs.Tokens.{Token}
-use Rattle.pgn_lexer.specs.Spelling.{class}
-use Rattle.pgn_lexer.specs.TokensOf.{column, in_escape_line, tokens_from, tokens_of, has_mark}
-use Rattle.pgn_lexer.specs.PartialToken.{PartialToken}
-use Rattle.pgn_lexer.specs.ByteResult.{into, fails, begin_line}
 use Rattle.pgn_lexer.proofs.stepping.StepGives.{Front, Gives, StepGives, front_of}
 use Rattle.pgn_lexer.proofs.stepping.ByteOutside.{begin_line_gives}
 

@@ -1,30 +1,9 @@
 -- A run over a piece, byte by byte.
-use Rattle.std.proofs.Common.{◌≡◌, ℕ, zero, suc, ◌+◌, ◌*◌, ◌<◌, ◌≤◌, inl, inr, List, [], ◌∷◌, ◌++◌, length, get_or, take, drop, refl, sym, ap, subst, ◌∙◌, append_assoc, add-one, arith}
-use Rattle.std.specs.Prelude.{◌⊎◌, true, false, if◌then◌else◌, Some}
-use Rattle.std.proofs.lemmas.Bool.{lt-ltb}
-use Rattle.std.proofs.lemmas.List.{take_all, take_more}
-use Rattle.std.proofs.Math.Seq.{drop-cons}
-use Rattle.pgn_lexer.specs.declared.token.LexFault.{LexFault}
-use Rattle.pgn_lexer.specs.declared.partial_token.Mode.{Mode}
-use Rattle.pgn_lexer.specs.declared.token.LexReason.{LexReason}
-use Rattle.pgn_lexer.specs.declared.token.LexReason.TheVariants.{StringTooLong, SymbolTooLong, WordTooLong}
-use Rattle.pgn_lexer.specs.declared.class.Class.{Class}
-use Rattle.pgn_lexer.specs.declared.class.CommentClass.{CommentClass}
+use Rattle.pgn_lexer.proofs.Words.{◌≡◌, ℕ, zero, suc, ◌+◌, ◌*◌, ◌<◌, ◌≤◌, inl, inr, List, [], ◌∷◌, ◌++◌, length, get_or, take, drop, refl, sym, ap, subst, ◌∙◌, append_assoc, add-one, arith, ◌⊎◌, true, false, if◌then◌else◌, Some, lt-ltb, take_all, take_more, drop-cons, LexFault, Mode, LexReason, StringTooLong, SymbolTooLong, WordTooLong, Class, CommentClass, StringClass, LineStart, Outside, Symbol, Str, Brace, BraceWord, Failed, continues_symbol, class, comment_class, string_class, TokenForm, Step, Used, Ends, EndsBefore, Fault, EndsAt, PartialToken, tokens_to_come, kind_in, token_of, IsSound, HasNotFailed, pending, fault_met, fault_in_mode, begin, begin_line, string, fails, grown, if_room, into, after_byte, after_byte_in, IsAfterByte, IsOutside, Ran, RunsOn, StoodAt, RunGives, RunsToToken, RunsToFault, used_after, reached_after}
 use Rattle.pgn_lexer.specs.declared.class.CommentClass.TheVariants as comments
-use Rattle.pgn_lexer.specs.declared.class.StringClass.{StringClass}
 use Rattle.pgn_lexer.specs.declared.class.StringClass.TheVariants as strings
-use Rattle.pgn_lexer.specs.declared.partial_token.Mode.TheVariants.{LineStart, Outside, Symbol, Str, Brace, BraceWord, Failed}
 use Rattle.pgn_lexer.specs.declared.partial_token.TokenForm.TheVariants as forms
-use Rattle.pgn_lexer.specs.Bytes.{continues_symbol}
-use Rattle.pgn_lexer.specs.Spelling.{class, comment_class, string_class}
-use Rattle.pgn_lexer.specs.declared.partial_token.TokenForm.{TokenForm}
-use Rattle.pgn_lexer.specs.declared.partial_token.Step.{Step}
-use Rattle.pgn_lexer.specs.declared.partial_token.Step.TheVariants.{Used, Ends, EndsBefore, Fault}
-use Rattle.pgn_lexer.specs.Tokens.{EndsAt}
-use Rattle.pgn_lexer.specs.PartialToken.{PartialToken, tokens_to_come, kind_in, token_of, IsSound, HasNotFailed, pending, fault_met}
-use Rattle.pgn_lexer.specs.Standing.{fault_in_mode}
-use Rattle.pgn_lexer.specs.ByteResult.{begin, begin_line, brace, word, string, fails, grown, if_room, into, symbol, after_byte, after_byte_in, IsAfterByte}
-use Rattle.pgn_lexer.specs.RunResult.{IsOutside, Ran, RunsOn, StoodAt, RunGives, RunsToToken, RunsToFault, used_after, reached_after}
+use Rattle.pgn_lexer.specs.ByteResult.{brace, word, symbol}
 use Rattle.pgn_lexer.specs.declared.partial_token.Reached.TheVariants as reached
 use Rattle.pgn_lexer.proofs.stepping.StepGives.{StepGives, Uses, EndsIn, EndsAhead, Fails, front_of}
 use Rattle.pgn_lexer.proofs.stepping.ByteGives.{step_gives}

@@ -1,12 +1,5 @@
 -- A byte that goes on with a run, and one that ends it.
-use Rattle.std.proofs.Common.{◌≡◌, ℕ, ◌+◌, Bool, true, false, cond, List, [], ◌∷◌, ◌++◌, sym, ap, ◌∙◌, append-nil, append_assoc}
-use Rattle.std.specs.Prelude.{take_while}
-use Rattle.pgn_lexer.specs.declared.token.LexReason.{LexReason}
-use Rattle.std.proofs.lemmas.List.Sums.{take_while-cons}
-use Rattle.pgn_lexer.specs.Bytes.{is_digit, continues_symbol, is_suffix}
-use Rattle.pgn_lexer.specs.Spelling.{class, Found, gives, stops}
-use Rattle.pgn_lexer.specs.Tokens.{Kind, Token, refused}
-use Rattle.pgn_lexer.specs.TokensOf.{Within, in_symbol, in_glyph, in_suffix, outside, begins_after, after_run, onto, tokens_from}
+use Rattle.pgn_lexer.proofs.Words.{◌≡◌, ℕ, ◌+◌, Bool, true, false, cond, List, [], ◌∷◌, ◌++◌, sym, ap, ◌∙◌, append-nil, append_assoc, take_while, LexReason, take_while-cons, is_digit, continues_symbol, is_suffix, class, Found, gives, stops, Kind, Token, refused, Within, in_symbol, in_glyph, in_suffix, outside, begins_after, after_run, onto, tokens_from}
 
 pub take_while-true : (p : ℕ → Bool) (b : ℕ) (s : List ℕ) → p b ≡ true → take_while p (b ∷ s) ≡ b ∷ take_while p s
 take_while-true p b s e = take_while-cons p b s ∙ ap (λ c. cond c (b ∷ take_while p s) []) e

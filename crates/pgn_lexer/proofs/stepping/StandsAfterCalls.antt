@@ -1,19 +1,7 @@
 -- A call carries how the lexer stands.
-use Rattle.std.proofs.Common.{◌≡◌, ◌-◌, Bool, true, false, ℕ, zero, suc, ◌+◌, ◌<◌, ◌≤◌, inl, inr, List, [], ◌∷◌, ◌++◌, length, take, drop, refl, sym, ap, subst, ◌∙◌, append_assoc, arith, length-append, length-take-le, take-append-drop}
-use Rattle.std.specs.Prelude.{Option, None, Some, take_while, nat_lt, ◌⊎◌}
-use Rattle.std.specs.List.{AllByRecursion}
-use Rattle.pgn_lexer.specs.declared.token.LexFault.{LexFault}
-use Rattle.pgn_lexer.specs.declared.partial_token.Mode.{Mode}
+use Rattle.pgn_lexer.proofs.Words.{◌≡◌, ◌-◌, Bool, true, false, ℕ, zero, suc, ◌+◌, ◌<◌, ◌≤◌, inl, inr, List, [], ◌∷◌, ◌++◌, length, take, drop, refl, sym, ap, subst, ◌∙◌, append_assoc, arith, length-append, length-take-le, take-append-drop, Option, None, Some, take_while, nat_lt, ◌⊎◌, AllByRecursion, LexFault, Mode, Token, is_run, tokens_of, decided, known, TokenForm, PartialToken, tokens_to_come, token_of, kind_in, refusal, HasNotFailed, RunsOut, StoodAt, EndsWithByte, EndsBeforeByte, RunsToToken, RunsToFault, Scanned, more, fault, Standing, fault_in_mode, fault_of, Follows, first, still, StandsAfter, IsDecided, EndsNoSooner, Scans}
 use Rattle.pgn_lexer.specs.declared.partial_token.Mode.TheVariants as modes
-use Rattle.pgn_lexer.specs.Tokens.{Token, is_run}
-use Rattle.pgn_lexer.specs.TokensOf.{tokens_of}
-use Rattle.pgn_lexer.specs.Decided.{decided, known}
-use Rattle.pgn_lexer.specs.declared.partial_token.TokenForm.{TokenForm}
-use Rattle.pgn_lexer.specs.PartialToken.{PartialToken, tokens_to_come, token_of, kind_in, refusal, HasNotFailed}
-use Rattle.pgn_lexer.specs.RunResult.{RunsOut, StoodAt, EndsWithByte, EndsBeforeByte, RunsToToken, RunsToFault}
-use Rattle.pgn_lexer.specs.Scanned.{Scanned, more, token, fault}
-use Rattle.pgn_lexer.specs.Standing.{Standing, fault_in_mode, fault_of}
-use Rattle.pgn_lexer.specs.Stands.{Follows, first, still, StandsAfter, IsDecided, EndsNoSooner, Scans}
+use Rattle.pgn_lexer.specs.Scanned.{token}
 use Rattle.pgn_lexer.proofs.deciding.GivenAreDecided.{common_of, decided_is, going_decides, known_decides}
 use Rattle.pgn_lexer.proofs.deciding.CommonTokens.{common_front}
 use Rattle.pgn_lexer.proofs.cutting.PlacesOfTokens.{AllFrom, tokens_from-from, all_from-front, take_before}

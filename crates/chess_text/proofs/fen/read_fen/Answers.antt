@@ -1,10 +1,5 @@
-use Rattle.std.proofs.Common.{◌≡◌, length, true, ◌&&◌, refl, sym, ◌∙◌, ap, arith}
-use Rattle.std.specs.Prelude.{Option, None, Some, Ok, Err, ◌==◌, is_none, if◌then◌else◌}
-use Rattle.std.proofs.lemmas.Bool.Decides.{nat_tests}
-use Rattle.chess_rules.specs.declared.position.Parts.{Parts}
+use Rattle.chess_text.proofs.Words.{◌≡◌, length, true, ◌&&◌, refl, sym, ◌∙◌, ap, arith, Option, None, Some, Ok, Err, ◌==◌, is_none, if◌then◌else◌, nat_tests, Parts, built_unless, position_fault, at_field, if_position}
 use Rattle.chess_rules.specs.declared.position.PositionFault.{PositionFault}
-use Rattle.chess_rules.specs.Position.{built_unless, position_fault}
-use Rattle.chess_text.specs.Fen.{at_field, if_position}
 use Rattle.chess_text.proofs.fen.read_fen.Goals as goal
 
 -- the parts of a program have 64 cells, so they are a position if no rule finds a fault

@@ -1,7 +1,4 @@
-use Rattle.std.proofs.Common.{◌≡◌, ◌≤◌, List, ℕ, ◌∷◌, ◌++◌, sym, ◌∙◌, ap, ap₂, arith}
-use Rattle.std.specs.Prelude.{decimal}
-use Rattle.chess_text.specs.Placement.{placement_text}
-use Rattle.chess_text.specs.Field.{side_text, rights_text, target_text}
+use Rattle.chess_text.proofs.Words.{◌≡◌, ◌≤◌, List, ℕ, ◌∷◌, ◌++◌, sym, ◌∙◌, ap, ap₂, arith, decimal, placement_text, side_text, rights_text, target_text}
 use Rattle.chess_text.proofs.positions.SixFieldsJoined.{FiveWritten, five_written, six_written, length-five}
 use Rattle.chess_text.proofs.fen.text_without_full.Goals as goal
 

@@ -1,4 +1,4 @@
-use Rattle.std.proofs.Common.{sym, ◌∙◌}
+use Rattle.chess_text.proofs.Words.{sym, ◌∙◌}
 use Rattle.chess_text.proofs.forms.CommonForms.{piece_capture, pawn_capture}
 use Rattle.chess_text.proofs.form.capture_form.Goals as goal
 

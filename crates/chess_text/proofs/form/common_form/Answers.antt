@@ -1,4 +1,4 @@
-use Rattle.std.proofs.Common.{sym, ◌∙◌, arith}
+use Rattle.chess_text.proofs.Words.{sym, ◌∙◌, arith}
 use Rattle.chess_text.proofs.forms.CommonForms.{pawn_move, piece_move, with_x}
 use Rattle.chess_text.proofs.form.common_form.Goals as goal
 

@@ -1,5 +1,4 @@
-use Rattle.std.proofs.Common.{sym, ◌∙◌, ap}
-use Rattle.chess_text.specs.Form.{bare_form, castle_or, piece_move_of}
+use Rattle.chess_text.proofs.Words.{sym, ◌∙◌, ap, bare_form, castle_or, piece_move_of}
 use Rattle.chess_text.proofs.form.read_other.Goals as goal
 
 pub returns-in-Some : goal.returns-in-Some

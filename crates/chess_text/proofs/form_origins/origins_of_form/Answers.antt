@@ -1,9 +1,4 @@
-use Rattle.std.proofs.Common.{◌≡◌, ◌+◌, ◌≤◌, List, map, length, take, sym, ◌∙◌, ap, arith, rules}
-use Rattle.std.specs.Prelude.{slice_set, count_by}
-use Rattle.std.proofs.lemmas.List.{take_all}
-use Rattle.chess_rules.specs.Square.{Square, squares}
-use Rattle.chess_text.specs.declared.form_origins.OriginKind.{OriginKind}
-use Rattle.chess_text.specs.FormOrigins.{form_move, is_step_of_form, origin_kind, origins_of_form, nth_square, step_count, count_steps}
+use Rattle.chess_text.proofs.Words.{◌≡◌, ◌+◌, ◌≤◌, List, map, length, take, sym, ◌∙◌, ap, arith, rules, slice_set, count_by, take_all, Square, squares, OriginKind, form_move, is_step_of_form, origin_kind, origins_of_form, nth_square, step_count, count_steps}
 use Rattle.chess_text.proofs.forms.FormOriginKinds.{kinds_more, counts_more, pairs_few, squares_long}
 use Rattle.chess_text.proofs.form_origins.origins_of_form.Goals as goal
 

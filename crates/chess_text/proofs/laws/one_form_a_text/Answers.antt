@@ -1,5 +1,4 @@
-use Rattle.std.proofs.Common.{◌≡◌, sym, ◌∙◌}
-use Rattle.std.specs.Prelude.{Some}
+use Rattle.chess_text.proofs.Words.{◌≡◌, sym, ◌∙◌, Some}
 use Rattle.chess_text.proofs.forms.SpellingToForm.{form_read}
 use Rattle.chess_text.proofs.laws.one_form_a_text.Goals as goal
 

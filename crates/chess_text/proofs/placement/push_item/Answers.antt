@@ -1,4 +1,4 @@
-use Rattle.std.proofs.Common.{◌++◌, sym, ◌∙◌, ap}
+use Rattle.chess_text.proofs.Words.{◌++◌, sym, ◌∙◌, ap}
 use Rattle.chess_text.proofs.positions.BytesOfRank.{on_true_from_ok, run_cells}
 use Rattle.chess_text.proofs.placement.push_item.Goals as goal
 

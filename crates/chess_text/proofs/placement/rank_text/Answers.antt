@@ -1,7 +1,4 @@
-use Rattle.std.proofs.Common.{◌≡◌, ◌<◌, ℕ, ◌+◌, List, [], ◌∷◌, ◌++◌, length, refl, ◌∙◌, ap, ap₂, arith, length-append}
-use Rattle.chess_rules.specs.Board.{Board}
-use Rattle.chess_text.specs.Letter.{piece_letter}
-use Rattle.chess_text.specs.Placement.{row, run_text}
+use Rattle.chess_text.proofs.Words.{◌≡◌, ◌<◌, ℕ, ◌+◌, List, [], ◌∷◌, ◌++◌, length, refl, ◌∙◌, ap, ap₂, arith, length-append, Board, piece_letter, row, run_text}
 use Rattle.chess_text.proofs.positions.RankToText.{WrittenSoFar, empty_square, a_piece, room_for_piece, room_at_end, length-rank_text, at_end}
 use Rattle.chess_text.proofs.placement.rank_text.Goals as goal
 use Rattle.chess_text.proofs.placement.rank_text.Goals.{in-None, in-Some}

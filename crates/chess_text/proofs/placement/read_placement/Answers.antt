@@ -1,5 +1,5 @@
-use Rattle.std.proofs.Common.{◌≡◌, ◌+◌, ◌-◌, ◌<◌, ◌++◌, length, take, drop, sym, ◌∙◌, ap, subst, arith, length-take}
-use Rattle.chess_rules.specs.Board.{Board}
+use Rattle.chess_text.proofs.Words.{◌≡◌, ◌+◌, ◌-◌, ◌<◌, ◌++◌, length, take, drop, sym, ◌∙◌, ap, subst, arith, Board}
+use Rattle.std.proofs.Common.{length-take}
 use Rattle.chess_text.proofs.positions.TextToBoard.{ReadSoFar, RankRead, ranks_left, goes_on, no_placement, too_many_ranks, rank_missing, rank_there, beyond, when_no_err, eight_cells}
 use Rattle.chess_text.proofs.placement.read_placement.Goals as goal
 

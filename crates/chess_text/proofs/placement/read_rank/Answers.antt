@@ -1,6 +1,4 @@
-use Rattle.std.proofs.Common.{◌+◌, ◌&&◌, length, get_or, nat_le, sym, ◌∙◌, ap}
-use Rattle.chess_rules.specs.Board.{Board}
-use Rattle.chess_text.specs.Placement.{is_item, cells_at}
+use Rattle.chess_text.proofs.Words.{◌+◌, ◌&&◌, length, get_or, nat_le, sym, ◌∙◌, ap, Board, is_item, cells_at}
 use Rattle.chess_text.proofs.positions.BytesOfRank.{no_rank, no_cells}
 use Rattle.chess_text.proofs.placement.read_rank.Goals as goal
 

@@ -1,5 +1,4 @@
-use Rattle.std.proofs.Common.{sym, ◌∙◌, ap}
-use Rattle.std.specs.Prelude.{is_some, not}
+use Rattle.chess_text.proofs.Words.{sym, ◌∙◌, ap, is_some, not}
 use Rattle.chess_text.proofs.forms.CastlingMoves.{legal_is_step}
 use Rattle.chess_text.proofs.resolution.agrees.Goals as goal
 

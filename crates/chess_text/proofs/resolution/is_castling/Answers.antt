@@ -1,5 +1,4 @@
-use Rattle.std.proofs.Common.{◌∙◌, ap₂}
-use Rattle.std.specs.Int.{abs_diff}
+use Rattle.chess_text.proofs.Words.{◌∙◌, ap₂, abs_diff}
 use Rattle.chess_text.proofs.forms.CastlingMoves.{castling_by_files}
 use Rattle.chess_text.proofs.resolution.is_castling.Goals as goal
 

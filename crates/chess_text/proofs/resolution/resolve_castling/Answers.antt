@@ -1,7 +1,4 @@
-use Rattle.std.proofs.Common.{sym, ◌∙◌, ap}
-use Rattle.std.specs.Prelude.{is_some, not}
-use Rattle.chess_rules.specs.declared.piece.Colour.{Colour}
-use Rattle.chess_text.specs.MoveOfForm.{castling_move}
+use Rattle.chess_text.proofs.Words.{sym, ◌∙◌, ap, is_some, not, Colour, castling_move}
 use Rattle.chess_text.proofs.forms.CastlingForms.{castling_illegal, castling_found, castling_other}
 use Rattle.chess_text.proofs.forms.CastlingMoves.{legal_is_step}
 use Rattle.chess_text.proofs.resolution.resolve_castling.Goals as goal

@@ -1,7 +1,4 @@
-use Rattle.std.proofs.Common.{ℕ, List, [], ◌∷◌, ◌++◌, refl, sym, ◌∙◌, ap, ap₂}
-use Rattle.std.specs.Prelude.{◌==◌}
-use Rattle.chess_rules.specs.declared.piece.Kind.TheVariants.{King}
-use Rattle.chess_text.specs.San.{capture_if, castling_text}
+use Rattle.chess_text.proofs.Words.{ℕ, List, [], ◌∷◌, ◌++◌, refl, sym, ◌∙◌, ap, ap₂, ◌==◌, King, capture_if, castling_text}
 use Rattle.chess_text.proofs.forms.CastlingMoves.{legal_is_step}
 use Rattle.chess_text.proofs.forms.MoverOfMove.{castling_written, step_written, piece_takes, something}
 use Rattle.chess_text.proofs.san.push_king_text.Goals as goal

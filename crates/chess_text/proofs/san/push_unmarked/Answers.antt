@@ -1,12 +1,4 @@
-use Rattle.std.proofs.Common.{◌≡◌, true, Some, sym, ◌∙◌, ap, subst, arith}
-use Rattle.chess_rules.specs.declared.piece.Kind.{Kind}
-use Rattle.chess_rules.specs.declared.piece.Kind.TheVariants.{King, Pawn}
-use Rattle.chess_rules.specs.declared.piece.Piece.{Piece}
-use Rattle.chess_rules.specs.declared.position.Move.{Move}
-use Rattle.chess_rules.specs.declared.position.Parts.{Parts}
-use Rattle.chess_rules.specs.Board.{at}
-use Rattle.chess_rules.specs.Step.{own}
-use Rattle.chess_text.specs.San.{disambiguation_pairs, kind_pairs, kind_text, piece_pairs, piece_text, unmarked}
+use Rattle.chess_text.proofs.Words.{◌≡◌, true, Some, sym, ◌∙◌, ap, subst, arith, Kind, King, Pawn, Piece, Move, Parts, at, own, disambiguation_pairs, kind_pairs, kind_text, piece_pairs, piece_text, unmarked}
 use Rattle.chess_text.proofs.forms.MoverOfMove.{may_have_rivals, mover, mover_stands}
 use Rattle.chess_text.proofs.san.push_unmarked.Goals as goal
 

@@ -1,11 +1,4 @@
-use Rattle.std.proofs.Common.{◌≡◌, ◌≤◌, Bool, true, List, length, take, ◌∙◌, sym, ap, subst, arith}
-use Rattle.std.specs.Prelude.{◌==◌}
-use Rattle.std.specs.List.{list_any}
-use Rattle.std.specs.List.Sorted.{IsPermutation}
-use Rattle.std.proofs.lemmas.List.Sorted.{length_permutation}
-use Rattle.chess_rules.specs.Square.{Square}
-use Rattle.chess_rules.specs.Candidate.{candidates}
-use Rattle.chess_text.specs.San.{rivals}
+use Rattle.chess_text.proofs.Words.{◌≡◌, ◌≤◌, Bool, true, List, length, take, ◌∙◌, sym, ap, subst, arith, ◌==◌, list_any, IsPermutation, length_permutation, Square, candidates, rivals}
 use Rattle.chess_text.proofs.names.LonePiece.{lone_candidate, no_rivals}
 use Rattle.chess_text.proofs.names.RivalsAreCandidates.{seen, found_more, all_found, rivals_seen}
 use Rattle.chess_text.proofs.san.rivals_of.Goals as goal

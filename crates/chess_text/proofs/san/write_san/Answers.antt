@@ -1,7 +1,4 @@
-use Rattle.std.proofs.Common.{◌≡◌, ℕ, ◌+◌, ◌≤◌, Bool, true, false, [], ◌++◌, length, sym, ◌∙◌, ap, ap₂, subst, arith, length-append}
-use Rattle.std.specs.Prelude.{is_some, codes, if◌then◌else◌}
-use Rattle.chess_rules.specs.Legal.{is_check, is_mate}
-use Rattle.chess_text.specs.San.{MarkPairs, mark, mark_after}
+use Rattle.chess_text.proofs.Words.{◌≡◌, ℕ, ◌+◌, ◌≤◌, Bool, true, false, [], ◌++◌, length, sym, ◌∙◌, ap, ap₂, subst, arith, length-append, is_some, codes, if◌then◌else◌, is_check, is_mate, MarkPairs, mark, mark_after}
 use Rattle.chess_text.proofs.san.write_san.Goals as goal
 
 pub push_unmarked-requires : goal.push_unmarked-requires

@@ -1,4 +1,4 @@
-use Rattle.std.proofs.Common.{refl, arith}
+use Rattle.pgn_lexer.proofs.Words.{refl, arith}
 use Rattle.pgn_lexer.proofs.stepping.StandsAfterCalls.{scans_nothing, scans_form, scans_told, scans_of}
 use Rattle.pgn_lexer.proofs.lexer.Lexer.next.Goals as goal
 

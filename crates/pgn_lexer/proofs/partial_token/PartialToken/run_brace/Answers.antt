@@ -1,6 +1,5 @@
-use Rattle.std.proofs.Common.{refl, sym, ap, ◌∙◌, arith}
+use Rattle.pgn_lexer.proofs.Words.{refl, sym, ap, ◌∙◌, arith, PartialToken}
 use Rattle.pgn_lexer.specs.declared.class.CommentClass.TheVariants.{CloseBrace, WordByte}
-use Rattle.pgn_lexer.specs.PartialToken.{PartialToken}
 use Rattle.pgn_lexer.proofs.stepping.PieceByByte.{ran_all, ran_uses, ran_ends, takes_brace, takes_gap}
 use Rattle.pgn_lexer.proofs.partial_token.PartialToken.run_brace.Goals as goal
 

@@ -1,4 +1,4 @@
-use Rattle.std.proofs.Common.{refl, arith}
+use Rattle.pgn_lexer.proofs.Words.{refl, arith}
 use Rattle.pgn_lexer.proofs.stepping.PieceByByte.{ran_all, ran_uses, ran_stops}
 use Rattle.pgn_lexer.proofs.partial_token.PartialToken.run_byte_by_byte.Goals as goal
 

@@ -1,7 +1,4 @@
-use Rattle.std.proofs.Common.{refl, sym, subst, ◌∙◌, arith}
-use Rattle.pgn_lexer.specs.declared.class.Class.TheVariants.{LineEnd, Space, SymbolStart, Quote, Alone, OpenBrace}
-use Rattle.pgn_lexer.specs.PartialToken.{PartialToken}
-use Rattle.pgn_lexer.specs.RunResult.{IsOutside}
+use Rattle.pgn_lexer.proofs.Words.{refl, sym, subst, ◌∙◌, arith, LineEnd, Space, SymbolStart, Quote, Alone, OpenBrace, PartialToken, IsOutside}
 use Rattle.pgn_lexer.proofs.stepping.PieceByByte.{ran_all, ran_uses, ran_ends, takes_outside}
 use Rattle.pgn_lexer.proofs.partial_token.PartialToken.run_outside.Goals.{in-LineEnd, in-Space}
 use Rattle.pgn_lexer.proofs.partial_token.PartialToken.run_outside.Goals as goal

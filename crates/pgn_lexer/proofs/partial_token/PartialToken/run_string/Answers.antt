@@ -1,6 +1,4 @@
-use Rattle.std.proofs.Common.{◌≡◌, [], ◌∷◌, ◌++◌, length, get_or, refl, sym, ap, ◌∙◌, arith}
-use Rattle.pgn_lexer.specs.declared.partial_token.Mode.TheVariants.{Outside}
-use Rattle.pgn_lexer.specs.PartialToken.{PartialToken}
+use Rattle.pgn_lexer.proofs.Words.{◌≡◌, [], ◌∷◌, ◌++◌, length, get_or, refl, sym, ap, ◌∙◌, arith, Outside, PartialToken}
 use Rattle.pgn_lexer.proofs.stepping.PieceByByte.{ran_all, ran_uses, ran_ends, takes_plain, takes_quote}
 use Rattle.pgn_lexer.proofs.partial_token.PartialToken.run_string.Goals as goal
 

@@ -1,4 +1,4 @@
-use Rattle.std.proofs.Common.{refl, sym, ◌∙◌, arith}
+use Rattle.pgn_lexer.proofs.Words.{refl, sym, ◌∙◌, arith}
 use Rattle.pgn_lexer.proofs.stepping.PieceByByte.{ran_all, ran_uses, ran_ends_before, takes_symbol_byte, takes_symbol_end}
 use Rattle.pgn_lexer.proofs.partial_token.PartialToken.run_symbol.Goals as goal
 
