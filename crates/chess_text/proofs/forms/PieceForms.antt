@@ -9,7 +9,7 @@ abbrev pub from_square : Parts → Form → Square → Option Promotion → Squa
 from_square p f to promotion s = played (describes p f (move_from to promotion s)) p (move_from to promotion s)
 
 pub same_square-refl : (s : Square) → same_square s s ≡ true
-same_square-refl s = and_from (s.file == s.file) (s.rank == s.rank) (eq-eqb s.file s.file refl) (eq-eqb s.rank s.rank refl)
+same_square-refl s = and_from (s.file == s.file) (s.rank == s.rank) (eq-eqb _ _ refl) (eq-eqb _ _ refl)
 
 pub same_promotion-refl : (x : Option Promotion) → same_promotion x x ≡ true
 same_promotion-refl None = refl
@@ -28,7 +28,7 @@ module _ (p : Parts) (k : Kind) (file rank : Option ℕ) (to : Square) (promotio
   -- from a square with such a piece
   pub describes_own : (s : Square) → own p k s ≡ true → describes p (Man k file rank to promotion) (move_from to promotion s) ≡ piece_move_fits p file rank (move_from to promotion s)
   describes_own s stands =
-      rest_of (own p k s) (hints_fit file rank s) (same_square to to) (same_promotion promotion promotion) (not (is_castling p (move_from to promotion s)))
+      rest_of _ _ (same_square to to) (same_promotion promotion promotion) _
       stands (same_square-refl to) (same_promotion-refl promotion)
 
   pub tried_own : (s : Square) → own p k s ≡ true → played (piece_move_fits p file rank (move_from to promotion s)) p (move_from to promotion s) ≡ from_square p (Man k file rank to promotion) to promotion s
@@ -36,18 +36,18 @@ module _ (p : Parts) (k : Kind) (file rank : Option ℕ) (to : Square) (promotio
 
   -- from no other square than a candidate
   only_candidates : CandidatesComplete → (s : Square) → is_candidate p k to s ≡ false → from_square p (Man k file rank to promotion) to promotion s ≡ None
-  only_candidates complete s other = by_described (describes p (Man k file rank to promotion) (move_from to promotion s)) refl (legal p (move_from to promotion s)) refl
+  only_candidates complete s other = by_described _ refl _ refl
     where
       stands : describes p (Man k file rank to promotion) (move_from to promotion s) ≡ true → own p k s ≡ true
       stands h =
-          (and_parts (own p k s) (hints_fit file rank s)
-          (and_parts (own p k s && hints_fit file rank s) ((same_square to to && same_promotion promotion promotion) && not (is_castling p (move_from to promotion s))) h).0).0
+          (and_parts _ _
+          (and_parts _ _ h).0).0
 
       by_described : (b : Bool) → describes p (Man k file rank to promotion) (move_from to promotion s) ≡ b → (o : Option Parts) → legal p (move_from to promotion s) ≡ o → played b p (move_from to promotion s) ≡ None
       by_described false e o g = refl
-      by_described true e None g = played_none true p (move_from to promotion s) g
+      by_described true e None g = played_none true p (move_from to _ s) g
       by_described true e (Some q) g =
-          absurd (both_ways (is_candidate p k to s) other (complete p q (move_from to promotion s) k g (stands e)))
+          absurd (both_ways (is_candidate p k to s) other (complete p q (move_from to _ s) k g (stands e)))
 
   -- what is found from the candidates, in any order, decides
   pub reads_candidates : CandidatesComplete → (xs : List Square) → IsPermutation (candidates p k to) xs
@@ -59,8 +59,8 @@ module _ (p : Parts) (k : Kind) (file rank : Option ℕ) (to : Square) (promotio
 -- such a piece stands on each candidate
 pub candidates_own : (p : Parts) (k : Kind) (t : Square) (xs : List Square) → IsPermutation (candidates p k t) xs → All (λ s. own p k s ≡ true) xs
 candidates_own p k t xs perm =
-    All-permutation (λ s. own p k s ≡ true) (candidates p k t) xs perm
-    (All-weaker (λ s. is_candidate p k t s ≡ true) (λ s. own p k s ≡ true) (λ s h. (and_parts (own p k s) (sees k p s t) h).0) (candidates p k t) (filter_passes (is_candidate p k t) squares))
+    All-permutation (λ s. own p k s ≡ true) _ xs perm
+    (All-weaker (λ s. is_candidate p k t s ≡ true) (λ s. own p k s ≡ true) (λ s h. (and_parts _ _ h).0) _ (filter_passes _ squares))
 
 -- what the code tries from the i-th of them
 pub tried_at : (p : Parts) (k : Kind) (file rank : Option ℕ) (to : Square) (promotion : Option Promotion) (xs : List Square) → IsPermutation (candidates p k to) xs

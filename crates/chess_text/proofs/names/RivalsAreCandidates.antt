@@ -8,7 +8,7 @@ any-cond test false y ys = refl
 
 pub any-filter : {Y : Type 0} (test p : Y → Bool) (ys : List Y) → list_any test (filter p ys) ≡ list_any (λ y. p y && test y) ys
 any-filter test p [] = refl
-any-filter test p (y ∷ ys) = cc (any-cond test (p y) y (filter p ys), any-filter test p ys)
+any-filter test p (y ∷ ys) = cc (any-cond test _ y _, any-filter test p ys)
 
 any-same : {Y : Type 0} (f g : Y → Bool) → ((y : Y) → f y ≡ g y) → (ys : List Y) → list_any f ys ≡ list_any g ys
 any-same f g h [] = refl
@@ -19,11 +19,11 @@ seen p m test xs = list_any (λ s. is_rival p m s && test s) xs
 
 -- a rival is a candidate
 rival_sees : CandidatesComplete → (p : Parts) (k : Kind) (m : Move) (s : Square) → own p k s ≡ true → is_rival p m s ≡ true → sees k p s m.to ≡ true
-rival_sees complete p k m s h g = by_legal (legal p (from_square m s)) refl (and_parts (not (same_square s m.from)) (is_legal p (from_square m s)) g).1
+rival_sees complete p k m s h g = by_legal _ refl (and_parts _ _ g).1
   where
     by_legal : (o : Option Parts) → legal p (from_square m s) ≡ o → is_some o ≡ true → sees k p s m.to ≡ true
     by_legal None e f = absurd (false≢true f)
-    by_legal (Some q) e f = (and_parts (own p k s) (sees k p s m.to) (complete p q (from_square m s) k e h)).1
+    by_legal (Some q) e f = (and_parts (own p k s) (sees k p s m.to) (complete p q _ k e h)).1
 
 same_test : (o g r t : Bool) → (o ≡ true → r ≡ true → g ≡ true) → ((o && g) && (r && t)) ≡ ((o && r) && t)
 same_test false g r t h = refl
@@ -34,11 +34,11 @@ same_test true false false t h = refl
 pub rivals_seen : CandidatesComplete → (p : Parts) (k : Kind) (m : Move) (test : Square → Bool) (xs : List Square)
     → IsPermutation (candidates p k m.to) xs → seen p m test xs ≡ list_any test (rivals p k m)
 rivals_seen complete p k m test xs perm =
-    sym (list_any-IsPermutation (λ s. is_rival p m s && test s) (candidates p k m.to) xs perm)
-    ∙ (any-filter (λ s. is_rival p m s && test s) (is_candidate p k m.to) squares
-    ∙ (any-same (λ s. is_candidate p k m.to s && (is_rival p m s && test s)) (λ s. (own p k s && is_rival p m s) && test s)
+    sym (list_any-IsPermutation _ _ xs perm)
+    ∙ (any-filter _ _ squares
+    ∙ (any-same _ _
     (λ s. same_test (own p k s) (sees k p s m.to) (is_rival p m s) (test s) (rival_sees complete p k m s)) squares
-    ∙ sym (any-filter test (λ s. own p k s && is_rival p m s) squares)))
+    ∙ sym (any-filter test _ squares)))
 
 -- so far
 pub record Found (p : Parts) (m : Move) (xs : List Square) (n : ℕ) (any file rank : Bool) : Type 0 where
@@ -53,7 +53,7 @@ and_true false = refl
 one_more : (p : Parts) (m : Move) (test : Square → Bool) (xs : List Square) (n : ℕ) (s : Square) (before after rival : Bool)
     → n < length xs → s ≡ get_or xs n s → rival ≡ is_rival p m s → before ≡ seen p m test (take n xs) → after ≡ (before || (rival && test s)) → after ≡ seen p m test (take (n + 1) xs)
 one_more p m test xs n s before after rival low is e f g =
-    cc (list_any_more (λ t. is_rival p m t && test t) xs n s low)
+    cc (list_any_more _ xs n s low)
 
 pub found_more : (p : Parts) (m : Move) (xs : List Square) (n : ℕ) (s : Square) (rival any file rank any' file' rank' : Bool)
     → n < length xs → s ≡ get_or xs n s → rival ≡ is_rival p m s → Found p m xs n any file rank
@@ -61,9 +61,9 @@ pub found_more : (p : Parts) (m : Move) (xs : List Square) (n : ℕ) (s : Square
     → Found p m xs (n + 1) any' file' rank'
 found_more p m xs n s rival any file rank any' file' rank' low is e f a b c =
     record {
-      any_is = one_more p m (λ t. true) xs n s any any' rival low is e f.any_is (a ∙ ap (λ r. any || r) (and_true rival));
-      file_is = one_more p m (λ t. t.file == m.from.file) xs n s file file' rival low is e f.file_is b;
-      rank_is = one_more p m (λ t. t.rank == m.from.rank) xs n s rank rank' rival low is e f.rank_is c;
+      any_is = one_more p m _ xs n s any any' rival low is e f.any_is (a ∙ ap (λ r. any || r) (and_true rival));
+      file_is = one_more p m _ xs n s file file' rival low is e f.file_is b;
+      rank_is = one_more p m _ xs n s rank rank' rival low is e f.rank_is c;
     }
 
 -- and in the end

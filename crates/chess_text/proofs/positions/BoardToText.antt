@@ -14,17 +14,17 @@ pub record WrittenTo (b : Board) (text : List ℕ) (i : ℕ) : Type 0 where
 
 ends : (b : Board) → rank_text 0 (row b 7) ++ lower b 7 ≡ placement_text b
 ends b =
-    cc (append-nil (rank_text 0 (row b 0)))
+    cc (append-nil _)
 
 length-lower : (b : Board) (n : ℕ) → length (lower b n) ≤ 9 * n
 length-lower b zero = omega arith
 length-lower b (suc n) =
-    let row_low : length (rank_text 0 (row b n)) ≤ 8 = length-rank_text 0 (row b n) in
+    let row_low = length-rank_text 0 (row b n) in
     omega (arith, length-append (rank_text 0 (row b n)) (lower b n), row_low, length-lower b n)
 
 pub length-placement_text : (b : Board) → length (placement_text b) ≤ 71
 length-placement_text b =
-    let row_low : length (rank_text 0 (row b 7)) ≤ 8 = length-rank_text 0 (row b 7) in
+    let row_low = length-rank_text 0 (row b 7) in
     omega (arith, ap (λ t. length t) (ends b), length-append (rank_text 0 (row b 7)) (lower b 7), row_low, length-lower b 7)
 
 pub next_rank : (b : Board) (text rank : List ℕ) (i : ℕ) → WrittenTo b text i → i < 7 → rank ≡ rank_text 0 (row b (6 - i)) → length rank ≤ 8
@@ -32,7 +32,7 @@ pub next_rank : (b : Board) (text rank : List ℕ) (i : ℕ) → WrittenTo b tex
 next_rank b text rank i so_far h e low =
     record {
       whole =
-          append_assoc (text ++ 47 ∷ []) rank (lower b (7 - (i + 1))) ∙ append_assoc text (47 ∷ []) (rank ++ lower b (7 - (i + 1)))
+          append_assoc _ rank _ ∙ append_assoc text _ _
           ∙ ap (λ t. text ++ t) (sym (down e)) ∙ so_far.whole;
       short = omega (arith, so_far.short, low, length-append (text ++ 47 ∷ []) rank, length-append text (47 ∷ []));
     }

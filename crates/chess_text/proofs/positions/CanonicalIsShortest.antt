@@ -20,13 +20,13 @@ run_on (suc k) n cells = let same : n + 1 + k ≡ n + suc k = omega arith in cc 
 rank_is_short : (s : List ℕ) (n : ℕ) → list_all is_item s ≡ true → length (rank_text n (cells_of s)) ≤ length (run_text n) + length s
 rank_is_short [] n h = omega arith
 rank_is_short (c ∷ s) n h =
-    by_item (is_run c) (piece_of c) refl refl (first_of_two (is_item c) (list_all is_item s) h) (λ m. rank_is_short s m (second_of_two (is_item c) (list_all is_item s) h))
+    by_item _ _ refl refl (first_of_two _ _ h) (λ m. rank_is_short s m (second_of_two _ _ h))
   where
     by_item : (run : Bool) (piece : Option Piece) → is_run c ≡ run → piece_of c ≡ piece → is_item c ≡ true
         → ((m : ℕ) → length (rank_text m (cells_of s)) ≤ length (run_text m) + length s)
         → length (rank_text n (cells_of (c ∷ s))) ≤ length (run_text n) + length (c ∷ s)
     by_item true piece e f item more =
-        let longer : rank_text n (cells_of (c ∷ s)) ≡ rank_text (n + (c - 48)) (cells_of s) =
+        let longer =
         ap (λ (b : Board). rank_text n (b ++ cells_of s)) (cells_at-run c e) ∙ run_on (c - 48) n (cells_of s) in
         omega (arith, ap (λ t. length t) longer, more (n + (c - 48)), run_is_short (n + (c - 48)))
     by_item false (Some x) e f item more =
@@ -46,7 +46,7 @@ same_rows b [] [] e good h = refl
 same_rows b [] (t ∷ ts) e good h = absurd (omega (arith, e))
 same_rows b (r ∷ rs) [] e good h = absurd (omega (arith, e))
 same_rows b (r ∷ rs) (t ∷ ts) e good h =
-    let long : length (cells_of t) ≡ 8 = eight_cells t (first_of_two (is_rank t) (list_all is_rank ts) good) in
+    let long : length (cells_of t) ≡ 8 = eight_cells t (first_of_two _ _ good) in
     let front : row b r ≡ cells_of t = same_front (row b r) (cells_of t) (flat_map (λ r. row b r) rs) (flat_map cells_of ts) (sym long) h in
     let back : flat_map (λ r. row b r) rs ≡ flat_map cells_of ts =
     append_cancel_left (cells_of t) (flat_map (λ r. row b r) rs) (flat_map cells_of ts) (ap (λ (c : Board). c ++ flat_map (λ r. row b r) rs) (sym front) ∙ h) in
@@ -55,7 +55,7 @@ same_rows b (r ∷ rs) (t ∷ ts) e good h =
 join_is_short : (ss : List (List ℕ)) → list_all is_rank ss ≡ true
     → length (join_with_byte 47 (map (λ (c : Board). rank_text 0 c) (map (λ s. cells_of s) ss))) ≤ length (join_with_byte 47 ss)
 join_is_short [] h = omega arith
-join_is_short (s ∷ []) h = one_is_short s (first_of_two (is_rank s) true h)
+join_is_short (s ∷ []) h = one_is_short s (first_of_two _ true h)
   where
     one_is_short : (s : List ℕ) → is_rank s ≡ true → length (rank_text 0 (cells_of s)) ≤ length s
     one_is_short s good = omega (arith, rank_is_short s 0 (first_of_two (list_all is_item s) (length (cells_of s) == 8) good))
@@ -85,15 +85,15 @@ cells_reversed (s ∷ ss) =
     cc (reverse_next (cells_of s) (map (λ t. cells_of t) ss), cells_reversed ss, map-append (λ t. cells_of t) (reverse ss) (s ∷ []), reverse_next s ss)
 
 there_and_back : (ss : List (List ℕ)) → reverse (map (λ t. cells_of t) (reverse ss)) ≡ map (λ t. cells_of t) ss
-there_and_back ss = cc (cells_reversed (reverse ss), reverse-reverse ss)
+there_and_back ss = cc (cells_reversed _, reverse-reverse ss)
 
 board_is_short : (s : List ℕ) (b : Board) → SpellsBoard s b → length b ≡ 64 → length (placement_text b) ≤ length s
 board_is_short s b spells long =
     let ss : List (List ℕ) = spells.rank_texts in
-    let rows : map (λ r. row b r) lines ≡ map (λ t. cells_of t) (reverse spells.rank_texts) =
-    same_rows b lines (reverse spells.rank_texts) (sym (length-reverse spells.rank_texts ∙ spells.eight)) (all_reversed spells.rank_texts spells.each)
+    let rows : map (row b) lines ≡ map cells_of (reverse spells.rank_texts) =
+    same_rows b lines (reverse spells.rank_texts) (sym (length-reverse _ ∙ spells.eight)) (all_reversed spells.rank_texts spells.each)
     (sym (board_rows b long) ∙ spells.cells) in
-    let same : placement_text b ≡ join_with_byte 47 (map (λ (c : Board). rank_text 0 c) (map (λ t. cells_of t) spells.rank_texts)) =
+    let same : placement_text b ≡ join_with_byte 47 (map (λ (c : Board). rank_text 0 c) (map cells_of spells.rank_texts)) =
     ap (λ (bs : List Board). join_with_byte 47 (map (λ (c : Board). rank_text 0 c) (reverse bs))) rows
     ∙ ap (λ (bs : List Board). join_with_byte 47 (map (λ (c : Board). rank_text 0 c) bs)) (there_and_back spells.rank_texts) in
     omega (arith, ap (λ t. length t) same, join_is_short spells.rank_texts spells.each, ap (λ t. length t) spells.joined)
@@ -102,14 +102,14 @@ board_is_short s b spells long =
 
 number_is_short : (s : List ℕ) (n : ℕ) → SpellsNumber s n → length (decimal n) ≤ length s
 number_is_short s n spells =
-    let digits_alone : list_all is_digit s ≡ true = first_of_two (list_all is_digit s) (nat_le 1 (length s) && nat_le (length s) 5) spells.digits_alone in
-    let some : 0 < length s = some_digit s n spells in
-    let low : nat_le (length s) 5 ≡ true = second_of_two (nat_le 1 (length s)) (nat_le (length s) 5) (second_of_two (list_all is_digit s) (nat_le 1 (length s) && nat_le (length s) 5) spells.digits_alone) in
+    let digits_alone = first_of_two (list_all _ s) (nat_le 1 (length s) && nat_le (length s) 5) spells.digits_alone in
+    let some = some_digit s n spells in
+    let low = second_of_two (nat_le 1 (length s)) (nat_le (length s) 5) (second_of_two (list_all _ s) _ spells.digits_alone) in
     let five : length s ≤ 5 = grind (arith, nat_tests) in
-    let below : value s < 10 ^ length s = digits_value_short numerals s (length s) digits_alone (omega arith) in
-    let small : value s < 10 ^ 5 = digits_value_short numerals s 5 digits_alone five in
-    let number : n ≡ value s = spells.number in
-    length-decimal-le (length s) n some (rw number below) (omega (arith, number, small))
+    let below = digits_value_short numerals s (length s) digits_alone (omega arith) in
+    let small = digits_value_short numerals s 5 digits_alone five in
+    let number = spells.number in
+    length-decimal-le _ n some (rw number below) (omega (arith, number, small))
 
 length_six : (a b c d e f : List ℕ)
     → length (join_with_byte 32 (a ∷ b ∷ c ∷ d ∷ e ∷ f ∷ [])) ≡ length a + length b + length c + length d + length e + length f + 5

@@ -44,8 +44,8 @@ pub a_piece : (rank : Board) (text : List ℕ) (run i : ℕ) (cells : Board) (x 
 a_piece rank text run i cells x so_far h e =
     record {
       whole =
-          append_assoc (text ++ run_text run) (piece_letter x ∷ []) (rank_text 0 (drop (i + 1) cells))
-          ∙ append_assoc text (run_text run) (piece_letter x ∷ rank_text 0 (drop (i + 1) cells))
+          append_assoc (text ++ run_text run) (piece_letter x ∷ []) (rank_text 0 (drop _ cells))
+          ∙ append_assoc text (run_text run) (piece_letter x ∷ rank_text 0 (drop _ cells))
           ∙ ap (λ t. text ++ t) (sym (rank_text-piece run i cells x (omega (arith, h, so_far.eight)) e))
           ∙ so_far.whole;
       run_before = omega arith;

@@ -9,12 +9,12 @@ onto_first-append x (part ∷ a) b h = refl
 pub slice_split-around : {X : Type 0} (p : X → Bool) (xs : List X) (y : X) (ys : List X) → p y ≡ true
     → slice_split p (xs ++ y ∷ ys) ≡ slice_split p xs ++ slice_split p ys
 slice_split-around p [] y ys h = slice_split-cons_yes p y ys h
-slice_split-around {X} p (x ∷ xs) y ys h = by_test (p x) (slice_split-around p xs y ys h) refl
+slice_split-around {X} p (x ∷ xs) y ys h = by_test _ (slice_split-around p xs y ys h) refl
   where
     by_test : (b : Bool) → slice_split p (xs ++ y ∷ ys) ≡ slice_split p xs ++ slice_split p ys → p x ≡ b
         → slice_split p (x ∷ (xs ++ y ∷ ys)) ≡ slice_split p (x ∷ xs) ++ slice_split p ys
     by_test true within e =
-        cc (slice_split-cons_yes p x (xs ++ y ∷ ys) e, slice_split-cons_yes p x xs e)
+        cc (slice_split-cons_yes p x _ e, slice_split-cons_yes p x xs e)
     by_test false within e =
         cc (slice_split-cons_no p x (xs ++ y ∷ ys) e, onto_first-append x (slice_split p xs) (slice_split p ys) (omega (arith, length-slice_split p xs)), slice_split-cons_no p x xs e)
 

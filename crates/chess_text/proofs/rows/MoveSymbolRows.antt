@@ -4,6 +4,7 @@ use Rattle.chess_rules.specs.declared.piece.Promotion.TheVariants as become
 use Rattle.chess_text.proofs.rows.MovesOfPieces.{san_is_tried}
 use Rattle.chess_text.proofs.rows.TextLawRows.{knights, queens, rooks, promoting, kings, g1e2, c3e2, h4e1}
 use Rattle.chess_text.proofs.rows.SanRows.{named, becoming, go}
+use Rattle.chess_text.proofs.forms.CastlingForms.{legal_next}
 
 -- ---- a symbol, by the law
 
@@ -145,13 +146,9 @@ unfolding squares
 fails_unless_legal_to_read law =
     not_read NoMove c3e2 knights _ pinned_is_not_read (law knights knights c3e2 refl)
 
-next_of : (o : Option Parts) → is_some o ≡ true → (q : Parts) × (o ≡ Some q)
-next_of None h = absurd (false≢true h)
-next_of (Some q) h = (q, refl)
-
 king_next : (q : Parts) × (legal kings king_b1 ≡ Some q)
 unfolding squares
-king_next = next_of (legal kings king_b1) refl
+king_next = legal_next (legal kings king_b1) refl
 
 fails_unless_position : ((p q : Parts) (m : Move) → legal p m ≡ Some q
     → as_read p (san p m) ≡ played m q) → ⊥

@@ -1,7 +1,7 @@
 -- The laws of texts at worked examples.
 -- A row that takes a law applies it exactly as it is stated. The rows beside it compute what the
 -- law says there, or show that this is false where one premise is missing.
-use Rattle.chess_text.proofs.Words.{◌≡◌, ◌≢◌, ℕ, ◌<◌, ◌≤◌, true, false, List, [], ◌∷◌, ◌++◌, Option, None, Some, Result, Ok, Err, length, refl, sym, ◌∙◌, ap, subst, arith, codes, slice_index_or, digits, false≢true, Kind, King, Queen, Rook, Knight, Pawn, Move, Parts, squares, is_position, initial, own, is_legal, legal, FenFault, Form, Man, Fen, parts_read, fen_text, Spells, form_of, agrees, rivals, disambiguation, has_rivals, san, CanonicalIsShortest, Names, SingleReading, ShorterIsAmbiguous, disambiguations, text_with}
+use Rattle.chess_text.proofs.Words.{◌≡◌, ◌≢◌, ℕ, ◌<◌, ◌≤◌, true, false, List, [], ◌∷◌, ◌++◌, Option, None, Some, Result, Ok, Err, length, refl, sym, ◌∙◌, ap, subst, arith, codes, slice_index_or, digits, false≢true, Kind, King, Queen, Rook, Knight, Pawn, Move, Parts, squares, is_position, initial, own, is_legal, legal, FenFault, Form, Man, Fen, parts_read, fen_text, Spells, form_of, agrees, rivals, disambiguation, has_rivals, san, CanonicalIsShortest, Names, SingleReading, ShorterIsAmbiguous, disambiguations, text_with, same_Some}
 use Rattle.chess_rules.specs.declared.piece.Promotion.TheVariants as become
 use Rattle.chess_text.proofs.forms.SpellingToForm.{form_read}
 use Rattle.chess_text.proofs.rows.MovesOfPieces.{mark_is_tried}
@@ -55,13 +55,10 @@ NamesAlone p s m = (n : Move) → Names p s n → n ≡ m
 abbrev NamesAnother : Parts → List ℕ → Move → Type 0
 NamesAnother p s m = (n : Move) × (n ≢ m) × Names p s n
 
-same_some : {A : Type 0} (x y : A) → Some x ≡ Some y → x ≡ y
-same_some x y h = cc
-
 -- A text names no move that does not agree with the form that the text spells.
 unnamed : (p : Parts) (s : List ℕ) (m : Move) (f : Form) → form_of s ≡ Some f → agrees p f m ≡ false → Names p s m → ⊥
 unnamed p s m f read wrong (g, spells, good, agreed) =
-    false≢true (sym wrong ∙ subst (λ (x : Form). agrees p x m ≡ true) (same_some g f (sym (form_read s g spells good) ∙ read)) agreed)
+    false≢true (sym wrong ∙ subst (λ (x : Form). agrees p x m ≡ true) (same_Some g f (sym (form_read s g spells good) ∙ read)) agreed)
 
 -- SingleReading: the text of a legal move names this move and no other.
 

@@ -20,9 +20,9 @@ a_fault p f (Some fault) h = refl
 pub returns-in-Ok : goal.returns-in-Ok
 returns-in-Ok c =
     let p = c.in_ok-parts.parts in
-    no_fault p c.in-Ok.position (position_fault p) c.in-Ok.ensures ∙ (sym (of_fault p (position_fault p) (omega arith)) ∙ ap if_position c.in_ok-parts.ensures)
+    no_fault p _ _ c.in-Ok.ensures ∙ sym (of_fault p (position_fault p) (omega arith)) ∙ ap if_position c.in_ok-parts.ensures
 
 pub returns-in-Err : goal.returns-in-Err
 returns-in-Err c =
     let p = c.in_ok-parts.parts in
-    a_fault p c.in-Err.field-0 (position_fault p) c.in-Err.ensures ∙ (sym (of_fault p (position_fault p) (omega arith)) ∙ ap if_position c.in_ok-parts.ensures)
+    a_fault p c.in-Err.field-0 _ c.in-Err.ensures ∙ sym (of_fault p (position_fault p) (omega arith)) ∙ ap if_position c.in_ok-parts.ensures

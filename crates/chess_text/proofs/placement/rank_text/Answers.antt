@@ -31,22 +31,22 @@ pub loop-cell-preserved : goal.loop-cell-preserved
 loop-cell-preserved c =
     elim c.match-cell.branch [
       | in-None w ↦
-          moved (row c.args.position.now.board c.args.rank) c.loop-cell.text.items c.match-cell.text.items (c.loop-cell.run + 1) c.match-cell.run (c.loop-cell.cell-index + 1)
-          c.cells_of_rank-cell-items.result (rw w.text-is refl) w.run-is
-          (empty_square (row c.args.position.now.board c.args.rank) c.loop-cell.text.items c.loop-cell.run c.loop-cell.cell-index c.cells_of_rank-cell-items.result
+          moved _ c.loop-cell.text.items _ (c.loop-cell.run + 1) _ _
+          _ (rw w.text-is refl) w.run-is
+          (empty_square _ _ _ _ _
           c.loop-cell.invariant c.loop-cell-test.true w.in-None.is)
       | in-Some w ↦
-          moved (row c.args.position.now.board c.args.rank) ((c.loop-cell.text.items ++ run_text c.loop-cell.run) ++ piece_letter w.in-Some.piece ∷ []) c.match-cell.text.items 0 c.match-cell.run
-          (c.loop-cell.cell-index + 1) c.cells_of_rank-cell-items.result
+          moved _ ((c.loop-cell.text.items ++ run_text c.loop-cell.run) ++ piece_letter w.in-Some.piece ∷ []) _ 0 _
+          _ _
           (rw w.text-is refl ∙ w.push.ensures.items ∙ ap₂ (λ (t : List ℕ) x. t ++ x ∷ []) w.push_run.ensures w.piece_letter.ensures)
           w.run-is
-          (a_piece (row c.args.position.now.board c.args.rank) c.loop-cell.text.items c.loop-cell.run c.loop-cell.cell-index c.cells_of_rank-cell-items.result
+          (a_piece _ c.loop-cell.text.items c.loop-cell.run _ _
           w.in-Some.piece c.loop-cell.invariant c.loop-cell-test.true w.in-Some.is)
     ]
 
 pub push_run-requires-2-clause-room : goal.push_run-requires-2-clause-room
 push_run-requires-2-clause-room c =
-    room_at_end (row c.args.position.now.board c.args.rank) c.loop-cell.text.items c.loop-cell.run c.loop-cell.cell-index c.cells_of_rank-cell-items.result
+    room_at_end (row c.args.position.now.board c.args.rank) _ _ c.loop-cell.cell-index c.cells_of_rank-cell-items.result
     c.loop-cell.invariant refl c.loop-cell-test.false
 
 pub returns-clause-short : goal.returns-clause-short

@@ -19,7 +19,7 @@ returns-clause-text c =
     ∙ ap₂ (λ (s t : List ℕ). s ++ t)
     (c.push_capture.ensures
     ∙ ap₂ (λ (s t : List ℕ). s ++ t) (c.push.ensures.items ∙ ap (λ (s : List ℕ). s ++ 75 ∷ []) c.requires.empty)
-    (ap (λ b. capture_if b) (something c.args.position.now c.args.mv.now c.at.result c.is_some.result c.at.ensures c.is_some.ensures
+    (ap capture_if (something c.args.position.now c.args.mv.now c.at.result _ c.at.ensures c.is_some.ensures
     ∙ sym (piece_takes c.args.position.now c.args.mv.now King c.requires.king refl))))
     refl
     ∙ sym (step_written c.args.position.now c.args.mv.now (sym c.is_castling.ensures ∙ c.if-is_castling.false))

@@ -23,7 +23,7 @@ push_disambiguated_text-requires c =
       empty = c.requires.empty;
       legal = c.requires.legal;
       own = mover c.args.position.now c.args.mv.now c.in-Some.piece c.requires.legal (sym c.at.ensures ∙ c.in-Some.is);
-      may_have_rivals = may_have_rivals c.in-Some.piece.kind (λ e. c.in_default-kind.not-King e) (λ e. c.in_default-kind.not-Pawn e);
+      may_have_rivals = may_have_rivals _ c.in_default-kind.not-King c.in_default-kind.not-Pawn;
       room = c.requires.room;
     }
 

@@ -18,7 +18,7 @@ mark_short false true = omega arith
 mark_short false false = omega arith
 
 joined : (c : goal.After-push_mark) → length c.push_mark.new.text.items ≡ length c.push_unmarked.new.text.items + length (mark_after c.args.played.now.next)
-joined c = ap (λ t. length t) c.push_mark.ensures.text ∙ length-append c.push_unmarked.new.text.items (mark_after c.args.played.now.next)
+joined c = ap length c.push_mark.ensures.text ∙ length-append _ _
 
 pub returns-clause-some : goal.returns-clause-some
 returns-clause-some c = omega (arith, joined c, c.push_unmarked.ensures.some)
