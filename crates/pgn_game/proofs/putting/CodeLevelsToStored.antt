@@ -1,11 +1,7 @@
 -- The levels of movetext as they are kept, the game's own first, and as contracts see them, the
 -- current level first.
-use Rattle.std.proofs.Common.{◌≡◌, ℕ, zero, suc, ◌+◌, ◌-◌, ◌<◌, ◌≤◌, List, [], ◌∷◌, ◌++◌, length, take, drop, set, get_or, refl, sym, ap, ◌∙◌, arith, Option, None, Some, IsSome, IfSome}
-use Rattle.std.proofs.lemmas.List.{take-append-le, take_all}
-use Rattle.std.specs.List.{refill}
-use Rattle.chess_rules.specs.declared.position.Parts.{Parts}
+use Rattle.pgn_game.proofs.Words.{◌≡◌, ℕ, zero, suc, ◌+◌, ◌-◌, ◌<◌, ◌≤◌, List, [], ◌∷◌, ◌++◌, length, take, drop, set, get_or, refl, sym, ap, ◌∙◌, arith, Option, None, Some, IsSome, IfSome, take-append-le, take_all, refill, Parts, StoredLevels, level_of, inside, code_levels, ClosesLevel, level_at}
 use Rattle.pgn_game.specs.declared.levels.Level.{Level as CodeLevel}
-use Rattle.pgn_game.specs.Movetext.{StoredLevels, level_of, inside, code_levels, ClosesLevel, level_at}
 
 -- one level deeper
 abbrev deeper : StoredLevels → CodeLevel → StoredLevels
