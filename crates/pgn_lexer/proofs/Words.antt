@@ -1,7 +1,7 @@
 -- The words that proofs of this crate name, under one path.
 pub use Rattle.std.proofs.Common.{Bool, List, [], add-one, ap, append-nil, append_assoc, arith, cond, drop, eq-eqb, eqb, false, get_or, inl, inr, length, length-append, length-take-le, refl, subst, suc, sym, take, take-append-drop, true, zero, ℕ, ◌%◌, ◌*◌, ◌++◌, ◌+◌, ◌-◌, ◌/◌, ◌<◌, ◌^◌, ◌∙◌, ◌∷◌, ◌≡◌, ◌≤◌}
 pub use Rattle.std.proofs.Math.Seq.{drop-append_seam, drop-cons}
-pub use Rattle.std.proofs.lemmas.Bool.{agree_below_at, eqb-true, false≢true, le-leb, le-ltb, leb-false, leb-true, lt-leb, lt-ltb, ltb-false, ltb-true}
+pub use Rattle.std.proofs.lemmas.Bool.{agree_below_at, and_parts, eqb-true, false≢true, le-leb, le-ltb, leb-false, leb-true, lt-leb, lt-ltb, ltb-false, ltb-true, not-false, not-true, or_cases, or_left, or_right}
 pub use Rattle.std.proofs.lemmas.List.{length-replicate, take_all, take_more}
 pub use Rattle.std.proofs.lemmas.List.Sums.{fold-append, take_while-cons}
 pub use Rattle.std.specs.Cmp.Derive.{both_true}

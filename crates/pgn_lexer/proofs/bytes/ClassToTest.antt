@@ -1,16 +1,7 @@
 -- What a class says of a byte, and what a test says of its class.
-use Rattle.pgn_lexer.proofs.Words.{◌≡◌, ℕ, ◌<◌, Bool, true, false, inl, inr, refl, sym, subst, ◌∙◌, arith, ◌||◌, ◌&&◌, ◌⊎◌, not, nat_le, ◌==◌, if◌then◌else◌, eqb-true, leb-true, false≢true, agree_below_at, StrayByte, ControlByte, Reserved, Class, LineEnd, Space, Percent, SymbolStart, Quote, Dollar, Suffix, OpenBrace, Semicolon, Alone, Refused, CommentClass, is_line_end, is_blank, is_control, starts_symbol, is_suffix, continues_word, class, comment_class, is_stray}
+use Rattle.pgn_lexer.proofs.Words.{◌≡◌, ℕ, ◌<◌, Bool, true, false, inl, inr, refl, sym, subst, ◌∙◌, arith, ◌||◌, ◌&&◌, ◌⊎◌, not, nat_le, ◌==◌, if◌then◌else◌, eqb-true, leb-true, false≢true, agree_below_at, StrayByte, ControlByte, Reserved, Class, LineEnd, Space, Percent, SymbolStart, Quote, Dollar, Suffix, OpenBrace, Semicolon, Alone, Refused, CommentClass, is_line_end, is_blank, is_control, starts_symbol, is_suffix, continues_word, class, comment_class, is_stray, or_cases, and_parts}
 use Rattle.pgn_lexer.specs.declared.class.Single.TheVariants as singles
 use Rattle.pgn_lexer.specs.declared.class.CommentClass.TheVariants as comments
-
--- a test of two that holds, or of one and another
-pub either : (a b : Bool) → (a || b) ≡ true → (a ≡ true) ⊎ (b ≡ true)
-either true b e = inl refl
-either false b e = inr e
-
-pub both : (a b : Bool) → (a && b) ≡ true → (a ≡ true) × (b ≡ true)
-both true b e = (refl, e)
-both false b e = absurd (false≢true e)
 
 -- from a class to what is said of the byte; the tests are those of `class`, in its order
 abbrev Says : (symbol line_end blank suffix percent quote dollar brace semicolon lb rb lp rp period asterisk reserved control : Bool) → Class → Type 0
@@ -94,7 +85,7 @@ symbol_class b e = with_start _ _ e
     with_start false c e = absurd (false≢true e)
 
 line_end_byte : (b : ℕ) → is_line_end b ≡ true → (b ≡ 10) ⊎ (b ≡ 13)
-line_end_byte b e = cases (either _ _ e)
+line_end_byte b e = cases (or_cases _ _ e)
   where
     cases : ((b == 10) ≡ true) ⊎ ((b == 13) ≡ true) → (b ≡ 10) ⊎ (b ≡ 13)
     cases (inl e) = inl (eqb-true b 10 e)
@@ -109,18 +100,18 @@ of_line_end P b e ten thirteen = cases (line_end_byte b e)
     cases (inr e) = subst P (sym e) thirteen
 
 of_blank : (P : ℕ → Type 0) (b : ℕ) → is_blank b ≡ true → P 9 → P 11 → P 12 → P 32 → P b
-of_blank P b e nine eleven twelve space = first (either _ _ e)
+of_blank P b e nine eleven twelve space = first (or_cases _ _ e)
   where
     third : ((b == 9) ≡ true) ⊎ ((b == 11) ≡ true) → P b
     third (inl e) = subst P (sym (eqb-true b 9 e)) nine
     third (inr e) = subst P (sym (eqb-true b 11 e)) eleven
 
     second : (((b == 9) || (b == 11)) ≡ true) ⊎ ((b == 12) ≡ true) → P b
-    second (inl e) = third (either _ _ e)
+    second (inl e) = third (or_cases _ _ e)
     second (inr e) = subst P (sym (eqb-true b 12 e)) twelve
 
     first : (((b == 9) || (b == 11) || (b == 12)) ≡ true) ⊎ ((b == 32) ≡ true) → P b
-    first (inl e) = second (either _ _ e)
+    first (inl e) = second (or_cases _ _ e)
     first (inr e) = subst P (sym (eqb-true b 32 e)) space
 
 pub line_end_class : (b : ℕ) → is_line_end b ≡ true → class b ≡ LineEnd
@@ -136,14 +127,14 @@ pub blank_comment : (b : ℕ) → is_blank b ≡ true → comment_class b ≡ co
 blank_comment b e = of_blank (λ b. comment_class b ≡ comments.Space) b e refl refl refl refl
 
 pub suffix_class : (b : ℕ) → is_suffix b ≡ true → class b ≡ Suffix
-suffix_class b e = cases (either _ _ e)
+suffix_class b e = cases (or_cases _ _ e)
   where
     cases : ((b == 33) ≡ true) ⊎ ((b == 63) ≡ true) → class b ≡ Suffix
     cases (inl e) = subst (λ b. class b ≡ Suffix) (sym (eqb-true b 33 e)) refl
     cases (inr e) = subst (λ b. class b ≡ Suffix) (sym (eqb-true b 63 e)) refl
 
 pub reserved_class : (b : ℕ) → ((b == 60) || (b == 62)) ≡ true → class b ≡ Refused Reserved
-reserved_class b e = cases (either _ _ e)
+reserved_class b e = cases (or_cases _ _ e)
   where
     cases : ((b == 60) ≡ true) ⊎ ((b == 62) ≡ true) → class b ≡ Refused Reserved
     cases (inl e) = subst (λ b. class b ≡ Refused Reserved) (sym (eqb-true b 60 e)) refl
@@ -167,14 +158,14 @@ told_control_in_comment comments.Control e = refl
 told_control_in_comment _ e = absurd (false≢true e)
 
 control_small : (b : ℕ) → is_control b ≡ true → b < 128
-control_small b e = cases (either _ _ e)
+control_small b e = cases (or_cases _ _ e)
   where
     second : (nat_le b 8 ≡ true) ⊎ ((nat_le 14 b && nat_le b 31) ≡ true) → b < 128
     second (inl e) = omega (arith, leb-true b 8 e)
-    second (inr e) = omega (arith, leb-true b 31 (both _ _ e).1)
+    second (inr e) = omega (arith, leb-true b 31 (and_parts _ _ e).1)
 
     cases : ((nat_le b 8 || (nat_le 14 b && nat_le b 31)) ≡ true) ⊎ ((b == 127) ≡ true) → b < 128
-    cases (inl e) = second (either _ _ e)
+    cases (inl e) = second (or_cases _ _ e)
     cases (inr e) = omega (arith, eqb-true b 127 e)
 
 pub control_class : (b : ℕ) → is_control b ≡ true → class b ≡ Refused ControlByte

@@ -1,7 +1,6 @@
 -- Numbers in decimal.
-use Rattle.pgn_lexer.proofs.Words.{◌≡◌, ℕ, ◌+◌, ◌-◌, ◌*◌, ◌/◌, ◌%◌, ◌^◌, ◌<◌, ◌≤◌, Bool, true, false, List, [], ◌∷◌, ◌++◌, length, refl, ap, ◌∙◌, arith, length-append, ◌||◌, decimal, both_true, list_all, le-leb, fold-append, is_letter, is_digit, starts_symbol, continues_symbol, NumbersAreSymbols, IsSymbol, number_of}
+use Rattle.pgn_lexer.proofs.Words.{◌≡◌, ℕ, ◌+◌, ◌-◌, ◌*◌, ◌/◌, ◌%◌, ◌^◌, ◌<◌, ◌≤◌, Bool, true, false, List, [], ◌∷◌, ◌++◌, length, refl, ap, ◌∙◌, arith, length-append, ◌||◌, decimal, both_true, list_all, le-leb, fold-append, is_letter, is_digit, starts_symbol, continues_symbol, NumbersAreSymbols, IsSymbol, number_of, and_parts}
 use Rattle.std.proofs.lemmas.Fmt.{decimal_by_steps, length-decimal-le}
-use Rattle.pgn_lexer.proofs.bytes.ClassToTest.{both}
 use Rattle.pgn_lexer.proofs.cutting.TokensAreSound.{start_continues}
 
 -- digits that spell a number
@@ -17,7 +16,7 @@ all_append : (p : ℕ → Bool) (xs ys : List ℕ) → list_all p xs ≡ true �
     → list_all p (xs ++ ys) ≡ true
 all_append p [] ys all more = more
 all_append p (x ∷ xs) ys all more =
-    let first = both (p x) (list_all p xs) all in
+    let first = and_parts (p x) (list_all p xs) all in
     both_true first.0 (all_append p xs ys first.1 more)
 
 one_digit : (n : ℕ) → n < 10 → IsNumber n ((48 + n) ∷ [])
@@ -52,14 +51,14 @@ digit_starts b e = cases _
 digits_continue : (ds : List ℕ) → list_all is_digit ds ≡ true → list_all continues_symbol ds ≡ true
 digits_continue [] all = refl
 digits_continue (d ∷ ds) all =
-    let first = both (is_digit d) (list_all _ ds) all in
+    let first = and_parts (is_digit d) (list_all _ ds) all in
     both_true (start_continues d (digit_starts d first.0)) (digits_continue ds first.1)
 
 symbol_of : (n : ℕ) (ds : List ℕ) → IsNumber n ds → length ds ≤ 255 → IsSymbol ds
 symbol_of n [] h fits = absurd (omega (arith, h.some))
 symbol_of n (d ∷ ds) h fits =
     record {
-      begins = digit_starts d (both _ (list_all _ ds) h.digits).0;
+      begins = digit_starts d (and_parts _ (list_all _ ds) h.digits).0;
       bytes = digits_continue (d ∷ ds) h.digits;
       fits = fits;
     }

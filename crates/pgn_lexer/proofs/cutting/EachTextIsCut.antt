@@ -1,12 +1,12 @@
 -- Each text can be cut.
-use Rattle.pgn_lexer.proofs.Words.{◌≡◌, ℕ, zero, suc, ◌+◌, ◌<◌, ◌≤◌, Bool, true, false, inl, inr, List, [], ◌∷◌, ◌++◌, length, refl, sym, ap, subst, ◌∙◌, append_assoc, arith, length-append, ◌||◌, ◌&&◌, ◌⊎◌, not, nat_le, nat_lt, ◌==◌, if◌then◌else◌, list_all, both_true, eqb-true, leb-true, leb-false, ltb-true, ltb-false, false≢true, agree_below_at, LexReason, StrayByte, ControlByte, Reserved, Class, CommentClass, StringClass, is_line_end, is_blank, is_control, is_digit, starts_symbol, continues_symbol, is_suffix, continues_word, Kind, Token, class, comment_class, string_class, number_of, tokens_from, tokens_of, has_mark, LexesOnce, StopsAt, IsAtLineEnd, IsRun, is_escaped, is_barred, is_plain, Data, IsSuffix, SpellsToken, Refuses, Where, Cuts, Lexes}
+use Rattle.pgn_lexer.proofs.Words.{◌≡◌, ℕ, zero, suc, ◌+◌, ◌<◌, ◌≤◌, Bool, true, false, inl, inr, List, [], ◌∷◌, ◌++◌, length, refl, sym, ap, subst, ◌∙◌, append_assoc, arith, length-append, ◌||◌, ◌&&◌, ◌⊎◌, not, nat_le, nat_lt, ◌==◌, if◌then◌else◌, list_all, both_true, eqb-true, leb-true, leb-false, ltb-true, ltb-false, false≢true, agree_below_at, LexReason, StrayByte, ControlByte, Reserved, Class, CommentClass, StringClass, is_line_end, is_blank, is_control, is_digit, starts_symbol, continues_symbol, is_suffix, continues_word, Kind, Token, class, comment_class, string_class, number_of, tokens_from, tokens_of, has_mark, LexesOnce, StopsAt, IsAtLineEnd, IsRun, is_escaped, is_barred, is_plain, Data, IsSuffix, SpellsToken, Refuses, Where, Cuts, Lexes, or_cases, and_parts, or_right, or_left}
 use Rattle.pgn_lexer.specs.declared.class.Single.TheVariants as singles
 use Rattle.pgn_lexer.specs.declared.class.Class.TheVariants as classes
 use Rattle.pgn_lexer.specs.declared.class.CommentClass.TheVariants as comments
 use Rattle.pgn_lexer.specs.declared.class.StringClass.TheVariants as strings
 use Rattle.pgn_lexer.specs.Lexes as rules
 use Rattle.pgn_lexer.proofs.stepping.FirstBytes.{unmarked}
-use Rattle.pgn_lexer.proofs.bytes.ClassToTest.{either, both, ClassSays, class_says, blank_class, tells_control_in_comment}
+use Rattle.pgn_lexer.proofs.bytes.ClassToTest.{ClassSays, class_says, blank_class, tells_control_in_comment}
 use Rattle.pgn_lexer.proofs.cutting.StringData.{StringSays, string_says}
 use Rattle.pgn_lexer.proofs.cutting.RulesToTokens.{within_of, cuts_is}
 
@@ -66,14 +66,6 @@ one_more n b front s write h =
       stop = subst (λ m. Stop m h.rest) same h.stop;
       shorter = omega (arith, length-append front s);
     }
-
-or_right : (a b : Bool) → b ≡ true → (a || b) ≡ true
-or_right true b e = refl
-or_right false b e = e
-
-or_left : (a b : Bool) → a ≡ true → (a || b) ≡ true
-or_left true b e = refl
-or_left false b e = absurd (false≢true e)
 
 has_data : (k n : ℕ) (s : List ℕ) → length s ≤ k → n ≤ 255 → HasData n s
 has_data k n [] short fits = stops_here n [] fits (at_line_end n [] tt)
@@ -173,8 +165,8 @@ module _ (n at : ℕ) (on : Further n) where
           by_number : (c : Bool) → nat_le (number_of (d ∷ ds)) 255 ≡ c → Cut (rules.outside first) at (36 ∷ d ∷ (ds ++ h.rest))
           by_number true small =
               let less : length h.rest ≤ length bs = h.shorter in
-              one_token first (36 ∷ d ∷ ds) h.rest _ (rules.glyph d ds h.rest (both _ _ all).0 ((both _ _ all).1, h.stop) (leb-true _ 255 small)) (omega arith)
-          by_number false large = one_refusal first _ 0 _ (rules.large_glyph d ds h.rest (both _ _ all).0 ((both _ _ all).1, h.stop) (leb-false _ 255 large))
+              one_token first (36 ∷ d ∷ ds) h.rest _ (rules.glyph d ds h.rest (and_parts _ _ all).0 ((and_parts _ _ all).1, h.stop) (leb-true _ 255 small)) (omega arith)
+          by_number false large = one_refusal first _ 0 _ (rules.large_glyph d ds h.rest (and_parts _ _ all).0 ((and_parts _ _ all).1, h.stop) (leb-false _ 255 large))
 
   a_suffix : (first : Bool) (b : ℕ) (bs : List ℕ) → is_suffix b ≡ true → length bs ≤ n → Split is_suffix bs → Cut (rules.outside first) at (b ∷ bs)
   a_suffix first b bs e short h = cut_as _ at (b ∷ bs) (b ∷ (h.run ++ h.rest)) (ap (λ l. b ∷ l) h.cut) (cases h.run h.all)
@@ -183,14 +175,14 @@ module _ (n at : ℕ) (on : Further n) where
       less = let l : length h.rest ≤ length bs = h.shorter in omega arith
 
       one : (c : ℕ) → is_suffix c ≡ true → (m : ℕ) × IsSuffix (c ∷ []) m
-      one c e = mark (either (c == 33) (c == 63) e)
+      one c e = mark (or_cases (c == 33) (c == 63) e)
         where
           mark : ((c == 33) ≡ true) ⊎ ((c == 63) ≡ true) → (m : ℕ) × IsSuffix (c ∷ []) m
           mark (inl e) = subst (λ c. (m : ℕ) × IsSuffix (c ∷ []) m) (sym (eqb-true c 33 e)) (1, rules.good)
           mark (inr e) = subst (λ c. (m : ℕ) × IsSuffix (c ∷ []) m) (sym (eqb-true c 63 e)) (2, rules.poor)
 
       two : (c d : ℕ) → is_suffix c ≡ true → is_suffix d ≡ true → (m : ℕ) × IsSuffix (c ∷ d ∷ []) m
-      two c d e f = marks (either (c == 33) (c == 63) e) (either (d == 33) (d == 63) f)
+      two c d e f = marks (or_cases (c == 33) (c == 63) e) (or_cases (d == 33) (d == 63) f)
         where
           marks : ((c == 33) ≡ true) ⊎ ((c == 63) ≡ true) → ((d == 33) ≡ true) ⊎ ((d == 63) ≡ true) → (m : ℕ) × IsSuffix (c ∷ d ∷ []) m
           marks (inl e) (inl f) = subst (λ c. (m : ℕ) × IsSuffix (c ∷ d ∷ []) m) (sym (eqb-true c 33 e)) (subst (λ d. (m : ℕ) × IsSuffix (33 ∷ d ∷ []) m) (sym (eqb-true d 33 f)) (3, rules.very_good))
@@ -201,7 +193,7 @@ module _ (n at : ℕ) (on : Further n) where
       cases : (run : List ℕ) → list_all is_suffix run ≡ true → Cut (rules.outside first) at (b ∷ (run ++ h.rest))
       cases [] all = one_token first (b ∷ []) h.rest _ (rules.suffix (b ∷ []) h.rest (one b e).0 (one b e).1 h.stop) less
       cases (c ∷ []) all =
-          let f : is_suffix c ≡ true = (both (is_suffix c) true all).0 in
+          let f : is_suffix c ≡ true = (and_parts (is_suffix c) true all).0 in
           one_token first (b ∷ c ∷ []) h.rest _ (rules.suffix (b ∷ c ∷ []) h.rest (two b c e f).0 (two b c e f).1 h.stop) less
       cases (c ∷ d ∷ run) all = one_refusal first _ 0 _ (rules.bad_suffix (b ∷ c ∷ d ∷ run) h.rest (both_true e all, h.stop) (omega arith))
 
@@ -293,8 +285,8 @@ mark_cut [] e = absurd (false≢true e)
 mark_cut (a ∷ []) e = absurd (false≢true e)
 mark_cut (a ∷ b ∷ []) e = absurd (false≢true e)
 mark_cut (a ∷ b ∷ c ∷ s) e =
-    let two = both _ (c == 191) e in
-    let one = both (a == 239) (b == 187) two.0 in
+    let two = and_parts _ (c == 191) e in
+    let one = and_parts (a == 239) (b == 187) two.0 in
     (s, ap (λ x. x ∷ b ∷ c ∷ s) (eqb-true a 239 one.0) ∙ ap (λ x. 239 ∷ x ∷ c ∷ s) (eqb-true b 187 one.1) ∙ ap (λ x. 239 ∷ 187 ∷ x ∷ s) (eqb-true c 191 two.1))
 
 tokens_lex : (s : List ℕ) → Lexes s (tokens_of s)

@@ -1,12 +1,12 @@
 -- How a text is cut, and its tokens.
-use Rattle.pgn_lexer.proofs.Words.{◌≡◌, ℕ, ◌+◌, ◌<◌, ◌≤◌, Bool, true, false, inl, inr, List, [], ◌∷◌, ◌++◌, length, refl, sym, ap, ◌∙◌, append-nil, append_assoc, arith, length-append, ◌||◌, ◌⊎◌, not, take_while, if◌then◌else◌, list_all, false≢true, LexReason, ControlByte, BadSuffix, Class, CommentClass, is_line_end, is_blank, is_space, is_control, is_digit, starts_symbol, continues_symbol, is_suffix, continues_word, Kind, Token, class, comment_class, symbol_at, word_at, number_of, glyph_at, suffix_at, Within, begins_class, begins_brace, begins_line, after_class, after_brace, after_line, onto, tokens_from, tokens_of, StopsAt, IsRun, IsSingle, IsSuffix, SpellsToken, Refuses, Where, Cuts, both_true, string_at, reading, with_front, Data}
+use Rattle.pgn_lexer.proofs.Words.{◌≡◌, ℕ, ◌+◌, ◌<◌, ◌≤◌, Bool, true, false, inl, inr, List, [], ◌∷◌, ◌++◌, length, refl, sym, ap, ◌∙◌, append-nil, append_assoc, arith, length-append, ◌||◌, ◌⊎◌, not, take_while, if◌then◌else◌, list_all, false≢true, LexReason, ControlByte, BadSuffix, Class, CommentClass, is_line_end, is_blank, is_space, is_control, is_digit, starts_symbol, continues_symbol, is_suffix, continues_word, Kind, Token, class, comment_class, symbol_at, word_at, number_of, glyph_at, suffix_at, Within, begins_class, begins_brace, begins_line, after_class, after_brace, after_line, onto, tokens_from, tokens_of, StopsAt, IsRun, IsSingle, IsSuffix, SpellsToken, Refuses, Where, Cuts, both_true, string_at, reading, with_front, Data, or_cases, and_parts, not-true, not-false}
 use Rattle.pgn_lexer.specs.declared.class.Class.TheVariants as classes
 use Rattle.pgn_lexer.specs.declared.class.CommentClass.TheVariants as comments
 use Rattle.pgn_lexer.specs.Tokens as tokens
 use Rattle.pgn_lexer.specs.TokensOf as places
 use Rattle.pgn_lexer.specs.Lexes as rules
 use Rattle.pgn_lexer.proofs.stepping.RunOfBytes.{take_while-true, take_while-false, symbol_goes, symbol_ends, glyph_goes, glyph_ends, suffix_goes, suffix_ends}
-use Rattle.pgn_lexer.proofs.bytes.ClassToTest.{either, both, stray_class, symbol_class, line_end_class, blank_class, line_end_comment, blank_comment, suffix_class, reserved_class, control_class, control_comment, letter_comment}
+use Rattle.pgn_lexer.proofs.bytes.ClassToTest.{stray_class, symbol_class, line_end_class, blank_class, line_end_comment, blank_comment, suffix_class, reserved_class, control_class, control_comment, letter_comment}
 use Rattle.pgn_lexer.proofs.stepping.ByteInSymbol.{symbol_fits, symbol_long}
 use Rattle.pgn_lexer.proofs.cutting.StringData.{reads_data, reads_long, reads_control, reads_open, quotes_skip}
 use Rattle.pgn_lexer.proofs.stepping.ByteInComment.{word_fits, word_long, word_class, brace_ends, line_ends}
@@ -24,7 +24,7 @@ pub take_run : (p : ℕ → Bool) (run s : List ℕ) → list_all p run ≡ true
 take_run p [] [] all stop = refl
 take_run p [] (b ∷ s) all stop = take_while-false p b s stop
 take_run p (b ∷ run) s all stop =
-    take_while-true p b _ (both _ _ all).0 ∙ ap (λ l. b ∷ l) (take_run p run s (both _ _ all).1 stop)
+    take_while-true p b _ (and_parts _ _ all).0 ∙ ap (λ l. b ∷ l) (take_run p run s (and_parts _ _ all).1 stop)
 
 -- the places within a run give nothing
 module _ (within out : Within) (p : ℕ → Bool) (goes : (at b : ℕ) (s : List ℕ) → p b ≡ true → tokens_from at within (b ∷ s) ≡ tokens_from (at + 1) within s)
@@ -33,7 +33,7 @@ module _ (within out : Within) (p : ℕ → Bool) (goes : (at b : ℕ) (s : List
   skips at [] s all stop = let same : at ≡ at + 0 = omega arith in ends at s stop ∙ ap (λ n. tokens_from n out s) same
   skips at (b ∷ run) s all stop =
       let same : at + 1 + length run ≡ at + length (b ∷ run) = omega arith in
-      goes at b (run ++ s) (both _ _ all).0 ∙ skips (at + 1) run s (both _ _ all).1 stop ∙ ap (λ n. tokens_from n out s) same
+      goes at b (run ++ s) (and_parts _ _ all).0 ∙ skips (at + 1) run s (and_parts _ _ all).1 stop ∙ ap (λ n. tokens_from n out s) same
 
 symbol_stops : (at : ℕ) (s : List ℕ) → StopsAt continues_symbol s → tokens_from at places.in_symbol s ≡ tokens_from at places.outside s
 symbol_stops at [] stop = refl
@@ -46,14 +46,6 @@ glyph_stops at (b ∷ s) stop = glyph_ends at b s stop
 suffix_stops : (at : ℕ) (s : List ℕ) → StopsAt is_suffix s → tokens_from at places.in_suffix s ≡ tokens_from at places.outside s
 suffix_stops at [] stop = refl
 suffix_stops at (b ∷ s) stop = suffix_ends at b s stop
-
-not_true : (b : Bool) → not b ≡ true → b ≡ false
-not_true true e = absurd (false≢true e)
-not_true false e = refl
-
-not_false : (b : Bool) → not b ≡ false → b ≡ true
-not_false true e = refl
-not_false false e = absurd (false≢true (sym e))
 
 -- outside strings and comments, where no escape line begins
 from_class : (first : Bool) (at b : ℕ) (s : List ℕ) (c : Class) → class b ≡ c → (c ≡ classes.Percent → ⊥)
@@ -77,7 +69,7 @@ from_class true at b s c e other = ap (λ c. onto at (places.begins_first at c b
 
 pub space_skips : (first : Bool) (at b : ℕ) (s : List ℕ) → is_space b ≡ true
     → tokens_from at (within_of (rules.outside first)) (b ∷ s) ≡ tokens_from (at + 1) (within_of (rules.outside (is_line_end b))) s
-space_skips first at b s e = cases (either _ _ e)
+space_skips first at b s e = cases (or_cases _ _ e)
   where
     cases : (is_line_end b ≡ true) ⊎ (is_blank b ≡ true) → tokens_from at (within_of (rules.outside first)) (b ∷ s) ≡ tokens_from (at + 1) (within_of (rules.outside (is_line_end b))) s
     cases (inl e) = from_class first at b s classes.LineEnd (line_end_class b e) (λ e. cc) ∙ ap (λ f. tokens_from (at + 1) (within_of (rules.outside f)) s) (sym e)
@@ -106,12 +98,12 @@ suffix_cut first at b run s e all stop =
 
 -- an escape line
 escape_line_goes : (at b : ℕ) (s : List ℕ) → not (is_line_end b) ≡ true → tokens_from at places.in_escape_line (b ∷ s) ≡ tokens_from (at + 1) places.in_escape_line s
-escape_line_goes at b s e = ap (λ c. tokens_from (at + 1) (if c then places.column else places.in_escape_line) s) (not_true _ e)
+escape_line_goes at b s e = ap (λ c. tokens_from (at + 1) (if c then places.column else places.in_escape_line) s) (not-true _ e)
 
 escape_line_stops : (at : ℕ) (s : List ℕ) → StopsAt (λ b. not (is_line_end b)) s → tokens_from at places.in_escape_line s ≡ tokens_from at places.outside s
 escape_line_stops at [] stop = refl
 escape_line_stops at (b ∷ s) stop =
-    let e : is_line_end b ≡ true = not_false _ stop in
+    let e : is_line_end b ≡ true = not-false _ stop in
     ap (λ c. tokens_from (at + 1) (if c then places.column else places.in_escape_line) s) e ∙ sym (from_class false at b s classes.LineEnd (line_end_class b e) (λ e. cc))
 
 pub escape_line_cut : (at : ℕ) (run s : List ℕ) → list_all (λ b. not (is_line_end b)) run ≡ true → StopsAt (λ b. not (is_line_end b)) s
@@ -164,15 +156,15 @@ word_cut braces at b run s e all stop =
 pub blank_in_comment : (braces : Bool) (at b : ℕ) (s : List ℕ) → is_space b ≡ true → (braces || not (is_line_end b)) ≡ true
     → tokens_from at (within_of (rules.comment braces)) (b ∷ s) ≡ tokens_from (at + 1) (within_of (rules.comment braces)) s
 unfolding comment_tokens
-blank_in_comment true at b s e _ = cases (either _ _ e)
+blank_in_comment true at b s e _ = cases (or_cases _ _ e)
   where
     cases : (is_line_end b ≡ true) ⊎ (is_blank b ≡ true) → tokens_from at places.brace (b ∷ s) ≡ tokens_from (at + 1) places.brace s
     cases (inl e) = from_comment true at b s comments.LineEnd (line_end_comment b e)
     cases (inr e) = from_comment true at b s comments.Space (blank_comment b e)
-blank_in_comment false at b s e other = cases (either _ _ e)
+blank_in_comment false at b s e other = cases (or_cases _ _ e)
   where
     cases : (is_line_end b ≡ true) ⊎ (is_blank b ≡ true) → tokens_from at places.line (b ∷ s) ≡ tokens_from (at + 1) places.line s
-    cases (inl e) = absurd (false≢true (sym (not_true _ other) ∙ e))
+    cases (inl e) = absurd (false≢true (sym (not-true _ other) ∙ e))
     cases (inr e) = from_comment false at b s comments.Space (blank_comment b e)
 
 pub control_in_comment : (braces : Bool) (at b : ℕ) (s : List ℕ) → is_control b ≡ true
@@ -268,7 +260,7 @@ module _ (first : Bool) (at : ℕ) where
       bad_run (a ∷ []) s long many = absurd (omega arith)
       bad_run (a ∷ b ∷ []) s long many = absurd (omega arith)
       bad_run (a ∷ b ∷ c ∷ run) s long many =
-          let all = both (is_suffix a) (list_all is_suffix (b ∷ c ∷ run)) long.0 in
+          let all = and_parts (is_suffix a) (list_all is_suffix (b ∷ c ∷ run)) long.0 in
           suffix_cut first at a (b ∷ c ∷ run) s all.0 all.1 long.1 ∙ here _ _ (omega arith)
 
 -- the tokens of a cut are those of the text

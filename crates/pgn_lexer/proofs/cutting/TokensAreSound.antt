@@ -1,7 +1,6 @@
 -- What the tokens that the rules cut are made of.
-use Rattle.pgn_lexer.proofs.Words.{◌≡◌, ℕ, ◌≤◌, Bool, true, false, not, inl, inr, List, ◌∷◌, refl, arith, ◌||◌, ◌⊎◌, map, ◌==◌, both_true, AllByRecursion, list_all, eqb-true, false≢true, starts_symbol, continues_symbol, is_escaped, is_barred, Data, IsSingle, IsSuffix, SpellsToken, Where, Cuts, Lexes, TokensAreSound, IsSoundKind, CommentsClose, AreSoundTokens, Kind, Token, tokens_of}
+use Rattle.pgn_lexer.proofs.Words.{◌≡◌, ℕ, ◌≤◌, Bool, true, false, not, inl, inr, List, ◌∷◌, refl, arith, ◌||◌, ◌⊎◌, map, ◌==◌, both_true, AllByRecursion, list_all, eqb-true, false≢true, starts_symbol, continues_symbol, is_escaped, is_barred, Data, IsSingle, IsSuffix, SpellsToken, Where, Cuts, Lexes, TokensAreSound, IsSoundKind, CommentsClose, AreSoundTokens, Kind, Token, tokens_of, or_cases}
 use Rattle.pgn_lexer.specs.Lexes as rules
-use Rattle.pgn_lexer.proofs.bytes.ClassToTest.{either}
 use Rattle.pgn_lexer.proofs.cutting.EachTextIsCut.{lexes_once}
 
 -- a byte that starts a symbol continues one
@@ -19,7 +18,7 @@ plain_passes true y e = e
 plain_passes false y e = refl
 
 escaped_passes : (b : ℕ) → is_escaped b ≡ true → not (is_barred b) ≡ true
-escaped_passes b e = cases (either _ _ e)
+escaped_passes b e = cases (or_cases _ _ e)
   where
     cases : ((b == 34) ≡ true) ⊎ ((b == 92) ≡ true) → not (is_barred b) ≡ true
     cases (inl e) = let here : b ≡ 34 = eqb-true b 34 e in cc

@@ -1,9 +1,8 @@
 -- Written tokens, read back.
-use Rattle.pgn_lexer.proofs.Words.{◌≡◌, ℕ, ◌+◌, ◌≤◌, Bool, true, false, not, List, [], ◌∷◌, ◌++◌, length, refl, sym, ap, subst, ◌∙◌, arith, ◌||◌, ◌&&◌, map, ◌==◌, decimal, if◌then◌else◌, AllByRecursion, list_all, eqb-true, false≢true, is_line_end, is_space, is_digit, starts_symbol, continues_symbol, continues_word, PiecesAreReadBack, KindsAreReadBack, StopsAt, is_escaped, is_barred, is_plain, Data, SpellsToken, Where, Cuts, Lexes, IsSymbol, IsWord, CommentsClose, Kind, Token, has_mark, written, Piece, token, space, text_of_pieces, kinds_in, tokens_at, IsPiece, IsEndedBy, AreEnded, IsReadable}
+use Rattle.pgn_lexer.proofs.Words.{◌≡◌, ℕ, ◌+◌, ◌≤◌, Bool, true, false, not, List, [], ◌∷◌, ◌++◌, length, refl, sym, ap, subst, ◌∙◌, arith, ◌||◌, ◌&&◌, map, ◌==◌, decimal, if◌then◌else◌, AllByRecursion, list_all, eqb-true, false≢true, is_line_end, is_space, is_digit, starts_symbol, continues_symbol, continues_word, PiecesAreReadBack, KindsAreReadBack, StopsAt, is_escaped, is_barred, is_plain, Data, SpellsToken, Where, Cuts, Lexes, IsSymbol, IsWord, CommentsClose, Kind, Token, has_mark, written, Piece, token, space, text_of_pieces, kinds_in, tokens_at, IsPiece, IsEndedBy, AreEnded, IsReadable, and_parts}
 use Rattle.pgn_lexer.specs.Lexes as rules
 use Rattle.pgn_lexer.specs.Tokens as tokens
 use Rattle.pgn_lexer.specs.Written.{escaped}
-use Rattle.pgn_lexer.proofs.bytes.ClassToTest.{both}
 use Rattle.pgn_lexer.proofs.cutting.EachTextIsCut.{lexes_once}
 use Rattle.pgn_lexer.proofs.bytes.DecimalsAreSymbols.{IsNumber, number_written}
 
@@ -17,14 +16,14 @@ escaped_data : (text s : List ℕ) → list_all (λ b. not (is_barred b)) text �
     → Data (escaped text) text s
 escaped_data [] s all = rules.no_data s
 escaped_data (b ∷ bs) s all =
-    cases _ refl (escaped_data bs s (both _ _ all).1)
+    cases _ refl (escaped_data bs s (and_parts _ _ all).1)
   where
     cases : (e : Bool) → is_escaped b ≡ e → Data (escaped bs) bs s
         → Data ((if e then 92 ∷ b ∷ [] else b ∷ []) ++ escaped bs) (b ∷ bs) s
     cases true e more = rules.escaped b _ bs s e more
     cases false e more =
         let bare : is_plain b ≡ true =
-        plain_from (is_barred b) (is_escaped b) (both _ _ all).0 e in
+        plain_from (is_barred b) (is_escaped b) (and_parts _ _ all).0 e in
         rules.plain b _ bs s bare more
 
 -- tokens outside comments
@@ -32,14 +31,14 @@ spelled_symbol : (text s : List ℕ) → IsSymbol text → StopsAt continues_sym
     → SpellsToken text s (tokens.symbol text)
 spelled_symbol [] s h stop = absurd (false≢true h.begins)
 spelled_symbol (b ∷ bs) s h stop =
-    let all = both (continues_symbol b) (list_all _ bs) h.bytes in
+    let all = and_parts (continues_symbol b) (list_all _ bs) h.bytes in
     rules.symbol b bs s h.begins (all.1, stop) h.fits
 
 spelled_glyph : (n : ℕ) (ds s : List ℕ) → IsNumber n ds → n ≤ 255 → StopsAt is_digit s
     → SpellsToken (36 ∷ ds) s (tokens.glyph n)
 spelled_glyph n [] s h fits stop = absurd (omega (arith, h.some))
 spelled_glyph n (d ∷ ds) s h fits stop =
-    let all = both (is_digit d) (list_all _ ds) h.digits in
+    let all = and_parts (is_digit d) (list_all _ ds) h.digits in
     subst (λ m. SpellsToken (36 ∷ d ∷ ds) s (tokens.glyph m)) h.value
     (rules.glyph d ds s all.0 (all.1, stop) (omega (arith, h.value)))
 
@@ -74,7 +73,7 @@ word_cut : (at : ℕ) (text s : List ℕ) (ts : List Token) → IsWord text → 
     → Cuts (rules.comment true) at (text ++ s) (record { at = at; kind = tokens.word text } ∷ ts)
 word_cut at [] s ts h stop more = absurd (omega (arith, h.some))
 word_cut at (b ∷ bs) s ts h stop more =
-    let all = both _ (list_all _ bs) h.bytes in
+    let all = and_parts _ (list_all _ bs) h.bytes in
     let same : at + length (b ∷ bs) ≡ at + 1 + length bs = omega arith in
     rules.word true at b bs s ts all.0 (all.1, stop) h.fits
     (subst (λ n. Cuts (rules.comment true) n s ts) same more)

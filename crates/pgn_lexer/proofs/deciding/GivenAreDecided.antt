@@ -128,11 +128,7 @@ common_of a b c d e f = common a (common b (common c (common d (common e f))))
 
 common_of-append : (ts a b c d e f : List Token) → common_of (ts ++ a) (ts ++ b) (ts ++ c) (ts ++ d) (ts ++ e) (ts ++ f) ≡ ts ++ common_of a b c d e f
 common_of-append ts a b c d e f =
-    ap (λ l. common (ts ++ a) (common (ts ++ b) (common (ts ++ c) (common (ts ++ d) l)))) (common-append ts e f)
-    ∙ ap (λ l. common (ts ++ a) (common (ts ++ b) (common (ts ++ c) l))) (common-append ts d (common e f))
-    ∙ ap (λ l. common (ts ++ a) (common (ts ++ b) l)) (common-append ts c (common d _))
-    ∙ ap (λ l. common (ts ++ a) l) (common-append ts b _)
-    ∙ common-append ts a _
+    cc (common-append ts e f, common-append ts d (common e f), common-append ts c (common d (common e f)), common-append ts b (common c (common d (common e f))), common-append ts a (common b (common c (common d (common e f)))))
 
 -- where no token is first in all six, they have nothing in common
 common_of-none : (a b c d e f : List Token)
@@ -152,13 +148,15 @@ pub decided_is : (given : List Token) (u : List ℕ) (comes : List ℕ → List 
     → decided u ≡ given ++ common_of (comes []) (comes (49 ∷ [])) (comes (33 ∷ [])) (comes (34 ∷ 34 ∷ [])) (comes (191 ∷ [])) (comes (187 ∷ 191 ∷ []))
 decided_is given u comes tokens =
     let here : tokens_of u ≡ given ++ comes [] = ap tokens_of (sym (append-nil u)) ∙ tokens [] in
-    ap (λ l. common_of l (tokens_of (u ++ 49 ∷ [])) (tokens_of (u ++ 33 ∷ [])) (tokens_of (u ++ 34 ∷ 34 ∷ [])) (tokens_of (u ++ 191 ∷ [])) (tokens_of (u ++ 187 ∷ 191 ∷ []))) here
-    ∙ ap (λ l. common_of (given ++ comes []) l (tokens_of (u ++ 33 ∷ [])) (tokens_of (u ++ 34 ∷ 34 ∷ [])) (tokens_of (u ++ 191 ∷ [])) (tokens_of (u ++ 187 ∷ 191 ∷ []))) (tokens _)
-    ∙ ap (λ l. common_of (given ++ comes []) (given ++ comes (49 ∷ [])) l (tokens_of (u ++ 34 ∷ 34 ∷ [])) (tokens_of (u ++ 191 ∷ [])) (tokens_of (u ++ 187 ∷ 191 ∷ []))) (tokens (33 ∷ []))
-    ∙ ap (λ l. common_of (given ++ comes []) (given ++ comes (49 ∷ [])) (given ++ comes (33 ∷ [])) l (tokens_of (u ++ 191 ∷ [])) (tokens_of (u ++ 187 ∷ 191 ∷ []))) (tokens (34 ∷ 34 ∷ []))
-    ∙ ap (λ l. common_of (given ++ comes []) (given ++ comes (49 ∷ [])) (given ++ comes (33 ∷ [])) (given ++ comes (34 ∷ 34 ∷ [])) l (tokens_of (u ++ 187 ∷ 191 ∷ []))) (tokens (191 ∷ []))
-    ∙ ap (λ l. common_of (given ++ comes []) (given ++ comes (49 ∷ [])) (given ++ comes (33 ∷ [])) (given ++ comes (34 ∷ 34 ∷ [])) (given ++ comes (191 ∷ [])) l) (tokens (187 ∷ 191 ∷ []))
-    ∙ common_of-append given (comes []) (comes _) (comes _) (comes _) (comes _) (comes _)
+    cc (
+      here,
+      tokens (49 ∷ []),
+      tokens (33 ∷ []),
+      tokens (34 ∷ 34 ∷ []),
+      tokens (191 ∷ []),
+      tokens (187 ∷ 191 ∷ []),
+      common_of-append given (comes []) (comes (49 ∷ [])) (comes (33 ∷ [])) (comes (34 ∷ 34 ∷ [])) (comes (191 ∷ [])) (comes (187 ∷ 191 ∷ [])),
+    )
 
 -- what a lexer that goes on gives next is not decided yet
 pub going_none : (place : ℕ) (h : PartialToken) → IsSound place h → HasNotFailed h.mode
@@ -176,7 +174,5 @@ going_decides place h u given sound not_failed tokens =
 -- and where the same comes whatever follows, all of it is decided
 pub known_decides : (u : List ℕ) (given more : List Token) → ((s : List ℕ) → tokens_of (u ++ s) ≡ given ++ more) → given ++ more ≡ decided u
 known_decides u given more tokens =
-    let same : common_of more more more more more more ≡ more =
-    ap (λ l. common more (common more (common more (common more l)))) (common-refl more) ∙ ap (λ l. common more (common more (common more l))) (common-refl more)
-    ∙ ap (λ l. common more (common more l)) (common-refl more) ∙ ap (λ l. common more l) (common-refl more) ∙ common-refl more in
+    let same : common_of more more more more more more ≡ more = cc (common-refl more) in
     sym (decided_is given u _ tokens ∙ ap (λ l. given ++ l) same)
