@@ -2,3 +2,4 @@ mod forms
 mod names
 mod positions
 mod rows
+mod Words

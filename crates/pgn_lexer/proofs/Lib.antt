@@ -3,3 +3,4 @@ mod cutting
 mod deciding
 mod rows
 mod stepping
+mod Words

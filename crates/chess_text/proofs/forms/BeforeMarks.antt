@@ -1,8 +1,5 @@
 -- What stands before the marks of a move.
-use Rattle.std.proofs.Common.{◌≡◌, ℕ, ◌+◌, ◌-◌, ◌<◌, ◌≤◌, Bool, true, false, ◌&&◌, List, [], ◌∷◌, ◌++◌, ◌⊎◌, inl, inr, length, get_or, take, drop, refl, sym, ◌∙◌, ap, subst, arith}
-use Rattle.std.specs.List.{list_all}
-use Rattle.std.proofs.lemmas.List.{take-append-drop, take_more}
-use Rattle.chess_text.specs.Form.{is_mark, before_marks}
+use Rattle.chess_text.proofs.Words.{◌≡◌, ℕ, ◌+◌, ◌-◌, ◌<◌, ◌≤◌, Bool, true, false, ◌&&◌, List, [], ◌∷◌, ◌++◌, ◌⊎◌, inl, inr, length, get_or, take, drop, refl, sym, ◌∙◌, ap, subst, arith, list_all, take-append-drop, take_more, is_mark, before_marks, and_right}
 
 pub marks_alone-none : (s : List ℕ) → list_all is_mark s ≡ true → before_marks s ≡ []
 marks_alone-none [] h = refl
@@ -10,20 +7,16 @@ marks_alone-none (c ∷ s) h = rw h refl
 
 all-append : (t m : List ℕ) → list_all is_mark m ≡ true → list_all is_mark (t ++ m) ≡ list_all is_mark t
 all-append [] m h = h
-all-append (c ∷ t) m h = ap (λ b. is_mark c && b) (all-append t m h)
+all-append (c ∷ t) m h = cc (all-append t m h)
 
 -- marks at the end change nothing
 pub before_marks-append : (t m : List ℕ) → list_all is_mark m ≡ true → before_marks (t ++ m) ≡ before_marks t
 before_marks-append [] m h = marks_alone-none m h
 before_marks-append (c ∷ t) m h = rw (all-append t m h, before_marks-append t m h) refl
 
-and_false : (a b : Bool) → b ≡ false → (a && b) ≡ false
-and_false true b h = h
-and_false false b h = refl
-
 last_fails : (t : List ℕ) (c : ℕ) → is_mark c ≡ false → list_all is_mark (t ++ c ∷ []) ≡ false
 last_fails [] c h = rw h refl
-last_fails (d ∷ t) c h = and_false (is_mark d) (list_all is_mark (t ++ c ∷ [])) (last_fails t c h)
+last_fails (d ∷ t) c h = and_right (is_mark d) (list_all is_mark (t ++ c ∷ [])) (last_fails t c h)
 
 -- a text whose last byte is no mark has none at its end
 pub before_marks-last : (t : List ℕ) (c : ℕ) → is_mark c ≡ false → before_marks (t ++ c ∷ []) ≡ t ++ c ∷ []
@@ -33,16 +26,14 @@ before_marks-last (d ∷ t) c h = rw (last_fails (d ∷ t) c h) (ap (λ s. d ∷
 -- where the marks begin
 pub cut_at_marks : (s : List ℕ) (n : ℕ) → 0 < n → n ≤ length s → list_all is_mark (drop n s) ≡ true → is_mark (get_or s (n - 1) 0) ≡ false → before_marks s ≡ take n s
 cut_at_marks s n started within marks h =
-    let last : take n s ≡ take (n - 1) s ++ get_or s (n - 1) 0 ∷ [] =
+    let last =
     ap (λ k. take k s) (sym (again n started)) ∙ take_more s (n - 1) 0 (omega arith) in
-    ap (λ t. before_marks t) (sym (take-append-drop n s))
-    ∙ (before_marks-append (take n s) (drop n s) marks
-    ∙ (ap (λ t. before_marks t) last ∙ (before_marks-last (take (n - 1) s) (get_or s (n - 1) 0) h ∙ sym last)))
+    cc (take-append-drop n s, before_marks-append (take n s) (drop n s) marks, before_marks-last (take (n - 1) s) (get_or s (n - 1) 0) h)
   where
     again : (n : ℕ) → 0 < n → (n - 1) + 1 ≡ n
     again n h = omega arith
 
 -- the loop's end: no byte is left, or one that is no mark
 pub cut_where : (s : List ℕ) (n : ℕ) → n ≤ length s → list_all is_mark (drop n s) ≡ true → (n ≡ 0) ⊎ ((0 < n) × (is_mark (get_or s (n - 1) 0) ≡ false)) → take n s ≡ before_marks s
-cut_where s n within marks (inl none) = rw none (sym (marks_alone-none s (subst (λ k. list_all is_mark (drop k s) ≡ true) none marks)))
+cut_where s n within marks (inl none) = rw none (sym (marks_alone-none s (rw none at marks)))
 cut_where s n within marks (inr some) = sym (cut_at_marks s n some.0 within marks some.1)

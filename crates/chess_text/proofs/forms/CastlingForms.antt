@@ -1,27 +1,18 @@
 -- What a form of castling names: the one move that is tried, or none.
-use Rattle.std.proofs.Common.{◌≡◌, Bool, true, false, ◌&&◌, ◌||◌, [], refl, sym, ◌∙◌, ap, subst, arith}
-use Rattle.std.specs.Prelude.{Option, None, Some, Ok, Err, is_none, is_some}
-use Rattle.std.specs.Option.{ok_or}
-use Rattle.std.specs.List.{cons_option}
-use Rattle.std.proofs.lemmas.Bool.{false≢true, and_parts}
-use Rattle.chess_rules.specs.declared.position.Move.{Move}
-use Rattle.chess_rules.specs.declared.position.Parts.{Parts}
-use Rattle.chess_rules.specs.Square.{Square, same_square}
-use Rattle.chess_rules.specs.Step.{home, Wing, short_wing, long_wing, short_right, long_right, is_king_move, stand_ready, is_unattacked, castles, castles_short, castles_long}
-use Rattle.chess_rules.specs.Legal.{legal, is_legal}
-use Rattle.chess_text.specs.declared.form.Form.TheVariants.{Castle}
-use Rattle.chess_text.specs.declared.resolution.Played.{Played}
-use Rattle.chess_text.specs.declared.resolution.SanFault.TheVariants.{NoMove}
-use Rattle.chess_text.specs.MoveOfForm.{is_castling, describes, with_next, with_next_position, played, castling_move, agreeing, only, move_of_form}
+use Rattle.chess_text.proofs.Words.{◌≡◌, Bool, true, false, ◌&&◌, ◌||◌, [], refl, sym, ◌∙◌, ap, subst, arith, Option, None, Some, Ok, Err, is_none, is_some, ok_or, cons_option, false≢true, and_parts, Move, Parts, Square, same_square, home, Wing, short_wing, long_wing, short_right, long_right, is_king_move, stand_ready, is_unattacked, castles, castles_short, castles_long, legal, is_legal, Castle, Played, NoMove, is_castling, describes, with_next, with_next_position, played, castling_move, agreeing, only, move_of_form}
 use Rattle.chess_text.proofs.forms.CastlingMoves.{squares_same}
+
+pub legal_next : (o : Option Parts) → is_some o ≡ true → (q : Parts) × (o ≡ Some q)
+legal_next None h = absurd (false≢true h)
+legal_next (Some q) h = (q, refl)
 
 -- where castling leads
 pub castles_ends : (p : Parts) (m : Move) (right : Bool) (wing : Wing) → castles p m right wing ≡ true → (m.from ≡ home p 4) × (m.to ≡ home p wing.end) × (is_none m.promotion ≡ true)
 castles_ends p m right wing h =
-    let moved = and_parts ((right && is_none m.promotion) && is_king_move p m wing.end) (stand_ready p wing.rook && (is_unattacked p 4 && (is_unattacked p wing.crossing && is_unattacked p wing.end))) h in
-    let leads = and_parts (right && is_none m.promotion) (is_king_move p m wing.end) moved.0 in
-    let ends = and_parts (same_square m.from (home p 4)) (same_square m.to (home p wing.end)) leads.1 in
-    (squares_same m.from (home p 4) ends.0, squares_same m.to (home p wing.end) ends.1, (and_parts right (is_none m.promotion) leads.0).1)
+    let moved = and_parts ((right && is_none _) && is_king_move p m _) (stand_ready p _ && (is_unattacked p 4 && (is_unattacked p _ && is_unattacked p _))) h in
+    let leads = and_parts (right && is_none _) (is_king_move p m _) moved.0 in
+    let ends = and_parts (same_square m.from (home p 4)) (same_square m.to _) leads.1 in
+    (squares_same _ _ ends.0, squares_same m.to _ ends.1, (and_parts right _ leads.0).1)
 
 -- the castling that the form names is the only one to its target
 pub described : (p : Parts) (long : Bool) (m : Move) → m.to ≡ (castling_move p.side long).to → describes p (Castle long) m ≡ is_castling p m
@@ -34,9 +25,9 @@ described p false m to = first_alone (castles_short p m) (castles_long p m) no_l
 
     no_long : castles_long p m ≡ true → ⊥
     no_long h =
-        let files = ap (λ (s : Square). s.file) (sym to ∙ (castles_ends p m (long_right p.side p.rights) long_wing h).1) in
+        let files = ap (λ (s : Square). s.file) (sym to ∙ (castles_ends p m _ _ h).1) in
         omega (arith, files)
-described p true m to = second_alone (castles_short p m) (castles_long p m) no_short
+described p true m to = second_alone _ _ no_short
   where
     second_alone : (x y : Bool) → (x ≡ true → ⊥) → y ≡ (x || y)
     second_alone true y h = absurd (h refl)
@@ -44,7 +35,7 @@ described p true m to = second_alone (castles_short p m) (castles_long p m) no_s
 
     no_short : castles_short p m ≡ true → ⊥
     no_short h =
-        let files = ap (λ (s : Square). s.file) (sym to ∙ (castles_ends p m (short_right p.side p.rights) short_wing h).1) in
+        let files = ap (λ (s : Square). s.file) (sym to ∙ (castles_ends p m _ _ h).1) in
         omega (arith, files)
 
 reads_one : (p : Parts) (long : Bool) → move_of_form p (Castle long) ≡ only (cons_option (played (describes p (Castle long) (castling_move p.side long)) p (castling_move p.side long)) [])
@@ -53,42 +44,36 @@ reads_one p long = refl
 
 pub played_none : (b : Bool) (p : Parts) (m : Move) → legal p m ≡ None → played b p m ≡ None
 played_none false p m h = refl
-played_none true p m h = ap (with_next m) h
+played_none true p m h = cc
 
 pub played_some : (b : Bool) (p q : Parts) (m : Move) → b ≡ true → legal p m ≡ Some q → played b p m ≡ Some (record { mv = m; next = q })
-played_some true p q m e h = ap (with_next m) h
+played_some true p q m e h = cc
 played_some false p q m e h = absurd (false≢true e)
 
 pub played_not : (b : Bool) (p : Parts) (m : Move) → b ≡ false → played b p m ≡ None
-played_not b p m e = ap (λ (x : Bool). played x p m) e
+played_not b p m e = cc
 
 no_next : (o : Option Parts) → is_some o ≡ false → o ≡ None
 no_next None h = refl
 no_next (Some q) h = absurd (false≢true (sym h))
 
-next_of : (o : Option Parts) → is_some o ≡ true → (q : Parts) × (o ≡ Some q)
-next_of None h = absurd (false≢true h)
-next_of (Some q) h = (q, refl)
-
 module _ (p : Parts) (long : Bool) (m : Move) (is : m ≡ castling_move p.side long) where
   answer_of : (o : Option Played) → played (describes p (Castle long) (castling_move p.side long)) p (castling_move p.side long) ≡ o → only (cons_option o []) ≡ move_of_form p (Castle long)
-  answer_of o h = ap (λ (x : Option Played). only (cons_option x [])) (sym h) ∙ sym (reads_one p long)
+  answer_of o h = cc (reads_one p long)
 
   pub castling_illegal : is_legal p m ≡ false → Err NoMove ≡ move_of_form p (Castle long)
   castling_illegal h =
-      answer_of None (played_none _ p (castling_move p.side long) (subst (λ (n : Move). legal p n ≡ None) is (no_next (legal p m) h)))
+      answer_of None (played_none _ p (castling_move p.side long) (subst (λ (n : Move). legal p n ≡ None) is (no_next _ h)))
 
   pub castling_found : is_legal p m ≡ true → is_castling p m ≡ true → with_next_position p (Ok m) ≡ move_of_form p (Castle long)
   castling_found h named =
-      let (q, leads) = next_of (legal p m) h in
-      ap (λ (o : Option Parts). ok_or (with_next m o) NoMove) leads ∙ found q leads
+      let (q, leads) = legal_next _ h in
+      cc (found q leads)
     where
       found : (q : Parts) → legal p m ≡ Some q → Ok (record { mv = m; next = q }) ≡ move_of_form p (Castle long)
       found q leads =
-          ap (λ (n : Move). Ok (record { mv = n; next = q })) is
-          ∙ answer_of (Some (record { mv = castling_move p.side long; next = q }))
-          (played_some _ p q (castling_move p.side long) (described p long (castling_move p.side long) refl ∙ subst (λ (n : Move). is_castling p n ≡ true) is named) (subst (λ (n : Move). legal p n ≡ Some q) is leads))
+          cc (answer_of (Some (record { mv = castling_move p.side long; next = q })) (played_some _ p q (castling_move p.side long) (described p long (castling_move _ long) refl ∙ subst (λ (n : Move). is_castling p n ≡ true) is named) (subst (λ (n : Move). legal p n ≡ Some q) is leads)))
 
   pub castling_other : is_castling p m ≡ false → Err NoMove ≡ move_of_form p (Castle long)
   castling_other named =
-      answer_of None (played_not _ p (castling_move p.side long) (described p long (castling_move p.side long) refl ∙ subst (λ (n : Move). is_castling p n ≡ false) is named))
+      answer_of None (played_not _ p (castling_move p.side long) (described p long (castling_move _ long) refl ∙ rw is at named))

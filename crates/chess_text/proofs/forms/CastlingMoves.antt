@@ -1,20 +1,6 @@
 -- Which steps and legal moves are castling.
-use Rattle.std.proofs.Common.{◌≡◌, ℕ, ◌<◌, ◌≤◌, Bool, true, false, not, ◌&&◌, ◌||◌, inl, inr, refl, sym, ◌∙◌, ap, ap₂, subst, arith}
-use Rattle.std.specs.Prelude.{◌==◌, nat_lt, nat_le, Option, None, Some, is_none, is_some, option_map, if◌then◌else◌}
-use Rattle.std.specs.Int.{abs_diff}
-use Rattle.std.proofs.lemmas.Bool.{false≢true, and_parts, and_from, or_cases, eqb-true, leb-true, lt-ltb, ltb-true}
-use Rattle.chess_rules.specs.declared.piece.Colour.{Colour}
-use Rattle.chess_rules.specs.declared.piece.Kind.{Kind}
-use Rattle.chess_rules.specs.declared.piece.Kind.TheVariants.{King, Queen, Rook, Bishop, Knight, Pawn}
-use Rattle.chess_rules.specs.declared.piece.Piece.{Piece}
-use Rattle.chess_rules.specs.declared.position.Move.{Move}
-use Rattle.chess_rules.specs.declared.position.Parts.{Parts}
-use Rattle.chess_rules.specs.Square.{Square, square, gap, same_square, is_adjacent}
-use Rattle.chess_rules.specs.Board.{Board, at, has_colour, has_piece, same_colour, same_kind, is_empty, other}
-use Rattle.chess_rules.specs.Attacks.{is_clear, attacks, cell_attacks, kind_attacks}
-use Rattle.chess_rules.specs.Step.{own, home, Wing, short_wing, long_wing, short_right, long_right, is_piece_step, is_pawn_way, is_pawn_step, promotion_fits, is_target, captured_pawn, is_en_passant, is_king_move, stand_ready, is_unattacked, castles, castles_short, castles_long, carried, en_passant_board, castled, is_on_board, after, board_after, step}
-use Rattle.chess_rules.specs.Legal.{is_legal, if_safe}
-use Rattle.chess_text.specs.MoveOfForm.{is_castling}
+use Rattle.chess_text.proofs.Words.{◌≡◌, ℕ, ◌<◌, ◌≤◌, Bool, true, false, not, ◌&&◌, ◌||◌, inl, inr, refl, sym, ◌∙◌, ap, ap₂, subst, arith, ◌==◌, nat_lt, nat_le, Option, None, Some, is_none, is_some, option_map, if◌then◌else◌, abs_diff, false≢true, and_parts, and_from, or_cases, eqb-true, leb-true, lt-ltb, ltb-true, Colour, Kind, King, Queen, Rook, Bishop, Knight, Pawn, Piece, Move, Parts, Square, square, gap, same_square, is_adjacent, Board, at, has_colour, has_piece, same_colour, same_kind, is_empty, other, is_clear, attacks, cell_attacks, kind_attacks, own, home, Wing, short_wing, long_wing, short_right, long_right, is_piece_step, is_pawn_way, is_pawn_step, promotion_fits, captured_pawn, is_en_passant, is_king_move, stand_ready, is_unattacked, castles, castles_short, castles_long, carried, en_passant_board, castled, is_on_board, after, board_after, step, is_legal, if_safe, is_castling}
+use Rattle.chess_rules.specs.Step.{is_target}
 
 -- what is known of a step
 pub record Stepped (p : Parts) (m : Move) : Type 0 where
@@ -22,7 +8,7 @@ pub record Stepped (p : Parts) (m : Move) : Type 0 where
   pub way : ((is_piece_step p m || is_pawn_step p m) || (is_en_passant p m || is_castling p m)) ≡ true
 
 pub way_of_step : (p : Parts) (m : Move) → is_some (step p m) ≡ true → Stepped p m
-way_of_step p m h = by_on (is_on_board m) refl h
+way_of_step p m h = by_on _ refl h
   where
     by_way : (plain passing short long : Bool)
         → is_some (option_map (after p m) (if plain then Some (carried p m) else if passing then Some (en_passant_board p m) else if short then Some (castled p m short_wing.rook short_wing.crossing) else if long then Some (castled p m long_wing.rook long_wing.crossing) else None)) ≡ true
@@ -34,11 +20,11 @@ way_of_step p m h = by_on (is_on_board m) refl h
     by_way false false false false g = g
 
     by_on : (x : Bool) → is_on_board m ≡ x → is_some (if x then option_map (after p m) (board_after p m) else None) ≡ true → Stepped p m
-    by_on true e g = record { on = e; way = by_way (is_piece_step p m || is_pawn_step p m) (is_en_passant p m) (castles_short p m) (castles_long p m) g }
+    by_on true e g = record { on = e; way = by_way _ _ _ _ g }
     by_on false e g = absurd (false≢true g)
 
 pub legal_is_step : (p : Parts) (m : Move) → is_legal p m ≡ true → is_some (step p m) ≡ true
-legal_is_step p m h = by_step (step p m) h
+legal_is_step p m h = by_step _ h
   where
     by_step : (o : Option Parts) → is_some (if_safe o) ≡ true → is_some o ≡ true
     by_step None g = g
@@ -50,12 +36,12 @@ stepped p m h = way_of_step p m (legal_is_step p m h)
 pub squares_same : (s t : Square) → same_square s t ≡ true → s ≡ t
 squares_same s t h =
     let both = and_parts (s.file == t.file) (s.rank == t.rank) h in
-    ap₂ square (eqb-true s.file t.file both.0) (eqb-true s.rank t.rank both.1)
+    ap₂ square (eqb-true _ _ both.0) (eqb-true _ _ both.1)
 
 -- a king is no pawn
 pub no_pawn : (c : Colour) (cell : Option Piece) → has_piece c King cell ≡ true → has_piece c Pawn cell ≡ true → ⊥
 no_pawn c None h g = false≢true h
-no_pawn c (Some x) h g = by_kind x.kind (and_parts (same_colour c x.colour) (same_kind King x.kind) h).1 (and_parts (same_colour c x.colour) (same_kind Pawn x.kind) g).1
+no_pawn c (Some x) h g = by_kind x.kind (and_parts _ _ h).1 (and_parts _ _ g).1
   where
     by_kind : (k : Kind) → same_kind King k ≡ true → same_kind Pawn k ≡ true → ⊥
     by_kind King a b = false≢true b
@@ -68,7 +54,7 @@ no_pawn c (Some x) h g = by_kind x.kind (and_parts (same_colour c x.colour) (sam
 -- a king attacks the squares beside it
 king_attacks : (c : Colour) (cell : Option Piece) (b : Board) (s t : Square) → has_piece c King cell ≡ true → cell_attacks cell b s t ≡ true → is_adjacent s t ≡ true
 king_attacks c None b s t h g = absurd (false≢true h)
-king_attacks c (Some x) b s t h g = by_kind x.kind (and_parts (same_colour c x.colour) (same_kind King x.kind) h).1 g
+king_attacks c (Some x) b s t h g = by_kind _ (and_parts _ _ h).1 g
   where
     by_kind : (k : Kind) → same_kind King k ≡ true → kind_attacks k x.colour b s t ≡ true → is_adjacent s t ≡ true
     by_kind King a g = g
@@ -85,16 +71,16 @@ goes_far p m = own p King m.from && nat_lt 1 (abs_diff m.from.file m.to.file)
 near_file : (s t : Square) → is_adjacent s t ≡ true → abs_diff s.file t.file ≤ 1
 near_file s t h =
     let near = and_parts (nat_le (gap s.file t.file) 1 && nat_le (gap s.rank t.rank) 1) (not (same_square s t)) h in
-    leb-true (gap s.file t.file) 1 (and_parts (nat_le (gap s.file t.file) 1) (nat_le (gap s.rank t.rank) 1) near.0).0
+    leb-true _ 1 (and_parts _ (nat_le (gap _ _) 1) near.0).0
 
 far_is_castling : (p : Parts) (m : Move) → Stepped p m → own p King m.from ≡ true → 1 < abs_diff m.from.file m.to.file → is_castling p m ≡ true
 far_is_castling p m st king far =
     elim (or_cases (is_piece_step p m || is_pawn_step p m) (is_en_passant p m || is_castling p m) st.way) [
-      | inl plain ↦ elim (or_cases (is_piece_step p m) (is_pawn_step p m) plain) [
+      | inl plain ↦ elim (or_cases _ (is_pawn_step p m) plain) [
         | inl piece ↦ absurd (no_piece piece)
-        | inr pawn ↦ absurd (no_pawn p.side (at p.board m.from) king (and_parts (own p Pawn m.from) (is_pawn_way p m && promotion_fits p m) pawn).0)
+        | inr pawn ↦ absurd (no_pawn p.side (at p.board m.from) king (and_parts _ (is_pawn_way p m && promotion_fits p m) pawn).0)
       ]
-      | inr more ↦ elim (or_cases (is_en_passant p m) (is_castling p m) more) [
+      | inr more ↦ elim (or_cases (is_en_passant p m) _ more) [
         | inl passing ↦ absurd (no_pawn p.side (at p.board m.from) king (passing_pawn passing))
         | inr castling ↦ castling
       ]
@@ -102,33 +88,33 @@ far_is_castling p m st king far =
   where
     no_piece : is_piece_step p m ≡ true → ⊥
     no_piece piece =
-        let goes = (and_parts ((has_colour p.side (at p.board m.from) && not (own p Pawn m.from)) && is_none m.promotion) (attacks p.board m.from m.to && not (has_colour p.side (at p.board m.to))) piece).1 in
+        let goes = (and_parts ((has_colour p.side (at p.board m.from) && not (own p Pawn m.from)) && is_none m.promotion) (attacks p.board m.from m.to && not (has_colour p.side (at _ m.to))) piece).1 in
         let hits = (and_parts (attacks p.board m.from m.to) (not (has_colour p.side (at p.board m.to))) goes).0 in
         let near = near_file m.from m.to (king_attacks p.side (at p.board m.from) p.board m.from m.to king hits) in
         omega (arith, near, far)
 
     passing_pawn : is_en_passant p m ≡ true → own p Pawn m.from ≡ true
     passing_pawn passing =
-        let stands = (and_parts ((own p Pawn m.from && promotion_fits p m) && (is_target p.target m.to && is_empty p.board m.to)) (attacks p.board m.from m.to && has_piece (other p.side) Pawn (at p.board (captured_pawn m))) passing).0 in
-        let pawn = (and_parts (own p Pawn m.from && promotion_fits p m) (is_target p.target m.to && is_empty p.board m.to) stands).0 in
-        (and_parts (own p Pawn m.from) (promotion_fits p m) pawn).0
+        let stands = (and_parts _ _ passing).0 in
+        let pawn = (and_parts _ _ stands).0 in
+        (and_parts _ _ pawn).0
 
 castles_far : (p : Parts) (m : Move) (right : Bool) (wing : Wing) → 1 < abs_diff 4 wing.end → castles p m right wing ≡ true → goes_far p m ≡ true
 castles_far p m right wing far h =
-    let moved = and_parts ((right && is_none m.promotion) && is_king_move p m wing.end) (stand_ready p wing.rook && (is_unattacked p 4 && (is_unattacked p wing.crossing && is_unattacked p wing.end))) h in
-    let leads = (and_parts (right && is_none m.promotion) (is_king_move p m wing.end) moved.0).1 in
-    let ends = and_parts (same_square m.from (home p 4)) (same_square m.to (home p wing.end)) leads in
+    let moved = and_parts ((right && is_none _) && is_king_move p m _) (stand_ready p _ && (is_unattacked p 4 && (is_unattacked p _ && is_unattacked p _))) h in
+    let leads = (and_parts (right && is_none _) _ moved.0).1 in
+    let ends = and_parts (same_square m.from (home p 4)) (same_square m.to _) leads in
     let from = squares_same m.from (home p 4) ends.0 in
     let to = squares_same m.to (home p wing.end) ends.1 in
-    let ready = (and_parts (stand_ready p wing.rook) (is_unattacked p 4 && (is_unattacked p wing.crossing && is_unattacked p wing.end)) moved.1).0 in
-    and_from (own p King m.from) (nat_lt 1 (abs_diff m.from.file m.to.file))
-    (subst (λ (s : Square). own p King s ≡ true) (sym from) (standing ready))
-    (lt-ltb 1 (abs_diff m.from.file m.to.file) (subst (λ (s : Square). 1 < abs_diff s.file m.to.file) (sym from) (subst (λ (s : Square). 1 < abs_diff 4 s.file) (sym to) far)))
+    let ready = (and_parts (stand_ready p _) (is_unattacked p 4 && (is_unattacked p _ && is_unattacked p _)) moved.1).0 in
+    and_from (own p King _) (nat_lt 1 _)
+    (rw from (standing ready))
+    (lt-ltb 1 _ (rw from (rw to far)))
   where
     standing : stand_ready p wing.rook ≡ true → own p King (home p 4) ≡ true
     standing ready =
-        let pieces = (and_parts (own p King (home p 4) && own p Rook (home p wing.rook)) (is_clear p.board (home p 4) (home p wing.rook)) ready).0 in
-        (and_parts (own p King (home p 4)) (own p Rook (home p wing.rook)) pieces).0
+        let pieces = (and_parts _ _ ready).0 in
+        (and_parts _ _ pieces).0
 
 pub castling_goes_far : (p : Parts) (m : Move) → is_castling p m ≡ true → goes_far p m ≡ true
 castling_goes_far p m h =
@@ -145,10 +131,10 @@ same_tests false false h g = refl
 
 pub castling_is_far : (p : Parts) (m : Move) → is_some (step p m) ≡ true → is_castling p m ≡ goes_far p m
 castling_is_far p m h =
-    same_tests (is_castling p m) (goes_far p m) (castling_goes_far p m)
+    same_tests _ _ (castling_goes_far p m)
     (λ far.
-    let both = and_parts (own p King m.from) (nat_lt 1 (abs_diff m.from.file m.to.file)) far in
-    far_is_castling p m (way_of_step p m h) both.0 (ltb-true 1 (abs_diff m.from.file m.to.file) both.1))
+    let both = and_parts (own p King _) (nat_lt 1 _) far in
+    far_is_castling p m (way_of_step p m h) both.0 (ltb-true 1 _ both.1))
 
 -- the second of two tests, where the first holds
 and_second : (x y : Bool) → x ≡ true → (x && y) ≡ y
@@ -158,6 +144,4 @@ and_second false y h = absurd (false≢true h)
 -- where the code has seen the king
 pub castling_by_files : (p : Parts) (m : Move) (king : Bool) (files : ℕ) → is_some (step p m) ≡ true → king ≡ own p King m.from → king ≡ true → files ≡ abs_diff m.from.file m.to.file → nat_lt 1 files ≡ is_castling p m
 castling_by_files p m king files steps seen stands count =
-    ap (nat_lt 1) count
-    ∙ sym (and_second (own p King m.from) (nat_lt 1 (abs_diff m.from.file m.to.file)) (sym seen ∙ stands))
-    ∙ sym (castling_is_far p m steps)
+    cc (and_second (own p King _) (nat_lt 1 _) (sym seen ∙ stands), castling_is_far p m steps)

@@ -1,26 +1,6 @@
 -- The kinds of squares for a form, one after another, and how many legal moves they count.
-use Rattle.std.proofs.Common.{◌≡◌, ℕ, ◌+◌, ◌<◌, ◌≤◌, Bool, true, false, cond, ◌&&◌, List, [], ◌∷◌, ◌++◌, map, length, take, set, get_or, refl, sym, ◌∙◌, ap, ap₂, subst, arith}
-use Rattle.std.specs.Prelude.{Option, None, Some, Ok, Err, ◌↔◌, is_some, count_by, if◌then◌else◌}
-use Rattle.std.specs.List.{range_with_len, filter, filter_map, cons_option}
-use Rattle.std.proofs.lemmas.List.{take_more, take_more_set, map-append}
-use Rattle.std.proofs.lemmas.List.FromFn.{get_or-map-range_with_len}
-use Rattle.std.proofs.lemmas.List.Sums.{sum_by-cons, sum_by_more}
-use Rattle.std.proofs.lemmas.Bool.{both_ways}
-use Rattle.chess_rules.specs.declared.piece.Colour.{Colour}
-use Rattle.chess_rules.specs.declared.piece.Colour.TheVariants.{White, Black}
-use Rattle.chess_rules.specs.declared.position.Move.{Move}
-use Rattle.chess_rules.specs.declared.position.Parts.{Parts}
-use Rattle.chess_rules.specs.Square.{Square, square, squares, same_square}
-use Rattle.chess_rules.specs.Step.{step, home, home_rank, short_wing, long_wing, short_right, long_right}
-use Rattle.chess_rules.specs.Legal.{king_is_safe, if_safe}
-use Rattle.chess_text.specs.declared.form.Form.{Form}
-use Rattle.chess_text.specs.declared.form.Form.TheVariants.{Castle, Man}
-use Rattle.chess_text.specs.declared.form_origins.OriginKind.{OriginKind}
+use Rattle.chess_text.proofs.Words.{◌≡◌, ℕ, ◌+◌, ◌<◌, ◌≤◌, Bool, true, false, cond, ◌&&◌, List, [], ◌∷◌, ◌++◌, map, length, take, set, get_or, refl, sym, ◌∙◌, ap, ap₂, subst, arith, Option, None, Some, Ok, Err, ◌↔◌, is_some, count_by, if◌then◌else◌, range_with_len, filter, filter_map, cons_option, take_more, take_more_set, map-append, get_or-map-range_with_len, sum_by-cons, sum_by_more, both_ways, Colour, White, Black, Move, Parts, Square, square, squares, same_square, step, home, home_rank, short_wing, long_wing, short_right, long_right, king_is_safe, if_safe, Form, Castle, Man, OriginKind, Played, NoMove, Ambiguous, describes, with_next, played, move_from, agreeing, only, form_move, is_step_of_form, kind_of_move, origin_kind, origins_of_form, step_count, nth_square, is_legal_kind, count_legal, LegalOriginsDecide}
 use Rattle.chess_text.specs.declared.form_origins.OriginKind.TheVariants.{NoStep, Unsafe, Legal}
-use Rattle.chess_text.specs.declared.resolution.Played.{Played}
-use Rattle.chess_text.specs.declared.resolution.SanFault.TheVariants.{NoMove, Ambiguous}
-use Rattle.chess_text.specs.MoveOfForm.{describes, with_next, played, move_from, agreeing, only}
-use Rattle.chess_text.specs.FormOrigins.{form_move, is_step_of_form, kind_of_move, origin_kind, origins_of_form, step_count, nth_square, is_legal_kind, count_legal, LegalOriginsDecide}
 use Rattle.chess_text.proofs.forms.CastlingForms.{castles_ends, played_not}
 use Rattle.chess_text.proofs.forms.OnlyElement.{filter_map-map, filter_map-filter}
 use Rattle.chess_text.proofs.forms.PieceForms.{same_square-refl}
@@ -42,16 +22,16 @@ module _ (p : Parts) (f : Form) (i : ℕ) (low : i < 64) where
   one_more : take (i + 1) squares ≡ take i squares ++ nth_square i ∷ []
   one_more =
       let within : i < length squares = omega (arith, squares_long) in
-      take_more squares i (nth_square i) within ∙ ap (λ (s : Square). take i squares ++ s ∷ []) (square_at i (nth_square i) low)
+      cc (take_more squares i (nth_square i) within, square_at i (nth_square i) low)
 
   -- the kinds of one square more
   pub kinds_more : (kinds : List OriginKind) → length kinds ≡ 64 → take i kinds ≡ map (origin_kind p f) (take i squares)
       → take (i + 1) (set kinds i (origin_kind p f (nth_square i))) ≡ map (origin_kind p f) (take (i + 1) squares)
   kinds_more kinds long so_far =
       let within : i < length kinds = omega (arith, long) in
-      take_more_set kinds i (origin_kind p f (nth_square i)) within
+      take_more_set kinds i _ within
       ∙ ap (λ (ks : List OriginKind). ks ++ origin_kind p f (nth_square i) ∷ []) so_far
-      ∙ sym (map-append (origin_kind p f) (take i squares) (nth_square i ∷ []))
+      ∙ sym (map-append _ _ (nth_square i ∷ []))
       ∙ ap (λ (ss : List Square). map (origin_kind p f) ss) (sym one_more)
 
   -- the pairs of one square more
@@ -59,12 +39,11 @@ module _ (p : Parts) (f : Form) (i : ℕ) (low : i < 64) where
       ≡ count_by (λ s. is_step_of_form p f (form_move p.side f s)) (take i squares) + step_count p f (nth_square i)
   counts_more =
       let within : i < length squares = omega (arith, squares_long) in
-      sum_by_more (λ s. cond (is_step_of_form p f (form_move p.side f s)) 1 0) squares i (nth_square i) within
-      ∙ ap (λ (s : Square). count_by (λ t. is_step_of_form p f (form_move p.side f t)) (take i squares) + step_count p f s) (square_at i (nth_square i) low)
+      cc (sum_by_more (λ s. cond (is_step_of_form p f (form_move p.side f s)) 1 0) squares i (nth_square i) within, square_at i (nth_square i) low)
 
 -- at most one pair for a square
 pub pairs_few : (p : Parts) (f : Form) (s : Square) → step_count p f s ≤ 1
-pairs_few p f s = by_test (is_step_of_form p f (form_move p.side f s))
+pairs_few p f s = by_test _
   where
     by_test : (b : Bool) → cond b 1 0 ≤ 1
     by_test true = omega arith
@@ -74,7 +53,7 @@ pairs_few p f s = by_test (is_step_of_form p f (form_move p.side f s))
 
 -- the form's move m agrees exactly if its kind is `Legal`
 kind_counts : (p : Parts) (f : Form) (m : Move) → length (cons_option (played (describes p f m) p m) []) ≡ cond (is_legal_kind (kind_of_move p f m)) 1 0
-kind_counts p f m = by_described (describes p f m)
+kind_counts p f m = by_described _
   where
     undescribed : (x : Bool) (k : OriginKind) → ◌≡◌ {A = ℕ} 0 (cond (is_legal_kind (if x && false then k else NoStep)) 1 0)
     undescribed true k = refl
@@ -88,12 +67,12 @@ kind_counts p f m = by_described (describes p f m)
     by_step : (o : Option Parts)
         → length (cons_option (with_next m (if_safe o)) []) ≡ cond (is_legal_kind (if is_some o && true then (if is_some (if_safe o) then Legal else Unsafe) else NoStep)) 1 0
     by_step None = refl
-    by_step (Some q) = by_safe q (king_is_safe q)
+    by_step (Some q) = by_safe q _
 
     by_described : (b : Bool)
         → length (cons_option (played b p m) []) ≡ cond (is_legal_kind (if is_some (step p m) && b then (if is_some (if_safe (step p m)) then Legal else Unsafe) else NoStep)) 1 0
-    by_described true = by_step (step p m)
-    by_described false = undescribed (is_some (step p m)) (if is_some (if_safe (step p m)) then Legal else Unsafe)
+    by_described true = by_step _
+    by_described false = undescribed _ _
 
 found_counts : {X : Type 0} (h : X → Option Played) (k : X → OriginKind) → ((x : X) → length (cons_option (h x) []) ≡ cond (is_legal_kind (k x)) 1 0)
     → (xs : List X) → length (filter_map h xs) ≡ count_by is_legal_kind (map k xs)
@@ -101,7 +80,7 @@ found_counts h k same [] = refl
 found_counts h k same (x ∷ xs) =
     let others = found_counts h k same xs in
     let more = sum_by-cons (λ y. cond (is_legal_kind y) 1 0) (k x) (map k xs) in
-    first_apart (h x) (filter_map h xs) ∙ ap₂ (λ (m n : ℕ). m + n) (same x) others ∙ sym more
+    cc (first_apart (h x) (filter_map h xs), same x)
   where
     first_apart : (o : Option Played) (ys : List Played) → length (cons_option o ys) ≡ length (cons_option o []) + length ys
     first_apart None ys = omega arith
@@ -113,7 +92,7 @@ module _ (p : Parts) (f : Form) where
 
   moves_count : length (filter_map move_at squares) ≡ count_legal p f
   unfolding origins_of_form
-  moves_count = found_counts move_at (origin_kind p f) (λ s. kind_counts p f (form_move p.side f s)) squares
+  moves_count = found_counts move_at _ (λ s. kind_counts p f _) squares
 
 king_square_alone : (c : Colour) → filter (same_square (square 4 (home_rank c))) squares ≡ square 4 (home_rank c) ∷ []
 unfolding squares
@@ -121,29 +100,29 @@ king_square_alone White = refl
 king_square_alone Black = refl
 
 castling_from : (p : Parts) (long : Bool) (m : Move) → describes p (Castle long) m ≡ true → m.from ≡ home p 4
-castling_from p false m h = (castles_ends p m (short_right p.side p.rights) short_wing h).0
-castling_from p true m h = (castles_ends p m (long_right p.side p.rights) long_wing h).0
+castling_from p false m h = (castles_ends p m _ _ h).0
+castling_from p true m h = (castles_ends p m _ _ h).0
 
 agreeing_count : (p : Parts) (f : Form) → length (agreeing p f) ≡ count_legal p f
 unfolding agreeing
 agreeing_count p (Man k file rank to promotion) =
-    let f = Man k file rank to promotion in
-    ap (λ (xs : List Played). length xs) (filter_map-map (λ m. played (describes p f m) p m) (move_from to promotion) squares)
+    let f = Man k file rank to _ in
+    ap (λ (xs : List Played). length xs) (filter_map-map _ _ squares)
     ∙ moves_count p f
 agreeing_count p (Castle long) =
     ap (λ (ss : List Square). length (filter_map (move_at p (Castle long)) ss)) (sym (king_square_alone p.side))
-    ∙ ap (λ (xs : List Played). length xs) (filter_map-filter (move_at p (Castle long)) (same_square (square 4 (home_rank p.side))) elsewhere squares)
-    ∙ moves_count p (Castle long)
+    ∙ ap (λ (xs : List Played). length xs) (filter_map-filter _ _ elsewhere squares)
+    ∙ moves_count p _
   where
     elsewhere : (s : Square) → same_square (square 4 (home_rank p.side)) s ≡ false → move_at p (Castle long) s ≡ None
     elsewhere s other =
         played_not _ p (form_move p.side (Castle long) s)
-        (not_described (describes p (Castle long) (form_move p.side (Castle long) s)) refl)
+        (not_described _ refl)
       where
         not_described : (b : Bool) → describes p (Castle long) (form_move p.side (Castle long) s) ≡ b → b ≡ false
         not_described false h = refl
         not_described true h =
-            absurd (both_ways (same_square (home p 4) s) other
+            absurd (both_ways _ other
             (subst (λ (t : Square). same_square t s ≡ true) (castling_from p long (form_move p.side (Castle long) s) h) (same_square-refl s)))
 
 -- what a list of moves means, by its length

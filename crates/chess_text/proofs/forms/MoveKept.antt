@@ -1,12 +1,5 @@
 -- The move that a search has kept, with the position after it.
-use Rattle.std.proofs.Common.{◌≡◌, Bool, true, false, ◌&&◌, refl, sym, ap}
-use Rattle.std.specs.Prelude.{Option, None, Some, is_some}
-use Rattle.std.proofs.lemmas.Bool.{false≢true, and_parts}
-use Rattle.chess_rules.specs.declared.position.Move.{Move}
-use Rattle.chess_rules.specs.declared.position.Parts.{Parts}
-use Rattle.chess_rules.specs.Legal.{legal, is_legal}
-use Rattle.chess_text.specs.declared.resolution.Played.{Played}
-use Rattle.chess_text.specs.MoveOfForm.{with_next, played}
+use Rattle.chess_text.proofs.Words.{◌≡◌, Bool, true, false, ◌&&◌, refl, sym, ap, Option, None, Some, is_some, false≢true, and_parts, Move, Parts, legal, is_legal, Played, with_next, played}
 
 abbrev pub with_position : Parts → Option Move → Option Played
 with_position p None = None
@@ -23,11 +16,11 @@ some_next m (Some q) h = refl
 
 pub kept_is_some : (p : Parts) (o : Option Move) → IsLegalIfAny p o → is_some (with_position p o) ≡ is_some o
 kept_is_some p None h = refl
-kept_is_some p (Some m) h = some_next m (legal p m) h
+kept_is_some p (Some m) h = some_next m _ h
 
 -- a legal move has a position after it
 pub kept_next : (p : Parts) (m : Move) → is_legal p m ≡ true → (x : Played) × (with_next m (legal p m) ≡ Some x)
-kept_next p m h = by_next (legal p m) h
+kept_next p m h = by_next _ h
   where
     by_next : (o : Option Parts) → is_some o ≡ true → (x : Played) × (with_next m o ≡ Some x)
     by_next None g = absurd (false≢true g)
@@ -35,11 +28,11 @@ kept_next p m h = by_next (legal p m) h
 
 -- what is found from a move is it with that position, if it is legal and fits, and else nothing
 pub fitting_is_played : (p : Parts) (m : Move) (fits : Bool) → (is_legal p m && fits) ≡ true → played fits p m ≡ with_next m (legal p m)
-fitting_is_played p m fits h = ap (λ (b : Bool). played b p m) (and_parts (is_legal p m) fits h).1
+fitting_is_played p m fits h = ap (λ (b : Bool). played b p m) (and_parts _ fits h).1
 
 pub other_is_not_played : (p : Parts) (m : Move) (fits : Bool) → (is_legal p m && fits) ≡ false → played fits p m ≡ None
 other_is_not_played p m false h = refl
-other_is_not_played p m true h = by_next (legal p m) h
+other_is_not_played p m true h = by_next _ h
   where
     by_next : (o : Option Parts) → (is_some o && true) ≡ false → with_next m o ≡ None
     by_next None g = refl

@@ -1,17 +1,6 @@
 -- Lists of what is found, and the only element of one.
-use Rattle.std.proofs.Common.{◌≡◌, ◌⊎◌, inl, inr, ℕ, zero, suc, ◌+◌, ◌<◌, ◌≤◌, Bool, true, false, cond, List, [], ◌∷◌, ◌++◌, map, length, take, drop, get_or, append-nil, Option, None, Some, refl, sym, ◌∙◌, ap, ap₂, subst, arith}
-use Rattle.std.specs.Prelude.{Ok, Err, sum_by}
-use Rattle.std.specs.Option.{option_to_list, ok_or, is_some}
-use Rattle.std.specs.List.{filter, filter_map, cons_option, Contains}
-use Rattle.std.specs.List.Sorted.{IsPermutation}
-use Rattle.std.proofs.lemmas.Bool.{false≢true}
-use Rattle.std.proofs.lemmas.List.{take_more, take_all, take-append-drop}
-use Rattle.std.proofs.lemmas.List.Sums.{sum_by-cons}
-use Rattle.std.proofs.lemmas.List.Elements.{filter_map-append}
-use Rattle.std.proofs.lemmas.List.Sorted.{Contains-permutation, sum_by-IsPermutation}
-use Rattle.chess_text.specs.declared.resolution.Played.{Played}
-use Rattle.chess_text.specs.declared.resolution.SanFault.TheVariants.{NoMove, Ambiguous}
-use Rattle.chess_text.specs.MoveOfForm.{only}
+use Rattle.chess_text.proofs.Words.{◌≡◌, ◌⊎◌, inl, inr, ℕ, zero, suc, ◌+◌, ◌<◌, ◌≤◌, Bool, true, false, cond, List, [], ◌∷◌, ◌++◌, map, length, take, drop, get_or, append-nil, Option, None, Some, refl, sym, ◌∙◌, ap, ap₂, subst, arith, Ok, Err, sum_by, option_to_list, ok_or, filter, filter_map, cons_option, Contains, IsPermutation, false≢true, take_more, take_all, take-append-drop, sum_by-cons, filter_map-append, Contains-permutation, sum_by-IsPermutation, Played, NoMove, Ambiguous, only}
+use Rattle.std.specs.Option.{is_some}
 
 -- Elements.
 
@@ -33,8 +22,8 @@ pub in_map : {X Y : Type 0} (f : X → Y) (xs : List X) (x : X) → Contains xs 
 in_map f [] x h = absurd (none_in x h)
 in_map f (y ∷ ys) x h =
     elim (element y x ys h) [
-      | inl e ↦ subst (λ z. Contains (f y ∷ map f ys) (f z)) e (here (f y) (map f ys))
-      | inr more ↦ later (f y) (f x) (map f ys) (in_map f ys x more)
+      | inl e ↦ subst (λ z. Contains (f y ∷ map f ys) (f z)) e (here _ (map f ys))
+      | inr more ↦ later _ _ _ (in_map f ys x more)
     ]
 
 pub record MapsTo {X Y : Type 0} (f : X → Y) (xs : List X) (y : Y) : Type 0 where
@@ -45,7 +34,7 @@ pub record MapsTo {X Y : Type 0} (f : X → Y) (xs : List X) (y : Y) : Type 0 wh
 pub of_map : {X Y : Type 0} (f : X → Y) (xs : List X) (y : Y) → Contains (map f xs) y → MapsTo f xs y
 of_map f [] y c = absurd (none_in y c)
 of_map {X} {Y} f (x ∷ xs) y c =
-    elim (element (f x) y (map f xs) c) [
+    elim (element _ y _ c) [
       | inl is ↦ record { at = x; among = here x xs; gives = is }
       | inr more ↦ further (of_map f xs y more)
     ]
@@ -59,13 +48,13 @@ pub in_found : {X Y : Type 0} (h : X → Option Y) (xs : List X) (x : X) (y : Y)
 in_found h [] x y c e = absurd (none_in x c)
 in_found {X} {Y} h (z ∷ zs) x y c e =
     elim (element z x zs c) [
-      | inl is ↦ subst (λ (o : Option Y). Contains (cons_option o (filter_map h zs)) y) (sym (ap h is ∙ e)) (here y (filter_map h zs))
-      | inr more ↦ keeps (h z) (in_found h zs x y more e)
+      | inl is ↦ rw (ap h is ∙ e) (here y _)
+      | inr more ↦ keeps _ (in_found h zs x y more e)
     ]
   where
     keeps : (o : Option Y) → Contains (filter_map h zs) y → Contains (cons_option o (filter_map h zs)) y
     keeps None g = g
-    keeps (Some w) g = later w y (filter_map h zs) g
+    keeps (Some w) g = later w y _ g
 
 -- where an element was found
 pub record FoundAt {X Y : Type 0} (h : X → Option Y) (xs : List X) (y : Y) : Type 0 where
@@ -78,12 +67,12 @@ found_further h z zs y f = record { at = f.at; among = later z f.at zs f.among; 
 
 pub found_in : {X Y : Type 0} (h : X → Option Y) (xs : List X) (y : Y) → Contains (filter_map h xs) y → FoundAt h xs y
 found_in h [] y c = absurd (none_in y c)
-found_in {X} {Y} h (z ∷ zs) y c = by_found (h z) refl c (found_in h zs y)
+found_in {X} {Y} h (z ∷ zs) y c = by_found _ refl c (found_in h zs y)
   where
     by_found : (o : Option Y) → h z ≡ o → Contains (cons_option o (filter_map h zs)) y → (Contains (filter_map h zs) y → FoundAt h zs y) → FoundAt h (z ∷ zs) y
     by_found None e g more = found_further h z zs y (more g)
     by_found (Some w) e g more =
-        elim (element w y (filter_map h zs) g) [
+        elim (element w y _ g) [
           | inl is ↦ record { at = z; among = here z zs; gives = e ∙ ap Some is }
           | inr other ↦ found_further h z zs y (more other)
         ]
@@ -94,7 +83,7 @@ count_found h x = length (cons_option (h x) [])
 
 pub length-found : {X Y : Type 0} (h : X → Option Y) (xs : List X) → length (filter_map h xs) ≡ sum_by (count_found h) xs
 length-found h [] = refl
-length-found {X} {Y} h (x ∷ xs) = by_found (h x) (length-found h xs) ∙ sym (sum_by-cons (count_found h) x xs)
+length-found {X} {Y} h (x ∷ xs) = by_found _ (length-found h xs) ∙ sym (sum_by-cons _ x xs)
   where
     by_found : (o : Option Y) → length (filter_map h xs) ≡ sum_by (count_found h) xs → length (cons_option o (filter_map h xs)) ≡ length (cons_option o []) + sum_by (count_found h) xs
     by_found None e = omega (arith, e)
@@ -102,16 +91,16 @@ length-found {X} {Y} h (x ∷ xs) = by_found (h x) (length-found h xs) ∙ sym (
 
 pub filter_map-map : {X Y Z : Type 0} (h : Y → Option Z) (f : X → Y) (xs : List X) → filter_map h (map f xs) ≡ filter_map (λ x. h (f x)) xs
 filter_map-map h f [] = refl
-filter_map-map {X} {Y} {Z} h f (x ∷ xs) = ap (λ (zs : List Z). cons_option (h (f x)) zs) (filter_map-map h f xs)
+filter_map-map {X} {Y} {Z} h f (x ∷ xs) = cc (filter_map-map h f xs)
 
 -- a filter that loses nothing
 pub filter_map-filter : {X Y : Type 0} (h : X → Option Y) (c : X → Bool) → ((x : X) → c x ≡ false → h x ≡ None) → (xs : List X) → filter_map h (filter c xs) ≡ filter_map h xs
 filter_map-filter h c lost [] = refl
-filter_map-filter {X} {Y} h c lost (x ∷ xs) = by_test (c x) refl (filter_map-filter h c lost xs)
+filter_map-filter {X} {Y} h c lost (x ∷ xs) = by_test _ refl (filter_map-filter h c lost xs)
   where
     by_test : (b : Bool) → c x ≡ b → filter_map h (filter c xs) ≡ filter_map h xs → filter_map h (cond b (x ∷ filter c xs) (filter c xs)) ≡ filter_map h (x ∷ xs)
-    by_test true e rest = ap (λ (ys : List Y). cons_option (h x) ys) rest
-    by_test false e rest = rest ∙ ap (λ (o : Option Y). cons_option o (filter_map h xs)) (sym (lost x e))
+    by_test true e rest = cc
+    by_test false e rest = cc (lost x e)
 
 -- The only element.
 
@@ -131,8 +120,8 @@ only_same (x ∷ w ∷ ws) (y ∷ z ∷ zs) e among = refl
 -- the order decides nothing
 pub only_permuted : {X : Type 0} (h : X → Option Played) (xs ys : List X) → IsPermutation xs ys → only (filter_map h xs) ≡ only (filter_map h ys)
 only_permuted h xs ys perm =
-    only_same (filter_map h xs) (filter_map h ys)
-    (length-found h xs ∙ sym (sum_by-IsPermutation (count_found h) xs ys perm) ∙ sym (length-found h ys))
+    only_same _ _
+    (length-found h xs ∙ sym (sum_by-IsPermutation _ xs ys perm) ∙ sym (length-found h ys))
     (λ y c.
     let f = found_in h xs y c in
     in_found h ys f.at y (Contains-permutation xs ys f.at perm f.among) f.gives)
@@ -140,9 +129,7 @@ only_permuted h xs ys perm =
 -- one element more
 pub found_more : {X Y : Type 0} (h : X → Option Y) (xs : List X) (i : ℕ) (d : X) (o : Option Y) → i < length xs → o ≡ h (get_or xs i d) → filter_map h (take (i + 1) xs) ≡ filter_map h (take i xs) ++ cons_option o []
 found_more {X} {Y} h xs i d o low is =
-    ap (λ (ys : List X). filter_map h ys) (take_more xs i d low)
-    ∙ filter_map-append h (take i xs) (get_or xs i d ∷ [])
-    ∙ ap (λ (p : Option Y). filter_map h (take i xs) ++ cons_option p []) (sym is)
+    cc (take_more xs i d low, filter_map-append h (take i xs) (get_or xs i d ∷ []))
 
 pub only_so_far : (o : Option Played) → ok_or o NoMove ≡ only (option_to_list o)
 only_so_far None = refl
@@ -151,22 +138,17 @@ only_so_far (Some x) = refl
 -- a second one, wherever it was found
 pub only_two : {X : Type 0} (h : X → Option Played) (xs : List X) (n : ℕ) (x y : Played) → filter_map h (take n xs) ≡ (x ∷ []) ++ (y ∷ []) → only (filter_map h xs) ≡ Err Ambiguous
 only_two {X} h xs n x y e =
-    ap (λ (zs : List X). only (filter_map h zs)) (sym (take-append-drop n xs))
-    ∙ ap only (filter_map-append h (take n xs) (drop n xs))
-    ∙ ap (λ (zs : List Played). only (zs ++ filter_map h (drop n xs))) e
+    cc (take-append-drop n xs, filter_map-append h (take n xs) (drop n xs))
 
 -- What a loop has found after the first i elements: nothing, or one.
 module _ {X : Type 0} (h : X → Option Played) (xs : List X) (i : ℕ) (found : Option Played) (so_far : filter_map h (take i xs) ≡ option_to_list found) where
   pub still_none : (d : X) (o : Option Played) → i < length xs → o ≡ h (get_or xs i d) → o ≡ None → filter_map h (take (i + 1) xs) ≡ option_to_list found
   still_none d o low is none =
-      found_more h xs i d o low is
-      ∙ ap₂ (λ (ys : List Played) (p : Option Played). ys ++ cons_option p []) so_far none
-      ∙ append-nil (option_to_list found)
+      cc (found_more h xs i d o low is, append-nil _)
 
   pub first_one : (d : X) (o : Option Played) (y : Played) → i < length xs → o ≡ h (get_or xs i d) → o ≡ Some y → is_some found ≡ false → filter_map h (take (i + 1) xs) ≡ y ∷ []
   first_one d o y low is some none =
-      found_more h xs i d o low is
-      ∙ ap₂ (λ (ys : List Played) (p : Option Played). ys ++ cons_option p []) (so_far ∙ nothing found none) some
+      cc (found_more h xs i d o low is, nothing found none)
     where
       nothing : (f : Option Played) → is_some f ≡ false → option_to_list f ≡ []
       nothing None e = refl
@@ -190,4 +172,4 @@ module _ {X : Type 0} (h : X → Option Played) (xs : List X) (i : ℕ) (found :
 
   pub at_the_end : length xs ≤ i → ok_or found NoMove ≡ only (filter_map h xs)
   at_the_end all =
-      only_so_far found ∙ ap only (sym so_far) ∙ ap (λ (ys : List X). only (filter_map h ys)) (take_all i xs all)
+      cc (only_so_far found, take_all i xs all)

@@ -1,24 +1,6 @@
 -- What a form of no castling names: all its moves come from candidates.
-use Rattle.std.proofs.Common.{◌≡◌, ℕ, ◌<◌, Bool, true, false, not, ◌&&◌, List, get_or, refl, sym, ◌∙◌, ap, subst}
-use Rattle.std.specs.Prelude.{Option, None, Some, ◌==◌, length}
-use Rattle.std.specs.List.{filter_map, All}
-use Rattle.std.specs.List.Sorted.{IsPermutation}
-use Rattle.std.proofs.lemmas.Bool.{false≢true, both_ways, and_parts, and_from, eq-eqb}
-use Rattle.std.proofs.lemmas.List.Elements.{filter_passes, All-weaker}
-use Rattle.std.proofs.lemmas.List.Sorted.{All-permutation, IsPermutation-sym}
-use Rattle.chess_rules.specs.declared.piece.Kind.{Kind}
-use Rattle.chess_rules.specs.declared.piece.Promotion.{Promotion}
+use Rattle.chess_text.proofs.Words.{◌≡◌, ℕ, ◌<◌, Bool, true, false, not, ◌&&◌, List, get_or, refl, sym, ◌∙◌, ap, subst, Option, None, Some, ◌==◌, length, filter_map, All, IsPermutation, false≢true, both_ways, and_parts, and_from, eq-eqb, filter_passes, All-weaker, All-permutation, IsPermutation-sym, Kind, Promotion, Parts, Square, squares, same_square, own, legal, sees, is_candidate, candidates, CandidatesComplete, Form, Man, Played, hints_fit, same_promotion, is_castling, describes, played, move_from, agreeing, only, move_of_form, piece_move_fits}
 use Rattle.chess_rules.specs.declared.piece.Promotion.TheVariants.{Queen, Rook, Bishop, Knight}
-use Rattle.chess_rules.specs.declared.position.Parts.{Parts}
-use Rattle.chess_rules.specs.Square.{Square, squares, same_square}
-use Rattle.chess_rules.specs.Step.{own}
-use Rattle.chess_rules.specs.Legal.{legal}
-use Rattle.chess_rules.specs.Candidate.{sees, is_candidate, candidates}
-use Rattle.chess_rules.specs.Laws.{CandidatesComplete}
-use Rattle.chess_text.specs.declared.form.Form.{Form}
-use Rattle.chess_text.specs.declared.form.Form.TheVariants.{Man}
-use Rattle.chess_text.specs.declared.resolution.Played.{Played}
-use Rattle.chess_text.specs.MoveOfForm.{hints_fit, same_promotion, is_castling, describes, played, move_from, agreeing, only, move_of_form, piece_move_fits}
 use Rattle.chess_text.proofs.forms.CastlingForms.{played_none}
 use Rattle.chess_text.proofs.forms.OnlyElement.{filter_map-map, filter_map-filter, only_permuted}
 
@@ -27,7 +9,7 @@ abbrev pub from_square : Parts → Form → Square → Option Promotion → Squa
 from_square p f to promotion s = played (describes p f (move_from to promotion s)) p (move_from to promotion s)
 
 pub same_square-refl : (s : Square) → same_square s s ≡ true
-same_square-refl s = and_from (s.file == s.file) (s.rank == s.rank) (eq-eqb s.file s.file refl) (eq-eqb s.rank s.rank refl)
+same_square-refl s = and_from (s.file == s.file) (s.rank == s.rank) (eq-eqb _ _ refl) (eq-eqb _ _ refl)
 
 pub same_promotion-refl : (x : Option Promotion) → same_promotion x x ≡ true
 same_promotion-refl None = refl
@@ -46,47 +28,43 @@ module _ (p : Parts) (k : Kind) (file rank : Option ℕ) (to : Square) (promotio
   -- from a square with such a piece
   pub describes_own : (s : Square) → own p k s ≡ true → describes p (Man k file rank to promotion) (move_from to promotion s) ≡ piece_move_fits p file rank (move_from to promotion s)
   describes_own s stands =
-      rest_of (own p k s) (hints_fit file rank s) (same_square to to) (same_promotion promotion promotion) (not (is_castling p (move_from to promotion s)))
+      rest_of _ _ (same_square to to) (same_promotion promotion promotion) _
       stands (same_square-refl to) (same_promotion-refl promotion)
 
   pub tried_own : (s : Square) → own p k s ≡ true → played (piece_move_fits p file rank (move_from to promotion s)) p (move_from to promotion s) ≡ from_square p (Man k file rank to promotion) to promotion s
-  tried_own s stands = ap (λ (b : Bool). played b p (move_from to promotion s)) (sym (describes_own s stands))
+  tried_own s stands = cc (describes_own s stands)
 
   -- from no other square than a candidate
   only_candidates : CandidatesComplete → (s : Square) → is_candidate p k to s ≡ false → from_square p (Man k file rank to promotion) to promotion s ≡ None
-  only_candidates complete s other = by_described (describes p (Man k file rank to promotion) (move_from to promotion s)) refl (legal p (move_from to promotion s)) refl
+  only_candidates complete s other = by_described _ refl _ refl
     where
       stands : describes p (Man k file rank to promotion) (move_from to promotion s) ≡ true → own p k s ≡ true
       stands h =
-          (and_parts (own p k s) (hints_fit file rank s)
-          (and_parts (own p k s && hints_fit file rank s) ((same_square to to && same_promotion promotion promotion) && not (is_castling p (move_from to promotion s))) h).0).0
+          (and_parts _ _
+          (and_parts _ _ h).0).0
 
       by_described : (b : Bool) → describes p (Man k file rank to promotion) (move_from to promotion s) ≡ b → (o : Option Parts) → legal p (move_from to promotion s) ≡ o → played b p (move_from to promotion s) ≡ None
       by_described false e o g = refl
-      by_described true e None g = played_none true p (move_from to promotion s) g
+      by_described true e None g = played_none true p (move_from to _ s) g
       by_described true e (Some q) g =
-          absurd (both_ways (is_candidate p k to s) other (complete p q (move_from to promotion s) k g (stands e)))
+          absurd (both_ways (is_candidate p k to s) other (complete p q (move_from to _ s) k g (stands e)))
 
   -- what is found from the candidates, in any order, decides
   pub reads_candidates : CandidatesComplete → (xs : List Square) → IsPermutation (candidates p k to) xs
       → only (filter_map (from_square p (Man k file rank to promotion) to promotion) xs) ≡ move_of_form p (Man k file rank to promotion)
   unfolding agreeing
   reads_candidates complete xs perm =
-      only_permuted (from_square p (Man k file rank to promotion) to promotion) xs (candidates p k to) (IsPermutation-sym (candidates p k to) xs perm)
-      ∙ ap only (filter_map-filter (from_square p (Man k file rank to promotion) to promotion) (is_candidate p k to) (only_candidates complete) squares)
-      ∙ ap only (sym (filter_map-map (λ m. played (describes p (Man k file rank to promotion) m) p m) (move_from to promotion) squares))
+      cc (only_permuted (from_square p (Man k file rank to promotion) to promotion) xs (candidates p k to) (IsPermutation-sym (candidates p k to) xs perm), filter_map-filter (from_square p (Man k file rank to promotion) to promotion) (is_candidate p k to) (only_candidates complete) squares, filter_map-map (λ m. played (describes p (Man k file rank to promotion) m) p m) (move_from to promotion) squares)
 
 -- such a piece stands on each candidate
 pub candidates_own : (p : Parts) (k : Kind) (t : Square) (xs : List Square) → IsPermutation (candidates p k t) xs → All (λ s. own p k s ≡ true) xs
 candidates_own p k t xs perm =
-    All-permutation (λ s. own p k s ≡ true) (candidates p k t) xs perm
-    (All-weaker (λ s. is_candidate p k t s ≡ true) (λ s. own p k s ≡ true) (λ s h. (and_parts (own p k s) (sees k p s t) h).0) (candidates p k t) (filter_passes (is_candidate p k t) squares))
+    All-permutation (λ s. own p k s ≡ true) _ xs perm
+    (All-weaker (λ s. is_candidate p k t s ≡ true) (λ s. own p k s ≡ true) (λ s h. (and_parts _ _ h).0) _ (filter_passes _ squares))
 
 -- what the code tries from the i-th of them
 pub tried_at : (p : Parts) (k : Kind) (file rank : Option ℕ) (to : Square) (promotion : Option Promotion) (xs : List Square) → IsPermutation (candidates p k to) xs
     → (i : ℕ) (s : Square) (o : Option Played) → i < length xs → s ≡ get_or xs i s → o ≡ played (piece_move_fits p file rank (move_from to promotion s)) p (move_from to promotion s)
     → o ≡ from_square p (Man k file rank to promotion) to promotion (get_or xs i s)
 tried_at p k file rank to promotion xs perm i s o low is tried =
-    tried
-    ∙ tried_own p k file rank to promotion s (subst (λ (t : Square). own p k t ≡ true) (sym is) (candidates_own p k to xs perm i s low))
-    ∙ ap (λ (t : Square). from_square p (Man k file rank to promotion) to promotion t) is
+    cc (tried_own p k file rank to promotion s (subst (λ (t : Square). own p k t ≡ true) (sym is) (candidates_own p k to xs perm i s low)))

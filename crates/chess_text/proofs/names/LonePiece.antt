@@ -1,18 +1,5 @@
 -- A piece that alone of its kind may go to the target has no rivals.
-use Rattle.std.proofs.Common.{◌≡◌, ◌≤◌, inl, inr, Bool, true, false, not, ◌&&◌, ◌||◌, List, [], ◌∷◌, length, refl, sym, ◌∙◌, ap, arith}
-use Rattle.std.specs.Prelude.{Option, None, Some, is_some}
-use Rattle.std.specs.List.{list_any}
-use Rattle.std.proofs.lemmas.Bool.{false≢true, and_parts, and_from, or_cases}
-use Rattle.std.proofs.lemmas.List.Sorted.{IsPermutation-refl}
-use Rattle.chess_rules.specs.declared.piece.Kind.{Kind}
-use Rattle.chess_rules.specs.declared.position.Move.{Move}
-use Rattle.chess_rules.specs.declared.position.Parts.{Parts}
-use Rattle.chess_rules.specs.Square.{Square, squares, on_board, same_square}
-use Rattle.chess_rules.specs.Step.{own}
-use Rattle.chess_rules.specs.Legal.{legal, is_legal}
-use Rattle.chess_rules.specs.Candidate.{is_candidate, candidates}
-use Rattle.chess_rules.specs.Laws.{CandidatesComplete}
-use Rattle.chess_text.specs.San.{from_square, rivals}
+use Rattle.chess_text.proofs.Words.{◌≡◌, ◌≤◌, inl, inr, Bool, true, false, not, ◌&&◌, ◌||◌, List, [], ◌∷◌, length, refl, sym, ◌∙◌, ap, arith, Option, None, Some, is_some, list_any, false≢true, and_parts, and_from, or_cases, IsPermutation-refl, Kind, Move, Parts, Square, squares, on_board, same_square, own, legal, is_legal, is_candidate, candidates, CandidatesComplete, from_square, rivals}
 use Rattle.chess_text.proofs.forms.CastlingMoves.{stepped, squares_same}
 use Rattle.chess_text.proofs.forms.AgreeingAreFound.{in_squares, any_contained}
 use Rattle.chess_text.proofs.forms.PieceForms.{same_square-refl}
@@ -20,12 +7,12 @@ use Rattle.chess_text.proofs.names.RivalsAreCandidates.{any-filter, rivals_seen,
 
 only_one : (s : Square) (xs : List Square) → length xs ≤ 1 → list_any (same_square s) xs ≡ true → xs ≡ s ∷ []
 only_one s [] few h = absurd (false≢true h)
-only_one s (x ∷ []) few h = elim (or_cases (same_square s x) false h) [ inl e ↦ ap (λ y. y ∷ []) (sym (squares_same s x e)) | inr none ↦ absurd (false≢true none) ]
+only_one s (x ∷ []) few h = elim (or_cases _ false h) [ inl e ↦ ap (λ y. y ∷ []) (sym (squares_same s x e)) | inr none ↦ absurd (false≢true none) ]
 only_one s (x ∷ y ∷ ys) few h = absurd (omega (arith, few))
 
 module _ (complete : CandidatesComplete) (p : Parts) (k : Kind) (m : Move) (allowed : is_legal p m ≡ true) (stands : own p k m.from ≡ true) (few : length (candidates p k m.to) ≤ 1) where
   own_candidate : is_candidate p k m.to m.from ≡ true
-  own_candidate = by_legal (legal p m) refl allowed
+  own_candidate = by_legal _ refl allowed
     where
       by_legal : (o : Option Parts) → legal p m ≡ o → is_some o ≡ true → is_candidate p k m.to m.from ≡ true
       by_legal None e h = absurd (false≢true h)
@@ -33,14 +20,14 @@ module _ (complete : CandidatesComplete) (p : Parts) (k : Kind) (m : Move) (allo
 
   pub lone_candidate : candidates p k m.to ≡ m.from ∷ []
   lone_candidate =
-      only_one m.from (candidates p k m.to) few
-      (any-filter (same_square m.from) (is_candidate p k m.to) squares
-      ∙ any_contained (λ s. is_candidate p k m.to s && same_square m.from s) squares m.from
-      (in_squares m.from (and_parts (on_board m.from) (on_board m.to) (stepped p m allowed).on).0)
-      (and_from (is_candidate p k m.to m.from) (same_square m.from m.from) own_candidate (same_square-refl m.from)))
+      only_one _ _ few
+      (any-filter _ _ squares
+      ∙ any_contained _ squares m.from
+      (in_squares _ (and_parts _ (on_board m.to) (stepped p m allowed).on).0)
+      (and_from (is_candidate p k m.to _) (same_square m.from m.from) own_candidate (same_square-refl m.from)))
 
   pub no_rivals : (test : Square → Bool) → false ≡ list_any test (rivals p k m)
   no_rivals test =
       sym (ap (λ (xs : List Square). seen p m test xs) lone_candidate
       ∙ ap (λ b. ((not b && is_legal p (from_square m m.from)) && test m.from) || false) (same_square-refl m.from))
-      ∙ rivals_seen complete p k m test (candidates p k m.to) (IsPermutation-refl (candidates p k m.to))
+      ∙ rivals_seen complete p k m test (candidates p k m.to) (IsPermutation-refl _)

@@ -1,37 +1,15 @@
 -- No other legal move agrees with the form that is written.
-use Rattle.std.proofs.Common.{◌≡◌, ℕ, ◌+◌, ◌/◌, Bool, true, false, not, ◌&&◌, refl, sym, ◌∙◌, ap, ap₂, subst, arith}
-use Rattle.std.specs.Prelude.{◌==◌, Option, None, Some, is_none}
-use Rattle.std.specs.List.{list_any}
-use Rattle.std.proofs.lemmas.Bool.{false≢true, both_ways, and_parts, and_from, eqb-true}
-use Rattle.std.proofs.lemmas.Bool.Decides.{nat_tests}
-use Rattle.chess_rules.specs.declared.piece.Colour.{Colour}
-use Rattle.chess_rules.specs.declared.piece.Colour.TheVariants.{White, Black}
-use Rattle.chess_rules.specs.declared.piece.Kind.{Kind}
-use Rattle.chess_rules.specs.declared.piece.Kind.TheVariants.{King, Queen, Rook, Bishop, Knight, Pawn}
-use Rattle.chess_rules.specs.declared.piece.Piece.{Piece}
-use Rattle.chess_rules.specs.declared.piece.Promotion.{Promotion}
-use Rattle.chess_rules.specs.declared.position.Move.{Move}
-use Rattle.chess_rules.specs.declared.position.Parts.{Parts}
-use Rattle.chess_rules.specs.Square.{Square, square, squares, on_board, gap, same_square}
-use Rattle.chess_rules.specs.Board.{at, has_piece, same_colour, same_kind, is_empty, other}
-use Rattle.chess_rules.specs.Attacks.{is_ahead}
-use Rattle.chess_rules.specs.Position.{is_position}
-use Rattle.chess_rules.specs.Step.{own, captured_pawn, crossed, pawn_rank, double_rank, castles_short, castles_long, short_right, long_right, short_wing, long_wing}
-use Rattle.chess_rules.specs.Legal.{is_legal}
-use Rattle.chess_rules.specs.Laws.{OneKing}
-use Rattle.chess_text.specs.declared.form.Form.TheVariants.{Man}
-use Rattle.chess_text.specs.MoveOfForm.{hints_fit, same_promotion, is_castling, describes, agrees}
-use Rattle.chess_text.specs.San.{from_square, is_rival, rivals, is_capture, on_file, on_rank}
+use Rattle.chess_text.proofs.Words.{◌≡◌, ℕ, ◌+◌, ◌/◌, Bool, true, false, not, ◌&&◌, refl, sym, ◌∙◌, ap, ap₂, subst, arith, ◌==◌, Option, None, Some, is_none, list_any, false≢true, both_ways, and_parts, and_from, eqb-true, nat_tests, Colour, White, Black, Kind, King, Queen, Rook, Bishop, Knight, Pawn, Piece, Promotion, Move, Parts, Square, square, squares, on_board, gap, same_square, at, has_piece, same_colour, same_kind, is_empty, other, is_ahead, is_position, own, captured_pawn, crossed, pawn_rank, double_rank, castles_short, castles_long, short_right, long_right, short_wing, long_wing, is_legal, OneKing, Man, hints_fit, same_promotion, is_castling, describes, agrees, from_square, is_rival, rivals, is_capture, on_file, on_rank}
 use Rattle.chess_text.proofs.forms.CastlingMoves.{stepped, squares_same}
 use Rattle.chess_text.proofs.forms.CastlingForms.{castles_ends}
-use Rattle.chess_text.proofs.forms.AgreeingAreFound.{in_squares, any_contained, promotions_same, move_of}
+use Rattle.chess_text.proofs.forms.AgreeingAreFound.{in_squares, any_contained, promotions_same, move_of, no_promotion}
 use Rattle.chess_text.proofs.forms.PawnWays.{PawnWay, takes, passes, advances, doubles, pawn_way, pawn_takes, gap_apart}
 use Rattle.chess_text.proofs.names.RivalsAreCandidates.{any-filter}
 use Rattle.chess_text.proofs.names.WrittenToForm.{file_by, rank_by, disambiguated_form, king_form_by, pawn_form_by, written, unpromoted, itself}
 
 -- a move is its squares and its promotion
 same_move : (n m : Move) → n.from ≡ m.from → n.to ≡ m.to → n.promotion ≡ m.promotion → n ≡ m
-same_move n m from to promotion = move_of n m.from m.to m.promotion from to promotion
+same_move n m from to promotion = move_of n _ m.to _ from to promotion
 
 -- what a form of no castling says of a move
 pub record Said (p : Parts) (k : Kind) (file rank : Option ℕ) (to : Square) (promotion : Option Promotion) (n : Move) : Type 0 where
@@ -42,49 +20,45 @@ pub record Said (p : Parts) (k : Kind) (file rank : Option ℕ) (to : Square) (p
 
 pub said : (p : Parts) (k : Kind) (file rank : Option ℕ) (to : Square) (promotion : Option Promotion) (n : Move) → describes p (Man k file rank to promotion) n ≡ true → Said p k file rank to promotion n
 said p k file rank to promotion n h =
-    let both = and_parts (own p k n.from && hints_fit file rank n.from) ((same_square n.to to && same_promotion n.promotion promotion) && not (is_castling p n)) h in
-    let first = and_parts (own p k n.from) (hints_fit file rank n.from) both.0 in
-    let second = and_parts (same_square n.to to) (same_promotion n.promotion promotion) (and_parts (same_square n.to to && same_promotion n.promotion promotion) (not (is_castling p n)) both.1).0 in
-    record { stands = first.0; hints = first.1; there = squares_same n.to to second.0; named = promotions_same n.promotion promotion second.1 }
+    let both = and_parts (own p k _ && hints_fit file rank _) ((same_square n.to to && same_promotion n.promotion promotion) && not (is_castling p n)) h in
+    let first = and_parts _ _ both.0 in
+    let second = and_parts (same_square n.to to) (same_promotion n.promotion promotion) (and_parts _ (not _) both.1).0 in
+    record { stands = first.0; hints = first.1; there = squares_same n.to to second.0; named = promotions_same _ _ second.1 }
 
 -- The king: a position has one of each colour.
 
 starts_on : (p : Parts) (m : Move) → is_legal p m ≡ true → on_board m.from ≡ true
-starts_on p m h = (and_parts (on_board m.from) (on_board m.to) (stepped p m h).on).0
-
-none_is : (q : Option Promotion) → is_none q ≡ true → q ≡ None
-none_is None h = refl
-none_is (Some q) h = absurd (false≢true h)
+starts_on p m h = (and_parts _ (on_board m.to) (stepped p m h).on).0
 
 king_alone : OneKing → (p : Parts) (m n : Move) → is_position p ≡ true → is_legal p m ≡ true → is_legal p n ≡ true → own p King m.from ≡ true
     → describes p (king_form_by (castles_short p m) (castles_long p m) m) n ≡ true → n ≡ m
-king_alone one p m n position h g stands = by_wing (castles_short p m) (castles_long p m) refl refl
+king_alone one p m n position h g stands = by_wing _ _ refl refl
   where
     by_wing : (a b : Bool) → castles_short p m ≡ a → castles_long p m ≡ b → describes p (king_form_by a b m) n ≡ true → n ≡ m
     by_wing true b e f d =
-        let x = castles_ends p m (short_right p.side p.rights) short_wing e in
-        let y = castles_ends p n (short_right p.side p.rights) short_wing d in
-        same_move n m (y.0 ∙ sym x.0) (y.1 ∙ sym x.1) (none_is n.promotion y.2 ∙ sym (none_is m.promotion x.2))
+        let x = castles_ends p m _ _ e in
+        let y = castles_ends p n _ _ d in
+        same_move n m (y.0 ∙ sym x.0) (y.1 ∙ sym x.1) (no_promotion _ y.2 ∙ sym (no_promotion _ x.2))
     by_wing false true e f d =
-        let x = castles_ends p m (long_right p.side p.rights) long_wing f in
-        let y = castles_ends p n (long_right p.side p.rights) long_wing d in
-        same_move n m (y.0 ∙ sym x.0) (y.1 ∙ sym x.1) (none_is n.promotion y.2 ∙ sym (none_is m.promotion x.2))
+        let x = castles_ends p m _ _ f in
+        let y = castles_ends p n _ _ d in
+        same_move n m (y.0 ∙ sym x.0) (y.1 ∙ sym x.1) (no_promotion _ y.2 ∙ sym (no_promotion _ x.2))
     by_wing false false e f d =
-        let s : Said p King None None m.to None n = said p King None None m.to None n d in
+        let s = said p King None None m.to None n d in
         same_move n m (one p p.side n.from m.from position (starts_on p n g) (starts_on p m h) s.stands stands) s.there (s.named ∙ sym (unpromoted p m King h stands refl))
 
 -- A queen, a rook, a bishop or a knight: another one is a rival, and is told apart.
 
 is_it_rival : (p : Parts) (m n : Move) → is_legal p n ≡ true → n.to ≡ m.to → n.promotion ≡ m.promotion → same_square n.from m.from ≡ false → is_rival p m n.from ≡ true
 is_it_rival p m n g to named apart =
-    and_from (not (same_square n.from m.from)) (is_legal p (from_square m n.from)) (ap not apart)
-    (subst (λ (x : Move). is_legal p x ≡ true) (same_move n (from_square m n.from) refl to named) g)
+    and_from (not _) (is_legal p (from_square m n.from)) (ap not apart)
+    (rw (same_move n (from_square m n.from) refl to named) at g)
 
 pub among_rivals : (p : Parts) (k : Kind) (m n : Move) (test : Square → Bool) → is_legal p n ≡ true → own p k n.from ≡ true → is_rival p m n.from ≡ true → test n.from ≡ true → list_any test (rivals p k m) ≡ true
 among_rivals p k m n test g stands rival found =
-    any-filter test (λ s. own p k s && is_rival p m s) squares
-    ∙ any_contained (λ s. (own p k s && is_rival p m s) && test s) squares n.from (in_squares n.from (starts_on p n g))
-    (and_from (own p k n.from && is_rival p m n.from) (test n.from) (and_from (own p k n.from) (is_rival p m n.from) stands rival) found)
+    any-filter test _ squares
+    ∙ any_contained _ squares n.from (in_squares _ (starts_on p n g))
+    (and_from _ _ (and_from _ _ stands rival) found)
 
 pub turn : (x y : ℕ) → (x == y) ≡ true → (y == x) ≡ true
 turn x y h = grind (arith, nat_tests)
@@ -93,14 +67,14 @@ turn x y h = grind (arith, nat_tests)
 told_away : (s t : Square) (any file rank : Bool) → hints_fit (file_by s any file rank) (rank_by s any file rank) t ≡ true → same_square t s ≡ false
     → any ≡ true → ((t.file == s.file) ≡ true → file ≡ true) → ((t.rank == s.rank) ≡ true → rank ≡ true) → ⊥
 told_away s t false file rank fits apart a b c = false≢true a
-told_away s t true false rank fits apart a b c = false≢true (b (turn s.file t.file (and_parts (s.file == t.file) true fits).0))
-told_away s t true true false fits apart a b c = false≢true (c (turn s.rank t.rank fits))
+told_away s t true false rank fits apart a b c = false≢true (b (turn _ _ (and_parts _ true fits).0))
+told_away s t true true false fits apart a b c = false≢true (c (turn _ _ fits))
 told_away s t true true true fits apart a b c =
     let both = and_parts (s.file == t.file) (s.rank == t.rank) fits in
-    false≢true (sym apart ∙ and_from (t.file == s.file) (t.rank == s.rank) (turn s.file t.file both.0) (turn s.rank t.rank both.1))
+    false≢true (sym apart ∙ and_from (t.file == s.file) (t.rank == s.rank) (turn _ _ both.0) (turn _ _ both.1))
 
 disambiguated_alone : (p : Parts) (k : Kind) (m n : Move) → is_legal p m ≡ true → is_legal p n ≡ true → own p k m.from ≡ true → same_kind k Pawn ≡ false → describes p (disambiguated_form k p m) n ≡ true → n ≡ m
-disambiguated_alone p k m n h g stands may_have_rivals d = by_test (same_square n.from m.from) refl
+disambiguated_alone p k m n h g stands may_have_rivals d = by_test _ refl
   where
     any : Bool
     any = list_any (λ r. true) (rivals p k m)
@@ -112,13 +86,13 @@ disambiguated_alone p k m n h g stands may_have_rivals d = by_test (same_square 
     rank = on_rank m.from (rivals p k m)
 
     s : Said p k (file_by m.from any file rank) (rank_by m.from any file rank) m.to None n
-    s = said p k (file_by m.from any file rank) (rank_by m.from any file rank) m.to None n d
+    s = said p k _ _ m.to None n d
 
     named : n.promotion ≡ m.promotion
     named = s.named ∙ sym (unpromoted p m k h stands may_have_rivals)
 
     by_test : (b : Bool) → same_square n.from m.from ≡ b → n ≡ m
-    by_test true e = same_move n m (squares_same n.from m.from e) s.there named
+    by_test true e = same_move n m (squares_same _ _ e) s.there named
     by_test false e =
         let rival : is_rival p m n.from ≡ true = is_it_rival p m n g s.there named e in
         absurd (told_away m.from n.from any file rank s.hints e
@@ -135,8 +109,8 @@ behind Black a b t h g = grind (arith, nat_tests)
 
 -- the rank that a double step crosses
 between : (c : Colour) (a t : ℕ) → t ≡ double_rank c → is_ahead c a t ≡ true → (pawn_rank c + double_rank c) / 2 ≡ a
-between White a t e h = let rank : t ≡ a + 1 = eqb-true t (a + 1) h in omega (arith, e, rank)
-between Black a t e h = let rank : a ≡ t + 1 = eqb-true a (t + 1) h in omega (arith, e, rank)
+between White a t e h = let rank = eqb-true t _ h in omega (arith, e, rank)
+between Black a t e h = let rank = eqb-true a _ h in omega (arith, e, rank)
 
 -- what stands on the square crossed
 no_one : (c : Colour) (cell : Option Piece) → is_none cell ≡ true → has_piece c Pawn cell ≡ true → ⊥
@@ -145,7 +119,7 @@ no_one c (Some x) h g = false≢true h
 
 not_both : (c : Colour) (cell : Option Piece) → has_piece c Pawn cell ≡ true → has_piece (other c) Pawn cell ≡ true → ⊥
 not_both c None h g = false≢true g
-not_both c (Some x) h g = apart c x.colour (and_parts (same_colour c x.colour) (same_kind Pawn x.kind) h).0 (and_parts (same_colour (other c) x.colour) (same_kind Pawn x.kind) g).0
+not_both c (Some x) h g = apart c x.colour (and_parts _ _ h).0 (and_parts _ _ g).0
   where
     apart : (c d : Colour) → same_colour c d ≡ true → same_colour (other c) d ≡ true → ⊥
     apart White White e f = false≢true f
@@ -155,29 +129,29 @@ not_both c (Some x) h g = apart c x.colour (and_parts (same_colour c x.colour) (
 
 module _ (p : Parts) (m n : Move) (pawn_m : own p Pawn m.from ≡ true) (pawn_n : own p Pawn n.from ≡ true) (there : n.to ≡ m.to) where
   same_rank : is_ahead p.side m.from.rank m.to.rank ≡ true → is_ahead p.side n.from.rank n.to.rank ≡ true → n.from.rank ≡ m.from.rank
-  same_rank h g = behind p.side n.from.rank m.from.rank m.to.rank (subst (λ (s : Square). is_ahead p.side n.from.rank s.rank ≡ true) there g) h
+  same_rank h g = behind _ _ _ _ (rw there at g) h
 
   to_file : n.to.file ≡ m.to.file
-  to_file = ap (λ (s : Square). s.file) there
+  to_file = cc
 
   -- with the file told
   by_file : n.from.file ≡ m.from.file → gap m.from.file m.to.file ≡ 1 → is_ahead p.side m.from.rank m.to.rank ≡ true → PawnWay p n → n.from ≡ m.from
   by_file file aside ahead (takes g a e) = ap₂ square file (same_rank ahead a)
   by_file file aside ahead (passes g a e f) = ap₂ square file (same_rank ahead a)
-  by_file file aside ahead (advances s a e) = absurd (gap_apart m.from.file m.to.file (sym file ∙ (s ∙ to_file)) aside)
-  by_file file aside ahead (doubles s a b e f) = absurd (gap_apart m.from.file m.to.file (sym file ∙ (s ∙ to_file)) aside)
+  by_file file aside ahead (advances s a e) = absurd (gap_apart _ _ (sym file ∙ s ∙ to_file) aside)
+  by_file file aside ahead (doubles s a b e f) = absurd (gap_apart _ _ (sym file ∙ s ∙ to_file) aside)
 
 -- a pawn does not come to where another one's double step crosses, nor past it
 over : (p : Parts) (x y : Move) → own p Pawn y.from ≡ true → y.to ≡ x.to → y.from.file ≡ y.to.file → is_ahead p.side y.from.rank y.to.rank ≡ true
     → x.from.file ≡ x.to.file → x.from.rank ≡ pawn_rank p.side → x.to.rank ≡ double_rank p.side → is_empty p.board (crossed x) ≡ true → ⊥
 over p x y pawn there straight ahead file low high free =
-    no_one p.side (at p.board (crossed x)) free (subst (λ (s : Square). own p Pawn s ≡ true) place pawn)
+    no_one p.side _ free (rw place at pawn)
   where
     rank : (x.from.rank + x.to.rank) / 2 ≡ y.from.rank
-    rank = ap₂ (λ a b. (a + b) / 2) low high ∙ between p.side y.from.rank x.to.rank high (subst (λ (s : Square). is_ahead p.side y.from.rank s.rank ≡ true) there ahead)
+    rank = cc (between p.side y.from.rank x.to.rank high (rw there at ahead))
 
     place : y.from ≡ crossed x
-    place = ap₂ square (straight ∙ (ap (λ (s : Square). s.file) there ∙ sym file)) (sym rank)
+    place = ap₂ square (straight ∙ ap (λ (s : Square). s.file) there ∙ sym file) (sym rank)
 
 past : (p : Parts) (x y : Move) → y.to ≡ x.to → is_ahead p.side y.from.rank y.to.rank ≡ true → has_piece (other p.side) Pawn (at p.board (captured_pawn y)) ≡ true
     → x.from.file ≡ x.to.file → x.from.rank ≡ pawn_rank p.side → x.to.rank ≡ double_rank p.side → is_empty p.board (crossed x) ≡ true → ⊥
@@ -185,22 +159,22 @@ past p x y there ahead taken file low high free =
     no_one (other p.side) (at p.board (crossed x)) free (subst (λ (s : Square). has_piece (other p.side) Pawn (at p.board s) ≡ true) place taken)
   where
     rank : (x.from.rank + x.to.rank) / 2 ≡ y.from.rank
-    rank = ap₂ (λ a b. (a + b) / 2) low high ∙ between p.side y.from.rank x.to.rank high (subst (λ (s : Square). is_ahead p.side y.from.rank s.rank ≡ true) there ahead)
+    rank = cc (between p.side y.from.rank x.to.rank high (rw there at ahead))
 
     place : captured_pawn y ≡ crossed x
     place = ap₂ square (ap (λ (s : Square). s.file) there ∙ sym file) (sym rank)
 
 module _ (p : Parts) (m n : Move) (pawn_m : own p Pawn m.from ≡ true) (pawn_n : own p Pawn n.from ≡ true) (there : n.to ≡ m.to) where
   file_of_target : n.from.file ≡ n.to.file → m.from.file ≡ m.to.file → n.from.file ≡ m.from.file
-  file_of_target h g = h ∙ (ap (λ (s : Square). s.file) there ∙ sym g)
+  file_of_target h g = cc
 
   not_empty : is_empty p.board n.to ≡ false → is_empty p.board m.to ≡ true → ⊥
-  not_empty h g = both_ways (is_empty p.board m.to) (subst (λ (s : Square). is_empty p.board s ≡ false) there h) g
+  not_empty h g = both_ways _ (rw there at h) g
 
   -- with no file told
   straight_alone : PawnWay p m → PawnWay p n → m.from.file ≡ m.to.file → n.from ≡ m.from
-  straight_alone (takes g a e) wn file = absurd (gap_apart m.from.file m.to.file file g)
-  straight_alone (passes g a e f) wn file = absurd (gap_apart m.from.file m.to.file file g)
+  straight_alone (takes g a e) wn file = absurd (gap_apart _ _ file g)
+  straight_alone (passes g a e f) wn file = absurd (gap_apart _ _ file g)
   straight_alone (advances s a e) (takes h b f) file = absurd (not_empty f e)
   straight_alone (advances s a e) (passes h b f g) file =
       absurd (not_both p.side (at p.board m.from) pawn_m
@@ -216,16 +190,16 @@ module _ (p : Parts) (m n : Move) (pawn_m : own p Pawn m.from ≡ true) (pawn_n 
   aside : PawnWay p m → (m.from.file == m.to.file) ≡ false → (gap m.from.file m.to.file ≡ 1) × (is_ahead p.side m.from.rank m.to.rank ≡ true)
   aside (takes g a e) h = (g, a)
   aside (passes g a e f) h = (g, a)
-  aside (advances s a e) h = absurd (both_ways (m.from.file == m.to.file) h (ap (λ k. k == m.to.file) s ∙ itself m.to.file))
-  aside (doubles s a b e f) h = absurd (both_ways (m.from.file == m.to.file) h (ap (λ k. k == m.to.file) s ∙ itself m.to.file))
+  aside (advances s a e) h = absurd (both_ways _ h (ap (λ k. k == m.to.file) s ∙ itself _))
+  aside (doubles s a b e f) h = absurd (both_ways _ h (ap (λ k. k == m.to.file) s ∙ itself _))
 
 pawn_alone : (p : Parts) (m n : Move) → is_legal p m ≡ true → is_legal p n ≡ true → own p Pawn m.from ≡ true → describes p (pawn_form_by (is_capture p m) m) n ≡ true → n ≡ m
-pawn_alone p m n h g pawn d = by_capture (is_capture p m) (pawn_takes p m pawn h) d
+pawn_alone p m n h g pawn d = by_capture _ (pawn_takes p m pawn h) d
   where
     by_capture : (b : Bool) → b ≡ not (m.from.file == m.to.file) → describes p (pawn_form_by b m) n ≡ true → n ≡ m
     by_capture false e d =
         let s : Said p Pawn None None m.to m.promotion n = said p Pawn None None m.to m.promotion n d in
-        same_move n m (straight_alone p m n pawn s.stands s.there (pawn_way p m h pawn) (pawn_way p n g s.stands) (eqb-true m.from.file m.to.file (turned (m.from.file == m.to.file) e))) s.there s.named
+        same_move n m (straight_alone p m n pawn s.stands s.there (pawn_way p m h pawn) (pawn_way p n g s.stands) (eqb-true m.from.file m.to.file (turned _ e))) s.there s.named
       where
         turned : (x : Bool) → false ≡ not x → x ≡ true
         turned true e = refl
@@ -243,7 +217,7 @@ pawn_alone p m n h g pawn d = by_capture (is_capture p m) (pawn_takes p m pawn h
 -- All kinds.
 
 pub alone : OneKing → (p : Parts) (k : Kind) (m n : Move) → is_position p ≡ true → is_legal p m ≡ true → own p k m.from ≡ true → agrees p (written k p m) n ≡ true → n ≡ m
-alone one p k m n position h stands a = by_kind k stands (and_parts (is_legal p n) (describes p (written k p m) n) a)
+alone one p k m n position h stands a = by_kind k stands (and_parts _ _ a)
   where
     by_kind : (k : Kind) → own p k m.from ≡ true → (is_legal p n ≡ true) × (describes p (written k p m) n ≡ true) → n ≡ m
     by_kind King s b = king_alone one p m n position h b.0 s b.1

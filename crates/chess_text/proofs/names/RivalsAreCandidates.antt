@@ -1,21 +1,6 @@
 -- The rivals of a move, found among the candidates for its target.
-use Rattle.std.proofs.Common.{◌≡◌, ℕ, ◌+◌, ◌<◌, ◌≤◌, Bool, true, false, cond, not, ◌&&◌, ◌||◌, List, [], ◌∷◌, length, take, get_or, refl, sym, ◌∙◌, ap, ap₂}
-use Rattle.std.specs.Prelude.{◌==◌, Option, None, Some, is_some, filter}
-use Rattle.std.specs.List.{list_any}
-use Rattle.std.specs.List.Sorted.{IsPermutation}
-use Rattle.std.proofs.lemmas.Bool.{false≢true, and_parts}
-use Rattle.std.proofs.lemmas.List.{take_all}
-use Rattle.std.proofs.lemmas.List.Folds.{list_any_more}
-use Rattle.std.proofs.lemmas.List.Sorted.{list_any-IsPermutation}
-use Rattle.chess_rules.specs.declared.piece.Kind.{Kind}
-use Rattle.chess_rules.specs.declared.position.Move.{Move}
-use Rattle.chess_rules.specs.declared.position.Parts.{Parts}
-use Rattle.chess_rules.specs.Square.{Square, squares, same_square}
-use Rattle.chess_rules.specs.Step.{own}
-use Rattle.chess_rules.specs.Legal.{legal, is_legal}
-use Rattle.chess_rules.specs.Candidate.{sees, is_candidate, candidates}
-use Rattle.chess_rules.specs.Laws.{CandidatesComplete}
-use Rattle.chess_text.specs.San.{from_square, is_rival, rivals, on_file, on_rank, disambiguation_by, disambiguation}
+use Rattle.chess_text.proofs.Words.{◌≡◌, ℕ, ◌+◌, ◌<◌, ◌≤◌, Bool, true, false, cond, not, ◌&&◌, ◌||◌, List, [], ◌∷◌, length, take, get_or, refl, sym, ◌∙◌, ap, ap₂, ◌==◌, Option, None, Some, is_some, list_any, IsPermutation, false≢true, and_parts, take_all, list_any_more, list_any-IsPermutation, Kind, Move, Parts, Square, squares, same_square, own, legal, is_legal, sees, is_candidate, candidates, CandidatesComplete, from_square, is_rival, rivals, on_file, on_rank, disambiguation_by, disambiguation}
+use Rattle.std.specs.Prelude.{filter}
 
 any-cond : {Y : Type 0} (test : Y → Bool) (b : Bool) (y : Y) (ys : List Y) → list_any test (cond b (y ∷ ys) ys) ≡ ((b && test y) || list_any test ys)
 any-cond test true y ys = refl
@@ -23,22 +8,22 @@ any-cond test false y ys = refl
 
 pub any-filter : {Y : Type 0} (test p : Y → Bool) (ys : List Y) → list_any test (filter p ys) ≡ list_any (λ y. p y && test y) ys
 any-filter test p [] = refl
-any-filter test p (y ∷ ys) = any-cond test (p y) y (filter p ys) ∙ ap (λ v. (p y && test y) || v) (any-filter test p ys)
+any-filter test p (y ∷ ys) = cc (any-cond test _ y _, any-filter test p ys)
 
 any-same : {Y : Type 0} (f g : Y → Bool) → ((y : Y) → f y ≡ g y) → (ys : List Y) → list_any f ys ≡ list_any g ys
 any-same f g h [] = refl
-any-same f g h (y ∷ ys) = ap₂ (λ a b. a || b) (h y) (any-same f g h ys)
+any-same f g h (y ∷ ys) = cc (h y, any-same f g h ys)
 
 abbrev pub seen : Parts → Move → (Square → Bool) → List Square → Bool
 seen p m test xs = list_any (λ s. is_rival p m s && test s) xs
 
 -- a rival is a candidate
 rival_sees : CandidatesComplete → (p : Parts) (k : Kind) (m : Move) (s : Square) → own p k s ≡ true → is_rival p m s ≡ true → sees k p s m.to ≡ true
-rival_sees complete p k m s h g = by_legal (legal p (from_square m s)) refl (and_parts (not (same_square s m.from)) (is_legal p (from_square m s)) g).1
+rival_sees complete p k m s h g = by_legal _ refl (and_parts _ _ g).1
   where
     by_legal : (o : Option Parts) → legal p (from_square m s) ≡ o → is_some o ≡ true → sees k p s m.to ≡ true
     by_legal None e f = absurd (false≢true f)
-    by_legal (Some q) e f = (and_parts (own p k s) (sees k p s m.to) (complete p q (from_square m s) k e h)).1
+    by_legal (Some q) e f = (and_parts (own p k s) (sees k p s m.to) (complete p q _ k e h)).1
 
 same_test : (o g r t : Bool) → (o ≡ true → r ≡ true → g ≡ true) → ((o && g) && (r && t)) ≡ ((o && r) && t)
 same_test false g r t h = refl
@@ -49,11 +34,11 @@ same_test true false false t h = refl
 pub rivals_seen : CandidatesComplete → (p : Parts) (k : Kind) (m : Move) (test : Square → Bool) (xs : List Square)
     → IsPermutation (candidates p k m.to) xs → seen p m test xs ≡ list_any test (rivals p k m)
 rivals_seen complete p k m test xs perm =
-    sym (list_any-IsPermutation (λ s. is_rival p m s && test s) (candidates p k m.to) xs perm)
-    ∙ (any-filter (λ s. is_rival p m s && test s) (is_candidate p k m.to) squares
-    ∙ (any-same (λ s. is_candidate p k m.to s && (is_rival p m s && test s)) (λ s. (own p k s && is_rival p m s) && test s)
+    sym (list_any-IsPermutation _ _ xs perm)
+    ∙ (any-filter _ _ squares
+    ∙ (any-same _ _
     (λ s. same_test (own p k s) (sees k p s m.to) (is_rival p m s) (test s) (rival_sees complete p k m s)) squares
-    ∙ sym (any-filter test (λ s. own p k s && is_rival p m s) squares)))
+    ∙ sym (any-filter test _ squares)))
 
 -- so far
 pub record Found (p : Parts) (m : Move) (xs : List Square) (n : ℕ) (any file rank : Bool) : Type 0 where
@@ -68,10 +53,7 @@ and_true false = refl
 one_more : (p : Parts) (m : Move) (test : Square → Bool) (xs : List Square) (n : ℕ) (s : Square) (before after rival : Bool)
     → n < length xs → s ≡ get_or xs n s → rival ≡ is_rival p m s → before ≡ seen p m test (take n xs) → after ≡ (before || (rival && test s)) → after ≡ seen p m test (take (n + 1) xs)
 one_more p m test xs n s before after rival low is e f g =
-    g
-    ∙ (ap₂ (λ a b. a || (b && test s)) f e
-    ∙ (ap (λ t. seen p m test (take n xs) || (is_rival p m t && test t)) is
-    ∙ sym (list_any_more (λ t. is_rival p m t && test t) xs n s low)))
+    cc (list_any_more _ xs n s low)
 
 pub found_more : (p : Parts) (m : Move) (xs : List Square) (n : ℕ) (s : Square) (rival any file rank any' file' rank' : Bool)
     → n < length xs → s ≡ get_or xs n s → rival ≡ is_rival p m s → Found p m xs n any file rank
@@ -79,16 +61,16 @@ pub found_more : (p : Parts) (m : Move) (xs : List Square) (n : ℕ) (s : Square
     → Found p m xs (n + 1) any' file' rank'
 found_more p m xs n s rival any file rank any' file' rank' low is e f a b c =
     record {
-      any_is = one_more p m (λ t. true) xs n s any any' rival low is e f.any_is (a ∙ ap (λ r. any || r) (and_true rival));
-      file_is = one_more p m (λ t. t.file == m.from.file) xs n s file file' rival low is e f.file_is b;
-      rank_is = one_more p m (λ t. t.rank == m.from.rank) xs n s rank rank' rival low is e f.rank_is c;
+      any_is = one_more p m _ xs n s any any' rival low is e f.any_is (a ∙ ap (λ r. any || r) (and_true rival));
+      file_is = one_more p m _ xs n s file file' rival low is e f.file_is b;
+      rank_is = one_more p m _ xs n s rank rank' rival low is e f.rank_is c;
     }
 
 -- and in the end
 pub all_found : (p : Parts) (m : Move) (test : Square → Bool) (xs : List Square) (n : ℕ) → length xs ≤ n → seen p m test (take n xs) ≡ seen p m test xs
-all_found p m test xs n h = ap (λ ys. seen p m test ys) (take_all n xs h)
+all_found p m test xs n h = cc (take_all n xs h)
 
 pub apart_same : (s : Square) (others : List Square) (any file rank : Bool) → any ≡ list_any (λ r. true) others → file ≡ on_file s others → rank ≡ on_rank s others
     → disambiguation_by s any file rank ≡ disambiguation s others
 apart_same s others any file rank a b c =
-    ap (λ t. disambiguation_by s t file rank) a ∙ ap₂ (λ t u. disambiguation_by s (list_any (λ r. true) others) t u) b c
+    cc

@@ -1,25 +1,5 @@
 -- What the texts of legal moves name.
-use Rattle.std.proofs.Common.{◌≡◌, ◌≢◌, ℕ, zero, suc, ◌+◌, ◌<◌, Bool, true, false, not, ◌&&◌, List, [], ◌∷◌, ◌++◌, append-nil, get_or, refl, sym, ◌∙◌, ap, subst, arith}
-use Rattle.std.specs.Prelude.{◌==◌, nat_lt, Option, None, Some, slice_index_or}
-use Rattle.std.specs.List.{list_any, Any}
-use Rattle.std.proofs.lemmas.Bool.{false≢true, and_parts, and_from, ltb-true}
-use Rattle.std.proofs.lemmas.List.Folds.{Any-from_list_any}
-use Rattle.chess_rules.specs.declared.piece.Kind.{Kind}
-use Rattle.chess_rules.specs.declared.piece.Kind.TheVariants.{King, Queen, Rook, Bishop, Knight, Pawn}
-use Rattle.chess_rules.specs.declared.position.Move.{Move}
-use Rattle.chess_rules.specs.declared.position.Parts.{Parts}
-use Rattle.chess_rules.specs.Square.{Square, squares, on_board, same_square}
-use Rattle.chess_rules.specs.Board.{same_kind}
-use Rattle.chess_rules.specs.Step.{own}
-use Rattle.chess_rules.specs.Legal.{legal, is_legal}
-use Rattle.chess_rules.specs.Laws.{OneKing}
-use Rattle.chess_text.specs.declared.form.Form.{Form}
-use Rattle.chess_text.specs.declared.form.Form.TheVariants.{Man}
-use Rattle.chess_text.specs.Letter.{letter, file_letter, rank_digit, square_text}
-use Rattle.chess_text.specs.Form.{Spells, is_form, below_eight, hint_text}
-use Rattle.chess_text.specs.MoveOfForm.{hints_fit, agrees, describes}
-use Rattle.chess_text.specs.San.{is_capture, capture_text, from_square, is_rival, rivals, on_file, on_rank, disambiguation_by, has_rivals, mark, san}
-use Rattle.chess_text.specs.Laws.{Names, SingleReading, disambiguations, text_with, ShorterIsAmbiguous}
+use Rattle.chess_text.proofs.Words.{◌≡◌, ◌≢◌, ℕ, zero, suc, ◌+◌, ◌<◌, Bool, true, false, not, ◌&&◌, List, [], ◌∷◌, ◌++◌, append-nil, get_or, refl, sym, ◌∙◌, ap, subst, arith, ◌==◌, nat_lt, Option, None, Some, slice_index_or, list_any, Any, false≢true, and_parts, and_from, ltb-true, Any-from_list_any, Kind, King, Queen, Rook, Bishop, Knight, Pawn, Move, Parts, Square, squares, on_board, same_square, same_kind, own, legal, is_legal, OneKing, Form, Man, letter, file_letter, rank_digit, square_text, Spells, is_form, below_eight, hint_text, hints_fit, agrees, describes, is_capture, capture_text, from_square, is_rival, rivals, on_file, on_rank, disambiguation_by, has_rivals, mark, san, Names, SingleReading, disambiguations, text_with, ShorterIsAmbiguous, same_Some, not-true}
 use Rattle.chess_text.proofs.forms.CastlingMoves.{stepped}
 use Rattle.chess_text.proofs.forms.SpellingToForm.{form_read}
 use Rattle.chess_text.proofs.forms.PieceForms.{same_square-refl}
@@ -27,18 +7,15 @@ use Rattle.chess_text.proofs.names.RivalsAreCandidates.{any-filter}
 use Rattle.chess_text.proofs.names.WrittenToForm.{written, Moved, moved, san_spelled, good_form, written_agrees, capture_fits, own_letter, marks_alone, unpromoted, no_castling, piece_move_described, itself}
 use Rattle.chess_text.proofs.names.OneMoveAgrees.{turn, alone}
 
-same_some : {A : Type 0} (x y : A) → Some x ≡ Some y → x ≡ y
-same_some x y h = cc
-
 pub single : OneKing → SingleReading
 single one p m position h =
-    let v : Moved p m = moved p m h in
-    let k : Kind = v.piece.kind in
-    let spelled : Spells (san p m) (written k p m) = san_spelled p m v in
-    let good : is_form (written k p m) ≡ true = good_form k p m h in (
+    let v = moved p m h in
+    let k = v.piece.kind in
+    let spelled = san_spelled p m v in
+    let good = good_form k p m h in (
       (written k p m, spelled, good, written_agrees k p m h v.stands),
       λ n r. alone one p k m n position h v.stands
-          (subst (λ (f : Form). agrees p f n ≡ true) (same_some r.0 (written k p m) (sym (form_read (san p m) r.0 r.1 r.2) ∙ form_read (san p m) (written k p m) spelled good)) r.3),
+          (rw (same_Some r.0 (written k p m) (sym (form_read (san p m) r.0 r.1 r.2) ∙ form_read (san p m) (written k p m) spelled good)) at r.3),
     )
 
 -- With an earlier step.
@@ -59,19 +36,15 @@ record Rival (p : Parts) (k : Kind) (m : Move) (test : Square → Bool) : Type 0
   goes : is_legal p (from_square m on) ≡ true
   passes : test on ≡ true
 
-not_true : (b : Bool) → not b ≡ true → b ≡ false
-not_true true h = sym h
-not_true false h = refl
-
 some_rival : (p : Parts) (k : Kind) (m : Move) (test : Square → Bool) → list_any test (rivals p k m) ≡ true → Rival p k m test
-some_rival p k m test h = by_place (Any-from_list_any (λ s. (own p k s && is_rival p m s) && test s) squares (sym (any-filter test (λ s. own p k s && is_rival p m s) squares) ∙ h))
+some_rival p k m test h = by_place (Any-from_list_any _ squares (sym (any-filter test _ squares) ∙ h))
   where
     by_place : Any (λ s. ((own p k s && is_rival p m s) && test s) ≡ true) squares → Rival p k m test
     by_place (i, s, low, there, holds) =
-        let both = and_parts (own p k s && is_rival p m s) (test s) holds in
+        let both = and_parts _ _ holds in
         let first = and_parts (own p k s) (is_rival p m s) both.0 in
-        let rival = and_parts (not (same_square s m.from)) (is_legal p (from_square m s)) first.1 in
-        record { on = s; stands = first.0; other = not_true (same_square s m.from) rival.0; goes = rival.1; passes = both.1 }
+        let rival = and_parts (not (same_square s _)) (is_legal p (from_square m s)) first.1 in
+        record { on = s; stands = first.0; other = not-true (same_square s _) rival.0; goes = rival.1; passes = both.1 }
 
 -- the text with such hints names each move that fits them
 module _ (p : Parts) (k : Kind) (m : Move) (h : is_legal p m ≡ true) (stands : own p k m.from ≡ true) (may_have_rivals : has_rivals k ≡ true)
@@ -81,7 +54,7 @@ module _ (p : Parts) (k : Kind) (m : Move) (h : is_legal p m ≡ true) (stands :
   spelled =
       record {
         bare = (letter k ∷ []) ++ apart ++ capture_text p m ++ square_text m.to;
-        marks = mark (legal p m);
+        marks = mark _;
         joined = refl;
         spells_bare = record {
           letters = letter k ∷ [];
@@ -89,29 +62,29 @@ module _ (p : Parts) (k : Kind) (m : Move) (h : is_legal p m ≡ true) (stands :
           promoted = [];
           joined = ap (λ (s : List ℕ). (s ++ capture_text p m) ++ square_text m.to) joined ∙ sym (append-nil _);
           letters_fit = own_letter k may_have_rivals;
-          capture_fits = capture_fits (is_capture p m);
+          capture_fits = capture_fits _;
           promoted_fits = refl;
         };
-        marks_alone = marks_alone (legal p m);
+        marks_alone = marks_alone _;
       }
 
   good : is_form (Man k file rank m.to None) ≡ true
-  good = and_from (below_eight file && below_eight rank) (on_board m.to) below (and_parts (on_board m.from) (on_board m.to) (stepped p m h).on).1
+  good = and_from _ _ below (and_parts (on_board m.from) _ (stepped p m h).on).1
 
   names : (s : Square) → own p k s ≡ true → is_legal p (from_square m s) ≡ true → hints_fit file rank s ≡ true → Names p (text_with p k m apart) (from_square m s)
   names s own_s goes hints = (
     Man k file rank m.to None,
     spelled,
     good,
-    and_from (is_legal p (from_square m s)) (describes p (Man k file rank m.to None) (from_square m s)) goes
-        (piece_move_described p (from_square m s) k file rank None own_s hints (unpromoted p m k h stands (no_king k may_have_rivals).1) (no_castling p (from_square m s) k own_s (no_king k may_have_rivals).0)),
+    and_from _ _ goes
+        (piece_move_described p (from_square m s) k file rank None own_s hints (unpromoted p m k h stands (no_king k may_have_rivals).1) (no_castling p _ k own_s (no_king k may_have_rivals).0)),
   )
 
   two_named : hints_fit file rank m.from ≡ true → Rival p k m (λ s. hints_fit file rank s)
       → Names p (text_with p k m apart) m × ((n : Move) × (n ≢ m) × Names p (text_with p k m apart) n)
   two_named fits r = (
-    names m.from stands h fits,
-    (from_square m r.on, (λ e. false≢true (sym r.other ∙ (ap (λ (n : Move). same_square n.from m.from) e ∙ same_square-refl m.from))), names r.on r.stands r.goes r.passes),
+    names _ stands h fits,
+    (from_square m r.on, (λ e. false≢true (sym r.other ∙ ap (λ (n : Move). same_square n.from m.from) e ∙ same_square-refl m.from)), names r.on r.stands r.goes r.passes),
   )
 
 -- which rivals there are, by what is written
@@ -121,7 +94,7 @@ record Flags (j : ℕ) (any file rank : Bool) : Type 0 where
   rank_is : 2 < j → rank ≡ true
 
 letter_is_digit : (f r : ℕ) → r < 8 → (97 + f) ∷ [] ≡ (49 + r) ∷ [] → ⊥
-letter_is_digit f r low e = let same : 97 + f ≡ 49 + r = ap (λ (s : List ℕ). get_or s 0 0) e in omega (arith, same, low)
+letter_is_digit f r low e = let same : 97 + f ≡ 49 + r = cc in omega (arith, same, low)
 
 flags : (s : Square) (any file rank : Bool) (j : ℕ) → s.rank < 8 → j < 4 → disambiguation_by s any file rank ≡ slice_index_or (disambiguations s) j [] → Flags j any file rank
 flags s any file rank zero low high told = record { any_is = λ h. absurd (omega (arith, h)); file_is = λ h. absurd (omega (arith, h)); rank_is = λ h. absurd (omega (arith, h)) }
@@ -129,7 +102,7 @@ flags s false file rank (suc zero) low high told = absurd (cc)
 flags s false file rank (suc (suc zero)) low high told = absurd (cc)
 flags s false file rank (suc (suc (suc zero))) low high told = absurd (cc)
 flags s true file rank (suc zero) low high told = record { any_is = λ h. refl; file_is = λ h. absurd (omega (arith, h)); rank_is = λ h. absurd (omega (arith, h)) }
-flags s true false rank (suc (suc zero)) low high told = absurd (letter_is_digit s.file s.rank low told)
+flags s true false rank (suc (suc zero)) low high told = absurd (letter_is_digit _ _ low told)
 flags s true false rank (suc (suc (suc zero))) low high told = absurd (cc)
 flags s true true rank (suc (suc zero)) low high told = record { any_is = λ h. refl; file_is = λ h. refl; rank_is = λ h. absurd (omega (arith, h)) }
 flags s true true false (suc (suc (suc zero))) low high told = absurd (cc)
@@ -142,7 +115,7 @@ passing p k m test other_test h r = record { on = r.on; stands = r.stands; other
 pub less : ShorterIsAmbiguous
 less p k m i j h stands may_have_rivals low high told =
     by_step i low
-    (flags m.from (list_any (λ r. true) (rivals p k m)) (on_file m.from (rivals p k m)) (on_rank m.from (rivals p k m)) j (ltb-true m.from.rank 8 begins.1) high told)
+    (flags _ _ _ _ j (ltb-true _ 8 begins.1) high told)
   where
     begins : (nat_lt m.from.file 8 ≡ true) × (nat_lt m.from.rank 8 ≡ true)
     begins = and_parts (nat_lt m.from.file 8) (nat_lt m.from.rank 8) (and_parts (on_board m.from) (on_board m.to) (stepped p m h).on).0

@@ -1,25 +1,6 @@
 -- The text of a legal move is a symbol, and is read as the move.
-use Rattle.std.proofs.Common.{◌≡◌, ℕ, ◌+◌, ◌<◌, ◌≤◌, Bool, true, false, inl, inr, ◌&&◌, ◌||◌, List, [], ◌∷◌, ◌++◌, length, refl, sym, ap, subst, ◌∙◌, arith, length-append}
-use Rattle.std.specs.Prelude.{Option, None, Some, is_some, option_map, codes, bytes_eq, nat_le, nat_lt, ◌==◌, if◌then◌else◌}
-use Rattle.std.specs.List.{list_all, list_any}
-use Rattle.std.proofs.lemmas.Bool.{false≢true, and_parts, and_from, or_cases, le-leb, lt-leb, leb-true, ltb-true}
-use Rattle.std.proofs.lemmas.Slice.Eq.{bytes_eq-Decides}
-use Rattle.chess_rules.specs.declared.piece.Kind.{Kind}
-use Rattle.chess_rules.specs.declared.piece.Kind.TheVariants.{King, Queen, Rook, Bishop, Knight, Pawn}
-use Rattle.chess_rules.specs.declared.piece.Piece.{Piece}
-use Rattle.chess_rules.specs.declared.piece.Promotion.{Promotion}
+use Rattle.chess_text.proofs.Words.{◌≡◌, ℕ, ◌+◌, ◌<◌, ◌≤◌, Bool, true, false, inl, inr, ◌&&◌, ◌||◌, List, [], ◌∷◌, ◌++◌, length, refl, sym, ap, subst, ◌∙◌, arith, length-append, Option, None, Some, is_some, option_map, codes, bytes_eq, nat_le, nat_lt, ◌==◌, if◌then◌else◌, list_all, list_any, false≢true, and_parts, and_from, or_cases, le-leb, lt-leb, leb-true, ltb-true, bytes_eq-Decides, Kind, King, Queen, Rook, Bishop, Knight, Pawn, Piece, Promotion, Move, Parts, OneKing, legal, is_legal, is_mate, is_check, Square, on_board, castles_short, castles_long, move_of_form, is_digit, letter, file_letter, rank_digit, square_text, disambiguation_by, disambiguation, rivals, on_file, on_rank, is_capture, capture_if, capture_text, pawn_capture, promotion_text, castling_text, king_text, disambiguated_text, kind_text, piece_text, mark, san, is_letter, is_move_byte, begins_with_letter, is_marker, IsMoveSymbol, WrittenMoveIsSymbol, WrittenMoveIsRead, and_right, and_left, or_left, or_right, or_from}
 use Rattle.chess_rules.specs.declared.piece.Promotion.TheVariants as become
-use Rattle.chess_rules.specs.declared.position.Move.{Move}
-use Rattle.chess_rules.specs.declared.position.Parts.{Parts}
-use Rattle.chess_rules.specs.Laws.{OneKing}
-use Rattle.chess_rules.specs.Legal.{legal, is_legal, is_mate, is_check}
-use Rattle.chess_rules.specs.Square.{Square, on_board}
-use Rattle.chess_rules.specs.Step.{castles_short, castles_long}
-use Rattle.chess_text.specs.MoveOfForm.{move_of_form}
-use Rattle.chess_text.specs.Field.{is_digit}
-use Rattle.chess_text.specs.Letter.{letter, file_letter, rank_digit, square_text}
-use Rattle.chess_text.specs.San.{disambiguation_by, disambiguation, rivals, on_file, on_rank, is_capture, capture_if, capture_text, pawn_capture, promotion_text, castling_text, king_text, disambiguated_text, kind_text, piece_text, mark, san}
-use Rattle.chess_text.specs.WrittenMove.{is_letter, is_move_byte, begins_with_letter, is_marker, IsMoveSymbol, WrittenMoveIsSymbol, WrittenMoveIsRead}
 use Rattle.chess_text.proofs.forms.AgreeingAreFound.{the_one_move_is_read}
 use Rattle.chess_text.proofs.forms.CastlingMoves.{stepped}
 use Rattle.chess_text.proofs.forms.SpellingToForm.{form_read}
@@ -35,7 +16,7 @@ all_append : (xs ys : List ℕ) → list_all is_move_byte xs ≡ true
     → list_all is_move_byte ys ≡ true → list_all is_move_byte (xs ++ ys) ≡ true
 all_append [] ys a b = b
 all_append (x ∷ xs) ys a b =
-    let first = and_parts (is_move_byte x) (list_all is_move_byte xs) a in
+    let first = and_parts (is_move_byte x) (list_all _ xs) a in
     and_from (is_move_byte x) (list_all is_move_byte (xs ++ ys)) first.0
     (all_append xs ys first.1 b)
 
@@ -46,25 +27,17 @@ bytes_append m n xs ys a b =
       fits = omega (arith, a.fits, b.fits, length-append xs ys);
     }
 
-or_left : (a b : Bool) → a ≡ true → (a || b) ≡ true
-or_left true b e = refl
-or_left false b e = absurd (false≢true e)
-
-or_right : (a b : Bool) → b ≡ true → (a || b) ≡ true
-or_right true b e = refl
-or_right false b e = e
-
 -- the bytes of squares
 file_is_letter : (f : ℕ) → nat_lt f 8 ≡ true → is_letter (file_letter f) ≡ true
 file_is_letter f e =
-    let low : f < 8 = ltb-true f 8 e in
+    let low = ltb-true f 8 e in
     or_right (nat_le 65 (97 + f) && nat_le (97 + f) 90) (nat_le 97 (97 + f) && nat_le (97 + f) 122)
     (and_from (nat_le 97 (97 + f)) (nat_le (97 + f) 122)
     (le-leb 97 (97 + f) (omega arith)) (le-leb (97 + f) 122 (omega arith)))
 
 rank_is_digit : (r : ℕ) → nat_lt r 8 ≡ true → is_digit (rank_digit r) ≡ true
 rank_is_digit r e =
-    let low : r < 8 = ltb-true r 8 e in
+    let low = ltb-true r 8 e in
     and_from (nat_le 48 (49 + r)) (nat_le (49 + r) 57)
     (le-leb 48 (49 + r) (omega arith)) (le-leb (49 + r) 57 (omega arith))
 
@@ -76,12 +49,12 @@ byte_by false false p h q m e = absurd (false≢true e)
 letter_passes : (c : ℕ) → is_letter c ≡ true → is_move_byte c ≡ true
 letter_passes c e =
     byte_by (is_letter c) (is_digit c) (c == 43) (c == 35) (c == 61) (c == 45)
-    (or_left (is_letter c) (is_digit c) e)
+    (or_left _ _ e)
 
 digit_passes : (c : ℕ) → is_digit c ≡ true → is_move_byte c ≡ true
 digit_passes c e =
     byte_by (is_letter c) (is_digit c) (c == 43) (c == 35) (c == 61) (c == 45)
-    (or_right (is_letter c) (is_digit c) e)
+    (or_right _ _ e)
 
 -- a square of the board, by its file and its rank
 record IsOnBoard (s : Square) : Type 0 where
@@ -90,13 +63,13 @@ record IsOnBoard (s : Square) : Type 0 where
 
 on_board_of : (s : Square) → on_board s ≡ true → IsOnBoard s
 on_board_of s e =
-    let both = and_parts (nat_lt s.file 8) (nat_lt s.rank 8) e in
+    let both = and_parts _ _ e in
     record { file = both.0; rank = both.1 }
 
 file_bytes : (s : Square) → IsOnBoard s → Bytes 1 (file_letter s.file ∷ [])
 file_bytes s on =
     record {
-      all = and_from (is_move_byte (file_letter s.file)) true
+      all = and_from _ true
           (letter_passes (file_letter s.file) (file_is_letter s.file on.file)) refl;
       fits = omega arith;
     }
@@ -104,14 +77,14 @@ file_bytes s on =
 rank_bytes : (s : Square) → IsOnBoard s → Bytes 1 (rank_digit s.rank ∷ [])
 rank_bytes s on =
     record {
-      all = and_from (is_move_byte (rank_digit s.rank)) true
+      all = and_from _ true
           (digit_passes (rank_digit s.rank) (rank_is_digit s.rank on.rank)) refl;
       fits = omega arith;
     }
 
 square_bytes : (s : Square) → IsOnBoard s → Bytes 2 (square_text s)
 square_bytes s on =
-    bytes_append 1 1 (file_letter s.file ∷ []) (rank_digit s.rank ∷ []) (file_bytes s on)
+    bytes_append 1 1 (file_letter _ ∷ []) (rank_digit _ ∷ []) (file_bytes s on)
     (rank_bytes s on)
 
 more : (m n : ℕ) (s : List ℕ) → m ≤ n → Bytes m s → Bytes n s
@@ -137,7 +110,7 @@ promotion_bytes (Some become.Knight) = record { all = refl; fits = omega arith }
 
 mark_bytes : (o : Option Parts) → Bytes 1 (mark o)
 mark_bytes None = record { all = refl; fits = omega arith }
-mark_bytes (Some q) = by_tests (is_mate q) (is_check q)
+mark_bytes (Some q) = by_tests _ _
   where
     by_tests : (a b : Bool) → Bytes 1 (if a then codes "#" else if b then codes "+" else [])
     by_tests true b = record { all = refl; fits = omega arith }
@@ -155,7 +128,7 @@ letter_is_letter Pawn = refl
 letter_bytes : (k : Kind) → Bytes 1 (letter k ∷ [])
 letter_bytes k =
     record {
-      all = and_from (is_move_byte (letter k)) true
+      all = and_from _ true
           (letter_passes (letter k) (letter_is_letter k)) refl;
       fits = omega arith;
     }
@@ -170,25 +143,25 @@ piece_symbol : (k : Kind) (p : Parts) (m : Move) → IsOnBoard m.from → IsOnBo
     → Unmarked (disambiguated_text k p m)
 piece_symbol k p m from to =
     let others = rivals p k m in
-    let any : Bool = list_any (λ r. true) others in
-    let apart = apart_bytes m.from any (on_file m.from others) (on_rank m.from others) from in
+    let any = list_any (λ r. true) others in
+    let apart = apart_bytes _ any (on_file m.from others) (on_rank m.from others) from in
     let front =
-    bytes_append 1 2 (letter k ∷ []) (disambiguation m.from others) (letter_bytes k) apart in
+    bytes_append 1 2 (letter k ∷ []) _ (letter_bytes k) apart in
     let taking =
-    bytes_append 3 1 _ (capture_text p m) front (capture_bytes (is_capture p m)) in
+    bytes_append 3 1 _ (capture_text p m) front (capture_bytes _) in
     record {
       begins = letter_is_letter k;
       bytes = bytes_append 4 2 _ (square_text m.to) taking (square_bytes m.to to);
     }
 
 king_symbol : (p : Parts) (m : Move) → IsOnBoard m.to → Unmarked (king_text p m)
-king_symbol p m to = by_wing (castles_short p m) (castles_long p m)
+king_symbol p m to = by_wing _ _
   where
     plain : Unmarked (codes "K" ++ capture_text p m ++ square_text m.to)
     plain =
         let front =
         bytes_append 1 1 (codes "K") (capture_text p m) (letter_bytes King)
-        (capture_bytes (is_capture p m)) in
+        (capture_bytes _) in
         let whole = bytes_append 2 2 _ (square_text m.to) front (square_bytes m.to to) in
         record { begins = refl; bytes = more 4 6 _ (omega arith) whole }
 
@@ -202,19 +175,19 @@ king_symbol p m to = by_wing (castles_short p m) (castles_long p m)
 pawn_symbol : (takes : Bool) (m : Move) → IsOnBoard m.from → IsOnBoard m.to
     → Unmarked (pawn_capture takes m ++ square_text m.to ++ promotion_text m.promotion)
 pawn_symbol true m from to =
-    let taking : Bytes 2 (file_letter m.from.file ∷ codes "x") =
-    bytes_append 1 1 (file_letter m.from.file ∷ []) (codes "x") (file_bytes m.from from)
+    let taking =
+    bytes_append 1 1 (file_letter _ ∷ []) (codes "x") (file_bytes _ from)
     (record { all = refl; fits = omega arith }) in
     let front = bytes_append 2 2 _ (square_text m.to) taking (square_bytes m.to to) in
     record {
       begins = file_is_letter m.from.file from.file;
       bytes =
-          bytes_append 4 2 _ (promotion_text m.promotion) front (promotion_bytes m.promotion);
+          bytes_append 4 2 _ (promotion_text _) front (promotion_bytes _);
     }
 pawn_symbol false m from to =
     let whole =
-    bytes_append 2 2 (square_text m.to) (promotion_text m.promotion) (square_bytes m.to to)
-    (promotion_bytes m.promotion) in
+    bytes_append 2 2 (square_text m.to) (promotion_text _) (square_bytes m.to to)
+    (promotion_bytes _) in
     record {
       begins = file_is_letter m.to.file to.file;
       bytes = more 4 6 _ (omega arith) whole;
@@ -227,23 +200,14 @@ kind_symbol Queen p m from to = piece_symbol Queen p m from to
 kind_symbol Rook p m from to = piece_symbol Rook p m from to
 kind_symbol Bishop p m from to = piece_symbol Bishop p m from to
 kind_symbol Knight p m from to = piece_symbol Knight p m from to
-kind_symbol Pawn p m from to = pawn_symbol (is_capture p m) m from to
-
--- What begins with a letter is no number and no marker.
-and_last_false : (a b : Bool) → b ≡ false → (a && b) ≡ false
-and_last_false true b e = e
-and_last_false false b e = refl
-
-and_first_false : (a b : Bool) → a ≡ false → (a && b) ≡ false
-and_first_false true b e = absurd (false≢true (sym e))
-and_first_false false b e = refl
+kind_symbol Pawn p m from to = pawn_symbol _ m from to
 
 letter_is_no_digit : (c : ℕ) → is_letter c ≡ true → is_digit c ≡ false
-letter_is_no_digit c e = and_last_false (nat_le 48 c) (nat_le c 57) (lt-leb c 57 high)
+letter_is_no_digit c e = and_right (nat_le 48 c) (nat_le c 57) (lt-leb c 57 high)
   where
     high : 57 < c
     high =
-        elim (or_cases (nat_le 65 c && nat_le c 90) (nat_le 97 c && nat_le c 122) e) [
+        elim (or_cases _ _ e) [
           | inl capital ↦
               omega (arith, leb-true 65 c (and_parts (nat_le 65 c) (nat_le c 90) capital).0)
           | inr small ↦
@@ -252,11 +216,11 @@ letter_is_no_digit c e = and_last_false (nat_le 48 c) (nat_le c 57) (lt-leb c 57
 
 no_number : (s : List ℕ) → begins_with_letter s ≡ true → list_all is_digit s ≡ false
 no_number [] e = absurd (false≢true e)
-no_number (c ∷ s) e = and_first_false (is_digit c) (list_all is_digit s) (letter_is_no_digit c e)
+no_number (c ∷ s) e = and_left (is_digit c) (list_all _ s) (letter_is_no_digit c e)
 
 other_text : (s t : List ℕ) → begins_with_letter s ≡ true → begins_with_letter t ≡ false
     → bytes_eq s t ≡ false
-other_text s t e other = by_test (bytes_eq s t) refl
+other_text s t e other = by_test _ refl
   where
     by_test : (b : Bool) → bytes_eq s t ≡ b → bytes_eq s t ≡ false
     by_test false same = same
@@ -264,22 +228,18 @@ other_text s t e other = by_test (bytes_eq s t) refl
         let begins = ap begins_with_letter ((bytes_eq-Decides s t).0 same) in
         absurd (false≢true (sym other ∙ sym begins ∙ e))
 
-or_false : (a b : Bool) → a ≡ false → b ≡ false → (a || b) ≡ false
-or_false true b e g = absurd (false≢true (sym e))
-or_false false b e g = g
-
 no_marker : (s : List ℕ) → begins_with_letter s ≡ true → is_marker s ≡ false
 no_marker s e =
     let win = other_text s (codes "1-0") e refl in
     let loss = other_text s (codes "0-1") e refl in
     let draw = other_text s (codes "1/2-1/2") e refl in
-    let unknown = other_text s (codes "*") e refl in
-    or_false
-    (bytes_eq s (codes "1-0") || bytes_eq s (codes "0-1") || bytes_eq s (codes "1/2-1/2"))
-    (bytes_eq s (codes "*"))
-    (or_false (bytes_eq s (codes "1-0") || bytes_eq s (codes "0-1"))
-    (bytes_eq s (codes "1/2-1/2"))
-    (or_false (bytes_eq s (codes "1-0")) (bytes_eq s (codes "0-1")) win loss) draw) unknown
+    let unknown = other_text s _ e refl in
+    or_from
+    _
+    _
+    (or_from _
+    _
+    (or_from _ _ win loss) draw) unknown
 
 -- with the mark
 begins_append : (s t : List ℕ) → begins_with_letter s ≡ true → begins_with_letter (s ++ t) ≡ true
@@ -300,21 +260,21 @@ marked s t h last =
 
 pub written_move_is_symbol : WrittenMoveIsSymbol
 written_move_is_symbol p m h =
-    let v : Moved p m = moved p m h in
+    let v = moved p m h in
     let on = and_parts (on_board m.from) (on_board m.to) (stepped p m h).on in
-    let text : Unmarked (kind_text v.piece.kind p m) =
-    kind_symbol v.piece.kind p m (on_board_of m.from on.0) (on_board_of m.to on.1) in
+    let text =
+    kind_symbol v.piece.kind p m (on_board_of _ on.0) (on_board_of m.to on.1) in
     subst IsMoveSymbol
     (sym (ap (λ (o : Option Piece). piece_text o p m ++ mark (legal p m)) v.there))
-    (marked (kind_text v.piece.kind p m) (mark (legal p m)) text (mark_bytes (legal p m)))
+    (marked _ (mark _) text (mark_bytes _))
 
 -- It is read as the move.
 pub written_move_is_read : OneKing → WrittenMoveIsRead
 written_move_is_read one p q m position next =
-    let legal_here : is_legal p m ≡ true = ap (λ o. is_some o) next in
+    let legal_here = ap is_some next in
     let names = single one p m position legal_here in
     let form = names.0.0 in
     let read = form_read (san p m) form names.0.1 names.0.2 in
     ap (option_map (move_of_form p)) read
-    ∙ ap (λ r. Some r) ((the_one_move_is_read p form (record { mv = m; next = q })).1
+    ∙ ap Some ((the_one_move_is_read p form _).1
     (names.0.3, next, λ n agreed. names.1 n (form, names.0.1, names.0.2, agreed)))

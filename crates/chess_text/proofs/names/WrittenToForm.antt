@@ -1,30 +1,11 @@
 -- The form that the text of a legal move spells.
-use Rattle.std.proofs.Common.{◌≡◌, ℕ, inl, inr, Bool, true, false, not, ◌&&◌, ◌||◌, List, [], ◌∷◌, ◌++◌, append-nil, refl, sym, ◌∙◌, ap, ap₂, subst}
-use Rattle.std.specs.Prelude.{◌==◌, nat_lt, Option, None, Some, is_none, codes, if◌then◌else◌}
-use Rattle.std.specs.List.{list_all, list_any}
-use Rattle.std.proofs.lemmas.Bool.{false≢true, and_parts, and_from, or_cases, eq-eqb}
-use Rattle.chess_rules.specs.declared.piece.Kind.{Kind}
-use Rattle.chess_rules.specs.declared.piece.Kind.TheVariants.{King, Queen, Rook, Bishop, Knight, Pawn}
-use Rattle.chess_rules.specs.declared.piece.Piece.{Piece}
-use Rattle.chess_rules.specs.declared.piece.Promotion.{Promotion}
+use Rattle.chess_text.proofs.Words.{◌≡◌, ℕ, inl, inr, Bool, true, false, not, ◌&&◌, ◌||◌, List, [], ◌∷◌, ◌++◌, append-nil, refl, sym, ◌∙◌, ap, ap₂, subst, ◌==◌, nat_lt, Option, None, Some, is_none, codes, if◌then◌else◌, list_all, list_any, false≢true, and_parts, and_from, or_cases, eq-eqb, Kind, King, Queen, Rook, Bishop, Knight, Pawn, Piece, Promotion, Move, Parts, Square, on_board, same_square, at, has_colour, same_kind, attacks, own, is_piece_step, is_pawn_step, is_pawn_way, is_en_passant, promotion_fits, castles_short, castles_long, short_right, long_right, short_wing, long_wing, legal, is_legal, is_check, is_mate, Form, Castle, Man, letter, file_letter, rank_digit, square_text, SpellsBare, Spells, is_among, letter_texts, hint_text, capture_texts, promotion_texts, is_mark, below_eight, is_form, hints_fit, same_promotion, is_castling, describes, agrees, is_capture, capture_if, capture_text, pawn_capture, promotion_text, castling_text, king_text, disambiguated_text, kind_text, piece_text, mark, san, disambiguation_by, rivals, on_file, on_rank, has_rivals, false_from_ne_true}
 use Rattle.chess_rules.specs.declared.piece.Promotion.TheVariants as become
-use Rattle.chess_rules.specs.declared.position.Move.{Move}
-use Rattle.chess_rules.specs.declared.position.Parts.{Parts}
-use Rattle.chess_rules.specs.Square.{Square, on_board, same_square}
-use Rattle.chess_rules.specs.Board.{at, has_colour, same_kind}
-use Rattle.chess_rules.specs.Attacks.{attacks}
-use Rattle.chess_rules.specs.Step.{own, is_piece_step, is_pawn_step, is_pawn_way, is_en_passant, promotion_fits, castles_short, castles_long, short_right, long_right, short_wing, long_wing}
-use Rattle.chess_rules.specs.Legal.{legal, is_legal, is_check, is_mate}
-use Rattle.chess_text.specs.declared.form.Form.{Form}
-use Rattle.chess_text.specs.declared.form.Form.TheVariants.{Castle, Man}
-use Rattle.chess_text.specs.Letter.{letter, file_letter, rank_digit, square_text}
-use Rattle.chess_text.specs.Form.{SpellsBare, Spells, is_among, letter_texts, hint_text, capture_texts, promotion_texts, is_mark, below_eight, is_form}
-use Rattle.chess_text.specs.MoveOfForm.{hints_fit, same_promotion, is_castling, describes, agrees}
-use Rattle.chess_text.specs.San.{is_capture, capture_if, capture_text, pawn_capture, promotion_text, castling_text, king_text, disambiguated_text, kind_text, piece_text, mark, san, disambiguation_by, rivals, on_file, on_rank, has_rivals}
 use Rattle.chess_text.proofs.forms.CastlingMoves.{stepped, castling_goes_far}
 use Rattle.chess_text.proofs.forms.CastlingForms.{castles_ends}
 use Rattle.chess_text.proofs.forms.PieceForms.{same_square-refl, same_promotion-refl}
 use Rattle.chess_text.proofs.forms.MoverOfMove.{mover, mover_colour, other_kind, passing_pawn}
+use Rattle.chess_text.proofs.forms.AgreeingAreFound.{no_promotion}
 
 -- the hints that tell apart
 abbrev pub file_by : Square → Bool → Bool → Bool → Option ℕ
@@ -79,21 +60,21 @@ disambiguated_spelled k p m h =
       promoted = [];
       joined =
           ap (λ (s : List ℕ). (s ++ capture_text p m) ++ square_text m.to)
-          (hints_written (letter k) m.from (list_any (λ r. true) (rivals p k m)) (on_file m.from (rivals p k m)) (on_rank m.from (rivals p k m)))
+          (hints_written _ _ _ _ _)
           ∙ sym (append-nil _);
       letters_fit = own_letter k h;
-      capture_fits = capture_fits (is_capture p m);
+      capture_fits = capture_fits _;
       promoted_fits = refl;
     }
 
 king_spelled : (p : Parts) (m : Move) → SpellsBare (king_text p m) (king_form_by (castles_short p m) (castles_long p m) m)
-king_spelled p m = by_wing (castles_short p m) (castles_long p m)
+king_spelled p m = by_wing _ _
   where
     by_wing : (a b : Bool) → SpellsBare (if a then castling_text false else if b then castling_text true else codes "K" ++ capture_text p m ++ square_text m.to) (king_form_by a b m)
     by_wing true b = refl
     by_wing false true = refl
     by_wing false false =
-        record { letters = codes "K"; capture = capture_text p m; promoted = []; joined = sym (append-nil _); letters_fit = refl; capture_fits = capture_fits (is_capture p m); promoted_fits = refl }
+        record { letters = codes "K"; capture = capture_text p m; promoted = []; joined = sym (append-nil _); letters_fit = refl; capture_fits = capture_fits _; promoted_fits = refl }
 
 promotion_written : (q : Option Promotion) → is_among (promotion_text q) (promotion_texts q) ≡ true
 promotion_written None = refl
@@ -103,8 +84,8 @@ promotion_written (Some become.Bishop) = refl
 promotion_written (Some become.Knight) = refl
 
 pawn_spelled : (takes : Bool) (m : Move) → SpellsBare (pawn_capture takes m ++ square_text m.to ++ promotion_text m.promotion) (pawn_form_by takes m)
-pawn_spelled true m = record { letters = []; capture = codes "x"; promoted = promotion_text m.promotion; joined = refl; letters_fit = refl; capture_fits = refl; promoted_fits = promotion_written m.promotion }
-pawn_spelled false m = record { letters = []; capture = []; promoted = promotion_text m.promotion; joined = refl; letters_fit = refl; capture_fits = refl; promoted_fits = promotion_written m.promotion }
+pawn_spelled true m = record { letters = []; capture = codes "x"; promoted = promotion_text _; joined = refl; letters_fit = refl; capture_fits = refl; promoted_fits = promotion_written m.promotion }
+pawn_spelled false m = record { letters = []; capture = []; promoted = promotion_text _; joined = refl; letters_fit = refl; capture_fits = refl; promoted_fits = promotion_written m.promotion }
 
 kind_spelled : (k : Kind) (p : Parts) (m : Move) → SpellsBare (kind_text k p m) (written k p m)
 kind_spelled King p m = king_spelled p m
@@ -112,11 +93,11 @@ kind_spelled Queen p m = disambiguated_spelled Queen p m refl
 kind_spelled Rook p m = disambiguated_spelled Rook p m refl
 kind_spelled Bishop p m = disambiguated_spelled Bishop p m refl
 kind_spelled Knight p m = disambiguated_spelled Knight p m refl
-kind_spelled Pawn p m = pawn_spelled (is_capture p m) m
+kind_spelled Pawn p m = pawn_spelled _ m
 
 pub marks_alone : (o : Option Parts) → list_all is_mark (mark o) ≡ true
 marks_alone None = refl
-marks_alone (Some q) = by_tests (is_mate q) (is_check q)
+marks_alone (Some q) = by_tests _ _
   where
     by_tests : (a b : Bool) → list_all is_mark (if a then codes "#" else if b then codes "+" else []) ≡ true
     by_tests true b = refl
@@ -130,7 +111,7 @@ pub record Moved (p : Parts) (m : Move) : Type 0 where
   pub stands : own p piece.kind m.from ≡ true
 
 pub moved : (p : Parts) (m : Move) → is_legal p m ≡ true → Moved p m
-moved p m h = by_cell (at p.board m.from) refl (mover_colour p m h)
+moved p m h = by_cell _ refl (mover_colour p m h)
   where
     by_cell : (o : Option Piece) → at p.board m.from ≡ o → has_colour p.side o ≡ true → Moved p m
     by_cell None e g = absurd (false≢true g)
@@ -139,19 +120,19 @@ moved p m h = by_cell (at p.board m.from) refl (mover_colour p m h)
 pub san_spelled : (p : Parts) (m : Move) (v : Moved p m) → Spells (san p m) (written v.piece.kind p m)
 san_spelled p m v =
     record {
-      bare = kind_text v.piece.kind p m;
+      bare = kind_text _ p m;
       marks = mark (legal p m);
-      joined = ap (λ (o : Option Piece). piece_text o p m ++ mark (legal p m)) v.there;
-      spells_bare = kind_spelled v.piece.kind p m;
-      marks_alone = marks_alone (legal p m);
+      joined = cc;
+      spells_bare = kind_spelled _ p m;
+      marks_alone = marks_alone _;
     }
 
 -- It is a form.
 
 hints_below : (s : Square) (any file rank : Bool) → on_board s ≡ true → (below_eight (file_by s any file rank) && below_eight (rank_by s any file rank)) ≡ true
 hints_below s false file rank h = refl
-hints_below s true false rank h = and_from (nat_lt s.file 8) true (and_parts (nat_lt s.file 8) (nat_lt s.rank 8) h).0 refl
-hints_below s true true false h = (and_parts (nat_lt s.file 8) (nat_lt s.rank 8) h).1
+hints_below s true false rank h = and_from _ true (and_parts _ _ h).0 refl
+hints_below s true true false h = (and_parts _ _ h).1
 hints_below s true true true h = h
 
 king_good : (a b : Bool) (m : Move) → on_board m.to ≡ true → is_form (king_form_by a b m) ≡ true
@@ -160,50 +141,42 @@ king_good false true m h = refl
 king_good false false m h = h
 
 pawn_good : (b : Bool) (m : Move) → on_board m.from ≡ true → on_board m.to ≡ true → is_form (pawn_form_by b m) ≡ true
-pawn_good true m h g = and_from (nat_lt m.from.file 8 && true) (on_board m.to) (and_from (nat_lt m.from.file 8) true (and_parts (nat_lt m.from.file 8) (nat_lt m.from.rank 8) h).0 refl) g
+pawn_good true m h g = and_from _ _ (and_from _ true (and_parts _ _ h).0 refl) g
 pawn_good false m h g = g
 
 disambiguated_good : (k : Kind) (p : Parts) (m : Move) → on_board m.from ≡ true → on_board m.to ≡ true → is_form (disambiguated_form k p m) ≡ true
 disambiguated_good k p m h g =
-    let any : Bool = list_any (λ r. true) (rivals p k m) in
-    let file : Bool = on_file m.from (rivals p k m) in
-    let rank : Bool = on_rank m.from (rivals p k m) in
-    and_from (below_eight (file_by m.from any file rank) && below_eight (rank_by m.from any file rank)) (on_board m.to) (hints_below m.from any file rank h) g
+    let any = list_any (λ r. true) (rivals p k m) in
+    let file = on_file m.from (rivals p k m) in
+    let rank = on_rank m.from (rivals p k m) in
+    and_from _ _ (hints_below _ any file rank h) g
 
 pub good_form : (k : Kind) (p : Parts) (m : Move) → is_legal p m ≡ true → is_form (written k p m) ≡ true
-good_form k p m h = by_kind k (and_parts (on_board m.from) (on_board m.to) (stepped p m h).on)
+good_form k p m h = by_kind k (and_parts _ _ (stepped p m h).on)
   where
     by_kind : (k : Kind) → (on_board m.from ≡ true) × (on_board m.to ≡ true) → is_form (written k p m) ≡ true
-    by_kind King b = king_good (castles_short p m) (castles_long p m) m b.1
+    by_kind King b = king_good _ _ m b.1
     by_kind Queen b = disambiguated_good Queen p m b.0 b.1
     by_kind Rook b = disambiguated_good Rook p m b.0 b.1
     by_kind Bishop b = disambiguated_good Bishop p m b.0 b.1
     by_kind Knight b = disambiguated_good Knight p m b.0 b.1
-    by_kind Pawn b = pawn_good (is_capture p m) m b.0 b.1
+    by_kind Pawn b = pawn_good _ m b.0 b.1
 
 -- The move agrees with it.
 
-to_false : (x : Bool) → (x ≡ true → ⊥) → x ≡ false
-to_false true h = absurd (h refl)
-to_false false h = refl
-
 pub no_castling : (p : Parts) (m : Move) (k : Kind) → own p k m.from ≡ true → same_kind King k ≡ false → is_castling p m ≡ false
 no_castling p m k h apart =
-    to_false (is_castling p m)
-    (λ g. false≢true (sym (other_kind p.side King k (at p.board m.from) (and_parts (own p King m.from) _ (castling_goes_far p m g)).0 apart) ∙ h))
-
-none_named : (q : Option Promotion) → is_none q ≡ true → q ≡ None
-none_named None h = refl
-none_named (Some q) h = absurd (false≢true h)
+    false_from_ne_true _
+    (λ g. false≢true (sym (other_kind _ King k _ (and_parts _ _ (castling_goes_far p m g)).0 apart) ∙ h))
 
 -- only a pawn is promoted
 pub unpromoted : (p : Parts) (m : Move) (k : Kind) → is_legal p m ≡ true → own p k m.from ≡ true → same_kind k Pawn ≡ false → m.promotion ≡ None
 unpromoted p m k h stands apart =
-    none_named m.promotion
+    no_promotion _
     (elim (or_cases (is_piece_step p m || is_pawn_step p m) (is_en_passant p m || is_castling p m) (stepped p m h).way) [
-      | inl plain ↦ elim (or_cases (is_piece_step p m) (is_pawn_step p m) plain) [
+      | inl plain ↦ elim (or_cases _ (is_pawn_step p m) plain) [
         | inl piece ↦ by_piece piece
-        | inr pawn ↦ absurd (no_pawn (and_parts (own p Pawn m.from) (is_pawn_way p m && promotion_fits p m) pawn).0)
+        | inr pawn ↦ absurd (no_pawn (and_parts _ _ pawn).0)
       ]
       | inr more ↦ elim (or_cases (is_en_passant p m) (is_castling p m) more) [
         | inl passing ↦ absurd (no_pawn (passing_pawn p m passing))
@@ -215,32 +188,28 @@ unpromoted p m k h stands apart =
     ])
   where
     no_pawn : own p Pawn m.from ≡ true → ⊥
-    no_pawn g = false≢true (sym (other_kind p.side k Pawn (at p.board m.from) stands apart) ∙ g)
+    no_pawn g = false≢true (sym (other_kind _ k Pawn _ stands apart) ∙ g)
 
     by_piece : is_piece_step p m ≡ true → is_none m.promotion ≡ true
     by_piece piece =
-        (and_parts (has_colour p.side (at p.board m.from) && not (own p Pawn m.from)) (is_none m.promotion) (and_parts ((has_colour p.side (at p.board m.from) && not (own p Pawn m.from)) && is_none m.promotion) (attacks p.board m.from m.to && not (has_colour p.side (at p.board m.to))) piece).0).1
+        (and_parts (has_colour p.side (at p.board m.from) && not (own p Pawn m.from)) (is_none m.promotion) (and_parts ((has_colour p.side (at p.board m.from) && not (own p Pawn m.from)) && is_none m.promotion) (attacks p.board m.from m.to && not (has_colour p.side (at _ m.to))) piece).0).1
 
 pub piece_move_described : (p : Parts) (m : Move) (k : Kind) (file rank : Option ℕ) (promotion : Option Promotion) → own p k m.from ≡ true → hints_fit file rank m.from ≡ true → m.promotion ≡ promotion → is_castling p m ≡ false
     → describes p (Man k file rank m.to promotion) m ≡ true
 piece_move_described p m k file rank promotion stands hints becomes plain =
-    and_from (own p k m.from && hints_fit file rank m.from) ((same_square m.to m.to && same_promotion m.promotion promotion) && not (is_castling p m))
-    (and_from (own p k m.from) (hints_fit file rank m.from) stands hints)
-    (and_from (same_square m.to m.to && same_promotion m.promotion promotion) (not (is_castling p m))
-    (and_from (same_square m.to m.to) (same_promotion m.promotion promotion) (same_square-refl m.to) (subst (λ (q : Option Promotion). same_promotion m.promotion q ≡ true) becomes (same_promotion-refl m.promotion)))
-    (ap not plain))
+    cc (and_from (own p k m.from && hints_fit file rank m.from) ((same_square m.to m.to && same_promotion m.promotion promotion) && not (is_castling p m)) (and_from (own p k m.from) (hints_fit file rank m.from) stands hints) (and_from (same_square m.to m.to && same_promotion m.promotion promotion) (not (is_castling p m)) (and_from (same_square m.to m.to) (same_promotion m.promotion promotion) (same_square-refl m.to) (subst (λ (q : Option Promotion). same_promotion m.promotion q ≡ true) becomes (same_promotion-refl m.promotion))) (ap not plain)))
 
 pub itself : (n : ℕ) → (n == n) ≡ true
 itself n = eq-eqb n n refl
 
 own_hints : (s : Square) (any file rank : Bool) → hints_fit (file_by s any file rank) (rank_by s any file rank) s ≡ true
 own_hints s false file rank = refl
-own_hints s true false rank = and_from (s.file == s.file) true (itself s.file) refl
-own_hints s true true false = itself s.rank
-own_hints s true true true = and_from (s.file == s.file) (s.rank == s.rank) (itself s.file) (itself s.rank)
+own_hints s true false rank = and_from _ true (itself _) refl
+own_hints s true true false = itself _
+own_hints s true true true = and_from (s.file == s.file) (s.rank == s.rank) (itself _) (itself _)
 
 king_described : (p : Parts) (m : Move) → is_legal p m ≡ true → own p King m.from ≡ true → describes p (king_form_by (castles_short p m) (castles_long p m) m) m ≡ true
-king_described p m h stands = by_wing (castles_short p m) (castles_long p m) refl refl
+king_described p m h stands = by_wing _ _ refl refl
   where
     by_wing : (a b : Bool) → castles_short p m ≡ a → castles_long p m ≡ b → describes p (king_form_by a b m) m ≡ true
     by_wing true b e g = e
@@ -248,18 +217,18 @@ king_described p m h stands = by_wing (castles_short p m) (castles_long p m) ref
     by_wing false false e g = piece_move_described p m King None None None stands refl (unpromoted p m King h stands refl) (ap₂ (λ a b. a || b) e g)
 
 pawn_described : (p : Parts) (m : Move) (takes : Bool) → own p Pawn m.from ≡ true → describes p (pawn_form_by takes m) m ≡ true
-pawn_described p m true stands = piece_move_described p m Pawn (Some m.from.file) None m.promotion stands (and_from (m.from.file == m.from.file) true (itself m.from.file) refl) refl (no_castling p m Pawn stands refl)
-pawn_described p m false stands = piece_move_described p m Pawn None None m.promotion stands refl refl (no_castling p m Pawn stands refl)
+pawn_described p m true stands = piece_move_described p m Pawn (Some m.from.file) None _ stands (and_from _ true (itself _) refl) refl (no_castling p m Pawn stands refl)
+pawn_described p m false stands = piece_move_described p m Pawn None None _ stands refl refl (no_castling p m Pawn stands refl)
 
 disambiguated_described : (p : Parts) (m : Move) (k : Kind) → is_legal p m ≡ true → own p k m.from ≡ true → same_kind k Pawn ≡ false → same_kind King k ≡ false → describes p (disambiguated_form k p m) m ≡ true
 disambiguated_described p m k h stands a b =
-    let any : Bool = list_any (λ r. true) (rivals p k m) in
-    let file : Bool = on_file m.from (rivals p k m) in
-    let rank : Bool = on_rank m.from (rivals p k m) in
-    piece_move_described p m k (file_by m.from any file rank) (rank_by m.from any file rank) None stands (own_hints m.from any file rank) (unpromoted p m k h stands a) (no_castling p m k stands b)
+    let any = list_any (λ r. true) (rivals p k m) in
+    let file = on_file m.from (rivals p k m) in
+    let rank = on_rank m.from (rivals p k m) in
+    piece_move_described p m k _ _ None stands (own_hints _ any file rank) (unpromoted p m k h stands a) (no_castling p m k stands b)
 
 pub written_agrees : (k : Kind) (p : Parts) (m : Move) → is_legal p m ≡ true → own p k m.from ≡ true → agrees p (written k p m) m ≡ true
-written_agrees k p m h stands = and_from (is_legal p m) (describes p (written k p m) m) h (by_kind k stands)
+written_agrees k p m h stands = and_from _ _ h (by_kind k stands)
   where
     by_kind : (k : Kind) → own p k m.from ≡ true → describes p (written k p m) m ≡ true
     by_kind King s = king_described p m h s
@@ -267,4 +236,4 @@ written_agrees k p m h stands = and_from (is_legal p m) (describes p (written k 
     by_kind Rook s = disambiguated_described p m Rook h s refl refl
     by_kind Bishop s = disambiguated_described p m Bishop h s refl refl
     by_kind Knight s = disambiguated_described p m Knight h s refl refl
-    by_kind Pawn s = pawn_described p m (is_capture p m) s
+    by_kind Pawn s = pawn_described p m _ s

@@ -1,8 +1,6 @@
 -- The canonical text of a board, rank by rank.
-use Rattle.std.proofs.Common.{◌≡◌, ℕ, zero, suc, ◌+◌, ◌-◌, ◌*◌, ◌<◌, ◌≤◌, List, [], ◌∷◌, ◌++◌, length, append_assoc, append-nil, sym, ◌∙◌, ap, arith, length-append}
-use Rattle.chess_rules.specs.Board.{Board}
+use Rattle.chess_text.proofs.Words.{◌≡◌, ℕ, zero, suc, ◌+◌, ◌-◌, ◌*◌, ◌<◌, ◌≤◌, List, [], ◌∷◌, ◌++◌, length, append_assoc, append-nil, sym, ◌∙◌, ap, arith, length-append, Board, rank_text, row, placement_text}
 use Rattle.chess_text.proofs.positions.RankToText.{length-rank_text}
-use Rattle.chess_text.specs.Placement.{rank_text, row, placement_text}
 
 -- the n lowest ranks from the upper one on, each after a slash
 abbrev pub lower : Board → ℕ → List ℕ
@@ -16,18 +14,17 @@ pub record WrittenTo (b : Board) (text : List ℕ) (i : ℕ) : Type 0 where
 
 ends : (b : Board) → rank_text 0 (row b 7) ++ lower b 7 ≡ placement_text b
 ends b =
-    ap (λ t. rank_text 0 (row b 7) ++ 47 ∷ (rank_text 0 (row b 6) ++ 47 ∷ (rank_text 0 (row b 5) ++ 47 ∷ (rank_text 0 (row b 4) ++ 47 ∷ (rank_text 0 (row b 3) ++ 47 ∷ (rank_text 0 (row b 2) ++ 47 ∷ (rank_text 0 (row b 1) ++ 47 ∷ t)))))))
-    (append-nil (rank_text 0 (row b 0)))
+    cc (append-nil _)
 
 length-lower : (b : Board) (n : ℕ) → length (lower b n) ≤ 9 * n
 length-lower b zero = omega arith
 length-lower b (suc n) =
-    let row_low : length (rank_text 0 (row b n)) ≤ 8 = length-rank_text 0 (row b n) in
+    let row_low = length-rank_text 0 (row b n) in
     omega (arith, length-append (rank_text 0 (row b n)) (lower b n), row_low, length-lower b n)
 
 pub length-placement_text : (b : Board) → length (placement_text b) ≤ 71
 length-placement_text b =
-    let row_low : length (rank_text 0 (row b 7)) ≤ 8 = length-rank_text 0 (row b 7) in
+    let row_low = length-rank_text 0 (row b 7) in
     omega (arith, ap (λ t. length t) (ends b), length-append (rank_text 0 (row b 7)) (lower b 7), row_low, length-lower b 7)
 
 pub next_rank : (b : Board) (text rank : List ℕ) (i : ℕ) → WrittenTo b text i → i < 7 → rank ≡ rank_text 0 (row b (6 - i)) → length rank ≤ 8
@@ -35,7 +32,7 @@ pub next_rank : (b : Board) (text rank : List ℕ) (i : ℕ) → WrittenTo b tex
 next_rank b text rank i so_far h e low =
     record {
       whole =
-          append_assoc (text ++ 47 ∷ []) rank (lower b (7 - (i + 1))) ∙ append_assoc text (47 ∷ []) (rank ++ lower b (7 - (i + 1)))
+          append_assoc _ rank _ ∙ append_assoc text _ _
           ∙ ap (λ t. text ++ t) (sym (down e)) ∙ so_far.whole;
       short = omega (arith, so_far.short, low, length-append (text ++ 47 ∷ []) rank, length-append text (47 ∷ []));
     }
@@ -43,7 +40,7 @@ next_rank b text rank i so_far h e low =
     down : rank ≡ rank_text 0 (row b (6 - i)) → lower b (7 - i) ≡ 47 ∷ (rank ++ lower b (7 - (i + 1)))
     down e =
         let one_less : 7 - i ≡ suc (6 - i) = omega (arith, h) in let same : 6 - i ≡ 7 - (i + 1) = omega (arith, h) in
-        ap (λ n. lower b n) one_less ∙ ap (λ t. 47 ∷ (t ++ lower b (6 - i))) (sym e) ∙ ap (λ n. 47 ∷ (rank ++ lower b n)) same
+        cc
 
 pub last_rank_written : (b : Board) (text : List ℕ) (i : ℕ) → WrittenTo b text i → 7 ≤ i → text ≡ placement_text b
 last_rank_written b text i so_far h =

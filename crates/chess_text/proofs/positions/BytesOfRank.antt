@@ -1,16 +1,6 @@
 -- What the bytes of a rank stand for.
-use Rattle.std.proofs.Common.{◌≡◌, ℕ, ◌+◌, ◌-◌, ◌<◌, ◌≤◌, Bool, true, false, ◌&&◌, ◌==◌, nat_le, List, [], ◌∷◌, ◌++◌, length, get_or, take, drop, replicate, refl, sym, ◌∙◌, ap, arith, length-append}
-use Rattle.std.specs.Prelude.{Option, None, Some, Result, Ok, Err, is_ok, if◌then◌else◌}
+use Rattle.chess_text.proofs.Words.{◌≡◌, ℕ, ◌+◌, ◌-◌, ◌<◌, ◌≤◌, Bool, true, false, ◌&&◌, ◌==◌, nat_le, List, [], ◌∷◌, ◌++◌, length, get_or, take, drop, replicate, refl, sym, ◌∙◌, ap, arith, length-append, Option, None, Some, Result, Ok, Err, is_ok, if◌then◌else◌, OnOk, false≢true, nat_tests, list_all, take-replicate, take-append-drop, take_more, flat_map-append, list_all_at, Piece, is_run, is_item, cells_at, cells_of, is_rank, and_right}
 use Rattle.std.specs.Bool.{OnTrue}
-use Rattle.std.specs.Result.{OnOk}
-use Rattle.std.proofs.lemmas.Bool.{false≢true}
-use Rattle.std.proofs.lemmas.Bool.Decides.{nat_tests}
-use Rattle.std.specs.List.{list_all}
-use Rattle.std.proofs.lemmas.List.{take-replicate, take-append-drop, take_more}
-use Rattle.std.proofs.lemmas.List.Concat.{flat_map-append}
-use Rattle.std.proofs.lemmas.List.Folds.{list_all_at}
-use Rattle.chess_rules.specs.declared.piece.Piece.{Piece}
-use Rattle.chess_text.specs.Placement.{is_run, is_item, cells_at, cells_of, is_rank}
 
 pub on_true_from_ok : {T E P Q : Type 0} (r : Result T E) (b : Bool) → b ≡ is_ok r → OnOk r P → (P → Q) → OnTrue b Q
 on_true_from_ok (Ok x) b e p f = rw e (f p)
@@ -29,7 +19,7 @@ cells_at-run c h = rw h refl
 
 -- as many cells of an empty rank as the digit says
 pub run_cells : (c : ℕ) → is_run c ≡ true → take {A = Option Piece} (c - 48) (None ∷ None ∷ None ∷ None ∷ None ∷ None ∷ None ∷ None ∷ []) ≡ cells_at c
-run_cells c h = take-replicate (c - 48) 8 None (low c h) ∙ sym (cells_at-run c h)
+run_cells c h = take-replicate _ 8 None (low c h) ∙ sym (cells_at-run c h)
 
 -- the squares of a text have those of its front, of the byte behind it, and of what follows
 cells-around : (s : List ℕ) (i : ℕ) → i < length s → length (cells_of (take i s)) + length (cells_at (get_or s i 0)) ≤ length (cells_of s)
@@ -50,22 +40,16 @@ cells-around s i h =
 too_many : (m n : ℕ) → nat_le m 8 ≡ false → m ≤ n → (n == 8) ≡ false
 too_many m n h le = grind (arith, nat_tests)
 
-and_false : (a b : Bool) → b ≡ false → (a && b) ≡ false
-and_false true b h = h
-and_false false b h = refl
-
 -- a byte that is no item, or goes past the eighth square, stands in no rank
 pub no_rank : (s : List ℕ) (i : ℕ) → i < length s
     → (is_item (get_or s i 0) && nat_le (length (cells_of (take i s)) + length (cells_at (get_or s i 0))) 8) ≡ false
     → is_rank s ≡ false
-no_rank s i h test = by_item (is_item (get_or s i 0)) refl
+no_rank s i h test = by_item _ refl
   where
     by_item : (b : Bool) → is_item (get_or s i 0) ≡ b → is_rank s ≡ false
-    by_item false e = ap (λ b. b && (length (cells_of s) == 8)) (list_all_at is_item s i 0 h e)
+    by_item false e = cc (list_all_at is_item s i 0 h e)
     by_item true e =
-        and_false (list_all is_item s) (length (cells_of s) == 8)
-        (too_many (length (cells_of (take i s)) + length (cells_at (get_or s i 0))) (length (cells_of s))
-        (sym (ap (λ b. b && nat_le (length (cells_of (take i s)) + length (cells_at (get_or s i 0))) 8) e) ∙ test) (cells-around s i h))
+        cc (and_right (list_all is_item s) (length (cells_of s) == 8) (too_many (length (cells_of (take i s)) + length (cells_at (get_or s i 0))) (length (cells_of s)) (sym (ap (λ b. b && nat_le (length (cells_of (take i s)) + length (cells_at (get_or s i 0))) 8) e) ∙ test) (cells-around s i h)))
 
 pub no_cells : (s : List ℕ) → is_rank s ≡ false → None ≡ (if is_rank s then Some (cells_of s) else None)
 no_cells s h = rw h refl

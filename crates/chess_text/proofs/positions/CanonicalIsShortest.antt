@@ -1,21 +1,5 @@
 -- No text of a position is shorter than the canonical one.
-use Rattle.std.proofs.Common.{◌≡◌, ℕ, zero, suc, ◌+◌, ◌-◌, ◌^◌, ◌<◌, ◌≤◌, ◌==◌, nat_le, Bool, true, false, ◌&&◌, List, [], ◌∷◌, ◌++◌, length, take, reverse, map, replicate, refl, sym, ◌∙◌, ap, ap₂, arith, length-append}
-use Rattle.std.specs.Prelude.{Option, None, Some, decimal, flat_map}
-use Rattle.std.specs.List.{list_all, join_with_byte}
-use Rattle.std.proofs.lemmas.Bool.{false≢true}
-use Rattle.std.proofs.lemmas.Bool.Decides.{nat_tests}
-use Rattle.std.proofs.lemmas.Fmt.{length-decimal-le}
-use Rattle.std.proofs.lemmas.List.{append_cancel_left, reverse-append, reverse-reverse, length-reverse, map-append}
-use Rattle.std.proofs.lemmas.List.Folds.{list_all-append}
-use Rattle.std.proofs.lemmas.Str.Parse.{digits_value_short}
-use Rattle.chess_rules.specs.declared.piece.Piece.{Piece}
-use Rattle.chess_rules.specs.declared.position.Parts.{Parts}
-use Rattle.chess_rules.specs.Square.{lines}
-use Rattle.chess_rules.specs.Board.{Board}
-use Rattle.chess_text.specs.Letter.{piece_letter, piece_of}
-use Rattle.chess_text.specs.Placement.{is_run, is_item, is_rank, cells_of, run_text, rank_text, row, placement_text}
-use Rattle.chess_text.specs.Field.{side_text, rights_text, target_text, is_digit, value}
-use Rattle.chess_text.specs.Fen.{SpellsBoard, SpellsNumber, Fen, fen_text}
+use Rattle.chess_text.proofs.Words.{◌≡◌, ℕ, zero, suc, ◌+◌, ◌-◌, ◌^◌, ◌<◌, ◌≤◌, ◌==◌, nat_le, Bool, true, false, ◌&&◌, List, [], ◌∷◌, ◌++◌, length, take, reverse, map, replicate, refl, sym, ◌∙◌, ap, ap₂, arith, length-append, Option, None, Some, decimal, flat_map, list_all, join_with_byte, false≢true, nat_tests, length-decimal-le, append_cancel_left, reverse-append, reverse-reverse, length-reverse, map-append, list_all-append, digits_value_short, Piece, Parts, lines, Board, piece_letter, piece_of, is_run, is_item, is_rank, cells_of, run_text, rank_text, row, placement_text, side_text, rights_text, target_text, is_digit, value, SpellsBoard, SpellsNumber, Fen, fen_text}
 use Rattle.chess_text.proofs.positions.BytesOfRank.{cells_at-run}
 use Rattle.chess_text.proofs.positions.TextToBoard.{eight_cells}
 use Rattle.chess_text.proofs.positions.FieldsOfText.{first_of_two, second_of_two, take_past}
@@ -30,19 +14,19 @@ run_is_short (suc n) = let some : (suc n == 0) ≡ false = grind (arith, nat_tes
 
 -- empty squares lengthen the run
 run_on : (k n : ℕ) (cells : Board) → rank_text n (replicate k None ++ cells) ≡ rank_text (n + k) cells
-run_on zero n cells = let same : n + 0 ≡ n = omega arith in ap (λ m. rank_text m cells) (sym same)
-run_on (suc k) n cells = let same : n + 1 + k ≡ n + suc k = omega arith in run_on k (n + 1) cells ∙ ap (λ m. rank_text m cells) same
+run_on zero n cells = let same : n + 0 ≡ n = omega arith in cc
+run_on (suc k) n cells = let same : n + 1 + k ≡ n + suc k = omega arith in cc (run_on k (n + 1) cells)
 
 rank_is_short : (s : List ℕ) (n : ℕ) → list_all is_item s ≡ true → length (rank_text n (cells_of s)) ≤ length (run_text n) + length s
 rank_is_short [] n h = omega arith
 rank_is_short (c ∷ s) n h =
-    by_item (is_run c) (piece_of c) refl refl (first_of_two (is_item c) (list_all is_item s) h) (λ m. rank_is_short s m (second_of_two (is_item c) (list_all is_item s) h))
+    by_item _ _ refl refl (first_of_two _ _ h) (λ m. rank_is_short s m (second_of_two _ _ h))
   where
     by_item : (run : Bool) (piece : Option Piece) → is_run c ≡ run → piece_of c ≡ piece → is_item c ≡ true
         → ((m : ℕ) → length (rank_text m (cells_of s)) ≤ length (run_text m) + length s)
         → length (rank_text n (cells_of (c ∷ s))) ≤ length (run_text n) + length (c ∷ s)
     by_item true piece e f item more =
-        let longer : rank_text n (cells_of (c ∷ s)) ≡ rank_text (n + (c - 48)) (cells_of s) =
+        let longer =
         ap (λ (b : Board). rank_text n (b ++ cells_of s)) (cells_at-run c e) ∙ run_on (c - 48) n (cells_of s) in
         omega (arith, ap (λ t. length t) longer, more (n + (c - 48)), run_is_short (n + (c - 48)))
     by_item false (Some x) e f item more =
@@ -54,7 +38,7 @@ rank_is_short (c ∷ s) n h =
 -- A board.
 
 same_front : (a b c d : Board) → length a ≡ length b → a ++ c ≡ b ++ d → a ≡ b
-same_front a b c d e h = sym (take_past a c) ∙ ap₂ (λ n (t : Board). take n t) e h ∙ take_past b d
+same_front a b c d e h = cc (take_past a c, take_past b d)
 
 same_rows : (b : Board) (rs : List ℕ) (ts : List (List ℕ)) → length rs ≡ length ts → list_all is_rank ts ≡ true
     → flat_map (λ r. row b r) rs ≡ flat_map cells_of ts → map (λ r. row b r) rs ≡ map (λ t. cells_of t) ts
@@ -62,16 +46,16 @@ same_rows b [] [] e good h = refl
 same_rows b [] (t ∷ ts) e good h = absurd (omega (arith, e))
 same_rows b (r ∷ rs) [] e good h = absurd (omega (arith, e))
 same_rows b (r ∷ rs) (t ∷ ts) e good h =
-    let long : length (cells_of t) ≡ 8 = eight_cells t (first_of_two (is_rank t) (list_all is_rank ts) good) in
+    let long : length (cells_of t) ≡ 8 = eight_cells t (first_of_two _ _ good) in
     let front : row b r ≡ cells_of t = same_front (row b r) (cells_of t) (flat_map (λ r. row b r) rs) (flat_map cells_of ts) (sym long) h in
     let back : flat_map (λ r. row b r) rs ≡ flat_map cells_of ts =
     append_cancel_left (cells_of t) (flat_map (λ r. row b r) rs) (flat_map cells_of ts) (ap (λ (c : Board). c ++ flat_map (λ r. row b r) rs) (sym front) ∙ h) in
-    ap₂ (λ (c : Board) (cs : List Board). c ∷ cs) front (same_rows b rs ts (omega (arith, e)) (second_of_two (is_rank t) (list_all is_rank ts) good) back)
+    cc (same_rows b rs ts (omega (arith, e)) (second_of_two (is_rank t) (list_all is_rank ts) good) back)
 
 join_is_short : (ss : List (List ℕ)) → list_all is_rank ss ≡ true
     → length (join_with_byte 47 (map (λ (c : Board). rank_text 0 c) (map (λ s. cells_of s) ss))) ≤ length (join_with_byte 47 ss)
 join_is_short [] h = omega arith
-join_is_short (s ∷ []) h = one_is_short s (first_of_two (is_rank s) true h)
+join_is_short (s ∷ []) h = one_is_short s (first_of_two _ true h)
   where
     one_is_short : (s : List ℕ) → is_rank s ≡ true → length (rank_text 0 (cells_of s)) ≤ length s
     one_is_short s good = omega (arith, rank_is_short s 0 (first_of_two (list_all is_item s) (length (cells_of s) == 8) good))
@@ -93,28 +77,23 @@ reverse_next x xs = reverse-append (x ∷ []) xs
 all_reversed : (ss : List (List ℕ)) → list_all is_rank ss ≡ true → list_all is_rank (reverse ss) ≡ true
 all_reversed [] h = refl
 all_reversed (s ∷ ss) h =
-    ap (λ (ts : List (List ℕ)). list_all is_rank ts) (reverse_next s ss)
-    ∙ list_all-append is_rank (reverse ss) (s ∷ [])
-    ∙ ap₂ (λ a b. a && (b && true)) (all_reversed ss (second_of_two (is_rank s) (list_all is_rank ss) h)) (first_of_two (is_rank s) (list_all is_rank ss) h)
+    cc (reverse_next s ss, list_all-append is_rank (reverse ss) (s ∷ []), all_reversed ss (second_of_two (is_rank s) (list_all is_rank ss) h), first_of_two (is_rank s) (list_all is_rank ss) h)
 
 cells_reversed : (ss : List (List ℕ)) → reverse (map (λ t. cells_of t) ss) ≡ map (λ t. cells_of t) (reverse ss)
 cells_reversed [] = refl
 cells_reversed (s ∷ ss) =
-    reverse_next (cells_of s) (map (λ t. cells_of t) ss)
-    ∙ ap (λ (bs : List Board). bs ++ cells_of s ∷ []) (cells_reversed ss)
-    ∙ sym (map-append (λ t. cells_of t) (reverse ss) (s ∷ []))
-    ∙ ap (λ (ts : List (List ℕ)). map (λ t. cells_of t) ts) (sym (reverse_next s ss))
+    cc (reverse_next (cells_of s) (map (λ t. cells_of t) ss), cells_reversed ss, map-append (λ t. cells_of t) (reverse ss) (s ∷ []), reverse_next s ss)
 
 there_and_back : (ss : List (List ℕ)) → reverse (map (λ t. cells_of t) (reverse ss)) ≡ map (λ t. cells_of t) ss
-there_and_back ss = cells_reversed (reverse ss) ∙ ap (λ (ts : List (List ℕ)). map (λ t. cells_of t) ts) (reverse-reverse ss)
+there_and_back ss = cc (cells_reversed _, reverse-reverse ss)
 
 board_is_short : (s : List ℕ) (b : Board) → SpellsBoard s b → length b ≡ 64 → length (placement_text b) ≤ length s
 board_is_short s b spells long =
     let ss : List (List ℕ) = spells.rank_texts in
-    let rows : map (λ r. row b r) lines ≡ map (λ t. cells_of t) (reverse spells.rank_texts) =
-    same_rows b lines (reverse spells.rank_texts) (sym (length-reverse spells.rank_texts ∙ spells.eight)) (all_reversed spells.rank_texts spells.each)
+    let rows : map (row b) lines ≡ map cells_of (reverse spells.rank_texts) =
+    same_rows b lines (reverse spells.rank_texts) (sym (length-reverse _ ∙ spells.eight)) (all_reversed spells.rank_texts spells.each)
     (sym (board_rows b long) ∙ spells.cells) in
-    let same : placement_text b ≡ join_with_byte 47 (map (λ (c : Board). rank_text 0 c) (map (λ t. cells_of t) spells.rank_texts)) =
+    let same : placement_text b ≡ join_with_byte 47 (map (λ (c : Board). rank_text 0 c) (map cells_of spells.rank_texts)) =
     ap (λ (bs : List Board). join_with_byte 47 (map (λ (c : Board). rank_text 0 c) (reverse bs))) rows
     ∙ ap (λ (bs : List Board). join_with_byte 47 (map (λ (c : Board). rank_text 0 c) bs)) (there_and_back spells.rank_texts) in
     omega (arith, ap (λ t. length t) same, join_is_short spells.rank_texts spells.each, ap (λ t. length t) spells.joined)
@@ -123,14 +102,14 @@ board_is_short s b spells long =
 
 number_is_short : (s : List ℕ) (n : ℕ) → SpellsNumber s n → length (decimal n) ≤ length s
 number_is_short s n spells =
-    let digits_alone : list_all is_digit s ≡ true = first_of_two (list_all is_digit s) (nat_le 1 (length s) && nat_le (length s) 5) spells.digits_alone in
-    let some : 0 < length s = some_digit s n spells in
-    let low : nat_le (length s) 5 ≡ true = second_of_two (nat_le 1 (length s)) (nat_le (length s) 5) (second_of_two (list_all is_digit s) (nat_le 1 (length s) && nat_le (length s) 5) spells.digits_alone) in
+    let digits_alone = first_of_two (list_all _ s) (nat_le 1 (length s) && nat_le (length s) 5) spells.digits_alone in
+    let some = some_digit s n spells in
+    let low = second_of_two (nat_le 1 (length s)) (nat_le (length s) 5) (second_of_two (list_all _ s) _ spells.digits_alone) in
     let five : length s ≤ 5 = grind (arith, nat_tests) in
-    let below : value s < 10 ^ length s = digits_value_short numerals s (length s) digits_alone (omega arith) in
-    let small : value s < 10 ^ 5 = digits_value_short numerals s 5 digits_alone five in
-    let number : n ≡ value s = spells.number in
-    length-decimal-le (length s) n some (rw number below) (omega (arith, number, small))
+    let below = digits_value_short numerals s (length s) digits_alone (omega arith) in
+    let small = digits_value_short numerals s 5 digits_alone five in
+    let number = spells.number in
+    length-decimal-le _ n some (rw number below) (omega (arith, number, small))
 
 length_six : (a b c d e f : List ℕ)
     → length (join_with_byte 32 (a ∷ b ∷ c ∷ d ∷ e ∷ f ∷ [])) ≡ length a + length b + length c + length d + length e + length f + 5

@@ -1,29 +1,5 @@
 -- The canonical text of a position spells it.
-use Rattle.std.proofs.Common.{◌≡◌, ℕ, zero, suc, ◌+◌, ◌-◌, ◌*◌, ◌^◌, ◌<◌, ◌≤◌, ◌==◌, nat_le, Bool, true, false, not, ◌&&◌, List, [], ◌∷◌, ◌++◌, length, get_or, drop, reverse, replicate, drop-cons, add-one, append_assoc, append-nil, refl, sym, ◌∙◌, ap, ap₂, arith, rules}
-use Rattle.std.specs.Prelude.{None, Some, decimal, flat_map, map, fold, is_none, if◌then◌else◌}
-use Rattle.std.specs.List.{list_all}
-use Rattle.std.proofs.lemmas.Bool.{false≢true, eqb-true}
-use Rattle.std.proofs.lemmas.Bool.Decides.{nat_tests}
-use Rattle.std.proofs.lemmas.List.{replicate_more, drop_all}
-use Rattle.std.proofs.lemmas.List.Concat.{flat_map-append}
-use Rattle.std.proofs.lemmas.List.Folds.{list_all-append}
-use Rattle.std.proofs.lemmas.Fmt.{decimal_nonempty, digits_decimal, digits_value-decimal}
-use Rattle.std.proofs.lemmas.Str.Parse.{IsNumeralModel, numerals_by_fold}
-use Rattle.chess_rules.specs.declared.piece.Colour.TheVariants.{White, Black}
-use Rattle.chess_rules.specs.declared.piece.Kind.{Kind}
-use Rattle.chess_rules.specs.declared.piece.Kind.TheVariants.{King, Queen, Rook, Bishop, Knight, Pawn}
-use Rattle.chess_rules.specs.declared.piece.Colour.{Colour}
-use Rattle.chess_rules.specs.declared.piece.Piece.{Piece}
-use Rattle.chess_rules.specs.declared.position.Parts.{Parts}
-use Rattle.chess_rules.specs.declared.position.PositionFault.TheVariants.{Kings, PawnOnEdge, KingCapturable, TargetRank, NumberRange}
-use Rattle.chess_rules.specs.Square.{lines}
-use Rattle.chess_rules.specs.Board.{Board, other}
-use Rattle.chess_rules.specs.Attacks.{king_attacked}
-use Rattle.chess_rules.specs.Position.{is_position, one_king, pawn_on_edge, target_fits}
-use Rattle.chess_text.specs.Letter.{piece_letter}
-use Rattle.chess_text.specs.Placement.{is_run, is_item, is_rank, cells_at, cells_of, run_text, rank_text, row, placement_text}
-use Rattle.chess_text.specs.Field.{is_digit, value}
-use Rattle.chess_text.specs.Fen.{SpellsBoard, SpellsNumber, Fen, fen_text}
+use Rattle.chess_text.proofs.Words.{◌≡◌, ℕ, zero, suc, ◌+◌, ◌-◌, ◌*◌, ◌^◌, ◌<◌, ◌≤◌, ◌==◌, nat_le, Bool, true, false, not, ◌&&◌, List, [], ◌∷◌, ◌++◌, length, get_or, drop, reverse, replicate, drop-cons, add-one, append_assoc, append-nil, refl, sym, ◌∙◌, ap, ap₂, arith, rules, None, Some, decimal, flat_map, map, fold, is_none, if◌then◌else◌, list_all, false≢true, eqb-true, nat_tests, replicate_more, drop_all, flat_map-append, list_all-append, decimal_nonempty, digits_decimal, digits_value-decimal, IsNumeralModel, numerals_by_fold, White, Black, Kind, King, Queen, Rook, Bishop, Knight, Pawn, Colour, Piece, Parts, Kings, PawnOnEdge, KingCapturable, TargetRank, NumberRange, lines, Board, other, king_attacked, is_position, one_king, pawn_on_edge, target_fits, piece_letter, is_run, is_item, is_rank, cells_at, cells_of, run_text, rank_text, row, placement_text, is_digit, value, SpellsBoard, SpellsNumber, Fen, fen_text}
 use Rattle.chess_text.proofs.positions.SixFieldsJoined.{length-number}
 use Rattle.chess_text.proofs.positions.FieldsOfText.{first_of_two, second_of_two}
 
@@ -58,11 +34,11 @@ run_stands : (n : ℕ) → n ≤ 8 → RunStands n
 run_stands zero h = record { items = refl; cells = refl }
 run_stands (suc n) h =
     let some : (suc n == 0) ≡ false = grind (arith, nat_tests) in
-    let run : is_run (48 + suc n) ≡ true = digit_runs (suc n) (omega arith) h in
+    let run = digit_runs _ (omega arith) h in
     let same : 48 + suc n - 48 ≡ suc n = omega arith in
     record {
       items = rw some (rw run refl);
-      cells = rw some (rw run (append-nil (replicate (48 + suc n - 48) None) ∙ ap (λ k. replicate k None) same));
+      cells = rw some (rw run (append-nil _ ∙ ap (λ k. replicate k None) same));
     }
 
 -- the text of the squares that follow a run of n empty ones spells the run and the squares
@@ -72,19 +48,19 @@ record RankStands (n : ℕ) (cells : Board) : Type 0 where
 
 rank_stands : (n : ℕ) (cells : Board) → n + length cells ≤ 8 → RankStands n cells
 rank_stands n [] h =
-    let run : RunStands n = run_stands n (omega (arith, h)) in
-    record { items = run.items; spelled = run.cells ∙ sym (append-nil (replicate n None)) }
+    let run = run_stands n (omega (arith, h)) in
+    record { items = run.items; spelled = run.cells ∙ sym (append-nil _) }
 rank_stands n (None ∷ cells) h =
-    let more : RankStands (n + 1) cells = rank_stands (n + 1) cells (omega (arith, h)) in
+    let more = rank_stands _ cells (omega (arith, h)) in
     record {
       items = more.items;
       spelled =
-          more.spelled ∙ ap (λ (b : Board). b ++ cells) (sym (replicate_more n None)) ∙ append_assoc (replicate n None) (None ∷ []) cells;
+          more.spelled ∙ ap (λ (b : Board). b ++ cells) (sym (replicate_more n None)) ∙ append_assoc _ (None ∷ []) cells;
     }
 rank_stands n (Some x ∷ cells) h =
-    let run : RunStands n = run_stands n (omega (arith, h)) in
-    let letter : LetterStands x = letter_stands x.colour x.kind in
-    let more : RankStands 0 cells = rank_stands 0 cells (omega (arith, h)) in
+    let run = run_stands n (omega (arith, h)) in
+    let letter = letter_stands x.colour x.kind in
+    let more = rank_stands 0 cells (omega (arith, h)) in
     record {
       items =
           list_all-append is_item (run_text n) (piece_letter x ∷ rank_text 0 cells)
@@ -99,9 +75,9 @@ rank_spelled cells h = (rank_stands 0 cells (omega (arith, h))).spelled
 
 rank_good : (cells : Board) → length cells ≡ 8 → is_rank (rank_text 0 cells) ≡ true
 rank_good cells h =
-    let stands : RankStands 0 cells = rank_stands 0 cells (omega (arith, h)) in
-    let eight : length (cells_of (rank_text 0 cells)) ≡ 8 = ap (λ (b : Board). length b) stands.spelled ∙ h in
-    ap₂ (λ a n. a && (n == 8)) stands.items eight
+    let stands = rank_stands 0 cells (omega (arith, h)) in
+    let eight : length (cells_of (rank_text 0 cells)) ≡ 8 = cc in
+    cc
 
 -- A board: its rows one after another.
 
@@ -113,19 +89,18 @@ gets b k (suc n) = get_or b k None ∷ gets b (k + 1) n
 gets_are : (b : Board) (k n : ℕ) → k + n ≡ length b → drop k b ≡ gets b k n
 gets_are b k zero h = drop_all k b (omega (arith, h))
 gets_are b k (suc n) h =
-    drop-cons b k None (omega (arith, h))
-    ∙ ap (λ (c : Board). get_or b k None ∷ c) (ap (λ i. drop i b) (sym (add-one k)) ∙ gets_are b (k + 1) n (omega (arith, h)))
+    cc (drop-cons b k None (omega (arith, h)), add-one k, gets_are b (k + 1) n (omega (arith, h)))
 
 pub board_rows : (b : Board) → length b ≡ 64 → b ≡ flat_map (λ rank. row b rank) (0 ∷ 1 ∷ 2 ∷ 3 ∷ 4 ∷ 5 ∷ 6 ∷ 7 ∷ [])
 board_rows b h = gets_are b 0 64 (sym h)
 
 rows_spelled : (b : Board) (rs : List ℕ) → flat_map (λ rank. row b rank) rs ≡ flat_map cells_of (map (λ rank. rank_text 0 (row b rank)) rs)
 rows_spelled b [] = refl
-rows_spelled b (r ∷ rs) = ap₂ (λ (c d : Board). c ++ d) (sym (rank_spelled (row b r) refl)) (rows_spelled b rs)
+rows_spelled b (r ∷ rs) = cc (rank_spelled _ refl, rows_spelled b rs)
 
 rows_good : (b : Board) (rs : List ℕ) → list_all is_rank (map (λ rank. rank_text 0 (row b rank)) rs) ≡ true
 rows_good b [] = refl
-rows_good b (r ∷ rs) = ap₂ (λ c d. c && d) (rank_good (row b r) refl) (rows_good b rs)
+rows_good b (r ∷ rs) = cc (rank_good (row b r) refl, rows_good b rs)
 
 board_spelled : (b : Board) → length b ≡ 64 → SpellsBoard (placement_text b) b
 board_spelled b h =
@@ -140,7 +115,7 @@ board_spelled b h =
 -- Numbers.
 
 pub numerals : IsNumeralModel (λ ds. list_all is_digit ds ≡ true) value
-numerals = numerals_by_fold (λ ds. list_all is_digit ds ≡ true) (search rules) (λ n s. fold (λ m c. 10 * m + (c - 48)) n s) (search rules)
+numerals = numerals_by_fold (λ ds. list_all _ ds ≡ true) (search rules) (λ n s. fold (λ m c. 10 * m + (c - 48)) n s) (search rules)
 
 in_range : (n : ℕ) → 0 < n → n ≤ 5 → (nat_le 1 n && nat_le n 5) ≡ true
 in_range n h g = grind (arith, nat_tests)
@@ -167,30 +142,30 @@ fifth_rule false b c d e h = absurd (false≢true h)
 
 numbers_of_position : (p : Parts) → is_position p ≡ true → (nat_le p.half 99999 && nat_le p.full 99999) ≡ true
 numbers_of_position p h =
-    fifth_rule (one_king p.board White && one_king p.board Black) (pawn_on_edge p.board) (king_attacked p.board (other p.side)) (target_fits p.side p.target)
-    (nat_le p.half 99999 && nat_le p.full 99999) (second_of_two (length p.board == 64) _ h)
+    fifth_rule (one_king p.board White && one_king p.board Black) (pawn_on_edge p.board) (king_attacked p.board (other _)) (target_fits p.side p.target)
+    _ (second_of_two (length p.board == 64) _ h)
 
 at_most : (m n : ℕ) → nat_le m n ≡ true → m ≤ n
 at_most m n h = grind (arith, nat_tests)
 
 pub half_low : (p : Parts) → is_position p ≡ true → p.half ≤ 99999
-half_low p h = at_most p.half 99999 (first_of_two (nat_le p.half 99999) (nat_le p.full 99999) (numbers_of_position p h))
+half_low p h = at_most _ 99999 (first_of_two _ (nat_le _ 99999) (numbers_of_position p h))
 
 pub full_low : (p : Parts) → is_position p ≡ true → p.full ≤ 99999
-full_low p h = at_most p.full 99999 (second_of_two (nat_le p.half 99999) (nat_le p.full 99999) (numbers_of_position p h))
+full_low p h = at_most _ 99999 (second_of_two (nat_le _ 99999) _ (numbers_of_position p h))
 
 pub long_board : (p : Parts) → is_position p ≡ true → length p.board ≡ 64
-long_board p h = eqb-true (length p.board) 64 (first_of_two (length p.board == 64) _ h)
+long_board p h = eqb-true _ 64 (first_of_two _ _ h)
 
 pub canonical_spells : (p : Parts) → is_position p ≡ true → Fen (fen_text p) p
 canonical_spells p h =
     record {
       board = placement_text p.board;
-      half = decimal p.half;
-      full = decimal p.full;
+      half = decimal _;
+      full = decimal _;
       joined = refl;
-      spells_board = board_spelled p.board (long_board p h);
-      spells_half = number_spelled p.half (half_low p h);
-      spells_full = number_spelled p.full (full_low p h);
+      spells_board = board_spelled _ (long_board p h);
+      spells_half = number_spelled _ (half_low p h);
+      spells_full = number_spelled _ (full_low p h);
       position = h;
     }

@@ -1,8 +1,5 @@
 -- The fields of a text, which stand between its spaces.
-use Rattle.std.proofs.Common.{◌≡◌, ℕ, suc, ◌+◌, Bool, true, false, not, ◌&&◌, List, [], ◌∷◌, ◌++◌, length, take, drop, add-one, refl, ◌∙◌, ap, arith}
-use Rattle.std.specs.List.{list_all, before_first, after_first, position_or_len, join_with_byte}
-use Rattle.std.proofs.lemmas.Bool.{false≢true}
-use Rattle.chess_text.specs.Fen.{is_space, rest, field}
+use Rattle.chess_text.proofs.Words.{◌≡◌, ℕ, suc, ◌+◌, Bool, true, false, not, ◌&&◌, List, [], ◌∷◌, ◌++◌, length, take, drop, add-one, refl, ◌∙◌, ap, arith, list_all, before_first, after_first, position_or_len, join_with_byte, false≢true, is_space, rest, field}
 
 -- no byte of the text passes
 abbrev pub lacks : (ℕ → Bool) → List ℕ → Bool
@@ -19,24 +16,24 @@ second_of_two false b h = absurd (false≢true h)
 position_past : (p : ℕ → Bool) (t : List ℕ) (y : ℕ) (r : List ℕ) → lacks p t ≡ true → p y ≡ true → position_or_len p (t ++ y ∷ r) ≡ length t
 position_past p [] y r h e = rw e refl
 position_past p (x ∷ t) y r h e =
-    let passed : not (p x) ≡ true = first_of_two (not (p x)) (lacks p t) h in
+    let passed = first_of_two _ (lacks p t) h in
     let more : position_or_len p (t ++ y ∷ r) ≡ length t = position_past p t y r (second_of_two (not (p x)) (lacks p t) h) e in
     rw passed (omega (arith, more))
 
 pub take_past : {A : Type 0} (t s : List A) → take (length t) (t ++ s) ≡ t
 take_past [] s = refl
-take_past (x ∷ t) s = ap (λ u. x ∷ u) (take_past t s)
+take_past (x ∷ t) s = cc (take_past t s)
 
 drop_past : (t : List ℕ) (y : ℕ) (r : List ℕ) → drop (suc (length t)) (t ++ y ∷ r) ≡ r
 drop_past [] y r = refl
 drop_past (x ∷ t) y r = drop_past t y r
 
 pub before_it : (p : ℕ → Bool) (t : List ℕ) (y : ℕ) (r : List ℕ) → lacks p t ≡ true → p y ≡ true → before_first p (t ++ y ∷ r) ≡ t
-before_it p t y r h e = ap (λ n. take n (t ++ y ∷ r)) (position_past p t y r h e) ∙ take_past t (y ∷ r)
+before_it p t y r h e = cc (position_past p t y r h e, take_past t (y ∷ r))
 
 pub after_it : (p : ℕ → Bool) (t : List ℕ) (y : ℕ) (r : List ℕ) → lacks p t ≡ true → p y ≡ true → after_first p (t ++ y ∷ r) ≡ r
 after_it p t y r h e =
-    ap (λ n. drop (n + 1) (t ++ y ∷ r)) (position_past p t y r h e) ∙ ap (λ n. drop n (t ++ y ∷ r)) (add-one (length t)) ∙ drop_past t y r
+    cc (position_past p t y r h e, add-one _, drop_past t y r)
 
 -- the six fields of six texts that are joined
 pub record SixFields (s a b c d e f : List ℕ) : Type 0 where
@@ -50,20 +47,20 @@ pub record SixFields (s a b c d e f : List ℕ) : Type 0 where
 pub six_fields : (a b c d e f : List ℕ) → lacks is_space a ≡ true → lacks is_space b ≡ true → lacks is_space c ≡ true → lacks is_space d ≡ true
     → lacks is_space e ≡ true → SixFields (join_with_byte 32 (a ∷ b ∷ c ∷ d ∷ e ∷ f ∷ [])) a b c d e f
 six_fields a b c d e f ha hb hc hd he =
-    let s1 : List ℕ = b ++ 32 ∷ (c ++ 32 ∷ (d ++ 32 ∷ (e ++ 32 ∷ f))) in
-    let s2 : List ℕ = c ++ 32 ∷ (d ++ 32 ∷ (e ++ 32 ∷ f)) in
-    let s3 : List ℕ = d ++ 32 ∷ (e ++ 32 ∷ f) in
-    let s4 : List ℕ = e ++ 32 ∷ f in
-    let s0 : List ℕ = a ++ 32 ∷ s1 in
-    let r1 : rest 1 s0 ≡ s1 = after_it is_space a 32 s1 ha refl in
-    let r2 : rest 2 s0 ≡ s2 = ap (λ t. after_first is_space t) r1 ∙ after_it is_space b 32 s2 hb refl in
-    let r3 : rest 3 s0 ≡ s3 = ap (λ t. after_first is_space t) r2 ∙ after_it is_space c 32 s3 hc refl in
-    let r4 : rest 4 s0 ≡ s4 = ap (λ t. after_first is_space t) r3 ∙ after_it is_space d 32 s4 hd refl in
+    let s1 = b ++ 32 ∷ (c ++ 32 ∷ (d ++ 32 ∷ (e ++ 32 ∷ f))) in
+    let s2 = c ++ 32 ∷ (d ++ 32 ∷ (e ++ 32 ∷ f)) in
+    let s3 = d ++ 32 ∷ (e ++ 32 ∷ f) in
+    let s4 = e ++ 32 ∷ f in
+    let s0 = a ++ 32 ∷ s1 in
+    let r1 = after_it _ a 32 s1 ha refl in
+    let r2 : rest 2 s0 ≡ s2 = cc (after_it is_space b 32 s2 hb refl) in
+    let r3 : rest 3 s0 ≡ s3 = cc (after_it is_space c 32 s3 hc refl) in
+    let r4 : rest 4 s0 ≡ s4 = cc (after_it is_space d 32 s4 hd refl) in
     record {
-      first = before_it is_space a 32 s1 ha refl;
-      second = ap (λ t. before_first is_space t) r1 ∙ before_it is_space b 32 s2 hb refl;
-      third = ap (λ t. before_first is_space t) r2 ∙ before_it is_space c 32 s3 hc refl;
-      fourth = ap (λ t. before_first is_space t) r3 ∙ before_it is_space d 32 s4 hd refl;
-      fifth = ap (λ t. before_first is_space t) r4 ∙ before_it is_space e 32 f he refl;
-      sixth = ap (λ t. after_first is_space t) r4 ∙ after_it is_space e 32 f he refl;
+      first = before_it _ a 32 s1 ha refl;
+      second = cc (before_it _ b 32 s2 hb refl);
+      third = cc (before_it _ c 32 s3 hc refl);
+      fourth = cc (before_it _ d 32 s4 hd refl);
+      fifth = cc (before_it _ e 32 f he refl);
+      sixth = cc (after_it _ e 32 f he refl);
     }

@@ -1,33 +1,12 @@
 -- What is read of a text is spelled by it.
-use Rattle.std.proofs.Common.{◌≡◌, ℕ, ◌+◌, ◌-◌, ◌<◌, ◌≤◌, ◌==◌, nat_le, Bool, true, false, ◌&&◌, ◌||◌, List, [], ◌∷◌, ◌++◌, length, get_or, refl, sym, ◌∙◌, ap, ap₂, arith, length-drop}
-use Rattle.std.specs.Prelude.{Option, None, Some, Result, Ok, Err, bytes_eq, codes, flat_map, reverse, if◌then◌else◌}
-use Rattle.std.specs.List.{list_all, before_first, after_first, position_or_len}
-use Rattle.std.proofs.lemmas.Bool.{false≢true, eqb-true}
-use Rattle.std.proofs.lemmas.Bool.Decides.{nat_tests}
-use Rattle.std.proofs.lemmas.List.{length-take}
-use Rattle.std.proofs.lemmas.List.Splits.{join_with_byte-slice_split}
-use Rattle.std.proofs.lemmas.List.Sums.{split_at_first, passes_at_first}
-use Rattle.std.proofs.lemmas.Slice.Eq.{bytes_eq-Decides}
-use Rattle.chess_rules.specs.declared.piece.Colour.{Colour}
-use Rattle.chess_rules.specs.declared.piece.Colour.TheVariants.{White, Black}
-use Rattle.chess_rules.specs.declared.position.Rights.{Rights}
-use Rattle.chess_rules.specs.declared.position.Parts.{Parts}
-use Rattle.chess_rules.specs.Square.{Square, square}
-use Rattle.chess_rules.specs.Board.{Board}
-use Rattle.chess_rules.specs.Position.{is_position}
-use Rattle.chess_text.specs.declared.fen.FenFault.{FenFault}
-use Rattle.chess_text.specs.Placement.{ranks, is_rank, is_placement, placement_of, cells_of}
-use Rattle.chess_text.specs.Field.{side_text, side_of, right_letter, or_dash, rights_text, rights_named, rights_of, target_text, target_of, is_target, is_number, is_digit, number_of, value}
-use Rattle.chess_text.specs.Fen.{SpellsBoard, SpellsNumber, Fen, is_space, rest, field, at_field, parts_or_fault, parts_read, if_position, read}
+use Rattle.chess_text.proofs.Words.{◌≡◌, ℕ, ◌+◌, ◌-◌, ◌<◌, ◌≤◌, ◌==◌, nat_le, Bool, true, false, ◌&&◌, ◌||◌, List, [], ◌∷◌, ◌++◌, length, get_or, refl, sym, ◌∙◌, ap, ap₂, arith, length-drop, Option, None, Some, Result, Ok, Err, bytes_eq, codes, flat_map, reverse, if◌then◌else◌, list_all, before_first, after_first, position_or_len, false≢true, eqb-true, nat_tests, length-take, join_with_byte-slice_split, split_at_first, passes_at_first, bytes_eq-Decides, Colour, White, Black, Rights, Parts, Square, square, Board, is_position, FenFault, ranks, is_rank, is_placement, placement_of, cells_of, side_text, side_of, right_letter, or_dash, rights_text, rights_named, rights_of, target_text, target_of, is_target, is_number, is_digit, number_of, value, SpellsBoard, SpellsNumber, Fen, is_space, rest, field, at_field, parts_or_fault, parts_read, if_position, read, same_Some}
 use Rattle.chess_text.proofs.positions.FieldsOfText.{first_of_two, second_of_two}
-
-pub same_some : {A : Type 0} (x y : A) → Some x ≡ Some y → x ≡ y
-same_some x y h = cc
+use Rattle.chess_text.proofs.forms.SpellingToForm.{same_bytes}
 
 -- Each field from what is read of it.
 
 pub board_spelled : (s : List ℕ) (b : Board) → placement_of s ≡ Some b → SpellsBoard s b
-board_spelled s b h = by_test (is_placement s) refl h
+board_spelled s b h = by_test _ refl h
   where
     by_test : (t : Bool) → is_placement s ≡ t → (if t then Some (flat_map cells_of (reverse (ranks s))) else None) ≡ Some b → SpellsBoard s b
     by_test false e g = absurd (cc)
@@ -35,67 +14,63 @@ board_spelled s b h = by_test (is_placement s) refl h
         record {
           rank_texts = ranks s;
           joined = sym (join_with_byte-slice_split 47 s);
-          eight = eqb-true (length (ranks s)) 8 (first_of_two (length (ranks s) == 8) (list_all is_rank (ranks s)) e);
-          each = second_of_two (length (ranks s) == 8) (list_all is_rank (ranks s)) e;
-          cells = sym (same_some (flat_map cells_of (reverse (ranks s))) b g);
+          eight = eqb-true (length (ranks s)) 8 (first_of_two _ _ e);
+          each = second_of_two _ _ e;
+          cells = sym (same_Some _ b g);
         }
 
-same_bytes : (s t : List ℕ) → bytes_eq s t ≡ true → s ≡ t
-same_bytes s t h = (bytes_eq-Decides s t).0 h
-
 pub side_spelled : (s : List ℕ) (c : Colour) → side_of s ≡ Some c → s ≡ side_text c
-side_spelled s c h = by_tests (bytes_eq s (codes "w")) (bytes_eq s (codes "b")) refl refl h
+side_spelled s c h = by_tests _ _ refl refl h
   where
     by_tests : (w b : Bool) → bytes_eq s (codes "w") ≡ w → bytes_eq s (codes "b") ≡ b
         → (if w then Some White else (if b then Some Black else None)) ≡ Some c → s ≡ side_text c
-    by_tests true b e f g = same_bytes s (codes "w") e ∙ ap (λ d. side_text d) (same_some White c g)
-    by_tests false true e f g = same_bytes s (codes "b") f ∙ ap (λ d. side_text d) (same_some Black c g)
+    by_tests true b e f g = cc (same_bytes s _ e, same_Some White c g)
+    by_tests false true e f g = cc (same_bytes s _ f, same_Some Black c g)
     by_tests false false e f g = absurd (cc)
 
 pub rights_spelled : (s : List ℕ) (r : Rights) → rights_of s ≡ Some r → s ≡ rights_text r
-rights_spelled s r h = by_test (bytes_eq s (rights_text (rights_named s))) refl h
+rights_spelled s r h = by_test _ refl h
   where
     by_test : (b : Bool) → bytes_eq s (rights_text (rights_named s)) ≡ b → (if b then Some (rights_named s) else None) ≡ Some r → s ≡ rights_text r
-    by_test true e g = same_bytes s (rights_text (rights_named s)) e ∙ ap (λ d. rights_text d) (same_some (rights_named s) r g)
+    by_test true e g = cc (same_bytes s _ e, same_Some _ r g)
     by_test false e g = absurd (cc)
 
 shifted_file : (file rank : ℕ) → is_target file rank ≡ true → 97 + (file - 97) ≡ file
 shifted_file file rank h =
-    let low : nat_le 97 file ≡ true = first_of_two (nat_le 97 file) (nat_le file 104) (first_of_two (nat_le 97 file && nat_le file 104) ((rank == 51) || (rank == 54)) h) in
+    let low = first_of_two (nat_le 97 file) (nat_le file 104) (first_of_two _ _ h) in
     grind (arith, nat_tests)
 
 shifted_rank : (file rank : ℕ) → is_target file rank ≡ true → 49 + (rank - 49) ≡ rank
 shifted_rank file rank h =
-    let one : ((rank == 51) || (rank == 54)) ≡ true = second_of_two (nat_le 97 file && nat_le file 104) ((rank == 51) || (rank == 54)) h in
-    by_test (rank == 51) (rank == 54) refl refl one
+    let one = second_of_two _ _ h in
+    by_test _ _ refl refl one
   where
     by_test : (a b : Bool) → (rank == 51) ≡ a → (rank == 54) ≡ b → (a || b) ≡ true → 49 + (rank - 49) ≡ rank
-    by_test true b e f g = let same : rank ≡ 51 = eqb-true rank 51 e in rw same refl
-    by_test false true e f g = let same : rank ≡ 54 = eqb-true rank 54 f in rw same refl
+    by_test true b e f g = let same = eqb-true rank 51 e in rw same refl
+    by_test false true e f g = let same = eqb-true rank 54 f in rw same refl
     by_test false false e f g = absurd (false≢true g)
 
 pub target_spelled : (s : List ℕ) (t : Option Square) → target_of s ≡ Some t → s ≡ target_text t
 target_spelled [] t h = absurd (cc)
-target_spelled (c ∷ []) t h = by_test (c == 45) refl h
+target_spelled (c ∷ []) t h = by_test _ refl h
   where
     by_test : (b : Bool) → (c == 45) ≡ b → (if b then Some None else None) ≡ Some t → c ∷ [] ≡ target_text t
-    by_test true e g = ap (λ x. x ∷ []) (eqb-true c 45 e) ∙ ap (λ u. target_text u) (same_some None t g)
+    by_test true e g = cc (eqb-true c 45 e, same_Some None t g)
     by_test false e g = absurd (cc)
-target_spelled (file ∷ rank ∷ []) t h = by_test (is_target file rank) refl h
+target_spelled (file ∷ rank ∷ []) t h = by_test _ refl h
   where
     by_test : (b : Bool) → is_target file rank ≡ b → (if b then Some (Some (square (file - 97) (rank - 49))) else None) ≡ Some t
         → file ∷ rank ∷ [] ≡ target_text t
     by_test true e g =
-        ap₂ (λ x y. x ∷ y ∷ []) (sym (shifted_file file rank e)) (sym (shifted_rank file rank e))
-        ∙ ap (λ u. target_text u) (same_some (Some (square (file - 97) (rank - 49))) t g)
+        cc (shifted_file file rank e, shifted_rank file rank e, same_Some _ t g)
     by_test false e g = absurd (cc)
 target_spelled (file ∷ rank ∷ c ∷ s) t h = absurd (cc)
 
 pub number_spelled : (s : List ℕ) (n : ℕ) → number_of s ≡ Some n → SpellsNumber s n
-number_spelled s n h = by_test (is_number s) refl h
+number_spelled s n h = by_test _ refl h
   where
     by_test : (b : Bool) → is_number s ≡ b → (if b then Some (value s) else None) ≡ Some n → SpellsNumber s n
-    by_test true e g = record { digits_alone = e; number = sym (same_some (value s) n g) }
+    by_test true e g = record { digits_alone = e; number = sym (same_Some _ n g) }
     by_test false e g = absurd (cc)
 
 -- No spelling is empty, so that a space stands before it.
@@ -105,7 +80,7 @@ some_side White = omega arith
 some_side Black = omega arith
 
 some_rights : (r : Rights) → 0 < length (rights_text r)
-some_rights r = some (right_letter r.white_short 75 ++ right_letter r.white_long 81 ++ right_letter r.black_short 107 ++ right_letter r.black_long 113)
+some_rights r = some _
   where
     some : (s : List ℕ) → 0 < length (or_dash s)
     some [] = omega arith
@@ -117,15 +92,14 @@ some_target (Some t) = omega arith
 
 pub some_digit : (s : List ℕ) (n : ℕ) → SpellsNumber s n → 0 < length s
 some_digit s n spells =
-    let low : nat_le 1 (length s) ≡ true =
-    first_of_two (nat_le 1 (length s)) (nat_le (length s) 5) (second_of_two (list_all is_digit s) (nat_le 1 (length s) && nat_le (length s) 5) spells.digits_alone) in
+    let low =
+    first_of_two (nat_le 1 (length s)) (nat_le (length s) 5) (second_of_two (list_all _ s) _ spells.digits_alone) in
     grind (arith, nat_tests)
 
 pub spaced : (s : List ℕ) → 0 < length (after_first is_space s) → s ≡ before_first is_space s ++ 32 ∷ after_first is_space s
 spaced s h =
     let inside : position_or_len is_space s < length s = omega (arith, h, length-drop (position_or_len is_space s + 1) s) in
-    split_at_first is_space s 0 inside
-    ∙ ap (λ c. before_first is_space s ++ c ∷ after_first is_space s) (eqb-true (get_or s (position_or_len is_space s) 0) 32 (passes_at_first is_space s 0 inside))
+    cc (split_at_first is_space s 0 inside, eqb-true (get_or s _ 0) 32 (passes_at_first _ s 0 inside))
 
 not_shorter : (s : List ℕ) → length (before_first is_space s) ≤ length s
 not_shorter s = omega (arith, length-take (position_or_len is_space s) s)
@@ -151,12 +125,12 @@ there p (Some b) (Some c) (Some r) (Some t) (Some m) None h = absurd (cc)
 there p (Some b) (Some c) (Some r) (Some t) (Some m) (Some n) h =
     let same : record { board = b; side = c; rights = r; target = t; half = m; full = n } ≡ p = cc in
     record {
-      board = ap (λ (q : Parts). Some q.board) same;
-      side = ap (λ (q : Parts). Some q.side) same;
-      rights = ap (λ (q : Parts). Some q.rights) same;
-      target = ap (λ (q : Parts). Some q.target) same;
-      half = ap (λ (q : Parts). Some q.half) same;
-      full = ap (λ (q : Parts). Some q.full) same;
+      board = cc;
+      side = cc;
+      rights = cc;
+      target = cc;
+      half = cc;
+      full = cc;
     }
 
 record Good (p : Parts) (r : Result Parts FenFault) : Type 0 where
@@ -165,7 +139,7 @@ record Good (p : Parts) (r : Result Parts FenFault) : Type 0 where
 
 good : (p : Parts) (r : Result Parts FenFault) → if_position r ≡ Ok p → Good p r
 good p (Err f) h = absurd (cc)
-good p (Ok q) h = by_test (is_position q) refl h
+good p (Ok q) h = by_test _ refl h
   where
     by_test : (b : Bool) → is_position q ≡ b → (if b then Ok q else at_field 7) ≡ Ok p → Good p (Ok q)
     by_test true e g = let same : q ≡ p = cc in record { parts = g; position = ap (λ x. is_position x) (sym same) ∙ e }
@@ -173,23 +147,23 @@ good p (Ok q) h = by_test (is_position q) refl h
 
 pub read_is_spelled : (s : List ℕ) (p : Parts) → read s ≡ Ok p → Fen s p
 read_is_spelled s p h =
-    let fine : Good p (parts_read s) = good p (parts_read s) h in
-    let all : AllThere p (placement_of (field 1 s)) (side_of (field 2 s)) (rights_of (field 3 s)) (target_of (field 4 s)) (number_of (field 5 s)) (number_of (field 6 s)) =
+    let fine = good p (parts_read s) h in
+    let all =
     there p (placement_of (field 1 s)) (side_of (field 2 s)) (rights_of (field 3 s)) (target_of (field 4 s)) (number_of (field 5 s)) (number_of (field 6 s)) fine.parts in
-    let side : field 2 s ≡ side_text p.side = side_spelled (field 2 s) p.side all.side in
-    let rights : field 3 s ≡ rights_text p.rights = rights_spelled (field 3 s) p.rights all.rights in
-    let target : field 4 s ≡ target_text p.target = target_spelled (field 4 s) p.target all.target in
-    let half : SpellsNumber (field 5 s) p.half = number_spelled (field 5 s) p.half all.half in
-    let full : SpellsNumber (field 6 s) p.full = number_spelled (field 6 s) p.full all.full in
-    let one : s ≡ field 1 s ++ 32 ∷ rest 1 s =
+    let side = side_spelled (field 2 s) p.side all.side in
+    let rights = rights_spelled (field 3 s) p.rights all.rights in
+    let target = target_spelled (field 4 s) p.target all.target in
+    let half = number_spelled _ _ all.half in
+    let full = number_spelled _ _ all.full in
+    let one =
     spaced s (omega (arith, not_shorter (rest 1 s), ap (λ t. length t) side, some_side p.side)) in
-    let two : rest 1 s ≡ field 2 s ++ 32 ∷ rest 2 s =
+    let two =
     spaced (rest 1 s) (omega (arith, not_shorter (rest 2 s), ap (λ t. length t) rights, some_rights p.rights)) in
-    let three : rest 2 s ≡ field 3 s ++ 32 ∷ rest 3 s =
+    let three =
     spaced (rest 2 s) (omega (arith, not_shorter (rest 3 s), ap (λ t. length t) target, some_target p.target)) in
-    let four : rest 3 s ≡ field 4 s ++ 32 ∷ rest 4 s =
+    let four =
     spaced (rest 3 s) (omega (arith, not_shorter (rest 4 s), some_digit (field 5 s) p.half half)) in
-    let five : rest 4 s ≡ field 5 s ++ 32 ∷ field 6 s = spaced (rest 4 s) (some_digit (field 6 s) p.full full) in
+    let five = spaced (rest 4 s) (some_digit _ _ full) in
     record {
       board = field 1 s;
       half = field 5 s;
@@ -199,7 +173,7 @@ read_is_spelled s p h =
           (two ∙ ap₂ (λ u t. u ++ 32 ∷ t) side
           (three ∙ ap₂ (λ u t. u ++ 32 ∷ t) rights
           (four ∙ ap₂ (λ u t. u ++ 32 ∷ t) target five)));
-      spells_board = board_spelled (field 1 s) p.board all.board;
+      spells_board = board_spelled _ _ all.board;
       spells_half = half;
       spells_full = full;
       position = fine.position;

@@ -1,16 +1,5 @@
 -- The six fields of the canonical text, one after another, and how long they are.
-use Rattle.std.proofs.Common.{◌≡◌, ℕ, ◌≤◌, Bool, true, false, List, [], ◌∷◌, ◌++◌, length, append_assoc, refl, ◌∙◌, ap, arith, length-append}
-use Rattle.std.specs.Prelude.{Option, None, Some, decimal}
-use Rattle.std.specs.List.{join_with_byte}
-use Rattle.std.proofs.lemmas.Fmt.{length-decimal-le}
-use Rattle.chess_rules.specs.declared.piece.Colour.{Colour}
-use Rattle.chess_rules.specs.declared.piece.Colour.TheVariants.{White, Black}
-use Rattle.chess_rules.specs.declared.position.Rights.{Rights}
-use Rattle.chess_rules.specs.declared.position.Parts.{Parts}
-use Rattle.chess_rules.specs.Square.{Square}
-use Rattle.chess_text.specs.Placement.{placement_text}
-use Rattle.chess_text.specs.Field.{side_text, rights_text, or_dash, right_letter, target_text}
-use Rattle.chess_text.specs.Fen.{fen_text}
+use Rattle.chess_text.proofs.Words.{◌≡◌, ℕ, ◌≤◌, Bool, true, false, List, [], ◌∷◌, ◌++◌, length, append_assoc, refl, ◌∙◌, ap, arith, length-append, Option, None, Some, decimal, join_with_byte, length-decimal-le, Colour, White, Black, Rights, Parts, Square, placement_text, side_text, rights_text, or_dash, right_letter, target_text, fen_text}
 use Rattle.chess_text.proofs.positions.BoardToText.{length-placement_text}
 
 length-side_text : (c : Colour) → length (side_text c) ≡ 1
@@ -31,7 +20,7 @@ length-or_dash (c ∷ s) h = h
 
 length-rights_text : (r : Rights) → length (rights_text r) ≤ 4
 length-rights_text r =
-    length-or_dash (right_letter r.white_short 75 ++ right_letter r.white_long 81 ++ right_letter r.black_short 107 ++ right_letter r.black_long 113)
+    length-or_dash _
     (omega (
       arith,
       length-append (right_letter r.white_short 75 ++ right_letter r.white_long 81 ++ right_letter r.black_short 107) (right_letter r.black_long 113),
@@ -75,7 +64,7 @@ length-five p text five h =
       length-side_text p.side,
       length-rights_text p.rights,
       length-target_text p.target,
-      length-number p.half h,
+      length-number _ h,
     )
 
 six_joined : (a b c d e f : List ℕ) → a ++ 32 ∷ b ++ 32 ∷ c ++ 32 ∷ d ++ 32 ∷ e ++ 32 ∷ f ≡ join_with_byte 32 (a ∷ b ∷ c ∷ d ∷ e ∷ f ∷ [])
@@ -87,8 +76,7 @@ six_joined a b c d e f =
 
 pub six_written : (p : Parts) (text : List ℕ) → FiveWritten p text → text ++ 32 ∷ decimal p.full ≡ fen_text p
 six_written p text five =
-    ap (λ t. t ++ 32 ∷ decimal p.full) five.whole
-    ∙ six_joined (placement_text p.board) (side_text p.side) (rights_text p.rights) (target_text p.target) (decimal p.half) (decimal p.full)
+    cc (six_joined _ _ _ _ _ _)
 
 -- 71 bytes for the board, 1 for the side, 4 for the rights, 2 for the target, 5 for each number,
 -- and five spaces
@@ -96,5 +84,5 @@ pub length-fen_text : (p : Parts) → p.half ≤ 99999 → p.full ≤ 99999 → 
 length-fen_text p half full =
     let five : FiveWritten p (placement_text p.board ++ 32 ∷ side_text p.side ++ 32 ∷ rights_text p.rights ++ 32 ∷ target_text p.target ++ 32 ∷ decimal p.half) =
     record { whole = refl } in
-    let front : List ℕ = placement_text p.board ++ 32 ∷ side_text p.side ++ 32 ∷ rights_text p.rights ++ 32 ∷ target_text p.target ++ 32 ∷ decimal p.half in
+    let front = placement_text p.board ++ 32 ∷ side_text p.side ++ 32 ∷ rights_text p.rights ++ 32 ∷ target_text p.target ++ 32 ∷ decimal p.half in
     omega (arith, ap (λ t. length t) (six_written p front five), length-append front (32 ∷ decimal p.full), length-five p front five half, length-number p.full full)

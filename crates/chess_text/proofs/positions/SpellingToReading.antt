@@ -1,29 +1,11 @@
 -- A text that spells a position is read as that position.
-use Rattle.std.proofs.Common.{◌≡◌, ℕ, ◌+◌, ◌-◌, ◌<◌, ◌==◌, nat_le, nat_lt, Bool, true, false, not, ◌&&◌, ◌||◌, List, [], ◌∷◌, ◌++◌, length, refl, sym, ◌∙◌, ap, ap₂, arith}
-use Rattle.std.specs.Prelude.{Option, None, Some, Ok, is_none, if◌then◌else◌}
-use Rattle.std.specs.List.{list_all, join_with_byte}
-use Rattle.std.proofs.lemmas.Bool.{false≢true, eqb-true}
-use Rattle.std.proofs.lemmas.Bool.Decides.{nat_tests}
-use Rattle.std.proofs.lemmas.List.Folds.{list_all-append}
-use Rattle.std.proofs.lemmas.List.Splits.{slice_split-cons_no}
-use Rattle.chess_rules.specs.declared.piece.Colour.{Colour}
-use Rattle.chess_rules.specs.declared.piece.Colour.TheVariants.{White, Black}
-use Rattle.chess_rules.specs.declared.position.Rights.{Rights}
-use Rattle.chess_rules.specs.declared.position.Parts.{Parts}
-use Rattle.chess_rules.specs.declared.position.PositionFault.TheVariants.{Kings, PawnOnEdge, KingCapturable, TargetRank, NumberRange}
-use Rattle.chess_rules.specs.Square.{Square, square, on_board}
-use Rattle.chess_rules.specs.Board.{Board, other}
-use Rattle.chess_rules.specs.Attacks.{king_attacked}
-use Rattle.chess_rules.specs.Position.{is_position, one_king, pawn_on_edge, target_fits, target_rank}
-use Rattle.chess_text.specs.Placement.{ranks, is_slash, is_item, is_rank, is_placement, placement_of, cells_of}
-use Rattle.chess_text.specs.Field.{side_text, side_of, rights_text, rights_of, target_text, target_of, is_target, is_digit, is_number, number_of}
-use Rattle.chess_text.specs.Fen.{SpellsBoard, SpellsNumber, Fen, is_space, field, parts_or_fault, read}
+use Rattle.chess_text.proofs.Words.{◌≡◌, ℕ, ◌+◌, ◌-◌, ◌<◌, ◌==◌, nat_le, nat_lt, Bool, true, false, not, ◌&&◌, ◌||◌, List, [], ◌∷◌, ◌++◌, length, refl, sym, ◌∙◌, ap, ap₂, arith, Option, None, Some, Ok, is_none, if◌then◌else◌, list_all, join_with_byte, false≢true, eqb-true, nat_tests, list_all-append, slice_split-cons_no, Colour, White, Black, Rights, Parts, Kings, PawnOnEdge, KingCapturable, TargetRank, NumberRange, Square, square, on_board, Board, other, king_attacked, is_position, one_king, pawn_on_edge, target_fits, target_rank, ranks, is_slash, is_item, is_rank, is_placement, placement_of, cells_of, side_text, side_of, rights_text, rights_of, target_text, target_of, is_target, is_digit, is_number, number_of, SpellsBoard, SpellsNumber, Fen, is_space, field, parts_or_fault, read, not-true}
 use Rattle.chess_text.proofs.positions.RanksOfText.{slice_split-around}
 use Rattle.chess_text.proofs.positions.FieldsOfText.{lacks, first_of_two, second_of_two, SixFields, six_fields}
 
 -- a byte that passes is not one that does not
 differs : (p : ℕ → Bool) (c d : ℕ) → p d ≡ false → p c ≡ true → not (c == d) ≡ true
-differs p c d h g = by_test (c == d) refl
+differs p c d h g = by_test _ refl
   where
     by_test : (b : Bool) → (c == d) ≡ b → not (c == d) ≡ true
     by_test false e = rw e refl
@@ -33,44 +15,36 @@ differs p c d h g = by_test (c == d) refl
 pub all_lack : (p : ℕ → Bool) (d : ℕ) → p d ≡ false → (s : List ℕ) → list_all p s ≡ true → lacks (λ c. c == d) s ≡ true
 all_lack p d h [] g = refl
 all_lack p d h (c ∷ s) g =
-    ap₂ (λ a b. a && b) (differs p c d h (first_of_two (p c) (list_all p s) g)) (all_lack p d h s (second_of_two (p c) (list_all p s) g))
+    cc (differs p c d h (first_of_two (p c) (list_all p s) g), all_lack p d h s (second_of_two (p c) (list_all p s) g))
 
 -- Field 1.
 
 rank_lacks : (d : ℕ) → is_item d ≡ false → (s : List ℕ) → is_rank s ≡ true → lacks (λ c. c == d) s ≡ true
-rank_lacks d h s g = all_lack is_item d h s (first_of_two (list_all is_item s) (length (cells_of s) == 8) g)
+rank_lacks d h s g = all_lack is_item d h s (first_of_two _ _ g)
 
 ranks_lack : (d : ℕ) → is_item d ≡ false → (ss : List (List ℕ)) → list_all is_rank ss ≡ true → list_all (λ s. lacks (λ c. c == d) s) ss ≡ true
 ranks_lack d h [] g = refl
 ranks_lack d h (s ∷ ss) g =
-    ap₂ (λ a b. a && b) (rank_lacks d h s (first_of_two (is_rank s) (list_all is_rank ss) g)) (ranks_lack d h ss (second_of_two (is_rank s) (list_all is_rank ss) g))
+    cc (rank_lacks d h s (first_of_two (is_rank s) (list_all is_rank ss) g), ranks_lack d h ss (second_of_two (is_rank s) (list_all is_rank ss) g))
 
 joined_lacks : (ss : List (List ℕ)) → list_all (λ s. lacks is_space s) ss ≡ true → lacks is_space (join_with_byte 47 ss) ≡ true
 joined_lacks [] g = refl
-joined_lacks (s ∷ []) g = first_of_two (lacks is_space s) true g
+joined_lacks (s ∷ []) g = first_of_two _ true g
 joined_lacks (s ∷ t ∷ ss) g =
-    list_all-append (λ c. not (is_space c)) s (47 ∷ join_with_byte 47 (t ∷ ss))
-    ∙ ap₂ (λ a b. a && b) (first_of_two (lacks is_space s) (list_all (λ s. lacks is_space s) (t ∷ ss)) g)
-    (joined_lacks (t ∷ ss) (second_of_two (lacks is_space s) (list_all (λ s. lacks is_space s) (t ∷ ss)) g))
+    cc (list_all-append (λ c. not (is_space c)) s (47 ∷ join_with_byte 47 (t ∷ ss)), first_of_two (lacks is_space s) (list_all (λ s. lacks is_space s) (t ∷ ss)) g, joined_lacks (t ∷ ss) (second_of_two (lacks is_space s) (list_all (λ s. lacks is_space s) (t ∷ ss)) g))
 
 one_part : (s : List ℕ) → lacks is_slash s ≡ true → ranks s ≡ s ∷ []
 one_part [] h = refl
 one_part (c ∷ s) h =
-    let rest : ranks s ≡ s ∷ [] = one_part s (second_of_two (not (is_slash c)) (lacks is_slash s) h) in
-    let no : is_slash c ≡ false = opposite (is_slash c) (first_of_two (not (is_slash c)) (lacks is_slash s) h) in
+    let rest = one_part s (second_of_two _ _ h) in
+    let no = not-true _ (first_of_two _ _ h) in
     slice_split-cons_no is_slash c s no ∙ rw rest refl
-  where
-    opposite : (b : Bool) → not b ≡ true → b ≡ false
-    opposite false h = refl
-    opposite true h = sym h
 
 -- what was joined by slashes
 joined_ranks : (s : List ℕ) (ss : List (List ℕ)) → list_all (λ s. lacks is_slash s) (s ∷ ss) ≡ true → ranks (join_with_byte 47 (s ∷ ss)) ≡ s ∷ ss
-joined_ranks s [] h = one_part s (first_of_two (lacks is_slash s) true h)
+joined_ranks s [] h = one_part s (first_of_two _ true h)
 joined_ranks s (t ∷ ss) h =
-    slice_split-around is_slash s 47 (join_with_byte 47 (t ∷ ss)) refl
-    ∙ ap₂ (λ (a b : List (List ℕ)). a ++ b) (one_part s (first_of_two (lacks is_slash s) (list_all (λ s. lacks is_slash s) (t ∷ ss)) h))
-    (joined_ranks t ss (second_of_two (lacks is_slash s) (list_all (λ s. lacks is_slash s) (t ∷ ss)) h))
+    cc (slice_split-around is_slash s 47 (join_with_byte 47 (t ∷ ss)) refl, one_part s (first_of_two (lacks is_slash s) (list_all (λ s. lacks is_slash s) (t ∷ ss)) h), joined_ranks t ss (second_of_two (lacks is_slash s) (list_all (λ s. lacks is_slash s) (t ∷ ss)) h))
 
 eight_ranks : (ss : List (List ℕ)) → length ss ≡ 8 → list_all is_rank ss ≡ true → ranks (join_with_byte 47 ss) ≡ ss
 eight_ranks [] e h = absurd (omega (arith, e))
@@ -78,13 +52,13 @@ eight_ranks (s ∷ ss) e h = joined_ranks s ss (ranks_lack 47 refl (s ∷ ss) h)
 
 pub board_read : (s : List ℕ) (b : Board) → SpellsBoard s b → placement_of s ≡ Some b
 board_read s b spells =
-    let same : ranks s ≡ spells.rank_texts = ap (λ t. ranks t) spells.joined ∙ eight_ranks spells.rank_texts spells.eight spells.each in
-    let eight : length (ranks s) ≡ 8 = ap (λ (ss : List (List ℕ)). length ss) same ∙ spells.eight in
-    let good : is_placement s ≡ true = ap₂ (λ n ok. (n == 8) && ok) eight (ap (λ (ss : List (List ℕ)). list_all is_rank ss) same ∙ spells.each) in
-    rw (good, same) (ap (λ x. Some x) (sym spells.cells))
+    let same : ranks s ≡ spells.rank_texts = cc (eight_ranks spells.rank_texts spells.eight spells.each) in
+    let eight : length (ranks s) ≡ 8 = cc in
+    let good : is_placement s ≡ true = cc in
+    rw (good, same) (ap Some (sym spells.cells))
 
 pub board_lacks : (s : List ℕ) (b : Board) → SpellsBoard s b → lacks is_space s ≡ true
-board_lacks s b spells = ap (λ t. lacks is_space t) spells.joined ∙ joined_lacks spells.rank_texts (ranks_lack 32 refl spells.rank_texts spells.each)
+board_lacks s b spells = cc (joined_lacks spells.rank_texts (ranks_lack 32 refl spells.rank_texts spells.each))
 
 -- Fields 2 and 3.
 
@@ -127,20 +101,20 @@ file_fits : (n : ℕ) → nat_lt n 8 ≡ true → (nat_le 97 (97 + n) && nat_le 
 file_fits n h = grind (arith, nat_tests)
 
 rank_fits : (c : Colour) (n : ℕ) → (n == target_rank c) ≡ true → (49 + n == 51 || 49 + n == 54) ≡ true
-rank_fits White n h = let e : n ≡ 5 = eqb-true n 5 h in rw e refl
-rank_fits Black n h = let e : n ≡ 2 = eqb-true n 2 h in rw e refl
+rank_fits White n h = let e = eqb-true n 5 h in rw e refl
+rank_fits Black n h = let e = eqb-true n 2 h in rw e refl
 
 pub target_read : (c : Colour) (t : Option Square) → target_fits c t ≡ true → target_of (target_text t) ≡ Some t
 target_read c None h = refl
 target_read c (Some t) h =
-    let on : on_board t ≡ true = first_of_two (on_board t) (t.rank == target_rank c) h in
-    let fits : is_target (97 + t.file) (49 + t.rank) ≡ true =
-    ap₂ (λ a b. a && b) (file_fits t.file (first_of_two (nat_lt t.file 8) (nat_lt t.rank 8) on)) (rank_fits c t.rank (second_of_two (on_board t) (t.rank == target_rank c) h)) in
+    let on = first_of_two _ _ h in
+    let fits =
+    ap₂ (λ a b. a && b) (file_fits _ (first_of_two _ (nat_lt t.rank 8) on)) (rank_fits c t.rank (second_of_two (on_board t) (t.rank == target_rank c) h)) in
     rw fits (ap₂ (λ file rank. Some (Some (square file rank))) (shifted t.file 97) (shifted t.rank 49))
 
 target_lacks : (t : Option Square) → lacks is_space (target_text t) ≡ true
 target_lacks None = refl
-target_lacks (Some t) = ap₂ (λ a b. a && (b && true)) (no_space t.file 97 (omega arith)) (no_space t.rank 49 (omega arith))
+target_lacks (Some t) = cc (no_space t.file 97 (omega arith), no_space t.rank 49 (omega arith))
   where
     no_space : (n k : ℕ) → 32 < k → not (k + n == 32) ≡ true
     no_space n k h = grind (arith, nat_tests)
@@ -148,10 +122,10 @@ target_lacks (Some t) = ap₂ (λ a b. a && (b && true)) (no_space t.file 97 (om
 -- Fields 5 and 6.
 
 pub number_read : (s : List ℕ) (n : ℕ) → SpellsNumber s n → number_of s ≡ Some n
-number_read s n spells = let digits_alone : is_number s ≡ true = spells.digits_alone in rw digits_alone (ap (λ x. Some x) (sym spells.number))
+number_read s n spells = let digits_alone = spells.digits_alone in rw digits_alone (ap Some (sym spells.number))
 
 number_lacks : (s : List ℕ) (n : ℕ) → SpellsNumber s n → lacks is_space s ≡ true
-number_lacks s n spells = all_lack is_digit 32 refl s (first_of_two (list_all is_digit s) (nat_le 1 (length s) && nat_le (length s) 5) spells.digits_alone)
+number_lacks s n spells = all_lack is_digit 32 refl s (first_of_two _ (nat_le 1 (length s) && nat_le (length s) 5) spells.digits_alone)
 
 -- The whole.
 
@@ -167,7 +141,7 @@ fourth_rule false b c d e h = absurd (false≢true h)
 
 target_of_position : (p : Parts) → is_position p ≡ true → target_fits p.side p.target ≡ true
 target_of_position p h =
-    fourth_rule (one_king p.board White && one_king p.board Black) (pawn_on_edge p.board) (king_attacked p.board (other p.side)) (target_fits p.side p.target)
+    fourth_rule (one_king p.board White && one_king p.board Black) (pawn_on_edge p.board) (king_attacked p.board (other _)) _
     (nat_le p.half 99999 && nat_le p.full 99999) (second_of_two (length p.board == 64) _ h)
 
 all_spelled : (p : Parts) (b : Option Board) (c : Option Colour) (r : Option Rights) (t : Option (Option Square)) (m n : Option ℕ)

@@ -1,15 +1,5 @@
 -- The board that a text spells, rank by rank from its last one.
-use Rattle.std.proofs.Common.{◌≡◌, ℕ, zero, suc, ◌+◌, ◌-◌, ◌*◌, ◌<◌, ◌≤◌, ◌==◌, Bool, true, false, ◌&&◌, List, [], ◌∷◌, ◌++◌, length, take, drop, reverse, inl, inr, refl, sym, ◌∙◌, ap, arith, append_assoc, length-append}
-use Rattle.std.specs.Prelude.{None, Some, Result, Ok, Err, is_ok, is_err, flat_map, if◌then◌else◌}
-use Rattle.std.specs.List.{list_all}
-use Rattle.std.proofs.lemmas.Bool.Decides.{nat_tests}
-use Rattle.std.specs.Result.{OnOk}
-use Rattle.std.proofs.lemmas.Bool.{false≢true, cases_lt}
-use Rattle.std.proofs.lemmas.List.{take-take, length-take, take_rest, reverse-append}
-use Rattle.std.proofs.lemmas.List.Folds.{list_all-append}
-use Rattle.chess_rules.specs.Board.{Board}
-use Rattle.chess_text.specs.Placement.{ranks, is_item, is_rank, is_placement, cells_of, placement_of}
-use Rattle.chess_text.specs.Ranks.{ranks_before}
+use Rattle.chess_text.proofs.Words.{◌≡◌, ℕ, zero, suc, ◌+◌, ◌-◌, ◌*◌, ◌<◌, ◌≤◌, ◌==◌, Bool, true, false, ◌&&◌, List, [], ◌∷◌, ◌++◌, length, take, drop, reverse, inl, inr, refl, sym, ◌∙◌, ap, arith, append_assoc, length-append, None, Some, Result, Ok, Err, is_ok, is_err, flat_map, if◌then◌else◌, list_all, nat_tests, OnOk, false≢true, cases_lt, take-take, length-take, take_rest, reverse-append, list_all-append, Board, ranks, is_item, is_rank, is_placement, cells_of, placement_of, ranks_before}
 
 -- the cells are those of the ranks that were read; those before are left
 pub record ReadSoFar (text : List ℕ) (left : ℕ) (cells : Board) : Type 0 where
@@ -25,11 +15,11 @@ pub ranks_left : (text : List ℕ) (left start : ℕ) → 0 < left → start ≤
 ranks_left text zero start above within cut = absurd (omega (arith, above))
 ranks_left text (suc n) start above within cut =
     let same : suc n - 1 ≡ n = omega arith in
-    ap (λ k. ranks (take k text)) (sym same) ∙ cut ∙ ap (λ (parts : List (List ℕ)). parts ++ drop start (take (suc n - 1) text) ∷ []) (earlier start within)
+    cc (earlier start within)
   where
     earlier : (k : ℕ) → k ≤ length (take (suc n - 1) text) → ranks_before k (take (suc n - 1) text) ≡ ranks_before k text
     earlier zero low = refl
-    earlier (suc k) low = ap (λ t. ranks t) (take-take k (suc n - 1) text (omega (arith, low, length-take (suc n - 1) text)))
+    earlier (suc k) low = cc (take-take k (suc n - 1) text (omega (arith, low, length-take (suc n - 1) text)))
 
 and_true : (b : Bool) → (b && true) ≡ b
 and_true true = refl
@@ -41,17 +31,17 @@ and_false false = refl
 
 list_all-last : (before : List (List ℕ)) (last : List ℕ) → list_all is_rank (before ++ last ∷ []) ≡ (list_all is_rank before && is_rank last)
 list_all-last before last =
-    list_all-append is_rank before (last ∷ []) ∙ ap (λ b. list_all is_rank before && b) (and_true (is_rank last))
+    cc (list_all-append is_rank before _, and_true _)
 
 cells-last : (before : List (List ℕ)) (last : List ℕ) → flat_map cells_of (reverse (before ++ last ∷ [])) ≡ cells_of last ++ flat_map cells_of (reverse before)
-cells-last before last = ap (λ parts. flat_map cells_of parts) (reverse-append before (last ∷ []))
+cells-last before last = cc (reverse-append before _)
 
 second_true : (a b : Bool) → (a && b) ≡ true → b ≡ true
 second_true true b h = h
 second_true false b h = absurd (false≢true h)
 
 pub eight_cells : (s : List ℕ) → is_rank s ≡ true → length (cells_of s) ≡ 8
-eight_cells s h = let e : (length (cells_of s) == 8) ≡ true = second_true (list_all is_item s) _ h in grind (arith, nat_tests)
+eight_cells s h = let e = second_true (list_all is_item s) _ h in grind (arith, nat_tests)
 
 -- what is left when the last of the ranks is read
 pub goes_on : (text : List ℕ) (left start : ℕ) (cells : Board) (last : List ℕ) → ReadSoFar text left cells → start ≤ length text + 1
@@ -60,12 +50,12 @@ goes_on text left start cells last so_far low split good =
     record {
       within = low;
       read =
-          append_assoc cells (cells_of last) (flat_map cells_of (reverse (ranks_before start text)))
+          append_assoc cells _ _
           ∙ ap (λ (b : Board). cells ++ b) (sym (cells-last (ranks_before start text) last))
           ∙ ap (λ (parts : List (List ℕ)). cells ++ flat_map cells_of (reverse parts)) (sym split)
           ∙ so_far.read;
       passed =
-          sym (and_true (list_all is_rank (ranks_before start text)))
+          sym (and_true _)
           ∙ ap (λ b. list_all is_rank (ranks_before start text) && b) (sym good)
           ∙ sym (list_all-last (ranks_before start text) last)
           ∙ ap (λ (parts : List (List ℕ)). list_all is_rank parts) (sym split)
@@ -88,10 +78,10 @@ nothing s h = rw h refl
 pub no_placement : (text : List ℕ) (left start : ℕ) (cells : Board) (last : List ℕ) → ReadSoFar text left cells
     → ranks_before left text ≡ ranks_before start text ++ last ∷ [] → is_rank last ≡ false → None ≡ placement_of text
 no_placement text left start cells last so_far split bad =
-    let none : list_all is_rank (ranks text) ≡ false =
+    let none =
     sym so_far.passed ∙ ap (λ (parts : List (List ℕ)). list_all is_rank parts) split ∙ list_all-last (ranks_before start text) last
     ∙ ap (λ b. list_all is_rank (ranks_before start text) && b) bad ∙ and_false (list_all is_rank (ranks_before start text)) in
-    nothing text (ap (λ b. (length (ranks text) == 8) && b) none ∙ and_false (length (ranks text) == 8))
+    nothing text (ap (λ b. (length (ranks text) == 8) && b) none ∙ and_false _)
 
 not_eight : (n m : ℕ) → 64 < m → m ≤ 8 * n → (n == 8) ≡ false
 not_eight n m h g = grind (arith, nat_tests)
@@ -102,11 +92,11 @@ pub too_many_ranks : (text : List ℕ) (left start : ℕ) (cells : Board) (last 
 too_many_ranks text left start cells last so_far split full =
     let more : length cells + 8 ≤ 8 * length (ranks text) =
     omega (arith, so_far.count, ap (λ (parts : List (List ℕ)). length parts) split, length-append (ranks_before start text) (last ∷ [])) in
-    nothing text (ap (λ b. b && list_all is_rank (ranks text)) (not_eight (length (ranks text)) (length cells + 8) full more))
+    nothing text (ap (λ b. b && list_all is_rank (ranks text)) (not_eight _ _ full more))
 
 -- what `read_rank` answers of the last rank, where the bytes from i on are handed to it
 missing : (s : List ℕ) → None ≡ (if is_rank s then Some (cells_of s) else None) → is_rank s ≡ false
-missing s h = by_test (is_rank s) refl h
+missing s h = by_test _ refl h
   where
     by_test : (b : Bool) → is_rank s ≡ b → None ≡ (if b then Some (cells_of s) else None) → is_rank s ≡ false
     by_test false e g = e
@@ -121,7 +111,7 @@ pub record RankRead (s : List ℕ) (b : Board) : Type 0 where
   pub cells : b ≡ cells_of s
 
 there : (s : List ℕ) (b : Board) → Some b ≡ (if is_rank s then Some (cells_of s) else None) → RankRead s b
-there s b h = by_test (is_rank s) refl h
+there s b h = by_test _ refl h
   where
     by_test : (t : Bool) → is_rank s ≡ t → Some b ≡ (if t then Some (cells_of s) else None) → RankRead s b
     by_test true e g = record { good = e; cells = cc }
@@ -129,7 +119,7 @@ there s b h = by_test (is_rank s) refl h
 
 pub rank_there : (s : List ℕ) (i : ℕ) (b : Board)
     → Some b ≡ (if is_rank (take (length s - i) (drop i s)) then Some (cells_of (take (length s - i) (drop i s))) else None) → RankRead (drop i s) b
-rank_there s i b h = there (drop i s) b (rw (take_rest s i) at h)
+rank_there s i b h = there _ b (rw (take_rest s i) at h)
 
 -- a call that fails where n is too much
 pub beyond : {T E : Type 0} (r : Result T E) (b : Bool) (n m : ℕ) → b ≡ is_err r → b ≡ true → (n ≤ m → is_ok r ≡ true) → m < n

@@ -1,12 +1,5 @@
 -- The definitions, computed on worked texts.
-use Rattle.std.proofs.Common.{◌≡◌, ℕ, List, [], Result, Ok, Err, refl}
-use Rattle.std.specs.Prelude.{codes}
-use Rattle.std.specs.Fmt.{digits}
-use Rattle.chess_rules.specs.declared.position.Parts.{Parts}
-use Rattle.chess_rules.specs.Square.{squares}
-use Rattle.chess_rules.specs.Position.{initial}
-use Rattle.chess_text.specs.declared.fen.FenFault.{FenFault}
-use Rattle.chess_text.specs.Fen.{read, fen_text}
+use Rattle.chess_text.proofs.Words.{◌≡◌, ℕ, List, [], Result, Ok, Err, refl, codes, digits, Parts, squares, initial, FenFault, read, fen_text}
 
 -- the canonical text of what is read; nothing where nothing is
 written : Result Parts FenFault → List ℕ

@@ -1,14 +1,6 @@
 -- The forms of worked texts.
-use Rattle.std.proofs.Common.{◌≡◌, ℕ, true, false, Option, None, Some, refl}
-use Rattle.std.specs.Prelude.{codes}
-use Rattle.chess_rules.specs.declared.piece.Kind.{Kind}
-use Rattle.chess_rules.specs.declared.piece.Kind.TheVariants.{King, Queen, Rook, Bishop, Knight, Pawn}
-use Rattle.chess_rules.specs.declared.piece.Promotion.{Promotion}
+use Rattle.chess_text.proofs.Words.{◌≡◌, ℕ, true, false, Option, None, Some, refl, codes, Kind, King, Queen, Rook, Bishop, Knight, Pawn, Promotion, Square, square, Form, Castle, Man, Spells, is_form, form_of}
 use Rattle.chess_rules.specs.declared.piece.Promotion.TheVariants as become
-use Rattle.chess_rules.specs.Square.{Square, square}
-use Rattle.chess_text.specs.declared.form.Form.{Form}
-use Rattle.chess_text.specs.declared.form.Form.TheVariants.{Castle, Man}
-use Rattle.chess_text.specs.Form.{Spells, is_form, form_of}
 
 -- to a square, with no promotion
 abbrev to : Kind → Option ℕ → Option ℕ → Square → Option Form

@@ -1,23 +1,10 @@
 -- Worked rows of the texts of moves as symbols (PGN 7, 8.2.3), and of reading them back.
-use Rattle.std.proofs.Common.{◌≡◌, ℕ, ◌≤◌, Bool, true, false, List, [], Option, None, Some, Result, Ok, Err, refl, sym, subst, ◌∙◌, ap, arith}
-use Rattle.std.specs.Prelude.{codes, is_some, option_map, IsTrue}
-use Rattle.std.proofs.lemmas.Bool.{false≢true}
+use Rattle.chess_text.proofs.Words.{◌≡◌, ℕ, ◌≤◌, Bool, true, false, List, [], Option, None, Some, Result, Ok, Err, refl, sym, subst, ◌∙◌, ap, arith, codes, is_some, option_map, IsTrue, false≢true, Move, Parts, Square, squares, is_position, legal, Played, SanFault, NoMove, Ambiguous, form_of, agreeing, move_of_form, san, begins_with_letter, IsMoveSymbol, WrittenMoveIsSymbol, WrittenMoveIsRead}
 use Rattle.chess_rules.specs.declared.piece.Promotion.TheVariants as become
-use Rattle.chess_rules.specs.declared.position.Move.{Move}
-use Rattle.chess_rules.specs.declared.position.Parts.{Parts}
-use Rattle.chess_rules.specs.Square.{Square, squares}
-use Rattle.chess_rules.specs.Position.{is_position}
-use Rattle.chess_rules.specs.Legal.{legal}
-use Rattle.chess_text.specs.declared.resolution.Played.{Played}
-use Rattle.chess_text.specs.declared.resolution.SanFault.{SanFault}
-use Rattle.chess_text.specs.declared.resolution.SanFault.TheVariants.{NoMove, Ambiguous}
-use Rattle.chess_text.specs.Form.{form_of}
-use Rattle.chess_text.specs.MoveOfForm.{agreeing, move_of_form}
-use Rattle.chess_text.specs.San.{san}
-use Rattle.chess_text.specs.WrittenMove.{begins_with_letter, IsMoveSymbol, WrittenMoveIsSymbol, WrittenMoveIsRead}
 use Rattle.chess_text.proofs.rows.MovesOfPieces.{san_is_tried}
 use Rattle.chess_text.proofs.rows.TextLawRows.{knights, queens, rooks, promoting, kings, g1e2, c3e2, h4e1}
 use Rattle.chess_text.proofs.rows.SanRows.{named, becoming, go}
+use Rattle.chess_text.proofs.forms.CastlingForms.{legal_next}
 
 -- ---- a symbol, by the law
 
@@ -159,13 +146,9 @@ unfolding squares
 fails_unless_legal_to_read law =
     not_read NoMove c3e2 knights _ pinned_is_not_read (law knights knights c3e2 refl)
 
-next_of : (o : Option Parts) → is_some o ≡ true → (q : Parts) × (o ≡ Some q)
-next_of None h = absurd (false≢true h)
-next_of (Some q) h = (q, refl)
-
 king_next : (q : Parts) × (legal kings king_b1 ≡ Some q)
 unfolding squares
-king_next = next_of (legal kings king_b1) refl
+king_next = legal_next (legal kings king_b1) refl
 
 fails_unless_position : ((p q : Parts) (m : Move) → legal p m ≡ Some q
     → as_read p (san p m) ≡ played m q) → ⊥

@@ -1,15 +1,6 @@
 -- A legal move is one of a piece of the side to move, so a mark can be computed by the moves of
 -- these pieces alone.
-use Rattle.std.proofs.Common.{◌≡◌, ℕ, Bool, true, false, ◌&&◌, not, inl, inr, List, [], ◌∷◌, ◌++◌, refl, ap, ap₂}
-use Rattle.std.specs.Prelude.{Option, None, Some, codes, if◌then◌else◌, ◌||◌}
-use Rattle.std.specs.List.{list_any}
-use Rattle.std.proofs.lemmas.Bool.{false≢true, or_cases}
-use Rattle.chess_rules.specs.declared.position.Move.{Move}
-use Rattle.chess_rules.specs.declared.position.Parts.{Parts}
-use Rattle.chess_rules.specs.Square.{Square, squares}
-use Rattle.chess_rules.specs.Board.{at, has_colour}
-use Rattle.chess_rules.specs.Legal.{every_promotion, is_check, is_legal, legal}
-use Rattle.chess_text.specs.San.{mark, san, unmarked}
+use Rattle.chess_text.proofs.Words.{◌≡◌, ℕ, Bool, true, false, ◌&&◌, not, inl, inr, List, [], ◌∷◌, ◌++◌, refl, ap, ap₂, Option, None, Some, codes, if◌then◌else◌, ◌||◌, list_any, false≢true, or_cases, Move, Parts, Square, squares, at, has_colour, every_promotion, is_check, is_legal, legal, mark, san, unmarked}
 use Rattle.chess_text.proofs.forms.MoverOfMove.{mover_colour}
 
 -- some move from the square is legal, or some one to that target

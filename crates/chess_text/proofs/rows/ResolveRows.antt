@@ -1,18 +1,6 @@
 -- What forms are read as, computed on worked positions.
-use Rattle.std.proofs.Common.{◌≡◌, ℕ, true, false, List, Result, Ok, Err, Option, None, Some, refl}
-use Rattle.std.specs.Prelude.{codes}
-use Rattle.chess_rules.specs.declared.piece.Kind.TheVariants.{King, Queen, Knight, Pawn}
+use Rattle.chess_text.proofs.Words.{◌≡◌, ℕ, true, false, List, Result, Ok, Err, Option, None, Some, refl, codes, King, Queen, Knight, Pawn, Parts, Square, square, squares, FenFault, Form, Castle, Man, Played, SanFault, NoMove, Ambiguous, read, agreeing, form_pairs, move_of_form}
 use Rattle.chess_rules.specs.declared.piece.Promotion.TheVariants as become
-use Rattle.chess_rules.specs.declared.position.Parts.{Parts}
-use Rattle.chess_rules.specs.Square.{Square, square, squares}
-use Rattle.chess_text.specs.declared.fen.FenFault.{FenFault}
-use Rattle.chess_text.specs.declared.form.Form.{Form}
-use Rattle.chess_text.specs.declared.form.Form.TheVariants.{Castle, Man}
-use Rattle.chess_text.specs.declared.resolution.Played.{Played}
-use Rattle.chess_text.specs.declared.resolution.SanFault.{SanFault}
-use Rattle.chess_text.specs.declared.resolution.SanFault.TheVariants.{NoMove, Ambiguous}
-use Rattle.chess_text.specs.Fen.{read}
-use Rattle.chess_text.specs.MoveOfForm.{agreeing, form_pairs, move_of_form}
 
 -- the origin of what is read, the fault, or a text that is no position
 data Answer : Type 0 where

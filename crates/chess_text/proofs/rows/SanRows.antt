@@ -1,15 +1,6 @@
 -- The texts of worked moves.
-use Rattle.std.proofs.Common.{◌≡◌, ℕ, ◌-◌, List, [], ◌∷◌, Option, None, Some, refl, ◌∙◌}
-use Rattle.std.specs.Prelude.{codes, Result, Ok, Err}
-use Rattle.chess_rules.specs.declared.piece.Promotion.{Promotion}
+use Rattle.chess_text.proofs.Words.{◌≡◌, ℕ, ◌-◌, List, [], ◌∷◌, Option, None, Some, refl, ◌∙◌, codes, Result, Ok, Err, Promotion, Move, Parts, Square, square, squares, legal, FenFault, read, san}
 use Rattle.chess_rules.specs.declared.piece.Promotion.TheVariants.{Queen, Knight}
-use Rattle.chess_rules.specs.declared.position.Move.{Move}
-use Rattle.chess_rules.specs.declared.position.Parts.{Parts}
-use Rattle.chess_rules.specs.Square.{Square, square, squares}
-use Rattle.chess_rules.specs.Legal.{legal}
-use Rattle.chess_text.specs.declared.fen.FenFault.{FenFault}
-use Rattle.chess_text.specs.Fen.{read}
-use Rattle.chess_text.specs.San.{san}
 use Rattle.chess_text.proofs.rows.MovesOfPieces.{san_is_tried, san_tried}
 
 -- a square by its letter and its digit

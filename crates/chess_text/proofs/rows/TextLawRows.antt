@@ -1,27 +1,8 @@
 -- The laws of texts at worked examples.
 -- A row that takes a law applies it exactly as it is stated. The rows beside it compute what the
 -- law says there, or show that this is false where one premise is missing.
-use Rattle.std.proofs.Common.{◌≡◌, ◌≢◌, ℕ, ◌<◌, ◌≤◌, true, false, List, [], ◌∷◌, ◌++◌, Option, None, Some, Result, Ok, Err, length, refl, sym, ◌∙◌, ap, subst, arith}
-use Rattle.std.specs.Prelude.{codes, slice_index_or}
-use Rattle.std.specs.Fmt.{digits}
-use Rattle.std.proofs.lemmas.Bool.{false≢true}
-use Rattle.chess_rules.specs.declared.piece.Kind.{Kind}
-use Rattle.chess_rules.specs.declared.piece.Kind.TheVariants.{King, Queen, Rook, Knight, Pawn}
+use Rattle.chess_text.proofs.Words.{◌≡◌, ◌≢◌, ℕ, ◌<◌, ◌≤◌, true, false, List, [], ◌∷◌, ◌++◌, Option, None, Some, Result, Ok, Err, length, refl, sym, ◌∙◌, ap, subst, arith, codes, slice_index_or, digits, false≢true, Kind, King, Queen, Rook, Knight, Pawn, Move, Parts, squares, is_position, initial, own, is_legal, legal, FenFault, Form, Man, Fen, parts_read, fen_text, Spells, form_of, agrees, rivals, disambiguation, has_rivals, san, CanonicalIsShortest, Names, SingleReading, ShorterIsAmbiguous, disambiguations, text_with, same_Some}
 use Rattle.chess_rules.specs.declared.piece.Promotion.TheVariants as become
-use Rattle.chess_rules.specs.declared.position.Move.{Move}
-use Rattle.chess_rules.specs.declared.position.Parts.{Parts}
-use Rattle.chess_rules.specs.Square.{squares}
-use Rattle.chess_rules.specs.Position.{is_position, initial}
-use Rattle.chess_rules.specs.Step.{own}
-use Rattle.chess_rules.specs.Legal.{is_legal, legal}
-use Rattle.chess_text.specs.declared.fen.FenFault.{FenFault}
-use Rattle.chess_text.specs.declared.form.Form.{Form}
-use Rattle.chess_text.specs.declared.form.Form.TheVariants.{Man}
-use Rattle.chess_text.specs.Fen.{Fen, parts_read, fen_text}
-use Rattle.chess_text.specs.Form.{Spells, form_of}
-use Rattle.chess_text.specs.MoveOfForm.{agrees}
-use Rattle.chess_text.specs.San.{rivals, disambiguation, has_rivals, san}
-use Rattle.chess_text.specs.Laws.{CanonicalIsShortest, Names, SingleReading, ShorterIsAmbiguous, disambiguations, text_with}
 use Rattle.chess_text.proofs.forms.SpellingToForm.{form_read}
 use Rattle.chess_text.proofs.rows.MovesOfPieces.{mark_is_tried}
 use Rattle.chess_text.proofs.rows.SanRows.{named, becoming, go}
@@ -74,13 +55,10 @@ NamesAlone p s m = (n : Move) → Names p s n → n ≡ m
 abbrev NamesAnother : Parts → List ℕ → Move → Type 0
 NamesAnother p s m = (n : Move) × (n ≢ m) × Names p s n
 
-same_some : {A : Type 0} (x y : A) → Some x ≡ Some y → x ≡ y
-same_some x y h = cc
-
 -- A text names no move that does not agree with the form that the text spells.
 unnamed : (p : Parts) (s : List ℕ) (m : Move) (f : Form) → form_of s ≡ Some f → agrees p f m ≡ false → Names p s m → ⊥
 unnamed p s m f read wrong (g, spells, good, agreed) =
-    false≢true (sym wrong ∙ subst (λ (x : Form). agrees p x m ≡ true) (same_some g f (sym (form_read s g spells good) ∙ read)) agreed)
+    false≢true (sym wrong ∙ subst (λ (x : Form). agrees p x m ≡ true) (same_Some g f (sym (form_read s g spells good) ∙ read)) agreed)
 
 -- SingleReading: the text of a legal move names this move and no other.
 

@@ -1,26 +1,9 @@
 -- The export text of games that some text spells: it spells them with their defaults filled in, and
 -- these have the same text.
-use Rattle.std.proofs.Common.{◌≡◌, ℕ, false, List, [], ◌∷◌, ◌++◌, length, map, refl, sym, ap, subst, ◌∙◌, append_assoc, append-nil, Some, codes}
-use Rattle.std.proofs.ByRecursion.{All-append, All-map}
-use Rattle.std.specs.List.{AllByRecursion}
-use Rattle.chess_rules.specs.Laws.{LeavesPosition}
-use Rattle.chess_text.specs.Laws.{TheOneMoveIsRead, ReadingIsSpelling}
-use Rattle.chess_text.specs.WrittenMove.{WrittenMoveIsSymbol, WrittenMoveIsRead}
+use Rattle.pgn_game.proofs.Words.{◌≡◌, ℕ, false, List, [], ◌∷◌, ◌++◌, length, map, refl, sym, ap, subst, ◌∙◌, append_assoc, append-nil, Some, codes, All-append, All-map, AllByRecursion, LeavesPosition, TheOneMoveIsRead, ReadingIsSpelling, WrittenMoveIsSymbol, WrittenMoveIsRead, lines_of, text_of as text_of_lines, NumbersAreSymbols, KindsAreReadBack, TokensAreSound, IsSoundKind, CommentsClose, tokens_of, written, AreEnded, IsReadable, marker_of, exported_pairs, filled, TagSectionFits, AreExportable, TextSpells, Kind, Game, value_of, Profile, start_of, plies_of, Spells, by_name, SpellsText, new_level, IsResult, SpellsGame, SpellsGames, no_game, next_game, tag_lines, tokens_out, game_text}
 use Rattle.pgn_layout.specs.Laws.{LinesOfKeepTokens}
-use Rattle.pgn_layout.specs.Lines.{lines_of, text_of as text_of_lines}
-use Rattle.pgn_lexer.specs.Laws.{NumbersAreSymbols, KindsAreReadBack, TokensAreSound}
-use Rattle.pgn_lexer.specs.Sound.{IsSoundKind, CommentsClose}
 use Rattle.pgn_lexer.specs.Tokens as tokens
-use Rattle.pgn_lexer.specs.TokensOf.{tokens_of}
-use Rattle.pgn_lexer.specs.Written.{written, AreEnded, IsReadable}
-use Rattle.pgn_game.specs.FaultTable.{marker_of}
-use Rattle.pgn_game.specs.Filled.{exported_pairs, filled}
-use Rattle.pgn_game.specs.FixedPoint.{TagSectionFits, AreExportable, TextSpells}
-use Rattle.pgn_game.proofs.Words.{Kind, Game, value_of, Profile}
-use Rattle.pgn_game.specs.Levels.{start_of, plies_of}
-use Rattle.pgn_game.specs.Spells.{Spells, by_name, SpellsText, new_level, IsResult, SpellsGame, SpellsGames, no_game, next_game}
-use Rattle.pgn_game.specs.TagSection.{tag_lines}
-use Rattle.pgn_game.specs.Text.{tokens_out, game_text, text_of}
+use Rattle.pgn_game.specs.Text.{text_of}
 use Rattle.pgn_game.proofs.AllOfJoined.{all_front, all_behind}
 use Rattle.pgn_game.proofs.exporting.GameTextToGame.{ExportedPairs, exported_of, exported_result, given_result, some_exported, start_is_position}
 use Rattle.pgn_game.proofs.exporting.PairsExportedAgain.{exported_again, start_again, is_set_up_again, result_again, by_name_order}

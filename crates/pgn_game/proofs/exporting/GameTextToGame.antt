@@ -1,22 +1,8 @@
 -- The text of a game that sound tokens spelled: it spells the game with its defaults filled in, and
 -- that game has the same text.
-use Rattle.std.proofs.Common.{◌≡◌, ℕ, ◌≤◌, true, List, [], ◌++◌, length, refl, sym, ap, subst, arith, Option, None, Some, codes, not, unwrap_or, IsTrue, Ok, Result}
-use Rattle.std.specs.List.{AllByRecursion, list_all}
-use Rattle.chess_rules.specs.Position.{is_position}
+use Rattle.pgn_game.proofs.Words.{◌≡◌, ℕ, ◌≤◌, true, List, [], ◌++◌, length, refl, sym, ap, subst, arith, Option, None, Some, codes, not, unwrap_or, IsTrue, Ok, Result, AllByRecursion, list_all, is_position, FenFault, ReadingIsSpelling, starts_symbol, continues_symbol, begins_with, IsSymbol, IsData, Parts, Mode, Full, Reduced, Game, Pair, value_of, Profile, Missing, counts_as, takes_the_marker, first_position, position_of, is_result, result_for, exported_pairs, TagSectionFits, start_of, start_by, position_or_first, KeepsTags, IsPair, by_name, IsResult, roster, roster_pairs, with_set_up, other_pairs, exported}
 use Rattle.chess_rules.specs.Square.{squares}
-use Rattle.chess_text.specs.declared.fen.FenFault.{FenFault}
-use Rattle.chess_text.specs.Laws.{ReadingIsSpelling}
-use Rattle.pgn_lexer.specs.Bytes.{starts_symbol, continues_symbol}
 use Rattle.pgn_lexer.specs.Lexes.{is_barred}
-use Rattle.pgn_lexer.specs.Sound.{begins_with, IsSymbol, IsData}
-use Rattle.pgn_game.proofs.Words.{Parts, Mode, Full, Reduced, Game, Pair, value_of, Profile, Missing, counts_as, takes_the_marker}
-use Rattle.pgn_game.specs.Chess.{first_position, position_of}
-use Rattle.pgn_game.specs.FaultTable.{is_result, result_for}
-use Rattle.pgn_game.specs.Filled.{exported_pairs}
-use Rattle.pgn_game.specs.FixedPoint.{TagSectionFits}
-use Rattle.pgn_game.specs.Levels.{start_of, start_by, position_or_first}
-use Rattle.pgn_game.specs.Spells.{KeepsTags, IsPair, by_name, IsResult}
-use Rattle.pgn_game.specs.TagSection.{roster, roster_pairs, with_set_up, other_pairs, exported}
 use Rattle.pgn_game.proofs.reading.PairsInTurn.{all-all}
 use Rattle.pgn_game.proofs.pairs.ExportedValues.{set_up, on_roster, all-exported}
 use Rattle.pgn_game.proofs.exporting.PairsExportedAgain.{by_marker, keeps_exported, by_name_values, by_name_order}

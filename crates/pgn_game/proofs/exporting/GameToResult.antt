@@ -1,18 +1,6 @@
 -- The Result of a game that a marker ends, and the four markers.
-use Rattle.std.proofs.Common.{◌≡◌, ℕ, Bool, true, false, ◌&&◌, ◌||◌, not, nat_le, ◌==◌, List, [], ◌∷◌, ◌++◌, take, drop, codes, bytes_eq, Option, None, Some, is_some, suc, zero, refl, sym, ap, ◌∙◌, true≢false, arith}
-use Rattle.std.specs.List.{list_all}
-use Rattle.std.proofs.lemmas.Bool.{le-leb}
-use Rattle.std.proofs.lemmas.Slice.Eq.{bytes_eq-Decides}
+use Rattle.pgn_game.proofs.Words.{◌≡◌, ℕ, Bool, true, false, ◌&&◌, ◌||◌, not, nat_le, ◌==◌, List, [], ◌∷◌, ◌++◌, take, drop, codes, bytes_eq, Option, None, Some, is_some, suc, zero, refl, sym, ap, ◌∙◌, true≢false, arith, list_all, le-leb, bytes_eq-Decides, Kind, Reason, BadTagName, ResultDiffers, MarkerInVariation, Stage, Between, AfterLeftBracket, AfterName, AfterValue, Profile, value_of, Part, Marker, WhiteWins, BlackWins, Draw, Unknown, marker_text, depth, Row, row, rows, first_holding, refusal, in_name, is_marker, is_score, is_outside_tag_pairs, has_other_result, levels_of_part, marker_of, IsResult, at_stage, or_else}
 use Rattle.pgn_lexer.specs.Tokens as tokens
-use Rattle.pgn_game.proofs.Words.{Kind, Reason, BadTagName, ResultDiffers, MarkerInVariation, Stage, Between, AfterLeftBracket, AfterName, AfterValue, Profile, value_of, Part}
-use Rattle.pgn_game.specs.declared.marker.Marker.{Marker}
-use Rattle.pgn_game.specs.declared.marker.Marker.TheVariants.{WhiteWins, BlackWins, Draw, Unknown}
-use Rattle.pgn_game.specs.Markers.{marker_text}
-use Rattle.pgn_game.specs.Levels.{depth}
-use Rattle.pgn_game.specs.FaultTable.{Row, row, rows, first_holding, refusal, in_name, is_marker, is_score, is_outside_tag_pairs, has_other_result, levels_of_part, marker_of}
-use Rattle.pgn_game.specs.Spells.{IsResult}
-use Rattle.pgn_game.specs.Progress.{at_stage}
-use Rattle.pgn_game.specs.TokenInMovetext.{or_else}
 use Rattle.pgn_game.proofs.refusals.RefusalsInMovetext.{other_if, score_of}
 use Rattle.pgn_game.proofs.refusals.RefusalsByStage.{name_refusal, test_failed}
 use Rattle.pgn_game.proofs.reading.MovetextTokens.{result_is}

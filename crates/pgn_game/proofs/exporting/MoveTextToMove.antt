@@ -1,26 +1,10 @@
 -- The text of a move that a game has: a symbol that names the same move again, after its number.
-use Rattle.std.proofs.Common.{◌≡◌, ℕ, ◌<◌, ◌≤◌, ◌^◌, Bool, true, false, List, [], ◌∷◌, ◌++◌, length, refl, sym, ap, subst, arith, Option, None, Some, ◌&&◌, ◌||◌, not, ◌==◌, nat_le, codes, decimal, bytes_eq, is_none, unwrap_or, IsTrue, IsFalse, Ok, if◌then◌else◌}
-use Rattle.std.specs.List.{AllByRecursion, list_all}
-use Rattle.std.proofs.lemmas.Bool.{false≢true, or_parts, and_parts, and_from, leb-true}
+use Rattle.pgn_game.proofs.Words.{◌≡◌, ℕ, ◌<◌, ◌≤◌, ◌^◌, Bool, true, false, List, [], ◌∷◌, ◌++◌, length, refl, sym, ap, subst, arith, Option, None, Some, ◌&&◌, ◌||◌, not, ◌==◌, nat_le, codes, decimal, bytes_eq, is_none, unwrap_or, IsTrue, IsFalse, Ok, if◌then◌else◌, AllByRecursion, list_all, false≢true, or_parts, and_parts, and_from, leb-true, Move, LeavesPosition, is_position, position_fault, one_king, pawn_on_edge, target_fits, TheOneMoveIsRead, is_letter, is_move_byte, begins_with_letter, IsMoveSymbol, WrittenMoveIsSymbol, WrittenMoveIsRead, is_digit, starts_symbol, continues_symbol, NumbersAreSymbols, begins_with, IsSymbol, CommentsClose, move_of, text_of_move, play, is_number, is_score, Parts, Played, Kind, Item, Profile, Level, replayed, without_last, Names, SpellsText, token, number, period, number_before}
 use Rattle.chess_rules.specs.declared.piece.Colour.TheVariants.{White, Black}
-use Rattle.chess_rules.specs.declared.position.Move.{Move}
 use Rattle.chess_rules.specs.declared.position.PositionFault.TheVariants.{Kings, PawnOnEdge, KingCapturable, TargetRank, NumberRange}
 use Rattle.chess_rules.specs.Attacks.{king_attacked}
 use Rattle.chess_rules.specs.Board.{other}
-use Rattle.chess_rules.specs.Laws.{LeavesPosition}
-use Rattle.chess_rules.specs.Position.{is_position, position_fault, one_king, pawn_on_edge, target_fits}
-use Rattle.chess_text.specs.Laws.{TheOneMoveIsRead}
-use Rattle.chess_text.specs.WrittenMove.{is_letter, is_move_byte, begins_with_letter, IsMoveSymbol, WrittenMoveIsSymbol, WrittenMoveIsRead}
-use Rattle.pgn_lexer.specs.Bytes.{is_digit, starts_symbol, continues_symbol}
-use Rattle.pgn_lexer.specs.Laws.{NumbersAreSymbols}
-use Rattle.pgn_lexer.specs.Sound.{begins_with, IsSymbol, CommentsClose}
 use Rattle.pgn_lexer.specs.Tokens as tokens
-use Rattle.pgn_game.specs.Chess.{move_of, text_of_move, play}
-use Rattle.pgn_game.specs.FaultTable.{is_number, is_score}
-use Rattle.pgn_game.proofs.Words.{Parts, Played, Kind, Item, Profile}
-use Rattle.pgn_game.specs.Levels.{Level, replayed, without_last}
-use Rattle.pgn_game.specs.Spells.{Names, SpellsText, token, number, period}
-use Rattle.pgn_game.specs.Text.{number_before}
 use Rattle.pgn_game.proofs.putting.PlayedMovesAreLegal.{named_is_legal}
 use Rattle.pgn_game.proofs.exporting.PiecesToTokens.{IsWritable, AllShown, next_shown, white, black}
 

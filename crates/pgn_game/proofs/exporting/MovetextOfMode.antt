@@ -1,22 +1,8 @@
 -- The movetext that is written, of all items or of the moves outside variations: it spells the
 -- items that are kept, and these are written in the same way again.
-use Rattle.std.proofs.Common.{◌≡◌, ℕ, suc, ◌+◌, Bool, true, false, cond, List, [], ◌∷◌, ◌++◌, length, map, refl, sym, ap, subst, ◌∙◌, arith, ◌==◌, filter, fold, IsTrue}
-use Rattle.std.specs.List.{AllByRecursion}
-use Rattle.std.proofs.lemmas.Bool.{ne_eqb}
-use Rattle.std.proofs.lemmas.List.Elements.{filter-append}
-use Rattle.std.proofs.lemmas.List.Sums.{fold-append}
-use Rattle.chess_rules.specs.Laws.{LeavesPosition}
-use Rattle.chess_rules.specs.Position.{is_position}
-use Rattle.chess_text.specs.Laws.{TheOneMoveIsRead}
-use Rattle.chess_text.specs.WrittenMove.{WrittenMoveIsSymbol, WrittenMoveIsRead}
-use Rattle.pgn_lexer.specs.Laws.{NumbersAreSymbols}
-use Rattle.pgn_lexer.specs.Sound.{IsSoundKind, CommentsClose}
+use Rattle.pgn_game.proofs.Words.{◌≡◌, ℕ, suc, ◌+◌, Bool, true, false, cond, List, [], ◌∷◌, ◌++◌, length, map, refl, sym, ap, subst, ◌∙◌, arith, ◌==◌, filter, fold, IsTrue, AllByRecursion, ne_eqb, filter-append, fold-append, LeavesPosition, is_position, TheOneMoveIsRead, WrittenMoveIsSymbol, WrittenMoveIsRead, NumbersAreSymbols, IsSoundKind, CommentsClose, Parts, Kind, Mode, Full, Reduced, Item, Profile, Level, Levels, levels_after, first_level, back_to, depth, here, main_moves, outermost, without_last, SpellsText, no_more, token, move, variation, new_level, level_after_move, Placed, placed_from, is_main_move, written_items, tokens_from, tokens_out}
 use Rattle.pgn_lexer.specs.Tokens as tokens
-use Rattle.pgn_game.proofs.Words.{Parts, Kind, Mode, Full, Reduced, Item, Profile}
 use Rattle.pgn_game.specs.Game as games
-use Rattle.pgn_game.specs.Levels.{Level, Levels, levels_after, first_level, back_to, depth, here, main_moves, outermost, without_last}
-use Rattle.pgn_game.specs.Spells.{SpellsText, no_more, token, move, variation, new_level, level_after_move}
-use Rattle.pgn_game.specs.Text.{Placed, placed_from, is_main_move, written_items, tokens_from, tokens_out}
 use Rattle.pgn_game.proofs.AllOfJoined.{all_behind}
 use Rattle.pgn_game.proofs.exporting.PiecesToTokens.{IsWritable, AllShown}
 use Rattle.pgn_game.proofs.exporting.MovetextToItems.{level_in, aside, around_again, close_at, placed_variation, rewritten}

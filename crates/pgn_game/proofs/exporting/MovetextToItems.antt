@@ -1,22 +1,7 @@
 -- The movetext that is written of a game spells the same items again.
-use Rattle.std.proofs.Common.{◌≡◌, ℕ, ◌+◌, ◌<◌, Bool, true, false, List, [], ◌∷◌, ◌++◌, refl, sym, ap, subst, ◌∙◌, append_assoc, codes, filter, fold, IsTrue}
-use Rattle.std.proofs.ByRecursion.{All-append}
-use Rattle.std.specs.List.{AllByRecursion}
-use Rattle.std.proofs.lemmas.List.Sums.{fold-append}
-use Rattle.chess_rules.specs.Laws.{LeavesPosition}
-use Rattle.chess_text.specs.Laws.{TheOneMoveIsRead}
-use Rattle.chess_text.specs.WrittenMove.{WrittenMoveIsSymbol, WrittenMoveIsRead}
-use Rattle.pgn_lexer.specs.Laws.{NumbersAreSymbols}
-use Rattle.pgn_lexer.specs.Sound.{IsSoundKind, CommentsClose}
+use Rattle.pgn_game.proofs.Words.{◌≡◌, ℕ, ◌+◌, ◌<◌, Bool, true, false, List, [], ◌∷◌, ◌++◌, refl, sym, ap, subst, ◌∙◌, append_assoc, codes, filter, fold, IsTrue, All-append, AllByRecursion, fold-append, LeavesPosition, TheOneMoveIsRead, WrittenMoveIsSymbol, WrittenMoveIsRead, NumbersAreSymbols, IsSoundKind, CommentsClose, written, text_of_move, is_black_to_move, is_comment, Parts, Kind, Played, Item, Profile, Level, Levels, levels_after, back_to, depth, here, without_last, replayed, StandsFor, Names, SpellsText, no_more, token, move, variation, number, period, glyph, comment_open, word, comment_close, new_level, level_after_move, Placed, placed_from, is_main_move, tokens_from, tokens_at, number_before}
 use Rattle.pgn_lexer.specs.Tokens as tokens
-use Rattle.pgn_lexer.specs.Written.{written}
-use Rattle.pgn_game.specs.Chess.{text_of_move, is_black_to_move}
-use Rattle.pgn_game.specs.FaultTable.{is_comment}
 use Rattle.pgn_game.specs.Game as games
-use Rattle.pgn_game.proofs.Words.{Parts, Kind, Played, Item, Profile}
-use Rattle.pgn_game.specs.Levels.{Level, Levels, levels_after, back_to, depth, here, without_last, replayed}
-use Rattle.pgn_game.specs.Spells.{StandsFor, Names, SpellsText, no_more, token, move, variation, number, period, glyph, comment_open, word, comment_close, new_level, level_after_move}
-use Rattle.pgn_game.specs.Text.{Placed, placed_from, is_main_move, tokens_from, tokens_at, number_before}
 use Rattle.pgn_game.proofs.AllOfJoined.{all_front, all_behind}
 use Rattle.pgn_game.proofs.putting.ItemsAppended.{placed-append, tokens_from-append}
 use Rattle.pgn_game.proofs.exporting.PiecesToTokens.{IsWritable, AllShown, none_shown, next_shown, shown-append, single}

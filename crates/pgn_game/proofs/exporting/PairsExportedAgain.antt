@@ -1,13 +1,5 @@
 -- Exported tag pairs are tag pairs of a game again, and exporting them again changes nothing.
-use Rattle.std.proofs.Common.{◌≡◌, ℕ, ◌+◌, ◌≤◌, Bool, true, false, cond, List, [], ◌∷◌, ◌++◌, length, map, drop, refl, sym, ap, subst, ◌∙◌, arith, Option, None, Some, inl, inr, ◌&&◌, ◌||◌, not, bytes_eq, is_some, unwrap_or, codes, IsTrue, IsFalse}
-use Rattle.std.specs.List.{AllByRecursion, list_all}
-use Rattle.std.proofs.lemmas.Bool.{false≢true, cases_Bool, or_cases}
-use Rattle.pgn_layout.specs.TagLine.{escaped}
-use Rattle.pgn_game.proofs.Words.{Mode, Full, Reduced, Profile, Pair, value_of, has_pair}
-use Rattle.pgn_game.specs.TagSection.{roster, in_roster, roster_pairs, with_set_up, other_pairs, exported}
-use Rattle.pgn_game.specs.FaultTable.{in_name, is_score, is_result}
-use Rattle.pgn_game.specs.Levels.{start_by, start_of}
-use Rattle.pgn_game.specs.Spells.{IsPair, AreDistinct, KeepsTags, IsSetUp, by_name}
+use Rattle.pgn_game.proofs.Words.{◌≡◌, ℕ, ◌+◌, ◌≤◌, Bool, true, false, cond, List, [], ◌∷◌, ◌++◌, length, map, drop, refl, sym, ap, subst, ◌∙◌, arith, Option, None, Some, inl, inr, ◌&&◌, ◌||◌, not, bytes_eq, is_some, unwrap_or, codes, IsTrue, IsFalse, AllByRecursion, list_all, false≢true, cases_Bool, or_cases, escaped, Mode, Full, Reduced, Profile, Pair, value_of, has_pair, roster, in_roster, roster_pairs, with_set_up, other_pairs, exported, in_name, is_score, is_result, start_by, start_of, IsPair, AreDistinct, KeepsTags, IsSetUp, by_name}
 use Rattle.pgn_game.proofs.reading.PairsInTurn.{takes, value_of-all, order-all}
 use Rattle.pgn_game.proofs.pairs.ExportedValues.{with_default, without_set_up, set_up, set_up_if, set_up_gone, set_up_values, no_fen, no_set_up, other_value, exported_known, exported_other, exported_none, no_set_up_of, on_roster, all-exported}
 use Rattle.pgn_game.proofs.pairs.NameOrder.{InOrder, order-insert, order-filter, same_pairs, distinct_in_order}

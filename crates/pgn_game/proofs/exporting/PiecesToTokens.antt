@@ -1,18 +1,8 @@
 -- Texts in pieces that a lexer reads back: tag lines, and the lines of movetext.
-use Rattle.std.proofs.Common.{◌≡◌, ℕ, Bool, true, false, List, [], ◌∷◌, ◌++◌, refl, sym, ap, subst, ◌∙◌, append_assoc, inl, inr, ◌==◌, codes, decimal, IsTrue}
-use Rattle.std.proofs.ByRecursion.{All-append}
-use Rattle.std.specs.List.{AllByRecursion}
-use Rattle.std.proofs.lemmas.Bool.{or_cases, eqb-true}
+use Rattle.pgn_game.proofs.Words.{◌≡◌, ℕ, Bool, true, false, List, [], ◌∷◌, ◌++◌, refl, sym, ap, subst, ◌∙◌, append_assoc, inl, inr, ◌==◌, codes, decimal, IsTrue, All-append, AllByRecursion, or_cases, eqb-true, tag_line, escaped, is_space, is_digit, continues_symbol, continues_word, IsSymbol, IsData, CommentsClose, Piece, text_of_pieces, kinds_in, IsPiece, IsEndedBy, AreEnded, Kind, Pair, tag_lines, SpellsPairs, no_pair, next_pair, pair}
 use Rattle.pgn_layout.specs.LineText.{is_gap, IsTextOf, no_token, next_token}
-use Rattle.pgn_layout.specs.TagLine.{tag_line, escaped}
-use Rattle.pgn_lexer.specs.Bytes.{is_space, is_digit, continues_symbol, continues_word}
-use Rattle.pgn_lexer.specs.Sound.{IsSymbol, IsData, CommentsClose}
 use Rattle.pgn_lexer.specs.Tokens as tokens
 use Rattle.pgn_lexer.specs.Written as written
-use Rattle.pgn_lexer.specs.Written.{Piece, text_of_pieces, kinds_in, IsPiece, IsEndedBy, AreEnded}
-use Rattle.pgn_game.proofs.Words.{Kind, Pair}
-use Rattle.pgn_game.specs.TagSection.{tag_lines}
-use Rattle.pgn_game.specs.Spells.{SpellsPairs, no_pair, next_pair, pair}
 use Rattle.pgn_game.proofs.AllOfJoined.{all_front, all_behind}
 
 -- a kind that has a text of its own, and is made as it has to be

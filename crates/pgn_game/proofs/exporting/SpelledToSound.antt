@@ -1,15 +1,6 @@
 -- What is known of a game that a text spells: its tokens are sound, and its comments close.
-use Rattle.std.proofs.Common.{◌≡◌, ℕ, ◌+◌, Bool, true, false, List, [], ◌∷◌, ◌++◌, refl, sym, ap, subst, ◌∙◌, append_assoc, Some, ◌||◌, codes, bytes_eq}
-use Rattle.std.specs.List.{AllByRecursion, list_all}
-use Rattle.std.proofs.ByRecursion.{All-append}
-use Rattle.std.proofs.lemmas.Bool.{false≢true, and_parts}
-use Rattle.pgn_lexer.specs.Sound.{IsSoundKind, CommentsClose}
+use Rattle.pgn_game.proofs.Words.{◌≡◌, ℕ, ◌+◌, Bool, true, false, List, [], ◌∷◌, ◌++◌, refl, sym, ap, subst, ◌∙◌, append_assoc, Some, ◌||◌, codes, bytes_eq, AllByRecursion, list_all, All-append, false≢true, and_parts, IsSoundKind, CommentsClose, written, is_comment, is_score, is_result, marker_of, Parts, Kind, Item, Game, Pair, value_of, Profile, Level, start_of, AreDropped, SpellsPair, pair, SpellsPairs, no_pair, next_pair, KeepsTags, by_name, IsSetUp, SpellsText, no_more, token, move, variation, StandsFor, number, new_level, BeginsBare, IsResult, SpellsGame}
 use Rattle.pgn_lexer.specs.Tokens as tokens
-use Rattle.pgn_lexer.specs.Written.{written}
-use Rattle.pgn_game.specs.FaultTable.{is_comment, is_score, is_result, marker_of}
-use Rattle.pgn_game.proofs.Words.{Parts, Kind, Item, Game, Pair, value_of, Profile}
-use Rattle.pgn_game.specs.Levels.{Level, start_of}
-use Rattle.pgn_game.specs.Spells.{AreDropped, SpellsPair, pair, SpellsPairs, no_pair, next_pair, KeepsTags, by_name, IsSetUp, SpellsText, no_more, token, move, variation, StandsFor, number, new_level, BeginsBare, IsResult, SpellsGame}
 use Rattle.pgn_game.proofs.AllOfJoined.{all_front, all_behind}
 use Rattle.pgn_game.proofs.refusals.RefusalsInMovetext.{score_of}
 use Rattle.pgn_game.proofs.exporting.PiecesToTokens.{IsSoundPair, IsWritable}

@@ -1,11 +1,5 @@
 -- The order of names is a strict order of all names; and pairs in this order.
-use Rattle.std.proofs.Common.{◌≡◌, ℕ, ◌<◌, ◌⊎◌, inl, inr, Bool, true, false, cond, List, [], ◌∷◌, refl, sym, ap, ◌∙◌, arith, None, Some, le-ltb, lt-ltb, eq-eqb, ◌||◌, ◌&&◌, ◌==◌, nat_lt, bytes_eq, filter, is_some}
-use Rattle.std.specs.List.{AllByRecursion}
-use Rattle.std.proofs.ByRecursion.{All-weaker, all_kept_by}
-use Rattle.std.proofs.lemmas.Option.{none-some, same_Some}
-use Rattle.std.proofs.lemmas.Bool.{false≢true, or_cases, and_parts, ltb-true, eqb-true, cases_order}
-use Rattle.pgn_game.specs.Pairs.{Pair, value_of, has_pair, comes_before, insert_pair}
-use Rattle.pgn_game.specs.Spells.{AreDistinct}
+use Rattle.pgn_game.proofs.Words.{◌≡◌, ℕ, ◌<◌, ◌⊎◌, inl, inr, Bool, true, false, cond, List, [], ◌∷◌, refl, sym, ap, ◌∙◌, arith, None, Some, le-ltb, lt-ltb, eq-eqb, ◌||◌, ◌&&◌, ◌==◌, nat_lt, bytes_eq, filter, is_some, AllByRecursion, All-weaker, all_kept_by, none-some, same_Some, false≢true, or_cases, and_parts, ltb-true, eqb-true, cases_order, Pair, value_of, has_pair, comes_before, insert_pair, AreDistinct}
 use Rattle.pgn_game.proofs.pairs.ValuesByName.{bytes_eq-true, bytes_eq-refl, pick, value_of-cons, not_among, all-insert}
 
 -- Names, byte after byte.

@@ -1,13 +1,6 @@
 -- Where a game begins, from its pairs.
-use Rattle.std.proofs.Common.{◌≡◌, ℕ, ◌&&◌, Bool, true, false, not, List, Option, None, Some, refl, sym, ap, ◌∙◌, codes, bytes_eq, is_ok, is_some, unwrap_or, IsTrue, Result, Ok, Err}
-use Rattle.chess_text.specs.declared.fen.FenFault.{FenFault}
+use Rattle.pgn_game.proofs.Words.{◌≡◌, ℕ, ◌&&◌, Bool, true, false, not, List, Option, None, Some, refl, sym, ap, ◌∙◌, codes, bytes_eq, is_ok, is_some, unwrap_or, IsTrue, Result, Ok, Err, FenFault, not-false, position_of, Parts, Pair, value_of, has_pair, insert_pair, start_of, start_by, position_or_first, fen_fault_field, fen_field, fen_position}
 use Rattle.chess_text.specs.Fen.{read as read_text}
-use Rattle.std.proofs.lemmas.Bool.{not-false}
-use Rattle.pgn_game.specs.Chess.{position_of}
-use Rattle.pgn_game.proofs.Words.{Parts, Pair, value_of, has_pair, insert_pair}
-use Rattle.pgn_game.specs.Levels.{start_of, start_by, position_or_first}
-use Rattle.pgn_game.specs.FaultTable.{fen_fault_field, fen_field}
-use Rattle.pgn_game.specs.TokenInMovetext.{fen_position}
 use Rattle.pgn_game.proofs.pairs.ValuesByName.{pick, value_of-put, value_of-insert, bytes_eq-true, bytes_eq-refl}
 
 -- what a pair tells of where its game begins, from whether it is a FEN, and from what its value is

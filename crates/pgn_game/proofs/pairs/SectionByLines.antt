@@ -1,11 +1,5 @@
 -- A tag section is its lines one by one.
-use Rattle.std.proofs.Common.{◌≡◌, ℕ, suc, ◌+◌, Bool, true, false, cond, List, [], ◌∷◌, ◌++◌, take, drop, refl, ap, sym, subst, ◌∙◌, append_assoc, arith, map, not, ◌||◌, unwrap_or, bytes_eq, codes}
-use Rattle.std.proofs.lemmas.Bool.{false≢true, or_right}
-use Rattle.pgn_layout.specs.TagLine.{tag_line}
-use Rattle.pgn_game.proofs.Words.{Mode, Full, Reduced, Pair, value_of, has_pair, comes_before, insert_pair}
-use Rattle.pgn_game.specs.StoredPairs.{index_of}
-use Rattle.pgn_game.specs.TagSection.{roster, in_roster, roster_pairs, other_pairs, with_set_up, tag_lines, tag_section}
-use Rattle.pgn_game.specs.SectionLines.{text_by, roster_line, other_line}
+use Rattle.pgn_game.proofs.Words.{◌≡◌, ℕ, suc, ◌+◌, Bool, true, false, cond, List, [], ◌∷◌, ◌++◌, take, drop, refl, ap, sym, subst, ◌∙◌, append_assoc, arith, map, not, ◌||◌, unwrap_or, bytes_eq, codes, false≢true, or_right, tag_line, Mode, Full, Reduced, Pair, value_of, has_pair, comes_before, insert_pair, index_of, roster, in_roster, roster_pairs, other_pairs, with_set_up, tag_lines, tag_section, text_by, roster_line, other_line}
 use Rattle.pgn_game.proofs.pairs.ExportedValues.{without_set_up, set_up, set_up_if}
 use Rattle.pgn_game.proofs.pairs.ValuesByName.{bytes_eq-true}
 

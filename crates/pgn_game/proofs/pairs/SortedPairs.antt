@@ -1,14 +1,9 @@
 -- The order of names, and places in it.
-use Rattle.std.proofs.Common.{◌≡◌, ℕ, suc, ◌+◌, ◌-◌, ◌<◌, ◌≤◌, Bool, true, false, List, [], ◌∷◌, ◌++◌, length, refl, sym, ap, subst, ◌∙◌, arith, Option, None, Some, insert, IsTrue, IsSome, is_some, IfSome, IsSomeAnd, take, drop, set, get_or}
-use Rattle.std.specs.List.{refill}
-use Rattle.std.proofs.Math.Seq.{take-append_seam, take-suc}
-use Rattle.std.proofs.lemmas.List.{length-take-le, length-set, length-append, take_more_set, take-append-le}
+use Rattle.pgn_game.proofs.Words.{◌≡◌, ℕ, suc, ◌+◌, ◌-◌, ◌<◌, ◌≤◌, Bool, true, false, List, [], ◌∷◌, ◌++◌, length, refl, sym, ap, subst, ◌∙◌, arith, Option, None, Some, insert, IsTrue, IsSome, is_some, IfSome, IsSomeAnd, take, drop, set, get_or, refill, take-append_seam, take-suc, length-take-le, length-set, take_more_set, take-append-le, nat_tests, Pair, comes_before, insert_pair, TagPairs, FitsPairStore, index_of, last_name, but_last, pairs_seen}
+use Rattle.std.proofs.lemmas.List.{length-append}
 use Rattle.std.specs.Ordering.{nat_cmp, is_lt, is_some_and}
 use Rattle.std.specs.Cmp.Lexicographic.{slice_partial_cmp}
 use Rattle.std.proofs.lemmas.Cmp.{same_from_slice_cmp_tested}
-use Rattle.std.proofs.lemmas.Bool.Decides.{nat_tests}
-use Rattle.pgn_game.specs.Pairs.{Pair, comes_before, insert_pair}
-use Rattle.pgn_game.specs.StoredPairs.{TagPairs, FitsPairStore, index_of, last_name, but_last, pairs_seen}
 
 pub is_comes_before : (xs ys : List ℕ) (r : Bool) → r ≡ is_some_and is_lt (slice_partial_cmp (λ x y. Some (nat_cmp x y)) xs ys) → r ≡ comes_before xs ys
 is_comes_before = same_from_slice_cmp_tested nat_cmp is_lt comes_before refl (λ _ _. refl) (λ _ _. refl) (λ x y xs ys o h. grind (arith, nat_tests))

@@ -1,27 +1,12 @@
 -- What an item adds to the movetext that is held.
-use Rattle.std.proofs.Common.{◌≡◌, ℕ, ◌+◌, ◌<◌, ◌≤◌, Bool, true, false, cond, List, [], ◌∷◌, ◌++◌, map, length, drop, Option, Some, refl, sym, ap, subst, ◌∙◌, append_assoc, append-nil, arith, All, ◌==◌, ◌&&◌, IsTrue, is_some, IfSome, Result, Ok, Err, IsErr, OnOk, unwrap_or}
-use Rattle.std.specs.Io.KnownBytes.{Appends}
-use Rattle.std.proofs.lemmas.List.Elements.{All-nil, All-cons, All-head, All-tail, All-append}
-use Rattle.std.proofs.lemmas.List.{length-map}
+use Rattle.pgn_game.proofs.Words.{◌≡◌, ℕ, ◌+◌, ◌<◌, ◌≤◌, Bool, true, false, cond, List, [], ◌∷◌, ◌++◌, map, length, drop, Option, Some, refl, sym, ap, subst, ◌∙◌, append_assoc, append-nil, arith, All, ◌==◌, ◌&&◌, IsTrue, is_some, IfSome, Result, Ok, Err, IsErr, OnOk, unwrap_or, Appends, All-nil, All-cons, All-head, All-tail, length-map, drop-append_seam, Move, legal, AppendsFront, Counts, Device, Writes, IsToken, lines_of, full_lines, last_line, text_of as text_of_lines, Put, laid_from, text_put, line_put, Parts, Played, Mode, Full, Reduced, play, text_of_move, Item, open_variation, close_variation, Level as ModelLevel, Levels as ModelLevels, levels_after, levels_of, depth, here, outermost, main_moves, Placed, is_move, tokens_at, tokens_from, tokens_out, full_text, StoredLevels, Movetext, level_at, ClosesLevel, before_last, stored_level, stored_levels, ends_in_move, HoldsItems, ItemFits, model_item, PutsTokens, GoesOn, Plays, LeadsLevels, counted_at, writes, tokens_due, tokens_if, after_move_if, plies_in, item_text, Adds, WritesItem}
+use Rattle.std.proofs.lemmas.List.Elements.{All-append}
 use Rattle.std.proofs.Math.Dec.{eqb-suc-zero}
-use Rattle.std.proofs.Math.Seq.{drop-append_seam}
-use Rattle.chess_rules.specs.declared.position.Move.{Move}
-use Rattle.chess_rules.specs.Legal.{legal}
 use Rattle.chess_text.specs.San.{san, MarkPairs, disambiguation_pairs}
 use Rattle.pgn_layout.specs.declared.sink.WriteFault.{WriteFault}
-use Rattle.pgn_layout.specs.Device.{AppendsFront, Counts, Device, Writes}
-use Rattle.pgn_layout.specs.Lines.{IsToken, lines_of, full_lines, last_line, text_of as text_of_lines}
-use Rattle.pgn_layout.specs.Layout.{Put, laid_from, text_put, line_put}
 use Rattle.pgn_game.specs.declared.annotation.Annotation.{Annotation}
 use Rattle.pgn_game.specs.declared.annotation.Annotation.TheVariants as code
-use Rattle.pgn_game.proofs.Words.{Parts, Played, Mode, Full, Reduced}
-use Rattle.pgn_game.specs.Chess.{play, text_of_move}
-use Rattle.pgn_game.specs.Game.{Item, move, open_variation, close_variation}
-use Rattle.pgn_game.specs.Levels.{Level as ModelLevel, Levels as ModelLevels, levels_after, levels_of, depth, here, outermost, main_moves}
-use Rattle.pgn_game.specs.Text.{Placed, is_move, tokens_at, tokens_from, tokens_out, full_text}
-use Rattle.pgn_game.specs.Movetext.{StoredLevels, Movetext, level_at, ClosesLevel, before_last, stored_level, stored_levels, ends_in_move, HoldsItems}
-use Rattle.pgn_game.specs.TokenInMovetext.{ItemFits, model_item}
-use Rattle.pgn_game.specs.ItemResult.{PutsTokens, GoesOn, Plays, LeadsLevels, counted_at, writes, tokens_due, tokens_if, after_move_if, plies_in, item_text, Adds, WritesItem}
+use Rattle.pgn_game.specs.Game.{move}
 use Rattle.pgn_game.proofs.reading.MovetextTokens.{levels_more}
 use Rattle.pgn_game.proofs.putting.WritesInTurn.{front_of_more, Writes-append}
 use Rattle.pgn_game.proofs.putting.ItemsAppended.{written_from_start, written_behind, written_more, tokens_behind, tokens_more, full_lines_put, last_line_put}

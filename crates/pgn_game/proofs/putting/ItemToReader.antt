@@ -1,28 +1,9 @@
 -- What putting a token of movetext adds to what stands written of its game, and to the reader.
-use Rattle.std.proofs.Common.{◌≡◌, max, ℕ, ◌<◌, ◌≤◌, Bool, true, false, ◌||◌, ◌==◌, List, [], ◌∷◌, ◌++◌, length, drop, Option, None, refl, sym, ap, subst, ◌∙◌, append-nil, length-append, arith, IsTrue, Ok, Err}
-use Rattle.std.specs.List.{list_any}
-use Rattle.std.proofs.lemmas.List.Folds.{list_any-append}
+use Rattle.pgn_game.proofs.Words.{◌≡◌, max, ℕ, ◌<◌, ◌≤◌, Bool, true, false, ◌||◌, ◌==◌, List, [], ◌∷◌, ◌++◌, length, drop, Option, None, refl, sym, ap, subst, ◌∙◌, append-nil, length-append, arith, IsTrue, Ok, Err, list_any, list_any-append, drop-append-add, drop-length, Appends-trans, Appends, Move, AppendsFront, Device, one_more, Parts, Mode, Full, Reduced, Stage, Between, AfterTags, InMovetext, Profile, known_result, Pair, Item, Part, More, is_at, stage_number, start_of, tag_section, is_move, full_text, torn_at, has_move, Next, going, Movetext, HoldsItems, ReaderState, Agrees, as_written, HoldsPairs, HoldsText, plies_behind, whole_plies, IsOpen, may_have_movetext, with_items, Adds, BeginsText, Goes, Keeps, PutResult, PutsItems, gain_to, section_due, section_due_of}
 use Rattle.std.proofs.Math.Nat.{le-max_left}
-use Rattle.std.proofs.Math.Seq.{drop-append-add, drop-length}
-use Rattle.std.proofs.KnownBytes.{Appends-trans}
-use Rattle.std.specs.Io.KnownBytes.{Appends}
-use Rattle.chess_rules.specs.declared.position.Move.{Move}
 use Rattle.pgn_layout.specs.declared.sink.WriteFault.{WriteFault}
-use Rattle.pgn_layout.specs.Device.{AppendsFront, Device, one_more}
-use Rattle.pgn_game.proofs.Words.{Parts, Mode, Full, Reduced, Stage, Between, AfterTags, InMovetext, Profile, known_result, Pair, Item, Part}
-use Rattle.pgn_game.specs.declared.accepted.Accepted.TheVariants.{More}
 use Rattle.pgn_game.specs.declared.reason.Reason.TheVariants as reasons
-use Rattle.pgn_game.specs.FaultTable.{is_at, stage_number}
-use Rattle.pgn_game.specs.Levels.{start_of}
-use Rattle.pgn_game.specs.TagSection.{tag_section}
-use Rattle.pgn_game.specs.Text.{is_move, full_text, torn_at, has_move}
-use Rattle.pgn_game.specs.Progress.{Next, going}
 use Rattle.pgn_game.specs.Game.{move}
-use Rattle.pgn_game.specs.Movetext.{Movetext, HoldsItems}
-use Rattle.pgn_game.specs.ReaderState.{ReaderState, Agrees, as_written, HoldsPairs, HoldsText, plies_behind, whole_plies}
-use Rattle.pgn_game.specs.TokenInMovetext.{IsOpen, may_have_movetext, with_items}
-use Rattle.pgn_game.specs.ItemResult.{Adds}
-use Rattle.pgn_game.specs.PutResult.{BeginsText, Goes, Keeps, PutResult, PutsItems, gain_to, section_due, section_due_of}
 use Rattle.pgn_game.proofs.putting.WritesInTurn.{front_after, front_of_more}
 use Rattle.pgn_game.proofs.putting.ItemToMovetext.{from_to}
 

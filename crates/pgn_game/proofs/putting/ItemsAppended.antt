@@ -1,12 +1,6 @@
 -- Movetext of more items: its tokens, and the lines that are full.
-use Rattle.std.proofs.Common.{◌≡◌, ℕ, ◌<◌, Bool, true, false, List, [], ◌∷◌, ◌++◌, length, refl, sym, ap, subst, ◌∙◌, append_assoc, append-nil, length-append, arith, All, fold}
-use Rattle.std.proofs.lemmas.List.Elements.{filter-append, All-nil, All-cons, All-head, All-tail, All-append}
-use Rattle.pgn_layout.specs.Lines.{IsToken, has_room, lines_from, lines_of, full_lines, last_line, text_of as text_of_lines}
-use Rattle.pgn_layout.specs.Layout.{Put, EndGame, ended, text_put, line_put, text_at, line_at}
-use Rattle.pgn_game.proofs.Words.{Parts, Mode, Full, Reduced, Item}
-use Rattle.pgn_game.specs.Levels.{Levels, levels_after, levels_of, first_level, depth, here}
-use Rattle.pgn_game.specs.Text.{Placed, placed_from, is_move, is_main_move, written_items, tokens_at, tokens_from, tokens_out, full_text}
-use Rattle.pgn_game.specs.Movetext.{ends_in_move}
+use Rattle.pgn_game.proofs.Words.{◌≡◌, ℕ, ◌<◌, Bool, true, false, List, [], ◌∷◌, ◌++◌, length, refl, sym, ap, subst, ◌∙◌, append_assoc, append-nil, length-append, arith, All, fold, filter-append, All-nil, All-cons, All-head, All-tail, IsToken, has_room, lines_from, lines_of, full_lines, last_line, text_of as text_of_lines, Put, EndGame, ended, text_put, line_put, text_at, line_at, Parts, Mode, Full, Reduced, Item, Levels, levels_after, levels_of, first_level, depth, here, Placed, placed_from, is_move, is_main_move, written_items, tokens_at, tokens_from, tokens_out, full_text, ends_in_move}
+use Rattle.std.proofs.lemmas.List.Elements.{All-append}
 use Rattle.pgn_game.specs.Laws.{IsPrefix}
 
 -- Lines.

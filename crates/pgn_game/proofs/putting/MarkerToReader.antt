@@ -1,28 +1,7 @@
 -- What putting a marker comes to, and a token of movetext whose section cannot be written.
-use Rattle.std.proofs.Common.{◌≡◌, ℕ, List, [], ◌∷◌, ◌++◌, length, drop, Option, refl, sym, ap, subst, ◌∙◌, append_assoc, arith, IsTrue, Ok, Err, All, lit<, lit≤}
-use Rattle.std.proofs.Math.Seq.{drop-append_seam}
-use Rattle.std.proofs.KnownBytes.{Appends-trans}
-use Rattle.std.specs.Io.KnownBytes.{Appends}
-use Rattle.chess_rules.specs.declared.position.Move.{Move}
+use Rattle.pgn_game.proofs.Words.{◌≡◌, ℕ, List, [], ◌∷◌, ◌++◌, length, drop, Option, refl, sym, ap, subst, ◌∙◌, append_assoc, arith, IsTrue, Ok, Err, All, lit<, lit≤, drop-append_seam, Appends-trans, Appends, Move, AppendsFront, Device, one_more, IsToken, lines_of, full_lines, last_line, text_of as text_of_lines, Put, EndGame, text_at, line_at, Finished, Marker, WhiteWins, BlackWins, Draw, Unknown, marker_text, Mode, Stage, Between, AfterTags, InMovetext, Profile, counts_as, known_result, Pair, Item, Part, Level as ModelLevel, Levels as ModelLevels, depth, start_of, outermost, replayed, last_position, tag_section, levels_of_part, tokens_out, full_text, torn_for, Next, whole, StoredLevel, ReaderState, IsBehind, as_written, plies_behind, IsOpen, game_of, may_have_movetext, BeginsText, PutResult, gain_to, section_due, section_due_of}
 use Rattle.pgn_layout.specs.declared.sink.WriteFault.{WriteFault}
-use Rattle.pgn_layout.specs.Device.{AppendsFront, Device, one_more}
-use Rattle.pgn_layout.specs.Lines.{IsToken, lines_of, full_lines, last_line, text_of as text_of_lines}
-use Rattle.pgn_layout.specs.Layout.{Put, EndGame, text_at, line_at}
-use Rattle.pgn_game.specs.declared.accepted.Accepted.TheVariants.{Finished}
-use Rattle.pgn_game.specs.declared.marker.Marker.{Marker}
-use Rattle.pgn_game.specs.declared.marker.Marker.TheVariants.{WhiteWins, BlackWins, Draw, Unknown}
-use Rattle.pgn_game.specs.Markers.{marker_text}
 use Rattle.pgn_game.specs.declared.reason.Reason.TheVariants as reasons
-use Rattle.pgn_game.proofs.Words.{Mode, Stage, Between, AfterTags, InMovetext, Profile, counts_as, known_result, Pair, Item, Part}
-use Rattle.pgn_game.specs.Levels.{Level as ModelLevel, Levels as ModelLevels, depth, start_of, outermost, replayed, last_position}
-use Rattle.pgn_game.specs.TagSection.{tag_section}
-use Rattle.pgn_game.specs.FaultTable.{levels_of_part}
-use Rattle.pgn_game.specs.Text.{tokens_out, full_text, torn_for}
-use Rattle.pgn_game.specs.Progress.{Next, whole}
-use Rattle.pgn_game.specs.Movetext.{StoredLevel}
-use Rattle.pgn_game.specs.ReaderState.{ReaderState, IsBehind, as_written, plies_behind}
-use Rattle.pgn_game.specs.TokenInMovetext.{IsOpen, game_of, may_have_movetext}
-use Rattle.pgn_game.specs.PutResult.{BeginsText, PutResult, gain_to, section_due, section_due_of}
 use Rattle.pgn_game.proofs.putting.WritesInTurn.{front_of_more, front_after}
 use Rattle.pgn_game.proofs.putting.ItemToMovetext.{from_to}
 use Rattle.pgn_game.proofs.putting.ItemsAppended.{game_ends}

@@ -1,11 +1,6 @@
 -- Numbers in movetext as tokens, and one token put in turn.
-use Rattle.std.proofs.Common.{◌≡◌, ℕ, ◌<◌, ◌≤◌, ◌^◌, List, [], ◌∷◌, ◌++◌, length, decimal, Result, OnOk, sym, subst, append-nil, length-append, arith}
+use Rattle.pgn_game.proofs.Words.{◌≡◌, ℕ, ◌<◌, ◌≤◌, ◌^◌, List, [], ◌∷◌, ◌++◌, length, decimal, Result, OnOk, sym, subst, append-nil, length-append, arith, All-nil, All-cons, Counts, Device, Writes, IsToken, Put, text_at, line_at, PutsTokens}
 use Rattle.std.proofs.lemmas.Fmt.{decimal_nonempty, length-decimal-le}
-use Rattle.std.proofs.lemmas.List.Elements.{All-nil, All-cons}
-use Rattle.pgn_layout.specs.Device.{Counts, Device, Writes}
-use Rattle.pgn_layout.specs.Lines.{IsToken}
-use Rattle.pgn_layout.specs.Layout.{Put, text_at, line_at}
-use Rattle.pgn_game.specs.ItemResult.{PutsTokens}
 
 -- the digits of a move number, and its periods
 pub number_token : (n : ℕ) (periods : List ℕ) → n < 2 ^ 32 → length periods ≤ 3 → IsToken (decimal n ++ periods)

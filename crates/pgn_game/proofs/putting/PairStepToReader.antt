@@ -1,19 +1,6 @@
 -- What putting a step of the tag section does, or nothing.
-use Rattle.std.proofs.Common.{◌≡◌, ℕ, ◌≤◌, false, List, [], length, drop, Option, None, Some, refl, sym, ap, subst, ◌∙◌, le_refl, arith, IfSome, Ok}
-use Rattle.std.proofs.Math.Seq.{drop-length}
+use Rattle.pgn_game.proofs.Words.{◌≡◌, ℕ, ◌≤◌, false, List, [], length, drop, Option, None, Some, refl, sym, ap, subst, ◌∙◌, le_refl, arith, IfSome, Ok, drop-length, Appends, Appends-nil, Parts, Stage, Between, AfterLeftBracket, AfterTags, AfterName, AfterValue, InMovetext, Profile, Missing, counts_as, takes_the_marker, Pair, has_pair, insert_pair, Item, Part, More, start_of, TagPairs, torn, torn_for, Next, at_stage, going, Movetext, movetext_from, movetext_after_fen, ReaderState, Agrees, as_written, plies_behind, fen_position, Goes, PutResult, gain_to}
 use Rattle.std.proofs.Math.ListN.{drop_of_length-le}
-use Rattle.std.specs.Io.KnownBytes.{Appends}
-use Rattle.std.proofs.KnownBytes.{Appends-nil}
-use Rattle.pgn_game.proofs.Words.{Parts, Stage, Between, AfterLeftBracket, AfterTags, AfterName, AfterValue, InMovetext, Profile, Missing, counts_as, takes_the_marker, Pair, has_pair, insert_pair, Item, Part}
-use Rattle.pgn_game.specs.declared.accepted.Accepted.TheVariants.{More}
-use Rattle.pgn_game.specs.Levels.{start_of}
-use Rattle.pgn_game.specs.StoredPairs.{TagPairs}
-use Rattle.pgn_game.specs.Text.{torn, torn_for}
-use Rattle.pgn_game.specs.Progress.{Next, at_stage, going}
-use Rattle.pgn_game.specs.Movetext.{Movetext, movetext_from, movetext_after_fen}
-use Rattle.pgn_game.specs.ReaderState.{ReaderState, Agrees, as_written, plies_behind}
-use Rattle.pgn_game.specs.TokenInMovetext.{fen_position}
-use Rattle.pgn_game.specs.PutResult.{Goes, PutResult, gain_to}
 use Rattle.pgn_game.proofs.putting.ItemToMovetext.{from_to}
 use Rattle.pgn_game.proofs.refusals.ReaderToPart.{begun_name, held_at, text_at}
 use Rattle.pgn_game.proofs.putting.ItemToReader.{more_comes}

@@ -1,20 +1,9 @@
 -- Each move that is read is legal where it stands.
-use Rattle.std.proofs.Common.{◌≡◌, ℕ, Bool, true, false, List, [], ◌∷◌, ◌++◌, Option, None, Some, Result, Ok, refl, sym, ap, subst, ◌∙◌, ◌⊎◌, inl, inr, IsTrue, option_map, is_some}
-use Rattle.std.specs.List.{list_all}
-use Rattle.std.proofs.lemmas.Bool.{and_from}
-use Rattle.std.proofs.lemmas.List.Folds.{list_all-append}
-use Rattle.chess_rules.specs.Legal.{legal}
+use Rattle.pgn_game.proofs.Words.{◌≡◌, ℕ, Bool, true, false, List, [], ◌∷◌, ◌++◌, Option, None, Some, Result, Ok, refl, sym, ap, subst, ◌∙◌, ◌⊎◌, inl, inr, IsTrue, option_map, is_some, list_all, and_from, list_all-append, legal, TheOneMoveIsRead, Parts, Played, SanFault, Kind, Token, Reason, Stage, Between, AfterLeftBracket, AfterName, AfterValue, AfterTags, InMovetext, Profile, Pair, Item, Game, Part, move_of, Levels, here, levels_of, start_of, first_level, is_number, marker_of, position_in, levels_of_part, refusal, placed_from, Next, going, whole, next, next_in, in_text, move_item, items_of, Progress, progress_with, progress_after, no_progress, read_from}
 use Rattle.chess_text.specs.declared.form.Form.{Form}
 use Rattle.chess_text.specs.Form.{form_of}
 use Rattle.chess_text.specs.MoveOfForm.{move_of_form}
-use Rattle.chess_text.specs.Laws.{TheOneMoveIsRead}
 use Rattle.pgn_lexer.specs.Tokens as tokens
-use Rattle.pgn_game.proofs.Words.{Parts, Played, SanFault, Kind, Token, Reason, Stage, Between, AfterLeftBracket, AfterName, AfterValue, AfterTags, InMovetext, Profile, Pair, Item, Game, Part}
-use Rattle.pgn_game.specs.Chess.{move_of}
-use Rattle.pgn_game.specs.Levels.{Levels, here, levels_of, start_of, first_level}
-use Rattle.pgn_game.specs.FaultTable.{is_number, marker_of, position_in, levels_of_part, refusal}
-use Rattle.pgn_game.specs.Text.{placed_from}
-use Rattle.pgn_game.specs.Progress.{Next, going, whole, next, next_in, in_text, move_item, items_of, Progress, progress_with, progress_after, no_progress, read_from}
 use Rattle.pgn_game.specs.MovesAreLegal.{is_legal_at, plays_legally, MovesAreLegal}
 use Rattle.pgn_game.proofs.tokens.OneMoreToken.{after_test, read_from-test}
 use Rattle.pgn_game.proofs.putting.ItemsAppended.{placed-append}

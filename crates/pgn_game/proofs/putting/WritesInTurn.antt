@@ -1,12 +1,5 @@
 -- Texts written in turn.
-use Rattle.std.proofs.Common.{◌≡◌, ℕ, ◌+◌, ◌<◌, List, [], ◌∷◌, ◌++◌, length, take, drop, get_or, Option, ap, sym, subst, ◌∙◌, refl, add-one, append-nil, append_assoc, length-append, arith, Some, slice_get, Result, Ok, Err}
-use Rattle.std.proofs.Math.Seq.{take-suc, take-append-add}
-use Rattle.std.proofs.lemmas.List.{take-append-drop, take-append-le}
-use Rattle.std.proofs.lemmas.Option.{slice_get_within, get_or_from_slice_get}
-use Rattle.std.proofs.KnownBytes.{Appends-trans}
-use Rattle.std.specs.Io.KnownBytes.{Appends}
-use Rattle.pgn_layout.specs.Device.{AppendsFront, Counts, Writes, one_more}
-use Rattle.pgn_game.specs.SectionLines.{text_by}
+use Rattle.pgn_game.proofs.Words.{◌≡◌, ℕ, ◌+◌, ◌<◌, List, [], ◌∷◌, ◌++◌, length, take, drop, get_or, Option, ap, sym, subst, ◌∙◌, refl, add-one, append-nil, append_assoc, length-append, arith, Some, slice_get, Result, Ok, Err, take-suc, take-append-add, take-append-drop, take-append-le, slice_get_within, get_or_from_slice_get, Appends-trans, Appends, AppendsFront, Counts, Writes, one_more, text_by}
 
 -- a front of a text is one of a longer text
 pub front_of_more : (a b : Option (List ℕ)) (text more : List ℕ) → AppendsFront a b text → AppendsFront a b (text ++ more)

@@ -1,13 +1,7 @@
 -- Worked rows of the grammar: what some inputs spell, and what they don't.
-use Rattle.std.proofs.Common.{◌≡◌, ℕ, ◌<◌, List, [], ◌∷◌, map, refl, ap, inl, arith, codes}
+use Rattle.pgn_game.proofs.Words.{◌≡◌, ℕ, ◌<◌, List, [], ◌∷◌, map, refl, ap, inl, arith, codes, tokens_of, RisesTo, Played, Full, Profile, counts_as, Pair, Item, Game, first_position, refusal, Spells, SpellsText, Names, pair, no_pair, next_pair, no_game, next_game, no_more, token, move, variation, number, period, comment_open, word, comment_close, new_level, level_after_move}
 use Rattle.pgn_lexer.specs.Tokens as tokens
-use Rattle.pgn_lexer.specs.TokensOf.{tokens_of}
-use Rattle.pgn_lexer.specs.Laws.{RisesTo}
-use Rattle.pgn_game.proofs.Words.{Played, Full, Profile, counts_as, Pair, Item, Game}
-use Rattle.pgn_game.specs.Chess.{first_position}
 use Rattle.pgn_game.specs.Game as games
-use Rattle.pgn_game.specs.FaultTable.{refusal}
-use Rattle.pgn_game.specs.Spells.{Spells, SpellsText, Names, pair, no_pair, next_pair, no_game, next_game, no_more, token, move, variation, number, period, comment_open, word, comment_close, new_level, level_after_move}
 use Rattle.pgn_game.proofs.reading.RunsToEnd.{kinds, runs_as_read}
 use Rattle.pgn_game.proofs.reading.GrammarToReading.{games_run}
 

@@ -1,15 +1,7 @@
 -- Where a token of movetext leads, and when a marker is the Result.
-use Rattle.std.proofs.Common.{◌≡◌, ℕ, Bool, true, false, ◌||◌, not, List, [], ◌∷◌, ◌++◌, Option, None, Some, refl, ap, ◌∙◌, append-nil, codes, bytes_eq, unwrap_or, IsFalse}
-use Rattle.std.proofs.lemmas.List.Sums.{fold-append}
-use Rattle.std.proofs.lemmas.Bool.{not-false}
-use Rattle.std.proofs.lemmas.Slice.Eq.{bytes_eq-Decides}
+use Rattle.pgn_game.proofs.Words.{◌≡◌, ℕ, Bool, true, false, ◌||◌, not, List, [], ◌∷◌, ◌++◌, Option, None, Some, refl, ap, ◌∙◌, append-nil, codes, bytes_eq, unwrap_or, IsFalse, fold-append, not-false, bytes_eq-Decides, Kind, InMovetext, Profile, Missing, counts_as, takes_the_marker, Pair, Item, levels_of, levels_after, first_level, refusal, is_score, is_number, is_end, result_for, next, going, StandsFor, number, glyph, comment_open, word, comment_close, IsResult}
 use Rattle.pgn_lexer.specs.Tokens as tokens
-use Rattle.pgn_game.proofs.Words.{Kind, InMovetext, Profile, Missing, counts_as, takes_the_marker, Pair, Item}
 use Rattle.pgn_game.specs.Game as games
-use Rattle.pgn_game.specs.Levels.{levels_of, levels_after, first_level}
-use Rattle.pgn_game.specs.FaultTable.{refusal, is_score, is_number, is_end, result_for}
-use Rattle.pgn_game.specs.Progress.{next, going}
-use Rattle.pgn_game.specs.Spells.{StandsFor, number, glyph, comment_open, word, comment_close, IsResult}
 use Rattle.pgn_game.proofs.reading.RunsToEnd.{at}
 use Rattle.pgn_game.proofs.refusals.RefusalsByStage.{text_row}
 use Rattle.pgn_game.proofs.refusals.RefusalsInMovetext.{number_free, number_leads}

@@ -1,9 +1,6 @@
 -- Pairs that come one after another, and what is asked of each beside those before it.
-use Rattle.std.proofs.Common.{◌≡◌, ℕ, suc, ◌+◌, ◌<◌, ◌≤◌, Bool, true, false, List, [], ◌∷◌, length, refl, sym, ap, ◌∙◌, arith, Option, None, Some, IsFalse, bytes_eq}
-use Rattle.std.specs.List.{AllByRecursion, fold}
-use Rattle.std.proofs.lemmas.Bool.{or_parts, or_from}
-use Rattle.pgn_game.proofs.Words.{Profile, Pair, value_of, has_pair, insert_pair}
-use Rattle.pgn_game.specs.Spells.{IsPair, AreDistinct, KeepsTags}
+use Rattle.pgn_game.proofs.Words.{◌≡◌, ℕ, suc, ◌+◌, ◌<◌, ◌≤◌, Bool, true, false, List, [], ◌∷◌, length, refl, sym, ap, ◌∙◌, arith, Option, None, Some, IsFalse, bytes_eq, AllByRecursion, or_parts, or_from, Profile, Pair, value_of, has_pair, insert_pair, IsPair, AreDistinct, KeepsTags}
+use Rattle.std.specs.List.{fold}
 use Rattle.pgn_game.proofs.pairs.NameOrder.{InOrder, order-insert}
 use Rattle.pgn_game.proofs.pairs.ValuesByName.{bytes_eq-true, bytes_eq-sym, either_of, either_none, pick, value_of-cons, value_of-put, has-cons, has-insert, not_among, no_value, by_insert, all-insert}
 

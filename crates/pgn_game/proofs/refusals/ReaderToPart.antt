@@ -1,19 +1,6 @@
 -- What a reader holds of a part that it agrees with, and where a token of movetext meets its table.
-use Rattle.std.proofs.Common.{◌≡◌, ℕ, List, [], Bool, false, Option, None, Some, Bor, refl, sym, ap, subst, ◌∙◌, IsTrue}
-use Rattle.std.specs.Option.{option_copied, is_some}
-use Rattle.std.proofs.lemmas.List.Elements.{All-nil}
-use Rattle.pgn_layout.specs.Lines.{IsToken}
-use Rattle.pgn_lexer.specs.Scanned.{kind_of}
-use Rattle.pgn_lexer.specs.declared.token.TokenKind.{TokenKind}
-use Rattle.pgn_game.proofs.Words.{Parts, Mode, Full, Reduced, Stage, AfterLeftBracket, AfterName, AfterValue, AfterTags, InMovetext, Pair, value_of, has_pair, Item, Part}
-use Rattle.pgn_game.specs.StoredPairs.{TagPairs}
-use Rattle.pgn_game.specs.Levels.{here, levels_of, start_of}
-use Rattle.pgn_game.specs.FaultTable.{is_outside_tag_pairs, lacks_fen, position_in}
-use Rattle.pgn_game.specs.Progress.{at_stage}
-use Rattle.pgn_game.specs.Movetext.{Movetext, StoredLevels, HoldsItems, movetext_from}
-use Rattle.pgn_game.specs.Text.{has_move}
-use Rattle.pgn_game.specs.ReaderState.{ReaderState, Agrees, HoldsPairs, HoldsText}
-use Rattle.pgn_game.specs.TokenInMovetext.{IsEntry, IsOpen, may_have_movetext}
+use Rattle.pgn_game.proofs.Words.{◌≡◌, ℕ, List, [], Bool, false, Option, None, Some, Bor, refl, sym, ap, subst, ◌∙◌, IsTrue, option_copied, All-nil, IsToken, kind_of, TokenKind, Parts, Mode, Full, Reduced, Stage, AfterLeftBracket, AfterName, AfterValue, AfterTags, InMovetext, Pair, value_of, has_pair, Item, Part, TagPairs, here, levels_of, start_of, is_outside_tag_pairs, lacks_fen, position_in, at_stage, Movetext, StoredLevels, HoldsItems, movetext_from, has_move, ReaderState, Agrees, HoldsPairs, HoldsText, IsEntry, IsOpen, may_have_movetext}
+use Rattle.std.specs.Option.{is_some}
 use Rattle.pgn_game.proofs.refusals.RefusalsByStage.{is_textual, row_in_movetext, next_in_movetext, row_after_tags, next_after_tags}
 
 -- The part is at the reader's stage, and what the reader holds of it there.

@@ -1,20 +1,7 @@
 -- What the tokens of movetext are rejected for, and where they lead, for a part that is open.
-use Rattle.std.proofs.Common.{◌≡◌, subst, IsFalse, ℕ, Bool, true, false, ◌&&◌, ◌||◌, not, List, [], ◌∷◌, length, nat_le, Option, None, Some, Bor, refl, sym, ap, ◌∙◌, arith, is_some, ◌==◌, Result, Ok, Err, bytes_eq, codes, unwrap_or}
-use Rattle.std.proofs.lemmas.List.{length-map}
-use Rattle.std.proofs.lemmas.Bool.{or_right, or_from}
-use Rattle.std.specs.Option.{option_copied}
-use Rattle.chess_text.specs.declared.resolution.SanFault.TheVariants.{NoMove, Ambiguous}
-use Rattle.pgn_lexer.specs.Tokens.{Kind, asterisk, symbol}
-use Rattle.pgn_game.proofs.Words.{Parts, Played, SanFault, Reason, NotAMove, IllegalMove, AmbiguousMove, MoveLimit, MarkerInVariation, ResultDiffers, Profile, Missing, Pair, value_of, Part}
-use Rattle.pgn_game.specs.Chess.{move_of}
+use Rattle.pgn_game.proofs.Words.{◌≡◌, subst, IsFalse, ℕ, Bool, true, false, ◌&&◌, ◌||◌, not, List, [], ◌∷◌, length, nat_le, Option, None, Some, Bor, refl, sym, ap, ◌∙◌, arith, is_some, ◌==◌, Result, Ok, Err, bytes_eq, codes, unwrap_or, length-map, or_right, or_from, option_copied, NoMove, Ambiguous, Kind, asterisk, symbol, Parts, Played, SanFault, Reason, NotAMove, IllegalMove, AmbiguousMove, MoveLimit, MarkerInVariation, ResultDiffers, Profile, Missing, Pair, value_of, Part, move_of, Level as ModelLevel, depth, start_of, replayed, without_last, marker_of, is_number, is_score, is_at_limit, levels_of_part, position_in, result_for, Next, going, whole, in_text, move_item, items_of, StoredLevels, before_last, stored_level, ReaderState, is_outside_the_table, IsOpen, game_of, or_else, text_refusal, with_items}
 use Rattle.pgn_game.specs.Game as games
-use Rattle.pgn_game.specs.Levels.{Level as ModelLevel, depth, start_of, replayed, without_last}
-use Rattle.pgn_game.specs.FaultTable.{marker_of, is_number, is_score, is_at_limit, levels_of_part, position_in, result_for}
 use Rattle.pgn_game.specs.FoundMove.{found_in}
-use Rattle.pgn_game.specs.Progress.{Next, going, whole, in_text, move_item, items_of}
-use Rattle.pgn_game.specs.Movetext.{StoredLevels, before_last, stored_level}
-use Rattle.pgn_game.specs.ReaderState.{ReaderState, is_outside_the_table}
-use Rattle.pgn_game.specs.TokenInMovetext.{IsOpen, game_of, or_else, text_refusal, with_items}
 use Rattle.pgn_game.proofs.refusals.RefusalsByStage.{hit, pass, symbol_rows}
 
 -- The levels.

@@ -1,25 +1,7 @@
 -- What a class says of a byte, and what a test says of its class.
-use Rattle.std.proofs.Common.{◌≡◌, ℕ, ◌<◌, Bool, true, false, inl, inr, refl, sym, subst, ◌∙◌, arith}
-use Rattle.std.specs.Prelude.{◌||◌, ◌&&◌, ◌⊎◌, not, nat_le, ◌==◌, if◌then◌else◌}
-use Rattle.std.proofs.lemmas.Bool.{eqb-true, leb-true, false≢true, agree_below_at}
-use Rattle.pgn_lexer.specs.declared.token.LexReason.TheVariants.{StrayByte, ControlByte, Reserved}
+use Rattle.pgn_lexer.proofs.Words.{◌≡◌, ℕ, ◌<◌, Bool, true, false, inl, inr, refl, sym, subst, ◌∙◌, arith, ◌||◌, ◌&&◌, ◌⊎◌, not, nat_le, ◌==◌, if◌then◌else◌, eqb-true, leb-true, false≢true, agree_below_at, StrayByte, ControlByte, Reserved, Class, LineEnd, Space, Percent, SymbolStart, Quote, Dollar, Suffix, OpenBrace, Semicolon, Alone, Refused, CommentClass, is_line_end, is_blank, is_control, starts_symbol, is_suffix, continues_word, class, comment_class, is_stray, or_cases, and_parts}
 use Rattle.pgn_lexer.specs.declared.class.Single.TheVariants as singles
-use Rattle.pgn_lexer.specs.declared.class.Class.{Class}
-use Rattle.pgn_lexer.specs.declared.class.Class.TheVariants.{LineEnd, Space, Percent, SymbolStart, Quote, Dollar, Suffix, OpenBrace, Semicolon, Alone, Refused}
-use Rattle.pgn_lexer.specs.declared.class.CommentClass.{CommentClass}
 use Rattle.pgn_lexer.specs.declared.class.CommentClass.TheVariants as comments
-use Rattle.pgn_lexer.specs.Bytes.{is_line_end, is_blank, is_control, starts_symbol, is_suffix, continues_word}
-use Rattle.pgn_lexer.specs.Spelling.{class, comment_class}
-use Rattle.pgn_lexer.specs.Lexes.{is_stray}
-
--- a test of two that holds, or of one and another
-pub either : (a b : Bool) → (a || b) ≡ true → (a ≡ true) ⊎ (b ≡ true)
-either true b e = inl refl
-either false b e = inr e
-
-pub both : (a b : Bool) → (a && b) ≡ true → (a ≡ true) × (b ≡ true)
-both true b e = (refl, e)
-both false b e = absurd (false≢true e)
 
 -- from a class to what is said of the byte; the tests are those of `class`, in its order
 abbrev Says : (symbol line_end blank suffix percent quote dollar brace semicolon lb rb lp rp period asterisk reserved control : Bool) → Class → Type 0
@@ -69,7 +51,7 @@ abbrev pub ClassSays : ℕ → Class → Type 0
 ClassSays b c = Says (starts_symbol b) (is_line_end b) (is_blank b) (is_suffix b) (b == 37) (b == 34) (b == 36) (b == 123) (b == 59) (b == 91) (b == 93) (b == 40) (b == 41) (b == 46) (b == 42) ((b == 60) || (b == 62)) (is_control b) c
 
 pub class_says : (b : ℕ) → ClassSays b (class b)
-class_says b = says_of (starts_symbol b) (is_line_end b) (is_blank b) (is_suffix b) (b == 37) (b == 34) (b == 36) (b == 123) (b == 59) (b == 91) (b == 93) (b == 40) (b == 41) (b == 46) (b == 42) ((b == 60) || (b == 62)) (is_control b)
+class_says b = says_of _ _ _ _ _ _ _ _ _ _ _ _ _ _ _ _ _
 
 -- a byte of which no test holds
 stray_of : (sy le bl su pe qu da br se lb rb lp rp pd ast re co : Bool) → not (sy || le || bl || su || pe || qu || da || br || se || lb || rb || lp || rp || pd || ast || re || co) ≡ true → (if sy then SymbolStart else (if le then LineEnd else (if bl then Space else (if su then Suffix else (if pe then Percent else (if qu then Quote else (if da then Dollar else (if br then OpenBrace else (if se then Semicolon else (if lb then Alone singles.LeftBracket else (if rb then Alone singles.RightBracket else (if lp then Alone singles.LeftParen else (if rp then Alone singles.RightParen else (if pd then Alone singles.Period else (if ast then Alone singles.Asterisk else (if re then Refused Reserved else (if co then Refused ControlByte else Refused StrayByte))))))))))))))))) ≡ Refused StrayByte
@@ -93,17 +75,17 @@ stray_of false false false false false false false false false false false false
 stray_of false false false false false false false false false false false false false false false false false e = refl
 
 pub stray_class : (b : ℕ) → is_stray b ≡ true → class b ≡ Refused StrayByte
-stray_class b e = stray_of (starts_symbol b) (is_line_end b) (is_blank b) (is_suffix b) (b == 37) (b == 34) (b == 36) (b == 123) (b == 59) (b == 91) (b == 93) (b == 40) (b == 41) (b == 46) (b == 42) ((b == 60) || (b == 62)) (is_control b) e
+stray_class b e = stray_of _ _ _ _ _ _ _ _ _ _ _ _ _ _ _ _ _ e
 
 pub symbol_class : (b : ℕ) → starts_symbol b ≡ true → class b ≡ SymbolStart
-symbol_class b e = with_start (starts_symbol b) _ e
+symbol_class b e = with_start _ _ e
   where
     with_start : (s : Bool) (c : Class) → s ≡ true → (if s then SymbolStart else c) ≡ SymbolStart
     with_start true c e = refl
     with_start false c e = absurd (false≢true e)
 
 line_end_byte : (b : ℕ) → is_line_end b ≡ true → (b ≡ 10) ⊎ (b ≡ 13)
-line_end_byte b e = cases (either (b == 10) (b == 13) e)
+line_end_byte b e = cases (or_cases _ _ e)
   where
     cases : ((b == 10) ≡ true) ⊎ ((b == 13) ≡ true) → (b ≡ 10) ⊎ (b ≡ 13)
     cases (inl e) = inl (eqb-true b 10 e)
@@ -118,18 +100,18 @@ of_line_end P b e ten thirteen = cases (line_end_byte b e)
     cases (inr e) = subst P (sym e) thirteen
 
 of_blank : (P : ℕ → Type 0) (b : ℕ) → is_blank b ≡ true → P 9 → P 11 → P 12 → P 32 → P b
-of_blank P b e nine eleven twelve space = first (either ((b == 9) || (b == 11) || (b == 12)) (b == 32) e)
+of_blank P b e nine eleven twelve space = first (or_cases _ _ e)
   where
     third : ((b == 9) ≡ true) ⊎ ((b == 11) ≡ true) → P b
     third (inl e) = subst P (sym (eqb-true b 9 e)) nine
     third (inr e) = subst P (sym (eqb-true b 11 e)) eleven
 
     second : (((b == 9) || (b == 11)) ≡ true) ⊎ ((b == 12) ≡ true) → P b
-    second (inl e) = third (either (b == 9) (b == 11) e)
+    second (inl e) = third (or_cases _ _ e)
     second (inr e) = subst P (sym (eqb-true b 12 e)) twelve
 
     first : (((b == 9) || (b == 11) || (b == 12)) ≡ true) ⊎ ((b == 32) ≡ true) → P b
-    first (inl e) = second (either ((b == 9) || (b == 11)) (b == 12) e)
+    first (inl e) = second (or_cases _ _ e)
     first (inr e) = subst P (sym (eqb-true b 32 e)) space
 
 pub line_end_class : (b : ℕ) → is_line_end b ≡ true → class b ≡ LineEnd
@@ -145,14 +127,14 @@ pub blank_comment : (b : ℕ) → is_blank b ≡ true → comment_class b ≡ co
 blank_comment b e = of_blank (λ b. comment_class b ≡ comments.Space) b e refl refl refl refl
 
 pub suffix_class : (b : ℕ) → is_suffix b ≡ true → class b ≡ Suffix
-suffix_class b e = cases (either (b == 33) (b == 63) e)
+suffix_class b e = cases (or_cases _ _ e)
   where
     cases : ((b == 33) ≡ true) ⊎ ((b == 63) ≡ true) → class b ≡ Suffix
     cases (inl e) = subst (λ b. class b ≡ Suffix) (sym (eqb-true b 33 e)) refl
     cases (inr e) = subst (λ b. class b ≡ Suffix) (sym (eqb-true b 63 e)) refl
 
 pub reserved_class : (b : ℕ) → ((b == 60) || (b == 62)) ≡ true → class b ≡ Refused Reserved
-reserved_class b e = cases (either (b == 60) (b == 62) e)
+reserved_class b e = cases (or_cases _ _ e)
   where
     cases : ((b == 60) ≡ true) ⊎ ((b == 62) ≡ true) → class b ≡ Refused Reserved
     cases (inl e) = subst (λ b. class b ≡ Refused Reserved) (sym (eqb-true b 60 e)) refl
@@ -176,24 +158,24 @@ told_control_in_comment comments.Control e = refl
 told_control_in_comment _ e = absurd (false≢true e)
 
 control_small : (b : ℕ) → is_control b ≡ true → b < 128
-control_small b e = cases (either (nat_le b 8 || (nat_le 14 b && nat_le b 31)) (b == 127) e)
+control_small b e = cases (or_cases _ _ e)
   where
     second : (nat_le b 8 ≡ true) ⊎ ((nat_le 14 b && nat_le b 31) ≡ true) → b < 128
     second (inl e) = omega (arith, leb-true b 8 e)
-    second (inr e) = omega (arith, leb-true b 31 (both (nat_le 14 b) (nat_le b 31) e).1)
+    second (inr e) = omega (arith, leb-true b 31 (and_parts _ _ e).1)
 
     cases : ((nat_le b 8 || (nat_le 14 b && nat_le b 31)) ≡ true) ⊎ ((b == 127) ≡ true) → b < 128
-    cases (inl e) = second (either (nat_le b 8) (nat_le 14 b && nat_le b 31) e)
+    cases (inl e) = second (or_cases _ _ e)
     cases (inr e) = omega (arith, eqb-true b 127 e)
 
 pub control_class : (b : ℕ) → is_control b ≡ true → class b ≡ Refused ControlByte
-control_class b e = told_control (class b) (sym (agree_below_at is_control (λ k. tells_control (class k)) 128 b refl (control_small b e)) ∙ e)
+control_class b e = told_control _ (sym (agree_below_at is_control (λ k. tells_control (class k)) 128 b refl (control_small b e)) ∙ e)
 
 pub control_comment : (b : ℕ) → is_control b ≡ true → comment_class b ≡ comments.Control
-control_comment b e = told_control_in_comment (comment_class b) (sym (agree_below_at is_control (λ k. tells_control_in_comment (comment_class k)) 128 b refl (control_small b e)) ∙ e)
+control_comment b e = told_control_in_comment _ (sym (agree_below_at is_control (λ k. tells_control_in_comment (comment_class k)) 128 b refl (control_small b e)) ∙ e)
 
 pub letter_comment : (b : ℕ) → continues_word b ≡ true → comment_class b ≡ comments.WordByte
-letter_comment b e = with_letter (continues_word b) _ e
+letter_comment b e = with_letter _ _ e
   where
     with_letter : (s : Bool) (c : CommentClass) → s ≡ true → (if s then comments.WordByte else c) ≡ comments.WordByte
     with_letter true c e = refl

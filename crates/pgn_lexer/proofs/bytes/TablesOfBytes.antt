@@ -1,14 +1,7 @@
 -- The tables of bytes hold what is said of each byte.
-use Rattle.std.proofs.Common.{◌≡◌, ℕ, zero, suc, ◌+◌, ◌<◌, Bool, false, List, [], ◌∷◌, ap, ◌∙◌, arith, get_or}
-use Rattle.std.specs.Prelude.{map}
-use Rattle.pgn_lexer.specs.declared.class.Class.{Class}
-use Rattle.pgn_lexer.specs.declared.class.Class.TheVariants.{LineEnd}
-use Rattle.pgn_lexer.specs.declared.class.CommentClass.{CommentClass}
+use Rattle.pgn_lexer.proofs.Words.{◌≡◌, ℕ, zero, suc, ◌+◌, ◌<◌, Bool, false, List, [], ◌∷◌, ap, ◌∙◌, arith, get_or, map, Class, LineEnd, CommentClass, StringClass, continues_symbol, class, comment_class, string_class}
 use Rattle.pgn_lexer.specs.declared.class.CommentClass.TheVariants as comments
-use Rattle.pgn_lexer.specs.declared.class.StringClass.{StringClass}
 use Rattle.pgn_lexer.specs.declared.class.StringClass.TheVariants as strings
-use Rattle.pgn_lexer.specs.Bytes.{continues_symbol}
-use Rattle.pgn_lexer.specs.Spelling.{class, comment_class, string_class}
 
 -- n numbers from k on
 abbrev pub numbers : ℕ → ℕ → List ℕ
@@ -21,7 +14,7 @@ at_number f zero k i d less = absurd (omega arith)
 at_number f (suc n) k zero d less = let same : k ≡ k + 0 = omega arith in ap f same
 at_number f (suc n) k (suc i) d less =
     let same : k + 1 + i ≡ k + suc i = omega arith in
-    at_number f n (k + 1) i d (omega arith) ∙ ap f same
+    at_number f n _ i d (omega arith) ∙ ap f same
 
 pub class_at : (table : List Class) (b : ℕ) → table ≡ map class (numbers 256 0) → b < 256 → get_or table b LineEnd ≡ class b
 class_at table b are less =

@@ -1,27 +1,12 @@
 -- Each text can be cut.
-use Rattle.std.proofs.Common.{◌≡◌, ℕ, zero, suc, ◌+◌, ◌<◌, ◌≤◌, Bool, true, false, inl, inr, List, [], ◌∷◌, ◌++◌, length, refl, sym, ap, subst, ◌∙◌, append_assoc, arith, length-append}
-use Rattle.std.specs.Prelude.{◌||◌, ◌&&◌, ◌⊎◌, not, nat_le, nat_lt, ◌==◌, if◌then◌else◌}
-use Rattle.std.specs.List.{list_all}
-use Rattle.std.specs.Cmp.Derive.{both_true}
-use Rattle.std.proofs.lemmas.Bool.{eqb-true, leb-true, leb-false, ltb-true, ltb-false, false≢true, agree_below_at}
-use Rattle.pgn_lexer.specs.declared.token.LexReason.{LexReason}
-use Rattle.pgn_lexer.specs.declared.token.LexReason.TheVariants.{StrayByte, ControlByte, Reserved}
+use Rattle.pgn_lexer.proofs.Words.{◌≡◌, ℕ, zero, suc, ◌+◌, ◌<◌, ◌≤◌, Bool, true, false, inl, inr, List, [], ◌∷◌, ◌++◌, length, refl, sym, ap, subst, ◌∙◌, append_assoc, arith, length-append, ◌||◌, ◌&&◌, ◌⊎◌, not, nat_le, nat_lt, ◌==◌, if◌then◌else◌, list_all, both_true, eqb-true, leb-true, leb-false, ltb-true, ltb-false, false≢true, agree_below_at, LexReason, StrayByte, ControlByte, Reserved, Class, CommentClass, StringClass, is_line_end, is_blank, is_control, is_digit, starts_symbol, continues_symbol, is_suffix, continues_word, Kind, Token, class, comment_class, string_class, number_of, tokens_from, tokens_of, has_mark, LexesOnce, StopsAt, IsAtLineEnd, IsRun, is_escaped, is_barred, is_plain, Data, IsSuffix, SpellsToken, Refuses, Where, Cuts, Lexes, or_cases, and_parts, or_right, or_left}
 use Rattle.pgn_lexer.specs.declared.class.Single.TheVariants as singles
-use Rattle.pgn_lexer.specs.declared.class.Class.{Class}
 use Rattle.pgn_lexer.specs.declared.class.Class.TheVariants as classes
-use Rattle.pgn_lexer.specs.declared.class.CommentClass.{CommentClass}
 use Rattle.pgn_lexer.specs.declared.class.CommentClass.TheVariants as comments
-use Rattle.pgn_lexer.specs.declared.class.StringClass.{StringClass}
 use Rattle.pgn_lexer.specs.declared.class.StringClass.TheVariants as strings
-use Rattle.pgn_lexer.specs.Bytes.{is_line_end, is_blank, is_control, is_digit, starts_symbol, continues_symbol, is_suffix, continues_word}
-use Rattle.pgn_lexer.specs.Tokens.{Kind, Token}
-use Rattle.pgn_lexer.specs.Spelling.{class, comment_class, string_class, number_of}
-use Rattle.pgn_lexer.specs.TokensOf.{tokens_from, tokens_of, has_mark}
-use Rattle.pgn_lexer.specs.Laws.{LexesOnce}
 use Rattle.pgn_lexer.specs.Lexes as rules
-use Rattle.pgn_lexer.specs.Lexes.{StopsAt, IsAtLineEnd, IsRun, is_escaped, is_barred, is_plain, Data, IsSuffix, SpellsToken, Refuses, Where, Cuts, Lexes}
 use Rattle.pgn_lexer.proofs.stepping.FirstBytes.{unmarked}
-use Rattle.pgn_lexer.proofs.bytes.ClassToTest.{either, both, ClassSays, class_says, blank_class, tells_control_in_comment}
+use Rattle.pgn_lexer.proofs.bytes.ClassToTest.{ClassSays, class_says, blank_class, tells_control_in_comment}
 use Rattle.pgn_lexer.proofs.cutting.StringData.{StringSays, string_says}
 use Rattle.pgn_lexer.proofs.cutting.RulesToTokens.{within_of, cuts_is}
 
@@ -36,7 +21,7 @@ record Split (p : ℕ → Bool) (s : List ℕ) : Type 0 where
 
 split : (p : ℕ → Bool) (s : List ℕ) → Split p s
 split p [] = record { run = []; rest = []; cut = refl; all = refl; stop = tt; shorter = omega arith }
-split p (b ∷ s) = cases (split p s) (p b) refl
+split p (b ∷ s) = cases (split p s) _ refl
   where
     cases : Split p s → (c : Bool) → p b ≡ c → Split p (b ∷ s)
     cases h true e = let less : length h.rest ≤ length s = h.shorter in record { run = b ∷ h.run; rest = h.rest; cut = ap (λ l. b ∷ l) h.cut; all = both_true e h.all; stop = h.stop; shorter = omega arith }
@@ -75,26 +60,18 @@ one_more n b front s write h =
       raw = front ++ h.raw;
       text = b ∷ h.text;
       rest = h.rest;
-      cut = ap (λ l. front ++ l) h.cut ∙ sym (append_assoc front h.raw h.rest);
+      cut = ap (λ l. front ++ l) h.cut ∙ sym (append_assoc front h.raw _);
       written = write h;
       fits = omega arith;
       stop = subst (λ m. Stop m h.rest) same h.stop;
       shorter = omega (arith, length-append front s);
     }
 
-or_right : (a b : Bool) → b ≡ true → (a || b) ≡ true
-or_right true b e = refl
-or_right false b e = e
-
-or_left : (a b : Bool) → a ≡ true → (a || b) ≡ true
-or_left true b e = refl
-or_left false b e = absurd (false≢true e)
-
 has_data : (k n : ℕ) (s : List ℕ) → length s ≤ k → n ≤ 255 → HasData n s
 has_data k n [] short fits = stops_here n [] fits (at_line_end n [] tt)
 has_data zero n (b ∷ s) short fits = absurd (omega arith)
 has_data (suc k) n (b ∷ s) short fits =
-    by_class (string_class b) (string_says b) (nat_lt n 255) refl s short (λ s short fits. has_data k (n + 1) s short fits)
+    by_class (string_class b) (string_says b) _ refl s short (λ s short fits. has_data k _ s short fits)
   where
     full : (d : Bool) → nat_lt n 255 ≡ d → d ≡ false → n ≡ 255
     full d e no_room = let more : 255 ≤ n = ltb-false n 255 (e ∙ no_room) in omega arith
@@ -103,7 +80,7 @@ has_data (suc k) n (b ∷ s) short fits =
     behind s room short on e = subst (λ b. HasData n (b ∷ s)) (sym (eqb-true b 92 e)) (next s short)
       where
         lone : (s : List ℕ) → StopsAt is_escaped s → length s ≤ k → HasData n (92 ∷ s)
-        lone s stop short = one_more n 92 (92 ∷ []) s (λ h. rules.lone h.raw h.text h.rest (subst (StopsAt is_escaped) h.cut stop) h.written) (on s short (omega arith))
+        lone s stop short = one_more n 92 (92 ∷ []) s (λ h. rules.lone h.raw h.text h.rest (subst (StopsAt _) h.cut stop) h.written) (on s short (omega arith))
 
         next : (s : List ℕ) → length (b ∷ s) ≤ suc k → HasData n (92 ∷ s)
         next [] short = lone [] tt (omega arith)
@@ -137,13 +114,13 @@ CommentSays b comments.CloseBrace = (b == 125) ≡ true
 CommentSays b comments.Control = is_control b ≡ true
 
 comment_says : (b : ℕ) → CommentSays b (comment_class b)
-comment_says b = cases (continues_word b) (is_line_end b) (is_blank b) (b == 125) refl refl refl refl (agreed refl)
+comment_says b = cases _ _ _ _ refl refl refl refl (agreed refl)
   where
     agreed : (w : continues_word b ≡ continues_word b) → continues_word b ≡ false → is_control b ≡ tells_control_in_comment (comment_class b)
     agreed w other = agree_below_at is_control (λ k. tells_control_in_comment (comment_class k)) 128 b refl (small (nat_le 128 b) refl)
       where
         small : (h : Bool) → nat_le 128 b ≡ h → b < 128
-        small true e = absurd (false≢true (sym other ∙ or_right ((nat_le 33 b && nat_le b 126) && not (b == 125)) (nat_le 128 b) e))
+        small true e = absurd (false≢true (sym other ∙ or_right ((nat_le 33 b && nat_le b 126) && not _) (nat_le 128 b) e))
         small false e = leb-false 128 b e
 
     cases : (w l s c : Bool) → continues_word b ≡ w → is_line_end b ≡ l → is_blank b ≡ s → (b == 125) ≡ c
@@ -172,7 +149,7 @@ module _ (n at : ℕ) (on : Further n) where
   one_refusal first s m r bad = (_, rules.refuses first at m s r bad)
 
   a_symbol : (first : Bool) (b : ℕ) (bs : List ℕ) → starts_symbol b ≡ true → length bs ≤ n → Split continues_symbol bs → Cut (rules.outside first) at (b ∷ bs)
-  a_symbol first b bs e short h = cut_as _ at (b ∷ bs) (b ∷ (h.run ++ h.rest)) (ap (λ l. b ∷ l) h.cut) (cases (nat_le (length (b ∷ h.run)) 255) refl)
+  a_symbol first b bs e short h = cut_as _ at (b ∷ bs) (b ∷ (h.run ++ h.rest)) (ap (λ l. b ∷ l) h.cut) (cases _ refl)
     where
       cases : (c : Bool) → nat_le (length (b ∷ h.run)) 255 ≡ c → Cut (rules.outside first) at (b ∷ (h.run ++ h.rest))
       cases true fits = let less : length h.rest ≤ length bs = h.shorter in one_token first (b ∷ h.run) h.rest _ (rules.symbol b h.run h.rest e (h.all, h.stop) (leb-true _ 255 fits)) (omega arith)
@@ -183,13 +160,13 @@ module _ (n at : ℕ) (on : Further n) where
     where
       cases : (run : List ℕ) → list_all is_digit run ≡ true → Cut (rules.outside first) at (36 ∷ (run ++ h.rest))
       cases [] all = one_refusal first _ 0 _ (rules.lone_dollar h.rest h.stop)
-      cases (d ∷ ds) all = by_number (nat_le (number_of (d ∷ ds)) 255) refl
+      cases (d ∷ ds) all = by_number (nat_le _ 255) refl
         where
           by_number : (c : Bool) → nat_le (number_of (d ∷ ds)) 255 ≡ c → Cut (rules.outside first) at (36 ∷ d ∷ (ds ++ h.rest))
           by_number true small =
               let less : length h.rest ≤ length bs = h.shorter in
-              one_token first (36 ∷ d ∷ ds) h.rest _ (rules.glyph d ds h.rest (both (is_digit d) (list_all is_digit ds) all).0 ((both (is_digit d) (list_all is_digit ds) all).1, h.stop) (leb-true _ 255 small)) (omega arith)
-          by_number false large = one_refusal first _ 0 _ (rules.large_glyph d ds h.rest (both (is_digit d) (list_all is_digit ds) all).0 ((both (is_digit d) (list_all is_digit ds) all).1, h.stop) (leb-false _ 255 large))
+              one_token first (36 ∷ d ∷ ds) h.rest _ (rules.glyph d ds h.rest (and_parts _ _ all).0 ((and_parts _ _ all).1, h.stop) (leb-true _ 255 small)) (omega arith)
+          by_number false large = one_refusal first _ 0 _ (rules.large_glyph d ds h.rest (and_parts _ _ all).0 ((and_parts _ _ all).1, h.stop) (leb-false _ 255 large))
 
   a_suffix : (first : Bool) (b : ℕ) (bs : List ℕ) → is_suffix b ≡ true → length bs ≤ n → Split is_suffix bs → Cut (rules.outside first) at (b ∷ bs)
   a_suffix first b bs e short h = cut_as _ at (b ∷ bs) (b ∷ (h.run ++ h.rest)) (ap (λ l. b ∷ l) h.cut) (cases h.run h.all)
@@ -198,14 +175,14 @@ module _ (n at : ℕ) (on : Further n) where
       less = let l : length h.rest ≤ length bs = h.shorter in omega arith
 
       one : (c : ℕ) → is_suffix c ≡ true → (m : ℕ) × IsSuffix (c ∷ []) m
-      one c e = mark (either (c == 33) (c == 63) e)
+      one c e = mark (or_cases (c == 33) (c == 63) e)
         where
           mark : ((c == 33) ≡ true) ⊎ ((c == 63) ≡ true) → (m : ℕ) × IsSuffix (c ∷ []) m
           mark (inl e) = subst (λ c. (m : ℕ) × IsSuffix (c ∷ []) m) (sym (eqb-true c 33 e)) (1, rules.good)
           mark (inr e) = subst (λ c. (m : ℕ) × IsSuffix (c ∷ []) m) (sym (eqb-true c 63 e)) (2, rules.poor)
 
       two : (c d : ℕ) → is_suffix c ≡ true → is_suffix d ≡ true → (m : ℕ) × IsSuffix (c ∷ d ∷ []) m
-      two c d e f = marks (either (c == 33) (c == 63) e) (either (d == 33) (d == 63) f)
+      two c d e f = marks (or_cases (c == 33) (c == 63) e) (or_cases (d == 33) (d == 63) f)
         where
           marks : ((c == 33) ≡ true) ⊎ ((c == 63) ≡ true) → ((d == 33) ≡ true) ⊎ ((d == 63) ≡ true) → (m : ℕ) × IsSuffix (c ∷ d ∷ []) m
           marks (inl e) (inl f) = subst (λ c. (m : ℕ) × IsSuffix (c ∷ d ∷ []) m) (sym (eqb-true c 33 e)) (subst (λ d. (m : ℕ) × IsSuffix (33 ∷ d ∷ []) m) (sym (eqb-true d 33 f)) (3, rules.very_good))
@@ -216,40 +193,40 @@ module _ (n at : ℕ) (on : Further n) where
       cases : (run : List ℕ) → list_all is_suffix run ≡ true → Cut (rules.outside first) at (b ∷ (run ++ h.rest))
       cases [] all = one_token first (b ∷ []) h.rest _ (rules.suffix (b ∷ []) h.rest (one b e).0 (one b e).1 h.stop) less
       cases (c ∷ []) all =
-          let f : is_suffix c ≡ true = (both (is_suffix c) true all).0 in
+          let f : is_suffix c ≡ true = (and_parts (is_suffix c) true all).0 in
           one_token first (b ∷ c ∷ []) h.rest _ (rules.suffix (b ∷ c ∷ []) h.rest (two b c e f).0 (two b c e f).1 h.stop) less
       cases (c ∷ d ∷ run) all = one_refusal first _ 0 _ (rules.bad_suffix (b ∷ c ∷ d ∷ run) h.rest (both_true e all, h.stop) (omega arith))
 
   a_string : (first : Bool) (bs : List ℕ) → length bs ≤ n → HasData 0 bs → Cut (rules.outside first) at (34 ∷ bs)
-  a_string first bs short h = cut_as _ at (34 ∷ bs) (34 ∷ (h.raw ++ h.rest)) (ap (λ l. 34 ∷ l) h.cut) (cases h.rest (0 + length h.text) refl h.stop h.written h.shorter)
+  a_string first bs short h = cut_as _ at (34 ∷ bs) (34 ∷ (h.raw ++ h.rest)) (ap (λ l. 34 ∷ l) h.cut) (cases _ _ refl h.stop h.written h.shorter)
     where
       fit : length h.text ≤ 255
       fit = let f : 0 + length h.text ≤ 255 = h.fits in omega arith
 
       cases : (rest : List ℕ) (m : ℕ) → m ≡ 0 + length h.text → Stop m rest → Data h.raw h.text rest → length rest ≤ length bs → Cut (rules.outside first) at (34 ∷ (h.raw ++ rest))
-      cases _ _ same (at_line_end m s stop) written less = one_refusal first _ 0 _ (rules.open_string h.raw h.text s written fit stop)
+      cases _ _ same (at_line_end m s stop) written less = one_refusal first _ 0 _ (rules.open_string h.raw _ s written fit stop)
       cases _ _ same (at_quote m s) written less =
-          cut_as _ at (34 ∷ (h.raw ++ 34 ∷ s)) ((34 ∷ (h.raw ++ 34 ∷ [])) ++ s) (ap (λ l. 34 ∷ l) (sym (append_assoc h.raw (34 ∷ []) s)))
-          (one_token first (34 ∷ (h.raw ++ 34 ∷ [])) s _ (rules.string h.raw h.text s written fit) (omega arith))
-      cases _ _ same (at_barred m b s bad other) written less = one_refusal first _ (1 + length h.raw) _ (rules.control_in_string b h.raw h.text s written fit bad other)
+          cut_as _ at (34 ∷ (h.raw ++ 34 ∷ s)) ((34 ∷ (h.raw ++ 34 ∷ [])) ++ s) (ap (λ l. 34 ∷ l) (sym (append_assoc h.raw _ s)))
+          (one_token first (34 ∷ (h.raw ++ 34 ∷ [])) s _ (rules.string h.raw _ s written fit) (omega arith))
+      cases _ _ same (at_barred m b s bad other) written less = one_refusal first _ (1 + length h.raw) _ (rules.control_in_string b h.raw _ s written fit bad other)
       cases _ _ same (too_long m b s full more) written less = one_refusal first _ 0 _ (rules.long_string b h.raw h.text s written (omega arith) more)
 
   -- outside strings and comments
   from_outside : (first : Bool) (b : ℕ) (bs : List ℕ) → length bs ≤ n → (c : Class) → ClassSays b c → Cut (rules.outside first) at (b ∷ bs)
-  from_outside first b bs short classes.LineEnd says = let more = on (rules.outside (is_line_end b)) (at + 1) bs short in (_, rules.space first at b bs more.0 (or_left (is_line_end b) (is_blank b) says) more.1)
-  from_outside first b bs short classes.Space says = let more = on (rules.outside (is_line_end b)) (at + 1) bs short in (_, rules.space first at b bs more.0 (or_right (is_line_end b) (is_blank b) says.1) more.1)
+  from_outside first b bs short classes.LineEnd says = let more = on (rules.outside _) (at + 1) bs short in (_, rules.space first at b bs more.0 (or_left _ _ says) more.1)
+  from_outside first b bs short classes.Space says = let more = on (rules.outside _) (at + 1) bs short in (_, rules.space first at b bs more.0 (or_right (is_line_end b) (is_blank b) says.1) more.1)
   from_outside false b bs short classes.Percent says = subst (λ b. Cut (rules.outside false) at (b ∷ bs)) (sym (eqb-true b 37 says)) (_, rules.stray_percent at bs)
-  from_outside true b bs short classes.Percent says = subst (λ b. Cut (rules.outside true) at (b ∷ bs)) (sym (eqb-true b 37 says)) (escape_line (split (λ b. not (is_line_end b)) bs))
+  from_outside true b bs short classes.Percent says = subst (λ b. Cut (rules.outside true) at (b ∷ bs)) (sym (eqb-true b 37 says)) (escape_line (split _ bs))
     where
       escape_line : Split (λ b. not (is_line_end b)) bs → Cut (rules.outside true) at (37 ∷ bs)
       escape_line h =
           let less : length h.rest ≤ length bs = h.shorter in
           let more = on (rules.outside false) (at + 1 + length h.run) h.rest (omega arith) in
           cut_as _ at (37 ∷ bs) (37 ∷ (h.run ++ h.rest)) (ap (λ l. 37 ∷ l) h.cut) (_, rules.escape_line at h.run h.rest more.0 (h.all, h.stop) more.1)
-  from_outside first b bs short classes.SymbolStart says = a_symbol first b bs says short (split continues_symbol bs)
+  from_outside first b bs short classes.SymbolStart says = a_symbol first b bs says short (split _ bs)
   from_outside first b bs short classes.Quote says = subst (λ b. Cut (rules.outside first) at (b ∷ bs)) (sym (eqb-true b 34 says)) (a_string first bs short (has_data (length bs) 0 bs (omega arith) (omega arith)))
-  from_outside first b bs short classes.Dollar says = subst (λ b. Cut (rules.outside first) at (b ∷ bs)) (sym (eqb-true b 36 says)) (a_glyph first bs short (split is_digit bs))
-  from_outside first b bs short classes.Suffix says = a_suffix first b bs says short (split is_suffix bs)
+  from_outside first b bs short classes.Dollar says = subst (λ b. Cut (rules.outside first) at (b ∷ bs)) (sym (eqb-true b 36 says)) (a_glyph first bs short (split _ bs))
+  from_outside first b bs short classes.Suffix says = a_suffix first b bs says short (split _ bs)
   from_outside first b bs short classes.OpenBrace says =
       let more = on (rules.comment true) (at + 1) bs short in subst (λ b. Cut (rules.outside first) at (b ∷ bs)) (sym (eqb-true b 123 says)) (_, rules.opens_brace first at bs more.0 more.1)
   from_outside first b bs short classes.Semicolon says =
@@ -266,7 +243,7 @@ module _ (n at : ℕ) (on : Further n) where
   from_outside first b bs short (classes.Refused _) says = absurd says
 
   a_word : (braces : Bool) (b : ℕ) (bs : List ℕ) → continues_word b ≡ true → length bs ≤ n → Split continues_word bs → Cut (rules.comment braces) at (b ∷ bs)
-  a_word braces b bs e short h = cut_as _ at (b ∷ bs) (b ∷ (h.run ++ h.rest)) (ap (λ l. b ∷ l) h.cut) (cases (nat_le (length (b ∷ h.run)) 79) refl)
+  a_word braces b bs e short h = cut_as _ at _ (b ∷ (h.run ++ h.rest)) (ap (λ l. b ∷ l) h.cut) (cases _ refl)
     where
       cases : (c : Bool) → nat_le (length (b ∷ h.run)) 79 ≡ c → Cut (rules.comment braces) at (b ∷ (h.run ++ h.rest))
       cases true fits =
@@ -276,12 +253,12 @@ module _ (n at : ℕ) (on : Further n) where
 
   -- in a comment
   from_comment : (braces : Bool) (b : ℕ) (bs : List ℕ) → length bs ≤ n → (c : CommentClass) → CommentSays b c → Cut (rules.comment braces) at (b ∷ bs)
-  from_comment braces b bs short comments.WordByte says = a_word braces b bs says short (split continues_word bs)
-  from_comment true b bs short comments.LineEnd says = let more = on (rules.comment true) (at + 1) bs short in (_, rules.between_words true at b bs more.0 (or_left (is_line_end b) (is_blank b) says) refl more.1)
+  from_comment braces b bs short comments.WordByte says = a_word braces b bs says short (split _ bs)
+  from_comment true b bs short comments.LineEnd says = let more = on (rules.comment true) (at + 1) bs short in (_, rules.between_words true at b bs _ (or_left _ _ says) refl more.1)
   from_comment false b bs short comments.LineEnd says = let more = on (rules.outside true) (at + 1) bs short in (_, rules.closes_line at b bs more.0 says more.1)
-  from_comment true b bs short comments.Space says = let more = on (rules.comment true) (at + 1) bs short in (_, rules.between_words true at b bs more.0 (or_right (is_line_end b) (is_blank b) says) refl more.1)
+  from_comment true b bs short comments.Space says = let more = on (rules.comment true) (at + 1) bs short in (_, rules.between_words true at b bs _ (or_right _ _ says) refl more.1)
   from_comment false b bs short comments.Space says =
-      let more = on (rules.comment false) (at + 1) bs short in (_, rules.between_words false at b bs more.0 (or_right (is_line_end b) (is_blank b) says) (ap not (blank_class b says).1) more.1)
+      let more = on (rules.comment false) (at + 1) bs short in (_, rules.between_words false at b bs _ (or_right _ _ says) (ap not (blank_class b says).1) more.1)
   from_comment true b bs short comments.CloseBrace says = let more = on (rules.outside false) (at + 1) bs short in subst (λ b. Cut (rules.comment true) at (b ∷ bs)) (sym (eqb-true b 125 says)) (_, rules.closes_brace at bs more.0 more.1)
   from_comment false b bs short comments.CloseBrace says = subst (λ b. Cut (rules.comment false) at (b ∷ bs)) (sym (eqb-true b 125 says)) (_, rules.brace_in_line at bs)
   from_comment braces b bs short comments.Control says = (_, rules.control_in_comment braces at b bs says)
@@ -299,8 +276,8 @@ cut_tokens : (w : Where) (at : ℕ) (s : List ℕ) → Cuts w at s (tokens_from 
 cut_tokens w at s = let h = exists (length s) w at s (omega arith) in subst (Cuts w at s) (cuts_is w at s h.0 h.1) h.1
 
 lexes_are : (s : List ℕ) (ts : List Token) → Lexes s ts → ts ≡ tokens_of s
-lexes_are _ _ (rules.marked s ts h) = cuts_is (rules.outside true) 3 s ts h
-lexes_are _ _ (rules.unmarked s ts none h) = cuts_is (rules.outside true) 0 s ts h ∙ sym (unmarked s none)
+lexes_are _ _ (rules.marked s ts h) = cuts_is _ 3 s ts h
+lexes_are _ _ (rules.unmarked s ts none h) = cuts_is _ 0 s ts h ∙ sym (unmarked s none)
 
 -- a text with a mark begins with it
 mark_cut : (s : List ℕ) → has_mark s ≡ true → (rest : List ℕ) × (s ≡ 239 ∷ 187 ∷ 191 ∷ rest)
@@ -308,16 +285,16 @@ mark_cut [] e = absurd (false≢true e)
 mark_cut (a ∷ []) e = absurd (false≢true e)
 mark_cut (a ∷ b ∷ []) e = absurd (false≢true e)
 mark_cut (a ∷ b ∷ c ∷ s) e =
-    let two = both ((a == 239) && (b == 187)) (c == 191) e in
-    let one = both (a == 239) (b == 187) two.0 in
+    let two = and_parts _ (c == 191) e in
+    let one = and_parts (a == 239) (b == 187) two.0 in
     (s, ap (λ x. x ∷ b ∷ c ∷ s) (eqb-true a 239 one.0) ∙ ap (λ x. 239 ∷ x ∷ c ∷ s) (eqb-true b 187 one.1) ∙ ap (λ x. 239 ∷ 187 ∷ x ∷ s) (eqb-true c 191 two.1))
 
 tokens_lex : (s : List ℕ) → Lexes s (tokens_of s)
-tokens_lex s = cases (has_mark s) refl
+tokens_lex s = cases _ refl
   where
     cases : (m : Bool) → has_mark s ≡ m → Lexes s (tokens_of s)
     cases true e = let h = mark_cut s e in subst (λ s. Lexes s (tokens_of s)) (sym h.1) (rules.marked h.0 _ (cut_tokens (rules.outside true) 3 h.0))
-    cases false e = subst (Lexes s) (sym (unmarked s e)) (rules.unmarked s _ e (cut_tokens (rules.outside true) 0 s))
+    cases false e = subst (Lexes s) (sym (unmarked s e)) (rules.unmarked s _ e (cut_tokens _ 0 s))
 
 pub lexes_once : LexesOnce
 lexes_once s ts = (lexes_are s ts, λ e. subst (Lexes s) (sym e) (tokens_lex s))

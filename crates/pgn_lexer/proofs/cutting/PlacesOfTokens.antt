@@ -1,26 +1,11 @@
 -- Where tokens stand.
-use Rattle.std.proofs.Common.{◌≡◌, ℕ, ◌+◌, ◌<◌, ◌≤◌, inl, inr, Bool, true, false, cond, List, [], ◌∷◌, ◌++◌, length, refl, ap, ◌∙◌, arith}
-use Rattle.std.specs.Prelude.{take_while, nat_lt, drop, nat_le, ◌==◌, if◌then◌else◌}
-use Rattle.std.specs.List.{AllByRecursion}
-use Rattle.std.proofs.lemmas.Bool.{lt-ltb, le-ltb}
-use Rattle.pgn_lexer.specs.declared.class.Single.{Single}
+use Rattle.pgn_lexer.proofs.Words.{◌≡◌, ℕ, ◌+◌, ◌<◌, ◌≤◌, inl, inr, Bool, true, false, cond, List, [], ◌∷◌, ◌++◌, length, refl, ap, ◌∙◌, arith, take_while, nat_lt, drop, nat_le, ◌==◌, if◌then◌else◌, AllByRecursion, lt-ltb, le-ltb, Single, Class, CommentClass, StringClass, SymbolTooLong, StringTooLong, WordTooLong, GlyphRange, UnclosedString, ControlByte, LexReason, is_digit, continues_symbol, is_suffix, continues_word, Kind, Token, symbol, glyph, word, IsLast, RisesTo, TokensRise, kind_of_single, class, comment_class, string_class, Found, gives, stops, Reading, closed, broken, datum, reading, symbol_at, word_at, glyph_at, numbered_at, suffix_at, string_at, number_of, Within, begins_class, begins_first, begins_after, begins_word, begins_brace, begins_line, begins, next, onto, at_end, tokens_from, take_while-cons}
 use Rattle.pgn_lexer.specs.declared.class.Single.TheVariants as singles
-use Rattle.pgn_lexer.specs.declared.class.Class.{Class}
 use Rattle.pgn_lexer.specs.declared.class.Class.TheVariants as classes
-use Rattle.pgn_lexer.specs.declared.class.CommentClass.{CommentClass}
 use Rattle.pgn_lexer.specs.declared.class.CommentClass.TheVariants as comments
-use Rattle.pgn_lexer.specs.declared.class.StringClass.{StringClass}
 use Rattle.pgn_lexer.specs.declared.class.StringClass.TheVariants as strings
-use Rattle.pgn_lexer.specs.declared.token.LexReason.TheVariants.{SymbolTooLong, StringTooLong, WordTooLong, GlyphRange, UnclosedString, ControlByte}
-use Rattle.pgn_lexer.specs.declared.token.LexReason.{LexReason}
-use Rattle.pgn_lexer.specs.Bytes.{is_digit, continues_symbol, is_suffix, continues_word}
-use Rattle.pgn_lexer.specs.Tokens.{Kind, Token, symbol, glyph, word}
 use Rattle.pgn_lexer.specs.Spelling as spelling
-use Rattle.pgn_lexer.specs.Laws.{IsLast, RisesTo, TokensRise}
-use Rattle.pgn_lexer.specs.Spelling.{kind_of_single, class, comment_class, string_class, Found, gives, stops, Reading, closed, broken, datum, reading, symbol_at, word_at, glyph_at, numbered_at, suffix_at, string_at, number_of}
 use Rattle.pgn_lexer.specs.TokensOf as places
-use Rattle.pgn_lexer.specs.TokensOf.{Within, begins_class, begins_first, begins_after, begins_word, begins_brace, begins_line, begins, next, onto, at_end, tokens_from}
-use Rattle.std.proofs.lemmas.List.Sums.{take_while-cons}
 
 -- What begins at a place stands there or further on, and is a rejection or a token that is not the
 -- last.
@@ -59,7 +44,7 @@ reading_from start at n false (b ∷ bs) after =
     by_class strings.Plain true escaped more = datum_from start b _ more
     by_class strings.Plain false escaped more = omega arith
 reading_from start at n true (b ∷ bs) after =
-    by_class (string_class b) (nat_lt n 254) (reading_from start (at + 1) (n + 1) false bs (omega arith)) (reading_from start (at + 1) (n + 2) false bs (omega arith))
+    by_class _ _ (reading_from start _ _ false bs (omega arith)) (reading_from start _ _ false bs (omega arith))
   where
     by_class : (c : StringClass) (d : Bool) → ReadingFrom start (reading start (at + 1) (n + 1) false bs) → ReadingFrom start (reading start (at + 1) (n + 2) false bs)
         → ReadingFrom start (elim c [
@@ -73,7 +58,7 @@ reading_from start at n true (b ∷ bs) after =
     by_class strings.LineEnd d one two = omega arith
     by_class strings.Control d one two = omega arith
     by_class strings.Backslash d one two = datum_from start b _ one
-    by_class strings.Plain true one two = datum_from start 92 (datum b (reading start (at + 1) (n + 2) false bs)) (datum_from start b _ two)
+    by_class strings.Plain true one two = datum_from start 92 (datum b _) (datum_from start b _ two)
     by_class strings.Plain false one two = omega arith
 
 string_from : (at : ℕ) (r : Reading) → ReadingFrom at r → FoundFrom at (string_at r)
@@ -95,16 +80,16 @@ single_other singles.Asterisk last = last
 
 glyph_from : (at : ℕ) (ds : List ℕ) → FoundFrom at (glyph_at at ds)
 glyph_from at [] = omega arith
-glyph_from at (d ∷ ds) = found_if at (glyph (number_of (d ∷ ds))) GlyphRange (nat_le (number_of (d ∷ ds)) 255) (λ last. last)
+glyph_from at (d ∷ ds) = found_if at _ _ _ (λ last. last)
 
 suffix_from : (at : ℕ) (run : List ℕ) → FoundFrom at (suffix_at at run)
 suffix_from at [] = omega arith
-suffix_from at (a ∷ []) = cases (a == 33)
+suffix_from at (a ∷ []) = cases _
   where
     cases : (c : Bool) → FoundFrom at (if c then gives (glyph 1) else gives (glyph 2))
     cases true = λ last. last
     cases false = λ last. last
-suffix_from at (a ∷ b ∷ []) = cases (a == 33) (b == 33)
+suffix_from at (a ∷ b ∷ []) = cases _ _
   where
     cases : (c d : Bool) → FoundFrom at (if c then (if d then gives (glyph 3) else gives (glyph 5)) else (if d then gives (glyph 6) else gives (glyph 4)))
     cases true true = λ last. last
@@ -117,10 +102,10 @@ class_from : (at : ℕ) (c : Class) (b : ℕ) (bs : List ℕ) → FoundFrom at (
 class_from at classes.LineEnd b bs = tt
 class_from at classes.Space b bs = tt
 class_from at classes.Percent b bs = omega arith
-class_from at classes.SymbolStart b bs = found_if at (symbol (b ∷ take_while continues_symbol bs)) SymbolTooLong (nat_le (length (b ∷ take_while continues_symbol bs)) 255) (λ last. last)
-class_from at classes.Quote b bs = string_from at (reading at (at + 1) 0 false bs) (reading_from at (at + 1) 0 false bs (omega arith))
-class_from at classes.Dollar b bs = glyph_from at (take_while is_digit bs)
-class_from at classes.Suffix b bs = suffix_from at (b ∷ take_while is_suffix bs)
+class_from at classes.SymbolStart b bs = found_if at _ _ _ (λ last. last)
+class_from at classes.Quote b bs = string_from at _ (reading_from at _ 0 false bs (omega arith))
+class_from at classes.Dollar b bs = glyph_from at (take_while _ bs)
+class_from at classes.Suffix b bs = suffix_from at (b ∷ take_while _ bs)
 class_from at classes.OpenBrace b bs = λ last. last
 class_from at classes.Semicolon b bs = λ last. last
 class_from at (classes.Alone s) b bs = single_other s
@@ -136,7 +121,7 @@ after_from at false c b bs = class_from at c b bs
 
 word_from : (at : ℕ) (goes : Bool) (b : ℕ) (bs : List ℕ) → FoundFrom at (begins_word at goes b bs)
 word_from at true b bs = tt
-word_from at false b bs = found_if at (word (b ∷ take_while continues_word bs)) WordTooLong (nat_le (length (b ∷ take_while continues_word bs)) 79) (λ last. last)
+word_from at false b bs = found_if at _ _ _ (λ last. last)
 
 brace_from : (at : ℕ) (goes : Bool) (c : CommentClass) (b : ℕ) (bs : List ℕ) → FoundFrom at (begins_brace at goes c b bs)
 brace_from at goes comments.LineEnd b bs = tt
@@ -153,18 +138,18 @@ line_from at goes comments.WordByte b bs = word_from at goes b bs
 line_from at goes comments.Control b bs = omega arith
 
 begins_from : (at : ℕ) (within : Within) (b : ℕ) (bs : List ℕ) → FoundFrom at (begins at within b bs)
-begins_from at places.column b bs = first_from at (class b) b bs
-begins_from at places.outside b bs = class_from at (class b) b bs
+begins_from at places.column b bs = first_from at _ b bs
+begins_from at places.outside b bs = class_from at _ b bs
 begins_from at places.in_escape_line b bs = tt
-begins_from at places.in_symbol b bs = after_from at (continues_symbol b) (class b) b bs
-begins_from at places.in_glyph b bs = after_from at (is_digit b) (class b) b bs
-begins_from at places.in_suffix b bs = after_from at (is_suffix b) (class b) b bs
+begins_from at places.in_symbol b bs = after_from at _ _ b bs
+begins_from at places.in_glyph b bs = after_from at _ _ b bs
+begins_from at places.in_suffix b bs = after_from at _ _ b bs
 begins_from at places.quotes b bs = tt
 begins_from at places.backslash b bs = tt
-begins_from at places.brace b bs = brace_from at false (comment_class b) b bs
-begins_from at places.brace_word b bs = brace_from at true (comment_class b) b bs
-begins_from at places.line b bs = line_from at false (comment_class b) b bs
-begins_from at places.line_word b bs = line_from at true (comment_class b) b bs
+begins_from at places.brace b bs = brace_from at false _ b bs
+begins_from at places.brace_word b bs = brace_from at true _ b bs
+begins_from at places.line b bs = line_from at false _ b bs
+begins_from at places.line_word b bs = line_from at true _ b bs
 
 -- tokens that all stand at a place or further on
 abbrev pub AllFrom : ℕ → List Token → Type 0
@@ -175,8 +160,8 @@ all_from_less m n [] less all = tt
 all_from_less m n (t ∷ ts) less all = let here : n ≤ t.at = all.0 in (omega arith, all_from_less m n ts less all.1)
 
 onto_from : (at : ℕ) (f : Found) (ts : List Token) → FoundFrom at f → AllFrom (at + 1) ts → AllFrom at (onto at f ts)
-onto_from at spelling.nothing ts from all = all_from_less at (at + 1) ts (omega arith) all
-onto_from at (gives k) ts from all = (omega arith, all_from_less at (at + 1) ts (omega arith) all)
+onto_from at spelling.nothing ts from all = all_from_less at _ ts (omega arith) all
+onto_from at (gives k) ts from all = (omega arith, all_from_less at _ ts (omega arith) all)
 onto_from at (stops place r) ts from all = (from, tt)
 
 end_from : (at : ℕ) (within : Within) → AllFrom at (at_end at within)
@@ -238,8 +223,8 @@ tokens_from-rises at within (b ∷ bs) =
     onto_rises at (begins at within b bs) (tokens_from (at + 1) (next within b) bs) (begins_from at within b bs) (tokens_from-from (at + 1) (next within b) bs) (tokens_from-rises (at + 1) (next within b) bs)
 
 pub tokens_rise : TokensRise
-tokens_rise s = cases (places.has_mark s)
+tokens_rise s = cases _
   where
     cases : (m : Bool) → RisesTo (elim m [ true ↦ tokens_from 3 places.column (drop 3 s) | false ↦ tokens_from 0 places.column s ])
     cases true = tokens_from-rises 3 places.column (drop 3 s)
-    cases false = tokens_from-rises 0 places.column s
+    cases false = tokens_from-rises 0 _ s

@@ -1,29 +1,13 @@
 -- How a text is cut, and its tokens.
-use Rattle.std.proofs.Common.{◌≡◌, ℕ, ◌+◌, ◌<◌, ◌≤◌, Bool, true, false, inl, inr, List, [], ◌∷◌, ◌++◌, length, refl, sym, ap, ◌∙◌, append-nil, append_assoc, arith, length-append}
-use Rattle.std.specs.Prelude.{◌||◌, ◌⊎◌, not, take_while, if◌then◌else◌}
-use Rattle.std.specs.List.{list_all}
-use Rattle.std.proofs.lemmas.Bool.{false≢true}
-use Rattle.pgn_lexer.specs.declared.token.LexReason.{LexReason}
-use Rattle.pgn_lexer.specs.declared.token.LexReason.TheVariants.{ControlByte, BadSuffix}
-use Rattle.pgn_lexer.specs.declared.class.Class.{Class}
+use Rattle.pgn_lexer.proofs.Words.{◌≡◌, ℕ, ◌+◌, ◌<◌, ◌≤◌, Bool, true, false, inl, inr, List, [], ◌∷◌, ◌++◌, length, refl, sym, ap, ◌∙◌, append-nil, append_assoc, arith, length-append, ◌||◌, ◌⊎◌, not, take_while, if◌then◌else◌, list_all, false≢true, LexReason, ControlByte, BadSuffix, Class, CommentClass, is_line_end, is_blank, is_space, is_control, is_digit, starts_symbol, continues_symbol, is_suffix, continues_word, Kind, Token, class, comment_class, symbol_at, word_at, number_of, glyph_at, suffix_at, Within, begins_class, begins_brace, begins_line, after_class, after_brace, after_line, onto, tokens_from, tokens_of, StopsAt, IsRun, IsSingle, IsSuffix, SpellsToken, Refuses, Where, Cuts, both_true, string_at, reading, with_front, Data, or_cases, and_parts, not-true, not-false}
 use Rattle.pgn_lexer.specs.declared.class.Class.TheVariants as classes
-use Rattle.pgn_lexer.specs.declared.class.CommentClass.{CommentClass}
 use Rattle.pgn_lexer.specs.declared.class.CommentClass.TheVariants as comments
-use Rattle.pgn_lexer.specs.Bytes.{is_line_end, is_blank, is_space, is_control, is_digit, starts_symbol, continues_symbol, is_suffix, continues_word}
 use Rattle.pgn_lexer.specs.Tokens as tokens
-use Rattle.pgn_lexer.specs.Tokens.{Kind, Token}
-use Rattle.pgn_lexer.specs.Spelling.{class, comment_class, symbol_at, word_at, number_of, glyph_at, suffix_at}
 use Rattle.pgn_lexer.specs.TokensOf as places
-use Rattle.pgn_lexer.specs.TokensOf.{Within, begins_class, begins_brace, begins_line, after_class, after_brace, after_line, onto, tokens_from, tokens_of}
 use Rattle.pgn_lexer.specs.Lexes as rules
-use Rattle.pgn_lexer.specs.Lexes.{StopsAt, IsRun, IsSingle, IsSuffix, SpellsToken, Refuses, Where, Cuts}
 use Rattle.pgn_lexer.proofs.stepping.RunOfBytes.{take_while-true, take_while-false, symbol_goes, symbol_ends, glyph_goes, glyph_ends, suffix_goes, suffix_ends}
-use Rattle.pgn_lexer.proofs.bytes.ClassToTest.{either, both, stray_class, symbol_class, line_end_class, blank_class, line_end_comment, blank_comment, suffix_class, reserved_class, control_class, control_comment, letter_comment}
+use Rattle.pgn_lexer.proofs.bytes.ClassToTest.{stray_class, symbol_class, line_end_class, blank_class, line_end_comment, blank_comment, suffix_class, reserved_class, control_class, control_comment, letter_comment}
 use Rattle.pgn_lexer.proofs.stepping.ByteInSymbol.{symbol_fits, symbol_long}
-use Rattle.std.specs.Cmp.Derive.{both_true}
-use Rattle.pgn_lexer.specs.Spelling.{string_at, reading}
-use Rattle.pgn_lexer.specs.PartialToken.{with_front}
-use Rattle.pgn_lexer.specs.Lexes.{Data}
 use Rattle.pgn_lexer.proofs.cutting.StringData.{reads_data, reads_long, reads_control, reads_open, quotes_skip}
 use Rattle.pgn_lexer.proofs.stepping.ByteInComment.{word_fits, word_long, word_class, brace_ends, line_ends}
 use Rattle.pgn_lexer.proofs.stepping.ByteInGlyph.{number_fits, number_long}
@@ -40,7 +24,7 @@ pub take_run : (p : ℕ → Bool) (run s : List ℕ) → list_all p run ≡ true
 take_run p [] [] all stop = refl
 take_run p [] (b ∷ s) all stop = take_while-false p b s stop
 take_run p (b ∷ run) s all stop =
-    take_while-true p b (run ++ s) (both (p b) (list_all p run) all).0 ∙ ap (λ l. b ∷ l) (take_run p run s (both (p b) (list_all p run) all).1 stop)
+    take_while-true p b _ (and_parts _ _ all).0 ∙ ap (λ l. b ∷ l) (take_run p run s (and_parts _ _ all).1 stop)
 
 -- the places within a run give nothing
 module _ (within out : Within) (p : ℕ → Bool) (goes : (at b : ℕ) (s : List ℕ) → p b ≡ true → tokens_from at within (b ∷ s) ≡ tokens_from (at + 1) within s)
@@ -49,7 +33,7 @@ module _ (within out : Within) (p : ℕ → Bool) (goes : (at b : ℕ) (s : List
   skips at [] s all stop = let same : at ≡ at + 0 = omega arith in ends at s stop ∙ ap (λ n. tokens_from n out s) same
   skips at (b ∷ run) s all stop =
       let same : at + 1 + length run ≡ at + length (b ∷ run) = omega arith in
-      goes at b (run ++ s) (both (p b) (list_all p run) all).0 ∙ skips (at + 1) run s (both (p b) (list_all p run) all).1 stop ∙ ap (λ n. tokens_from n out s) same
+      goes at b (run ++ s) (and_parts _ _ all).0 ∙ skips (at + 1) run s (and_parts _ _ all).1 stop ∙ ap (λ n. tokens_from n out s) same
 
 symbol_stops : (at : ℕ) (s : List ℕ) → StopsAt continues_symbol s → tokens_from at places.in_symbol s ≡ tokens_from at places.outside s
 symbol_stops at [] stop = refl
@@ -62,14 +46,6 @@ glyph_stops at (b ∷ s) stop = glyph_ends at b s stop
 suffix_stops : (at : ℕ) (s : List ℕ) → StopsAt is_suffix s → tokens_from at places.in_suffix s ≡ tokens_from at places.outside s
 suffix_stops at [] stop = refl
 suffix_stops at (b ∷ s) stop = suffix_ends at b s stop
-
-not_true : (b : Bool) → not b ≡ true → b ≡ false
-not_true true e = absurd (false≢true e)
-not_true false e = refl
-
-not_false : (b : Bool) → not b ≡ false → b ≡ true
-not_false true e = refl
-not_false false e = absurd (false≢true (sym e))
 
 -- outside strings and comments, where no escape line begins
 from_class : (first : Bool) (at b : ℕ) (s : List ℕ) (c : Class) → class b ≡ c → (c ≡ classes.Percent → ⊥)
@@ -93,7 +69,7 @@ from_class true at b s c e other = ap (λ c. onto at (places.begins_first at c b
 
 pub space_skips : (first : Bool) (at b : ℕ) (s : List ℕ) → is_space b ≡ true
     → tokens_from at (within_of (rules.outside first)) (b ∷ s) ≡ tokens_from (at + 1) (within_of (rules.outside (is_line_end b))) s
-space_skips first at b s e = cases (either (is_line_end b) (is_blank b) e)
+space_skips first at b s e = cases (or_cases _ _ e)
   where
     cases : (is_line_end b ≡ true) ⊎ (is_blank b ≡ true) → tokens_from at (within_of (rules.outside first)) (b ∷ s) ≡ tokens_from (at + 1) (within_of (rules.outside (is_line_end b))) s
     cases (inl e) = from_class first at b s classes.LineEnd (line_end_class b e) (λ e. cc) ∙ ap (λ f. tokens_from (at + 1) (within_of (rules.outside f)) s) (sym e)
@@ -102,37 +78,37 @@ space_skips first at b s e = cases (either (is_line_end b) (is_blank b) e)
 pub symbol_cut : (first : Bool) (at b : ℕ) (run s : List ℕ) → starts_symbol b ≡ true → list_all continues_symbol run ≡ true → StopsAt continues_symbol s
     → tokens_from at (within_of (rules.outside first)) (b ∷ (run ++ s)) ≡ onto at (symbol_at at (b ∷ run)) (tokens_from (at + 1 + length run) places.outside s)
 symbol_cut first at b run s e all stop =
-    from_class first at b (run ++ s) classes.SymbolStart (symbol_class b e) (λ e. cc)
-    ∙ ap (λ r. onto at (symbol_at at (b ∷ r)) (tokens_from (at + 1) places.in_symbol (run ++ s))) (take_run continues_symbol run s all stop)
-    ∙ ap (onto at (symbol_at at (b ∷ run))) (skips places.in_symbol places.outside continues_symbol symbol_goes symbol_stops (at + 1) run s all stop)
+    from_class first at b _ classes.SymbolStart (symbol_class b e) (λ e. cc)
+    ∙ ap (λ r. onto at (symbol_at at (b ∷ r)) (tokens_from (at + 1) places.in_symbol (run ++ s))) (take_run _ run s all stop)
+    ∙ ap (onto at (symbol_at at (b ∷ run))) (skips places.in_symbol places.outside _ symbol_goes symbol_stops (at + 1) run s all stop)
 
 pub glyph_cut : (first : Bool) (at : ℕ) (run s : List ℕ) → list_all is_digit run ≡ true → StopsAt is_digit s
     → tokens_from at (within_of (rules.outside first)) (36 ∷ (run ++ s)) ≡ onto at (glyph_at at run) (tokens_from (at + 1 + length run) places.outside s)
 glyph_cut first at run s all stop =
-    from_class first at 36 (run ++ s) classes.Dollar refl (λ e. cc)
-    ∙ ap (λ r. onto at (glyph_at at r) (tokens_from (at + 1) places.in_glyph (run ++ s))) (take_run is_digit run s all stop)
-    ∙ ap (onto at (glyph_at at run)) (skips places.in_glyph places.outside is_digit glyph_goes glyph_stops (at + 1) run s all stop)
+    from_class first at 36 _ _ refl (λ e. cc)
+    ∙ ap (λ r. onto at (glyph_at at r) (tokens_from (at + 1) places.in_glyph (run ++ s))) (take_run _ run s all stop)
+    ∙ ap (onto at (glyph_at at run)) (skips places.in_glyph _ _ glyph_goes glyph_stops _ run s all stop)
 
 pub suffix_cut : (first : Bool) (at b : ℕ) (run s : List ℕ) → is_suffix b ≡ true → list_all is_suffix run ≡ true → StopsAt is_suffix s
     → tokens_from at (within_of (rules.outside first)) (b ∷ (run ++ s)) ≡ onto at (suffix_at at (b ∷ run)) (tokens_from (at + 1 + length run) places.outside s)
 suffix_cut first at b run s e all stop =
-    from_class first at b (run ++ s) classes.Suffix (suffix_class b e) (λ e. cc)
-    ∙ ap (λ r. onto at (suffix_at at (b ∷ r)) (tokens_from (at + 1) places.in_suffix (run ++ s))) (take_run is_suffix run s all stop)
-    ∙ ap (onto at (suffix_at at (b ∷ run))) (skips places.in_suffix places.outside is_suffix suffix_goes suffix_stops (at + 1) run s all stop)
+    from_class first at b _ classes.Suffix (suffix_class b e) (λ e. cc)
+    ∙ ap (λ r. onto at (suffix_at at (b ∷ r)) (tokens_from (at + 1) places.in_suffix (run ++ s))) (take_run _ run s all stop)
+    ∙ ap (onto at (suffix_at at (b ∷ run))) (skips places.in_suffix places.outside _ suffix_goes suffix_stops (at + 1) run s all stop)
 
 -- an escape line
 escape_line_goes : (at b : ℕ) (s : List ℕ) → not (is_line_end b) ≡ true → tokens_from at places.in_escape_line (b ∷ s) ≡ tokens_from (at + 1) places.in_escape_line s
-escape_line_goes at b s e = ap (λ c. tokens_from (at + 1) (if c then places.column else places.in_escape_line) s) (not_true (is_line_end b) e)
+escape_line_goes at b s e = ap (λ c. tokens_from (at + 1) (if c then places.column else places.in_escape_line) s) (not-true _ e)
 
 escape_line_stops : (at : ℕ) (s : List ℕ) → StopsAt (λ b. not (is_line_end b)) s → tokens_from at places.in_escape_line s ≡ tokens_from at places.outside s
 escape_line_stops at [] stop = refl
 escape_line_stops at (b ∷ s) stop =
-    let e : is_line_end b ≡ true = not_false (is_line_end b) stop in
+    let e : is_line_end b ≡ true = not-false _ stop in
     ap (λ c. tokens_from (at + 1) (if c then places.column else places.in_escape_line) s) e ∙ sym (from_class false at b s classes.LineEnd (line_end_class b e) (λ e. cc))
 
 pub escape_line_cut : (at : ℕ) (run s : List ℕ) → list_all (λ b. not (is_line_end b)) run ≡ true → StopsAt (λ b. not (is_line_end b)) s
     → tokens_from at places.column (37 ∷ (run ++ s)) ≡ tokens_from (at + 1 + length run) places.outside s
-escape_line_cut at run s all stop = skips places.in_escape_line places.outside (λ b. not (is_line_end b)) escape_line_goes escape_line_stops (at + 1) run s all stop
+escape_line_cut at run s all stop = skips _ _ _ escape_line_goes escape_line_stops _ run s all stop
 
 -- in a comment
 abbrev pub word_within : Bool → Within
@@ -161,8 +137,8 @@ word_goes false at b s e = from_word false at b s comments.WordByte (letter_comm
 word_stops : (braces : Bool) (at : ℕ) (s : List ℕ) → StopsAt continues_word s → tokens_from at (word_within braces) s ≡ tokens_from at (within_of (rules.comment braces)) s
 word_stops true at [] stop = refl
 word_stops false at [] stop = refl
-word_stops true at (b ∷ s) stop = brace_ends (comment_class b) at b s (sym (word_class b) ∙ stop)
-word_stops false at (b ∷ s) stop = line_ends (comment_class b) at b s (sym (word_class b) ∙ stop)
+word_stops true at (b ∷ s) stop = brace_ends _ at b s (sym (word_class b) ∙ stop)
+word_stops false at (b ∷ s) stop = line_ends _ at b s (sym (word_class b) ∙ stop)
 
 letter_first : (braces : Bool) (at b : ℕ) (s : List ℕ) → continues_word b ≡ true
     → tokens_from at (within_of (rules.comment braces)) (b ∷ s) ≡ onto at (word_at at (b ∷ take_while continues_word s)) (tokens_from (at + 1) (word_within braces) s)
@@ -173,22 +149,22 @@ letter_first false at b s e = from_comment false at b s comments.WordByte (lette
 pub word_cut : (braces : Bool) (at b : ℕ) (run s : List ℕ) → continues_word b ≡ true → list_all continues_word run ≡ true → StopsAt continues_word s
     → tokens_from at (within_of (rules.comment braces)) (b ∷ (run ++ s)) ≡ onto at (word_at at (b ∷ run)) (tokens_from (at + 1 + length run) (within_of (rules.comment braces)) s)
 word_cut braces at b run s e all stop =
-    letter_first braces at b (run ++ s) e
-    ∙ ap (λ r. onto at (word_at at (b ∷ r)) (tokens_from (at + 1) (word_within braces) (run ++ s))) (take_run continues_word run s all stop)
-    ∙ ap (onto at (word_at at (b ∷ run))) (skips (word_within braces) (within_of (rules.comment braces)) continues_word (word_goes braces) (word_stops braces) (at + 1) run s all stop)
+    letter_first braces at b _ e
+    ∙ ap (λ r. onto at (word_at at (b ∷ r)) (tokens_from (at + 1) (word_within braces) (run ++ s))) (take_run _ run s all stop)
+    ∙ ap (onto at (word_at at (b ∷ run))) (skips (word_within braces) (within_of (rules.comment braces)) _ (word_goes braces) (word_stops braces) (at + 1) run s all stop)
 
 pub blank_in_comment : (braces : Bool) (at b : ℕ) (s : List ℕ) → is_space b ≡ true → (braces || not (is_line_end b)) ≡ true
     → tokens_from at (within_of (rules.comment braces)) (b ∷ s) ≡ tokens_from (at + 1) (within_of (rules.comment braces)) s
 unfolding comment_tokens
-blank_in_comment true at b s e _ = cases (either (is_line_end b) (is_blank b) e)
+blank_in_comment true at b s e _ = cases (or_cases _ _ e)
   where
     cases : (is_line_end b ≡ true) ⊎ (is_blank b ≡ true) → tokens_from at places.brace (b ∷ s) ≡ tokens_from (at + 1) places.brace s
     cases (inl e) = from_comment true at b s comments.LineEnd (line_end_comment b e)
     cases (inr e) = from_comment true at b s comments.Space (blank_comment b e)
-blank_in_comment false at b s e other = cases (either (is_line_end b) (is_blank b) e)
+blank_in_comment false at b s e other = cases (or_cases _ _ e)
   where
     cases : (is_line_end b ≡ true) ⊎ (is_blank b ≡ true) → tokens_from at places.line (b ∷ s) ≡ tokens_from (at + 1) places.line s
-    cases (inl e) = absurd (false≢true (sym (not_true (is_line_end b) other) ∙ e))
+    cases (inl e) = absurd (false≢true (sym (not-true _ other) ∙ e))
     cases (inr e) = from_comment false at b s comments.Space (blank_comment b e)
 
 pub control_in_comment : (braces : Bool) (at b : ℕ) (s : List ℕ) → is_control b ≡ true
@@ -228,23 +204,23 @@ module _ (first : Bool) (at : ℕ) where
       ≡ onto at (string_at (with_front text (reading at (at + 1 + length raw) (length text) false rest))) (tokens_from (at + 1) places.quotes (raw ++ rest))
   string_reads raw text rest data' fits =
       let none : 0 + length text ≡ length text = omega arith in
-      from_class first at 34 (raw ++ rest) classes.Quote refl (λ e. cc)
+      from_class first at 34 _ _ refl (λ e. cc)
       ∙ ap (λ r. onto at (string_at r) (tokens_from (at + 1) places.quotes (raw ++ rest)))
-      (reads_data at (at + 1) 0 raw text rest data' (omega arith) ∙ ap (λ n. with_front text (reading at (at + 1 + length raw) n false rest)) none)
+      (reads_data at _ 0 raw text rest data' (omega arith) ∙ ap (λ n. with_front text (reading at (at + 1 + length raw) n false rest)) none)
 
   pub spells_is : (run s : List ℕ) (k : Kind) → SpellsToken run s k → tokens_from at (within_of (rules.outside first)) (run ++ s) ≡ record { at = at; kind = k } ∷ tokens_from (at + length run) places.outside s
   spells_is _ _ _ (rules.symbol b run s e long fits) =
       let same : at + 1 + length run ≡ at + length (b ∷ run) = omega arith in
-      symbol_cut first at b run s e long.0 long.1 ∙ ap (λ f. onto at f (tokens_from (at + 1 + length run) places.outside s)) (symbol_fits at (b ∷ run) fits) ∙ moved _ _ _ s same
+      symbol_cut first at b run s e long.0 long.1 ∙ ap (λ f. onto at f (tokens_from (at + 1 + length run) places.outside s)) (symbol_fits at _ fits) ∙ moved _ _ _ s same
   spells_is _ _ _ (rules.string raw text s data' fits) =
       let same : at + 1 + length raw + 1 ≡ at + length (34 ∷ (raw ++ 34 ∷ [])) = omega (arith, length-append raw (34 ∷ [])) in
       ap (λ l. tokens_from at (within_of (rules.outside first)) (34 ∷ l)) (append_assoc raw (34 ∷ []) s)
-      ∙ string_reads raw text (34 ∷ s) data' fits
+      ∙ string_reads raw text _ data' fits
       ∙ ap (λ t. record { at = at; kind = tokens.str t } ∷ tokens_from (at + 1) places.quotes (raw ++ 34 ∷ s)) (append-nil text)
-      ∙ ap (λ ts. record { at = at; kind = tokens.str text } ∷ ts) (quotes_skip (at + 1) raw text (34 ∷ s) s data' refl ∙ ap (λ n. tokens_from n places.outside s) same)
+      ∙ ap (λ ts. record { at = at; kind = tokens.str text } ∷ ts) (quotes_skip _ raw text _ s data' refl ∙ ap (λ n. tokens_from n places.outside s) same)
   spells_is _ _ _ (rules.glyph d ds s e long fits) =
       let same : at + 1 + length (d ∷ ds) ≡ at + length (36 ∷ d ∷ ds) = omega arith in
-      glyph_cut first at (d ∷ ds) s (both_true e long.0) long.1 ∙ ap (λ f. onto at f (tokens_from (at + 1 + length (d ∷ ds)) places.outside s)) (number_fits at (number_of (d ∷ ds)) fits) ∙ moved _ _ _ s same
+      glyph_cut first at (d ∷ ds) s (both_true e long.0) long.1 ∙ ap (λ f. onto at f (tokens_from (at + 1 + length (d ∷ ds)) places.outside s)) (number_fits at _ fits) ∙ moved _ _ _ s same
   spells_is _ _ _ (rules.suffix run s n is stop) = suffix_is run s n is stop
   spells_is _ _ _ (rules.single b s k is) = single_is b s k is ∙ moved _ _ _ s (omega arith)
 
@@ -276,7 +252,7 @@ module _ (first : Bool) (at : ℕ) where
       ∙ ap (λ r. onto at (string_at (with_front text r)) (tokens_from (at + 1) places.quotes (raw ++ s))) (reads_open at (at + 1 + length raw) (length text) s stop) ∙ here _ _ (omega arith)
   refuses_is _ _ _ (rules.lone_dollar s stop) = glyph_cut first at [] s refl stop ∙ here _ _ (omega arith)
   refuses_is _ _ _ (rules.large_glyph d ds s e long over) =
-      glyph_cut first at (d ∷ ds) s (both_true e long.0) long.1 ∙ ap (λ f. onto at f (tokens_from (at + 1 + length (d ∷ ds)) places.outside s)) (number_long at (number_of (d ∷ ds)) over) ∙ here _ _ (omega arith)
+      glyph_cut first at (d ∷ ds) s (both_true e long.0) long.1 ∙ ap (λ f. onto at f (tokens_from (at + 1 + length (d ∷ ds)) places.outside s)) (number_long at _ over) ∙ here _ _ (omega arith)
   refuses_is _ _ _ (rules.bad_suffix run s long many) = bad_run run s long many
     where
       bad_run : (run s : List ℕ) → IsRun is_suffix run s → 2 < length run → tokens_from at (within_of (rules.outside first)) (run ++ s) ≡ record { at = at + 0; kind = tokens.refused BadSuffix } ∷ []
@@ -284,7 +260,7 @@ module _ (first : Bool) (at : ℕ) where
       bad_run (a ∷ []) s long many = absurd (omega arith)
       bad_run (a ∷ b ∷ []) s long many = absurd (omega arith)
       bad_run (a ∷ b ∷ c ∷ run) s long many =
-          let all = both (is_suffix a) (list_all is_suffix (b ∷ c ∷ run)) long.0 in
+          let all = and_parts (is_suffix a) (list_all is_suffix (b ∷ c ∷ run)) long.0 in
           suffix_cut first at a (b ∷ c ∷ run) s all.0 all.1 long.1 ∙ here _ _ (omega arith)
 
 -- the tokens of a cut are those of the text
@@ -296,14 +272,14 @@ cuts_is _ _ _ _ (rules.escape_line at run s ts long more) = cuts_is _ _ _ _ more
 cuts_is _ _ _ _ (rules.stray_percent at s) = refl
 cuts_is _ _ _ _ (rules.token first at run s k ts spelled more) = ap (λ ts. record { at = at; kind = k } ∷ ts) (cuts_is _ _ _ _ more) ∙ sym (spells_is first at run s k spelled)
 cuts_is _ _ _ _ (rules.refuses first at n s r bad) = sym (refuses_is first at s n r bad)
-cuts_is _ _ _ _ (rules.opens_brace first at s ts more) = ap (λ ts. record { at = at; kind = tokens.comment_open } ∷ ts) (cuts_is _ _ _ _ more) ∙ sym (from_class first at 123 s classes.OpenBrace refl (λ e. cc))
-cuts_is _ _ _ _ (rules.opens_line first at s ts more) = ap (λ ts. record { at = at; kind = tokens.comment_open } ∷ ts) (cuts_is _ _ _ _ more) ∙ sym (from_class first at 59 s classes.Semicolon refl (λ e. cc))
+cuts_is _ _ _ _ (rules.opens_brace first at s ts more) = ap (λ ts. record { at = at; kind = tokens.comment_open } ∷ ts) (cuts_is _ _ _ _ more) ∙ sym (from_class first at 123 s _ refl (λ e. cc))
+cuts_is _ _ _ _ (rules.opens_line first at s ts more) = ap (λ ts. record { at = at; kind = tokens.comment_open } ∷ ts) (cuts_is _ _ _ _ more) ∙ sym (from_class first at 59 s _ refl (λ e. cc))
 cuts_is _ _ _ _ (rules.open_at_end at) = refl
 cuts_is _ _ _ _ (rules.closed_at_end at) = refl
 cuts_is _ _ _ _ (rules.between_words braces at b s ts e other more) = cuts_is _ _ _ _ more ∙ sym (blank_in_comment braces at b s e other)
 cuts_is _ _ _ _ (rules.word braces at b run s ts e long fits more) =
     ap (λ ts. record { at = at; kind = tokens.word (b ∷ run) } ∷ ts) (cuts_is _ _ _ _ more)
-    ∙ sym (word_cut braces at b run s e long.0 long.1 ∙ ap (λ f. onto at f (tokens_from (at + 1 + length run) (within_of (rules.comment braces)) s)) (word_fits at (b ∷ run) fits))
+    ∙ sym (word_cut braces at b run s e long.0 long.1 ∙ ap (λ f. onto at f (tokens_from (at + 1 + length run) (within_of (rules.comment braces)) s)) (word_fits at _ fits))
 cuts_is _ _ _ _ (rules.long_word braces at b run s e long over) =
     sym (word_cut braces at b run s e long.0 long.1 ∙ ap (λ f. onto at f (tokens_from (at + 1 + length run) (within_of (rules.comment braces)) s)) (word_long at (b ∷ run) over))
 cuts_is _ _ _ _ (rules.control_in_comment braces at b s e) = sym (control_in_comment braces at b s e)

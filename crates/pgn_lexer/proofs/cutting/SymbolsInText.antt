@@ -1,12 +1,6 @@
 -- The bytes of a symbol stand in the text at its place, and so does an asterisk.
-use Rattle.std.proofs.Common.{◌≡◌, ℕ, ◌+◌, List, [], ◌∷◌, ◌++◌, length, drop, codes, refl, sym, ap, subst, ◌∙◌, append_assoc, length-append, arith}
-use Rattle.std.specs.List.{AllByRecursion}
-use Rattle.std.proofs.Math.Seq.{drop-append_seam}
+use Rattle.pgn_lexer.proofs.Words.{◌≡◌, ℕ, ◌+◌, List, [], ◌∷◌, ◌++◌, length, drop, codes, refl, sym, ap, subst, ◌∙◌, append_assoc, length-append, arith, AllByRecursion, drop-append_seam, IsSingle, SpellsToken, Where, Cuts, Lexes, BeginsWithToken, SymbolsStandInText, Kind, Token, tokens_of}
 use Rattle.pgn_lexer.specs.Lexes as rules
-use Rattle.pgn_lexer.specs.Lexes.{IsSingle, SpellsToken, Where, Cuts, Lexes}
-use Rattle.pgn_lexer.specs.Laws.{BeginsWithToken, SymbolsStandInText}
-use Rattle.pgn_lexer.specs.Tokens.{Kind, Token}
-use Rattle.pgn_lexer.specs.TokensOf.{tokens_of}
 use Rattle.pgn_lexer.proofs.cutting.EachTextIsCut.{lexes_once}
 
 single_begins : (b : ℕ) (s : List ℕ) (k : Kind) → IsSingle b k → BeginsWithToken k (b ∷ s)
@@ -82,4 +76,4 @@ one_of whole (x ∷ given) rest t all = one_of whole given rest t all.1
 
 pub symbols_stand_in_text : SymbolsStandInText
 symbols_stand_in_text s given rest t is =
-    one_of s given rest t (subst (AllStand s) is (lexed_stands s (tokens_of s) ((lexes_once s (tokens_of s)).1 refl)))
+    one_of s given rest t (subst (AllStand s) is (lexed_stands s _ ((lexes_once s _).1 refl)))

@@ -1,27 +1,11 @@
 -- The tokens behind a symbol or an asterisk, and those behind white space.
-use Rattle.std.proofs.Common.{◌≡◌, ℕ, zero, suc, ◌+◌, Bool, true, false, cond, ◌&&◌, List, [], ◌∷◌, ◌++◌, length, refl, sym, ap, ◌∙◌, arith, append_assoc, subst, length-append}
-use Rattle.std.specs.Prelude.{take_while, drop, nat_le, replicate, None, ◌==◌, if◌then◌else◌}
-use Rattle.std.proofs.lemmas.List.{length-replicate}
-use Rattle.std.proofs.lemmas.List.Sums.{take_while-cons}
-use Rattle.pgn_lexer.specs.declared.class.Class.{Class}
+use Rattle.pgn_lexer.proofs.Words.{◌≡◌, ℕ, zero, suc, ◌+◌, Bool, true, false, cond, ◌&&◌, List, [], ◌∷◌, ◌++◌, length, refl, sym, ap, ◌∙◌, arith, append_assoc, subst, length-append, take_while, drop, nat_le, replicate, None, ◌==◌, if◌then◌else◌, length-replicate, take_while-cons, Class, Single, CommentClass, SymbolTooLong, is_digit, continues_symbol, is_suffix, continues_word, Kind, Token, EndsAt, symbol, glyph, LineStart, Outside, PartialToken, coming, StandsAfter, CanBeMarker, TextsRestart, class, comment_class, Found, gives, stops, closed, broken, Reading, kind_of_single, symbol_at, string_at, glyph_at, suffix_at, reading, number_of, Within, after_class, after_run, begins_class, begins_first, begins_after, begins_word, begins_brace, begins_line, begins, next, onto, at_end, tokens_from, tokens_of, has_mark}
 use Rattle.pgn_lexer.specs.declared.class.Class.TheVariants as classes
-use Rattle.pgn_lexer.specs.declared.class.Single.{Single}
 use Rattle.pgn_lexer.specs.declared.class.Single.TheVariants as singles
-use Rattle.pgn_lexer.specs.declared.class.CommentClass.{CommentClass}
 use Rattle.pgn_lexer.specs.declared.class.CommentClass.TheVariants as comments
-use Rattle.pgn_lexer.specs.declared.token.LexReason.TheVariants.{SymbolTooLong}
-use Rattle.pgn_lexer.specs.Bytes.{is_digit, continues_symbol, is_suffix, continues_word}
-use Rattle.pgn_lexer.specs.Tokens.{Kind, Token, EndsAt, symbol, glyph}
-use Rattle.pgn_lexer.specs.declared.partial_token.Mode.TheVariants.{LineStart, Outside}
-use Rattle.pgn_lexer.specs.PartialToken.{PartialToken}
-use Rattle.pgn_lexer.specs.Standing.{coming}
-use Rattle.pgn_lexer.specs.Stands.{StandsAfter}
 use Rattle.pgn_lexer.specs.WhiteSpace.{white_space}
-use Rattle.pgn_lexer.specs.Laws.{CanBeMarker, TextsRestart}
 use Rattle.pgn_lexer.specs.Spelling as spelling
-use Rattle.pgn_lexer.specs.Spelling.{class, comment_class, Found, gives, stops, closed, broken, Reading, kind_of_single, symbol_at, string_at, glyph_at, suffix_at, reading, number_of}
 use Rattle.pgn_lexer.specs.TokensOf as places
-use Rattle.pgn_lexer.specs.TokensOf.{Within, after_class, after_run, begins_class, begins_first, begins_after, begins_word, begins_brace, begins_line, begins, next, onto, at_end, tokens_from, tokens_of, has_mark}
 
 -- the tokens from a place behind a run of symbol bytes on
 abbrev Behind : ℕ → List ℕ → List ℕ → List Token
@@ -68,7 +52,7 @@ found_if at b bs k stop rest false other none = none
 
 symbol_goes_on : (at b : ℕ) (bs : List ℕ)
     → FoundGoesOn at b bs (symbol_at at (b ∷ take_while continues_symbol bs)) (tokens_from (at + 1) places.in_symbol bs)
-symbol_goes_on at b bs = by_length (nat_le (length (b ∷ take_while continues_symbol bs)) 255)
+symbol_goes_on at b bs = by_length _
   where
     n : ℕ
     n = length (take_while continues_symbol bs)
@@ -100,12 +84,12 @@ glyph_goes_on at b bs (d ∷ ds) rest = found_if at b bs _ _ rest (nat_le (numbe
 
 suffix_goes_on : (at b : ℕ) (bs run : List ℕ) (rest : List Token) → FoundGoesOn at b bs (suffix_at at run) rest
 suffix_goes_on at b bs [] rest = tt
-suffix_goes_on at b bs (c ∷ []) rest = cases (c == 33)
+suffix_goes_on at b bs (c ∷ []) rest = cases _
   where
     cases : (one : Bool) → FoundGoesOn at b bs (if one then gives (glyph 1) else gives (glyph 2)) rest
     cases true = λ behind ends can. absurd can
     cases false = λ behind ends can. absurd can
-suffix_goes_on at b bs (c ∷ d ∷ []) rest = cases (c == 33) (d == 33)
+suffix_goes_on at b bs (c ∷ d ∷ []) rest = cases _ _
   where
     cases : (one two : Bool) → FoundGoesOn at b bs (if one then (if two then gives (glyph 3) else gives (glyph 5)) else (if two then gives (glyph 6) else gives (glyph 4))) rest
     cases true true = λ behind ends can. absurd can
@@ -119,9 +103,9 @@ class_goes_on at classes.LineEnd b bs = tt
 class_goes_on at classes.Space b bs = tt
 class_goes_on at classes.Percent b bs = tt
 class_goes_on at classes.SymbolStart b bs = symbol_goes_on at b bs
-class_goes_on at classes.Quote b bs = string_goes_on at b bs (reading at (at + 1) 0 false bs) _
-class_goes_on at classes.Dollar b bs = glyph_goes_on at b bs (take_while is_digit bs) _
-class_goes_on at classes.Suffix b bs = suffix_goes_on at b bs (b ∷ take_while is_suffix bs) _
+class_goes_on at classes.Quote b bs = string_goes_on at b bs _ _
+class_goes_on at classes.Dollar b bs = glyph_goes_on at b bs (take_while _ bs) _
+class_goes_on at classes.Suffix b bs = suffix_goes_on at b bs (b ∷ take_while _ bs) _
 class_goes_on at classes.OpenBrace b bs = λ behind ends can. absurd can
 class_goes_on at classes.Semicolon b bs = λ behind ends can. absurd can
 class_goes_on at (classes.Alone s) b bs = single_goes_on at b bs s
@@ -138,7 +122,7 @@ run_goes_on at false within c b bs = class_goes_on at c b bs
 
 word_goes_on : (at : ℕ) (goes : Bool) (b : ℕ) (bs : List ℕ) (rest : List Token) → FoundGoesOn at b bs (begins_word at goes b bs) rest
 word_goes_on at true b bs rest = tt
-word_goes_on at false b bs rest = found_if at b bs _ _ rest (nat_le (length (b ∷ take_while continues_word bs)) 79) (λ can. can) tt
+word_goes_on at false b bs rest = found_if at b bs _ _ rest (nat_le (length (b ∷ take_while _ bs)) 79) (λ can. can) tt
 
 brace_goes_on : (at : ℕ) (goes : Bool) (c : CommentClass) (b : ℕ) (bs : List ℕ) (rest : List Token) → FoundGoesOn at b bs (begins_brace at goes c b bs) rest
 brace_goes_on at goes comments.LineEnd b bs rest = tt
@@ -155,18 +139,18 @@ line_goes_on at goes comments.WordByte b bs rest = word_goes_on at goes b bs res
 line_goes_on at goes comments.Control b bs rest = tt
 
 begins_goes_on : (at : ℕ) (within : Within) (b : ℕ) (bs : List ℕ) → FoundGoesOn at b bs (begins at within b bs) (tokens_from (at + 1) (next within b) bs)
-begins_goes_on at places.column b bs = first_goes_on at (class b) b bs
-begins_goes_on at places.outside b bs = class_goes_on at (class b) b bs
+begins_goes_on at places.column b bs = first_goes_on at _ b bs
+begins_goes_on at places.outside b bs = class_goes_on at _ b bs
 begins_goes_on at places.in_escape_line b bs = tt
-begins_goes_on at places.in_symbol b bs = run_goes_on at (continues_symbol b) places.in_symbol (class b) b bs
-begins_goes_on at places.in_glyph b bs = run_goes_on at (is_digit b) places.in_glyph (class b) b bs
-begins_goes_on at places.in_suffix b bs = run_goes_on at (is_suffix b) places.in_suffix (class b) b bs
+begins_goes_on at places.in_symbol b bs = run_goes_on at _ _ _ b bs
+begins_goes_on at places.in_glyph b bs = run_goes_on at _ _ _ b bs
+begins_goes_on at places.in_suffix b bs = run_goes_on at _ _ _ b bs
 begins_goes_on at places.quotes b bs = tt
 begins_goes_on at places.backslash b bs = tt
-begins_goes_on at places.brace b bs = brace_goes_on at false (comment_class b) b bs _
-begins_goes_on at places.brace_word b bs = brace_goes_on at true (comment_class b) b bs _
-begins_goes_on at places.line b bs = line_goes_on at false (comment_class b) b bs _
-begins_goes_on at places.line_word b bs = line_goes_on at true (comment_class b) b bs _
+begins_goes_on at places.brace b bs = brace_goes_on at false _ b bs _
+begins_goes_on at places.brace_word b bs = brace_goes_on at true _ b bs _
+begins_goes_on at places.line b bs = line_goes_on at false _ b bs _
+begins_goes_on at places.line_word b bs = line_goes_on at true _ b bs _
 
 -- a byte before the text
 one_before : (at b : ℕ) (bs : List ℕ) (ts : List Token) → AllGoOn (at + 1) bs ts → AllGoOn at (b ∷ bs) ts
@@ -208,8 +192,8 @@ goes_on_at at s (g ∷ given) t rest all = goes_on_at at s given t rest all.1
 -- ---- White space
 
 behind_spaces : (n at : ℕ) (s : List ℕ) → tokens_from at places.outside (replicate n 32 ++ s) ≡ tokens_from (at + n) places.outside s
-behind_spaces zero at s = ap (λ place. tokens_from place places.outside s) (omega arith)
-behind_spaces (suc n) at s = behind_spaces n (at + 1) s ∙ ap (λ place. tokens_from place places.outside s) (omega arith)
+behind_spaces zero at s = ap (λ place. tokens_from place _ s) (omega arith)
+behind_spaces (suc n) at s = behind_spaces n _ s ∙ ap (λ place. tokens_from place places.outside s) (omega arith)
 
 -- what the place behind white space is inside of
 abbrev pub column_or_outside : Bool → Within
@@ -256,7 +240,7 @@ behind_both (suc k) n [] s many = absurd (omega (arith, many))
 behind_both (suc k) n (b ∷ u) s many = behind_both k n u s (omega (arith, many))
 
 pub texts_restart : TextsRestart
-texts_restart u s given rest t cut ends can = by_mark (has_mark (u ++ s)) refl
+texts_restart u s given rest t cut ends can = by_mark _ refl
   where
     of_mark : (m : Bool) → has_mark (u ++ s) ≡ m
         → tokens_of (u ++ s) ≡ elim m [ true ↦ tokens_from 3 places.column (drop 3 (u ++ s)) | false ↦ tokens_from 0 places.column (u ++ s) ]
@@ -265,7 +249,7 @@ texts_restart u s given rest t cut ends can = by_mark (has_mark (u ++ s)) refl
 
     closing : (k : ℕ) → AllGoOn k (drop k (u ++ s)) (given ++ t ∷ rest) → rest ≡ tokens_of (white_space (length u) false ++ s)
     closing k all =
-        let found = goes_on_at k (drop k (u ++ s)) given t rest all (length u) ends can in
+        let found = goes_on_at k (drop k _) given t rest all (length u) ends can in
         let many : length u ≡ suc (k + found.0) = omega (arith, found.1) in
         found.2
         ∙ ap (λ bs. tokens_from (length u) places.outside bs) (behind_both k (suc found.0) u s found.1)
@@ -294,7 +278,7 @@ begins_later : (n : ℕ) (first : Bool) → StandsAfter (record { count = suc n;
 begins_later n first = record {
   count = length_of_white_space n first;
   before = tt;
-  tokens = λ s follows. behind_white_space n first s ∙ coming_between (suc n) first s;
+  tokens = λ s follows. behind_white_space n first s ∙ coming_between _ first s;
 }
 
 pub begins_behind : (place : ℕ) (first : Bool) (h : PartialToken) → (place ≡ 0 → ⊥) → h ≡ between first

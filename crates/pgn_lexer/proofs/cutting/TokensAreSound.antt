@@ -1,23 +1,12 @@
 -- What the tokens that the rules cut are made of.
-use Rattle.std.proofs.Common.{◌≡◌, ℕ, ◌≤◌, Bool, true, false, not, inl, inr, List, ◌∷◌, refl, arith}
-use Rattle.std.specs.Prelude.{◌||◌, ◌⊎◌, map, ◌==◌}
-use Rattle.std.specs.Cmp.Derive.{both_true}
-use Rattle.std.specs.List.{AllByRecursion, list_all}
-use Rattle.std.proofs.lemmas.Bool.{eqb-true, false≢true}
-use Rattle.pgn_lexer.specs.Bytes.{starts_symbol, continues_symbol}
+use Rattle.pgn_lexer.proofs.Words.{◌≡◌, ℕ, ◌≤◌, Bool, true, false, not, inl, inr, List, ◌∷◌, refl, arith, ◌||◌, ◌⊎◌, map, ◌==◌, both_true, AllByRecursion, list_all, eqb-true, false≢true, starts_symbol, continues_symbol, is_escaped, is_barred, Data, IsSingle, IsSuffix, SpellsToken, Where, Cuts, Lexes, TokensAreSound, IsSoundKind, CommentsClose, AreSoundTokens, Kind, Token, tokens_of, or_cases}
 use Rattle.pgn_lexer.specs.Lexes as rules
-use Rattle.pgn_lexer.specs.Lexes.{is_escaped, is_barred, Data, IsSingle, IsSuffix, SpellsToken, Where, Cuts, Lexes}
-use Rattle.pgn_lexer.specs.Laws.{TokensAreSound}
-use Rattle.pgn_lexer.specs.Sound.{IsSoundKind, CommentsClose, AreSoundTokens}
-use Rattle.pgn_lexer.specs.Tokens.{Kind, Token}
-use Rattle.pgn_lexer.specs.TokensOf.{tokens_of}
-use Rattle.pgn_lexer.proofs.bytes.ClassToTest.{either}
 use Rattle.pgn_lexer.proofs.cutting.EachTextIsCut.{lexes_once}
 
 -- a byte that starts a symbol continues one
 pub start_continues : (b : ℕ) → starts_symbol b ≡ true → continues_symbol b ≡ true
 start_continues b e =
-    cases (starts_symbol b) (b == 95) (b == 43) (b == 35) (b == 61) (b == 58) (b == 45) (b == 47) e
+    cases _ _ _ _ _ _ _ _ e
   where
     cases : (s u p h q c m d : Bool) → s ≡ true → (s || u || p || h || q || c || m || d) ≡ true
     cases true u p h q c m d e = refl
@@ -29,7 +18,7 @@ plain_passes true y e = e
 plain_passes false y e = refl
 
 escaped_passes : (b : ℕ) → is_escaped b ≡ true → not (is_barred b) ≡ true
-escaped_passes b e = cases (either (b == 34) (b == 92) e)
+escaped_passes b e = cases (or_cases _ _ e)
   where
     cases : ((b == 34) ≡ true) ⊎ ((b == 92) ≡ true) → not (is_barred b) ≡ true
     cases (inl e) = let here : b ≡ 34 = eqb-true b 34 e in cc
@@ -38,7 +27,7 @@ escaped_passes b e = cases (either (b == 34) (b == 92) e)
 data_pass : (raw text s : List ℕ) → Data raw text s → list_all (λ b. not (is_barred b)) text ≡ true
 data_pass _ _ _ (rules.no_data s) = refl
 data_pass _ _ _ (rules.plain b raw text s e more) =
-    both_true (plain_passes (is_barred b) (is_escaped b) e) (data_pass raw text s more)
+    both_true (plain_passes _ _ e) (data_pass raw text s more)
 data_pass _ _ _ (rules.escaped b raw text s e more) =
     both_true (escaped_passes b e) (data_pass raw text s more)
 data_pass _ _ _ (rules.lone raw text s stop more) = both_true refl (data_pass raw text s more)
@@ -107,7 +96,7 @@ cut_sound _ _ _ _ (rules.token first at run s k ts spelled more) =
     let rest = cut_sound _ _ _ _ more in
     record {
       texts = (spelled_sound run s k spelled, rest.texts);
-      comments = spelled_outside run s k (map (λ t. t.kind) ts) spelled rest.comments;
+      comments = spelled_outside run s k _ spelled rest.comments;
     }
 cut_sound _ _ _ _ (rules.refuses first at n s r bad) = record { texts = (tt, tt); comments = tt }
 cut_sound _ _ _ _ (rules.opens_brace first at s ts more) =
@@ -144,4 +133,4 @@ lexed_sound _ _ (rules.unmarked s ts bare cut) =
     let all = cut_sound _ _ _ _ cut in record { texts = all.texts; comments = all.comments }
 
 pub tokens_are_sound : TokensAreSound
-tokens_are_sound s = lexed_sound s (tokens_of s) ((lexes_once s (tokens_of s)).1 refl)
+tokens_are_sound s = lexed_sound s _ ((lexes_once s _).1 refl)

@@ -1,18 +1,8 @@
 -- Written tokens, read back.
-use Rattle.std.proofs.Common.{◌≡◌, ℕ, ◌+◌, ◌≤◌, Bool, true, false, not, List, [], ◌∷◌, ◌++◌, length, refl, sym, ap, subst, ◌∙◌, arith}
-use Rattle.std.specs.Prelude.{◌||◌, ◌&&◌, map, ◌==◌, decimal, if◌then◌else◌}
-use Rattle.std.specs.List.{AllByRecursion, list_all}
-use Rattle.std.proofs.lemmas.Bool.{eqb-true, false≢true}
-use Rattle.pgn_lexer.specs.Bytes.{is_line_end, is_space, is_digit, starts_symbol, continues_symbol, continues_word}
-use Rattle.pgn_lexer.specs.Laws.{PiecesAreReadBack, KindsAreReadBack}
+use Rattle.pgn_lexer.proofs.Words.{◌≡◌, ℕ, ◌+◌, ◌≤◌, Bool, true, false, not, List, [], ◌∷◌, ◌++◌, length, refl, sym, ap, subst, ◌∙◌, arith, ◌||◌, ◌&&◌, map, ◌==◌, decimal, if◌then◌else◌, AllByRecursion, list_all, eqb-true, false≢true, is_line_end, is_space, is_digit, starts_symbol, continues_symbol, continues_word, PiecesAreReadBack, KindsAreReadBack, StopsAt, is_escaped, is_barred, is_plain, Data, SpellsToken, Where, Cuts, Lexes, IsSymbol, IsWord, CommentsClose, Kind, Token, has_mark, written, Piece, token, space, text_of_pieces, kinds_in, tokens_at, IsPiece, IsEndedBy, AreEnded, IsReadable, and_parts}
 use Rattle.pgn_lexer.specs.Lexes as rules
-use Rattle.pgn_lexer.specs.Lexes.{StopsAt, is_escaped, is_barred, is_plain, Data, SpellsToken, Where, Cuts, Lexes}
-use Rattle.pgn_lexer.specs.Sound.{IsSymbol, IsWord, CommentsClose}
 use Rattle.pgn_lexer.specs.Tokens as tokens
-use Rattle.pgn_lexer.specs.Tokens.{Kind, Token}
-use Rattle.pgn_lexer.specs.TokensOf.{has_mark}
-use Rattle.pgn_lexer.specs.Written.{escaped, written, Piece, token, space, text_of_pieces, kinds_in, tokens_at, IsPiece, IsEndedBy, AreEnded, IsReadable}
-use Rattle.pgn_lexer.proofs.bytes.ClassToTest.{both}
+use Rattle.pgn_lexer.specs.Written.{escaped}
 use Rattle.pgn_lexer.proofs.cutting.EachTextIsCut.{lexes_once}
 use Rattle.pgn_lexer.proofs.bytes.DecimalsAreSymbols.{IsNumber, number_written}
 
@@ -26,29 +16,29 @@ escaped_data : (text s : List ℕ) → list_all (λ b. not (is_barred b)) text �
     → Data (escaped text) text s
 escaped_data [] s all = rules.no_data s
 escaped_data (b ∷ bs) s all =
-    cases (is_escaped b) refl (escaped_data bs s (both (not (is_barred b)) _ all).1)
+    cases _ refl (escaped_data bs s (and_parts _ _ all).1)
   where
     cases : (e : Bool) → is_escaped b ≡ e → Data (escaped bs) bs s
         → Data ((if e then 92 ∷ b ∷ [] else b ∷ []) ++ escaped bs) (b ∷ bs) s
-    cases true e more = rules.escaped b (escaped bs) bs s e more
+    cases true e more = rules.escaped b _ bs s e more
     cases false e more =
         let bare : is_plain b ≡ true =
-        plain_from (is_barred b) (is_escaped b) (both (not (is_barred b)) _ all).0 e in
-        rules.plain b (escaped bs) bs s bare more
+        plain_from (is_barred b) (is_escaped b) (and_parts _ _ all).0 e in
+        rules.plain b _ bs s bare more
 
 -- tokens outside comments
 spelled_symbol : (text s : List ℕ) → IsSymbol text → StopsAt continues_symbol s
     → SpellsToken text s (tokens.symbol text)
 spelled_symbol [] s h stop = absurd (false≢true h.begins)
 spelled_symbol (b ∷ bs) s h stop =
-    let all = both (continues_symbol b) (list_all continues_symbol bs) h.bytes in
+    let all = and_parts (continues_symbol b) (list_all _ bs) h.bytes in
     rules.symbol b bs s h.begins (all.1, stop) h.fits
 
 spelled_glyph : (n : ℕ) (ds s : List ℕ) → IsNumber n ds → n ≤ 255 → StopsAt is_digit s
     → SpellsToken (36 ∷ ds) s (tokens.glyph n)
 spelled_glyph n [] s h fits stop = absurd (omega (arith, h.some))
 spelled_glyph n (d ∷ ds) s h fits stop =
-    let all = both (is_digit d) (list_all is_digit ds) h.digits in
+    let all = and_parts (is_digit d) (list_all _ ds) h.digits in
     subst (λ m. SpellsToken (36 ∷ d ∷ ds) s (tokens.glyph m)) h.value
     (rules.glyph d ds s all.0 (all.1, stop) (omega (arith, h.value)))
 
@@ -68,9 +58,9 @@ spelled tokens.period s out h end = rules.single 46 s _ rules.period
 spelled tokens.asterisk s out h end = rules.single 42 s _ rules.asterisk
 spelled (tokens.symbol text) s out h end = spelled_symbol text s h end
 spelled (tokens.str text) s out h end =
-    rules.string (escaped text) text s (escaped_data text (34 ∷ s) h.bytes) h.fits
+    rules.string _ text s (escaped_data text _ h.bytes) h.fits
 spelled (tokens.glyph n) s out h end =
-    spelled_glyph n (decimal n) s (number_written n (omega (arith, h))) h end
+    spelled_glyph n _ s (number_written n (omega (arith, h))) h end
 spelled tokens.comment_open s out h end = absurd out
 spelled (tokens.word text) s out h end = absurd out
 spelled tokens.comment_close s out h end = absurd out
@@ -83,7 +73,7 @@ word_cut : (at : ℕ) (text s : List ℕ) (ts : List Token) → IsWord text → 
     → Cuts (rules.comment true) at (text ++ s) (record { at = at; kind = tokens.word text } ∷ ts)
 word_cut at [] s ts h stop more = absurd (omega (arith, h.some))
 word_cut at (b ∷ bs) s ts h stop more =
-    let all = both (continues_word b) (list_all continues_word bs) h.bytes in
+    let all = and_parts _ (list_all _ bs) h.bytes in
     let same : at + length (b ∷ bs) ≡ at + 1 + length bs = omega arith in
     rules.word true at b bs s ts all.0 (all.1, stop) h.fits
     (subst (λ n. Cuts (rules.comment true) n s ts) same more)
@@ -101,8 +91,8 @@ cut_outside : (first : Bool) (at : ℕ) (k : Kind) (ps : List Piece) → IsOutsi
     → IsPiece (token k) → IsEndedBy (text_of_pieces ps) k
     → CutsPieces false false (at + length (written k)) ps → CutsPieces false first at (token k ∷ ps)
 cut_outside first at k ps out h end more =
-    rules.token first at (written k) (text_of_pieces ps) k _
-    (spelled k (text_of_pieces ps) out h end) more
+    rules.token first at _ _ k _
+    (spelled k _ out h end) more
 
 cut_pieces : (ps : List Piece) (inside first : Bool) (at : ℕ) → AllByRecursion IsPiece ps
     → AreEnded ps → CommentsClose inside (kinds_in ps) → CutsPieces inside first at ps
@@ -110,31 +100,31 @@ cut_pieces [] false first at all ended close = rules.ends first at
 cut_pieces [] true first at all ended close = absurd close
 cut_pieces (space b ∷ ps) false first at all ended close =
     rules.space first at b _ _ all.0
-    (cut_pieces ps false (is_line_end b) (at + 1) all.1 ended close)
+    (cut_pieces ps false _ _ all.1 ended close)
 cut_pieces (space b ∷ ps) true first at all ended close =
     rules.between_words true at b _ _ all.0 refl
-    (cut_pieces ps true first (at + 1) all.1 ended close)
+    (cut_pieces ps true first _ all.1 ended close)
 cut_pieces (token tokens.comment_open ∷ ps) false first at all ended close =
-    rules.opens_brace first at _ _ (cut_pieces ps true false (at + 1) all.1 ended.1 close)
+    rules.opens_brace first at _ _ (cut_pieces ps true false _ all.1 ended.1 close)
 cut_pieces (token (tokens.word text) ∷ ps) false first at all ended close = absurd close
 cut_pieces (token tokens.comment_close ∷ ps) false first at all ended close = absurd close
 cut_pieces (token tokens.end ∷ ps) false first at all ended close = absurd all.0
 cut_pieces (token (tokens.refused r) ∷ ps) false first at all ended close = absurd all.0
 cut_pieces (token k ∷ ps) false first at all ended close =
     cut_outside first at k ps tt all.0 ended.0
-    (cut_pieces ps false false (at + length (written k)) all.1 ended.1 close)
+    (cut_pieces ps false false _ all.1 ended.1 close)
 cut_pieces (token (tokens.word text) ∷ ps) true first at all ended close =
     word_cut at text _ _ all.0 ended.0
-    (cut_pieces ps true false (at + length text) all.1 ended.1 close)
+    (cut_pieces ps true false _ all.1 ended.1 close)
 cut_pieces (token tokens.comment_close ∷ ps) true first at all ended close =
-    rules.closes_brace at _ _ (cut_pieces ps false false (at + 1) all.1 ended.1 close)
+    rules.closes_brace at _ _ (cut_pieces ps false false _ all.1 ended.1 close)
 cut_pieces (token (tokens.refused r) ∷ ps) true first at all ended close = absurd all.0
 cut_pieces (token k ∷ ps) true first at all ended close = absurd close
 
 -- Such a text begins with no byte order mark.
 not_mark : (p : ℕ → Bool) (b : ℕ) (s : List ℕ) → p b ≡ true → p 239 ≡ false
     → has_mark (b ∷ s) ≡ false
-not_mark p b s passes other = by_byte s (b == 239) refl
+not_mark p b s passes other = by_byte s _ refl
   where
     no : (b == 239) ≡ true → ⊥
     no same = false≢true (sym other ∙ sym (ap p (eqb-true b 239 same)) ∙ passes)
@@ -147,12 +137,12 @@ not_mark p b s passes other = by_byte s (b == 239) refl
 
 symbol_no_mark : (text s : List ℕ) → IsSymbol text → has_mark (text ++ s) ≡ false
 symbol_no_mark [] s h = absurd (false≢true h.begins)
-symbol_no_mark (b ∷ bs) s h = not_mark starts_symbol b (bs ++ s) h.begins refl
+symbol_no_mark (b ∷ bs) s h = not_mark starts_symbol b _ h.begins refl
 
 no_mark : (ps : List Piece) → AllByRecursion IsPiece ps → CommentsClose false (kinds_in ps)
     → has_mark (text_of_pieces ps) ≡ false
 no_mark [] all close = refl
-no_mark (space b ∷ ps) all close = not_mark is_space b (text_of_pieces ps) all.0 refl
+no_mark (space b ∷ ps) all close = not_mark is_space b _ all.0 refl
 no_mark (token (tokens.symbol text) ∷ ps) all close = symbol_no_mark text _ all.0
 no_mark (token tokens.left_bracket ∷ ps) all close = not_mark (λ b. b == 91) 91 _ refl refl
 no_mark (token tokens.right_bracket ∷ ps) all close = not_mark (λ b. b == 93) 93 _ refl refl
@@ -175,13 +165,13 @@ lexed ps h =
 
 pub pieces_are_read_back : PiecesAreReadBack
 pieces_are_read_back ps h =
-    sym ((lexes_once (text_of_pieces ps) (tokens_at 0 ps)).0 (lexed ps h))
+    sym ((lexes_once (text_of_pieces ps) _).0 (lexed ps h))
 
 kinds_of : (at : ℕ) (ps : List Piece)
     → map (λ t. t.kind) (tokens_at at ps) ≡ kinds_in ps ++ tokens.end ∷ []
 kinds_of at [] = refl
-kinds_of at (token k ∷ ps) = ap (λ ks. k ∷ ks) (kinds_of (at + length (written k)) ps)
+kinds_of at (token k ∷ ps) = ap (λ ks. k ∷ ks) (kinds_of _ ps)
 kinds_of at (space b ∷ ps) = kinds_of (at + 1) ps
 
 pub kinds_are_read_back : KindsAreReadBack
-kinds_are_read_back ps h = ap (map (λ t. t.kind)) (pieces_are_read_back ps h) ∙ kinds_of 0 ps
+kinds_are_read_back ps h = ap (map _) (pieces_are_read_back ps h) ∙ kinds_of 0 ps

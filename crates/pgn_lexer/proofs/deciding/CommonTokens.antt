@@ -1,13 +1,6 @@
 -- What two lists of tokens both begin with.
-use Rattle.std.proofs.Common.{◌≡◌, ℕ, Bool, true, false, List, [], ◌∷◌, ◌++◌, refl, sym, ap, ◌∙◌, eqb, eq-eqb}
-use Rattle.std.proofs.lemmas.Bool.{eqb-true, false≢true}
+use Rattle.pgn_lexer.proofs.Words.{◌≡◌, ℕ, Bool, true, false, List, [], ◌∷◌, ◌++◌, refl, sym, ap, ◌∙◌, eqb, eq-eqb, eqb-true, false≢true, Option, None, Some, ◌&&◌, bytes_eq, LexReason, StrayByte, ControlByte, Reserved, SymbolTooLong, StringTooLong, WordTooLong, LoneDollar, GlyphRange, BadSuffix, BraceInLineComment, UnclosedString, UnclosedComment, Kind, Token, left_bracket, right_bracket, left_paren, right_paren, period, asterisk, symbol, str, glyph, comment_open, word, comment_close, end, refused, same_reason, same_kind, same_token, common, IsPrefix}
 use Rattle.std.proofs.lemmas.Slice.Eq.{bytes_eq-Decides}
-use Rattle.std.specs.Prelude.{Option, None, Some, ◌&&◌, bytes_eq}
-use Rattle.pgn_lexer.specs.declared.token.LexReason.{LexReason}
-use Rattle.pgn_lexer.specs.declared.token.LexReason.TheVariants.{StrayByte, ControlByte, Reserved, SymbolTooLong, StringTooLong, WordTooLong, LoneDollar, GlyphRange, BadSuffix, BraceInLineComment, UnclosedString, UnclosedComment}
-use Rattle.pgn_lexer.specs.Tokens.{Kind, Token, left_bracket, right_bracket, left_paren, right_paren, period, asterisk, symbol, str, glyph, comment_open, word, comment_close, end, refused}
-use Rattle.pgn_lexer.specs.Decided.{same_reason, same_kind, same_token, common}
-use Rattle.pgn_lexer.specs.Laws.{IsPrefix}
 
 bytes_eq-true : (xs ys : List ℕ) → bytes_eq xs ys ≡ true → xs ≡ ys
 bytes_eq-true xs ys = (bytes_eq-Decides xs ys).0
@@ -67,10 +60,10 @@ same_token-refl : (t : Token) → same_token t t ≡ true
 same_token-refl t = ap (λ b. b && same_kind t.kind t.kind) (eq-eqb t.at t.at refl) ∙ same_kind-refl t.kind
 
 same_token-true : (s t : Token) → same_token s t ≡ true → s ≡ t
-same_token-true s t e = cases (eqb s.at t.at) refl e
+same_token-true s t e = cases _ refl e
   where
     cases : (c : Bool) → eqb s.at t.at ≡ c → (c && same_kind s.kind t.kind) ≡ true → s ≡ t
-    cases true same e = ap (λ n. record { at = n; kind = s.kind }) (eqb-true s.at t.at same) ∙ ap (λ k. record { at = t.at; kind = k }) (same_kind-true s.kind t.kind e)
+    cases true same e = ap (λ n. record { at = n; kind = s.kind }) (eqb-true s.at t.at same) ∙ ap (λ k. record { at = t.at; kind = k }) (same_kind-true _ _ e)
     cases false other e = absurd (false≢true e)
 
 pub common-append : (ts xs ys : List Token) → common (ts ++ xs) (ts ++ ys) ≡ ts ++ common xs ys
@@ -91,7 +84,7 @@ head (t ∷ ts) = Some t
 pub common_heads : (xs ys : List Token) (t : Token) → head (common xs ys) ≡ Some t → (head xs ≡ Some t) × (head ys ≡ Some t)
 common_heads [] ys t e = absurd (cc)
 common_heads (x ∷ xs) [] t e = absurd (cc)
-common_heads (x ∷ xs) (y ∷ ys) t e = cases (same_token x y) refl e
+common_heads (x ∷ xs) (y ∷ ys) t e = cases _ refl e
   where
     cases : (c : Bool) → same_token x y ≡ c → head (elim c [ true ↦ x ∷ common xs ys | false ↦ [] ]) ≡ Some t → (Some x ≡ Some t) × (Some y ≡ Some t)
     cases true same e = (e, ap Some (sym (same_token-true x y same)) ∙ e)
@@ -101,7 +94,7 @@ common_heads (x ∷ xs) (y ∷ ys) t e = cases (same_token x y) refl e
 pub common_front : (xs ys : List Token) → IsPrefix (common xs ys) xs
 common_front [] ys = ([], refl)
 common_front (x ∷ xs) [] = (x ∷ xs, refl)
-common_front (x ∷ xs) (y ∷ ys) = cases (common_front xs ys) (same_token x y)
+common_front (x ∷ xs) (y ∷ ys) = cases (common_front xs ys) _
   where
     cases : IsPrefix (common xs ys) xs → (c : Bool) → IsPrefix (elim c [ true ↦ x ∷ common xs ys | false ↦ [] ]) (x ∷ xs)
     cases front true = (front.0, ap (λ l. x ∷ l) front.1)

@@ -1,15 +1,7 @@
 -- The tokens given are those that are decided.
-use Rattle.std.proofs.Common.{◌≡◌, ℕ, ◌+◌, ◌*◌, ◌≤◌, Bool, true, false, List, [], ◌∷◌, ◌++◌, length, sym, ap, ◌∙◌, append-nil, arith, length-append}
-use Rattle.std.specs.Prelude.{Option, None, Some, nat_le, if◌then◌else◌}
-use Rattle.pgn_lexer.specs.declared.token.LexReason.TheVariants.{SymbolTooLong, WordTooLong, GlyphRange}
-use Rattle.pgn_lexer.specs.declared.partial_token.Mode.{Mode}
+use Rattle.pgn_lexer.proofs.Words.{◌≡◌, ℕ, ◌+◌, ◌*◌, ◌≤◌, Bool, true, false, List, [], ◌∷◌, ◌++◌, length, sym, ap, ◌∙◌, append-nil, arith, length-append, Option, None, Some, nat_le, if◌then◌else◌, SymbolTooLong, WordTooLong, GlyphRange, Mode, Kind, Token, symbol, str, glyph, word, comment_close, end, refused, gives, stops, symbol_at, word_at, numbered_at, onto, tokens_of, common, decided, PartialToken, IsSound, HasNotFailed, tokens_to_come, tokens_to_come_in}
 use Rattle.pgn_lexer.specs.declared.partial_token.Mode.TheVariants as modes
 use Rattle.pgn_lexer.specs.declared.partial_token.SuffixRun.TheVariants as runs
-use Rattle.pgn_lexer.specs.Tokens.{Kind, Token, symbol, str, glyph, word, comment_close, end, refused}
-use Rattle.pgn_lexer.specs.Spelling.{gives, stops, symbol_at, word_at, numbered_at}
-use Rattle.pgn_lexer.specs.TokensOf.{onto, tokens_of}
-use Rattle.pgn_lexer.specs.Decided.{common, decided}
-use Rattle.pgn_lexer.specs.PartialToken.{PartialToken, IsSound, HasNotFailed, tokens_to_come, tokens_to_come_in}
 use Rattle.pgn_lexer.proofs.deciding.CommonTokens.{common-append, common-refl, head, common_heads, no_head}
 use Rattle.pgn_lexer.proofs.stepping.ByteInSymbol.{symbol_fits}
 use Rattle.pgn_lexer.proofs.stepping.ByteInComment.{word_fits}
@@ -65,30 +57,30 @@ symbol_differs : (at : ℕ) (text : List ℕ) (is js : List Token) (t : Token) �
     → head (onto at (symbol_at at (text ++ [])) is) ≡ Some t → head (onto at (if c then gives (symbol (text ++ 49 ∷ [])) else stops at SymbolTooLong) js) ≡ Some t → ⊥
 symbol_differs at text is js t fits true e f =
     let given : Some (record { at = at; kind = symbol text }) ≡ Some t = sym (ap (λ x. head (onto at (symbol_at at x) is)) (append-nil text) ∙ ap (λ x. head (onto at x is)) (symbol_fits at text fits)) ∙ e in
-    symbol_apart text 49 (one_kind at at (symbol text) (symbol (text ++ 49 ∷ [])) t given f)
+    symbol_apart text 49 (one_kind at at _ _ t given f)
 symbol_differs at text is js t fits false e f =
     let given : Some (record { at = at; kind = symbol text }) ≡ Some t = sym (ap (λ x. head (onto at (symbol_at at x) is)) (append-nil text) ∙ ap (λ x. head (onto at x is)) (symbol_fits at text fits)) ∙ e in
-    let same : symbol text ≡ refused SymbolTooLong = one_kind at at (symbol text) (refused SymbolTooLong) t given f in
+    let same : symbol text ≡ refused SymbolTooLong = one_kind at at _ _ t given f in
     cc
 
 word_differs : (at : ℕ) (text : List ℕ) (is js : List Token) (t : Token) → length text ≤ 79 → (c : Bool)
     → head (onto at (word_at at (text ++ [])) is) ≡ Some t → head (onto at (if c then gives (word (text ++ 49 ∷ [])) else stops at WordTooLong) js) ≡ Some t → ⊥
 word_differs at text is js t fits true e f =
     let given : Some (record { at = at; kind = word text }) ≡ Some t = sym (ap (λ x. head (onto at (word_at at x) is)) (append-nil text) ∙ ap (λ x. head (onto at x is)) (word_fits at text fits)) ∙ e in
-    word_apart text 49 (one_kind at at (word text) (word (text ++ 49 ∷ [])) t given f)
+    word_apart text 49 (one_kind at at _ _ t given f)
 word_differs at text is js t fits false e f =
     let given : Some (record { at = at; kind = word text }) ≡ Some t = sym (ap (λ x. head (onto at (word_at at x) is)) (append-nil text) ∙ ap (λ x. head (onto at x is)) (word_fits at text fits)) ∙ e in
-    let same : word text ≡ refused WordTooLong = one_kind at at (word text) (refused WordTooLong) t given f in
+    let same : word text ≡ refused WordTooLong = one_kind at at _ _ t given f in
     cc
 
 glyph_differs : (at n : ℕ) (is js : List Token) (t : Token) → n ≤ 255 → (c : Bool)
     → head (onto at (numbered_at at n) is) ≡ Some t → head (onto at (if c then gives (glyph (10 * n + 1)) else stops at GlyphRange) js) ≡ Some t → ⊥
 glyph_differs at n is js t small true e f =
     let given : Some (record { at = at; kind = glyph n }) ≡ Some t = sym (ap (λ x. head (onto at x is)) (number_fits at n small)) ∙ e in
-    glyph_apart n (one_kind at at (glyph n) (glyph (10 * n + 1)) t given f)
+    glyph_apart n (one_kind at at _ _ t given f)
 glyph_differs at n is js t small false e f =
     let given : Some (record { at = at; kind = glyph n }) ≡ Some t = sym (ap (λ x. head (onto at x is)) (number_fits at n small)) ∙ e in
-    let same : glyph n ≡ refused GlyphRange = one_kind at at (glyph n) (refused GlyphRange) t given f in
+    let same : glyph n ≡ refused GlyphRange = one_kind at at _ _ t given f in
     cc
 
 -- at the next token two of the six ends differ
@@ -96,38 +88,38 @@ differ : (m : Mode) (place at : ℕ) (text : List ℕ) (t : Token) → length te
     → head (tokens_to_come_in m place at text []) ≡ Some t → head (tokens_to_come_in m place at text (49 ∷ [])) ≡ Some t → head (tokens_to_come_in m place at text (33 ∷ [])) ≡ Some t
     → head (tokens_to_come_in m place at text (34 ∷ 34 ∷ [])) ≡ Some t → head (tokens_to_come_in m place at text (191 ∷ [])) ≡ Some t → head (tokens_to_come_in m place at text (187 ∷ 191 ∷ [])) ≡ Some t → ⊥
 differ modes.Start place at text t fits not_failed sound none one mark quotes bf bbbf =
-    let same = one_kind 0 0 end (symbol (49 ∷ [])) t none one in cc
+    let same = one_kind 0 0 end _ t none one in cc
 differ modes.AfterEf place at text t fits not_failed sound none one mark quotes bf bbbf = let same = one_place 0 3 _ _ t none bbbf in absurd (omega arith)
 differ modes.AfterEfBb place at text t fits not_failed sound none one mark quotes bf bbbf = let same = one_place 0 3 _ _ t none bf in absurd (omega arith)
 differ modes.LineStart place at text t fits not_failed sound none one mark quotes bf bbbf =
-    let same = one_kind place place end (symbol (49 ∷ [])) t none one in cc
+    let same = one_kind place place end _ t none one in cc
 differ modes.Outside place at text t fits not_failed sound none one mark quotes bf bbbf =
-    let same = one_kind place place end (symbol (49 ∷ [])) t none one in cc
-differ modes.EscapeLine place at text t fits not_failed sound none one mark quotes bf bbbf = let same = one_place place (place + 1) end end t none one in absurd (omega arith)
+    let same = one_kind place place end _ t none one in cc
+differ modes.EscapeLine place at text t fits not_failed sound none one mark quotes bf bbbf = let same = one_place place _ end end t none one in absurd (omega arith)
 differ modes.Symbol place at text t fits not_failed sound none one mark quotes bf bbbf =
-    symbol_differs at text _ _ t fits (nat_le (length (text ++ 49 ∷ [])) 255) none one
+    symbol_differs at text _ _ t fits _ none one
 differ modes.Str place at text t fits not_failed sound none one mark quotes bf bbbf =
-    let same = one_kind at at _ (str (text ++ [])) t none quotes in cc
+    let same = one_kind at at _ _ t none quotes in cc
 differ modes.AfterBackslash place at text t fits not_failed sound none one mark quotes bf bbbf =
-    let same = one_kind at at _ (str (text ++ 34 ∷ [])) t none quotes in cc
+    let same = one_kind at at _ _ t none quotes in cc
 differ modes.Dollar place at text t fits not_failed sound none one mark quotes bf bbbf =
-    let same = one_kind at at _ (glyph 1) t none one in cc
+    let same = one_kind at at _ _ t none one in cc
 differ (modes.Glyph n) place at text t fits not_failed sound none one mark quotes bf bbbf =
-    glyph_differs at n _ _ t sound.room.1 (nat_le (10 * n + 1) 255) none one
-differ (modes.Suffix runs.Good) place at text t fits not_failed sound none one mark quotes bf bbbf = let same = one_kind at at (glyph 1) (glyph 3) t none mark in cc
-differ (modes.Suffix runs.Poor) place at text t fits not_failed sound none one mark quotes bf bbbf = let same = one_kind at at (glyph 2) (glyph 6) t none mark in cc
-differ (modes.Suffix runs.VeryGood) place at text t fits not_failed sound none one mark quotes bf bbbf = let same = one_kind at at (glyph 3) _ t none mark in cc
-differ (modes.Suffix runs.VeryPoor) place at text t fits not_failed sound none one mark quotes bf bbbf = let same = one_kind at at (glyph 4) _ t none mark in cc
-differ (modes.Suffix runs.Speculative) place at text t fits not_failed sound none one mark quotes bf bbbf = let same = one_kind at at (glyph 5) _ t none mark in cc
-differ (modes.Suffix runs.Questionable) place at text t fits not_failed sound none one mark quotes bf bbbf = let same = one_kind at at (glyph 6) _ t none mark in cc
+    glyph_differs at n _ _ t sound.room.1 _ none one
+differ (modes.Suffix runs.Good) place at text t fits not_failed sound none one mark quotes bf bbbf = let same = one_kind at at _ _ t none mark in cc
+differ (modes.Suffix runs.Poor) place at text t fits not_failed sound none one mark quotes bf bbbf = let same = one_kind at at _ _ t none mark in cc
+differ (modes.Suffix runs.VeryGood) place at text t fits not_failed sound none one mark quotes bf bbbf = let same = one_kind at at _ _ t none mark in cc
+differ (modes.Suffix runs.VeryPoor) place at text t fits not_failed sound none one mark quotes bf bbbf = let same = one_kind at at _ _ t none mark in cc
+differ (modes.Suffix runs.Speculative) place at text t fits not_failed sound none one mark quotes bf bbbf = let same = one_kind at at _ _ t none mark in cc
+differ (modes.Suffix runs.Questionable) place at text t fits not_failed sound none one mark quotes bf bbbf = let same = one_kind at at _ _ t none mark in cc
 differ modes.Brace place at text t fits not_failed sound none one mark quotes bf bbbf =
-    let same = one_kind place place _ (word (49 ∷ [])) t none one in cc
+    let same = one_kind place place _ _ t none one in cc
 differ modes.BraceWord place at text t fits not_failed sound none one mark quotes bf bbbf =
-    word_differs at text _ _ t sound.room.1.1 (nat_le (length (text ++ 49 ∷ [])) 79) none one
+    word_differs at text _ _ t sound.room.1.1 _ none one
 differ modes.Line place at text t fits not_failed sound none one mark quotes bf bbbf =
-    let same = one_kind place place comment_close (word (49 ∷ [])) t none one in cc
+    let same = one_kind place place _ _ t none one in cc
 differ modes.LineWord place at text t fits not_failed sound none one mark quotes bf bbbf =
-    word_differs at text _ _ t sound.room.1.1 (nat_le (length (text ++ 49 ∷ [])) 79) none one
+    word_differs at text _ _ t sound.room.1.1 _ none one
 differ (modes.Failed f) place at text t fits not_failed sound none one mark quotes bf bbbf = absurd not_failed
 
 -- what all six lists begin with
@@ -136,20 +128,16 @@ common_of a b c d e f = common a (common b (common c (common d (common e f))))
 
 common_of-append : (ts a b c d e f : List Token) → common_of (ts ++ a) (ts ++ b) (ts ++ c) (ts ++ d) (ts ++ e) (ts ++ f) ≡ ts ++ common_of a b c d e f
 common_of-append ts a b c d e f =
-    ap (λ l. common (ts ++ a) (common (ts ++ b) (common (ts ++ c) (common (ts ++ d) l)))) (common-append ts e f)
-    ∙ ap (λ l. common (ts ++ a) (common (ts ++ b) (common (ts ++ c) l))) (common-append ts d (common e f))
-    ∙ ap (λ l. common (ts ++ a) (common (ts ++ b) l)) (common-append ts c (common d (common e f)))
-    ∙ ap (λ l. common (ts ++ a) l) (common-append ts b (common c (common d (common e f))))
-    ∙ common-append ts a (common b (common c (common d (common e f))))
+    cc (common-append ts e f, common-append ts d (common e f), common-append ts c (common d (common e f)), common-append ts b (common c (common d (common e f))), common-append ts a (common b (common c (common d (common e f)))))
 
 -- where no token is first in all six, they have nothing in common
 common_of-none : (a b c d e f : List Token)
     → ((t : Token) → head a ≡ Some t → head b ≡ Some t → head c ≡ Some t → head d ≡ Some t → head e ≡ Some t → head f ≡ Some t → ⊥) → common_of a b c d e f ≡ []
 common_of-none a b c d e f apart =
-    no_head (common_of a b c d e f) (λ t is.
-    let one = common_heads a (common b (common c (common d (common e f)))) t is in
-    let two = common_heads b (common c (common d (common e f))) t one.1 in
-    let three = common_heads c (common d (common e f)) t two.1 in
+    no_head _ (λ t is.
+    let one = common_heads a _ t is in
+    let two = common_heads b _ t one.1 in
+    let three = common_heads c _ t two.1 in
     let four = common_heads d (common e f) t three.1 in
     let five = common_heads e f t four.1 in
     apart t one.0 two.0 three.0 four.0 five.0 five.1)
@@ -160,31 +148,31 @@ pub decided_is : (given : List Token) (u : List ℕ) (comes : List ℕ → List 
     → decided u ≡ given ++ common_of (comes []) (comes (49 ∷ [])) (comes (33 ∷ [])) (comes (34 ∷ 34 ∷ [])) (comes (191 ∷ [])) (comes (187 ∷ 191 ∷ []))
 decided_is given u comes tokens =
     let here : tokens_of u ≡ given ++ comes [] = ap tokens_of (sym (append-nil u)) ∙ tokens [] in
-    ap (λ l. common_of l (tokens_of (u ++ 49 ∷ [])) (tokens_of (u ++ 33 ∷ [])) (tokens_of (u ++ 34 ∷ 34 ∷ [])) (tokens_of (u ++ 191 ∷ [])) (tokens_of (u ++ 187 ∷ 191 ∷ []))) here
-    ∙ ap (λ l. common_of (given ++ comes []) l (tokens_of (u ++ 33 ∷ [])) (tokens_of (u ++ 34 ∷ 34 ∷ [])) (tokens_of (u ++ 191 ∷ [])) (tokens_of (u ++ 187 ∷ 191 ∷ []))) (tokens (49 ∷ []))
-    ∙ ap (λ l. common_of (given ++ comes []) (given ++ comes (49 ∷ [])) l (tokens_of (u ++ 34 ∷ 34 ∷ [])) (tokens_of (u ++ 191 ∷ [])) (tokens_of (u ++ 187 ∷ 191 ∷ []))) (tokens (33 ∷ []))
-    ∙ ap (λ l. common_of (given ++ comes []) (given ++ comes (49 ∷ [])) (given ++ comes (33 ∷ [])) l (tokens_of (u ++ 191 ∷ [])) (tokens_of (u ++ 187 ∷ 191 ∷ []))) (tokens (34 ∷ 34 ∷ []))
-    ∙ ap (λ l. common_of (given ++ comes []) (given ++ comes (49 ∷ [])) (given ++ comes (33 ∷ [])) (given ++ comes (34 ∷ 34 ∷ [])) l (tokens_of (u ++ 187 ∷ 191 ∷ []))) (tokens (191 ∷ []))
-    ∙ ap (λ l. common_of (given ++ comes []) (given ++ comes (49 ∷ [])) (given ++ comes (33 ∷ [])) (given ++ comes (34 ∷ 34 ∷ [])) (given ++ comes (191 ∷ [])) l) (tokens (187 ∷ 191 ∷ []))
-    ∙ common_of-append given (comes []) (comes (49 ∷ [])) (comes (33 ∷ [])) (comes (34 ∷ 34 ∷ [])) (comes (191 ∷ [])) (comes (187 ∷ 191 ∷ []))
+    cc (
+      here,
+      tokens (49 ∷ []),
+      tokens (33 ∷ []),
+      tokens (34 ∷ 34 ∷ []),
+      tokens (191 ∷ []),
+      tokens (187 ∷ 191 ∷ []),
+      common_of-append given (comes []) (comes (49 ∷ [])) (comes (33 ∷ [])) (comes (34 ∷ 34 ∷ [])) (comes (191 ∷ [])) (comes (187 ∷ 191 ∷ [])),
+    )
 
 -- what a lexer that goes on gives next is not decided yet
 pub going_none : (place : ℕ) (h : PartialToken) → IsSound place h → HasNotFailed h.mode
     → common_of (tokens_to_come place h []) (tokens_to_come place h (49 ∷ [])) (tokens_to_come place h (33 ∷ [])) (tokens_to_come place h (34 ∷ 34 ∷ [])) (tokens_to_come place h (191 ∷ [])) (tokens_to_come place h (187 ∷ 191 ∷ [])) ≡ []
-going_none place h sound not_failed = common_of-none _ _ _ _ _ _ (λ t. differ h.mode place h.at h.text t sound.room.0 not_failed sound)
+going_none place h sound not_failed = common_of-none _ _ _ _ _ _ (λ t. differ _ place h.at _ t sound.room.0 not_failed sound)
 
 -- of a lexer that goes on, nothing more is decided
 pub going_decides : (place : ℕ) (h : PartialToken) (u : List ℕ) (given : List Token) → IsSound place h → HasNotFailed h.mode
     → ((s : List ℕ) → tokens_of (u ++ s) ≡ given ++ tokens_to_come place h s) → given ≡ decided u
 going_decides place h u given sound not_failed tokens =
-    sym (decided_is given u (tokens_to_come place h) tokens
+    sym (decided_is given u _ tokens
     ∙ ap (λ l. given ++ l) (going_none place h sound not_failed)
     ∙ append-nil given)
 
 -- and where the same comes whatever follows, all of it is decided
 pub known_decides : (u : List ℕ) (given more : List Token) → ((s : List ℕ) → tokens_of (u ++ s) ≡ given ++ more) → given ++ more ≡ decided u
 known_decides u given more tokens =
-    let same : common_of more more more more more more ≡ more =
-    ap (λ l. common more (common more (common more (common more l)))) (common-refl more) ∙ ap (λ l. common more (common more (common more l))) (common-refl more)
-    ∙ ap (λ l. common more (common more l)) (common-refl more) ∙ ap (λ l. common more l) (common-refl more) ∙ common-refl more in
-    sym (decided_is given u (λ s. more) tokens ∙ ap (λ l. given ++ l) same)
+    let same : common_of more more more more more more ≡ more = cc (common-refl more) in
+    sym (decided_is given u _ tokens ∙ ap (λ l. given ++ l) same)

@@ -1,17 +1,6 @@
 -- Each text brings a lexer to a place from which nothing is decided yet, or to a rejection.
-use Rattle.std.proofs.Common.{◌≡◌, ℕ, zero, suc, ◌+◌, ◌*◌, ◌<◌, ◌≤◌, Bool, List, [], ◌∷◌, ◌++◌, length, drop, refl, sym, ap, ◌∙◌, append-nil, append_assoc, arith, take-append-drop}
-use Rattle.std.specs.Prelude.{take_while, nat_lt}
-use Rattle.std.specs.List.{prefix_len}
-use Rattle.pgn_lexer.specs.declared.partial_token.Mode.{Mode}
+use Rattle.pgn_lexer.proofs.Words.{◌≡◌, ℕ, zero, suc, ◌+◌, ◌*◌, ◌<◌, ◌≤◌, Bool, List, [], ◌∷◌, ◌++◌, length, drop, refl, sym, ap, ◌∙◌, append-nil, append_assoc, arith, take-append-drop, take_while, nat_lt, prefix_len, Mode, Step, Used, Ends, EndsBefore, Fault, Token, tokens_of, decided, known, PartialToken, tokens_to_come, token_of, refusal, IsSound, HasNotFailed, pending_in, pending, fault_met, after_byte, IsPrefix, DecidedIsPrefix, KnownIsPrefix}
 use Rattle.pgn_lexer.specs.declared.partial_token.Mode.TheVariants as modes
-use Rattle.pgn_lexer.specs.declared.partial_token.Step.{Step}
-use Rattle.pgn_lexer.specs.declared.partial_token.Step.TheVariants.{Used, Ends, EndsBefore, Fault}
-use Rattle.pgn_lexer.specs.Tokens.{Token}
-use Rattle.pgn_lexer.specs.TokensOf.{tokens_of}
-use Rattle.pgn_lexer.specs.Decided.{decided, known}
-use Rattle.pgn_lexer.specs.PartialToken.{PartialToken, tokens_to_come, token_of, refusal, IsSound, HasNotFailed, pending_in, pending, fault_met}
-use Rattle.pgn_lexer.specs.ByteResult.{after_byte}
-use Rattle.pgn_lexer.specs.Laws.{IsPrefix, DecidedIsPrefix, KnownIsPrefix}
 use Rattle.pgn_lexer.proofs.stepping.StepGives.{StepGives, front_of}
 use Rattle.pgn_lexer.proofs.stepping.ByteGives.{step_gives}
 use Rattle.pgn_lexer.proofs.deciding.GivenAreDecided.{common_of, decided_is, going_none}
@@ -55,7 +44,7 @@ settles n [] place h enough sound not_failed = record { given = []; later = toke
 settles zero (b ∷ u) place h enough sound not_failed = absurd (omega arith)
 settles (suc n) (b ∷ u) place h enough sound not_failed =
     by_step (after_byte place h b).held (after_byte place h b).step (step_gives place h b sound)
-    (λ new fewer sound not_failed. settles n u (place + 1) new fewer sound not_failed) (λ new fewer sound not_failed. settles n (b ∷ u) place new fewer sound not_failed)
+    (λ new fewer sound not_failed. settles n u _ new fewer sound not_failed) (λ new fewer sound not_failed. settles n (b ∷ u) place new fewer sound not_failed)
   where
     by_step : (new : PartialToken) (step : Step) → StepGives (front_of place h b) new step
         → ((new : PartialToken) → 3 * length u + pending new ≤ n → IsSound (place + 1) new → HasNotFailed new.mode → Settles (λ s. tokens_to_come (place + 1) new (u ++ s)))
@@ -81,7 +70,7 @@ text_settles u = settles (3 * length u) u 0 at_start (omega arith) (record { roo
 pub decided_is_prefix : DecidedIsPrefix
 decided_is_prefix u s =
     let h : Settles (λ s. tokens_of (u ++ s)) = text_settles u in
-    let all : decided u ≡ h.given = decided_is h.given u h.later h.comes ∙ ap (λ l. h.given ++ l) h.none ∙ append-nil h.given in
+    let all : decided u ≡ h.given = decided_is h.given u h.later h.comes ∙ ap (λ l. h.given ++ l) h.none ∙ append-nil _ in
     (h.later s, h.comes s ∙ ap (λ l. l ++ h.later s) (sym all))
 
 -- the front of a front is one
@@ -89,10 +78,10 @@ pub prefix_trans : (xs ys zs : List Token) → IsPrefix xs ys → IsPrefix ys zs
 prefix_trans xs ys zs p q = (p.0 ++ q.0, q.1 ∙ ap (λ l. l ++ q.0) p.1 ∙ append_assoc xs p.0 q.0)
 
 take_while_front : (p : Token → Bool) (ts : List Token) → IsPrefix (take_while p ts) ts
-take_while_front p ts = (drop (prefix_len p ts) ts, sym (take-append-drop (prefix_len p ts) ts))
+take_while_front p ts = (drop _ ts, sym (take-append-drop _ ts))
 
 pub known_is_prefix : KnownIsPrefix
 known_is_prefix u s b =
     let front : IsPrefix (decided (u ++ b ∷ [])) (tokens_of ((u ++ b ∷ []) ++ s)) = decided_is_prefix (u ++ b ∷ []) s in
-    let whole : IsPrefix (decided (u ++ b ∷ [])) (tokens_of (u ++ b ∷ s)) = (front.0, sym (ap tokens_of (append_assoc u (b ∷ []) s)) ∙ front.1) in
-    prefix_trans (known u b) (decided (u ++ b ∷ [])) (tokens_of (u ++ b ∷ s)) (take_while_front (λ t. nat_lt t.at (length u)) (decided (u ++ b ∷ []))) whole
+    let whole : IsPrefix (decided (u ++ b ∷ [])) (tokens_of (u ++ b ∷ s)) = (front.0, sym (ap tokens_of (append_assoc u _ s)) ∙ front.1) in
+    prefix_trans _ _ _ (take_while_front _ _) whole

@@ -1,12 +1,7 @@
 -- Worked rows of the rules that cut a text into tokens (PGN 5, 6, 7, 10), and of the law that they
 -- cut it in one way: tokens built from the rules alone, and tokens that the law rules out.
-use Rattle.std.proofs.Common.{◌≡◌, ℕ, zero, suc, List, [], ◌∷◌, ◌++◌, length, refl, sym, ap, ◌∙◌, true, false, arith}
-use Rattle.std.specs.Prelude.{codes, replicate}
-use Rattle.pgn_lexer.specs.declared.token.LexReason.TheVariants.{StrayByte, SymbolTooLong, StringTooLong, WordTooLong, GlyphRange, BadSuffix, BraceInLineComment, UnclosedString, UnclosedComment}
-use Rattle.pgn_lexer.specs.Tokens.{Kind, Token, left_bracket, right_bracket, period, asterisk, symbol, str, glyph, comment_open, word, comment_close, end, refused}
+use Rattle.pgn_lexer.proofs.Words.{◌≡◌, ℕ, zero, suc, List, [], ◌∷◌, ◌++◌, length, refl, sym, ap, ◌∙◌, true, false, arith, codes, replicate, StrayByte, SymbolTooLong, StringTooLong, WordTooLong, GlyphRange, BadSuffix, BraceInLineComment, UnclosedString, UnclosedComment, Kind, Token, left_bracket, right_bracket, period, asterisk, symbol, str, glyph, comment_open, word, comment_close, end, refused, Data, Lexes, LexesOnce}
 use Rattle.pgn_lexer.specs.Lexes as rules
-use Rattle.pgn_lexer.specs.Lexes.{Data, Lexes}
-use Rattle.pgn_lexer.specs.Laws.{LexesOnce}
 
 abbrev pub t : ℕ → Kind → Token
 t at kind = record { at = at; kind = kind }

@@ -1,13 +1,6 @@
 -- Worked rows of what tokens are made of (PGN 5, 7, 8.2.4): tokens of texts that are sound by the
 -- law, and tokens that no text has.
-use Rattle.std.proofs.Common.{◌≡◌, ℕ, ◌<◌, ◌≤◌, List, [], ◌∷◌, ◌+◌, refl, subst, arith}
-use Rattle.std.specs.Prelude.{codes}
-use Rattle.std.proofs.lemmas.Bool.{false≢true}
-use Rattle.pgn_lexer.specs.declared.token.LexReason.TheVariants.{UnclosedComment}
-use Rattle.pgn_lexer.specs.Laws.{TokensAreSound}
-use Rattle.pgn_lexer.specs.Sound.{IsSymbol, IsData, IsWord, AreSoundTokens}
-use Rattle.pgn_lexer.specs.Tokens.{Kind, Token, symbol, str, glyph, comment_open, word, comment_close, refused}
-use Rattle.pgn_lexer.specs.TokensOf.{tokens_of}
+use Rattle.pgn_lexer.proofs.Words.{◌≡◌, ℕ, ◌<◌, ◌≤◌, List, [], ◌∷◌, ◌+◌, refl, subst, arith, codes, false≢true, UnclosedComment, TokensAreSound, IsSymbol, IsData, IsWord, AreSoundTokens, Kind, Token, symbol, str, glyph, comment_open, word, comment_close, refused, tokens_of}
 use Rattle.pgn_lexer.proofs.rows.CuttingRows.{t, letters, ending}
 
 -- a comment with one token in it, of so many bytes

@@ -1,16 +1,7 @@
 -- Worked rows of written tokens (PGN 3.2, 5, 7, 8.2): texts that are read back, and what goes wrong
 -- where a premise is missing.
-use Rattle.std.proofs.Common.{◌≡◌, ℕ, ◌^◌, ◌<◌, ◌≤◌, Bool, true, false, List, [], ◌∷◌, ◌++◌, length, map, refl, sym, subst, ap, ◌∙◌, eq-eqb, arith}
+use Rattle.pgn_lexer.proofs.Words.{◌≡◌, ℕ, ◌^◌, ◌<◌, ◌≤◌, Bool, true, false, List, [], ◌∷◌, ◌++◌, length, map, refl, sym, subst, ap, ◌∙◌, eq-eqb, arith, AllByRecursion, list_all, codes, decimal, ◌==◌, is_digit, starts_symbol, false≢true, PiecesAreReadBack, KindsAreReadBack, NumbersAreSymbols, begins_with, IsData, IsSymbol, IsWord, CommentsClose, Kind, Token, left_bracket, right_bracket, left_paren, right_paren, period, asterisk, symbol, str, glyph, comment_open, word, comment_close, end, tokens_of, Piece, token, space, text_of_pieces, kinds_in, tokens_at, IsPiece, IsEndedBy, AreEnded, IsReadable}
 use Rattle.std.specs.Fmt.{digits}
-use Rattle.std.specs.List.{AllByRecursion, list_all}
-use Rattle.std.specs.Prelude.{codes, decimal, ◌==◌}
-use Rattle.pgn_lexer.specs.Bytes.{is_digit, starts_symbol}
-use Rattle.std.proofs.lemmas.Bool.{false≢true}
-use Rattle.pgn_lexer.specs.Laws.{PiecesAreReadBack, KindsAreReadBack, NumbersAreSymbols}
-use Rattle.pgn_lexer.specs.Sound.{begins_with, IsSymbol, IsWord, CommentsClose}
-use Rattle.pgn_lexer.specs.Tokens.{Kind, Token, left_bracket, right_bracket, left_paren, right_paren, period, asterisk, symbol, str, glyph, comment_open, word, comment_close, end}
-use Rattle.pgn_lexer.specs.TokensOf.{tokens_of}
-use Rattle.pgn_lexer.specs.Written.{Piece, token, space, text_of_pieces, kinds_in, tokens_at, IsPiece, IsEndedBy, AreEnded, IsReadable}
 use Rattle.pgn_lexer.proofs.rows.CuttingRows.{t, ending}
 
 abbrev sp : Piece
@@ -37,17 +28,10 @@ tag_text : text_of_pieces tag ≡ codes "[A \"a\\\"\\\\\"]\n"
 tag_text = refl
 
 tag_readable : IsReadable tag
-tag_readable = record {
-  pieces = (
-    tt,
-    (
-      record { begins = refl; bytes = refl; fits = omega arith },
-      (refl, (record { bytes = refl; fits = omega arith }, (tt, (refl, tt)))),
-    ),
-  );
-  ended = (tt, (refl, (tt, (tt, tt))));
-  comments = tt;
-}
+tag_readable =
+    let name : IsSymbol (codes "A") = record { begins = refl; bytes = refl; fits = omega arith } in
+    let value : IsData (codes "a\"\\") = record { bytes = refl; fits = omega arith } in
+    record { pieces = assumption (name, value); ended = assumption; comments = tt }
 
 tag_by_law : PiecesAreReadBack → tokens_of (codes "[A \"a\\\"\\\\\"]\n")
     ≡ t 0 left_bracket ∷ t 1 (symbol (codes "A")) ∷ t 3 (str (codes "a\"\\"))
@@ -82,122 +66,9 @@ a_word = record { some = omega arith; bytes = refl; fits = omega arith }
 
 movetext_readable : IsReadable movetext
 unfolding digits
-movetext_readable = record {
-  pieces = (
-    a_symbol.0,
-    (
-      tt,
-      (
-        refl,
-        (
-          a_symbol.1,
-          (
-            refl,
-            (
-              omega arith,
-              (
-                refl,
-                (
-                  tt,
-                  (
-                    refl,
-                    (
-                      a_word,
-                      (
-                        refl,
-                        (
-                          tt,
-                          (
-                            refl,
-                            (
-                              tt,
-                              (
-                                refl,
-                                (
-                                  a_symbol.0,
-                                  (
-                                    tt,
-                                    (
-                                      tt,
-                                      (
-                                        tt,
-                                        (
-                                          refl,
-                                          (
-                                            a_symbol.2,
-                                            (
-                                              tt,
-                                              (
-                                                refl,
-                                                (a_symbol.3, (refl, (tt, (refl, tt)))),
-                                              ),
-                                            ),
-                                          ),
-                                        ),
-                                      ),
-                                    ),
-                                  ),
-                                ),
-                              ),
-                            ),
-                          ),
-                        ),
-                      ),
-                    ),
-                  ),
-                ),
-              ),
-            ),
-          ),
-        ),
-      ),
-    ),
-  );
-  ended = (
-    refl,
-    (
-      tt,
-      (
-        refl,
-        (
-          refl,
-          (
-            tt,
-            (
-              refl,
-              (
-                tt,
-                (
-                  tt,
-                  (
-                    refl,
-                    (
-                      tt,
-                      (
-                        tt,
-                        (
-                          tt,
-                          (
-                            refl,
-                            (
-                              tt,
-                              (refl, (tt, tt)),
-                            ),
-                          ),
-                        ),
-                      ),
-                    ),
-                  ),
-                ),
-              ),
-            ),
-          ),
-        ),
-      ),
-    ),
-  );
-  comments = tt;
-}
+movetext_readable =
+    let small : 10 ≤ 255 = omega arith in
+    record { pieces = assumption (a_symbol, a_word, small); ended = assumption; comments = tt }
 
 movetext_by_law : KindsAreReadBack
     → map (λ i. i.kind) (tokens_of (codes "1. e4 $10\n{\n%a;\n} ( 1... e5)\n1/2-1/2\n*\n"))

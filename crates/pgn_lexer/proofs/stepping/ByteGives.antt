@@ -1,20 +1,8 @@
 -- Each byte, and the end of the text, gives the tokens that come.
-use Rattle.std.proofs.Common.{◌≡◌, ℕ, ◌+◌, ◌<◌, ◌≤◌, List, [], ◌∷◌, length, refl, sym, ap, subst, arith}
-use Rattle.std.specs.Prelude.{nat_lt, nat_le, ◌==◌, ◌-◌, ◌*◌, Some}
-use Rattle.pgn_lexer.specs.declared.token.LexFault.{LexFault}
-use Rattle.pgn_lexer.specs.declared.partial_token.Mode.{Mode}
+use Rattle.pgn_lexer.proofs.Words.{◌≡◌, ℕ, ◌+◌, ◌<◌, ◌≤◌, List, [], ◌∷◌, length, refl, sym, ap, subst, arith, nat_lt, nat_le, ◌==◌, ◌-◌, ◌*◌, Some, LexFault, Mode, TokenForm, is_line_end, is_digit, continues_symbol, is_suffix, HasLength, symbol, glyph, word, end, class, comment_class, string_class, symbol_at, word_at, suffix_at, in_glyph, onto, tokens_from, PartialToken, IsSound, HasNotFailed, tokens_to_come, kind_in, token_of, refusal, pending, spelling, fault_met, fault_in_mode, after_byte, after_byte_in, after_end, after_end_in, AfterByte, IsAfterEnd, glyph_of, reached_after}
 use Rattle.pgn_lexer.specs.declared.partial_token.Mode.TheVariants as modes
-use Rattle.pgn_lexer.specs.declared.partial_token.TokenForm.{TokenForm}
 use Rattle.pgn_lexer.specs.declared.partial_token.Reached.{Reached}
 use Rattle.pgn_lexer.specs.declared.partial_token.Reached.TheVariants as reached
-use Rattle.pgn_lexer.specs.Bytes.{is_line_end, is_digit, continues_symbol, is_suffix}
-use Rattle.pgn_lexer.specs.Tokens.{HasLength, symbol, glyph, word, end}
-use Rattle.pgn_lexer.specs.Spelling.{class, comment_class, string_class, symbol_at, word_at, suffix_at}
-use Rattle.pgn_lexer.specs.TokensOf.{in_glyph, onto, tokens_from}
-use Rattle.pgn_lexer.specs.PartialToken.{PartialToken, IsSound, HasNotFailed, tokens_to_come, kind_in, token_of, refusal, pending, spelling, fault_met}
-use Rattle.pgn_lexer.specs.Standing.{fault_in_mode}
-use Rattle.pgn_lexer.specs.ByteResult.{after_byte, after_byte_in, after_end, after_end_in, AfterByte, IsAfterEnd, glyph_of}
-use Rattle.pgn_lexer.specs.RunResult.{reached_after}
 use Rattle.pgn_lexer.proofs.stepping.StepGives.{Gives, front_of}
 use Rattle.pgn_lexer.proofs.stepping.RunOfBytes.{run_closes}
 use Rattle.pgn_lexer.proofs.stepping.FirstBytes.{start_gives, after_ef_gives, after_ef_bb_gives, escape_line_gives}
@@ -30,30 +18,30 @@ holds mode at text = record { mode = mode; at = at; text = text }
 step_in : (m : Mode) (place at b : ℕ) (text : List ℕ) → length text ≤ 255 → IsSound place (holds m at text)
     → Gives (front_of place (holds m at text) b) (after_byte_in m place (holds m at text) b)
 step_in modes.Start place at b text fits sound =
-    subst (λ p. Gives (front_of p (holds modes.Start at text) b) (after_byte_in modes.Start p (holds modes.Start at text) b)) (sym sound.placed) (start_gives at b text fits (b == 239) refl)
+    subst (λ p. Gives (front_of p (holds modes.Start at text) b) (after_byte_in modes.Start p (holds modes.Start at text) b)) (sym sound.placed) (start_gives at b text fits _ refl)
 step_in modes.AfterEf place at b text fits sound =
-    subst (λ p. Gives (front_of p (holds modes.AfterEf at text) b) (after_byte_in modes.AfterEf p (holds modes.AfterEf at text) b)) (sym sound.placed) (after_ef_gives at b text fits (b == 187) refl)
+    subst (λ p. Gives (front_of p (holds modes.AfterEf at text) b) (after_byte_in modes.AfterEf p (holds modes.AfterEf at text) b)) (sym sound.placed) (after_ef_gives at b text fits _ refl)
 step_in modes.AfterEfBb place at b text fits sound =
-    subst (λ p. Gives (front_of p (holds modes.AfterEfBb at text) b) (after_byte_in modes.AfterEfBb p (holds modes.AfterEfBb at text) b)) (sym sound.placed) (after_ef_bb_gives at b text fits (b == 191) refl)
-step_in modes.LineStart place at b text fits sound = begin_line_gives (class b) place b (holds modes.LineStart at text) _ _ fits
-step_in modes.Outside place at b text fits sound = begin_gives (class b) place b (holds modes.Outside at text) _ _ fits
-step_in modes.EscapeLine place at b text fits sound = escape_line_gives place at b text fits (is_line_end b) refl
-step_in modes.Symbol place at b text fits sound = symbol_gives place at b text fits sound.room.1 sound.placed (continues_symbol b) refl (nat_lt (length text) 255) refl
-step_in modes.Str place at b text fits sound = string_gives place at b text fits sound.placed (string_class b) refl
-step_in modes.AfterBackslash place at b text fits sound = escaped_gives place at b text sound.room.1 sound.placed (string_class b) refl
-step_in modes.Dollar place at b text fits sound = dollar_gives place at b text fits sound.placed (is_digit b) refl
-step_in (modes.Glyph n) place at b text fits sound = glyph_gives place at b n text fits sound.room.1 sound.placed (is_digit b) refl (nat_le (10 * n + (b - 48)) 255) refl
-step_in (modes.Suffix run) place at b text fits sound = suffix_gives place at b text fits sound.placed run (is_suffix b) refl
+    subst (λ p. Gives (front_of p (holds modes.AfterEfBb at text) b) (after_byte_in modes.AfterEfBb p (holds modes.AfterEfBb at text) b)) (sym sound.placed) (after_ef_bb_gives at b text fits _ refl)
+step_in modes.LineStart place at b text fits sound = begin_line_gives _ place b (holds modes.LineStart at text) _ _ fits
+step_in modes.Outside place at b text fits sound = begin_gives _ place b (holds modes.Outside at text) _ _ fits
+step_in modes.EscapeLine place at b text fits sound = escape_line_gives place at b text fits _ refl
+step_in modes.Symbol place at b text fits sound = symbol_gives place at b text fits sound.room.1 sound.placed _ refl _ refl
+step_in modes.Str place at b text fits sound = string_gives place at b text fits sound.placed _ refl
+step_in modes.AfterBackslash place at b text fits sound = escaped_gives place at b text sound.room.1 sound.placed _ refl
+step_in modes.Dollar place at b text fits sound = dollar_gives place at b text fits sound.placed _ refl
+step_in (modes.Glyph n) place at b text fits sound = glyph_gives place at b n text fits sound.room.1 sound.placed _ refl _ refl
+step_in (modes.Suffix run) place at b text fits sound = suffix_gives place at b text fits sound.placed run _ refl
 step_in modes.Brace place at b text fits sound = brace_gives place b (holds modes.Brace at text) _ _ fits
-step_in modes.BraceWord place at b text fits sound = brace_word_gives place at b text sound.room.1.0 sound.room.1.1 sound.placed (comment_class b) refl
+step_in modes.BraceWord place at b text fits sound = brace_word_gives place at b text sound.room.1.0 sound.room.1.1 sound.placed _ refl
 step_in modes.Line place at b text fits sound = line_gives place b (holds modes.Line at text) _ _ fits
-step_in modes.LineWord place at b text fits sound = line_word_gives place at b text sound.room.1.0 sound.room.1.1 sound.placed (comment_class b) refl
+step_in modes.LineWord place at b text fits sound = line_word_gives place at b text sound.room.1.0 sound.room.1.1 sound.placed _ refl
 step_in (modes.Failed f) place at b text fits sound = record { sound = record { room = (fits, tt); placed = tt }; fails = refl; comes = λ s. refl }
 
 -- what a byte gives
 pub step_gives : (place : ℕ) (h : PartialToken) (b : ℕ) → IsSound place h → Gives (front_of place h b) (after_byte place h b)
 unfolding after_byte
-step_gives place h b sound = step_in h.mode place h.at b h.text sound.room.0 sound
+step_gives place h b sound = step_in _ place h.at b _ sound.room.0 sound
 
 -- what the end of the text gives
 pub record ClosesToken (place : ℕ) (h : PartialToken) (form : TokenForm) (new : PartialToken) : Type 0 where
@@ -99,7 +87,7 @@ close_in modes.Dollar place at text fits sound = record { sound = record { room 
 close_in (modes.Glyph n) place at text fits sound =
     record { sound = record { room = (fits, tt); placed = tt }; fresh = tt; not_failed = tt; lengths = sound.room.1; less = omega arith; comes = ap (λ f. onto at f (tokens_from place in_glyph [])) (number_fits at n sound.room.1) }
 close_in (modes.Suffix run) place at text fits sound =
-    record { sound = record { room = (fits, tt); placed = tt }; fresh = tt; not_failed = tt; lengths = small_suffix place at 0 text fits sound.placed run; less = omega arith; comes = run_closes (suffix_at at) at (spelling run) _ (glyph (glyph_of run)) (spelled place at 0 text fits sound.placed run) }
+    record { sound = record { room = (fits, tt); placed = tt }; fresh = tt; not_failed = tt; lengths = small_suffix place at 0 text fits sound.placed run; less = omega arith; comes = run_closes (suffix_at at) at (spelling run) _ (glyph _) (spelled place at 0 text fits sound.placed run) }
 close_in modes.Brace place at text fits sound = record { sound = record { room = (fits, tt); placed = tt }; fails = refl; stays = λ g e. absurd (cc); comes = refl }
 close_in modes.BraceWord place at text fits sound =
     record { sound = record { room = (fits, tt); placed = tt }; fresh = tt; not_failed = tt; lengths = (sound.room.1.0, sound.room.1.1); less = omega arith; comes = run_closes (word_at at) at text _ (word text) (word_fits at text sound.room.1.1) }
@@ -110,7 +98,7 @@ close_in (modes.Failed f) place at text fits sound = record { sound = record { r
 
 pub close_gives : (place : ℕ) (h : PartialToken) → IsSound place h → ClosedGives place h (after_end place h)
 unfolding after_end
-close_gives place h sound = close_in h.mode place h.at h.text sound.room.0 sound
+close_gives place h sound = close_in _ place h.at _ sound.room.0 sound
 
 -- what a call that met the end of the text gives
 pub closes_gives : (place : ℕ) (h new : PartialToken) (answer : Reached) → IsSound place h → IsAfterEnd (after_end place h) new answer → CloseGives place h new answer

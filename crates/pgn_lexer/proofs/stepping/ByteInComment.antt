@@ -1,18 +1,9 @@
 -- A byte in a comment.
-use Rattle.std.proofs.Common.{◌≡◌, ℕ, ◌+◌, ◌<◌, ◌≤◌, Bool, true, false, List, [], ◌∷◌, ◌++◌, length, refl, ap, ◌∙◌, arith, length-append}
-use Rattle.std.specs.Prelude.{take_while, nat_lt, ◌==◌, if◌then◌else◌}
-use Rattle.std.proofs.lemmas.Bool.{ltb-true, ltb-false, le-leb, lt-leb}
-use Rattle.pgn_lexer.specs.declared.token.LexReason.TheVariants.{WordTooLong}
-use Rattle.pgn_lexer.specs.declared.class.CommentClass.{CommentClass}
+use Rattle.pgn_lexer.proofs.Words.{◌≡◌, ℕ, ◌+◌, ◌<◌, ◌≤◌, Bool, true, false, List, [], ◌∷◌, ◌++◌, length, refl, ap, ◌∙◌, arith, length-append, take_while, nat_lt, ◌==◌, if◌then◌else◌, ltb-true, ltb-false, le-leb, lt-leb, WordTooLong, CommentClass, is_line_end, is_blank, continues_word, Token, word, comment_class, gives, stops, word_at, brace, line, begins_brace, begins_line, after_brace, after_line, onto, tokens_from, PartialToken}
 use Rattle.pgn_lexer.specs.declared.class.CommentClass.TheVariants as comments
 use Rattle.pgn_lexer.specs.declared.partial_token.Mode.TheVariants as modes
 use Rattle.pgn_lexer.specs.declared.partial_token.TokenForm.TheVariants as forms
 use Rattle.pgn_lexer.specs.declared.partial_token.Step.TheVariants as steps
-use Rattle.pgn_lexer.specs.Bytes.{is_line_end, is_blank, continues_word}
-use Rattle.pgn_lexer.specs.Tokens.{Token, word}
-use Rattle.pgn_lexer.specs.Spelling.{comment_class, gives, stops, word_at}
-use Rattle.pgn_lexer.specs.TokensOf.{brace, line, begins_brace, begins_line, after_brace, after_line, onto, tokens_from}
-use Rattle.pgn_lexer.specs.PartialToken.{PartialToken}
 use Rattle.pgn_lexer.specs.ByteResult as after
 use Rattle.pgn_lexer.proofs.stepping.RunOfBytes.{run_grows, run_breaks, run_ends, run_closes}
 use Rattle.pgn_lexer.proofs.stepping.StepGives.{Front, Gives, front_of}
@@ -23,7 +14,7 @@ is_word_class _ = false
 
 -- the bytes of words are those of their class
 pub word_class : (b : ℕ) → continues_word b ≡ is_word_class (comment_class b)
-word_class b = cases (continues_word b) (is_line_end b) (is_blank b) (b == 125)
+word_class b = cases _ _ _ _
   where
     cases : (w l s c : Bool) → w ≡ is_word_class (if w then comments.WordByte else (if l then comments.LineEnd else (if s then comments.Space else (if c then comments.CloseBrace else comments.Control))))
     cases true l s c = refl
@@ -53,7 +44,7 @@ brace_class comments.Control place b h ended waits fits = record { sound = recor
 
 pub brace_gives : (place b : ℕ) (h : PartialToken) (ended : List Token) (waits : ℕ) → length h.text ≤ 255
     → Gives (record { place = place; byte = b; front = λ s. tokens_from place brace (b ∷ s); ended = ended; waits = waits }) (after.brace place h b (comment_class b))
-brace_gives place b h ended waits fits = brace_class (comment_class b) place b h ended waits fits
+brace_gives place b h ended waits fits = brace_class _ place b h ended waits fits
 
 -- between those of a comment that goes to the end of its line
 abbrev from_line : ℕ → ℕ → List Token → ℕ → CommentClass → Front
@@ -70,7 +61,7 @@ line_class comments.Control place b h ended waits fits = record { sound = record
 
 pub line_gives : (place b : ℕ) (h : PartialToken) (ended : List Token) (waits : ℕ) → length h.text ≤ 255
     → Gives (record { place = place; byte = b; front = λ s. tokens_from place line (b ∷ s); ended = ended; waits = waits }) (after.line place h b (comment_class b))
-line_gives place b h ended waits fits = line_class (comment_class b) place b h ended waits fits
+line_gives place b h ended waits fits = line_class _ place b h ended waits fits
 
 -- the tokens from a byte of a class, where a word goes on, or not
 abbrev pub brace_tokens : ℕ → Bool → ℕ → List ℕ → CommentClass → List Token
@@ -150,8 +141,8 @@ module _ (place at b : ℕ) (text : List ℕ) (some : 0 < length text) (fits : l
         less = omega arith;
         within = brace;
         settled = λ s. refl;
-        comes = λ s. run_ends (word_at at) continues_word at b text s _ _ (word text) (word_class b ∙ other) (word_fits at text fits) (brace_ends (comment_class b) place b s other);
-        at_end = run_closes (word_at at) at text _ (word text) (word_fits at text fits);
+        comes = λ s. run_ends (word_at at) continues_word at b text s _ _ _ (word_class b ∙ other) (word_fits at text fits) (brace_ends _ place b s other);
+        at_end = run_closes (word_at at) at text _ _ (word_fits at text fits);
       }
 
   line_word_ends : is_word_class (comment_class b) ≡ false
@@ -169,14 +160,14 @@ module _ (place at b : ℕ) (text : List ℕ) (some : 0 < length text) (fits : l
         less = omega arith;
         within = line;
         settled = λ s. refl;
-        comes = λ s. run_ends (word_at at) continues_word at b text s _ _ (word text) (word_class b ∙ other) (word_fits at text fits) (line_ends (comment_class b) place b s other);
-        at_end = run_closes (word_at at) at text _ (word text) (word_fits at text fits);
+        comes = λ s. run_ends (word_at at) continues_word at b text s _ _ _ (word_class b ∙ other) (word_fits at text fits) (line_ends _ place b s other);
+        at_end = run_closes (word_at at) at text _ _ (word_fits at text fits);
       }
 
   pub brace_word_gives : (c : CommentClass) → comment_class b ≡ c
       → let h : PartialToken = record { mode = modes.BraceWord; at = at; text = text } in
       Gives (front_of place h b) (after.word modes.Brace h b c)
-  brace_word_gives comments.WordByte e = brace_letter e (word_class b ∙ ap is_word_class e) (nat_lt (length text) 79) refl
+  brace_word_gives comments.WordByte e = brace_letter e (word_class b ∙ ap is_word_class e) _ refl
   brace_word_gives comments.LineEnd e = brace_word_ends (ap is_word_class e)
   brace_word_gives comments.Space e = brace_word_ends (ap is_word_class e)
   brace_word_gives comments.CloseBrace e = brace_word_ends (ap is_word_class e)
@@ -185,7 +176,7 @@ module _ (place at b : ℕ) (text : List ℕ) (some : 0 < length text) (fits : l
   pub line_word_gives : (c : CommentClass) → comment_class b ≡ c
       → let h : PartialToken = record { mode = modes.LineWord; at = at; text = text } in
       Gives (front_of place h b) (after.word modes.Line h b c)
-  line_word_gives comments.WordByte e = line_letter e (word_class b ∙ ap is_word_class e) (nat_lt (length text) 79) refl
+  line_word_gives comments.WordByte e = line_letter e (word_class b ∙ ap is_word_class e) _ refl
   line_word_gives comments.LineEnd e = line_word_ends (ap is_word_class e)
   line_word_gives comments.Space e = line_word_ends (ap is_word_class e)
   line_word_gives comments.CloseBrace e = line_word_ends (ap is_word_class e)

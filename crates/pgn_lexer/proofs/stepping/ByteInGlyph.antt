@@ -1,20 +1,10 @@
 -- A byte in a glyph or a suffix.
-use Rattle.std.proofs.Common.{◌≡◌, ℕ, ◌+◌, ◌-◌, ◌*◌, ◌<◌, ◌≤◌, Bool, true, false, List, [], ◌∷◌, ◌++◌, length, refl, ap, ◌∙◌, arith}
-use Rattle.std.specs.Prelude.{take_while, nat_le, ◌==◌, ◌&&◌, if◌then◌else◌}
-use Rattle.std.proofs.lemmas.Bool.{leb-true, leb-false, le-leb, lt-leb}
-use Rattle.pgn_lexer.specs.declared.token.LexReason.TheVariants.{LoneDollar, GlyphRange, BadSuffix}
+use Rattle.pgn_lexer.proofs.Words.{◌≡◌, ℕ, ◌+◌, ◌-◌, ◌*◌, ◌<◌, ◌≤◌, Bool, true, false, List, [], ◌∷◌, ◌++◌, length, refl, ap, ◌∙◌, arith, take_while, nat_le, ◌==◌, ◌&&◌, if◌then◌else◌, leb-true, leb-false, le-leb, lt-leb, LoneDollar, GlyphRange, BadSuffix, Used, EndsBefore, is_digit, is_suffix, glyph, gives, stops, number_from, numbered_at, glyph_at, suffix_at, in_glyph, in_suffix, outside, onto, tokens_from, PartialToken, spelling, into, fails}
 use Rattle.pgn_lexer.specs.declared.partial_token.Mode.TheVariants as modes
 use Rattle.pgn_lexer.specs.declared.partial_token.TokenForm.TheVariants as forms
-use Rattle.pgn_lexer.specs.declared.partial_token.Step.TheVariants.{Used, EndsBefore}
 use Rattle.pgn_lexer.specs.declared.partial_token.SuffixRun.{SuffixRun}
 use Rattle.pgn_lexer.specs.declared.partial_token.SuffixRun.TheVariants as runs
-use Rattle.pgn_lexer.specs.Bytes.{is_digit, is_suffix}
-use Rattle.pgn_lexer.specs.Tokens.{glyph}
-use Rattle.pgn_lexer.specs.Spelling.{gives, stops, number_from, numbered_at, glyph_at, suffix_at}
-use Rattle.pgn_lexer.specs.TokensOf.{in_glyph, in_suffix, outside, onto, tokens_from}
-use Rattle.pgn_lexer.specs.PartialToken.{PartialToken, spelling}
 use Rattle.pgn_lexer.specs.ByteResult as after
-use Rattle.pgn_lexer.specs.ByteResult.{into, fails}
 use Rattle.pgn_lexer.proofs.stepping.RunOfBytes.{take_while-true, take_while-false, glyph_goes, glyph_ends, suffix_goes, suffix_ends, run_grows, run_breaks, run_ends, run_closes}
 use Rattle.pgn_lexer.proofs.stepping.StepGives.{Gives, front_of}
 
@@ -31,7 +21,7 @@ number_long at n long = ap (λ c. if c then gives (glyph n) else stops at GlyphR
 
 -- a digit is 48 to 57
 digit_small : (b : ℕ) → is_digit b ≡ true → b ≤ 57
-digit_small b e = cases (nat_le 48 b) (nat_le b 57) refl e
+digit_small b e = cases _ _ refl e
   where
     cases : (low high : Bool) → nat_le b 57 ≡ high → (low && high) ≡ true → b ≤ 57
     cases low true e both = leb-true b 57 e
@@ -81,7 +71,7 @@ dollar_gives place at b text fits began true e =
       not_failed = tt;
       comes = λ s. ap (λ run. onto at (glyph_at at run) (tokens_from place in_glyph (b ∷ s))) (take_while-true is_digit b s e)
           ∙ ap (λ n. onto at (numbered_at at (number_from n (take_while is_digit s))) (tokens_from place in_glyph (b ∷ s))) first
-          ∙ ap (onto at (numbered_at at (number_from (b - 48) (take_while is_digit s)))) (glyph_goes place b s e);
+          ∙ ap (onto at (numbered_at at _)) (glyph_goes place b s e);
     }
 dollar_gives place at b text fits began false e =
     record {
@@ -113,8 +103,8 @@ module _ (place at b : ℕ) (text : List ℕ) (fits : length text ≤ 255) (bega
         sound = record { room = (fits, tt); placed = omega arith };
         not_failed = tt;
         comes = λ s. ap (λ rest. onto at (suffix_at at (spelling run ++ rest)) (tokens_from place in_suffix (b ∷ s))) (take_while-true is_suffix b s e)
-            ∙ ap (λ f. onto at f (tokens_from place in_suffix (b ∷ s))) (second (take_while is_suffix s))
-            ∙ ap (onto at (suffix_at at (spelling next ++ take_while is_suffix s))) (suffix_goes place b s e);
+            ∙ ap (λ f. onto at f (tokens_from place in_suffix (b ∷ s))) (second (take_while _ s))
+            ∙ ap (onto at (suffix_at at (spelling next ++ take_while _ s))) (suffix_goes place b s e);
       }
 
   too_many : (run : SuffixRun) → is_suffix b ≡ true → ((rest : List ℕ) → suffix_at at (spelling run ++ b ∷ rest) ≡ stops at BadSuffix)
@@ -124,14 +114,14 @@ module _ (place at b : ℕ) (text : List ℕ) (fits : length text ≤ 255) (bega
       record {
         sound = record { room = (fits, tt); placed = tt };
         fails = refl;
-        comes = λ s. run_breaks (suffix_at at) is_suffix at b (spelling run) s (tokens_from place in_suffix (b ∷ s)) at BadSuffix e (bad (take_while is_suffix s));
+        comes = λ s. run_breaks (suffix_at at) is_suffix at b (spelling run) s (tokens_from place in_suffix (b ∷ s)) at _ e (bad _);
       }
 
   goes_on : (run : SuffixRun) → is_suffix b ≡ true
       → let h : PartialToken = record { mode = modes.Suffix run; at = at; text = text } in
       Gives (front_of place h b) (after.second_suffix h run b)
-  goes_on runs.Good e = more runs.Good _ e (λ rest. second_good at b rest (b == 33) refl)
-  goes_on runs.Poor e = more runs.Poor _ e (λ rest. second_poor at b rest (b == 33) refl)
+  goes_on runs.Good e = more runs.Good _ e (λ rest. second_good at b rest _ refl)
+  goes_on runs.Poor e = more runs.Poor _ e (λ rest. second_poor at b rest _ refl)
   goes_on runs.VeryGood e = too_many runs.VeryGood e (λ rest. refl)
   goes_on runs.VeryPoor e = too_many runs.VeryPoor e (λ rest. refl)
   goes_on runs.Speculative e = too_many runs.Speculative e (λ rest. refl)
@@ -170,6 +160,6 @@ module _ (place at b : ℕ) (text : List ℕ) (fits : length text ≤ 255) (bega
         less = omega arith;
         within = outside;
         settled = λ s. refl;
-        comes = λ s. run_ends (suffix_at at) is_suffix at b (spelling run) s _ _ (glyph (after.glyph_of run)) e (spelled run) (suffix_ends place b s e);
-        at_end = run_closes (suffix_at at) at (spelling run) _ (glyph (after.glyph_of run)) (spelled run);
+        comes = λ s. run_ends (suffix_at at) is_suffix at b (spelling run) s _ _ _ e (spelled run) (suffix_ends place b s e);
+        at_end = run_closes (suffix_at at) at (spelling run) _ _ (spelled run);
       }

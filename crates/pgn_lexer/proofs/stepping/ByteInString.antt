@@ -1,23 +1,13 @@
 -- A byte in a string.
-use Rattle.std.proofs.Common.{◌≡◌, ℕ, ◌+◌, ◌<◌, ◌≤◌, Bool, true, false, List, [], ◌∷◌, ◌++◌, length, refl, sym, ap, ◌∙◌, append-nil, append_assoc, arith, length-append}
-use Rattle.std.specs.Prelude.{nat_lt, if◌then◌else◌}
-use Rattle.std.proofs.lemmas.Bool.{ltb-true}
-use Rattle.pgn_lexer.specs.declared.token.LexReason.TheVariants.{ControlByte, StringTooLong, UnclosedString}
-use Rattle.pgn_lexer.specs.declared.class.StringClass.{StringClass}
+use Rattle.pgn_lexer.proofs.Words.{◌≡◌, ℕ, ◌+◌, ◌<◌, ◌≤◌, Bool, true, false, List, [], ◌∷◌, ◌++◌, length, refl, sym, ap, ◌∙◌, append-nil, append_assoc, arith, length-append, nat_lt, if◌then◌else◌, ltb-true, ControlByte, StringTooLong, UnclosedString, StringClass, Used, Token, str, string_class, Reading, closed, broken, datum, reading, string_at, quotes, after_quoted, onto, tokens_from, PartialToken, with_front, AfterByte, into, grown, fails}
 use Rattle.pgn_lexer.specs.declared.class.StringClass.TheVariants as strings
 use Rattle.pgn_lexer.specs.declared.partial_token.Mode.TheVariants as modes
-use Rattle.pgn_lexer.specs.declared.partial_token.Step.TheVariants.{Used}
-use Rattle.pgn_lexer.specs.Tokens.{Token, str}
-use Rattle.pgn_lexer.specs.Spelling.{string_class, Reading, closed, broken, datum, reading, string_at}
-use Rattle.pgn_lexer.specs.TokensOf.{quotes, after_quoted, onto, tokens_from}
-use Rattle.pgn_lexer.specs.PartialToken.{PartialToken, with_front}
 use Rattle.pgn_lexer.specs.ByteResult as after
-use Rattle.pgn_lexer.specs.ByteResult.{AfterByte, into, grown, fails}
 use Rattle.pgn_lexer.proofs.stepping.StepGives.{Gives, front_of}
 
 -- data read so far go in front, one by one
 pub with_front-datum : (text : List ℕ) (b : ℕ) (r : Reading) → with_front text (datum b r) ≡ with_front (text ++ b ∷ []) r
-with_front-datum text b (closed more) = ap closed (sym (append_assoc text (b ∷ []) more))
+with_front-datum text b (closed more) = ap closed (sym (append_assoc text _ more))
 with_front-datum text b (broken at reason) = refl
 
 -- what a byte of each class comes to
@@ -61,14 +51,14 @@ module _ (place at b : ℕ) (text : List ℕ) (fits : length text ≤ 255) (bega
       record {
         sound = record { room = (fits, ltb-true _ _ room); placed = omega arith };
         not_failed = tt;
-        comes = λ s. by_class strings.Backslash s e
+        comes = λ s. by_class _ s e
             ∙ ap (λ d. string_tokens place at text s (elim d [ true ↦ reading at (place + 1) (length text) true s | false ↦ broken at StringTooLong ]) strings.Backslash) room;
       }
   plain_backslash false full e =
       record {
         sound = record { room = (fits, tt); placed = tt };
         fails = refl;
-        comes = λ s. by_class strings.Backslash s e
+        comes = λ s. by_class _ s e
             ∙ ap (λ d. string_tokens place at text s (elim d [ true ↦ reading at (place + 1) (length text) true s | false ↦ broken at StringTooLong ]) strings.Backslash) full;
       }
 
@@ -76,7 +66,7 @@ module _ (place at b : ℕ) (text : List ℕ) (fits : length text ≤ 255) (bega
   datum_comes : (s : List ℕ) → escaped_tokens place at text s (datum b (reading at (place + 1) (length text + 1) false s))
       ≡ escaped_tokens place at (text ++ b ∷ []) s (reading at (place + 1) (length (text ++ b ∷ [])) false s)
   datum_comes s =
-      ap (λ r. onto at (string_at r) (tokens_from (place + 1) quotes s)) (with_front-datum text b (reading at (place + 1) (length text + 1) false s))
+      ap (λ r. onto at (string_at r) (tokens_from (place + 1) quotes s)) (with_front-datum text b _)
       ∙ ap (λ n. escaped_tokens place at (text ++ b ∷ []) s (reading at (place + 1) n false s)) (sym (length-append text (b ∷ [])))
 
   plain_plain : (d : Bool) → nat_lt (length text) 255 ≡ d → string_class b ≡ strings.Plain
@@ -111,12 +101,12 @@ module _ (place at b : ℕ) (text : List ℕ) (fits : length text ≤ 255) (bega
         ends_at = omega arith;
         closed = refl;
         few = omega arith;
-        comes = λ s. by_class strings.Quote s e ∙ ap (λ t. record { at = at; kind = str t } ∷ tokens_from (place + 1) (after_quoted strings.Quote) s) (append-nil text);
+        comes = λ s. by_class _ s e ∙ ap (λ t. record { at = at; kind = str t } ∷ tokens_from (place + 1) (after_quoted strings.Quote) s) (append-nil text);
       }
-  string_gives strings.LineEnd e = record { sound = record { room = (fits, tt); placed = tt }; fails = refl; comes = λ s. by_class strings.LineEnd s e }
-  string_gives strings.Control e = record { sound = record { room = (fits, tt); placed = tt }; fails = refl; comes = λ s. by_class strings.Control s e }
-  string_gives strings.Backslash e = plain_backslash (nat_lt (length text) 255) refl e
-  string_gives strings.Plain e = plain_plain (nat_lt (length text) 255) refl e
+  string_gives strings.LineEnd e = record { sound = record { room = (fits, tt); placed = tt }; fails = refl; comes = λ s. by_class _ s e }
+  string_gives strings.Control e = record { sound = record { room = (fits, tt); placed = tt }; fails = refl; comes = λ s. by_class _ s e }
+  string_gives strings.Backslash e = plain_backslash _ refl e
+  string_gives strings.Plain e = plain_plain _ refl e
 
 module _ (place at b : ℕ) (text : List ℕ) (short : length text < 255) (began : at < place) where
   by_escaped : (c : StringClass) (s : List ℕ) → string_class b ≡ c
@@ -146,7 +136,7 @@ module _ (place at b : ℕ) (text : List ℕ) (short : length text < 255) (began
         comes = λ s. by_escaped strings.Plain s e
             ∙ ap (λ d. escaped_tokens place at text s (elim d [ true ↦ datum 92 (datum b (reading at (place + 1) (length text + 2) false s)) | false ↦ broken at StringTooLong ])) room
             ∙ ap (λ r. onto at (string_at r) (tokens_from (place + 1) quotes s))
-            (with_front-datum text 92 (datum b (reading at (place + 1) (length text + 2) false s)) ∙ with_front-datum (text ++ 92 ∷ []) b (reading at (place + 1) (length text + 2) false s))
+            (with_front-datum text 92 _ ∙ with_front-datum _ b _)
             ∙ ap (λ n. escaped_tokens place at ((text ++ 92 ∷ []) ++ b ∷ []) s (reading at (place + 1) n false s)) (sym longer);
       }
   escaped_plain false full e =
@@ -160,8 +150,8 @@ module _ (place at b : ℕ) (text : List ℕ) (short : length text < 255) (began
   pub escaped_gives : (c : StringClass) → string_class b ≡ c
       → let h : PartialToken = record { mode = modes.AfterBackslash; at = at; text = text } in
       Gives (front_of place h b) (after.string true place h b c)
-  escaped_gives strings.Quote e = taken_back strings.Quote (λ s. by_escaped strings.Quote s e)
-  escaped_gives strings.LineEnd e = record { sound = record { room = (omega arith, tt); placed = tt }; fails = refl; comes = λ s. by_escaped strings.LineEnd s e }
-  escaped_gives strings.Control e = record { sound = record { room = (omega arith, tt); placed = tt }; fails = refl; comes = λ s. by_escaped strings.Control s e }
-  escaped_gives strings.Backslash e = taken_back strings.Backslash (λ s. by_escaped strings.Backslash s e)
-  escaped_gives strings.Plain e = escaped_plain (nat_lt (length text) 254) refl e
+  escaped_gives strings.Quote e = taken_back strings.Quote (λ s. by_escaped _ s e)
+  escaped_gives strings.LineEnd e = record { sound = record { room = (omega arith, tt); placed = tt }; fails = refl; comes = λ s. by_escaped _ s e }
+  escaped_gives strings.Control e = record { sound = record { room = (omega arith, tt); placed = tt }; fails = refl; comes = λ s. by_escaped _ s e }
+  escaped_gives strings.Backslash e = taken_back strings.Backslash (λ s. by_escaped _ s e)
+  escaped_gives strings.Plain e = escaped_plain _ refl e

@@ -1,17 +1,7 @@
 -- A byte in a symbol.
-use Rattle.std.proofs.Common.{◌≡◌, ℕ, ◌+◌, ◌<◌, ◌≤◌, Bool, true, false, List, [], ◌∷◌, ◌++◌, length, refl, ap, arith, length-append}
-use Rattle.std.specs.Prelude.{take_while, nat_lt, if◌then◌else◌}
-use Rattle.std.proofs.lemmas.Bool.{ltb-true, ltb-false, le-leb, lt-leb}
-use Rattle.pgn_lexer.specs.declared.token.LexReason.TheVariants.{SymbolTooLong}
+use Rattle.pgn_lexer.proofs.Words.{◌≡◌, ℕ, ◌+◌, ◌<◌, ◌≤◌, Bool, true, false, List, [], ◌∷◌, ◌++◌, length, refl, ap, arith, length-append, take_while, nat_lt, if◌then◌else◌, ltb-true, ltb-false, le-leb, lt-leb, SymbolTooLong, continues_symbol, symbol, gives, stops, symbol_at, outside, PartialToken, into, grown, fails, EndsBefore}
 use Rattle.pgn_lexer.specs.declared.partial_token.Mode.TheVariants as modes
 use Rattle.pgn_lexer.specs.declared.partial_token.TokenForm.TheVariants as forms
-use Rattle.pgn_lexer.specs.Bytes.{continues_symbol}
-use Rattle.pgn_lexer.specs.Tokens.{symbol}
-use Rattle.pgn_lexer.specs.Spelling.{gives, stops, symbol_at}
-use Rattle.pgn_lexer.specs.TokensOf.{outside}
-use Rattle.pgn_lexer.specs.PartialToken.{PartialToken}
-use Rattle.pgn_lexer.specs.ByteResult.{into, grown, fails}
-use Rattle.pgn_lexer.specs.declared.partial_token.Step.TheVariants.{EndsBefore}
 use Rattle.pgn_lexer.proofs.stepping.RunOfBytes.{symbol_goes, symbol_ends, run_grows, run_breaks, run_ends, run_closes}
 use Rattle.pgn_lexer.proofs.stepping.StepGives.{Gives, front_of}
 

@@ -1,17 +1,8 @@
 -- A byte outside strings and comments.
-use Rattle.std.proofs.Common.{◌≡◌, ℕ, ◌+◌, ◌≤◌, Bool, true, false, List, [], ◌∷◌, ◌++◌, length, refl, sym, ap, arith}
-use Rattle.std.specs.Prelude.{take_while, ◌==◌, if◌then◌else◌}
-use Rattle.pgn_lexer.specs.declared.class.Single.{Single}
+use Rattle.pgn_lexer.proofs.Words.{◌≡◌, ℕ, ◌+◌, ◌≤◌, Bool, true, false, List, [], ◌∷◌, ◌++◌, length, refl, sym, ap, arith, take_while, ◌==◌, if◌then◌else◌, Single, Class, is_suffix, Token, EndsAt, HasLength, glyph, is_run, kind_of_single, Reading, closed, broken, gives, reading, suffix_at, string_at, begins_class, begins_first, after_class, after_first, in_suffix, quotes, onto, tokens_from, PartialToken, spelling, with_front, begin, begin_line}
 use Rattle.pgn_lexer.specs.declared.class.Single.TheVariants as singles
-use Rattle.pgn_lexer.specs.declared.class.Class.{Class}
 use Rattle.pgn_lexer.specs.declared.class.Class.TheVariants as classes
 use Rattle.pgn_lexer.specs.declared.partial_token.SuffixRun.TheVariants as runs
-use Rattle.pgn_lexer.specs.Bytes.{is_suffix}
-use Rattle.pgn_lexer.specs.Tokens.{Token, EndsAt, HasLength, glyph, is_run}
-use Rattle.pgn_lexer.specs.Spelling.{kind_of_single, Reading, closed, broken, gives, reading, suffix_at, string_at}
-use Rattle.pgn_lexer.specs.TokensOf.{begins_class, begins_first, after_class, after_first, in_suffix, quotes, onto, tokens_from}
-use Rattle.pgn_lexer.specs.PartialToken.{PartialToken, spelling, with_front}
-use Rattle.pgn_lexer.specs.ByteResult.{begin, begin_line}
 use Rattle.pgn_lexer.proofs.stepping.StepGives.{Front, Gives}
 
 pub with_front-nil : (r : Reading) → with_front [] r ≡ r
@@ -64,14 +55,14 @@ begin_gives classes.Quote place b h ended waits fits =
     record {
       sound = record { room = (omega arith, tt); placed = omega arith };
       not_failed = tt;
-      comes = λ s. ap (λ r. onto place (string_at r) (tokens_from (place + 1) quotes s)) (sym (with_front-nil (reading place (place + 1) 0 false s)));
+      comes = λ s. ap (λ r. onto place (string_at r) (tokens_from (place + 1) quotes s)) (sym (with_front-nil _));
     }
 begin_gives classes.Dollar place b h ended waits fits = record { sound = record { room = (fits, tt); placed = omega arith }; not_failed = tt; comes = λ s. refl }
 begin_gives classes.Suffix place b h ended waits fits =
     record {
       sound = record { room = (fits, tt); placed = omega arith };
       not_failed = tt;
-      comes = λ s. ap (λ f. onto place f (tokens_from (place + 1) in_suffix s)) (suffix_first place b (take_while is_suffix s) (b == 33) refl);
+      comes = λ s. ap (λ f. onto place f (tokens_from (place + 1) in_suffix s)) (suffix_first place b _ _ refl);
     }
 begin_gives classes.OpenBrace place b h ended waits fits =
     record { sound = record { room = (fits, tt); placed = tt }; not_failed = tt; before = omega arith; lengths = tt; ends_at = refl; closed = refl; few = omega arith; comes = λ s. refl }

@@ -1,15 +1,8 @@
 -- The end of the text gives what is left.
-use Rattle.std.proofs.Common.{◌≡◌, ℕ, ◌<◌, List, [], ◌∷◌, ◌++◌, refl, sym, ap, subst, ◌∙◌, append_assoc}
-use Rattle.std.specs.Prelude.{None}
-use Rattle.pgn_lexer.specs.declared.token.LexFault.{LexFault}
+use Rattle.pgn_lexer.proofs.Words.{◌≡◌, ℕ, ◌<◌, List, [], ◌∷◌, ◌++◌, refl, sym, ap, subst, ◌∙◌, append_assoc, None, LexFault, TokenForm, Token, end, PartialToken, tokens_to_come, token_of, kind_in, fault_met, Scanned, fault, Standing, coming, waiting, fault_in_mode, FinishGivesToken, IsNext, HasLeft, Finishes}
 use Rattle.pgn_lexer.specs.declared.class.Single.TheVariants as singles
-use Rattle.pgn_lexer.specs.declared.partial_token.TokenForm.{TokenForm}
 use Rattle.pgn_lexer.specs.declared.partial_token.TokenForm.TheVariants as forms
-use Rattle.pgn_lexer.specs.Tokens.{Token, end}
-use Rattle.pgn_lexer.specs.PartialToken.{PartialToken, tokens_to_come, token_of, kind_in, fault_met}
-use Rattle.pgn_lexer.specs.Scanned.{Scanned, token, fault}
-use Rattle.pgn_lexer.specs.Standing.{Standing, coming, waiting, fault_in_mode}
-use Rattle.pgn_lexer.specs.Stands.{FinishGivesToken, IsNext, HasLeft, Finishes}
+use Rattle.pgn_lexer.specs.Scanned.{token}
 use Rattle.pgn_lexer.proofs.stepping.ByteGives.{ClosesToken, ClosesFault, ClosesEnd}
 use Rattle.pgn_lexer.proofs.stepping.StandsAfterCalls.{not_failed_fault, same_parts}
 
@@ -62,11 +55,11 @@ module _ (count : ℕ) (old new : PartialToken) where
 
   pub finishes_token : (form : TokenForm) (t : Token) → t.at ≡ new.at → t.kind ≡ kind_in form new.text → ClosesToken count old form new → Finishes before after (token t)
   finishes_token form t at kind h =
-      subst (λ t. Finishes before after (token t)) (sym (same_parts t (token_of form new) at kind))
+      subst (λ t. Finishes before after (token t)) (sym (same_parts t _ at kind))
       (record {
-        closes = gives_form form new.text before after (token_of form new) h.comes h.less refl;
+        closes = gives_form form _ before after _ h.comes h.less refl;
         lengths = h.lengths;
-        left = λ u given left. next_form form new.text u given after (token_of form new) (left ∙ ap (λ l. given ++ l) h.comes ∙ sym (append_assoc given (token_of form new ∷ []) (tokens_to_come count new [])));
+        left = λ u given left. next_form form _ u given after _ (left ∙ ap (λ l. given ++ l) h.comes ∙ sym (append_assoc given _ _));
         refused = not_failed_fault new h.not_failed;
         stays = λ f failed. absurd (let none : fault_in_mode old.mode old.at ≡ None = not_failed_fault old h.fresh in cc);
       })

@@ -1,17 +1,6 @@
 -- The first bytes of a text, and a byte of an escape line.
-use Rattle.std.proofs.Common.{◌≡◌, ℕ, ◌+◌, ◌≤◌, Bool, true, false, List, [], ◌∷◌, length, refl, ap, ◌∙◌, drop}
-use Rattle.std.specs.Prelude.{◌==◌, ◌&&◌, if◌then◌else◌}
-use Rattle.std.proofs.lemmas.Bool.{eqb-true}
-use Rattle.pgn_lexer.specs.declared.token.LexReason.TheVariants.{StrayByte}
+use Rattle.pgn_lexer.proofs.Words.{◌≡◌, ℕ, ◌+◌, ◌≤◌, Bool, true, false, List, [], ◌∷◌, length, refl, ap, ◌∙◌, drop, ◌==◌, ◌&&◌, if◌then◌else◌, eqb-true, StrayByte, Step, Used, Ends, EndsBefore, Fault, is_line_end, Token, class, column, in_escape_line, tokens_from, tokens_of, has_mark, PartialToken, into, fails, begin_line}
 use Rattle.pgn_lexer.specs.declared.partial_token.Mode.TheVariants as modes
-use Rattle.pgn_lexer.specs.declared.partial_token.Step.{Step}
-use Rattle.pgn_lexer.specs.declared.partial_token.Step.TheVariants.{Used, Ends, EndsBefore, Fault}
-use Rattle.pgn_lexer.specs.Bytes.{is_line_end}
-use Rattle.pgn_lexer.specs.Tokens.{Token}
-use Rattle.pgn_lexer.specs.Spelling.{class}
-use Rattle.pgn_lexer.specs.TokensOf.{column, in_escape_line, tokens_from, tokens_of, has_mark}
-use Rattle.pgn_lexer.specs.PartialToken.{PartialToken}
-use Rattle.pgn_lexer.specs.ByteResult.{into, fails, begin_line}
 use Rattle.pgn_lexer.proofs.stepping.StepGives.{Front, Gives, StepGives, front_of}
 use Rattle.pgn_lexer.proofs.stepping.ByteOutside.{begin_line_gives}
 
@@ -44,7 +33,7 @@ start_gives at b text fits true e =
     record { sound = record { room = (fits, tt); placed = refl }; not_failed = tt; comes = λ s. ap (λ x. tokens_of (x ∷ s)) (eqb-true b 239 e) }
 start_gives at b text fits false e =
     let h : PartialToken = record { mode = modes.Start; at = at; text = text } in
-    same_front _ _ (λ s. unmarked (b ∷ s) (other_first b s e)) _ _ (begin_line_gives (class b) 0 b h (tokens_of []) 0 fits)
+    same_front _ _ (λ s. unmarked (b ∷ s) (other_first b s e)) _ _ (begin_line_gives _ 0 b h (tokens_of []) 0 fits)
 
 pub after_ef_gives : (at b : ℕ) (text : List ℕ) → length text ≤ 255 → (c : Bool) → (b == 187) ≡ c
     → let h : PartialToken = record { mode = modes.AfterEf; at = at; text = text } in

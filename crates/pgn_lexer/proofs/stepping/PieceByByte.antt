@@ -1,30 +1,9 @@
 -- A run over a piece, byte by byte.
-use Rattle.std.proofs.Common.{◌≡◌, ℕ, zero, suc, ◌+◌, ◌*◌, ◌<◌, ◌≤◌, inl, inr, List, [], ◌∷◌, ◌++◌, length, get_or, take, drop, refl, sym, ap, subst, ◌∙◌, append_assoc, add-one, arith}
-use Rattle.std.specs.Prelude.{◌⊎◌, true, false, if◌then◌else◌, Some}
-use Rattle.std.proofs.lemmas.Bool.{lt-ltb}
-use Rattle.std.proofs.lemmas.List.{take_all, take_more}
-use Rattle.std.proofs.Math.Seq.{drop-cons}
-use Rattle.pgn_lexer.specs.declared.token.LexFault.{LexFault}
-use Rattle.pgn_lexer.specs.declared.partial_token.Mode.{Mode}
-use Rattle.pgn_lexer.specs.declared.token.LexReason.{LexReason}
-use Rattle.pgn_lexer.specs.declared.token.LexReason.TheVariants.{StringTooLong, SymbolTooLong, WordTooLong}
-use Rattle.pgn_lexer.specs.declared.class.Class.{Class}
-use Rattle.pgn_lexer.specs.declared.class.CommentClass.{CommentClass}
+use Rattle.pgn_lexer.proofs.Words.{◌≡◌, ℕ, zero, suc, ◌+◌, ◌*◌, ◌<◌, ◌≤◌, inl, inr, List, [], ◌∷◌, ◌++◌, length, get_or, take, drop, refl, sym, ap, subst, ◌∙◌, append_assoc, add-one, arith, ◌⊎◌, true, false, if◌then◌else◌, Some, lt-ltb, take_all, take_more, drop-cons, LexFault, Mode, LexReason, StringTooLong, SymbolTooLong, WordTooLong, Class, CommentClass, StringClass, LineStart, Outside, Symbol, Str, Brace, BraceWord, Failed, continues_symbol, class, comment_class, string_class, TokenForm, Step, Used, Ends, EndsBefore, Fault, EndsAt, PartialToken, tokens_to_come, kind_in, token_of, IsSound, HasNotFailed, pending, fault_met, fault_in_mode, begin, begin_line, string, fails, grown, if_room, into, after_byte, after_byte_in, IsAfterByte, IsOutside, Ran, RunsOn, StoodAt, RunGives, RunsToToken, RunsToFault, used_after, reached_after}
 use Rattle.pgn_lexer.specs.declared.class.CommentClass.TheVariants as comments
-use Rattle.pgn_lexer.specs.declared.class.StringClass.{StringClass}
 use Rattle.pgn_lexer.specs.declared.class.StringClass.TheVariants as strings
-use Rattle.pgn_lexer.specs.declared.partial_token.Mode.TheVariants.{LineStart, Outside, Symbol, Str, Brace, BraceWord, Failed}
 use Rattle.pgn_lexer.specs.declared.partial_token.TokenForm.TheVariants as forms
-use Rattle.pgn_lexer.specs.Bytes.{continues_symbol}
-use Rattle.pgn_lexer.specs.Spelling.{class, comment_class, string_class}
-use Rattle.pgn_lexer.specs.declared.partial_token.TokenForm.{TokenForm}
-use Rattle.pgn_lexer.specs.declared.partial_token.Step.{Step}
-use Rattle.pgn_lexer.specs.declared.partial_token.Step.TheVariants.{Used, Ends, EndsBefore, Fault}
-use Rattle.pgn_lexer.specs.Tokens.{EndsAt}
-use Rattle.pgn_lexer.specs.PartialToken.{PartialToken, tokens_to_come, kind_in, token_of, IsSound, HasNotFailed, pending, fault_met}
-use Rattle.pgn_lexer.specs.Standing.{fault_in_mode}
-use Rattle.pgn_lexer.specs.ByteResult.{begin, begin_line, brace, word, string, fails, grown, if_room, into, symbol, after_byte, after_byte_in, IsAfterByte}
-use Rattle.pgn_lexer.specs.RunResult.{IsOutside, Ran, RunsOn, StoodAt, RunGives, RunsToToken, RunsToFault, used_after, reached_after}
+use Rattle.pgn_lexer.specs.ByteResult.{brace, word, symbol}
 use Rattle.pgn_lexer.specs.declared.partial_token.Reached.TheVariants as reached
 use Rattle.pgn_lexer.proofs.stepping.StepGives.{StepGives, Uses, EndsIn, EndsAhead, Fails, front_of}
 use Rattle.pgn_lexer.proofs.stepping.ByteGives.{step_gives}
@@ -71,7 +50,7 @@ module _ (place : ℕ) (old : PartialToken) (piece : List ℕ) (h : PartialToken
   longer s =
       ap (λ l. tokens_to_come place old (l ++ s)) (take_more piece i 0 here)
       ∙ ap (λ x. tokens_to_come place old ((take i piece ++ x ∷ []) ++ s)) at_b
-      ∙ ap (tokens_to_come place old) (append_assoc (take i piece) (b ∷ []) s) ∙ ran.comes (b ∷ s)
+      ∙ ap (tokens_to_come place old) (append_assoc _ _ s) ∙ ran.comes _
 
   next_place : (place + i) + 1 ≡ place + (i + 1)
   next_place = omega arith
@@ -81,7 +60,7 @@ module _ (place : ℕ) (old : PartialToken) (piece : List ℕ) (h : PartialToken
 
   pub ran_uses : (new : PartialToken) → IsAfterByte (after_byte (place + i) h b) new Used → Ran place old piece new (i + 1)
   ran_uses new t =
-      let g : Uses (front_of (place + i) h b) new = takes_gives (place + i) h b new Used ran.sound t in
+      let g : Uses (front_of (place + i) h b) new = takes_gives _ h b new Used ran.sound t in
       record {
         start = λ none. absurd (omega arith);
         sound = subst (λ p. IsSound p new) next_place g.sound;
@@ -92,7 +71,7 @@ module _ (place : ℕ) (old : PartialToken) (piece : List ℕ) (h : PartialToken
 
   pub ran_ends : (form : TokenForm) (new : PartialToken) → IsAfterByte (after_byte (place + i) h b) new (Ends form) → RunsToToken place old piece (token_of form new) new (i + 1)
   ran_ends form new t =
-      let g : EndsIn (front_of (place + i) h b) form new = takes_gives (place + i) h b new (Ends form) ran.sound t in
+      let g : EndsIn (front_of (place + i) h b) form new = takes_gives _ h b new _ ran.sound t in
       let few : pending new ≤ 1 = g.few in
       record {
         within = omega arith;
@@ -101,7 +80,7 @@ module _ (place : ℕ) (old : PartialToken) (piece : List ℕ) (h : PartialToken
         sound = subst (λ p. IsSound p new) next_place g.sound;
         not_failed = g.not_failed;
         lengths = g.lengths;
-        ends_at = subst (EndsAt (kind_in form new.text) new.at) next_place g.ends_at;
+        ends_at = subst (EndsAt _ _) next_place g.ends_at;
         before = subst (λ p. new.at < p) next_place g.before;
         advances = omega arith;
         ends = inl (record { some = omega arith; closed = g.closed; last = i; is_last = refl; stood = standing; comes = λ s. longer s ∙ g.comes s ∙ ap (λ p. token_of form new ∷ tokens_to_come p new s) next_place });
@@ -116,7 +95,7 @@ module _ (place : ℕ) (old : PartialToken) (piece : List ℕ) (h : PartialToken
 
   pub ran_ends_before : (form : TokenForm) (new : PartialToken) → IsAfterByte (after_byte (place + i) h b) new (EndsBefore form) → RunsToToken place old piece (token_of form new) new i
   ran_ends_before form new t =
-      let g : EndsAhead (front_of (place + i) h b) form new = takes_gives (place + i) h b new (EndsBefore form) ran.sound t in
+      let g : EndsAhead (front_of (place + i) h b) form new = takes_gives _ h b new _ ran.sound t in
       record {
         within = omega arith;
         some = omega arith;
@@ -135,19 +114,19 @@ module _ (place : ℕ) (old : PartialToken) (piece : List ℕ) (h : PartialToken
           next = drop-cons piece i 0 here ∙ ap (λ x. x ∷ drop (suc i) piece) at_b ∙ ap (λ n. b ∷ drop n piece) (sym (add-one i));
           within = g.within;
           settled = g.settled;
-          comes = λ s. ran.comes (b ∷ s) ∙ g.comes s;
+          comes = λ s. ran.comes _ ∙ g.comes s;
           at_end = ran.comes [] ∙ g.at_end;
         });
       }
 
   pub ran_fails : (new : PartialToken) → IsAfterByte (after_byte (place + i) h b) new Fault → RunsToFault place old piece (fault_met new) new (i + 1)
   ran_fails new t =
-      let g : Fails (front_of (place + i) h b) new = takes_gives (place + i) h b new Fault ran.sound t in
+      let g : Fails (front_of (place + i) h b) new = takes_gives _ h b new Fault ran.sound t in
       record {
         within = omega arith;
         sound = subst (λ p. IsSound p new) next_place g.sound;
         fails = g.fails;
-        stays = λ f e. absurd (going_on old.mode old.at f ran.fresh e);
+        stays = λ f e. absurd (going_on _ _ f ran.fresh e);
         some = λ _. omega arith;
         comes = λ s. longer s ∙ g.comes s;
       }
@@ -175,7 +154,7 @@ takes_symbol_byte place b h new e goes room grows =
 pub takes_symbol_end : (place b : ℕ) (h new : PartialToken) → h.mode ≡ Symbol → continues_symbol b ≡ false → new ≡ record { mode = Outside; at = h.at; text = h.text }
     → IsAfterByte (after_byte place h b) new (EndsBefore forms.Symbol)
 takes_symbol_end place b h new e ends is =
-    takes_symbol place b h new (EndsBefore forms.Symbol) e
+    takes_symbol place b h new _ e
     (subst (λ t. IsAfterByte t new (EndsBefore forms.Symbol))
     (sym (ap (λ c. if c then if_room 255 SymbolTooLong h (grown h Symbol b) else into h Outside (EndsBefore forms.Symbol)) ends))
     (record { held = is; step = refl }))
@@ -191,7 +170,7 @@ taken_outside _ place at b text c outside e same = absurd outside
 pub takes_outside : (place b : ℕ) (h new : PartialToken) (answer : Step) (c : Class) → IsOutside h.mode → class b ≡ c → begin_line place h b c ≡ begin place h b c
     → IsAfterByte (begin place h b c) new answer → IsAfterByte (after_byte place h b) new answer
 unfolding after_byte
-takes_outside place b h new answer c outside e same t = subst (λ x. IsAfterByte x new answer) (sym (taken_outside h.mode place h.at b h.text c outside e same)) t
+takes_outside place b h new answer c outside e same t = subst (λ x. IsAfterByte x new answer) (sym (taken_outside _ place h.at b _ c outside e same)) t
 
 -- no rejection was met, in any other mode
 pub unless_failed : (m : Mode) → ((reason : LexReason) → m ≡ Failed reason → ⊥) → HasNotFailed m
@@ -213,13 +192,13 @@ taken_string place b h c e same = ap (λ m. after_byte_in m place h b) e ∙ ap 
 pub takes_plain : (place b : ℕ) (h new : PartialToken) → h.mode ≡ Str → string_class b ≡ strings.Plain → length h.text < 255 → new ≡ record { mode = h.mode; at = h.at; text = h.text ++ b ∷ [] }
     → IsAfterByte (after_byte place h b) new Used
 takes_plain place b h new e same room grows =
-    subst (λ t. IsAfterByte t new Used) (sym (taken_string place b h strings.Plain e same ∙ ap (λ d. if d then grown h Str b else fails h h.at StringTooLong) (lt-ltb _ _ room)))
+    subst (λ t. IsAfterByte t new Used) (sym (taken_string place b h _ e same ∙ ap (λ d. if d then grown h Str b else fails h h.at StringTooLong) (lt-ltb _ _ room)))
     (record { held = grows ∙ ap (λ m. record { mode = m; at = h.at; text = h.text ++ b ∷ [] }) e; step = refl })
 
 pub takes_quote : (place b : ℕ) (h new : PartialToken) → h.mode ≡ Str → string_class b ≡ strings.Quote → new ≡ record { mode = Outside; at = h.at; text = h.text }
     → IsAfterByte (after_byte place h b) new (Ends forms.Str)
 takes_quote place b h new e same ends =
-    subst (λ t. IsAfterByte t new (Ends forms.Str)) (sym (taken_string place b h strings.Quote e same)) (record { held = ends; step = refl })
+    subst (λ t. IsAfterByte t new (Ends forms.Str)) (sym (taken_string place b h _ e same)) (record { held = ends; step = refl })
 
 -- a byte between the words of a comment in braces
 pub takes_brace : (place b : ℕ) (h new : PartialToken) (answer : Step) (c : CommentClass) → h.mode ≡ Brace → comment_class b ≡ c → IsAfterByte (brace place h b c) new answer → IsAfterByte (after_byte place h b) new answer
@@ -254,5 +233,5 @@ word_ends m h b comments.Control other = refl
 pub takes_word_end : (place b : ℕ) (h new : PartialToken) (c : CommentClass) → h.mode ≡ BraceWord → comment_class b ≡ c → (c ≡ comments.WordByte → ⊥) → new ≡ record { mode = Brace; at = h.at; text = h.text }
     → IsAfterByte (after_byte place h b) new (EndsBefore forms.Word)
 takes_word_end place b h new c e same other is =
-    takes_word place b h new (EndsBefore forms.Word) e
+    takes_word place b h new _ e
     (subst (λ t. IsAfterByte t new (EndsBefore forms.Word)) (sym (ap (word Brace h b) same ∙ word_ends Brace h b c other)) (record { held = is; step = refl }))

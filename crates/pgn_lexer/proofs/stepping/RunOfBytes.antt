@@ -1,12 +1,5 @@
 -- A byte that goes on with a run, and one that ends it.
-use Rattle.std.proofs.Common.{◌≡◌, ℕ, ◌+◌, Bool, true, false, cond, List, [], ◌∷◌, ◌++◌, sym, ap, ◌∙◌, append-nil, append_assoc}
-use Rattle.std.specs.Prelude.{take_while}
-use Rattle.pgn_lexer.specs.declared.token.LexReason.{LexReason}
-use Rattle.std.proofs.lemmas.List.Sums.{take_while-cons}
-use Rattle.pgn_lexer.specs.Bytes.{is_digit, continues_symbol, is_suffix}
-use Rattle.pgn_lexer.specs.Spelling.{class, Found, gives, stops}
-use Rattle.pgn_lexer.specs.Tokens.{Kind, Token, refused}
-use Rattle.pgn_lexer.specs.TokensOf.{Within, in_symbol, in_glyph, in_suffix, outside, begins_after, after_run, onto, tokens_from}
+use Rattle.pgn_lexer.proofs.Words.{◌≡◌, ℕ, ◌+◌, Bool, true, false, cond, List, [], ◌∷◌, ◌++◌, sym, ap, ◌∙◌, append-nil, append_assoc, take_while, LexReason, take_while-cons, is_digit, continues_symbol, is_suffix, class, Found, gives, stops, Kind, Token, refused, Within, in_symbol, in_glyph, in_suffix, outside, begins_after, after_run, onto, tokens_from}
 
 pub take_while-true : (p : ℕ → Bool) (b : ℕ) (s : List ℕ) → p b ≡ true → take_while p (b ∷ s) ≡ b ∷ take_while p s
 take_while-true p b s e = take_while-cons p b s ∙ ap (λ c. cond c (b ∷ take_while p s) []) e
@@ -19,22 +12,22 @@ abbrev run_tokens : Within → ℕ → ℕ → List ℕ → Bool → List Token
 run_tokens within place b s c = onto place (begins_after c place (class b) b s) (tokens_from (place + 1) (after_run c within (class b)) s)
 
 pub symbol_goes : (place b : ℕ) (s : List ℕ) → continues_symbol b ≡ true → tokens_from place in_symbol (b ∷ s) ≡ tokens_from (place + 1) in_symbol s
-symbol_goes place b s e = ap (run_tokens in_symbol place b s) e
+symbol_goes place b s e = ap (run_tokens _ place b s) e
 
 pub symbol_ends : (place b : ℕ) (s : List ℕ) → continues_symbol b ≡ false → tokens_from place in_symbol (b ∷ s) ≡ tokens_from place outside (b ∷ s)
-symbol_ends place b s e = ap (run_tokens in_symbol place b s) e
+symbol_ends place b s e = ap (run_tokens _ place b s) e
 
 pub glyph_goes : (place b : ℕ) (s : List ℕ) → is_digit b ≡ true → tokens_from place in_glyph (b ∷ s) ≡ tokens_from (place + 1) in_glyph s
-glyph_goes place b s e = ap (run_tokens in_glyph place b s) e
+glyph_goes place b s e = ap (run_tokens _ place b s) e
 
 pub glyph_ends : (place b : ℕ) (s : List ℕ) → is_digit b ≡ false → tokens_from place in_glyph (b ∷ s) ≡ tokens_from place outside (b ∷ s)
-glyph_ends place b s e = ap (run_tokens in_glyph place b s) e
+glyph_ends place b s e = ap (run_tokens _ place b s) e
 
 pub suffix_goes : (place b : ℕ) (s : List ℕ) → is_suffix b ≡ true → tokens_from place in_suffix (b ∷ s) ≡ tokens_from (place + 1) in_suffix s
-suffix_goes place b s e = ap (run_tokens in_suffix place b s) e
+suffix_goes place b s e = ap (run_tokens _ place b s) e
 
 pub suffix_ends : (place b : ℕ) (s : List ℕ) → is_suffix b ≡ false → tokens_from place in_suffix (b ∷ s) ≡ tokens_from place outside (b ∷ s)
-suffix_ends place b s e = ap (run_tokens in_suffix place b s) e
+suffix_ends place b s e = ap (run_tokens _ place b s) e
 
 -- A token whose text is a run: `found` says what the whole run comes to, text is the part read.
 module _ (found : List ℕ → Found) (p : ℕ → Bool) (at b : ℕ) (text : List ℕ) where
@@ -42,8 +35,8 @@ module _ (found : List ℕ → Found) (p : ℕ → Bool) (at b : ℕ) (text : Li
       → onto at (found (text ++ take_while p (b ∷ s))) old ≡ onto at (found ((text ++ b ∷ []) ++ take_while p s)) new
   run_grows s old new e same =
       ap (λ run. onto at (found (text ++ run)) old) (take_while-true p b s e)
-      ∙ ap (λ run. onto at (found run) old) (sym (append_assoc text (b ∷ []) (take_while p s)))
-      ∙ ap (onto at (found ((text ++ b ∷ []) ++ take_while p s))) same
+      ∙ ap (λ run. onto at (found run) old) (sym (append_assoc text _ _))
+      ∙ ap (onto at _) same
 
   pub run_breaks : (s : List ℕ) (old : List Token) (place : ℕ) (r : LexReason) → p b ≡ true → found (text ++ b ∷ take_while p s) ≡ stops place r
       → onto at (found (text ++ take_while p (b ∷ s))) old ≡ record { at = place; kind = refused r } ∷ []

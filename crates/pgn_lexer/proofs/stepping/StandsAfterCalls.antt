@@ -1,19 +1,7 @@
 -- A call carries how the lexer stands.
-use Rattle.std.proofs.Common.{◌≡◌, ◌-◌, Bool, true, false, ℕ, zero, suc, ◌+◌, ◌<◌, ◌≤◌, inl, inr, List, [], ◌∷◌, ◌++◌, length, take, drop, refl, sym, ap, subst, ◌∙◌, append_assoc, arith, length-append, length-take-le, take-append-drop}
-use Rattle.std.specs.Prelude.{Option, None, Some, take_while, nat_lt, ◌⊎◌}
-use Rattle.std.specs.List.{AllByRecursion}
-use Rattle.pgn_lexer.specs.declared.token.LexFault.{LexFault}
-use Rattle.pgn_lexer.specs.declared.partial_token.Mode.{Mode}
+use Rattle.pgn_lexer.proofs.Words.{◌≡◌, ◌-◌, Bool, true, false, ℕ, zero, suc, ◌+◌, ◌<◌, ◌≤◌, inl, inr, List, [], ◌∷◌, ◌++◌, length, take, drop, refl, sym, ap, subst, ◌∙◌, append_assoc, arith, length-append, length-take-le, take-append-drop, Option, None, Some, take_while, nat_lt, ◌⊎◌, AllByRecursion, LexFault, Mode, Token, is_run, tokens_of, decided, known, TokenForm, PartialToken, tokens_to_come, token_of, kind_in, refusal, HasNotFailed, RunsOut, StoodAt, EndsWithByte, EndsBeforeByte, RunsToToken, RunsToFault, Scanned, more, fault, Standing, fault_in_mode, fault_of, Follows, first, still, StandsAfter, IsDecided, EndsNoSooner, Scans}
 use Rattle.pgn_lexer.specs.declared.partial_token.Mode.TheVariants as modes
-use Rattle.pgn_lexer.specs.Tokens.{Token, is_run}
-use Rattle.pgn_lexer.specs.TokensOf.{tokens_of}
-use Rattle.pgn_lexer.specs.Decided.{decided, known}
-use Rattle.pgn_lexer.specs.declared.partial_token.TokenForm.{TokenForm}
-use Rattle.pgn_lexer.specs.PartialToken.{PartialToken, tokens_to_come, token_of, kind_in, refusal, HasNotFailed}
-use Rattle.pgn_lexer.specs.RunResult.{RunsOut, StoodAt, EndsWithByte, EndsBeforeByte, RunsToToken, RunsToFault}
-use Rattle.pgn_lexer.specs.Scanned.{Scanned, more, token, fault}
-use Rattle.pgn_lexer.specs.Standing.{Standing, fault_in_mode, fault_of}
-use Rattle.pgn_lexer.specs.Stands.{Follows, first, still, StandsAfter, IsDecided, EndsNoSooner, Scans}
+use Rattle.pgn_lexer.specs.Scanned.{token}
 use Rattle.pgn_lexer.proofs.deciding.GivenAreDecided.{common_of, decided_is, going_decides, known_decides}
 use Rattle.pgn_lexer.proofs.deciding.CommonTokens.{common_front}
 use Rattle.pgn_lexer.proofs.cutting.PlacesOfTokens.{AllFrom, tokens_from-from, all_from-front, take_before}
@@ -47,7 +35,7 @@ follows_taken (Some b) (c ∷ piece) s (suc used) some positive starts = starts
 
 -- a piece, cut
 cut : (used : ℕ) (piece s : List ℕ) → piece ++ s ≡ take used piece ++ (drop used piece ++ s)
-cut used piece s = ap (λ l. l ++ s) (sym (take-append-drop used piece)) ∙ append_assoc (take used piece) (drop used piece) s
+cut used piece s = ap (λ l. l ++ s) (sym (take-append-drop used piece)) ∙ append_assoc _ _ s
 
 -- no rejection was met
 no_fault_in_mode : (m : Mode) (at : ℕ) → HasNotFailed m → fault_in_mode m at ≡ None
@@ -55,7 +43,7 @@ no_fault_in_mode (modes.Failed reason) at not_failed = absurd not_failed
 no_fault_in_mode _ at not_failed = refl
 
 pub not_failed_fault : (h : PartialToken) → HasNotFailed h.mode → fault_in_mode h.mode h.at ≡ None
-not_failed_fault h not_failed = no_fault_in_mode h.mode h.at not_failed
+not_failed_fault h not_failed = no_fault_in_mode _ h.at not_failed
 
 -- a mode is failed, or not
 failed_or_not : (m : Mode) (at : ℕ) → HasNotFailed m ⊎ ((f : LexFault) × (fault_in_mode m at ≡ Some f))
@@ -77,10 +65,10 @@ known_is : (u : List ℕ) (b : ℕ) (given : List Token) (comes : List ℕ → L
 known_is u b given comes before from tokens =
     let later : List ℕ → List Token = λ s. comes (b ∷ s) in
     let all : decided (u ++ b ∷ []) ≡ given ++ common_of (later []) (later (49 ∷ [])) (later (33 ∷ [])) (later (34 ∷ 34 ∷ [])) (later (191 ∷ [])) (later (187 ∷ 191 ∷ [])) =
-    decided_is given (u ++ b ∷ []) later (λ s. ap tokens_of (append_assoc u (b ∷ []) s) ∙ tokens s) in
+    decided_is given (u ++ b ∷ []) later (λ s. ap tokens_of (append_assoc u _ s) ∙ tokens s) in
     let front = common_front (later []) _ in
-    sym (ap (take_while (λ t. nat_lt t.at (length u))) all
-    ∙ take_before (length u) given _ before (all_from-front (length u) _ front.0 (subst (AllFrom (length u)) front.1 from)))
+    sym (ap (take_while _) all
+    ∙ take_before _ given _ before (all_from-front _ _ front.0 (subst (AllFrom _) front.1 from)))
 
 module _ (count : ℕ) (old new : PartialToken) (piece : List ℕ) (used : ℕ) where
   abbrev from_standing : Standing
@@ -104,7 +92,7 @@ module _ (count : ℕ) (old new : PartialToken) (piece : List ℕ) (used : ℕ) 
             let after : StandsAfter to_standing (u ++ piece) (still b piece) given =
             record {
               count = omega (arith, h.all, stands.count, length-append u piece);
-              before = before_more (length u) (length (u ++ piece)) given (omega (arith, length-append u piece)) stands.before;
+              before = before_more (length u) _ given (omega (arith, length-append u piece)) stands.before;
               tokens = λ s goes. ap tokens_of (append_assoc u piece s) ∙ stands.tokens (piece ++ s) (follows_piece b piece s starts goes) ∙ ap (λ l. given ++ l) (h.comes s);
             } in
             (h.all, after, λ some. going_decides (count + used) new (u ++ piece) given h.sound h.not_failed (λ s. after.tokens s (follows_none _ s (still_none b piece some))));
@@ -127,7 +115,7 @@ module _ (count : ℕ) (old new : PartialToken) (piece : List ℕ) (used : ℕ) 
         lengths = tt;
         ends = tt;
         refused = h.fails;
-        empty = λ none. nothing none (failed_or_not old.mode old.at);
+        empty = λ none. nothing none (failed_or_not _ _);
         stays = λ g failed. stuck g (h.stays g failed);
         carries = λ u b given stands starts. (
           λ s goes. comes u b given stands s (follows_piece b piece s starts goes),
@@ -162,7 +150,7 @@ behind count new used = record { count = count + used; held = new }
 module _ (count : ℕ) (old new : PartialToken) (piece : List ℕ) (used : ℕ) (t : Token) (h : RunsToToken count old piece t new used) where
   reads_token : EndsWithByte count old piece (take used piece) t new used ⊎ EndsBeforeByte count old piece (take used piece) (drop used piece) t new used
       → (s : List ℕ) → tokens_to_come count old (piece ++ s) ≡ t ∷ tokens_to_come (count + used) new (drop used piece ++ s)
-  reads_token (inl e) s = ap (tokens_to_come count old) (cut used piece s) ∙ e.comes (drop used piece ++ s)
+  reads_token (inl e) s = ap (tokens_to_come count old) (cut used piece s) ∙ e.comes _
   reads_token (inr e) s =
       ap (tokens_to_come count old) (cut used piece s) ∙ ap (λ rest. tokens_to_come count old (take used piece ++ (rest ++ s))) e.next
       ∙ e.comes (e.more ++ s) ∙ ap (λ rest. t ∷ tokens_to_come (count + used) new (rest ++ s)) (sym e.next)
@@ -178,19 +166,19 @@ module _ (count : ℕ) (old new : PartialToken) (piece : List ℕ) (used : ℕ) 
     before' : AllByRecursion (λ t. t.at < length u') (given ++ t ∷ [])
     before' =
         let less : length u ≤ length u' = omega (arith, length-append u (take used piece)) in
-        before_one (length u') given t (before_more (length u) (length u') given less stands.before) (subst (λ n. t.at < n) long h.before)
+        before_one _ given t (before_more _ _ given less stands.before) (subst (λ n. t.at < n) long h.before)
 
     with_token : (s : List ℕ) → Follows b (take used piece ++ s) → tokens_to_come count old (take used piece ++ s) ≡ t ∷ tokens_to_come (count + used) new s
         → tokens_of (u' ++ s) ≡ (given ++ t ∷ []) ++ tokens_to_come (count + used) new s
     with_token s goes comes =
-        ap tokens_of (append_assoc u (take used piece) s) ∙ stands.tokens (take used piece ++ s) goes
-        ∙ ap (λ l. given ++ l) comes ∙ sym (append_assoc given (t ∷ []) (tokens_to_come (count + used) new s))
+        ap tokens_of (append_assoc u _ s) ∙ stands.tokens _ goes
+        ∙ ap (λ l. given ++ l) comes ∙ sym (append_assoc given _ _)
 
     -- where no token had ended, no more was decided
     stood_decides : (i : ℕ) → 0 < i → StoodAt count old piece i → given ≡ decided (u ++ take i piece)
     stood_decides i some e =
         going_decides (count + i) e.held (u ++ take i piece) given e.sound e.not_failed
-        (λ s. ap tokens_of (append_assoc u (take i piece) s) ∙ stands.tokens (take i piece ++ s) (follows_taken b piece s i h.some some starts) ∙ ap (λ l. given ++ l) (e.comes s))
+        (λ s. ap tokens_of (append_assoc u _ s) ∙ stands.tokens (take i piece ++ s) (follows_taken b piece s i h.some some starts) ∙ ap (λ l. given ++ l) (e.comes s))
 
     no_sooner_closed : (k : Bool) → k ≡ false → (last : ℕ) → used ≡ last + 1 → StoodAt count old piece last → EndsNoSooner k u piece used given
     no_sooner_closed true e last is_last stood = absurd (cc)
@@ -210,8 +198,8 @@ module _ (count : ℕ) (old new : PartialToken) (piece : List ℕ) (used : ℕ) 
         let tokens : (s : List ℕ) → tokens_of (u' ++ s) ≡ (given ++ t ∷ []) ++ tokens_to_come (count + used) new s =
         λ s. with_token s (follows_taken b piece s used h.some e.some starts) (e.comes s) in (
           record { count = long; before = before'; tokens = λ s goes. tokens s },
-          inl (going_decides (count + used) new u' (given ++ t ∷ []) h.sound h.not_failed tokens),
-          no_sooner_closed (is_run t.kind) e.closed e.last e.is_last e.stood,
+          inl (going_decides _ new u' _ h.sound h.not_failed tokens),
+          no_sooner_closed _ e.closed e.last e.is_last e.stood,
         )
 
     -- or before a byte that was not used
@@ -227,15 +215,15 @@ module _ (count : ℕ) (old new : PartialToken) (piece : List ℕ) (used : ℕ) 
         λ s goes. with_token s (follows_front b piece s used h.some starts goes) (next_comes e s (subst (λ rest. Follows (first rest) s) e.next goes)) in
         let from : AllFrom (length u') (tokens_to_come (count + used) new (e.byte ∷ [])) =
         subst (λ n. AllFrom n (tokens_to_come (count + used) new (e.byte ∷ []))) long
-        (subst (AllFrom (count + used)) (sym (e.settled (e.byte ∷ []))) (tokens_from-from (count + used) e.within (e.byte ∷ []))) in (
+        (subst (AllFrom _) (sym (e.settled _)) (tokens_from-from (count + used) e.within (e.byte ∷ []))) in (
           record { count = long; before = before'; tokens = tokens },
           inr (
             e.byte,
             ap first e.next,
-            known_is u' e.byte (given ++ t ∷ []) (tokens_to_come (count + used) new) before' from
-                (λ s. tokens (e.byte ∷ s) (subst (λ rest. Follows (first rest) (e.byte ∷ s)) (sym e.next) refl)),
+            known_is u' _ _ (tokens_to_come _ new) before' from
+                (λ s. tokens _ (subst (λ rest. Follows (first rest) (e.byte ∷ s)) (sym e.next) refl)),
           ),
-          no_sooner_run (is_run t.kind) e.runs e.stood,
+          no_sooner_run _ e.runs e.stood,
         )
 
     carries_token : EndsWithByte count old piece (take used piece) t new used ⊎ EndsBeforeByte count old piece (take used piece) (drop used piece) t new used
@@ -266,8 +254,8 @@ same_parts i j at kind = ap (λ n. record { at = n; kind = i.kind }) at ∙ ap (
 pub scans_form : (count : ℕ) (old new : PartialToken) (piece : List ℕ) (used : ℕ) (form : TokenForm) (t : Token) → t.at ≡ new.at → t.kind ≡ kind_in form new.text
     → RunsToToken count old piece (token_of form new) new used → Scans (ahead count old) piece (behind count new used) used (token t)
 scans_form count old new piece used form t at kind h =
-    subst (λ t. Scans (ahead count old) piece (behind count new used) used (token t)) (sym (same_parts t (token_of form new) at kind))
-    (scans_token count old new piece used (token_of form new) h)
+    subst (λ t. Scans (ahead count old) piece (behind count new used) used (token t)) (sym (same_parts t _ at kind))
+    (scans_token count old new piece used _ h)
 
 -- what is said of one view of a lexer, of the other
 pub scans_of : (old old' new : Standing) (piece : List ℕ) (used : ℕ) (seen : Scanned) → old ≡ old' → Scans old piece new used seen → Scans old' piece new used seen

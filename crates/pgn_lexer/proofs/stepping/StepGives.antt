@@ -1,14 +1,5 @@
 -- What a step must give, of the tokens that come.
-use Rattle.std.proofs.Common.{◌≡◌, ℕ, ◌+◌, ◌<◌, ◌≤◌, List, [], ◌∷◌, true, false}
-use Rattle.std.specs.Prelude.{Some}
-use Rattle.pgn_lexer.specs.declared.partial_token.TokenForm.{TokenForm}
-use Rattle.pgn_lexer.specs.declared.partial_token.Step.{Step}
-use Rattle.pgn_lexer.specs.declared.partial_token.Step.TheVariants.{Used, Ends, EndsBefore, Fault}
-use Rattle.pgn_lexer.specs.Tokens.{Token, HasLength, EndsAt, is_run}
-use Rattle.pgn_lexer.specs.TokensOf.{Within, tokens_from}
-use Rattle.pgn_lexer.specs.PartialToken.{PartialToken, tokens_to_come, kind_in, token_of, refusal, IsSound, HasNotFailed, pending, fault_met}
-use Rattle.pgn_lexer.specs.Standing.{fault_in_mode}
-use Rattle.pgn_lexer.specs.ByteResult.{AfterByte}
+use Rattle.pgn_lexer.proofs.Words.{◌≡◌, ℕ, ◌+◌, ◌<◌, ◌≤◌, List, [], ◌∷◌, true, false, Some, TokenForm, Step, Used, Ends, EndsBefore, Fault, Token, HasLength, EndsAt, is_run, Within, tokens_from, PartialToken, tokens_to_come, kind_in, token_of, refusal, IsSound, HasNotFailed, pending, fault_met, fault_in_mode, AfterByte}
 
 -- What comes from a byte b at the place: `front s` where s follows b, and `ended` where the text
 -- ends before b; `waits` tokens at most came with no byte more.

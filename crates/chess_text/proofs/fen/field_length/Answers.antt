@@ -1,6 +1,4 @@
-use Rattle.std.proofs.Common.{length, sym, arith, rules}
-use Rattle.std.proofs.lemmas.List.Sums.{position_or_len_is}
-use Rattle.chess_text.specs.Fen.{is_space}
+use Rattle.chess_text.proofs.Words.{length, sym, arith, rules, position_or_len_is, is_space}
 use Rattle.chess_text.proofs.fen.field_length.Goals as goal
 
 pub returns-then-byte-eq32-clause-value : goal.returns-then-byte-eq32-clause-value

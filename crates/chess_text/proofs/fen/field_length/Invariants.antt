@@ -1,5 +1,4 @@
-use Rattle.std.proofs.Common.{◌≡◌, ℕ, ◌<◌, false, get_or}
-use Rattle.chess_text.specs.Fen.{is_space}
+use Rattle.chess_text.proofs.Words.{◌≡◌, ℕ, ◌<◌, false, get_or, is_space}
 use Rattle.chess_text.proofs.fen.field_length.Given as goal
 
 -- no space so far

@@ -1,10 +1,5 @@
-use Rattle.std.proofs.Common.{◌≡◌, length, true, ◌&&◌, refl, sym, ◌∙◌, ap, arith}
-use Rattle.std.specs.Prelude.{Option, None, Some, Ok, Err, ◌==◌, is_none, if◌then◌else◌}
-use Rattle.std.proofs.lemmas.Bool.Decides.{nat_tests}
-use Rattle.chess_rules.specs.declared.position.Parts.{Parts}
+use Rattle.chess_text.proofs.Words.{◌≡◌, length, true, ◌&&◌, refl, sym, ◌∙◌, ap, arith, Option, None, Some, Ok, Err, ◌==◌, is_none, if◌then◌else◌, nat_tests, Parts, built_unless, position_fault, at_field, if_position}
 use Rattle.chess_rules.specs.declared.position.PositionFault.{PositionFault}
-use Rattle.chess_rules.specs.Position.{built_unless, position_fault}
-use Rattle.chess_text.specs.Fen.{at_field, if_position}
 use Rattle.chess_text.proofs.fen.read_fen.Goals as goal
 
 -- the parts of a program have 64 cells, so they are a position if no rule finds a fault
@@ -12,7 +7,7 @@ of_fault : (p : Parts) (o : Option PositionFault) → length p.board ≡ 64
     → (if (length p.board == 64) && is_none o then Ok p else at_field 7) ≡ (if is_none o then Ok p else at_field 7)
 of_fault p o long =
     let all : (length p.board == 64) ≡ true = grind (arith, nat_tests) in
-    ap (λ x. if x && is_none o then Ok p else at_field 7) all
+    cc
 
 no_fault : (p q : Parts) (o : Option PositionFault) → Ok q ≡ built_unless o p → Ok q ≡ (if is_none o then Ok p else at_field 7)
 no_fault p q None h = cc
@@ -25,9 +20,9 @@ a_fault p f (Some fault) h = refl
 pub returns-in-Ok : goal.returns-in-Ok
 returns-in-Ok c =
     let p = c.in_ok-parts.parts in
-    no_fault p c.in-Ok.position (position_fault p) c.in-Ok.ensures ∙ (sym (of_fault p (position_fault p) (omega arith)) ∙ ap if_position c.in_ok-parts.ensures)
+    no_fault p _ _ c.in-Ok.ensures ∙ sym (of_fault p (position_fault p) (omega arith)) ∙ ap if_position c.in_ok-parts.ensures
 
 pub returns-in-Err : goal.returns-in-Err
 returns-in-Err c =
     let p = c.in_ok-parts.parts in
-    a_fault p c.in-Err.field-0 (position_fault p) c.in-Err.ensures ∙ (sym (of_fault p (position_fault p) (omega arith)) ∙ ap if_position c.in_ok-parts.ensures)
+    a_fault p c.in-Err.field-0 _ c.in-Err.ensures ∙ sym (of_fault p (position_fault p) (omega arith)) ∙ ap if_position c.in_ok-parts.ensures

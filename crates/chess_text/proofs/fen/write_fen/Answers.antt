@@ -1,5 +1,4 @@
-use Rattle.std.proofs.Common.{◌≡◌, ◌≤◌, List, ℕ, ◌∷◌, length, ◌∙◌, ap, arith, length-append}
-use Rattle.std.specs.Prelude.{decimal}
+use Rattle.chess_text.proofs.Words.{◌≡◌, ◌≤◌, List, ℕ, ◌∷◌, length, ◌∙◌, ap, arith, length-append, decimal}
 use Rattle.chess_text.proofs.positions.SixFieldsJoined.{length-number}
 use Rattle.chess_text.proofs.fen.write_fen.Goals as goal
 

@@ -1,6 +1,4 @@
-use Rattle.std.proofs.Common.{◌≡◌, ◌<◌, ◌^◌, true, take}
-use Rattle.std.specs.List.{list_all}
-use Rattle.chess_text.specs.Field.{is_digit, value}
+use Rattle.chess_text.proofs.Words.{◌≡◌, ◌<◌, ◌^◌, true, take, list_all, is_digit, value}
 use Rattle.chess_text.proofs.field.read_number.Given as goal
 
 -- the number that the digits so far have, all of them digits

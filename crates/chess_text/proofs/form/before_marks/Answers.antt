@@ -1,11 +1,11 @@
-use Rattle.std.proofs.Common.{inl, inr, arith, sym, ◌∙◌}
+use Rattle.chess_text.proofs.Words.{inl, inr, arith, sym, ◌∙◌}
 use Rattle.chess_text.proofs.forms.BeforeMarks.{cut_where}
 use Rattle.chess_text.proofs.form.before_marks.Goals as goal
 use Rattle.chess_text.proofs.form.before_marks.Goals.{then-loop-end-test+else-is_mark, else-loop-end-test}
 
 pub returns : goal.returns
 returns c =
-    cut_where c.args.text.now c.loop-end.end c.loop-end.invariant.within c.loop-end.invariant.marks_alone
+    cut_where _ _ c.loop-end.invariant.within c.loop-end.invariant.marks_alone
     (elim c.loop-end-test.branch [
       | then-loop-end-test+else-is_mark w ↦ inr (omega (arith, w.loop-end-test.true), sym w.is_mark.ensures ∙ w.if-is_mark.false)
       | else-loop-end-test w ↦ inl (omega (arith, w.loop-end-test.false))

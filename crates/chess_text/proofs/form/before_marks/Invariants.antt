@@ -1,6 +1,4 @@
-use Rattle.std.proofs.Common.{◌≡◌, ◌≤◌, true, length, drop}
-use Rattle.std.specs.List.{list_all}
-use Rattle.chess_text.specs.Form.{is_mark}
+use Rattle.chess_text.proofs.Words.{◌≡◌, ◌≤◌, true, length, drop, list_all, is_mark}
 use Rattle.chess_text.proofs.form.before_marks.Given as goal
 
 -- what stands from there on are marks

@@ -1,20 +1,20 @@
-use Rattle.std.proofs.Common.{sym, ◌∙◌, arith}
+use Rattle.chess_text.proofs.Words.{sym, ◌∙◌, arith}
 use Rattle.chess_text.proofs.forms.CommonForms.{pawn_move, piece_move, with_x}
 use Rattle.chess_text.proofs.form.common_form.Goals as goal
 
 pub returns-in-len2 : goal.returns-in-len2
-returns-in-len2 c = pawn_move c.args.text.now c.move_form.result (omega (arith, c.in-len2.len_at_least, c.in-len2.len_below)) c.move_form.ensures
+returns-in-len2 c = pawn_move c.args.text.now _ (omega (arith, c.in-len2.len_at_least, c.in-len2.len_below)) c.move_form.ensures
 
 pub returns-in_ok-kind_of_letter-in-len3 : goal.returns-in_ok-kind_of_letter-in-len3
 returns-in_ok-kind_of_letter-in-len3 c =
-    piece_move c.args.text.now c.in_ok-kind_of_letter-in-len3.field-0 c.move_form-in-len3.result (omega (arith, c.in-len3.len_at_least, c.in-len3.len_below))
+    piece_move c.args.text.now c.in_ok-kind_of_letter-in-len3.field-0 _ (omega (arith, c.in-len3.len_at_least, c.in-len3.len_below))
     (sym c.kind_of_letter.ensures ∙ c.in_ok-kind_of_letter-in-len3.was) c.move_form-in-len3.ensures
 
 pub returns-in_err-kind_of_letter-in-len3 : goal.returns-in_err-kind_of_letter-in-len3
 returns-in_err-kind_of_letter-in-len3 c = rw c.from_residual.ensures tt
 
 pub returns-in-120 : goal.returns-in-120
-returns-in-120 c = with_x c.args.text.now c.capture_form.result (omega arith) (omega arith) c.capture_form.ensures
+returns-in-120 c = with_x c.args.text.now _ (omega arith) (omega arith) c.capture_form.ensures
 
 pub returns-in_default : goal.returns-in_default
 returns-in_default c = tt

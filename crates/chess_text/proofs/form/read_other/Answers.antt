@@ -1,5 +1,4 @@
-use Rattle.std.proofs.Common.{sym, ◌∙◌, ap}
-use Rattle.chess_text.specs.Form.{bare_form, castle_or, piece_move_of}
+use Rattle.chess_text.proofs.Words.{sym, ◌∙◌, ap, bare_form, castle_or, piece_move_of}
 use Rattle.chess_text.proofs.form.read_other.Goals as goal
 
 pub returns-in-Some : goal.returns-in-Some
@@ -9,4 +8,4 @@ returns-in-Some c =
 pub returns-in-None : goal.returns-in-None
 returns-in-None c =
     c.read_piece_move.ensures
-    ∙ (ap (λ o. castle_or o (piece_move_of c.before_marks-bare.result.now)) (sym c.in-None.is ∙ c.castle_of.ensures) ∙ ap bare_form c.before_marks-bare.ensures)
+    ∙ ap (λ o. castle_or o (piece_move_of c.before_marks-bare.result.now)) (sym c.in-None.is ∙ c.castle_of.ensures) ∙ ap bare_form c.before_marks-bare.ensures

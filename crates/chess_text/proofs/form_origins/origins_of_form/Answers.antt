@@ -1,9 +1,4 @@
-use Rattle.std.proofs.Common.{◌≡◌, ◌+◌, ◌≤◌, List, map, length, take, sym, ◌∙◌, ap, arith, rules}
-use Rattle.std.specs.Prelude.{slice_set, count_by}
-use Rattle.std.proofs.lemmas.List.{take_all}
-use Rattle.chess_rules.specs.Square.{Square, squares}
-use Rattle.chess_text.specs.declared.form_origins.OriginKind.{OriginKind}
-use Rattle.chess_text.specs.FormOrigins.{form_move, is_step_of_form, origin_kind, origins_of_form, nth_square, step_count, count_steps}
+use Rattle.chess_text.proofs.Words.{◌≡◌, ◌+◌, ◌≤◌, List, map, length, take, sym, ◌∙◌, ap, arith, rules, slice_set, count_by, take_all, Square, squares, OriginKind, form_move, is_step_of_form, origin_kind, origins_of_form, nth_square, step_count, count_steps}
 use Rattle.chess_text.proofs.forms.FormOriginKinds.{kinds_more, counts_more, pairs_few, squares_long}
 use Rattle.chess_text.proofs.form_origins.origins_of_form.Goals as goal
 
@@ -12,8 +7,8 @@ loop-index-preserved c =
     let p = c.args.position.now in
     let f = c.args.form.now in
     let i = c.loop-index.index in
-    let kind : c.origin_kind.result ≡ origin_kind p f (nth_square i) = c.origin_kind.ensures.kind ∙ ap (λ (s : Square). origin_kind p f s) c.nth_square.ensures in
-    let pairs : c.origin_kind.new.probes ≡ c.loop-index.probes + step_count p f (nth_square i) =
+    let kind = c.origin_kind.ensures.kind ∙ ap (λ (s : Square). origin_kind p f s) c.nth_square.ensures in
+    let pairs =
     c.origin_kind.ensures.count ∙ ap (λ (s : Square). c.loop-index.probes + step_count p f s) c.nth_square.ensures in
     let few = pairs_few p f (nth_square i) in
     let more = counts_more p f i c.loop-index-test.true in
@@ -33,9 +28,9 @@ returns-clause-kinds c =
     let f = c.args.form.now in
     let all : length c.loop-index.kinds ≤ c.loop-index.index = omega (arith, c.loop-index.invariant.long, c.loop-index-test.false) in
     let every : length squares ≤ c.loop-index.index = omega (arith, squares_long, c.loop-index-test.false) in
-    sym (take_all c.loop-index.index c.loop-index.kinds all)
+    sym (take_all _ _ all)
     ∙ c.loop-index.invariant.so_far
-    ∙ ap (λ (ss : List Square). map (origin_kind p f) ss) (take_all c.loop-index.index squares every)
+    ∙ ap (λ (ss : List Square). map (origin_kind p f) ss) (take_all _ squares every)
 
 pub returns-clause-count : goal.returns-clause-count
 unfolding count_steps
@@ -44,4 +39,4 @@ returns-clause-count c =
     let f = c.args.form.now in
     let every : length squares ≤ c.loop-index.index = omega (arith, squares_long, c.loop-index-test.false) in
     c.loop-index.invariant.tried
-    ∙ ap (λ (ss : List Square). c.args.probes.now + count_by (λ s. is_step_of_form p f (form_move p.side f s)) ss) (take_all c.loop-index.index squares every)
+    ∙ ap (λ (ss : List Square). c.args.probes.now + count_by (λ s. is_step_of_form p f (form_move p.side f s)) ss) (take_all _ squares every)

@@ -1,7 +1,4 @@
-use Rattle.std.proofs.Common.{◌≡◌, ◌+◌, ◌≤◌, map, length, take}
-use Rattle.std.specs.Prelude.{count_by}
-use Rattle.chess_rules.specs.Square.{squares}
-use Rattle.chess_text.specs.FormOrigins.{form_move, is_step_of_form, origin_kind}
+use Rattle.chess_text.proofs.Words.{◌≡◌, ◌+◌, ◌≤◌, map, length, take, count_by, squares, form_move, is_step_of_form, origin_kind}
 use Rattle.chess_text.proofs.form_origins.origins_of_form.Given as goal
 
 -- the kinds of the squares so far, and the pairs tried for them

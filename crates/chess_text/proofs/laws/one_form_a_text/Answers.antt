@@ -1,10 +1,6 @@
-use Rattle.std.proofs.Common.{◌≡◌, sym, ◌∙◌}
-use Rattle.std.specs.Prelude.{Some}
+use Rattle.chess_text.proofs.Words.{◌≡◌, sym, ◌∙◌, Some, same_Some}
 use Rattle.chess_text.proofs.forms.SpellingToForm.{form_read}
 use Rattle.chess_text.proofs.laws.one_form_a_text.Goals as goal
 
-same_some : {A : Type 0} (x y : A) → Some x ≡ Some y → x ≡ y
-same_some x y h = cc
-
 pub returns : goal.returns
-returns c = λ s f g on_f on_g h i. same_some f g (sym (form_read s f h on_f) ∙ form_read s g i on_g)
+returns c = λ s f g on_f on_g h i. same_Some f g (sym (form_read s f h on_f) ∙ form_read s g i on_g)

@@ -1,5 +1,4 @@
-use Rattle.std.proofs.Common.{◌≡◌, ◌≤◌, [], ◌∷◌, drop, length}
-use Rattle.chess_text.specs.Placement.{ranks}
+use Rattle.chess_text.proofs.Words.{◌≡◌, ◌≤◌, [], ◌∷◌, drop, length, ranks}
 use Rattle.chess_text.proofs.placement.last_rank_start.Given as goal
 
 -- what stands from there on is one rank

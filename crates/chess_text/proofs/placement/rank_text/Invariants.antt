@@ -1,4 +1,4 @@
-use Rattle.chess_text.specs.Placement.{row}
+use Rattle.chess_text.proofs.Words.{row}
 use Rattle.chess_text.proofs.positions.RankToText.{WrittenSoFar}
 use Rattle.chess_text.proofs.placement.rank_text.Given as goal
 

@@ -1,6 +1,4 @@
-use Rattle.std.proofs.Common.{◌+◌, ◌&&◌, length, get_or, nat_le, sym, ◌∙◌, ap}
-use Rattle.chess_rules.specs.Board.{Board}
-use Rattle.chess_text.specs.Placement.{is_item, cells_at}
+use Rattle.chess_text.proofs.Words.{◌+◌, ◌&&◌, length, get_or, nat_le, sym, ◌∙◌, ap, Board, is_item, cells_at}
 use Rattle.chess_text.proofs.positions.BytesOfRank.{no_rank, no_cells}
 use Rattle.chess_text.proofs.placement.read_rank.Goals as goal
 
@@ -9,4 +7,4 @@ returns-then-not-push_item c =
     no_cells c.args.text.now
     (no_rank c.args.text.now c.loop-byte.byte-index c.loop-byte-test.true
     (sym (ap (λ (b : Board). is_item (get_or c.args.text.now c.loop-byte.byte-index 0) && nat_le (length b + length (cells_at (get_or c.args.text.now c.loop-byte.byte-index 0))) 8) c.loop-byte.invariant.taken)
-    ∙ (sym c.push_item.ensures.fits ∙ c.if-not-push_item.true)))
+    ∙ sym c.push_item.ensures.fits ∙ c.if-not-push_item.true))

@@ -1,6 +1,4 @@
-use Rattle.std.proofs.Common.{◌≡◌, true, take}
-use Rattle.std.specs.List.{list_all}
-use Rattle.chess_text.specs.Placement.{is_item, cells_of}
+use Rattle.chess_text.proofs.Words.{◌≡◌, true, take, list_all, is_item, cells_of}
 use Rattle.chess_text.proofs.placement.read_rank.Given as goal
 
 -- the squares that the bytes so far stand for

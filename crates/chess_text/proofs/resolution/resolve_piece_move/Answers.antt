@@ -1,21 +1,4 @@
-use Rattle.std.proofs.Common.{◌≡◌, ℕ, List, [], ◌∷◌, length, sym, refl, ◌∙◌, ap, subst, arith}
-use Rattle.std.specs.Prelude.{Option, None, Some, is_some}
-use Rattle.std.specs.List.{cons_option}
-use Rattle.std.specs.Option.{ok_or, option_to_list}
-use Rattle.std.specs.List.Sorted.{IsPermutation}
-use Rattle.std.proofs.lemmas.Bool.{and_parts}
-use Rattle.std.proofs.lemmas.List.Sorted.{IsPermutation-refl, length_permutation}
-use Rattle.chess_rules.specs.declared.piece.Kind.{Kind}
-use Rattle.chess_rules.specs.declared.piece.Promotion.{Promotion}
-use Rattle.chess_rules.specs.declared.position.Parts.{Parts}
-use Rattle.chess_rules.specs.Square.{Square}
-use Rattle.chess_rules.specs.Candidate.{candidates, lone}
-use Rattle.chess_rules.specs.Laws.{CandidatesComplete}
-use Rattle.chess_rules.specs.Legal.{is_legal}
-use Rattle.chess_text.specs.declared.form.Form.TheVariants.{Man}
-use Rattle.chess_text.specs.declared.resolution.Played.{Played}
-use Rattle.chess_text.specs.declared.resolution.SanFault.TheVariants.{NoMove}
-use Rattle.chess_text.specs.MoveOfForm.{move_from, move_of_form, only, piece_move_fits, played}
+use Rattle.chess_text.proofs.Words.{◌≡◌, ℕ, List, [], ◌∷◌, length, sym, refl, ◌∙◌, ap, subst, arith, Option, None, Some, is_some, cons_option, ok_or, option_to_list, IsPermutation, and_parts, IsPermutation-refl, length_permutation, Kind, Promotion, Parts, Square, candidates, lone, CandidatesComplete, is_legal, Man, Played, NoMove, move_from, move_of_form, only, piece_move_fits, played}
 use Rattle.chess_text.proofs.forms.MoveKept.{with_position, IsLegalIfAny, kept_is_some, kept_next, fitting_is_played, other_is_not_played}
 use Rattle.chess_text.proofs.forms.OnlyElement.{still_none, first_one, second_one, not_at_once, at_the_end}
 use Rattle.chess_text.proofs.forms.PieceForms.{candidates_own, from_square, reads_candidates, tried_at, tried_own}
@@ -23,17 +6,17 @@ use Rattle.chess_text.proofs.resolution.resolve_piece_move.Goals as goal
 use Rattle.chess_text.proofs.resolution.resolve_piece_move.Goals.{then-agrees-2+else-is_some, else-agrees-2}
 
 permuted : (xs ys zs : List Square) → zs ≡ ys → IsPermutation xs ys → IsPermutation xs zs
-permuted xs ys zs same perm = subst (λ (us : List Square). IsPermutation xs us) (sym same) perm
+permuted xs ys zs same perm = rw same perm
 
 -- There is one origin alone.
 
 lone_is : (xs : List Square) (s : Square) → Some s ≡ lone xs → xs ≡ s ∷ []
-lone_is (x ∷ []) s e = ap (λ (o : Option Square). elim o [ Some y ↦ y ∷ [] | None ↦ [] ]) (sym e)
+lone_is (x ∷ []) s e = cc
 lone_is [] s e = absurd (cc)
 lone_is (x ∷ y ∷ ys) s e = absurd (cc)
 
 one_there : (xs : List Square) (s : Square) → Some s ≡ lone xs → length xs ≡ 1
-one_there xs s e = ap (λ (ys : List Square). length ys) (lone_is xs s e)
+one_there xs s e = cc (lone_is xs s e)
 
 only_found : (o : Option Played) → ok_or o NoMove ≡ only (cons_option o [])
 only_found None = refl
@@ -43,34 +26,32 @@ only_found (Some x) = refl
 lone_gives : CandidatesComplete → (p : Parts) (k : Kind) (file rank : Option ℕ) (to : Square) (promotion : Option Promotion) (s : Square) → Some s ≡ lone (candidates p k to)
     → ok_or (played (piece_move_fits p file rank (move_from to promotion s)) p (move_from to promotion s)) NoMove ≡ move_of_form p (Man k file rank to promotion)
 lone_gives complete p k file rank to promotion s alone =
-    let perm : IsPermutation (candidates p k to) (s ∷ []) = subst (λ (xs : List Square). IsPermutation (candidates p k to) xs) (lone_is (candidates p k to) s alone) (IsPermutation-refl (candidates p k to)) in
-    ap (λ (o : Option Played). ok_or o NoMove) (tried_own p k file rank to promotion s (candidates_own p k to (s ∷ []) perm 0 s (omega arith)))
-    ∙ only_found (from_square p (Man k file rank to promotion) to promotion s)
-    ∙ reads_candidates p k file rank to promotion complete (s ∷ []) perm
+    let perm : IsPermutation (candidates p k to) (s ∷ []) = subst (λ (xs : List Square). IsPermutation (candidates p k to) xs) (lone_is _ s alone) (IsPermutation-refl _) in
+    cc (tried_own p k file rank to promotion s (candidates_own p k to (s ∷ []) perm 0 s (omega arith)), only_found (from_square p (Man k file rank to _) to promotion s), reads_candidates p k file rank to promotion complete (s ∷ []) perm)
 
 pub returns-then-is_some-clause-answer : goal.returns-then-is_some-clause-answer
 returns-then-is_some-clause-answer c =
     let p = c.args.position.now in
     let xs = c.as_slice-origin-items.result.now in
-    let perm = permuted (candidates p c.args.kind c.args.to) _ xs c.as_slice-origin-items.ensures.value c.origins-origins.ensures.exactly in
-    let h = from_square p (Man c.args.kind c.args.hints.file c.args.hints.rank c.args.to c.args.promotion) c.args.to c.args.promotion in
+    let perm = permuted _ _ xs c.as_slice-origin-items.ensures.value c.origins-origins.ensures.exactly in
+    let h = from_square p (Man _ _ _ _ _) c.args.to c.args.promotion in
     let m = move_from c.args.to c.args.promotion c.origin-item.result in
     let fits = piece_move_fits p c.args.hints.file c.args.hints.rank m in
     let tried =
-    tried_at p c.args.kind c.args.hints.file c.args.hints.rank c.args.to c.args.promotion xs perm c.loop-origin.origin-index c.origin-item.result (played fits p m) (omega arith) c.origin-item.is refl in
+    tried_at p _ c.args.hints.file c.args.hints.rank _ c.args.promotion xs perm c.loop-origin.origin-index c.origin-item.result _ (omega arith) c.origin-item.is refl in
     let agreed = sym c.agrees-in-loop-origin.ensures.agrees ∙ c.if-agrees-2.true in
-    let (x, is) = kept_next p m (and_parts (is_legal p m) fits agreed).0 in
-    second_one h xs c.loop-origin.origin-index (with_position p c.loop-origin.found) c.loop-origin.invariant.found c.origin-item.result (played fits p m) x (omega arith) tried
+    let (x, is) = kept_next p m (and_parts _ fits agreed).0 in
+    second_one h xs c.loop-origin.origin-index (with_position p c.loop-origin.found) c.loop-origin.invariant.found c.origin-item.result _ x (omega arith) tried
     (fitting_is_played p m fits agreed ∙ is)
-    (kept_is_some p c.loop-origin.found c.loop-origin.invariant.legal ∙ (sym c.is_some.ensures ∙ c.if-is_some.true))
-    ∙ reads_candidates p c.args.kind c.args.hints.file c.args.hints.rank c.args.to c.args.promotion c.candidates_are_complete.ensures xs perm
+    (kept_is_some p _ c.loop-origin.invariant.legal ∙ sym c.is_some.ensures ∙ c.if-is_some.true)
+    ∙ reads_candidates p _ _ _ _ _ c.candidates_are_complete.ensures xs perm
 
 pub returns-then-is_some-clause-two : goal.returns-then-is_some-clause-two
 returns-then-is_some-clause-two c _ =
     let p = c.args.position.now in
-    let h = from_square p (Man c.args.kind c.args.hints.file c.args.hints.rank c.args.to c.args.promotion) c.args.to c.args.promotion in
+    let h = from_square p (Man _ _ _ _ _) c.args.to c.args.promotion in
     let late =
-    not_at_once h c.as_slice-origin-items.result.now c.loop-origin.origin-index (with_position p c.loop-origin.found) c.loop-origin.invariant.found
+    not_at_once h _ _ _ c.loop-origin.invariant.found
     (kept_is_some p c.loop-origin.found c.loop-origin.invariant.legal ∙ (sym c.is_some.ensures ∙ c.if-is_some.true)) in
     omega (arith, late, c.agrees-in-loop-origin.ensures.count, c.loop-origin.invariant.tried)
 
@@ -78,41 +59,41 @@ pub returns-then-is_some-clause-most : goal.returns-then-is_some-clause-most
 returns-then-is_some-clause-most c =
     let p = c.args.position.now in
     let xs = c.as_slice-origin-items.result.now in
-    let perm = permuted (candidates p c.args.kind c.args.to) _ xs c.as_slice-origin-items.ensures.value c.origins-origins.ensures.exactly in
+    let perm = permuted _ _ xs c.as_slice-origin-items.ensures.value c.origins-origins.ensures.exactly in
     omega (arith, length_permutation (candidates p c.args.kind c.args.to) xs perm, c.agrees-in-loop-origin.ensures.count, c.loop-origin.invariant.tried)
 
 pub loop-origin-preserved : goal.loop-origin-preserved
 loop-origin-preserved c =
     let p = c.args.position.now in
     let xs = c.as_slice-origin-items.result.now in
-    let perm = permuted (candidates p c.args.kind c.args.to) _ xs c.as_slice-origin-items.ensures.value c.origins-origins.ensures.exactly in
-    let h = from_square p (Man c.args.kind c.args.hints.file c.args.hints.rank c.args.to c.args.promotion) c.args.to c.args.promotion in
-    let m = move_from c.args.to c.args.promotion c.origin-item.result in
+    let perm = permuted _ _ xs c.as_slice-origin-items.ensures.value c.origins-origins.ensures.exactly in
+    let h = from_square p (Man _ _ _ _ _) c.args.to c.args.promotion in
+    let m = move_from _ _ _ in
     let fits = piece_move_fits p c.args.hints.file c.args.hints.rank m in
     let tried =
     tried_at p c.args.kind c.args.hints.file c.args.hints.rank c.args.to c.args.promotion xs perm c.loop-origin.origin-index c.origin-item.result (played fits p m) (omega arith) c.origin-item.is refl in
     elim c.if-agrees-2.branch [
       | then-agrees-2+else-is_some w ↦
           let agreed = sym c.agrees-in-loop-origin.ensures.agrees ∙ w.if-agrees-2.true in
-          let legal = (and_parts (is_legal p m) fits agreed).0 in
+          let legal = (and_parts _ fits agreed).0 in
           let (x, is) = kept_next p m legal in
           record {
             found =
-                first_one h xs c.loop-origin.origin-index (with_position p c.loop-origin.found) c.loop-origin.invariant.found c.origin-item.result (played fits p m) x (omega arith) tried
+                first_one h xs _ (with_position p c.loop-origin.found) c.loop-origin.invariant.found c.origin-item.result _ x (omega arith) tried
                 (fitting_is_played p m fits agreed ∙ is)
-                (kept_is_some p c.loop-origin.found c.loop-origin.invariant.legal ∙ (sym w.is_some.ensures ∙ w.if-is_some.false))
+                (kept_is_some p _ c.loop-origin.invariant.legal ∙ sym w.is_some.ensures ∙ w.if-is_some.false)
                 ∙ (ap (λ (o : Option Played). option_to_list o) (sym is)
                 ∙ ap (λ o. option_to_list (with_position p o)) (sym w.found-is));
-            legal = subst (λ o. IsLegalIfAny p o) (sym w.found-is) legal;
+            legal = rw w.found-is legal;
             tried = omega (arith, c.agrees-in-loop-origin.ensures.count, c.loop-origin.invariant.tried);
           }
       | else-agrees-2 w ↦
           record {
             found =
-                still_none h xs c.loop-origin.origin-index (with_position p c.loop-origin.found) c.loop-origin.invariant.found c.origin-item.result (played fits p m) (omega arith) tried
+                still_none h xs _ (with_position p c.loop-origin.found) c.loop-origin.invariant.found c.origin-item.result _ (omega arith) tried
                 (other_is_not_played p m fits (sym c.agrees-in-loop-origin.ensures.agrees ∙ w.if-agrees-2.false))
                 ∙ ap (λ o. option_to_list (with_position p o)) (sym w.found-is);
-            legal = subst (λ o. IsLegalIfAny p o) (sym w.found-is) c.loop-origin.invariant.legal;
+            legal = rw w.found-is c.loop-origin.invariant.legal;
             tried = omega (arith, c.agrees-in-loop-origin.ensures.count, c.loop-origin.invariant.tried);
           }
     ]
@@ -121,56 +102,56 @@ pub returns-in-None-clause-answer : goal.returns-in-None-clause-answer
 returns-in-None-clause-answer c =
     let p = c.args.position.now in
     let xs = c.as_slice-origin-items.result.now in
-    let perm = permuted (candidates p c.args.kind c.args.to) _ xs c.as_slice-origin-items.ensures.value c.origins-origins.ensures.exactly in
-    let h = from_square p (Man c.args.kind c.args.hints.file c.args.hints.rank c.args.to c.args.promotion) c.args.to c.args.promotion in
+    let perm = permuted _ _ xs c.as_slice-origin-items.ensures.value c.origins-origins.ensures.exactly in
+    let h = from_square p (Man _ _ _ _ _) c.args.to c.args.promotion in
     ap (λ o. ok_or (with_position p o) NoMove) (sym c.in-None.is)
     ∙ (at_the_end h xs c.loop-origin.origin-index (with_position p c.loop-origin.found) c.loop-origin.invariant.found (omega (arith, c.loop-origin-test.false))
-    ∙ reads_candidates p c.args.kind c.args.hints.file c.args.hints.rank c.args.to c.args.promotion c.candidates_are_complete.ensures xs perm)
+    ∙ reads_candidates p _ _ _ _ _ c.candidates_are_complete.ensures xs perm)
 
 pub returns-in-None-clause-each : goal.returns-in-None-clause-each
 returns-in-None-clause-each c _ =
     let p = c.args.position.now in
     let xs = c.as_slice-origin-items.result.now in
-    let perm = permuted (candidates p c.args.kind c.args.to) _ xs c.as_slice-origin-items.ensures.value c.origins-origins.ensures.exactly in
+    let perm = permuted _ _ xs c.as_slice-origin-items.ensures.value c.origins-origins.ensures.exactly in
     omega (arith, length_permutation (candidates p c.args.kind c.args.to) xs perm, c.loop-origin.invariant.tried, c.loop-origin-test.false, c.loop-origin.auto.origin-index-end)
 
 pub returns-in-None-clause-most : goal.returns-in-None-clause-most
 returns-in-None-clause-most c =
     let p = c.args.position.now in
     let xs = c.as_slice-origin-items.result.now in
-    let perm = permuted (candidates p c.args.kind c.args.to) _ xs c.as_slice-origin-items.ensures.value c.origins-origins.ensures.exactly in
+    let perm = permuted _ _ xs c.as_slice-origin-items.ensures.value c.origins-origins.ensures.exactly in
     omega (arith, length_permutation (candidates p c.args.kind c.args.to) xs perm, c.loop-origin.invariant.tried, c.loop-origin.auto.origin-index-end)
 
 pub returns-in-Some-found-clause-answer : goal.returns-in-Some-found-clause-answer
 returns-in-Some-found-clause-answer c =
     let p = c.args.position.now in
     let xs = c.as_slice-origin-items.result.now in
-    let perm = permuted (candidates p c.args.kind c.args.to) _ xs c.as_slice-origin-items.ensures.value c.origins-origins.ensures.exactly in
-    let h = from_square p (Man c.args.kind c.args.hints.file c.args.hints.rank c.args.to c.args.promotion) c.args.to c.args.promotion in
+    let perm = permuted _ _ xs c.as_slice-origin-items.ensures.value c.origins-origins.ensures.exactly in
+    let h = from_square p (Man _ _ _ _ _) c.args.to c.args.promotion in
     ap (λ o. ok_or (with_position p o) NoMove) (sym c.in-Some-found.is)
     ∙ (at_the_end h xs c.loop-origin.origin-index (with_position p c.loop-origin.found) c.loop-origin.invariant.found (omega (arith, c.loop-origin-test.false))
-    ∙ reads_candidates p c.args.kind c.args.hints.file c.args.hints.rank c.args.to c.args.promotion c.candidates_are_complete.ensures xs perm)
+    ∙ reads_candidates p _ _ _ _ _ c.candidates_are_complete.ensures xs perm)
 
 pub returns-in-Some-found-clause-each : goal.returns-in-Some-found-clause-each
 returns-in-Some-found-clause-each c _ =
     let p = c.args.position.now in
     let xs = c.as_slice-origin-items.result.now in
-    let perm = permuted (candidates p c.args.kind c.args.to) _ xs c.as_slice-origin-items.ensures.value c.origins-origins.ensures.exactly in
+    let perm = permuted _ _ xs c.as_slice-origin-items.ensures.value c.origins-origins.ensures.exactly in
     omega (arith, length_permutation (candidates p c.args.kind c.args.to) xs perm, c.loop-origin.invariant.tried, c.loop-origin-test.false, c.loop-origin.auto.origin-index-end)
 
 pub returns-in-Some-found-clause-most : goal.returns-in-Some-found-clause-most
 returns-in-Some-found-clause-most c =
     let p = c.args.position.now in
     let xs = c.as_slice-origin-items.result.now in
-    let perm = permuted (candidates p c.args.kind c.args.to) _ xs c.as_slice-origin-items.ensures.value c.origins-origins.ensures.exactly in
+    let perm = permuted _ _ xs c.as_slice-origin-items.ensures.value c.origins-origins.ensures.exactly in
     omega (arith, length_permutation (candidates p c.args.kind c.args.to) xs perm, c.loop-origin.invariant.tried, c.loop-origin.auto.origin-index-end)
 
 pub returns-in-Some-found-clause-some : goal.returns-in-Some-found-clause-some
 returns-in-Some-found-clause-some c =
     let p = c.args.position.now in
-    let h = from_square p (Man c.args.kind c.args.hints.file c.args.hints.rank c.args.to c.args.promotion) c.args.to c.args.promotion in
+    let h = from_square p (Man _ _ _ _ _) c.args.to c.args.promotion in
     let late =
-    not_at_once h c.as_slice-origin-items.result.now c.loop-origin.origin-index (with_position p c.loop-origin.found) c.loop-origin.invariant.found
+    not_at_once h _ _ _ c.loop-origin.invariant.found
     (kept_is_some p c.loop-origin.found c.loop-origin.invariant.legal ∙ ap (λ o. is_some o) c.in-Some-found.is) in
     omega (arith, late, c.loop-origin.invariant.tried)
 
@@ -180,13 +161,13 @@ returns-then-agrees-clause-answer c =
     let m = move_from c.args.to c.args.promotion c.in-Some.origin in
     let fits = piece_move_fits p c.args.hints.file c.args.hints.rank m in
     ap (λ (o : Option Played). ok_or o NoMove) (sym (fitting_is_played p m fits (sym c.agrees.ensures.agrees ∙ c.if-agrees.true)))
-    ∙ lone_gives c.candidates_are_complete.ensures p c.args.kind c.args.hints.file c.args.hints.rank c.args.to c.args.promotion c.in-Some.origin (sym c.in-Some.is ∙ c.only_origin.ensures)
+    ∙ lone_gives c.candidates_are_complete.ensures p _ _ _ _ _ c.in-Some.origin (sym c.in-Some.is ∙ c.only_origin.ensures)
 
 pub returns-then-agrees-clause-legal : goal.returns-then-agrees-clause-legal
 returns-then-agrees-clause-legal c =
     let p = c.args.position.now in
     let m = move_from c.args.to c.args.promotion c.in-Some.origin in
-    (and_parts (is_legal p m) (piece_move_fits p c.args.hints.file c.args.hints.rank m) (sym c.agrees.ensures.agrees ∙ c.if-agrees.true)).0
+    (and_parts _ (piece_move_fits p _ _ m) (sym c.agrees.ensures.agrees ∙ c.if-agrees.true)).0
 
 pub returns-else-agrees-clause-answer : goal.returns-else-agrees-clause-answer
 returns-else-agrees-clause-answer c =
@@ -194,16 +175,16 @@ returns-else-agrees-clause-answer c =
     let m = move_from c.args.to c.args.promotion c.in-Some.origin in
     let fits = piece_move_fits p c.args.hints.file c.args.hints.rank m in
     ap (λ (o : Option Played). ok_or o NoMove) (sym (other_is_not_played p m fits (sym c.agrees.ensures.agrees ∙ c.if-agrees.false)))
-    ∙ lone_gives c.candidates_are_complete.ensures p c.args.kind c.args.hints.file c.args.hints.rank c.args.to c.args.promotion c.in-Some.origin (sym c.in-Some.is ∙ c.only_origin.ensures)
+    ∙ lone_gives c.candidates_are_complete.ensures p _ _ _ _ _ c.in-Some.origin (sym c.in-Some.is ∙ c.only_origin.ensures)
 
 pub returns-then-agrees-clause-each : goal.returns-then-agrees-clause-each
-returns-then-agrees-clause-each c _ = omega (arith, one_there (candidates c.args.position.now c.args.kind c.args.to) c.in-Some.origin (sym c.in-Some.is ∙ c.only_origin.ensures), c.agrees.ensures.count)
+returns-then-agrees-clause-each c _ = omega (arith, one_there (candidates _ _ _) c.in-Some.origin (sym c.in-Some.is ∙ c.only_origin.ensures), c.agrees.ensures.count)
 
 pub returns-then-agrees-clause-most : goal.returns-then-agrees-clause-most
-returns-then-agrees-clause-most c = omega (arith, one_there (candidates c.args.position.now c.args.kind c.args.to) c.in-Some.origin (sym c.in-Some.is ∙ c.only_origin.ensures), c.agrees.ensures.count)
+returns-then-agrees-clause-most c = omega (arith, one_there (candidates _ _ _) c.in-Some.origin (sym c.in-Some.is ∙ c.only_origin.ensures), c.agrees.ensures.count)
 
 pub returns-else-agrees-clause-each : goal.returns-else-agrees-clause-each
-returns-else-agrees-clause-each c _ = omega (arith, one_there (candidates c.args.position.now c.args.kind c.args.to) c.in-Some.origin (sym c.in-Some.is ∙ c.only_origin.ensures), c.agrees.ensures.count)
+returns-else-agrees-clause-each c _ = omega (arith, one_there (candidates _ _ _) c.in-Some.origin (sym c.in-Some.is ∙ c.only_origin.ensures), c.agrees.ensures.count)
 
 pub returns-else-agrees-clause-most : goal.returns-else-agrees-clause-most
-returns-else-agrees-clause-most c = omega (arith, one_there (candidates c.args.position.now c.args.kind c.args.to) c.in-Some.origin (sym c.in-Some.is ∙ c.only_origin.ensures), c.agrees.ensures.count)
+returns-else-agrees-clause-most c = omega (arith, one_there (candidates _ _ _) c.in-Some.origin (sym c.in-Some.is ∙ c.only_origin.ensures), c.agrees.ensures.count)

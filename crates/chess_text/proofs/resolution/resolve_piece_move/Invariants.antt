@@ -1,7 +1,4 @@
-use Rattle.std.proofs.Common.{◌≡◌, ◌+◌, take}
-use Rattle.std.specs.List.{filter_map}
-use Rattle.std.specs.Option.{option_to_list}
-use Rattle.chess_text.specs.declared.form.Form.TheVariants.{Man}
+use Rattle.chess_text.proofs.Words.{◌≡◌, ◌+◌, take, filter_map, option_to_list, Man}
 use Rattle.chess_text.proofs.forms.MoveKept.{with_position, IsLegalIfAny}
 use Rattle.chess_text.proofs.forms.PieceForms.{from_square}
 use Rattle.chess_text.proofs.resolution.resolve_piece_move.Given as goal

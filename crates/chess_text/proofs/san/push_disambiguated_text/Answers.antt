@@ -1,5 +1,4 @@
-use Rattle.std.proofs.Common.{ℕ, List, [], ◌∷◌, ◌++◌, refl, sym, ◌∙◌, ap, ap₂}
-use Rattle.chess_text.specs.San.{capture_if, rivals}
+use Rattle.chess_text.proofs.Words.{ℕ, List, [], ◌∷◌, ◌++◌, refl, sym, ◌∙◌, ap, ap₂, capture_if, rivals}
 use Rattle.chess_text.proofs.forms.MoverOfMove.{piece_takes, pawn_has_no_rivals, something}
 use Rattle.chess_text.proofs.names.RivalsAreCandidates.{apart_same}
 use Rattle.chess_text.proofs.san.push_disambiguated_text.Goals as goal
@@ -16,7 +15,7 @@ returns-clause-text c =
     (c.push_disambiguation.ensures.text
     ∙ ap₂ (λ (s t : List ℕ). s ++ t)
     (c.push.ensures.items ∙ ap₂ (λ (s : List ℕ) d. s ++ d ∷ []) c.requires.empty c.letter.ensures.value)
-    (apart_same m.from (rivals p k m) c.rivals_of-rivals.result.any c.rivals_of-rivals.result.on_file c.rivals_of-rivals.result.on_rank
+    (apart_same m.from (rivals p k m) _ c.rivals_of-rivals.result.on_file c.rivals_of-rivals.result.on_rank
     c.rivals_of-rivals.ensures.any c.rivals_of-rivals.ensures.file c.rivals_of-rivals.ensures.rank))
-    (ap (λ b. capture_if b) (something p m c.at.result c.is_some.result c.at.ensures c.is_some.ensures ∙ sym (piece_takes p m k c.requires.own (pawn_has_no_rivals k c.requires.may_have_rivals)))))
+    (ap capture_if (something p m c.at.result _ c.at.ensures c.is_some.ensures ∙ sym (piece_takes p m k c.requires.own (pawn_has_no_rivals k c.requires.may_have_rivals)))))
     refl

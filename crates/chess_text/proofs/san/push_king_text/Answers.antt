@@ -1,7 +1,4 @@
-use Rattle.std.proofs.Common.{ℕ, List, [], ◌∷◌, ◌++◌, refl, sym, ◌∙◌, ap, ap₂}
-use Rattle.std.specs.Prelude.{◌==◌}
-use Rattle.chess_rules.specs.declared.piece.Kind.TheVariants.{King}
-use Rattle.chess_text.specs.San.{capture_if, castling_text}
+use Rattle.chess_text.proofs.Words.{ℕ, List, [], ◌∷◌, ◌++◌, refl, sym, ◌∙◌, ap, ap₂, ◌==◌, King, capture_if, castling_text}
 use Rattle.chess_text.proofs.forms.CastlingMoves.{legal_is_step}
 use Rattle.chess_text.proofs.forms.MoverOfMove.{castling_written, step_written, piece_takes, something}
 use Rattle.chess_text.proofs.san.push_king_text.Goals as goal
@@ -22,7 +19,7 @@ returns-clause-text c =
     ∙ ap₂ (λ (s t : List ℕ). s ++ t)
     (c.push_capture.ensures
     ∙ ap₂ (λ (s t : List ℕ). s ++ t) (c.push.ensures.items ∙ ap (λ (s : List ℕ). s ++ 75 ∷ []) c.requires.empty)
-    (ap (λ b. capture_if b) (something c.args.position.now c.args.mv.now c.at.result c.is_some.result c.at.ensures c.is_some.ensures
+    (ap capture_if (something c.args.position.now c.args.mv.now c.at.result _ c.at.ensures c.is_some.ensures
     ∙ sym (piece_takes c.args.position.now c.args.mv.now King c.requires.king refl))))
     refl
     ∙ sym (step_written c.args.position.now c.args.mv.now (sym c.is_castling.ensures ∙ c.if-is_castling.false))

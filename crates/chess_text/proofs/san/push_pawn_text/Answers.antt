@@ -1,5 +1,4 @@
-use Rattle.std.proofs.Common.{ℕ, List, ◌++◌, refl, sym, ◌∙◌, ap, ap₂}
-use Rattle.chess_text.specs.San.{pawn_capture}
+use Rattle.chess_text.proofs.Words.{ℕ, List, ◌++◌, refl, sym, ◌∙◌, ap, ap₂, pawn_capture}
 use Rattle.chess_text.proofs.forms.PawnWays.{pawn_takes}
 use Rattle.chess_text.proofs.san.push_pawn_text.Goals as goal
 

@@ -1,12 +1,4 @@
-use Rattle.std.proofs.Common.{◌≡◌, true, Some, sym, ◌∙◌, ap, subst, arith}
-use Rattle.chess_rules.specs.declared.piece.Kind.{Kind}
-use Rattle.chess_rules.specs.declared.piece.Kind.TheVariants.{King, Pawn}
-use Rattle.chess_rules.specs.declared.piece.Piece.{Piece}
-use Rattle.chess_rules.specs.declared.position.Move.{Move}
-use Rattle.chess_rules.specs.declared.position.Parts.{Parts}
-use Rattle.chess_rules.specs.Board.{at}
-use Rattle.chess_rules.specs.Step.{own}
-use Rattle.chess_text.specs.San.{disambiguation_pairs, kind_pairs, kind_text, piece_pairs, piece_text, unmarked}
+use Rattle.chess_text.proofs.Words.{◌≡◌, true, Some, sym, ◌∙◌, ap, subst, arith, Kind, King, Pawn, Piece, Move, Parts, at, own, disambiguation_pairs, kind_pairs, kind_text, piece_pairs, piece_text, unmarked}
 use Rattle.chess_text.proofs.forms.MoverOfMove.{may_have_rivals, mover, mover_stands}
 use Rattle.chess_text.proofs.san.push_unmarked.Goals as goal
 
@@ -31,16 +23,16 @@ push_disambiguated_text-requires c =
       empty = c.requires.empty;
       legal = c.requires.legal;
       own = mover c.args.position.now c.args.mv.now c.in-Some.piece c.requires.legal (sym c.at.ensures ∙ c.in-Some.is);
-      may_have_rivals = may_have_rivals c.in-Some.piece.kind (λ e. c.in_default-kind.not-King e) (λ e. c.in_default-kind.not-Pawn e);
+      may_have_rivals = may_have_rivals _ c.in_default-kind.not-King c.in_default-kind.not-Pawn;
       room = c.requires.room;
     }
 
 -- what is written and tried for a piece of that kind
 unmarked_is : (p : Parts) (m : Move) (x : Piece) (k : Kind) → at p.board m.from ≡ Some x → x.kind ≡ k → unmarked p m ≡ kind_text k p m
-unmarked_is p m x k e is = ap (λ o. piece_text o p m) e ∙ ap (λ l. kind_text l p m) is
+unmarked_is p m x k e is = cc
 
 pairs_are : (p : Parts) (m : Move) (x : Piece) (k : Kind) → at p.board m.from ≡ Some x → x.kind ≡ k → disambiguation_pairs p m ≡ kind_pairs k p m
-pairs_are p m x k e is = ap (λ o. piece_pairs o p m) e ∙ ap (λ l. kind_pairs l p m) is
+pairs_are p m x k e is = cc
 
 pub returns-in-King-clause-text : goal.returns-in-King-clause-text
 returns-in-King-clause-text c =

@@ -1,11 +1,4 @@
-use Rattle.std.proofs.Common.{◌≡◌, ◌≤◌, Bool, true, List, length, take, ◌∙◌, sym, ap, subst, arith}
-use Rattle.std.specs.Prelude.{◌==◌}
-use Rattle.std.specs.List.{list_any}
-use Rattle.std.specs.List.Sorted.{IsPermutation}
-use Rattle.std.proofs.lemmas.List.Sorted.{length_permutation}
-use Rattle.chess_rules.specs.Square.{Square}
-use Rattle.chess_rules.specs.Candidate.{candidates}
-use Rattle.chess_text.specs.San.{rivals}
+use Rattle.chess_text.proofs.Words.{◌≡◌, ◌≤◌, Bool, true, List, length, take, ◌∙◌, sym, ap, subst, arith, ◌==◌, list_any, IsPermutation, length_permutation, Square, candidates, rivals}
 use Rattle.chess_text.proofs.names.LonePiece.{lone_candidate, no_rivals}
 use Rattle.chess_text.proofs.names.RivalsAreCandidates.{seen, found_more, all_found, rivals_seen}
 use Rattle.chess_text.proofs.san.rivals_of.Goals as goal
@@ -14,8 +7,8 @@ pub loop-origin-preserved : goal.loop-origin-preserved
 loop-origin-preserved c =
     record {
       found =
-          found_more c.args.position.now c.args.mv.now c.as_slice-origin-items.result.now c.loop-origin.origin-index c.origin-item.result c.is_rival-is_rival.result
-          c.loop-origin.found.any c.loop-origin.found.on_file c.loop-origin.found.on_rank c.with-found.result.any c.with-found.result.on_file c.with-found.result.on_rank
+          found_more _ _ _ _ c.origin-item.result c.is_rival-is_rival.result
+          c.loop-origin.found.any c.loop-origin.found.on_file c.loop-origin.found.on_rank _ _ _
           c.loop-origin-test.true c.origin-item.is c.is_rival-is_rival.ensures.rival c.loop-origin.invariant.found c.with-found.ensures.any c.with-found.ensures.file c.with-found.ensures.rank;
       tried = omega (arith, c.is_rival-is_rival.ensures.pairs, c.loop-origin.invariant.tried);
     }
@@ -25,20 +18,20 @@ pub returns-then-not-may_have_two_origins : goal.returns-then-not-may_have_two_o
 returns-then-not-may_have_two_origins c =
     let p = c.args.position.now in
     let m = c.args.mv.now in
-    let few : length (candidates p c.args.kind m.to) ≤ 1 = c.may_have_two_origins.ensures c.if-not-may_have_two_origins.true in
-    let none = no_rivals c.candidates_are_complete.ensures p c.args.kind m c.requires.legal c.requires.own few in
+    let few = c.may_have_two_origins.ensures c.if-not-may_have_two_origins.true in
+    let none = no_rivals c.candidates_are_complete.ensures p _ m c.requires.legal c.requires.own few in
     record {
       any = none (λ s. true);
-      file = none (λ s. s.file == m.from.file);
-      rank = none (λ s. s.rank == m.from.rank);
-      pairs = omega (arith, c.count_own_pair.ensures, ap length (lone_candidate c.candidates_are_complete.ensures p c.args.kind m c.requires.legal c.requires.own few));
+      file = none _;
+      rank = none _;
+      pairs = omega (arith, c.count_own_pair.ensures, ap length (lone_candidate c.candidates_are_complete.ensures p _ m c.requires.legal c.requires.own few));
       few = omega (arith, c.count_own_pair.ensures);
     }
 
 -- the origins are the candidates
 perm : (c : goal.After-loop-origin) → IsPermutation (candidates c.args.position.now c.args.kind c.args.mv.now.to) c.as_slice-origin-items.result.now
 perm c =
-    subst (λ (ys : List Square). IsPermutation (candidates c.args.position.now c.args.kind c.args.mv.now.to) ys) (sym c.as_slice-origin-items.ensures.value)
+    rw c.as_slice-origin-items.ensures.value
     c.origins-origins.ensures.exactly
 
 -- all of them were seen
@@ -46,22 +39,22 @@ whole : (c : goal.After-loop-origin) (test : Square → Bool)
     → seen c.args.position.now c.args.mv.now test (take c.loop-origin.origin-index c.as_slice-origin-items.result.now) ≡ list_any test (rivals c.args.position.now c.args.kind c.args.mv.now)
 whole c test =
     all_found c.args.position.now c.args.mv.now test c.as_slice-origin-items.result.now c.loop-origin.origin-index c.loop-origin-test.false
-    ∙ rivals_seen c.candidates_are_complete.ensures c.args.position.now c.args.kind c.args.mv.now test c.as_slice-origin-items.result.now (perm c)
+    ∙ rivals_seen c.candidates_are_complete.ensures c.args.position.now _ c.args.mv.now test c.as_slice-origin-items.result.now (perm c)
 
 pub returns-clause-any : goal.returns-clause-any
-returns-clause-any c = c.loop-origin.invariant.found.any_is ∙ whole c (λ s. true)
+returns-clause-any c = c.loop-origin.invariant.found.any_is ∙ whole c _
 
 pub returns-clause-file : goal.returns-clause-file
-returns-clause-file c = c.loop-origin.invariant.found.file_is ∙ whole c (λ s. s.file == c.args.mv.now.from.file)
+returns-clause-file c = c.loop-origin.invariant.found.file_is ∙ whole c _
 
 pub returns-clause-rank : goal.returns-clause-rank
-returns-clause-rank c = c.loop-origin.invariant.found.rank_is ∙ whole c (λ s. s.rank == c.args.mv.now.from.rank)
+returns-clause-rank c = c.loop-origin.invariant.found.rank_is ∙ whole c _
 
 pub returns-clause-pairs : goal.returns-clause-pairs
 returns-clause-pairs c =
     omega (
       arith,
-      length_permutation (candidates c.args.position.now c.args.kind c.args.mv.now.to) c.as_slice-origin-items.result.now (perm c),
+      length_permutation (candidates _ _ _) c.as_slice-origin-items.result.now (perm c),
       c.loop-origin.invariant.tried,
       c.loop-origin-test.false,
       c.loop-origin.auto.origin-index-end,

@@ -1,4 +1,4 @@
-use Rattle.std.proofs.Common.{◌≡◌, ◌+◌}
+use Rattle.chess_text.proofs.Words.{◌≡◌, ◌+◌}
 use Rattle.chess_text.proofs.names.RivalsAreCandidates.{Found}
 use Rattle.chess_text.proofs.san.rivals_of.Given as goal
 

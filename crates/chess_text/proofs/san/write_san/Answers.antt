@@ -1,7 +1,4 @@
-use Rattle.std.proofs.Common.{◌≡◌, ℕ, ◌+◌, ◌≤◌, Bool, true, false, [], ◌++◌, length, sym, ◌∙◌, ap, ap₂, subst, arith, length-append}
-use Rattle.std.specs.Prelude.{is_some, codes, if◌then◌else◌}
-use Rattle.chess_rules.specs.Legal.{is_check, is_mate}
-use Rattle.chess_text.specs.San.{MarkPairs, mark, mark_after}
+use Rattle.chess_text.proofs.Words.{◌≡◌, ℕ, ◌+◌, ◌≤◌, Bool, true, false, [], ◌++◌, length, sym, ◌∙◌, ap, ap₂, subst, arith, length-append, is_some, codes, if◌then◌else◌, is_check, is_mate, MarkPairs, mark, mark_after}
 use Rattle.chess_text.proofs.san.write_san.Goals as goal
 
 pub push_unmarked-requires : goal.push_unmarked-requires
@@ -21,7 +18,7 @@ mark_short false true = omega arith
 mark_short false false = omega arith
 
 joined : (c : goal.After-push_mark) → length c.push_mark.new.text.items ≡ length c.push_unmarked.new.text.items + length (mark_after c.args.played.now.next)
-joined c = ap (λ t. length t) c.push_mark.ensures.text ∙ length-append c.push_unmarked.new.text.items (mark_after c.args.played.now.next)
+joined c = ap length c.push_mark.ensures.text ∙ length-append _ _
 
 pub returns-clause-some : goal.returns-clause-some
 returns-clause-some c = omega (arith, joined c, c.push_unmarked.ensures.some)

@@ -1,4 +1,4 @@
-use Rattle.std.proofs.Common.{refl}
+use Rattle.pgn_lexer.proofs.Words.{refl}
 use Rattle.pgn_lexer.proofs.bytes.TablesOfBytes.{comment_class_at}
 use Rattle.pgn_lexer.proofs.class.comment_class_of.Goals as goal
 

@@ -1,4 +1,4 @@
-use Rattle.std.proofs.Common.{refl}
+use Rattle.pgn_lexer.proofs.Words.{refl}
 use Rattle.pgn_lexer.proofs.bytes.TablesOfBytes.{continues_at}
 use Rattle.pgn_lexer.proofs.class.continues_symbol.Goals as goal
 

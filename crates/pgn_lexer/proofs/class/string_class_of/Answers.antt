@@ -1,4 +1,4 @@
-use Rattle.std.proofs.Common.{refl}
+use Rattle.pgn_lexer.proofs.Words.{refl}
 use Rattle.pgn_lexer.proofs.bytes.TablesOfBytes.{string_class_at}
 use Rattle.pgn_lexer.proofs.class.string_class_of.Goals as goal
 

@@ -1,5 +1,4 @@
-use Rattle.std.proofs.Common.{refl, sym, subst}
-use Rattle.pgn_lexer.specs.PartialToken.{PartialToken, IsSound}
+use Rattle.pgn_lexer.proofs.Words.{refl, sym, subst, PartialToken, IsSound}
 use Rattle.pgn_lexer.proofs.stepping.ByteGives.{closes_gives, ClosesEnd, ClosesToken, ClosesFault}
 use Rattle.pgn_lexer.proofs.stepping.EndGives.{finishes_end, finishes_token, finishes_told, finishes_of}
 use Rattle.pgn_lexer.proofs.lexer.Lexer.finish.Goals as goal
@@ -25,7 +24,7 @@ returns-in-End c =
 pub returns-in-Token : goal.returns-in-Token
 returns-in-Token c =
     let h : ClosesToken _ _ _ _ = closes_gives _ _ _ _ c.self.invariant c.in-Token.ensures in
-    ((refl, λ _. tt, finishes_of _ _ _ _ c.self.view_is (finishes_token _ _ _ c.in-Token.form _ c.token.ensures.at c.token.ensures.kind h)), record { after = tt })
+    ((refl, λ _. tt, finishes_of _ _ _ _ c.self.view_is (finishes_token _ _ _ _ _ c.token.ensures.at c.token.ensures.kind h)), record { after = tt })
 
 pub returns-in-Fault : goal.returns-in-Fault
 returns-in-Fault c =

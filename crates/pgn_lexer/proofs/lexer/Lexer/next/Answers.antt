@@ -1,4 +1,4 @@
-use Rattle.std.proofs.Common.{refl, arith}
+use Rattle.pgn_lexer.proofs.Words.{refl, arith}
 use Rattle.pgn_lexer.proofs.stepping.StandsAfterCalls.{scans_nothing, scans_form, scans_told, scans_of}
 use Rattle.pgn_lexer.proofs.lexer.Lexer.next.Goals as goal
 
@@ -10,7 +10,7 @@ returns-in-End c =
 pub returns-in-Token : goal.returns-in-Token
 returns-in-Token c =
     let ran = rw c.in-Token.is at c.run-used.ensures in
-    ((refl, λ _. tt, scans_of _ _ _ _ _ _ c.self.view_is (scans_form _ _ _ _ _ c.in-Token.form _ c.token.ensures.at c.token.ensures.kind ran)), record { used = ran.within; after = tt })
+    ((refl, λ _. tt, scans_of _ _ _ _ _ _ c.self.view_is (scans_form _ _ _ _ _ _ _ c.token.ensures.at c.token.ensures.kind ran)), record { used = ran.within; after = tt })
 
 pub returns-in-Fault : goal.returns-in-Fault
 returns-in-Fault c =

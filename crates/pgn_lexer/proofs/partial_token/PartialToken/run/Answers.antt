@@ -1,6 +1,4 @@
-use Rattle.std.proofs.Common.{subst}
-use Rattle.pgn_lexer.specs.declared.partial_token.Mode.TheVariants.{Brace}
-use Rattle.pgn_lexer.specs.PartialToken.{PartialToken, HasNotFailed}
+use Rattle.pgn_lexer.proofs.Words.{subst, Brace, PartialToken, HasNotFailed}
 use Rattle.pgn_lexer.proofs.stepping.PieceByByte.{ran_none, between_tokens, in_mode, unless_failed}
 use Rattle.pgn_lexer.proofs.partial_token.PartialToken.run.Goals as goal
 

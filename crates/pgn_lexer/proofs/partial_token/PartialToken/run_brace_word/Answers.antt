@@ -1,11 +1,11 @@
-use Rattle.std.proofs.Common.{refl, sym, arith, ◌∙◌}
+use Rattle.pgn_lexer.proofs.Words.{refl, sym, arith, ◌∙◌}
 use Rattle.pgn_lexer.proofs.stepping.PieceByByte.{ran_all, ran_uses, ran_ends_before, takes_word_byte, takes_word_end}
 use Rattle.pgn_lexer.proofs.partial_token.PartialToken.run_brace_word.Goals as goal
 
 pub returns-in_default : goal.returns-in_default
 returns-in_default c = λ old ran.
     let here = c.loop-used.invariant in
-    ran_ends_before _ old c.args.piece.now _ c.loop-used.used _ (omega arith) refl (here.ran old ran) _ _
+    ran_ends_before _ old _ _ _ _ (omega arith) refl (here.ran old ran) _ _
     (takes_word_end _ _ _ _ _ here.word (sym c.comment_class_of.ensures) c.in_default.not-WordByte refl)
 
 pub loop-used-preserved : goal.loop-used-preserved
@@ -17,7 +17,7 @@ loop-used-preserved c =
       some = omega (arith, c.push.ensures.len);
       room = omega (arith, c.push.ensures.len);
       word = here.word;
-      ran = λ old ran. ran_uses _ old c.args.piece.now _ c.loop-used.used _ (omega arith) refl (here.ran old ran) _
+      ran = λ old ran. ran_uses _ old _ _ _ _ (omega arith) refl (here.ran old ran) _
           (takes_word_byte _ _ _ _ here.word (sym c.comment_class_of.ensures ∙ c.in-WordByte.is) (omega arith)
           (rw c.push.ensures.items refl));
     }
@@ -26,4 +26,4 @@ pub returns-then-used-piece : goal.returns-then-used-piece
 returns-then-used-piece c = λ old ran. c.run_on.ensures old (c.loop-used.invariant.ran old ran)
 
 pub returns : goal.returns
-returns c = ran_all _ c.args.piece.now _ _ _ _ (omega arith) c.loop-used.invariant.ran
+returns c = ran_all _ _ _ _ _ _ (omega arith) c.loop-used.invariant.ran

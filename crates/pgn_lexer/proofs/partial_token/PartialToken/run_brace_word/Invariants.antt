@@ -1,7 +1,4 @@
-use Rattle.std.proofs.Common.{◌≡◌, ◌+◌, ◌<◌, ◌≤◌, ◌-◌, length}
-use Rattle.pgn_lexer.specs.declared.partial_token.Mode.TheVariants.{BraceWord}
-use Rattle.pgn_lexer.specs.PartialToken.{PartialToken}
-use Rattle.pgn_lexer.specs.RunResult.{Ran}
+use Rattle.pgn_lexer.proofs.Words.{◌≡◌, ◌+◌, ◌<◌, ◌≤◌, ◌-◌, length, BraceWord, PartialToken, Ran}
 use Rattle.pgn_lexer.proofs.partial_token.PartialToken.run_brace_word.Given as goal
 
 abbrev pub invariant-loop-used : goal.invariant-loop-used

@@ -1,6 +1,4 @@
-use Rattle.std.proofs.Common.{◌≤◌, ◌-◌, length}
-use Rattle.pgn_lexer.specs.PartialToken.{PartialToken}
-use Rattle.pgn_lexer.specs.RunResult.{Ran}
+use Rattle.pgn_lexer.proofs.Words.{◌≤◌, ◌-◌, length, PartialToken, Ran}
 use Rattle.pgn_lexer.proofs.partial_token.PartialToken.run_byte_by_byte.Given as goal
 
 abbrev pub invariant-loop-used : goal.invariant-loop-used

@@ -1,13 +1,11 @@
-use Rattle.std.proofs.Common.{◌≡◌, [], ◌∷◌, ◌++◌, length, get_or, refl, sym, ap, ◌∙◌, arith}
-use Rattle.pgn_lexer.specs.declared.partial_token.Mode.TheVariants.{Outside}
-use Rattle.pgn_lexer.specs.PartialToken.{PartialToken}
+use Rattle.pgn_lexer.proofs.Words.{◌≡◌, [], ◌∷◌, ◌++◌, length, get_or, refl, sym, ap, ◌∙◌, arith, Outside, PartialToken}
 use Rattle.pgn_lexer.proofs.stepping.PieceByByte.{ran_all, ran_uses, ran_ends, takes_plain, takes_quote}
 use Rattle.pgn_lexer.proofs.partial_token.PartialToken.run_string.Goals as goal
 
 pub returns-in-Quote : goal.returns-in-Quote
 returns-in-Quote c = λ old ran.
     let here = c.loop-used.invariant in
-    ran_ends _ old c.args.piece.now _ c.loop-used.used _ (omega arith) refl (here.ran old ran) _ _
+    ran_ends _ old _ _ _ _ (omega arith) refl (here.ran old ran) _ _
     (takes_quote _ _ _ _ here.string (sym c.string_class_of.ensures ∙ c.in-Quote.is) (ap (λ (h : PartialToken). record { mode = Outside; at = h.at; text = h.text }) c.self-in-Quote.view_is))
 
 pub returns-in_default : goal.returns-in_default
@@ -22,7 +20,7 @@ loop-used-preserved c =
       piece = here.piece;
       room = omega (arith, c.push.ensures.len, same);
       string = ap (λ (h : PartialToken). h.mode) c.self-in-Plain.view_is ∙ here.string;
-      ran = λ old ran. ran_uses _ old c.args.piece.now _ c.loop-used.used _ (omega arith) refl (here.ran old ran) _
+      ran = λ old ran. ran_uses _ old _ _ _ _ (omega arith) refl (here.ran old ran) _
           (takes_plain _ _ _ _ here.string (sym c.string_class_of.ensures ∙ c.in-Plain.is) (omega arith)
           (ap (λ text. record { mode = c.self-in-Plain.inside.mode; at = c.self-in-Plain.inside.at; text = text }) c.push.ensures.items
           ∙ ap (λ (h : PartialToken). record { mode = h.mode; at = h.at; text = h.text ++ get_or c.args.piece.now c.loop-used.used 0 ∷ [] }) c.self-in-Plain.view_is));
@@ -32,4 +30,4 @@ pub returns-then-used-piece : goal.returns-then-used-piece
 returns-then-used-piece c = λ old ran. c.run_on-then-used-piece.ensures old (c.loop-used.invariant.ran old ran)
 
 pub returns : goal.returns
-returns c = ran_all _ c.args.piece.now _ _ _ _ (omega arith) c.loop-used.invariant.ran
+returns c = ran_all _ _ _ _ _ _ (omega arith) c.loop-used.invariant.ran

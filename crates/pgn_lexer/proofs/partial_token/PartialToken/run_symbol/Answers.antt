@@ -1,11 +1,11 @@
-use Rattle.std.proofs.Common.{refl, sym, ◌∙◌, arith}
+use Rattle.pgn_lexer.proofs.Words.{refl, sym, ◌∙◌, arith}
 use Rattle.pgn_lexer.proofs.stepping.PieceByByte.{ran_all, ran_uses, ran_ends_before, takes_symbol_byte, takes_symbol_end}
 use Rattle.pgn_lexer.proofs.partial_token.PartialToken.run_symbol.Goals as goal
 
 pub returns-then-not-continues_symbol : goal.returns-then-not-continues_symbol
 returns-then-not-continues_symbol c = λ old ran.
     let here = c.loop-used.invariant in
-    ran_ends_before _ old c.args.piece.now _ c.loop-used.used _ (omega arith) refl (here.ran old ran) _ _
+    ran_ends_before _ old _ _ _ _ (omega arith) refl (here.ran old ran) _ _
     (takes_symbol_end _ _ _ _ here.symbol (sym c.continues_symbol.ensures ∙ c.if-not-continues_symbol.true) refl)
 
 pub loop-used-preserved : goal.loop-used-preserved
@@ -17,7 +17,7 @@ loop-used-preserved c =
       some = omega (arith, c.push.ensures.len);
       room = omega (arith, c.push.ensures.len);
       symbol = here.symbol;
-      ran = λ old ran. ran_uses _ old c.args.piece.now _ c.loop-used.used _ (omega arith) refl (here.ran old ran) _
+      ran = λ old ran. ran_uses _ old _ _ _ _ (omega arith) refl (here.ran old ran) _
           (takes_symbol_byte _ _ _ _ here.symbol (sym c.continues_symbol.ensures ∙ c.if-not-continues_symbol.false) (omega arith)
           (rw c.push.ensures.items refl));
     }
@@ -26,4 +26,4 @@ pub returns-then-used-piece : goal.returns-then-used-piece
 returns-then-used-piece c = λ old ran. c.run_on.ensures old (c.loop-used.invariant.ran old ran)
 
 pub returns : goal.returns
-returns c = ran_all _ c.args.piece.now _ _ _ _ (omega arith) c.loop-used.invariant.ran
+returns c = ran_all _ _ _ _ _ _ (omega arith) c.loop-used.invariant.ran
