@@ -14,6 +14,8 @@ import tempfile
 
 BLOCK = 1 << 20
 BYTE_ORDER_MARK = b"\xef\xbb\xbf"
+# How many bytes behind a place its encoding is looked for in.
+NEAR = 1 << 12
 # The status of a script, which are those of the program.
 REFUSED, USAGE, NO_MEMORY, NO_PROGRAM = 1, 2, 3, 127
 
@@ -38,12 +40,18 @@ class Stopped(BaseException):
 class Parser(argparse.ArgumentParser):
     """A reader of arguments whose errors are one line."""
 
+    wrong_arguments = USAGE
+
     def error(self, message):
-        self.exit(USAGE, "%s: %s (--help shows the usage)\n" % (self.prog, message))
+        self.exit(self.wrong_arguments, "%s: %s (--help shows the usage)\n" % (
+            self.prog, message))
 
 
 def run_script(name, main):
-    """Runs a script's main function, and ends with its status; an error is one line."""
+    """Runs a script's main function, and ends with its status; an error is one line.
+
+    Where nobody reads the output any more, it ends silently.
+    """
     def stop(number, _frame):
         raise Stopped(number)
 
@@ -58,22 +66,26 @@ def run_script(name, main):
         signal.signal(stopped.args[0], signal.SIG_DFL)
         os.kill(os.getpid(), stopped.args[0])
         status = REFUSED
-    except Failure as failure:
-        status = report(name, str(failure), failure.status)
     except BrokenPipeError:
-        status = report(name, "output cannot be written", REFUSED)
+        status = REFUSED
     except MemoryError:
         status = report(name, "out of memory", NO_MEMORY)
-    except OSError as error:
-        where = "%s: " % error.filename if error.filename else ""
-        status = report(name, where + (error.strerror or str(error)), REFUSED)
+    except (Failure, OSError) as error:
+        status = report_error(name, error)
+    sys.exit(end_of_output(name, status))
+
+
+def end_of_output(name, status):
+    """Hands the system what standard output holds, and gives the status."""
     try:
         sys.stdout.flush()
-    except OSError:
+        return status
+    except OSError as error:
         # nothing can be written any more, also when Python ends
         os.dup2(os.open(os.devnull, os.O_WRONLY), 1)
-        status = status or report(name, "output cannot be written", REFUSED)
-    sys.exit(status)
+        if status or isinstance(error, BrokenPipeError):
+            return status or REFUSED
+        return report(name, "output cannot be written", REFUSED)
 
 
 def report(name, text, status):
@@ -81,12 +93,21 @@ def report(name, text, status):
     return status
 
 
-def open_file(path):
-    """Opens a regular file for reading; others cannot be read twice."""
-    file = open(path, "rb")
-    if not stat.S_ISREG(os.fstat(file.fileno()).st_mode):
-        raise Failure(USAGE, "%s: is not a regular file" % path)
-    return file
+def report_error(name, error):
+    """Reports a Failure or an error of the system, and gives the status."""
+    if isinstance(error, Failure):
+        return report(name, str(error), error.status)
+    where = "%s: " % error.filename if error.filename else ""
+    return report(name, where + (error.strerror or str(error)), REFUSED)
+
+
+def open_file(path, advice=""):
+    """Opens a regular file for reading; others cannot be read twice. To open a pipe would wait."""
+    kind = os.stat(path).st_mode
+    if not stat.S_ISREG(kind) and not stat.S_ISDIR(kind):
+        what = "is a pipe" if stat.S_ISFIFO(kind) else "is not a regular file"
+        raise Failure(USAGE, "%s: %s%s" % (path, what, advice))
+    return open(path, "rb")
 
 
 # How a script finds the program: for its help.
@@ -158,6 +179,29 @@ class Part:
     def pieces(self):
         """The bytes in turn, in pieces."""
         return iter(lambda: self.read(BLOCK), b"")
+
+
+class Lines:
+    """The lines and columns of an open file. They are counted from a place on that can be moved."""
+
+    def __init__(self, file, gillspoon):
+        self.file, self.make = file, gillspoon._places.LineCounter
+        self.counted = 0, self.make()
+
+    def _up_to(self, offset):
+        at, counter = self.counted if self.counted[0] <= offset else (0, self.make())
+        counter = counter.copy()
+        for piece in Part(self.file, at, offset).pieces():
+            counter.feed(piece)
+        return counter
+
+    def skip_to(self, offset):
+        """Counts from an offset on."""
+        self.counted = offset, self._up_to(offset)
+
+    def place(self, offset):
+        """The line, the column and the encoding of a byte, as a Place of the package."""
+        return self._up_to(offset).find(os.pread(self.file.fileno(), NEAR, offset))
 
 
 # ---- files that are replaced whole

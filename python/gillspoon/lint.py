@@ -294,7 +294,8 @@ def main(words: Optional[List[str]] = None) -> int:
         return UNREADABLE
     except OutputFault as fault:
         run.progress.clear()
-        message("output cannot be written: %s" % fault)
+        if not fault.is_closed_pipe:
+            message("output cannot be written: %s" % fault)
         out.give_up()
         return UNREADABLE
     except MemoryError:

@@ -559,12 +559,14 @@ class Options(Lint):
 
 
 class Streams(Lint):
-    def test_a_closed_pipe(self):
+    def test_a_closed_pipe_ends_it_silently(self):
         self.put("a.pgn", (BAD + b"\n") * 3000)
-        ran = run(["bash", "-c", "pgn_lint a.pgn | head -n 1; echo ${PIPESTATUS[0]}"],
-                  cwd=self.folder, env=self.env)
-        self.assertEqual(ran.stdout.decode().splitlines(), ["a.pgn:" + BAD_LINE, "2"])
-        self.assertEqual(ran.stderr, b"pgn_lint: output cannot be written: Broken pipe\n")
+        for words in ("", "--json", "-j2 a.pgn", "--board"):
+            script = "pgn_lint %s a.pgn | head -n 1; echo ${PIPESTATUS[0]}" % words
+            ran = run(["bash", "-c", script], cwd=self.folder, env=self.env)
+            first, status = ran.stdout.decode().splitlines()
+            self.assertIn("move is not legal", first)
+            self.assertEqual((status, ran.stderr), ("2", b""))
 
     def test_a_full_device(self):
         self.put("a.pgn", BAD)

@@ -109,8 +109,11 @@ class Whole(Recipe):
         self.assertEqual((ran.returncode, ran.stderr), (1, b""))
         self.assertTrue(ran.stdout.startswith(b"games.pgn:2:4: move is not legal (game 1, "))
         ran = self.recipe("See where a fault is", 1)
-        self.assertEqual((ran.returncode, ran.stderr), (0, b""))
+        self.assertEqual((ran.returncode, ran.stderr), (1, b""))
         self.assertIn(b"Ke3", ran.stdout)
+        self.put("games.pgn", "1. e4 e5 *\n")
+        ran = self.recipe("See where a fault is", 1)
+        self.assertEqual((ran.returncode, ran.stdout), (0, b"games: 1, plies: 2\n"))
 
     def test_set_bad_games_aside(self):
         bad = '[Event "bad"]\n\n1. e4 e5 2. Ke3 *\n\n'
