@@ -88,6 +88,18 @@ def end_of_output(name, status):
         return report(name, "output cannot be written", REFUSED)
 
 
+def write(text):
+    """Prints a line, with a question mark for what standard output cannot encode."""
+    encoding = sys.stdout.encoding or "ascii"
+    try:
+        line = text.encode(encoding, "surrogateescape")
+    except UnicodeEncodeError:
+        line = text.encode(encoding, "replace")
+    sys.stdout.buffer.write(line + b"\n")
+    if sys.stdout.isatty():
+        sys.stdout.flush()
+
+
 def report(name, text, status):
     print("%s: %s" % (name, text), file=sys.stderr)
     return status
@@ -99,6 +111,15 @@ def report_error(name, error):
         return report(name, str(error), error.status)
     where = "%s: " % error.filename if error.filename else ""
     return report(name, where + (error.strerror or str(error)), REFUSED)
+
+
+def spooled(read):
+    """A temporary file with all that a function reads, as a pipe has it once alone."""
+    held = tempfile.TemporaryFile()
+    for piece in iter(lambda: read(BLOCK), b""):
+        held.write(piece)
+    held.seek(0)
+    return held
 
 
 def open_file(path, advice=""):
@@ -158,6 +179,7 @@ def package():
             raise Failure(NO_PROGRAM, "the library pgn_c was not built")
     try:
         import gillspoon
+        import gillspoon._reports
     except ImportError as error:
         again = "" if is_repository else ", or bin/install again"
         raise Failure(NO_PROGRAM, "%s%s" % (error, again)) from None
@@ -262,6 +284,31 @@ class Replacement:
                 self.file.close()
                 os.unlink(self.temporary)
                 self.temporary = None
+
+
+class Nowhere:
+    """The target /dev/null, in place of a Replacement: what is written to its file is dropped."""
+
+    def __init__(self):
+        self.file = self
+
+    def write(self, text):
+        return len(text)
+
+    def _do_nothing(self, *_):
+        pass
+
+    flush = truncate = seek = take_place = discard = _do_nothing
+
+
+def is_nowhere(path):
+    """Whether a path is /dev/null."""
+    return is_same_file(path, os.devnull)
+
+
+def target_of(path):
+    """What is written in place of a file."""
+    return Nowhere() if is_nowhere(path) else Replacement(path)
 
 
 def is_same_file(one, other):

@@ -126,7 +126,7 @@ class Report:
 
     def _explanation(self, it: Finding) -> List[str]:
         """The line with a caret; of a move also the board, its FEN and a sentence."""
-        caret = "".join(map(_blank, it.text[:it.before])) + "^"
+        caret = "".join(map(blank, it.text[:it.before])) + "^"
         lines = [it.text, self._in(GREEN, caret)]
         if it.fen:
             lines += board(it.fen) + [it.fen]
@@ -146,7 +146,7 @@ class Report:
         self.out.write(line + "\n")
 
 
-def _blank(character: str) -> str:
+def blank(character: str) -> str:
     """White space as wide as a character on a terminal."""
     if character == "\t" or unicodedata.combining(character):
         return character if character == "\t" else ""
