@@ -47,10 +47,10 @@ class Parser(argparse.ArgumentParser):
             self.prog, message))
 
 
-def run_script(name, main):
+def run_script(name, main, failed=REFUSED, no_memory=NO_MEMORY):
     """Runs a script's main function, and ends with its status; an error is one line.
 
-    Where nobody reads the output any more, it ends silently.
+    Where nobody reads the output any more, it ends silently, with the status `failed`.
     """
     def stop(number, _frame):
         raise Stopped(number)
@@ -67,15 +67,15 @@ def run_script(name, main):
         os.kill(os.getpid(), stopped.args[0])
         status = REFUSED
     except BrokenPipeError:
-        status = REFUSED
+        status = failed
     except MemoryError:
-        status = report(name, "out of memory", NO_MEMORY)
+        status = report(name, "out of memory", no_memory)
     except (Failure, OSError) as error:
-        status = report_error(name, error)
-    sys.exit(end_of_output(name, status))
+        status = report_error(name, error, failed)
+    sys.exit(end_of_output(name, status, failed))
 
 
-def end_of_output(name, status):
+def end_of_output(name, status, failed):
     """Hands the system what standard output holds, and gives the status."""
     try:
         sys.stdout.flush()
@@ -83,9 +83,9 @@ def end_of_output(name, status):
     except OSError as error:
         # nothing can be written any more, also when Python ends
         os.dup2(os.open(os.devnull, os.O_WRONLY), 1)
-        if status or isinstance(error, BrokenPipeError):
-            return status or REFUSED
-        return report(name, "output cannot be written", REFUSED)
+        if isinstance(error, BrokenPipeError):
+            return max(status, failed)
+        return status or report(name, "output cannot be written", failed)
 
 
 def write(text):
@@ -105,21 +105,26 @@ def report(name, text, status):
     return status
 
 
-def report_error(name, error):
+def report_error(name, error, failed=REFUSED):
     """Reports a Failure or an error of the system, and gives the status."""
     if isinstance(error, Failure):
         return report(name, str(error), error.status)
     where = "%s: " % error.filename if error.filename else ""
-    return report(name, where + (error.strerror or str(error)), REFUSED)
+    return report(name, where + (error.strerror or str(error)), failed)
 
 
 def spooled(read):
     """A temporary file with all that a function reads, as a pipe has it once alone."""
     held = tempfile.TemporaryFile()
-    for piece in iter(lambda: read(BLOCK), b""):
-        held.write(piece)
-    held.seek(0)
+    copy(read, held)
     return held
+
+
+def copy(read, out):
+    """Writes all that a function reads to an open file."""
+    for piece in iter(lambda: read(BLOCK), b""):
+        out.write(piece)
+    out.flush()
 
 
 def open_file(path, advice=""):
@@ -179,6 +184,7 @@ def package():
             raise Failure(NO_PROGRAM, "the library pgn_c was not built")
     try:
         import gillspoon
+        import gillspoon._left_out
         import gillspoon._reports
     except ImportError as error:
         again = "" if is_repository else ", or bin/install again"
@@ -254,7 +260,11 @@ class Replacement:
             raise Failure(USAGE, "%s: is not a regular file" % path)
         folder, name = os.path.split(self.path)
         with signals_wait():
-            handle, self.temporary = tempfile.mkstemp(prefix=".%s." % name[:40], dir=folder)
+            try:
+                handle, self.temporary = tempfile.mkstemp(prefix=".%s." % name[:40], dir=folder)
+            except OSError as error:
+                raise Failure(REFUSED, "%s: no file can be made beside it: %s" % (
+                    path, error.strerror)) from None
             self.file = os.fdopen(handle, "w+b")
             self.made.append(self)
 
