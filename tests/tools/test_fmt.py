@@ -206,7 +206,7 @@ class FmtTest(unittest.TestCase):
         for name in ("loose.pgn", "tidy.pgn"):
             os.chmod(os.path.join(self.folder, name), 0o444)
         self.check(self.call("--write", "loose.pgn", "tidy.pgn"), 2, b"",
-                   b"pgn_fmt: loose.pgn: is read-only: it is left as it is\n")
+                   b"pgn_fmt: loose.pgn: is read-only; it is left as it is\n")
         self.assertEqual(self.read("loose.pgn"), LOOSE)
         os.chmod(self.folder + "/loose.pgn", 0o644)
         self.check(self.call("--write", "loose.pgn"), 0, b"loose.pgn\n")
@@ -232,7 +232,7 @@ class FmtTest(unittest.TestCase):
                 self.write("a.pgn", text)
                 ran = self.call("--write", "a.pgn")
                 self.check(ran, 2, b"", b"pgn_fmt: a.pgn: is left as it is: export format has no "
-                           b"place for %s (--drop drops them)\n" % what.encode())
+                           b"place for %s (--diff shows them, --drop drops them)\n" % what.encode())
                 self.assertEqual(self.read("a.pgn"), text)
                 self.check(self.call("--write", "--drop", "a.pgn"), 0, b"a.pgn\n",
                            b"a.pgn: dropped %s\n" % what.encode())

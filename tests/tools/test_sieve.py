@@ -338,9 +338,11 @@ class SieveTest(unittest.TestCase):
         for good, bad in ((null, done.folder + "/b"), (done.folder + "/g", null), (null, null)):
             ran = call([done.paths[0], good, bad])
             self.assertEqual((ran.returncode, ran.stderr), (1, b""))
-            self.assertEqual(ran.stdout, done.ran.stdout.replace(
-                done.paths[1].encode(), good.encode()).replace(
-                    done.paths[2].encode(), bad.encode()))
+            said = done.ran.stdout.replace(done.paths[1].encode(), good.encode())
+            said = said.replace(done.paths[2].encode(), bad.encode())
+            if bad == null:
+                said = said.replace(b"games set aside", b"games dropped")
+            self.assertEqual(ran.stdout, said)
         self.assertEqual(done.read(done.folder + "/g"), done.good)
         self.assertEqual(done.read(done.folder + "/b"), done.bad)
         after = os.stat(null)
@@ -375,7 +377,7 @@ class SieveTest(unittest.TestCase):
         need_program()
         bad = b'[White "M\xc3\xbcller"]\n[Black "\x1b[2J"]\n\n1. e4 {\xc3\xa4} e9 *\n\n'
         done = Sieved(self, sound(b"A") + bad.replace(b"\x1b[2J", b"Bob") + bad)
-        self.assertNotIn(b"e9", done.ran.stdout)
+        self.assertNotIn(b"not a move", done.ran.stdout)
         env = dict(os.environ, PGN_TOOL=need_program(), LC_ALL="C.UTF-8")
         for words, name in ((done.paths[:1], done.paths[0]), (["-"], "<stdin>")):
             words = [sys.executable, SIEVE, *words, *done.paths[1:]]

@@ -256,7 +256,8 @@ class WhereTest(unittest.TestCase):
 
     def test_places_of_pgn_lint(self):
         """A line and a column are found again, whatever the line ends and the encoding."""
-        latin, utf = "1. e4 {\u00e4\u00e4} e9 *".encode("latin-1"), "1. e4 {\u4e16\u00e4} e9 *".encode()
+        latin = "1. e4 {\u00e4\u00e4} e9 *".encode("latin-1")
+        utf = "1. e4 {\u4e16\u00e4} e9 *".encode()
         for text, place in (
                 (b"\xef\xbb\xbf1. e9 *\n", "1, column 4 (byte 6)"),
                 (b"\xef\xbb\xbf" + utf, "1, column 12 (byte 17)"),
