@@ -72,20 +72,12 @@ def run_script(name, main, failed=REFUSED, no_memory=NO_MEMORY):
         status = report(name, "out of memory", no_memory)
     except (Failure, OSError) as error:
         status = report_error(name, error, failed)
-    sys.exit(end_of_output(name, status, failed))
-
-
-def end_of_output(name, status, failed):
-    """Hands the system what standard output holds, and gives the status."""
     try:
         sys.stdout.flush()
-        return status
-    except OSError as error:
-        # nothing can be written any more, also when Python ends
+    except OSError:
+        # it has been reported; nothing can be written any more, also when Python ends
         os.dup2(os.open(os.devnull, os.O_WRONLY), 1)
-        if isinstance(error, BrokenPipeError):
-            return max(status, failed)
-        return status or report(name, "output cannot be written", failed)
+    sys.exit(status)
 
 
 def write(text):

@@ -184,6 +184,8 @@ class Run:
         self.progress = Progress(len(self.files), not given.quiet)
         self.read = self.games = self.faults = self.bad_files = 0
         self.unread: List[Unread] = []
+        self.has_ended_processes = False
+        """Whether processes were ended: then Python could wait for ever for what they write."""
 
     def run(self) -> int:
         """Checks all files, and gives the status."""
@@ -234,6 +236,7 @@ class Run:
                 else:
                     self._check_here(file)
         except BaseException:
+            self.has_ended_processes = True
             for process in multiprocessing.active_children():
                 process.terminate()
             pool.shutdown(wait=False, cancel_futures=True)
@@ -297,10 +300,12 @@ def main(words: Optional[List[str]] = None) -> int:
         if not fault.is_closed_pipe:
             message("output cannot be written: %s" % fault)
         out.give_up()
-        return UNREADABLE
+        status = UNREADABLE
     except MemoryError:
         message("out of memory")
-        return UNREADABLE
+        status = UNREADABLE
+    if run.has_ended_processes:
+        os._exit(status)
     return status
 
 

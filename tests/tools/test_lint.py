@@ -673,6 +673,15 @@ class Streams(Lint):
             self.assertIn("move is not legal", first)
             self.assertEqual((status, ran.stderr), ("2", b""))
 
+    def test_a_closed_pipe_while_processes_write(self):
+        """What they have to say is more than a pipe holds, so that some end in the midst of it."""
+        self.put("a.pgn", (BAD + b"\n") * 1000)
+        script = "pgn_lint -j4%s | head -n 1; echo ${PIPESTATUS[0]}" % (8 * " a.pgn")
+        for _ in range(6):
+            ran = run(["bash", "-c", script], cwd=self.folder, env=self.env, timeout=20)
+            self.assertEqual(ran.stdout.decode().splitlines(), ["a.pgn:" + BAD_LINE, "2"])
+            self.assertEqual(ran.stderr, b"")
+
     def test_a_full_device(self):
         self.put("a.pgn", BAD)
         for words in ([], ["--json"], ["--sarif"], ["-j", "2", "a.pgn"]):
