@@ -343,28 +343,34 @@ class Faults(Lint):
         self.assertEqual(lines[2][2:], " " * 63 + "^")
 
     def test_vectors(self):
-        tried = 0
-        for vector in vectors():
-            if vector.get("fault", {}).get("number") in (34, 35, 36):
-                with self.subTest(vector["file"]):
-                    self.put("a.pgn", vector["input"].encode())
-                    found = self.records("a.pgn")[0]
-                    self.assertEqual((found["number"], found["offset"]),
-                                     (vector["fault"]["number"], vector["fault"]["place"]))
-                    self.assertEqual((found["fen"], found["explanation"]),
-                                     VECTORS[vector["file"]])
-                    self.assertEqual(self.board(), found["fen"].split()[:2])
-                    tried += 1
-        self.assertEqual(tried, len(VECTORS))
+        """Each vector with a fault of a move: its position, the board of it, and the sentence."""
+        wanted = {it["file"]: it for it in vectors()
+                  if it.get("fault", {}).get("number") in (34, 35, 36)}
+        self.assertEqual(set(wanted), set(VECTORS))
+        for name, vector in wanted.items():
+            self.put("all/%s.pgn" % name, vector["input"].encode())
+        found, boards = {}, self.boards("all")
+        for it in self.records("all"):
+            found.setdefault(it.get("file"), it)
+        for name, vector in wanted.items():
+            with self.subTest(name):
+                first = found["all/%s.pgn" % name]
+                self.assertEqual((first["number"], first["offset"]),
+                                 (vector["fault"]["number"], vector["fault"]["place"]))
+                self.assertEqual((first["fen"], first["explanation"]), VECTORS[name])
+                self.assertEqual(boards["all/%s.pgn" % name], first["fen"].split()[:2])
 
-    def board(self):
-        """The first two fields of a FEN, as the board of a.pgn has them."""
-        rows = re.findall(r"(?m)^  [1-8]  ((?:[.\w] ){7}[.\w])$", self.lint("--board", "a.pgn")[1])
-        side = re.search(r"(?m)^     a b c d e f g h   (White|Black) to move$", self.lint(
-            "--board", "a.pgn")[1])[1]
-        fields = "/".join(re.sub(r"\.+", lambda it: str(len(it[0])), row.replace(" ", ""))
-                          for row in rows)
-        return [fields, side[0].lower()]
+    def boards(self, folder):
+        """For each file the first two fields of a FEN, as the first board of it shows them."""
+        found = {}
+        for name, lines in re.findall(r"(?m)^(\S+\.pgn):\d+:\d+: .*\n((?:  .*\n)+)", self.lint(
+                "--board", "--quiet", folder)[1]):
+            rows = re.findall(r"(?m)^  [1-8]  ((?:[.\w] ){7}[.\w])$", lines)
+            fields = "/".join(re.sub(r"\.+", lambda it: str(len(it[0])), row.replace(" ", ""))
+                              for row in rows)
+            side = re.search(r"(?m)^     a b c d e f g h   (White|Black) to move$", lines)[1]
+            found.setdefault(name, [fields, side[0].lower()])
+        return found
 
     def test_doctests(self):
         sys.path.insert(0, PACKAGE)

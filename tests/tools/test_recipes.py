@@ -314,7 +314,7 @@ class Mended(Recipe):
     def test_unknown_results_in_tags(self):
         text = '[White "a"]\n[Result "*"]\n\n1. e4 {x} 1-0\n\n[White "b"]\r\n[Result "*"]\r\n\r\n' \
             '1. d4 *\r\n\r\n[White "c"]\n[Result "0-1"]\n\n1. c4 0-1\n\n' \
-            '[White "d"]\n[Result "*"] \n\n1. f4 1/2-1/2\n'
+            '[White "d"]\r\n[Result "*"] \r\n\r\n1. f4 1/2-1/2\r\n'
         wanted = game("1. e4 { x } 1-0", "1-0", White="a") + game("1. d4 *", White="b") \
             + game("1. c4 0-1", "0-1", White="c") + game("1. f4 1/2-1/2", "1/2-1/2", White="d")
         said = self.mend("Unknown results in tags", text,
@@ -350,6 +350,7 @@ class Mended(Recipe):
                 text.index("exd6") + (5 if words[4] in " \n" else 0))
             wanted = game("1. e4 { d6 ep } 1... a6 2. e5 d5 3. exd6 *", White="e6 e.p.")
             self.counted(self.mend("En passant with e.p.", text, message, wanted), (1, 1), (1, 0))
+            self.assertTrue(self.get("mended.pgn").endswith(b" 3. exd6 *"))
         check = '[FEN "3k4/2p5/8/3P4/K7/8/8/3R4 b - - 0 1"]\n\n1... c5 2. dxc6+ e.p. *\n'
         self.put("games.pgn", check)
         self.counted(self.recipe("En passant with e.p.").stdout.decode(), (1, 1), (1, 0))
