@@ -55,6 +55,8 @@ def run_script(name, main, failed=REFUSED, no_memory=NO_MEMORY):
     def stop(number, _frame):
         raise Stopped(number)
 
+    if sys.stdout is None:
+        sys.exit(report(name, "standard output is closed", failed))
     for number in STOPPING:
         signal.signal(number, stop)
     try:

@@ -172,6 +172,13 @@ class FmtTest(unittest.TestCase):
                 ran = self.call(*words, stdout=full)
                 self.assertEqual((ran.returncode, ran.stderr.count(b"\n")), (2, 1), ran.stderr)
 
+    def test_a_closed_output(self):
+        ran = run(["sh", "-c", '"$0" "$1" --write loose.pgn >&-', sys.executable, FMT],
+                  cwd=self.folder)
+        self.assertEqual((ran.returncode, ran.stderr),
+                         (2, b"pgn_fmt: standard output is closed\n"))
+        self.assertEqual(self.read("loose.pgn"), LOOSE)
+
     def test_a_closed_pipe_ends_it_silently(self):
         self.write("many.pgn", LOOSE * 3000)
         for words in (["many.pgn"], ["--check", "loose.pgn"]):

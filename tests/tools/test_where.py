@@ -359,6 +359,9 @@ class WhereTest(unittest.TestCase):
         ran = run(["sh", "-c", '"$0" "$1" examples/two-games.pgn 3 >/dev/full', sys.executable,
                    WHERE])
         self.assertEqual((ran.returncode, ran.stderr.count(b"\n")), (1, 1), ran.stderr)
+        ran = run(["sh", "-c", '"$0" "$1" examples/two-games.pgn 3 >&-', sys.executable, WHERE])
+        self.assertEqual((ran.returncode, ran.stderr),
+                         (1, b"pgn_where: standard output is closed\n"))
 
     def test_a_closed_pipe_ends_it_silently(self):
         with open(self.file, "wb") as file:
