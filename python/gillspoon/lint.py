@@ -175,6 +175,10 @@ def reason_of(error: OSError, path: str) -> str:
 # ---- all files
 
 
+class LostProcess(Exception):
+    """A process of the pool was ended from outside, perhaps for lack of memory."""
+
+
 class Run:
     """A run over files, which writes what it finds in their order."""
 
@@ -224,6 +228,7 @@ class Run:
         # they take as long as all other imports together
         import multiprocessing
         from concurrent.futures import ProcessPoolExecutor
+        from concurrent.futures.process import BrokenProcessPool
         pool = ProcessPoolExecutor(self.given.jobs, initializer=_end_with_parent)
         try:
             asked: "Dict[int, Future[Checked]]" = {
@@ -235,11 +240,13 @@ class Run:
                     self._show(self.games)
                 else:
                     self._check_here(file)
-        except BaseException:
+        except BaseException as error:
             self.has_ended_processes = True
             for process in multiprocessing.active_children():
                 process.terminate()
             pool.shutdown(wait=False, cancel_futures=True)
+            if isinstance(error, BrokenProcessPool):
+                raise LostProcess from None
             raise
         pool.shutdown()
 
@@ -303,6 +310,10 @@ def main(words: Optional[List[str]] = None) -> int:
         status = UNREADABLE
     except MemoryError:
         message("out of memory")
+        status = UNREADABLE
+    except LostProcess:
+        run.progress.clear()
+        message("a process ended before its file was checked; try again without -j")
         status = UNREADABLE
     if run.has_ended_processes:
         os._exit(status)

@@ -728,6 +728,24 @@ class Streams(Lint):
         self.assertEqual(self.interrupted("-j", "2", "pipe.pgn", "b.pgn"),
                          (-signal.SIGINT, b""))
 
+    def test_a_process_that_is_killed(self):
+        """As for lack of memory: it is no fault of a file, and no traceback."""
+        os.mkfifo(self.folder + "/pipe.pgn")
+        self.put("b.pgn", GOOD)
+        with subprocess.Popen([LINT, "-j", "2", "b.pgn", "pipe.pgn"], cwd=self.folder,
+                              env=self.env, stdout=subprocess.PIPE,
+                              stderr=subprocess.PIPE) as child:
+            # once this opens, a process reads the other end
+            with open(self.folder + "/pipe.pgn", "wb", buffering=0) as pipe:
+                pipe.write(b"1. e4 ")
+                with open("/proc/%d/task/%d/children" % (child.pid, child.pid),
+                          encoding="ascii") as children:
+                    for process in children.read().split():
+                        os.kill(int(process), signal.SIGKILL)
+                _, told = child.communicate(timeout=20)
+        self.assertEqual((child.returncode, told), (
+            2, b"pgn_lint: a process ended before its file was checked; try again without -j\n"))
+
     def test_colours_on_a_terminal_alone(self):
         self.put("a.pgn", BAD)
         shown = programs.on_a_terminal([LINT, "a.pgn"], cwd=self.folder,
