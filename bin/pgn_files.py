@@ -14,6 +14,8 @@ import tempfile
 
 BLOCK = 1 << 20
 BYTE_ORDER_MARK = b"\xef\xbb\xbf"
+# How many bytes behind a place its encoding is looked for in.
+NEAR = 1 << 12
 # The status of a script, which are those of the program.
 REFUSED, USAGE, NO_MEMORY, NO_PROGRAM = 1, 2, 3, 127
 
@@ -38,15 +40,23 @@ class Stopped(BaseException):
 class Parser(argparse.ArgumentParser):
     """A reader of arguments whose errors are one line."""
 
+    wrong_arguments = USAGE
+
     def error(self, message):
-        self.exit(USAGE, "%s: %s (--help shows the usage)\n" % (self.prog, message))
+        self.exit(self.wrong_arguments, "%s: %s (--help shows the usage)\n" % (
+            self.prog, message))
 
 
-def run_script(name, main):
-    """Runs a script's main function, and ends with its status; an error is one line."""
+def run_script(name, main, failed=REFUSED, no_memory=NO_MEMORY):
+    """Runs a script's main function, and ends with its status; an error is one line.
+
+    Where nobody reads the output any more, it ends silently, with the status `failed`.
+    """
     def stop(number, _frame):
         raise Stopped(number)
 
+    if sys.stdout is None:
+        sys.exit(report(name, "standard output is closed", failed))
     for number in STOPPING:
         signal.signal(number, stop)
     try:
@@ -58,22 +68,30 @@ def run_script(name, main):
         signal.signal(stopped.args[0], signal.SIG_DFL)
         os.kill(os.getpid(), stopped.args[0])
         status = REFUSED
-    except Failure as failure:
-        status = report(name, str(failure), failure.status)
     except BrokenPipeError:
-        status = report(name, "output cannot be written", REFUSED)
+        status = failed
     except MemoryError:
-        status = report(name, "out of memory", NO_MEMORY)
-    except OSError as error:
-        where = "%s: " % error.filename if error.filename else ""
-        status = report(name, where + (error.strerror or str(error)), REFUSED)
+        status = report(name, "out of memory", no_memory)
+    except (Failure, OSError) as error:
+        status = report_error(name, error, failed)
     try:
         sys.stdout.flush()
     except OSError:
-        # nothing can be written any more, also when Python ends
+        # it has been reported; nothing can be written any more, also when Python ends
         os.dup2(os.open(os.devnull, os.O_WRONLY), 1)
-        status = status or report(name, "output cannot be written", REFUSED)
     sys.exit(status)
+
+
+def write(text):
+    """Prints a line, with a question mark for what standard output cannot encode."""
+    encoding = sys.stdout.encoding or "ascii"
+    try:
+        line = text.encode(encoding, "surrogateescape")
+    except UnicodeEncodeError:
+        line = text.encode(encoding, "replace")
+    sys.stdout.buffer.write(line + b"\n")
+    if sys.stdout.isatty():
+        sys.stdout.flush()
 
 
 def report(name, text, status):
@@ -81,12 +99,35 @@ def report(name, text, status):
     return status
 
 
-def open_file(path):
-    """Opens a regular file for reading; others cannot be read twice."""
-    file = open(path, "rb")
-    if not stat.S_ISREG(os.fstat(file.fileno()).st_mode):
-        raise Failure(USAGE, "%s: is not a regular file" % path)
-    return file
+def report_error(name, error, failed=REFUSED):
+    """Reports a Failure or an error of the system, and gives the status."""
+    if isinstance(error, Failure):
+        return report(name, str(error), error.status)
+    where = "%s: " % error.filename if error.filename else ""
+    return report(name, where + (error.strerror or str(error)), failed)
+
+
+def spooled(read):
+    """A temporary file with all that a function reads, as a pipe has it once alone."""
+    held = tempfile.TemporaryFile()
+    copy(read, held)
+    return held
+
+
+def copy(read, out):
+    """Writes all that a function reads to an open file."""
+    for piece in iter(lambda: read(BLOCK), b""):
+        out.write(piece)
+    out.flush()
+
+
+def open_file(path, advice=""):
+    """Opens a regular file for reading; others cannot be read twice. To open a pipe would wait."""
+    kind = os.stat(path).st_mode
+    if not stat.S_ISREG(kind) and not stat.S_ISDIR(kind):
+        what = "is a pipe" if stat.S_ISFIFO(kind) else "is not a regular file"
+        raise Failure(USAGE, "%s: %s%s" % (path, what, advice))
+    return open(path, "rb")
 
 
 # How a script finds the program: for its help.
@@ -137,6 +178,8 @@ def package():
             raise Failure(NO_PROGRAM, "the library pgn_c was not built")
     try:
         import gillspoon
+        import gillspoon._left_out
+        import gillspoon._reports
     except ImportError as error:
         again = "" if is_repository else ", or bin/install again"
         raise Failure(NO_PROGRAM, "%s%s" % (error, again)) from None
@@ -158,6 +201,29 @@ class Part:
     def pieces(self):
         """The bytes in turn, in pieces."""
         return iter(lambda: self.read(BLOCK), b"")
+
+
+class Lines:
+    """The lines and columns of an open file. They are counted from a place on that can be moved."""
+
+    def __init__(self, file, gillspoon):
+        self.file, self.make = file, gillspoon._places.LineCounter
+        self.counted = 0, self.make()
+
+    def _up_to(self, offset):
+        at, counter = self.counted if self.counted[0] <= offset else (0, self.make())
+        counter = counter.copy()
+        for piece in Part(self.file, at, offset).pieces():
+            counter.feed(piece)
+        return counter
+
+    def skip_to(self, offset):
+        """Counts from an offset on."""
+        self.counted = offset, self._up_to(offset)
+
+    def place(self, offset):
+        """The line, the column and the encoding of a byte, as a Place of the package."""
+        return self._up_to(offset).find(os.pread(self.file.fileno(), NEAR, offset))
 
 
 # ---- files that are replaced whole
@@ -188,7 +254,11 @@ class Replacement:
             raise Failure(USAGE, "%s: is not a regular file" % path)
         folder, name = os.path.split(self.path)
         with signals_wait():
-            handle, self.temporary = tempfile.mkstemp(prefix=".%s." % name[:40], dir=folder)
+            try:
+                handle, self.temporary = tempfile.mkstemp(prefix=".%s." % name[:40], dir=folder)
+            except OSError as error:
+                raise Failure(REFUSED, "%s: no file can be made beside it: %s" % (
+                    path, error.strerror)) from None
             self.file = os.fdopen(handle, "w+b")
             self.made.append(self)
 
@@ -218,6 +288,31 @@ class Replacement:
                 self.file.close()
                 os.unlink(self.temporary)
                 self.temporary = None
+
+
+class Nowhere:
+    """The target /dev/null, in place of a Replacement: what is written to its file is dropped."""
+
+    def __init__(self):
+        self.file = self
+
+    def write(self, text):
+        return len(text)
+
+    def _do_nothing(self, *_):
+        pass
+
+    flush = truncate = seek = take_place = discard = _do_nothing
+
+
+def is_nowhere(path):
+    """Whether a path is /dev/null."""
+    return is_same_file(path, os.devnull)
+
+
+def target_of(path):
+    """What is written in place of a file."""
+    return Nowhere() if is_nowhere(path) else Replacement(path)
 
 
 def is_same_file(one, other):

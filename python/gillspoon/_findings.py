@@ -246,6 +246,15 @@ def _decoded(text: bytes) -> str:
         return text.decode("latin-1")
 
 
+def shown(value: bytes) -> str:
+    """The text of a tag's value, without control characters.
+
+    >>> shown(b"M\\xfcller")
+    'M\xfcller'
+    """
+    return printable(_decoded(value))
+
+
 def printable(text: str) -> str:
     """The text with a mark for each control character, which a terminal could take as a command.
 

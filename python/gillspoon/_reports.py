@@ -60,6 +60,11 @@ def in_a_line(name: str) -> str:
 class OutputFault(Exception):
     """Standard output cannot be written, for the system's reason."""
 
+    def __init__(self, error: OSError) -> None:
+        super().__init__(error.strerror or str(error))
+        self.is_closed_pipe = isinstance(error, BrokenPipeError)
+        """Whether nobody reads the output any more."""
+
 
 class Output:
     """Standard output. It can write every text: names as their bytes, and `?` for the rest."""
@@ -78,7 +83,7 @@ class Output:
                 raise OSError(errno.EBADF, os.strerror(errno.EBADF))
             self.stream.write(text)
         except OSError as error:
-            raise OutputFault(error.strerror or str(error)) from None
+            raise OutputFault(error) from None
 
     def flush(self) -> None:
         """Hands what was written to the system; raises OutputFault."""
@@ -86,7 +91,7 @@ class Output:
             if self.stream is not None:
                 self.stream.flush()
         except OSError as error:
-            raise OutputFault(error.strerror or str(error)) from None
+            raise OutputFault(error) from None
 
     def give_up(self) -> None:
         """Writes nothing any more, also when Python ends."""
@@ -121,7 +126,7 @@ class Report:
 
     def _explanation(self, it: Finding) -> List[str]:
         """The line with a caret; of a move also the board, its FEN and a sentence."""
-        caret = "".join(map(_blank, it.text[:it.before])) + "^"
+        caret = "".join(map(blank, it.text[:it.before])) + "^"
         lines = [it.text, self._in(GREEN, caret)]
         if it.fen:
             lines += board(it.fen) + [it.fen]
@@ -141,7 +146,7 @@ class Report:
         self.out.write(line + "\n")
 
 
-def _blank(character: str) -> str:
+def blank(character: str) -> str:
     """White space as wide as a character on a terminal."""
     if character == "\t" or unicodedata.combining(character):
         return character if character == "\t" else ""

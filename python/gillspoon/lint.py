@@ -175,6 +175,10 @@ def reason_of(error: OSError, path: str) -> str:
 # ---- all files
 
 
+class LostProcess(Exception):
+    """A process of the pool was ended from outside, perhaps for lack of memory."""
+
+
 class Run:
     """A run over files, which writes what it finds in their order."""
 
@@ -184,6 +188,8 @@ class Run:
         self.progress = Progress(len(self.files), not given.quiet)
         self.read = self.games = self.faults = self.bad_files = 0
         self.unread: List[Unread] = []
+        self.has_ended_processes = False
+        """Whether processes were ended: then Python could wait for ever for what they write."""
 
     def run(self) -> int:
         """Checks all files, and gives the status."""
@@ -222,6 +228,7 @@ class Run:
         # they take as long as all other imports together
         import multiprocessing
         from concurrent.futures import ProcessPoolExecutor
+        from concurrent.futures.process import BrokenProcessPool
         pool = ProcessPoolExecutor(self.given.jobs, initializer=_end_with_parent)
         try:
             asked: "Dict[int, Future[Checked]]" = {
@@ -233,10 +240,13 @@ class Run:
                     self._show(self.games)
                 else:
                     self._check_here(file)
-        except BaseException:
+        except BaseException as error:
+            self.has_ended_processes = True
             for process in multiprocessing.active_children():
                 process.terminate()
             pool.shutdown(wait=False, cancel_futures=True)
+            if isinstance(error, BrokenProcessPool):
+                raise LostProcess from None
             raise
         pool.shutdown()
 
@@ -294,12 +304,19 @@ def main(words: Optional[List[str]] = None) -> int:
         return UNREADABLE
     except OutputFault as fault:
         run.progress.clear()
-        message("output cannot be written: %s" % fault)
+        if not fault.is_closed_pipe:
+            message("output cannot be written: %s" % fault)
         out.give_up()
-        return UNREADABLE
+        status = UNREADABLE
     except MemoryError:
         message("out of memory")
-        return UNREADABLE
+        status = UNREADABLE
+    except LostProcess:
+        run.progress.clear()
+        message("a process ended before its file was checked; try again without -j")
+        status = UNREADABLE
+    if run.has_ended_processes:
+        os._exit(status)
     return status
 
 

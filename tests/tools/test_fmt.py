@@ -1,5 +1,7 @@
 #!/usr/bin/env python3
 """Tests of bin/pgn_fmt."""
+import doctest
+import importlib
 import os
 import shutil
 import signal
@@ -10,7 +12,8 @@ import time
 import unittest
 
 sys.path.insert(0, os.path.dirname(os.path.realpath(__file__)))
-from programs import ROOT, need, need_program, run
+from programs import ROOT, need, need_program, run, vectors
+from test_python import PACKAGE, library
 
 FMT = ROOT + "/bin/pgn_fmt"
 HEAD = (b'[Event "?"]\n[Site "?"]\n[Date "????.??.??"]\n[Round "?"]\n[White "%s"]\n[Black "?"]\n'
@@ -59,11 +62,11 @@ class FmtTest(unittest.TestCase):
 
     def test_file_with_a_fault_adds_nothing(self):
         told = b"pgn_fmt: bad.pgn: byte 15: not a move\n"
-        self.check(self.call("loose.pgn", "bad.pgn", "tidy.pgn"), 1, TIDY * 2, told)
+        self.check(self.call("loose.pgn", "bad.pgn", "tidy.pgn"), 2, TIDY * 2, told)
         self.write("all.pgn", b"old")
-        self.check(self.call("-o", "all.pgn", "loose.pgn", "bad.pgn"), 1, b"", told)
+        self.check(self.call("-o", "all.pgn", "loose.pgn", "bad.pgn"), 2, b"", told)
         self.assertEqual(self.read("all.pgn"), b"old")
-        self.check(self.call(input=BAD), 1, b"", b"pgn_fmt: standard input: byte 15: not a move\n")
+        self.check(self.call(input=BAD), 2, b"", b"pgn_fmt: standard input: byte 15: not a move\n")
         self.assertEqual(sorted(os.listdir(self.folder)),
                          ["all.pgn", "bad.pgn", "loose.pgn", "tidy.pgn"])
 
@@ -72,9 +75,9 @@ class FmtTest(unittest.TestCase):
         for words in (["-o", "loose.pgn", "loose.pgn"],
                       ["-o", "link.pgn", "tidy.pgn", "loose.pgn"]):
             ran = self.call(*words)
-            self.assertEqual((ran.returncode, ran.stderr.count(b"\n")), (2, 1))
+            self.assertEqual((ran.returncode, ran.stderr.count(b"\n")), (3, 1))
         with open(self.folder + "/loose.pgn", "ab") as out:
-            self.assertEqual(self.call("tidy.pgn", "loose.pgn", stdout=out).returncode, 2)
+            self.assertEqual(self.call("tidy.pgn", "loose.pgn", stdout=out).returncode, 3)
         self.assertEqual(self.read("loose.pgn"), LOOSE)
 
     def test_check(self):
@@ -89,13 +92,13 @@ class FmtTest(unittest.TestCase):
         # a file that stops at a fault is no export, also where all before the fault is
         self.write("torn.pgn", TIDY + HEAD % b"A" + b"1. e4 e9\n")
         ran = self.call("--check", "torn.pgn", "loose.pgn")
-        self.check(ran, 1, b"loose.pgn\n",
+        self.check(ran, 2, b"loose.pgn\n",
                    b"pgn_fmt: torn.pgn: byte %d: not a move\n" % (len(TIDY + HEAD) - 1 + 6))
 
     def test_write(self):
         before = os.stat(self.folder + "/tidy.pgn")
         told = b"pgn_fmt: bad.pgn: byte 15: not a move\n"
-        self.check(self.call("--write", "loose.pgn", "bad.pgn", "tidy.pgn"), 1, b"loose.pgn\n",
+        self.check(self.call("--write", "loose.pgn", "bad.pgn", "tidy.pgn"), 2, b"loose.pgn\n",
                    told)
         self.assertEqual([self.read(it) for it in ("loose.pgn", "bad.pgn", "tidy.pgn")],
                          [TIDY, BAD, TIDY])
@@ -119,7 +122,7 @@ class FmtTest(unittest.TestCase):
         self.write("program", b'#!/bin/sh\ncat >/dev/null\necho more >>loose.pgn\necho "export"\n')
         os.chmod(self.folder + "/program", 0o755)
         ran = self.call("-w", "loose.pgn", program=self.folder + "/program")
-        self.assertEqual((ran.returncode, ran.stdout), (1, b""))
+        self.assertEqual((ran.returncode, ran.stdout), (2, b""))
         self.assertEqual(self.read("loose.pgn"), LOOSE + b"more\n")
 
     def test_diff(self):
@@ -132,37 +135,121 @@ class FmtTest(unittest.TestCase):
         self.assertEqual(lines[:2], [b"--- near.pgn", b"+++ near.pgn in export format"])
         self.assertIn(b"-1.e4 e5 *", lines)
         self.assertIn(b"+1. e4 e5 *", lines)
-        self.check(self.call("--diff", "bad.pgn"), 1, b"",
+        self.check(self.call("--diff", "bad.pgn"), 2, b"",
                    b"pgn_fmt: bad.pgn: byte 15: not a move\n")
 
     def test_checked_is_handed_on(self):
         self.write("won.pgn", b"1. e4 1-0")
-        self.check(self.call("won.pgn"), 1, b"",
+        self.check(self.call("won.pgn"), 2, b"",
                    b"pgn_fmt: won.pgn: byte 6: result differs from the Result tag\n")
         ran = self.call("--checked", "won.pgn")
         self.assertEqual((ran.returncode, ran.stderr), (0, b""))
         self.assertTrue(ran.stdout.endswith(b'[Result "1-0"]\n\n1. e4 1-0\n\n'), ran.stdout)
-        self.assertEqual(self.call("--checked").returncode, 2)
+        self.assertEqual(self.call("--checked").returncode, 3)
 
     def test_errors(self):
-        for words, status in ((["--check"], 2), (["--write"], 2), (["--diff"], 2),
-                              (["--chek", "tidy.pgn"], 2),
-                              (["--check", "--write", "tidy.pgn"], 2), (["none.pgn"], 1),
-                              (["--write", "none.pgn"], 1),
-                              (["--diff", "none.pgn"], 1), (["--check", "."], 1)):
+        os.mkfifo(self.folder + "/pipe")
+        for words, status in ((["--check"], 3), (["--write"], 3), (["--diff"], 3),
+                              (["--chek", "tidy.pgn"], 3), (["--drop", "tidy.pgn"], 3),
+                              (["--check", "--drop", "tidy.pgn"], 3),
+                              (["--stdin-name", "x", "tidy.pgn"], 3),
+                              (["--stdin-name", "x", "--write"], 3), (["--stdin-name"], 3),
+                              (["--check", "--write", "tidy.pgn"], 3), (["none.pgn"], 2),
+                              (["--write", "none.pgn"], 2), (["--check", "none.pgn"], 2),
+                              (["--check", "pipe"], 2), (["--output", "none/a", "tidy.pgn"], 2),
+                              (["--diff", "none.pgn"], 2), (["--check", "."], 2)):
             ran = self.call(*words)
             self.assertEqual((ran.returncode, ran.stdout, ran.stderr.count(b"\n")),
                              (status, b"", 1), (words, ran.stderr))
         self.write("program", b'#!/bin/sh\necho "out of memory" >&2\nexit 3\n')
         os.chmod(self.folder + "/program", 0o755)
         ran = self.call("tidy.pgn", program=self.folder + "/program")
-        self.check(ran, 3, b"", b"pgn_fmt: tidy.pgn: out of memory\n")
+        self.check(ran, 2, b"", b"pgn_fmt: tidy.pgn: out of memory\n")
 
     def test_output_that_cannot_be_written(self):
         with open("/dev/full", "wb") as full:
             for words in (["loose.pgn"], ["--check", "loose.pgn"]):
                 ran = self.call(*words, stdout=full)
-                self.assertEqual((ran.returncode, ran.stderr.count(b"\n")), (1, 1), ran.stderr)
+                self.assertEqual((ran.returncode, ran.stderr.count(b"\n")), (2, 1), ran.stderr)
+
+    def test_a_closed_output(self):
+        ran = run(["sh", "-c", '"$0" "$1" --write loose.pgn >&-', sys.executable, FMT],
+                  cwd=self.folder)
+        self.assertEqual((ran.returncode, ran.stderr),
+                         (2, b"pgn_fmt: standard output is closed\n"))
+        self.assertEqual(self.read("loose.pgn"), LOOSE)
+
+    def test_a_closed_pipe_ends_it_silently(self):
+        self.write("many.pgn", LOOSE * 3000)
+        for words in (["many.pgn"], ["--check", "loose.pgn"]):
+            ours, its = os.pipe()
+            os.close(ours)
+            with open(its, "wb") as closed:
+                ran = self.call(*words, stdout=closed)
+            self.assertEqual((ran.returncode, ran.stderr), (2, b""))
+
+    def test_standard_input_by_a_name(self):
+        """It can be checked and compared, and read twice for --checked."""
+        need("diff")
+        name = ["--stdin-name", "a b.pgn"]
+        self.check(self.call(*name, input=LOOSE), 0, TIDY)
+        self.check(self.call(*name, "--check", input=TIDY), 0, b"")
+        self.check(self.call(*name, "--check", input=LOOSE), 1, b"a b.pgn\n")
+        for words in ([], ["--check"], ["--diff"]):
+            self.check(self.call(*name, *words, input=BAD), 2, b"",
+                       b"pgn_fmt: a b.pgn: byte 15: not a move\n")
+        ran = self.call(*name, "--diff", input=LOOSE)
+        self.assertEqual((ran.returncode, ran.stderr), (1, b""))
+        self.assertEqual(ran.stdout.split(b"\n")[:2],
+                         [b"--- a b.pgn", b"+++ a b.pgn in export format"])
+        ran = self.call(*name, "--checked", input=b"1. e4 1-0")
+        self.assertEqual((ran.returncode, ran.stderr), (0, b""))
+        self.assertTrue(ran.stdout.endswith(b'[Result "1-0"]\n\n1. e4 1-0\n\n'), ran.stdout)
+        self.check(self.call(*name, "-o", "all.pgn", input=LOOSE), 0, b"")
+        self.assertEqual(self.read("all.pgn"), TIDY)
+
+    def test_write_refuses_a_read_only_file(self):
+        """Also as root, whom permissions do not bind. What is in form has nothing to write."""
+        for name in ("loose.pgn", "tidy.pgn"):
+            os.chmod(os.path.join(self.folder, name), 0o444)
+        self.check(self.call("--write", "loose.pgn", "tidy.pgn"), 2, b"",
+                   b"pgn_fmt: loose.pgn: is read-only; it is left as it is\n")
+        self.assertEqual(self.read("loose.pgn"), LOOSE)
+        os.chmod(self.folder + "/loose.pgn", 0o644)
+        self.check(self.call("--write", "loose.pgn"), 0, b"loose.pgn\n")
+
+    def test_write_tells_of_hard_links(self):
+        os.link(self.folder + "/loose.pgn", self.folder + "/other.pgn")
+        self.check(self.call("--write", "loose.pgn"), 0, b"loose.pgn\n",
+                   b"loose.pgn: had 2 hard links: those of other names keep the old text\n")
+        self.assertEqual((self.read("loose.pgn"), self.read("other.pgn")), (TIDY, LOOSE))
+        os.link(self.folder + "/loose.pgn", self.folder + "/third.pgn")
+        self.check(self.call("--write", "loose.pgn"), 0, b"")
+
+    def test_write_drops_nothing_by_itself(self):
+        """What has no place in export format is counted, and dropped with --drop alone."""
+        two = "2 comments before a game or inside a tag pair"
+        for text, kept, what in (
+                (b"{a} [White {; b} \"A\"] e4 e5 *", b"", two),
+                (b"; a\n;b\n" + LOOSE, b"", two),
+                (b'[White "A"] e4\n%c\n{% d\n%e} e5 *', b" { % d %e } 1...", "1 line with '%'"),
+                (b"%a\n" + LOOSE + b"\n%b\n", b"", "1 line with '%', 2 bytes behind the last game"),
+                (LOOSE + b" {ab}\n;c\n", b"", "7 bytes behind the last game")):
+            with self.subTest(text):
+                self.write("a.pgn", text)
+                ran = self.call("--write", "a.pgn")
+                self.check(ran, 2, b"", b"pgn_fmt: a.pgn: is left as it is: export format has no "
+                           b"place for %s (--diff shows them, --drop drops them)\n" % what.encode())
+                self.assertEqual(self.read("a.pgn"), text)
+                self.check(self.call("--write", "--drop", "a.pgn"), 0, b"a.pgn\n",
+                           b"a.pgn: dropped %s\n" % what.encode())
+                self.assertEqual(self.read("a.pgn"), TIDY.replace(b"1. e4", b"1. e4" + kept))
+        self.write("a.pgn", b"; a note\n")
+        self.assertEqual(self.call("--write", "a.pgn").returncode, 2)
+        self.assertEqual(self.read("a.pgn"), b"; a note\n")
+        # what is kept is no reason to refuse
+        self.write("a.pgn", b'\xef\xbb\xbf[White "{; A"] {a} e4 ; b {\n ({c}d4) *\n\n')
+        self.check(self.call("--write", "a.pgn"), 0, b"a.pgn\n")
 
     def test_signal_leaves_the_file(self):
         self.write("program", b"#!/bin/sh\nexec >&-\nexec 2>&-\nexec sleep 100\n")
@@ -178,6 +265,64 @@ class FmtTest(unittest.TestCase):
         self.assertEqual(sorted(os.listdir(self.folder)),
                          ["bad.pgn", "loose.pgn", "program", "tidy.pgn"])
         self.assertEqual(self.read("loose.pgn"), LOOSE)
+
+
+class LeftOut(unittest.TestCase):
+    """What is counted as left out, against what the export has."""
+
+    @classmethod
+    def setUpClass(cls):
+        os.environ.setdefault("GILLSPOON_LIBRARY", library())
+        sys.path.insert(0, PACKAGE)
+        cls.package = importlib.import_module("gillspoon")
+        cls.module = importlib.import_module("gillspoon._left_out")
+
+    def test_doctests(self):
+        self.assertEqual(doctest.testmod(self.module).failed, 0)
+
+    def count(self, text, reduced):
+        return self.module.left_out(text, False, reduced)
+
+    def test_exports_have_nothing_that_is_left_out(self):
+        for vector in vectors():
+            if "fault" not in vector and vector["output"].count("\n[") < 64:
+                found = self.count(vector["output"].encode(), vector["mode"] == "reduced")
+                self.assertEqual(found, (0, 0, 0), vector["file"])
+
+    def test_a_part_put_anywhere(self):
+        """A comment or an escape line is put at each place of an input that stays sound with it.
+
+        It is counted exactly if the export does not have it.
+        """
+        tried = {True: 0, False: 0}
+        for vector in vectors():
+            text = vector["input"].encode()
+            if "fault" not in vector and vector["mode"] == "full" and len(text) <= 300:
+                before = self.count(text, False)
+                for at in range(len(text) + 1):
+                    # in a comment that is left out a part is no comment of its own
+                    if self.is_kept(text[:at] + b" zqz " + text[at:]) is not False:
+                        for part in (b"{zqz}", b";zqz\n", b"\n%zqz\n"):
+                            self.check(text[:at] + part + text[at:], part, before, tried)
+        self.assertGreater(min(tried.values()), 1000)
+
+    def is_kept(self, text):
+        """Whether the export of a text has the word; None if there is no export."""
+        try:
+            return b"zqz" in self.package.convert(text)
+        except self.package.PgnFault:
+            return None
+
+    def check(self, text, part, before, tried):
+        is_kept = self.is_kept(text)
+        if is_kept is None:
+            return
+        after = self.count(text, False)
+        tried[is_kept] += 1
+        self.assertEqual(after == before, is_kept, (text, before, after))
+        if not is_kept and after.behind == before.behind:
+            more = after.comments - before.comments, after.escapes - before.escapes
+            self.assertEqual(more, (0, 1) if b"%" in part else (1, 0), (text, before, after))
 
 
 if __name__ == "__main__":

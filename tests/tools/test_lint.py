@@ -2,6 +2,7 @@
 """Tests of pgn_lint: what it says of bad games, its options, its statuses, and what reads it."""
 import bz2
 import doctest
+import glob
 import gzip
 import importlib
 import json
@@ -20,7 +21,7 @@ sys.path.insert(0, os.path.dirname(os.path.realpath(__file__)))
 import programs
 from documents import blocks_of, lines_of, table
 from programs import ROOT, need, not_tried, run, vectors
-from test_python import PACKAGE, library
+from test_python import PACKAGE, REAL, library
 
 LINT = ROOT + "/bin/pgn_lint"
 INITIAL = "rnbqkbnr/pppppppp/8/8/8/8/PPPPPPPP/RNBQKBNR w KQkq - 0 1"
@@ -165,6 +166,8 @@ BOARDS = {
   ^
 """,
 }
+PACKERS = ((".gz", gzip.compress), (".bz2", bz2.compress), (".zst", lambda it: subprocess.run(
+    ["zstd", "-qc"], input=it, stdout=subprocess.PIPE, check=True).stdout))
 QUEENS = "1k6/8/8/8/4Q2Q/8/8/K6Q w - - 0 1"
 KINGS = "4k3/8/8/8/8/8/8/4K3 %s - - 0 %s"
 CASTLING = ("White may not castle by %s here: the right is lost, a square between is occupied, "
@@ -231,20 +234,23 @@ def record(required, **properties):
             "additionalProperties": False}
 
 
-def array(items):
-    return {"type": "array", "items": items}
+def array(items, **more):
+    return {"type": "array", "items": items, **more}
 
 
+# What RFC 3986 lets a reference have: letters, digits, some signs, and bytes in hexadecimal.
+URI = {"type": "string", "pattern": r"^(?:[\w.~:/?#@!$&'()*+,;=-]|%[0-9A-F]{2})+$"}
+RULE = {"type": "string", "pattern": r"^PGN\d\d$"}
 # What SARIF 2.1.0 requires of a log, of those properties that are used here.
 SARIF = record(
     ["version", "runs"],
-    **{"$schema": {"type": "string", "format": "uri"}},
+    **{"$schema": URI},
     version={"enum": ["2.1.0"]},
-    runs=array(record(
+    runs=array(minItems=1, items=record(
         ["tool"],
         tool=record(["driver"], driver=record(
             ["name"], name={"type": "string"},
-            rules=array(record(["id"], id={"type": "string"}, shortDescription=TEXT)))),
+            rules=array(record(["id"], id=RULE, shortDescription=TEXT), uniqueItems=True))),
         invocations=array(record(
             ["executionSuccessful"], executionSuccessful={"type": "boolean"},
             toolExecutionNotifications=array(record(
@@ -252,14 +258,14 @@ SARIF = record(
                 level={"enum": ["none", "note", "warning", "error"]})))),
         columnKind={"enum": ["utf16CodeUnits", "unicodeCodePoints"]},
         results=array(record(
-            ["message"], ruleId={"type": "string"}, message=TEXT,
+            ["message"], ruleId=RULE, message=TEXT,
             level={"enum": ["none", "note", "warning", "error"]},
             locations=array(record([], physicalLocation=record(
                 ["artifactLocation"],
-                artifactLocation=record([], uri={"type": "string", "format": "uri-reference"}),
-                region=record([], startLine={"type": "integer", "minimum": 1},
+                artifactLocation=record(["uri"], uri=URI),
+                region=record(["startLine"], startLine={"type": "integer", "minimum": 1},
                               startColumn={"type": "integer", "minimum": 1},
-                              byteOffset={"type": "integer", "minimum": -1})))))))))
+                              byteOffset={"type": "integer", "minimum": 0})))))))))
 
 
 def setUpModule():
@@ -337,18 +343,34 @@ class Faults(Lint):
         self.assertEqual(lines[2][2:], " " * 63 + "^")
 
     def test_vectors(self):
-        tried = 0
-        for vector in vectors():
-            if vector.get("fault", {}).get("number") in (34, 35, 36):
-                with self.subTest(vector["file"]):
-                    self.put("a.pgn", vector["input"].encode())
-                    found = self.records("a.pgn")[0]
-                    self.assertEqual((found["number"], found["offset"]),
-                                     (vector["fault"]["number"], vector["fault"]["place"]))
-                    self.assertEqual((found["fen"], found["explanation"]),
-                                     VECTORS[vector["file"]])
-                    tried += 1
-        self.assertEqual(tried, len(VECTORS))
+        """Each vector with a fault of a move: its position, the board of it, and the sentence."""
+        wanted = {it["file"]: it for it in vectors()
+                  if it.get("fault", {}).get("number") in (34, 35, 36)}
+        self.assertEqual(set(wanted), set(VECTORS))
+        for name, vector in wanted.items():
+            self.put("all/%s.pgn" % name, vector["input"].encode())
+        found, boards = {}, self.boards("all")
+        for it in self.records("all"):
+            found.setdefault(it.get("file"), it)
+        for name, vector in wanted.items():
+            with self.subTest(name):
+                first = found["all/%s.pgn" % name]
+                self.assertEqual((first["number"], first["offset"]),
+                                 (vector["fault"]["number"], vector["fault"]["place"]))
+                self.assertEqual((first["fen"], first["explanation"]), VECTORS[name])
+                self.assertEqual(boards["all/%s.pgn" % name], first["fen"].split()[:2])
+
+    def boards(self, folder):
+        """For each file the first two fields of a FEN, as the first board of it shows them."""
+        found = {}
+        for name, lines in re.findall(r"(?m)^(\S+\.pgn):\d+:\d+: .*\n((?:  .*\n)+)", self.lint(
+                "--board", "--quiet", folder)[1]):
+            rows = re.findall(r"(?m)^  [1-8]  ((?:[.\w] ){7}[.\w])$", lines)
+            fields = "/".join(re.sub(r"\.+", lambda it: str(len(it[0])), row.replace(" ", ""))
+                              for row in rows)
+            side = re.search(r"(?m)^     a b c d e f g h   (White|Black) to move$", lines)[1]
+            found.setdefault(name, [fields, side[0].lower()])
+        return found
 
     def test_doctests(self):
         sys.path.insert(0, PACKAGE)
@@ -358,6 +380,54 @@ class Faults(Lint):
 
 
 class Files(Lint):
+    def test_real_files(self):
+        """58 files in a folder: of each the faults that pgn_sieve finds by the program."""
+        need("zstd")
+        paths = sorted(glob.glob(REAL, recursive=True)) or not_tried("pychess is missing")
+        paths += glob.glob("/usr/share/pgn-extract/eco.pgn") or not_tried("pgn-extract is missing")
+        texts, games = {}, 0
+        for number, path in enumerate(paths):
+            with open(path, "rb") as file:
+                texts["real/%02d.pgn" % number] = file.read()
+        # the rest of the 58 are some of them once more, compressed
+        packed = list(texts)[:58 - len(texts)]
+        for number, name in enumerate(packed):
+            end, pack = PACKERS[number % len(PACKERS)]
+            texts[name + end] = texts[name]
+            self.put(name + end, pack(texts[name]))
+        for name in [it for it in texts if it.endswith(".pgn")]:
+            self.put(name, texts[name])
+        self.assertEqual(len(texts), 58)
+        *found, summary = self.records("real")
+        sieved = {it: self.sieved(it, texts[it]) for it in texts if it.endswith(".pgn")}
+        wanted = []
+        for name in sorted(texts):
+            count, faults = sieved[name[:len("real/00.pgn")]]
+            games += count
+            wanted += [(name, *it) for it in faults]
+        self.assertEqual([(it["file"], it["offset"], it["reason"], it["line"]) for it in found],
+                         wanted)
+        self.assertEqual(summary, {
+            "kind": "summary", "files": 58, "games": games, "faults": len(wanted),
+            "bad_files": len({it[0] for it in wanted})})
+        self.assertGreater(len(wanted), 5)
+        self.assertGreater(games, 3000)
+        words = self.lint("-j", "4", "real")[1].splitlines()[-1]
+        self.assertEqual(words, "58 files, %s games, %d faults in %d files" % (
+            format(games, ","), len(wanted), summary["bad_files"]))
+
+    def sieved(self, name, text):
+        """How many games pgn_sieve finds in a file, and their faults: offset, reason and line."""
+        ran = run([ROOT + "/bin/pgn_sieve", name, "/dev/null", "bad"], cwd=self.folder,
+                  env=dict(self.env, PGN_TOOL=programs.need_program()))
+        self.assertEqual(ran.stderr, b"")
+        good, bad = map(int, re.findall(rb"(?m)^[\w/.]+: (\d+) (?:bad )?games?\b", ran.stdout))
+        with open(self.folder + "/bad", "rb") as file:
+            notes = re.findall(r"(?m)^% byte (\d+): (.*); line \d+$", file.read().decode("latin-1"))
+        self.assertEqual(len(notes), bad)
+        return good + bad, [(int(at), reason, 1 + len(re.findall(rb"\r\n?|\n", text[:int(at)])))
+                            for at, reason in notes]
+
     def test_a_folder(self):
         need("zstd")
         self.put("all/b.pgn", GOOD)
@@ -506,7 +576,8 @@ class Options(Lint):
             import jsonschema
         except ImportError:
             not_tried("python3-jsonschema is missing")
-        self.put("my games/a:b.pgn", BAD + b"\n" + WAYS["an exposed king"][0] + b'\n[White "Cy"]\n\n1. e4 &\n')
+        self.put("my games/a:b.pgn", BAD + b"\n" + WAYS["an exposed king"][0]
+                 + b'\n[White "Cy"]\n\n1. e4 &\n')
         status, out, _ = self.lint("--sarif", "my games", "missing")
         log = json.loads(out)
         jsonschema.validate(log, SARIF)
@@ -527,9 +598,50 @@ class Options(Lint):
                          {"my%20games/a%3Ab.pgn"})
         self.assertEqual(ran["results"][0]["message"]["text"],
                          BAD_LINE[6:] + ". The white king cannot go to e3.")
-        for broken in ({}, {"version": "2.1.0"}, {"version": "2", "runs": []}):
-            with self.assertRaises(jsonschema.ValidationError):
+        self.check_that_the_schema_refuses(log, jsonschema)
+
+    def check_that_the_schema_refuses(self, log, jsonschema):
+        """Each place of the log with another value, and without what has to be there."""
+        run, result = ("runs", 0), ("runs", 0, "results", 0)
+        place = result + ("locations", 0, "physicalLocation")
+        rules = log["runs"][0]["tool"]["driver"]["rules"]
+        for path, value in (
+                (("version",), "2"), (("version",), None), (("runs",), []), (("runs",), None),
+                (run + ("tool",), None), (run + ("tool", "driver", "name"), None),
+                (run + ("tool", "driver", "rules", 0, "id"), None),
+                (run + ("tool", "driver", "rules", 1), rules[0]),
+                (run + ("invocations", 0, "executionSuccessful"), None),
+                (run + ("columnKind",), "bytes"), (result + ("message",), None),
+                (result + ("message", "text"), None), (result + ("level",), "bad"),
+                (result + ("ruleId",), "34"), (place + ("artifactLocation", "uri"), "a b.pgn"),
+                (place + ("region", "startLine"), 0), (place + ("region", "startColumn"), 0),
+                (place + ("region", "endline"), 1)):
+            broken = json.loads(json.dumps(log))
+            at = broken
+            for it in path[:-1]:
+                at = at[it]
+            if value is None:
+                del at[path[-1]]
+            else:
+                at[path[-1]] = value
+            with self.assertRaises(jsonschema.ValidationError, msg=path):
                 jsonschema.validate(broken, SARIF)
+
+    def test_sarif_of_each_way_to_be_bad(self):
+        try:
+            import jsonschema
+        except ImportError:
+            not_tried("python3-jsonschema is missing")
+        for name, (text, _) in WAYS.items():
+            self.put("ways/" + name + ".pgn", text)
+        self.put("ways/a\n%\u00fc.pgn", BAD)
+        log = json.loads(self.lint("--sarif", "ways")[1])
+        jsonschema.validate(log, SARIF)
+        ran, = log["runs"]
+        self.assertEqual(len(ran["results"]), 27)
+        rules = {it["id"] for it in ran["tool"]["driver"]["rules"]}
+        self.assertEqual({it["ruleId"] for it in ran["results"]}, rules)
+        self.assertIn("ways/a%0A%25%C3%BC.pgn", json.dumps(ran["results"]))
 
     def test_sarif_of_sound_files(self):
         self.put("a.pgn", GOOD)
@@ -559,12 +671,23 @@ class Options(Lint):
 
 
 class Streams(Lint):
-    def test_a_closed_pipe(self):
+    def test_a_closed_pipe_ends_it_silently(self):
         self.put("a.pgn", (BAD + b"\n") * 3000)
-        ran = run(["bash", "-c", "pgn_lint a.pgn | head -n 1; echo ${PIPESTATUS[0]}"],
-                  cwd=self.folder, env=self.env)
-        self.assertEqual(ran.stdout.decode().splitlines(), ["a.pgn:" + BAD_LINE, "2"])
-        self.assertEqual(ran.stderr, b"pgn_lint: output cannot be written: Broken pipe\n")
+        for words in ("", "--json", "-j2 a.pgn", "--board"):
+            script = "pgn_lint %s a.pgn | head -n 1; echo ${PIPESTATUS[0]}" % words
+            ran = run(["bash", "-c", script], cwd=self.folder, env=self.env)
+            first, status = ran.stdout.decode().splitlines()
+            self.assertIn("move is not legal", first)
+            self.assertEqual((status, ran.stderr), ("2", b""))
+
+    def test_a_closed_pipe_while_processes_write(self):
+        """What they have to say is more than a pipe holds, so that some end in the midst of it."""
+        self.put("a.pgn", (BAD + b"\n") * 1000)
+        script = "pgn_lint -j4%s | head -n 1; echo ${PIPESTATUS[0]}" % (8 * " a.pgn")
+        for _ in range(6):
+            ran = run(["bash", "-c", script], cwd=self.folder, env=self.env, timeout=20)
+            self.assertEqual(ran.stdout.decode().splitlines(), ["a.pgn:" + BAD_LINE, "2"])
+            self.assertEqual(ran.stderr, b"")
 
     def test_a_full_device(self):
         self.put("a.pgn", BAD)
@@ -604,6 +727,24 @@ class Streams(Lint):
         self.put("b.pgn", GOOD)
         self.assertEqual(self.interrupted("-j", "2", "pipe.pgn", "b.pgn"),
                          (-signal.SIGINT, b""))
+
+    def test_a_process_that_is_killed(self):
+        """As for lack of memory: it is no fault of a file, and no traceback."""
+        os.mkfifo(self.folder + "/pipe.pgn")
+        self.put("b.pgn", GOOD)
+        with subprocess.Popen([LINT, "-j", "2", "b.pgn", "pipe.pgn"], cwd=self.folder,
+                              env=self.env, stdout=subprocess.PIPE,
+                              stderr=subprocess.PIPE) as child:
+            # once this opens, a process reads the other end
+            with open(self.folder + "/pipe.pgn", "wb", buffering=0) as pipe:
+                pipe.write(b"1. e4 ")
+                with open("/proc/%d/task/%d/children" % (child.pid, child.pid),
+                          encoding="ascii") as children:
+                    for process in children.read().split():
+                        os.kill(int(process), signal.SIGKILL)
+                _, told = child.communicate(timeout=20)
+        self.assertEqual((child.returncode, told), (
+            2, b"pgn_lint: a process ended before its file was checked; try again without -j\n"))
 
     def test_colours_on_a_terminal_alone(self):
         self.put("a.pgn", BAD)

@@ -109,8 +109,11 @@ class Whole(Recipe):
         self.assertEqual((ran.returncode, ran.stderr), (1, b""))
         self.assertTrue(ran.stdout.startswith(b"games.pgn:2:4: move is not legal (game 1, "))
         ran = self.recipe("See where a fault is", 1)
-        self.assertEqual((ran.returncode, ran.stderr), (0, b""))
+        self.assertEqual((ran.returncode, ran.stderr), (1, b""))
         self.assertIn(b"Ke3", ran.stdout)
+        self.put("games.pgn", "1. e4 e5 *\n")
+        ran = self.recipe("See where a fault is", 1)
+        self.assertEqual((ran.returncode, ran.stdout), (0, b"games: 1, plies: 2\n"))
 
     def test_set_bad_games_aside(self):
         bad = '[Event "bad"]\n\n1. e4 e5 2. Ke3 *\n\n'
@@ -299,6 +302,83 @@ class Mended(Recipe):
             + game("1. c4 *", Event="c")
         said = self.mend("Missing result", text, "byte 38: tag in movetext", wanted)
         self.assertEqual(said, "3\ngames: 3, plies: 4\n")
+
+    def counted(self, said, *numbers):
+        """Whether a recipe printed these numbers of games and faults, and other lines between."""
+        lines = said.split("\n")[:-1]
+        found = [re.fullmatch(r"1 file, (\d+) games?, (\d+) faults?( in 1 file)?", it)
+                 for it in (lines[0], lines[-1])]
+        self.assertEqual([(int(it[1]), int(it[2])) for it in found], list(numbers))
+        return lines[1:-1]
+
+    def test_unknown_results_in_tags(self):
+        text = '[White "a"]\n[Result "*"]\n\n1. e4 {x} 1-0\n\n[White "b"]\r\n[Result "*"]\r\n\r\n' \
+            '1. d4 *\r\n\r\n[White "c"]\n[Result "0-1"]\n\n1. c4 0-1\n\n' \
+            '[White "d"]\r\n[Result "*"] \r\n\r\n1. f4 1/2-1/2\r\n'
+        wanted = game("1. e4 { x } 1-0", "1-0", White="a") + game("1. d4 *", White="b") \
+            + game("1. c4 0-1", "0-1", White="c") + game("1. f4 1/2-1/2", "1/2-1/2", White="d")
+        said = self.mend("Unknown results in tags", text,
+                         "byte 36: result differs from the Result tag", wanted)
+        self.assertEqual(self.counted(said, (4, 2), (4, 0)), ["3", "1"])
+        # a line of a comment goes too, as the recipe says, and a tag that shares its line stays
+        self.put("games.pgn", '1. e4 {a\n[Result "*"]\nb} *')
+        self.recipe("Unknown results in tags")
+        self.assertEqual(self.get("mended.pgn").decode(), game("1. e4 { a b } *"))
+        self.put("games.pgn", '[Result "*"] [White "a"]\n\n1. e4 1-0')
+        self.assertIn(b"result differs", self.recipe("Unknown results in tags").stderr)
+
+    def test_draws_written_in_short(self):
+        text = '[Round "1/2"]\n[Result "1/2"]\n\n1. e4 {1/2 a} e5 ; 1/2\n1/2\n\n' \
+            '[Round "2"]\n\n1. d4 1/2-1/2\n\n[Round "1-1/2"]\n[Result "1/2-1/2"]\n\n1. c4 {x}1/2'
+        wanted = game("1. e4 { 1/2 a } 1... e5 { 1/2 } 1/2-1/2", "1/2-1/2", Round="1/2")
+        self.put("games.pgn", text)
+        said = self.recipe("Draws written 1/2").stdout.decode()
+        self.counted(said, (3, 3), (3, 1))
+        text = text.replace('[Round "2"]\n', '[Round "2"]\n[Result "1/2-1/2"]\n')
+        said = self.mend("Draws written 1/2", text, "byte 22: bad result value", wanted
+                         + game("1. d4 1/2-1/2", "1/2-1/2", Round="2")
+                         + game("1. c4 { x } 1/2-1/2", "1/2-1/2", Round="1-1/2"))
+        self.counted(said, (3, 2), (3, 0))
+        # an offer of a draw ends the game, and the number of games shows it
+        self.put("games.pgn", '[Result "1/2-1/2"]\n\n1. e4 1/2 e5 1/2-1/2\n')
+        self.counted(self.recipe("Draws written 1/2").stdout.decode(), (1, 1), (2, 1))
+
+    def test_en_passant(self):
+        for words in ("exd6 e.p.", "exd6e.p.", "exd6 ep", "exd6\nep."):
+            text = '[White "e6 e.p."]\n1. e4 {d6 ep} a6 2. e5 d5 3. %s *' % words
+            message = "byte %d: not a move" % (
+                text.index("exd6") + (5 if words[4] in " \n" else 0))
+            wanted = game("1. e4 { d6 ep } 1... a6 2. e5 d5 3. exd6 *", White="e6 e.p.")
+            self.counted(self.mend("En passant with e.p.", text, message, wanted), (1, 1), (1, 0))
+            self.assertTrue(self.get("mended.pgn").endswith(b" 3. exd6 *"))
+        check = '[FEN "3k4/2p5/8/3P4/K7/8/8/3R4 b - - 0 1"]\n\n1... c5 2. dxc6+ e.p. *\n'
+        self.put("games.pgn", check)
+        self.counted(self.recipe("En passant with e.p.").stdout.decode(), (1, 1), (1, 0))
+        # a capture that is not en passant is accepted, and one that is not legal is not
+        taken = "1. e4 d6 2. e5 a6 3. exd6 e.p. *"
+        self.put("games.pgn", taken)
+        self.counted(self.recipe("En passant with e.p.").stdout.decode(), (1, 1), (1, 0))
+        self.put("games.pgn", taken.replace("d6 2", "d5 2").replace("e5", "a3"))
+        self.counted(self.recipe("En passant with e.p.").stdout.decode(), (1, 1), (1, 1))
+
+    def test_promotions(self):
+        fen = "8/P6k/8/8/8/8/8/K7 w - - 0 1"
+        head = '[Event "a8=q"]\n[FEN "%s"]\n\n1. ' % fen
+        for words, letter in (("a8=q", "Q"), ("a8q", "Q"), ("a8(Q)", "Q"), ("a7a8(=b)", "B"),
+                              ("a8=n", "N"), ("a8r", "R")):
+            text = head + words + " {a8=q} *"
+            self.put("games.pgn", text)
+            said = self.recipe("Promotions in small letters")
+            self.assertEqual(said.stderr, b"")
+            self.counted(said.stdout.decode(), (1, 1), (1, 0))
+            exported = self.shell("pgn_tool export mended.pgn").stdout.decode()
+            self.assertIn("\n\n1. a8=%s { a8=q } *\n" % letter, exported)
+            self.assertIn('[Event "a8=q"]\n', exported)
+        # other moves and variations are left alone
+        text = '[FEN "r5k1/8/8/8/8/8/8/R5K1 w - - 0 1"]\n\n1. a1a8 (1. Ra8) (1. a1b1) *\n'
+        self.put("games.pgn", text)
+        self.recipe("Promotions in small letters")
+        self.assertEqual(self.get("mended.pgn").decode(), text)
 
     def test_half_signs(self):
         text = '[Result "½-½"]\n\n1. e4 ½-½\n'

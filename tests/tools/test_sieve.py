@@ -13,6 +13,7 @@ import time
 import unittest
 
 sys.path.insert(0, os.path.dirname(os.path.realpath(__file__)))
+import programs
 from programs import ROOT, need_program, run
 
 SIEVE = ROOT + "/bin/pgn_sieve"
@@ -70,14 +71,17 @@ BAD = [
 ]
 
 
-def call(words):
+def call(words, **more):
     """Runs the sieve with the built program."""
     env = dict(os.environ, PGN_TOOL=need_program())
-    return run([sys.executable, SIEVE, *words], env=env)
+    return run([sys.executable, SIEVE, *words], env=env, **more)
 
 
-def export(text):
-    ran = run([need_program(), "export"], input=text)
+def export(text, *options):
+    with tempfile.NamedTemporaryFile() as file:
+        file.write(text)
+        file.flush()
+        ran = run([need_program(), "export", *options, file.name])
     assert ran.returncode == 0, (ran.stderr, text)
     return ran.stdout
 
@@ -85,7 +89,7 @@ def export(text):
 class Sieved:
     """A run of the sieve on a text, and its two outputs."""
 
-    def __init__(self, test, text):
+    def __init__(self, test, text, *options):
         need_program()
         self.folder = tempfile.mkdtemp()
         test.addCleanup(shutil.rmtree, self.folder)
@@ -93,7 +97,7 @@ class Sieved:
         with open(self.paths[0], "wb") as file:
             file.write(text)
         self.text = text
-        self.ran = call([*self.paths])
+        self.ran = call([*options, *self.paths])
         self.good, self.bad = (self.read(it) for it in self.paths[1:])
         found = list(NOTE.finditer(self.bad))
         ends = [it.start() for it in found[1:]] + [len(self.bad)]
@@ -293,7 +297,7 @@ class SieveTest(unittest.TestCase):
         os.link(file, link)
         for words in ([file, file, other], [file, other, link], [file, other, other], [file],
                       [file, other, folder],
-                      ["/dev/null", folder + "/g", other], [file, "/dev/null", other]):
+                      ["/dev/null", folder + "/g", other], [file, "/dev/zero", other]):
             ran = call([*words])
             self.assertEqual((ran.returncode, ran.stdout, ran.stderr.count(b"\n")), (2, b"", 1),
                              (words, ran.stderr))
@@ -305,6 +309,92 @@ class SieveTest(unittest.TestCase):
         self.assertEqual(sorted(os.listdir(folder)), ["a.pgn", "link.pgn"])
         with open(file, "rb") as text:
             self.assertEqual(text.read(), sound(b"A"))
+
+    def test_a_pipe_is_refused(self):
+        """Its name is in the message, and what to do; no writer is waited for."""
+        done = Sieved(self, sound(b"A"))
+        os.mkfifo(done.folder + "/pipe")
+        ran = call([done.folder + "/pipe", *done.paths[1:]])
+        self.assertEqual((ran.returncode, ran.stdout, ran.stderr.decode()), (
+            2, b"", "pgn_sieve: %s/pipe: is a pipe, and FILE is read more than once: give -, and "
+            "the pipe as standard input\n" % done.folder))
+        self.assertEqual(done.read(done.paths[1]), export(sound(b"A")))
+
+    def test_standard_input(self):
+        text = sound(b"A") + BAD[0][1] + b"\n" + sound(b"B") + BAD[-1][1]
+        done = Sieved(self, text)
+        with open(done.paths[0], "rb") as file:
+            for more in ({"input": text}, {"stdin": file}):
+                ran = call(["-", done.folder + "/g", done.folder + "/b"], **more)
+                self.assertEqual((ran.returncode, ran.stderr), (1, b""))
+                self.assertEqual(done.read(done.folder + "/g"), done.good)
+                self.assertEqual(done.read(done.folder + "/b"), done.bad)
+        self.assertEqual(call(["-", *done.paths[1:]], input=sound(b"A")).returncode, 0)
+
+    def test_dev_null_as_an_output(self):
+        text = sound(b"A") + BAD[0][1] + b"\n" + sound(b"B") + BAD[-1][1]
+        done, null = Sieved(self, text), "/dev/null"
+        before = os.stat(null)
+        for good, bad in ((null, done.folder + "/b"), (done.folder + "/g", null), (null, null)):
+            ran = call([done.paths[0], good, bad])
+            self.assertEqual((ran.returncode, ran.stderr), (1, b""))
+            said = done.ran.stdout.replace(done.paths[1].encode(), good.encode())
+            said = said.replace(done.paths[2].encode(), bad.encode())
+            if bad == null:
+                said = said.replace(b"games set aside", b"games dropped")
+            self.assertEqual(ran.stdout, said)
+        self.assertEqual(done.read(done.folder + "/g"), done.good)
+        self.assertEqual(done.read(done.folder + "/b"), done.bad)
+        after = os.stat(null)
+        self.assertEqual((before.st_ino, before.st_rdev), (after.st_ino, after.st_rdev))
+
+    def test_checked(self):
+        """A missing Result takes the marker; one that is there is compared as ever."""
+        won = b'[Event "w"]\n\n1. e4 {a} e5 1-0\n\n'
+        text = won + sound(b"A") + b'[Result "0-1"]\n\n1. d4 1-0\n\n' + won
+        done = Sieved(self, text)
+        self.assertEqual([it[1] for it in done.notes], [b"result differs from the Result tag"] * 3)
+        done = Sieved(self, text, "--checked")
+        self.assertEqual((done.ran.returncode, done.ran.stderr), (1, b""))
+        self.assertEqual(done.good, export(won + sound(b"A") + won, "--checked"))
+        self.assertEqual(done.pieces, [b'[Result "0-1"]\n\n1. d4 1-0\n\n'])
+        self.assertIn(b"good.pgn: 3 games\nbad.pgn: 1 bad game",
+                      re.sub(rb"(?m)^.*/", b"", done.ran.stdout))
+        self.assertEqual(export(done.good), done.good)
+        done = Sieved(self, won, "--checked")
+        self.assertEqual((done.ran.returncode, done.good, done.bad),
+                         (0, export(won, "--checked"), b""))
+
+    def test_checked_finds_the_same_bad_games(self):
+        """Where each result is that of its tag or `*`, it changes nothing."""
+        text = b"".join(sound(b"%d" % n) + it[1] + b"\n" for n, it in enumerate(BAD))
+        one, other = Sieved(self, text), Sieved(self, text, "--checked")
+        self.check(one, [it[1] for it in BAD])
+        self.assertEqual((one.good, one.bad, one.ran.returncode),
+                         (other.good, other.bad, other.ran.returncode))
+
+    def test_faults_on_a_terminal(self):
+        need_program()
+        bad = b'[White "M\xc3\xbcller"]\n[Black "\x1b[2J"]\n\n1. e4 {\xc3\xa4} e9 *\n\n'
+        done = Sieved(self, sound(b"A") + bad.replace(b"\x1b[2J", b"Bob") + bad)
+        self.assertNotIn(b"not a move", done.ran.stdout)
+        env = dict(os.environ, PGN_TOOL=need_program(), LC_ALL="C.UTF-8")
+        for words, name in ((done.paths[:1], done.paths[0]), (["-"], "<stdin>")):
+            words = [sys.executable, SIEVE, *words, *done.paths[1:]]
+            script = " ".join(words) + " <" + done.paths[0]
+            shown = programs.on_a_terminal(["sh", "-c", script], env=env)
+            self.assertEqual(shown.split("\n")[:2], [
+                name + ":9:11: not a move (game 2, M\u00fcller \u2013 Bob)",
+                name + ":12:9: control byte (game 3, M\u00fcller \u2013 \ufffd[2J)"])
+            self.assertEqual(len(shown.split("\n")), 6)
+
+    def test_a_closed_pipe_ends_it_silently(self):
+        done = Sieved(self, sound(b"A"))
+        ours, its = os.pipe()
+        os.close(ours)
+        with open(its, "wb") as closed:
+            ran = call(done.paths, stdout=closed)
+        self.assertEqual((ran.returncode, ran.stderr), (1, b""))
 
     def test_without_the_library(self):
         done = Sieved(self, sound(b"A"))

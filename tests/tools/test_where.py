@@ -1,5 +1,7 @@
 #!/usr/bin/env python3
 """Tests of bin/pgn_where."""
+import bz2
+import gzip
 import os
 import shutil
 import subprocess
@@ -8,10 +10,11 @@ import tempfile
 import unittest
 
 sys.path.insert(0, os.path.dirname(os.path.realpath(__file__)))
-from programs import ROOT, need_program, run
+from programs import ROOT, need, need_program, run
 
 WHERE = ROOT + "/bin/pgn_where"
 TAGS = b'[Event "Cup"]\n[White "Ann"]\n[Black "Bob"]\n\n'
+GAME = 'game 1: White "Ann", Black "Bob", Event "Cup"\n'
 
 
 class WhereTest(unittest.TestCase):
@@ -164,37 +167,170 @@ class WhereTest(unittest.TestCase):
         for task in ("check", "export", "list"):
             told = subprocess.run([program, task, self.file], stdout=subprocess.PIPE,
                                   stderr=subprocess.STDOUT, check=False).stdout
+            before, _, message = told.rpartition(b"byte ")
+            self.assertEqual(message, b"120: move is not legal\n")
             ran = self.call([self.file], input=told)
-            lines = ran.stdout.decode().split("\n")
-            told = ": line 11, column 13 (byte 120): move is not legal"
-            self.assertTrue(lines[0].endswith(told), lines)
-            self.assertEqual(lines[1][lines[2].index("^"):], "Ke3 *")
-            self.assertTrue(lines[3].startswith("game 2: "))
+            self.assertEqual((ran.returncode, ran.stderr), (1, b""))
+            self.assertEqual(ran.stdout.decode(), before.decode() + self.file +
+                             ": line 11, column 13 (byte 120): move is not legal\n"
+                             "1. e4 e5 2. Ke3 *\n            ^\n"
+                             'game 2: White "Ann", Black "Bob", Event "Cup"\n')
 
-    def test_the_last_of_several_messages_is_shown(self):
+    def test_other_lines_are_passed_on(self):
+        """A sound file has no message, so all lines are passed on, and the status is 0."""
         with open(self.file, "wb") as file:
             file.write(TAGS + b"1. e4 *\n")
-        many = b"byte 1: no\n" * (1 << 17)  # more than a block of pgn_files
-        for before in (b"byte 1: no\n", b"byte 1: no\ngames: 1, plies: 0\n", many):
-            ran = self.call([self.file], input=before + b"byte 46: not a move\n")
-            self.assertEqual((ran.returncode, ran.stderr), (0, b""))
-            told = ": line 5, column 4 (byte 46): not a move"
-            self.assertTrue(ran.stdout.decode().split("\n")[0].endswith(told), ran.stdout)
+        told = subprocess.run([need_program(), "check", self.file], stdout=subprocess.PIPE,
+                              stderr=subprocess.STDOUT, check=False).stdout
+        self.assertEqual(told, b"games: 1, plies: 1\n")
+        for told in (told, b"", b"a\xff\n\r\nb", b"x" * (1 << 21) + b"\n", b"byte 3:\n",
+                     b"a byte 3: no\n", b'{"kind": "fault", "file": 1}\n',
+                     b"a.pgn:3: move is not legal (game 1, A - B)\n", b"a.pgn\n",
+                     b"pgn_lintx: a\n", b'{"kind": "fault", \n'):
+            ran = self.call([self.file], input=told)
+            self.assertEqual((ran.returncode, ran.stdout, ran.stderr), (0, told, b""))
+
+    def test_lines_that_say_that_something_failed(self):
+        """They are passed on, and the status says so."""
+        with open(self.file, "wb") as file:
+            file.write(TAGS + b"1. e4 *\n")
+        for told in (b"byte 0: input cannot be read\n", b"byte 3: output cannot be written\n",
+                     b"output cannot be written\n", b"out of memory\n",
+                     b"arguments cannot be read\n", b"pgn_lint: x: No such file or directory\n",
+                     b"pgn_fmt: x: No such file or directory\n", b"pgn_sieve: x\n",
+                     b"error: unexpected argument 'x' found\n"):
+            ran = self.call([self.file], input=told + b"more\n")
+            self.assertEqual((ran.returncode, ran.stdout, ran.stderr), (1, told + b"more\n", b""))
+
+    def test_each_message_is_shown(self):
+        with open(self.file, "wb") as file:
+            file.write(TAGS + b"1. e4 *\n")
+        ran = self.call([self.file], input=b"byte 1: no\ngames: 1\nbyte 46: not a move\n")
+        self.assertEqual((ran.returncode, ran.stderr), (1, b""))
+        game = 'game 1: White "Ann", Black "Bob", Event "Cup"'
+        self.assertEqual(ran.stdout.decode().split("\n"), [
+            self.file + ": line 1, column 2 (byte 1): no", '[Event "Cup"]', " ^", game, "games: 1",
+            self.file + ": line 5, column 4 (byte 46): not a move", "1. e4 *", "   ^", game, ""])
+        many = b"1. e4 e5\n" * (1 << 17)  # more than a block of pgn_files
+        ran = self.call([self.file], input=many + b"byte 46: not a move\n")
+        self.assertTrue(ran.stdout.startswith(many + self.file.encode() + b": line 5, column 4 ("))
+
+    def messages(self, words, *more):
+        """What pgn_where shows of the messages of a command that runs in the folder."""
+        env = dict(os.environ, LC_ALL="C.UTF-8", PGN_TOOL=need_program(), COLUMNS="80")
+        told = run([ROOT + "/bin/" + words[0], *words[1:]], cwd=self.folder, env=env,
+                   stderr=subprocess.STDOUT).stdout
+        ran = run([sys.executable, WHERE, *more], cwd=self.folder, env=env, input=told)
+        self.assertEqual((ran.returncode, ran.stderr), (1, b""), told)
+        return ran.stdout.decode()
+
+    def put(self, name, text):
+        with open(os.path.join(self.folder, name), "wb") as file:
+            file.write(text)
+
+    def test_messages_of_pgn_lint(self):
+        bad = TAGS + b"1. e4 e5 2. Ke3 *\n\n"
+        name = "a\n: 1:2 \u00fc.pgn"
+        self.put(name, bad + TAGS + b"1. e4 *\n\n" + bad)
+        shown = "a\\n: 1:2 \u00fc.pgn: line %d, column 13 (byte %d): move is not legal " \
+            "(game %d, Ann \u2013 Bob)\n1. e4 e5 2. Ke3 *\n            ^\n"
+        wanted = shown % (5, 55, 1) + shown % (17, 169, 3)
+        end = "1 file, 3 games, 2 faults in 1 file\n"
+        self.assertEqual(self.messages(["pgn_lint", name]), wanted + end)
+        self.assertEqual(self.messages(["pgn_lint", "--quiet", name, name]), 2 * wanted)
+        records = self.messages(["pgn_lint", "--json", name])
+        self.assertTrue(records.startswith(wanted + '{"kind": "summary", '), records)
+
+    def test_messages_of_pgn_lint_without_a_name(self):
+        with open(self.file, "wb") as file:
+            file.write(b"1. e9 *\n")
+        for told in (b"<stdin>:1:4: not a move (game 1, ? - ?)\n", b"byte 3: not a move\n",
+                     b"pgn_fmt: standard input: byte 3: not a move\n"):
+            ran = self.call([self.file], input=told)
+            self.assertEqual((ran.returncode, ran.stderr), (1, b""))
+            self.assertTrue(ran.stdout.startswith(
+                self.file.encode() + b": line 1, column 4 (byte 3): not a move"), ran.stdout)
+            ran = self.call([], input=told + b"more\n")
+            self.assertEqual((ran.returncode, ran.stdout, ran.stderr), (
+                2, told + b"more\n", b"pgn_where: give FILE: this message names no file\n"))
+
+    def test_places_of_pgn_lint(self):
+        """A line and a column are found again, whatever the line ends and the encoding."""
+        latin = "1. e4 {\u00e4\u00e4} e9 *".encode("latin-1")
+        utf = "1. e4 {\u4e16\u00e4} e9 *".encode()
+        for text, place in (
+                (b"\xef\xbb\xbf1. e9 *\n", "1, column 4 (byte 6)"),
+                (b"\xef\xbb\xbf" + utf, "1, column 12 (byte 17)"),
+                (b"\n\r" + latin + b"\n", "3, column 12 (byte 13)"),
+                (b"\r\r\n" + utf, "3, column 12 (byte 17)"),
+                (b" " * ((1 << 20) - 1) + b"\r\n" + latin, "2, column 12 (byte 1048588)"),
+                (b" " * ((1 << 20) - 1) + b"\r" + latin, "2, column 12 (byte 1048587)"),
+                (b"\n" * (1 << 20) + utf, "1048577, column 12 (byte 1048590)"),
+                (b"1. e4\n", "2, column 1 (byte 6, the end of the file)")):
+            self.put("a.pgn", text)
+            shown = self.messages(["pgn_lint", "--quiet", "a.pgn"])
+            self.assertTrue(shown.startswith("a.pgn: line %s: " % place), shown)
+
+    def test_compressed_files(self):
+        need("zstd")
+        text = TAGS + b"1. e4 e5 2. Ke3 *\n"
+        self.put("a.pgn.gz", gzip.compress(text))
+        self.put("a.pgn.bz2", bz2.compress(text))
+        self.put("a.pgn.zst", subprocess.run(["zstd", "-qc"], input=text, stdout=subprocess.PIPE,
+                                             check=True).stdout)
+        for end in ("gz", "bz2", "zst"):
+            shown = self.messages(["pgn_lint", "--quiet", "a.pgn." + end]).split("\n")
+            self.assertEqual(shown[1:3], ["1. e4 e5 2. Ke3 *", "            ^"])
+            ran = self.call([self.file + "." + end, "55"])
+            self.assertEqual(ran.stdout.decode().split("\n")[1:3], shown[1:3])
+        self.put("b.pgn.gz", gzip.compress(text)[:-9])
+        self.assertEqual(self.call([self.folder + "/b.pgn.gz", "55"]).returncode, 1)
+
+    def test_messages_of_pgn_fmt(self):
+        self.put("a b.pgn", TAGS + b"1. e4 e5 2. Ke3 *\n")
+        self.put("c.pgn", TAGS + b"1. e9 *\n")
+        self.put("d.pgn", TAGS + b"1. e4 *\n")
+        self.assertEqual(self.messages(["pgn_fmt", "--check", "a b.pgn", "c.pgn", "d.pgn"]), (
+            "a b.pgn: line 5, column 13 (byte 55): move is not legal\n"
+            "1. e4 e5 2. Ke3 *\n            ^\n" + GAME +
+            "c.pgn: line 5, column 4 (byte 46): not a move\n1. e9 *\n   ^\n" + GAME + "d.pgn\n"))
+
+    def test_a_file_of_a_message_that_cannot_be_read(self):
+        """The message is passed on as it is, and the others are shown."""
+        self.put("b.pgn", b"1. e9 *\n")
+        told = b"none.pgn:4:13: move is not legal (game 1, ? - ?)\n" \
+            b"b.pgn:9:1: move is not legal (game 1, ? - ?)\n" \
+            b"b.pgn:1:20: move is not legal (game 1, ? - ?)\n" \
+            b"pgn_fmt: b.pgn: byte 99: not a move\n"
+        shown = b"b.pgn:1:4: not a move (game 1, ? - ?)\n"
+        ran = run([sys.executable, WHERE], cwd=self.folder, input=told + shown)
+        self.assertEqual((ran.returncode, ran.stderr), (
+            1, b"pgn_where: none.pgn: No such file or directory\npgn_where: b.pgn: has no line 9\n"
+            b"pgn_where: b.pgn: has no line 1, column 20\n"
+            b"pgn_where: b.pgn: has 8 bytes, so there is no byte 99\n"))
+        self.assertEqual(ran.stdout, told + b"b.pgn: line 1, column 4 (byte 3): not a move "
+                         b"(game 1, ? - ?)\n1. e9 *\n   ^\n")
 
     def test_errors(self):
         with open(self.file, "wb") as file:
             file.write(b"*\n")
         for words, told, status in (
-                ([], b"", 2), ([self.file, "x"], b"", 2), ([self.file, "-1"], b"", 2),
+                ([self.file, "x"], b"", 2), ([self.file, "-1"], b"", 2),
                 ([self.file, "1", "2"], b"", 2),
                 ([self.file, "3"], b"", 1), ([self.folder + "/none", "3"], b"", 1),
-                ([self.folder, "0"], b"", 1),
-                ([self.file], b"", 1), ([self.file], b"games: 1, plies: 0\n", 1),
+                ([self.folder, "0"], b"", 1), ([self.folder + "/none"], b"", 1),
                 (["/dev/null", "0"], b"", 2)):
             ran = self.call(words, input=told)
             self.assertEqual((ran.returncode, ran.stdout, ran.stderr.count(b"\n")),
                              (status, b"", 1), (words, ran.stderr))
         self.assertEqual(self.call(["--help"]).returncode, 0)
+
+    def test_a_pipe_is_refused(self):
+        os.mkfifo(self.file)
+        for words in ([self.file, "0"], [self.file]):
+            ran = self.call(words, input=b"")
+            self.assertEqual((ran.returncode, ran.stdout, ran.stderr.decode()), (
+                2, b"", "pgn_where: %s: is a pipe\n" % self.file))
 
     def test_bad_games_before_the_byte_count(self):
         bad = b'[Event "x"]\n\n1. e9 {1-0} e5'
@@ -223,6 +359,19 @@ class WhereTest(unittest.TestCase):
         ran = run(["sh", "-c", '"$0" "$1" examples/two-games.pgn 3 >/dev/full', sys.executable,
                    WHERE])
         self.assertEqual((ran.returncode, ran.stderr.count(b"\n")), (1, 1), ran.stderr)
+        ran = run(["sh", "-c", '"$0" "$1" examples/two-games.pgn 3 >&-', sys.executable, WHERE])
+        self.assertEqual((ran.returncode, ran.stderr),
+                         (1, b"pgn_where: standard output is closed\n"))
+
+    def test_a_closed_pipe_ends_it_silently(self):
+        with open(self.file, "wb") as file:
+            file.write(b"1. e9 *\n")
+        for words in ([self.file, "0"], [self.file]):
+            ours, its = os.pipe()
+            os.close(ours)
+            with open(its, "wb") as closed:
+                ran = self.call(words, stdout=closed, input=b"byte 3: no\nmore\n")
+            self.assertEqual((ran.returncode, ran.stderr), (1, b""))
 
 
 if __name__ == "__main__":
