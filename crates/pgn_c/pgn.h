@@ -1,7 +1,8 @@
 /*
  * pgn.h: reads and writes games of chess in Portable Game Notation (PGN).
  *
- * Link with libpgn_c.a. docs/LIBRARY.md has a sample, the limits, and what is proved.
+ * Link with libpgn_c, shared or static. docs/LIBRARY.md has a sample, the limits, and what is
+ * proved.
  *
  * No function allocates, keeps anything from call to call, or writes to other memory than its
  * buffer. Several threads may call at once, with buffers of their own; they may share what is only
@@ -32,10 +33,10 @@ enum {
     PGN_OK = 0,     /* done */
     PGN_FAULT = 1,  /* the text has a fault */
     PGN_FULL = 2,   /* the buffer is too short */
-    PGN_NO_MODE = 3, /* there is no such mode; nothing was read or written */
+    PGN_NO_MODE = 3, /* there is no such mode; nothing was written */
     PGN_NO_GAME = 4, /* no game is left in the text */
     PGN_MORE = 5,    /* a fault if the text ends here: a caller who reads in chunks gives more */
-    PGN_BAD_PLACE = 6 /* the place is behind the text or above 2^62; nothing was read or written */
+    PGN_BAD_PLACE = 6 /* the place is behind the text or above 2^62; nothing was written */
 };
 
 /* The modes of pgn_convert and pgn_next_game. */
@@ -56,7 +57,7 @@ enum { PGN_WHITE_WINS = 1, PGN_BLACK_WINS = 2, PGN_DRAW = 3, PGN_UNKNOWN = 4 };
 /* The result of pgn_check and pgn_convert. */
 typedef struct pgn_result {
     uint32_t status;      /* PGN_OK, PGN_FAULT, PGN_FULL or PGN_NO_MODE */
-    uint32_t fault;       /* the fault's number, 1 to 53, as in docs/PROFILE.md; 0: none */
+    uint32_t fault;       /* the number: 1 to 42, 51 or 52, as in docs/PROFILE.md; 0: none */
     uint64_t place;       /* the byte offset of the fault in the text, from 0 */
     size_t written;       /* how many bytes of the buffer were written, from its front */
     uint64_t games;       /* the number of games; 0 unless PGN_OK */
@@ -135,7 +136,7 @@ pgn_result pgn_check(const uint8_t *text, size_t length);
  *
  * PGN_OK: the buffer has the whole export text, and the games and plies are counted.
  * PGN_FAULT: the text has a fault. The buffer has the export text of every game before it, and the
- *     complete lines of the game at fault.
+ *     complete lines of the game at fault, if its movetext has begun.
  * PGN_FULL: the buffer is full, and there is more to write. `fault` is 51, and `place` is that of
  *     the token whose text is not all written. Call again with a larger buffer and the whole text.
  * PGN_NO_MODE: `mode` is neither 0 nor 1.
@@ -186,17 +187,17 @@ pgn_move pgn_san(const uint8_t *fen, size_t fen_length, const uint8_t *text, siz
  *     chunks gives more, and calls again with the same `from`.
  * PGN_NO_GAME: no game is left; there may be white space, comments and escape lines. Nothing is
  *     written. With more bytes there may be a game.
- * PGN_FAULT: the game has a fault, or (52) goes on to the byte at 2^62. More bytes would not change
- *     that. The buffer has the complete lines of the game, if its movetext has begun.
+ * PGN_FAULT: the game has a fault, or (52) the text goes on to the byte at 2^62 before it ends. More
+ *     bytes would not change that. The buffer has the complete lines of the game, if its movetext has begun.
  * PGN_MORE: the text has a fault if it ends here: inside a game or a comment, or behind a token
  *     that could go on. More bytes could change that. A caller who reads in chunks gives more, and
  *     calls again with the same `from`. If the text is whole, this is its fault: `fault`, `place`
  *     and `message` say which. The buffer has what it has with PGN_FAULT.
- * PGN_FULL: the buffer is full, and there is more to write. It has the first `capacity` bytes of
- *     that. `fault` is 51, and `place` is that of the token whose text is not all written. Call
+ * PGN_FULL: the buffer is full, and has the first `capacity` bytes of what is to be written of the
+ *     game. `fault` is 51, and `place` is that of the token whose text is not all written. Call
  *     again with a larger one.
  * PGN_NO_MODE: `mode` or `missing_result` is neither 0 nor 1.
- * PGN_BAD_PLACE: `from` is greater than `length` or than 2^62.
+ * PGN_BAD_PLACE: `from` is greater than `length` or than 2^62, and the status is not PGN_NO_MODE.
  *
  * With PGN_RESULT_FROM_MARKER nothing is written with PGN_FAULT and PGN_MORE, and PGN_FULL is only
  * for a game without a fault. The bytes of the buffer behind the first `written` are as they were.

@@ -74,7 +74,7 @@ pub extern "C" fn pgn_check(text: &[u8]) -> PgnResult
 ///
 /// - Status 0: the buffer has the whole export text.
 /// - Status 1: the text has a fault. The buffer has the export text of every game before it, and
-///   the complete lines of the game at fault.
+///   the complete lines of the game at fault, if its movetext has begun.
 /// - Status 2: the buffer is full, and more is to be written. The place is that of the token whose
 ///   text is not all written.
 /// - Status 3: there is no such mode. Nothing was read or written.

@@ -22,7 +22,7 @@ pub struct PgnResult {
     /// 0: the text was read to its end. 1: it has a fault. 2: the buffer is full. 3: there is no
     /// such mode.
     pub status: u32,
-    /// The number of the fault, 1 to 53; 0 where there is none. A full buffer is 51.
+    /// The number of the fault: 1 to 42, 51 or 52; 0 if there is none. A full buffer is 51.
     pub fault: u32,
     /// The place of the fault: the offset of a byte, from 0.
     pub place: u64,
