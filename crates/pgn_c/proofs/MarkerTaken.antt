@@ -1,4 +1,4 @@
--- A game that is read by its marker is the one read where a missing Result takes the marker.
+-- A game that is read by its marker is also read where a missing Result takes the marker.
 use Rattle.std.proofs.Common.{◌≡◌, ◌≢◌, ℕ, false, List, [], ◌∷◌, ◌++◌, length, None, Some, Option, refl, sym, ap, subst, ◌∙◌, append-nil}
 use Rattle.std.specs.Io.KnownBytes.{Appends}
 use Rattle.pgn_lexer.specs.Tokens.{Token}
