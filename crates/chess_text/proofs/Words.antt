@@ -20,11 +20,11 @@ pub use Rattle.std.specs.List.Sorted.{IsPermutation}
 pub use Rattle.std.specs.Option.{ok_or, option_to_list}
 pub use Rattle.std.specs.Prelude.{Err, IfSome, IsTrue, None, Ok, Option, Result, Some, bytes_eq, codes, count_by, decimal, find, flat_map, fold, if◌then◌else◌, is_err, is_none, is_ok, is_some, nat_lt, option_map, slice_index_or, slice_set, sum_by, ◌==◌, ◌↔◌}
 pub use Rattle.std.specs.Result.{OnOk}
-pub use Rattle.chess_rules.specs.Attacks.{attacks, cell_attacks, is_ahead, is_clear, kind_attacks, king_attacked}
-pub use Rattle.chess_rules.specs.Board.{Board, at, has_colour, has_piece, is_empty, kind_number, other, same_colour, same_kind}
+pub use Rattle.chess_rules.specs.Attacks.{attacks, cell_attacks, is_ahead, kind_attacks, king_attacked}
+pub use Rattle.chess_rules.specs.Board.{Board, at, has_colour, has_piece, is_empty, other, same_colour, same_kind}
 pub use Rattle.chess_rules.specs.Candidate.{candidates, is_candidate, lone, sees}
 pub use Rattle.chess_rules.specs.Laws.{CandidatesComplete, OneKing}
-pub use Rattle.chess_rules.specs.Legal.{every_promotion, if_safe, is_check, is_legal, is_mate, king_is_safe, legal}
+pub use Rattle.chess_rules.specs.Legal.{every_promotion, if_safe, is_check, is_legal, is_mate, legal}
 pub use Rattle.chess_rules.specs.Position.{built_unless, initial, is_position, one_king, pawn_on_edge, position_fault, target_fits, target_rank}
 pub use Rattle.chess_rules.specs.Square.{Square, gap, is_adjacent, lines, on_board, same_square, square}
 unfoldable pub use Rattle.chess_rules.specs.Square.{squares}
@@ -50,7 +50,7 @@ pub use Rattle.chess_text.specs.MoveOfForm.{agrees, castling_move, describes, fo
 unfoldable pub use Rattle.chess_text.specs.MoveOfForm.{agreeing}
 pub use Rattle.chess_text.specs.Placement.{cells_at, cells_of, is_item, is_placement, is_rank, is_run, is_slash, placement_of, placement_text, rank_text, ranks, row, run_text}
 pub use Rattle.chess_text.specs.Ranks.{ranks_before}
-pub use Rattle.chess_text.specs.San.{MarkPairs, capture_if, capture_text, castling_text, disambiguated_text, disambiguation, disambiguation_by, disambiguation_pairs, from_square, has_rivals, is_capture, is_rival, kind_pairs, kind_text, king_text, mark, mark_after, on_file, on_rank, pawn_capture, piece_pairs, piece_text, promotion_text, rivals, san, unmarked}
+pub use Rattle.chess_text.specs.San.{MarkPairs, capture_if, capture_text, castling_text, disambiguated_text, disambiguation, disambiguation_by, disambiguation_pairs, from_square, has_rivals, is_capture, is_rival, kind_pairs, kind_text, king_text, mark, mark_after, on_file, on_rank, pawn_capture, piece_text, promotion_text, rivals, san, unmarked}
 pub use Rattle.chess_text.specs.WrittenMove.{IsMoveSymbol, WrittenMoveIsRead, WrittenMoveIsSymbol, begins_with_letter, is_letter, is_marker, is_move_byte}
 pub use Rattle.chess_text.specs.declared.fen.FenFault.{FenFault}
 pub use Rattle.chess_text.specs.declared.form.Form.{Form}

@@ -31,7 +31,7 @@ pub use Rattle.std.specs.List.{AllByRecursion, list_all, list_any, refill}
 pub use Rattle.std.specs.Option.{option_copied}
 pub use Rattle.chess_rules.specs.Laws.{LeavesPosition}
 pub use Rattle.chess_rules.specs.Legal.{legal}
-pub use Rattle.chess_rules.specs.Position.{is_position, one_king, pawn_on_edge, position_fault, target_fits}
+pub use Rattle.chess_rules.specs.Position.{is_position}
 pub use Rattle.chess_rules.specs.declared.position.Move.{Move}
 pub use Rattle.chess_text.specs.Laws.{ReadingIsSpelling, TheOneMoveIsRead}
 pub use Rattle.chess_text.specs.WrittenMove.{IsMoveSymbol, WrittenMoveIsRead, WrittenMoveIsSymbol, begins_with_letter, is_letter, is_move_byte}
@@ -39,7 +39,7 @@ pub use Rattle.chess_text.specs.declared.fen.FenFault.{FenFault}
 pub use Rattle.chess_text.specs.declared.resolution.SanFault.TheVariants.{Ambiguous, NoMove}
 pub use Rattle.pgn_game.specs.Chess.{is_black_to_move}
 unfoldable pub use Rattle.pgn_game.specs.Chess.{first_position, move_of, play, position_of, text_of_move}
-pub use Rattle.pgn_game.specs.FaultTable.{Row, fen_fault_field, fen_field, fen_field_of, first_holding, has_other_result, in_name, is_at, is_at_limit, is_comment, is_end, is_many_moves, is_marker, is_no_form, is_no_move, is_number, is_one_move, is_outside_tag_pairs, is_reduced, is_result, is_score, lacks_fen, levels_of_part, marker_of, position_in, result_for, row, rows, stage_number}
+pub use Rattle.pgn_game.specs.FaultTable.{Row, fen_fault_field, fen_field, fen_field_of, first_holding, has_other_result, in_name, is_at, is_at_limit, is_comment, is_end, is_many_moves, is_no_form, is_no_move, is_number, is_one_move, is_outside_tag_pairs, is_reduced, is_result, is_score, lacks_fen, levels_of_part, marker_of, position_in, result_for, row, rows}
 unfoldable pub use Rattle.pgn_game.specs.FaultTable.{refusal}
 pub use Rattle.pgn_game.specs.Filled.{exported_pairs, filled}
 pub use Rattle.pgn_game.specs.FixedPoint.{AreExportable, ExportIsKept, ExportIsKeptOfSource, ExportingTwice, FewPairsHaveRoom, FixedPoint, IsExportable, IsWrittenAgain, SameOutput, SameText, SliceIsKept, SourceIsKept, TagSectionFits, TextSpells, counted, games_in}

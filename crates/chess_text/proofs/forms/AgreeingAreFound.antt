@@ -1,5 +1,5 @@
 -- The moves that agree with a form are those that are found, and none is found twice.
-use Rattle.chess_text.proofs.Words.{◌≡◌, ◌≢◌, ℕ, ◌<◌, inl, inr, Bool, true, false, not, ◌&&◌, List, [], ◌∷◌, map, refl, sym, ◌∙◌, ap, subst, arith, Option, None, Some, Ok, Err, is_some, is_none, nat_lt, flat_map, filter_map, cons_option, list_any, Contains, false≢true, both_ways, not-true, and_parts, and_from, or_left, or_right, ltb-true, get_or-range_with_len, length-range_with_len, Contains-append_left, Contains-append_right, Promotion, Move, Parts, Square, square, squares, lines, on_board, same_square, same_kind, own, kind_of, short_wing, long_wing, short_right, long_right, legal, is_legal, Form, Castle, Man, Played, NoMove, Ambiguous, hints_fit, same_promotion, is_castling, describes, agrees, with_next, played, castling_move, move_from, moves_to_try, agreeing, only, TheOneMoveIsRead, NoMoveIsRead, TwoMovesAreAmbiguous}
+use Rattle.chess_text.proofs.Words.{◌≡◌, ◌≢◌, ℕ, ◌<◌, inl, inr, Bool, true, false, not, ◌&&◌, List, [], ◌∷◌, map, refl, sym, ◌∙◌, ap, subst, arith, Option, None, Some, Ok, Err, is_some, is_none, nat_lt, flat_map, filter_map, cons_option, list_any, Contains, false≢true, both_ways, not-true, and_parts, and_from, or_left, or_right, ltb-true, get_or-range_with_len, length-range_with_len, Contains-append_left, Contains-append_right, Promotion, Move, Parts, Square, square, squares, lines, on_board, same_square, same_kind, own, kind_of, legal, is_legal, Form, Castle, Man, Played, NoMove, Ambiguous, hints_fit, same_promotion, is_castling, describes, agrees, with_next, played, move_from, moves_to_try, agreeing, only, TheOneMoveIsRead, NoMoveIsRead, TwoMovesAreAmbiguous}
 use Rattle.chess_rules.specs.declared.piece.Promotion.TheVariants.{Queen, Rook, Bishop, Knight}
 use Rattle.chess_text.proofs.forms.CastlingMoves.{stepped, squares_same}
 use Rattle.chess_text.proofs.forms.CastlingForms.{castles_ends, legal_next, played_some}

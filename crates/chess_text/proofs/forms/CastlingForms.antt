@@ -1,5 +1,5 @@
 -- What a form of castling names: the one move that is tried, or none.
-use Rattle.chess_text.proofs.Words.{◌≡◌, Bool, true, false, ◌&&◌, ◌||◌, [], refl, sym, ◌∙◌, ap, subst, arith, Option, None, Some, Ok, Err, is_none, is_some, ok_or, cons_option, false≢true, and_parts, Move, Parts, Square, same_square, home, Wing, short_wing, long_wing, short_right, long_right, is_king_move, stand_ready, is_unattacked, castles, castles_short, castles_long, legal, is_legal, Castle, Played, NoMove, is_castling, describes, with_next, with_next_position, played, castling_move, agreeing, only, move_of_form}
+use Rattle.chess_text.proofs.Words.{◌≡◌, Bool, true, false, ◌&&◌, ◌||◌, [], refl, sym, ◌∙◌, ap, subst, arith, Option, None, Some, Ok, Err, is_none, is_some, cons_option, false≢true, and_parts, Move, Parts, Square, same_square, home, Wing, is_king_move, stand_ready, is_unattacked, castles, castles_short, castles_long, legal, is_legal, Castle, Played, NoMove, is_castling, describes, with_next_position, played, castling_move, agreeing, only, move_of_form}
 use Rattle.chess_text.proofs.forms.CastlingMoves.{squares_same}
 
 pub legal_next : (o : Option Parts) → is_some o ≡ true → (q : Parts) × (o ≡ Some q)
@@ -67,7 +67,7 @@ module _ (p : Parts) (long : Bool) (m : Move) (is : m ≡ castling_move p.side l
 
   pub castling_found : is_legal p m ≡ true → is_castling p m ≡ true → with_next_position p (Ok m) ≡ move_of_form p (Castle long)
   castling_found h named =
-      let (q, leads) = legal_next _ h in
+      let (q, leads) = legal_next (legal p m) h in
       cc (found q leads)
     where
       found : (q : Parts) → legal p m ≡ Some q → Ok (record { mv = m; next = q }) ≡ move_of_form p (Castle long)

@@ -1,6 +1,5 @@
 -- Which steps and legal moves are castling.
-use Rattle.chess_text.proofs.Words.{◌≡◌, ℕ, ◌<◌, ◌≤◌, Bool, true, false, not, ◌&&◌, ◌||◌, inl, inr, refl, sym, ◌∙◌, ap, ap₂, subst, arith, ◌==◌, nat_lt, nat_le, Option, None, Some, is_none, is_some, option_map, if◌then◌else◌, abs_diff, false≢true, and_parts, and_from, or_cases, eqb-true, leb-true, lt-ltb, ltb-true, Colour, Kind, King, Queen, Rook, Bishop, Knight, Pawn, Piece, Move, Parts, Square, square, gap, same_square, is_adjacent, Board, at, has_colour, has_piece, same_colour, same_kind, is_empty, other, is_clear, attacks, cell_attacks, kind_attacks, own, home, Wing, short_wing, long_wing, short_right, long_right, is_piece_step, is_pawn_way, is_pawn_step, promotion_fits, captured_pawn, is_en_passant, is_king_move, stand_ready, is_unattacked, castles, castles_short, castles_long, carried, en_passant_board, castled, is_on_board, after, board_after, step, is_legal, if_safe, is_castling}
-use Rattle.chess_rules.specs.Step.{is_target}
+use Rattle.chess_text.proofs.Words.{◌≡◌, ℕ, ◌<◌, ◌≤◌, Bool, true, false, not, ◌&&◌, ◌||◌, inl, inr, refl, sym, ◌∙◌, ap₂, arith, ◌==◌, nat_lt, nat_le, Option, None, Some, is_none, is_some, option_map, if◌then◌else◌, abs_diff, false≢true, and_parts, and_from, or_cases, eqb-true, leb-true, lt-ltb, ltb-true, Colour, Kind, King, Queen, Rook, Bishop, Knight, Pawn, Piece, Move, Parts, Square, square, gap, same_square, is_adjacent, Board, at, has_colour, has_piece, same_kind, attacks, cell_attacks, kind_attacks, own, home, Wing, short_wing, long_wing, short_right, long_right, is_piece_step, is_pawn_way, is_pawn_step, promotion_fits, is_en_passant, is_king_move, stand_ready, is_unattacked, castles, castles_short, castles_long, carried, en_passant_board, castled, is_on_board, after, board_after, step, is_legal, if_safe, is_castling}
 
 -- what is known of a step
 pub record Stepped (p : Parts) (m : Move) : Type 0 where

@@ -1,5 +1,5 @@
 -- The kinds of squares for a form, one after another, and how many legal moves they count.
-use Rattle.chess_text.proofs.Words.{◌≡◌, ℕ, ◌+◌, ◌<◌, ◌≤◌, Bool, true, false, cond, ◌&&◌, List, [], ◌∷◌, ◌++◌, map, length, take, set, get_or, refl, sym, ◌∙◌, ap, ap₂, subst, arith, Option, None, Some, Ok, Err, ◌↔◌, is_some, count_by, if◌then◌else◌, range_with_len, filter, filter_map, cons_option, take_more, take_more_set, map-append, get_or-map-range_with_len, sum_by-cons, sum_by_more, both_ways, Colour, White, Black, Move, Parts, Square, square, squares, same_square, step, home, home_rank, short_wing, long_wing, short_right, long_right, king_is_safe, if_safe, Form, Castle, Man, OriginKind, Played, NoMove, Ambiguous, describes, with_next, played, move_from, agreeing, only, form_move, is_step_of_form, kind_of_move, origin_kind, origins_of_form, step_count, nth_square, is_legal_kind, count_legal, LegalOriginsDecide}
+use Rattle.chess_text.proofs.Words.{◌≡◌, ℕ, ◌+◌, ◌<◌, ◌≤◌, Bool, true, false, cond, ◌&&◌, List, [], ◌∷◌, ◌++◌, map, length, take, set, get_or, refl, sym, ◌∙◌, ap, subst, arith, Option, None, Some, Ok, Err, ◌↔◌, is_some, count_by, if◌then◌else◌, range_with_len, filter, filter_map, cons_option, take_more, take_more_set, map-append, get_or-map-range_with_len, sum_by-cons, sum_by_more, both_ways, Colour, White, Black, Move, Parts, Square, square, squares, same_square, step, home, home_rank, if_safe, Form, Castle, Man, OriginKind, Played, NoMove, Ambiguous, describes, with_next, played, agreeing, only, form_move, is_step_of_form, kind_of_move, origin_kind, origins_of_form, step_count, nth_square, is_legal_kind, count_legal, LegalOriginsDecide}
 use Rattle.chess_text.specs.declared.form_origins.OriginKind.TheVariants.{NoStep, Unsafe, Legal}
 use Rattle.chess_text.proofs.forms.CastlingForms.{castles_ends, played_not}
 use Rattle.chess_text.proofs.forms.OnlyElement.{filter_map-map, filter_map-filter}

@@ -1,6 +1,5 @@
 -- Whose move a legal move is, and which ones take.
-use Rattle.chess_text.proofs.Words.{◌≡◌, ℕ, Bool, true, false, not, ◌&&◌, ◌||◌, inl, inr, refl, sym, ◌∙◌, ap, arith, ◌==◌, Option, None, Some, is_none, is_some, codes, if◌then◌else◌, ◌++◌, false≢true, and_parts, and_from, or_cases, nat_tests, Colour, Kind, King, Queen, Rook, Bishop, Knight, Pawn, Piece, Move, Parts, Square, same_square, at, has_colour, has_piece, same_colour, kind_number, same_kind, is_empty, other, attacks, own, home, Wing, short_wing, long_wing, short_right, long_right, is_piece_step, is_pawn_way, is_pawn_step, promotion_fits, captured_pawn, is_en_passant, is_king_move, stand_ready, is_unattacked, castles, castles_short, castles_long, is_legal, square_text, is_castling, is_capture, capture_text, castling_text, king_text, has_rivals, and_right, false_from_ne_true}
-use Rattle.chess_rules.specs.Step.{is_target}
+use Rattle.chess_text.proofs.Words.{◌≡◌, ℕ, Bool, true, false, not, ◌&&◌, ◌||◌, inl, inr, refl, sym, ◌∙◌, ap, arith, ◌==◌, Option, None, Some, is_none, is_some, codes, if◌then◌else◌, ◌++◌, false≢true, and_parts, and_from, or_cases, nat_tests, Colour, Kind, King, Queen, Rook, Bishop, Knight, Pawn, Piece, Move, Parts, same_square, at, has_colour, has_piece, same_colour, same_kind, is_empty, own, home, Wing, is_piece_step, is_pawn_step, is_en_passant, is_king_move, stand_ready, is_unattacked, castles, castles_short, castles_long, is_legal, square_text, is_castling, is_capture, capture_text, castling_text, king_text, has_rivals, and_right, false_from_ne_true}
 use Rattle.chess_text.proofs.forms.CastlingMoves.{stepped, squares_same, castling_goes_far}
 
 -- The piece that moves is of the side to move.

@@ -1,5 +1,5 @@
 -- The ways in which a pawn goes.
-use Rattle.chess_text.proofs.Words.{◌≡◌, ℕ, inl, inr, Bool, true, false, not, ◌&&◌, ◌||◌, refl, sym, ◌∙◌, ap, ap₂, arith, ◌==◌, Option, None, Some, is_none, false≢true, and_parts, or_cases, eqb-true, eq-eqb, nat_tests, Colour, White, Black, Kind, King, Queen, Rook, Bishop, Knight, Pawn, Piece, Move, Parts, Square, gap, Board, at, has_colour, has_piece, same_colour, same_kind, is_empty, other, attacks, cell_attacks, kind_attacks, is_ahead, own, is_piece_step, is_advance, is_double_step, is_pawn_capture, is_pawn_way, is_pawn_step, promotion_fits, captured_pawn, crossed, pawn_rank, double_rank, is_en_passant, is_legal, is_castling, is_capture, false_from_ne_true}
+use Rattle.chess_text.proofs.Words.{◌≡◌, ℕ, inl, inr, Bool, true, false, not, ◌&&◌, ◌||◌, refl, sym, ◌∙◌, ap, arith, ◌==◌, Option, None, Some, is_none, false≢true, and_parts, or_cases, eqb-true, eq-eqb, nat_tests, Colour, White, Black, Kind, King, Queen, Rook, Bishop, Knight, Pawn, Piece, Move, Parts, Square, gap, Board, at, has_colour, has_piece, same_colour, same_kind, is_empty, other, attacks, cell_attacks, kind_attacks, is_ahead, own, is_piece_step, is_advance, is_double_step, is_pawn_capture, is_pawn_way, is_pawn_step, promotion_fits, captured_pawn, crossed, pawn_rank, double_rank, is_en_passant, is_legal, is_castling, is_capture, false_from_ne_true}
 use Rattle.chess_rules.specs.Step.{is_target}
 use Rattle.chess_text.proofs.forms.CastlingMoves.{stepped, castling_goes_far}
 use Rattle.chess_text.proofs.forms.MoverOfMove.{other_kind}

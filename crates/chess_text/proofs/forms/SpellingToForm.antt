@@ -1,5 +1,5 @@
 -- A text that spells a form is read as that form.
-use Rattle.chess_text.proofs.Words.{◌≡◌, ℕ, ◌+◌, ◌-◌, ◌<◌, ◌⊎◌, inl, inr, Bool, true, false, ◌&&◌, ◌||◌, nat_lt, ◌==◌, List, [], ◌∷◌, ◌++◌, length, get_or, take, append-nil, length-append, refl, sym, ◌∙◌, ap, ap₂, subst, arith, Option, None, Some, is_some, bytes_eq, codes, false≢true, nat_tests, take_more, take_all, bytes_eq-Decides, Kind, King, Queen, Rook, Bishop, Knight, Pawn, Promotion, Square, on_board, Form, Castle, Man, file_letter, rank_digit, square_text, SpellsPieceMove, SpellsBare, Spells, is_among, letter_texts, hint_text, capture_texts, promotion_letter, promotion_texts, castle_texts, is_mark, below_eight, is_form, last_byte, front, front_if, before_marks, file_of, rank_of, promotion_of, promotion_at_end, before_sign, before_promotion, square_of, target_at_end, before_capture, before_target, rank_at_end, before_rank, file_at_end, before_file, kind_of_text, piece_move_if, piece_move_before, piece_move_at, piece_move_of, castle_of, castle_or, bare_form, form_of, false_from_ne_true}
+use Rattle.chess_text.proofs.Words.{◌≡◌, ℕ, ◌+◌, ◌-◌, ◌<◌, ◌⊎◌, inl, inr, Bool, true, false, ◌&&◌, ◌||◌, nat_lt, ◌==◌, List, [], ◌∷◌, ◌++◌, length, take, append-nil, length-append, refl, sym, ◌∙◌, ap, ap₂, subst, arith, Option, None, Some, bytes_eq, codes, false≢true, nat_tests, take_more, take_all, bytes_eq-Decides, Kind, King, Queen, Rook, Bishop, Knight, Pawn, Promotion, Square, on_board, Form, Castle, Man, file_letter, rank_digit, square_text, SpellsPieceMove, SpellsBare, Spells, is_among, letter_texts, hint_text, capture_texts, promotion_letter, promotion_texts, castle_texts, is_mark, below_eight, is_form, last_byte, front, front_if, before_marks, file_of, rank_of, promotion_of, promotion_at_end, before_sign, before_promotion, target_at_end, before_capture, before_target, rank_at_end, before_rank, file_at_end, before_file, kind_of_text, piece_move_if, piece_move_before, piece_move_at, piece_move_of, castle_of, bare_form, form_of, false_from_ne_true}
 use Rattle.std.proofs.Math.Seq.{get_or-append_seam, take-append_seam}
 use Rattle.std.proofs.lemmas.List.{append_assoc}
 use Rattle.chess_rules.specs.declared.piece.Promotion.TheVariants as become
@@ -152,7 +152,7 @@ target_read s to h =
     let file =
     ap (λ t. file_of (last_byte t)) fore ∙ ap (λ c. file_of c) (last_byte-snoc s a) ∙ file_back to.file (first_of_two (nat_lt to.file 8) (nat_lt to.rank 8) h) in
     let rank =
-    ap rank_of last ∙ rank_back to.rank (second_of_two _ _ h) in
+    ap rank_of last ∙ rank_back to.rank (second_of_two (nat_lt to.file 8) (nat_lt to.rank 8) h) in
     subst (λ t. TargetRead s t to) (sym apart)
     (record {
       told = cc;

@@ -1,5 +1,5 @@
 -- No other legal move agrees with the form that is written.
-use Rattle.chess_text.proofs.Words.{◌≡◌, ℕ, ◌+◌, ◌/◌, Bool, true, false, not, ◌&&◌, refl, sym, ◌∙◌, ap, ap₂, subst, arith, ◌==◌, Option, None, Some, is_none, list_any, false≢true, both_ways, and_parts, and_from, eqb-true, nat_tests, Colour, White, Black, Kind, King, Queen, Rook, Bishop, Knight, Pawn, Piece, Promotion, Move, Parts, Square, square, squares, on_board, gap, same_square, at, has_piece, same_colour, same_kind, is_empty, other, is_ahead, is_position, own, captured_pawn, crossed, pawn_rank, double_rank, castles_short, castles_long, short_right, long_right, short_wing, long_wing, is_legal, OneKing, Man, hints_fit, same_promotion, is_castling, describes, agrees, from_square, is_rival, rivals, is_capture, on_file, on_rank}
+use Rattle.chess_text.proofs.Words.{◌≡◌, ℕ, ◌+◌, ◌/◌, Bool, true, false, not, ◌&&◌, refl, sym, ◌∙◌, ap, ap₂, subst, arith, ◌==◌, Option, None, Some, is_none, list_any, false≢true, both_ways, and_parts, and_from, eqb-true, nat_tests, Colour, White, Black, Kind, King, Queen, Rook, Bishop, Knight, Pawn, Piece, Promotion, Move, Parts, Square, square, squares, on_board, gap, same_square, at, has_piece, same_colour, same_kind, is_empty, other, is_ahead, is_position, own, captured_pawn, crossed, pawn_rank, double_rank, castles_short, castles_long, is_legal, OneKing, Man, hints_fit, same_promotion, is_castling, describes, agrees, from_square, is_rival, rivals, is_capture, on_file, on_rank}
 use Rattle.chess_text.proofs.forms.CastlingMoves.{stepped, squares_same}
 use Rattle.chess_text.proofs.forms.CastlingForms.{castles_ends}
 use Rattle.chess_text.proofs.forms.AgreeingAreFound.{in_squares, any_contained, promotions_same, move_of, no_promotion}

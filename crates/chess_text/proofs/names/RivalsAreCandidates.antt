@@ -1,5 +1,5 @@
 -- The rivals of a move, found among the candidates for its target.
-use Rattle.chess_text.proofs.Words.{◌≡◌, ℕ, ◌+◌, ◌<◌, ◌≤◌, Bool, true, false, cond, not, ◌&&◌, ◌||◌, List, [], ◌∷◌, length, take, get_or, refl, sym, ◌∙◌, ap, ap₂, ◌==◌, Option, None, Some, is_some, list_any, IsPermutation, false≢true, and_parts, take_all, list_any_more, list_any-IsPermutation, Kind, Move, Parts, Square, squares, same_square, own, legal, is_legal, sees, is_candidate, candidates, CandidatesComplete, from_square, is_rival, rivals, on_file, on_rank, disambiguation_by, disambiguation}
+use Rattle.chess_text.proofs.Words.{◌≡◌, ℕ, ◌+◌, ◌<◌, ◌≤◌, Bool, true, false, cond, ◌&&◌, ◌||◌, List, [], ◌∷◌, length, take, get_or, refl, sym, ◌∙◌, ap, ◌==◌, Option, None, Some, is_some, list_any, IsPermutation, false≢true, and_parts, take_all, list_any_more, list_any-IsPermutation, Kind, Move, Parts, Square, squares, own, legal, sees, candidates, CandidatesComplete, from_square, is_rival, rivals, on_file, on_rank, disambiguation_by, disambiguation}
 use Rattle.std.specs.Prelude.{filter}
 
 any-cond : {Y : Type 0} (test : Y → Bool) (b : Bool) (y : Y) (ys : List Y) → list_any test (cond b (y ∷ ys) ys) ≡ ((b && test y) || list_any test ys)

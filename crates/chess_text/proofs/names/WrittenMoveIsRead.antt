@@ -1,11 +1,11 @@
 -- The text of a legal move is a symbol, and is read as the move.
-use Rattle.chess_text.proofs.Words.{◌≡◌, ℕ, ◌+◌, ◌<◌, ◌≤◌, Bool, true, false, inl, inr, ◌&&◌, ◌||◌, List, [], ◌∷◌, ◌++◌, length, refl, sym, ap, subst, ◌∙◌, arith, length-append, Option, None, Some, is_some, option_map, codes, bytes_eq, nat_le, nat_lt, ◌==◌, if◌then◌else◌, list_all, list_any, false≢true, and_parts, and_from, or_cases, le-leb, lt-leb, leb-true, ltb-true, bytes_eq-Decides, Kind, King, Queen, Rook, Bishop, Knight, Pawn, Piece, Promotion, Move, Parts, OneKing, legal, is_legal, is_mate, is_check, Square, on_board, castles_short, castles_long, move_of_form, is_digit, letter, file_letter, rank_digit, square_text, disambiguation_by, disambiguation, rivals, on_file, on_rank, is_capture, capture_if, capture_text, pawn_capture, promotion_text, castling_text, king_text, disambiguated_text, kind_text, piece_text, mark, san, is_letter, is_move_byte, begins_with_letter, is_marker, IsMoveSymbol, WrittenMoveIsSymbol, WrittenMoveIsRead, and_right, and_left, or_left, or_right, or_from}
+use Rattle.chess_text.proofs.Words.{◌≡◌, ℕ, ◌+◌, ◌<◌, ◌≤◌, Bool, true, false, inl, inr, ◌&&◌, ◌||◌, List, [], ◌∷◌, ◌++◌, length, refl, sym, ap, subst, ◌∙◌, arith, length-append, Option, None, Some, is_some, option_map, codes, bytes_eq, nat_le, nat_lt, ◌==◌, if◌then◌else◌, list_all, list_any, false≢true, and_parts, and_from, or_cases, le-leb, lt-leb, leb-true, ltb-true, bytes_eq-Decides, Kind, King, Queen, Rook, Bishop, Knight, Pawn, Piece, Promotion, Move, Parts, OneKing, legal, Square, on_board, move_of_form, is_digit, letter, file_letter, rank_digit, square_text, disambiguation_by, rivals, on_file, on_rank, capture_if, capture_text, pawn_capture, promotion_text, castling_text, king_text, disambiguated_text, kind_text, piece_text, mark, san, is_letter, is_move_byte, begins_with_letter, is_marker, IsMoveSymbol, WrittenMoveIsSymbol, WrittenMoveIsRead, and_right, and_left, or_left, or_right, or_from}
 use Rattle.chess_rules.specs.declared.piece.Promotion.TheVariants as become
 use Rattle.chess_text.proofs.forms.AgreeingAreFound.{the_one_move_is_read}
 use Rattle.chess_text.proofs.forms.CastlingMoves.{stepped}
 use Rattle.chess_text.proofs.forms.SpellingToForm.{form_read}
 use Rattle.chess_text.proofs.names.TextsToMoves.{single}
-use Rattle.chess_text.proofs.names.WrittenToForm.{Moved, moved}
+use Rattle.chess_text.proofs.names.WrittenToForm.{moved}
 
 -- bytes of moves, at most so many
 record Bytes (most : ℕ) (s : List ℕ) : Type 0 where
@@ -207,7 +207,7 @@ letter_is_no_digit c e = and_right (nat_le 48 c) (nat_le c 57) (lt-leb c 57 high
   where
     high : 57 < c
     high =
-        elim (or_cases _ _ e) [
+        elim (or_cases (nat_le 65 c && nat_le c 90) (nat_le 97 c && nat_le c 122) e) [
           | inl capital ↦
               omega (arith, leb-true 65 c (and_parts (nat_le 65 c) (nat_le c 90) capital).0)
           | inr small ↦

@@ -1,5 +1,5 @@
 -- The form that the text of a legal move spells.
-use Rattle.chess_text.proofs.Words.{◌≡◌, ℕ, inl, inr, Bool, true, false, not, ◌&&◌, ◌||◌, List, [], ◌∷◌, ◌++◌, append-nil, refl, sym, ◌∙◌, ap, ap₂, subst, ◌==◌, nat_lt, Option, None, Some, is_none, codes, if◌then◌else◌, list_all, list_any, false≢true, and_parts, and_from, or_cases, eq-eqb, Kind, King, Queen, Rook, Bishop, Knight, Pawn, Piece, Promotion, Move, Parts, Square, on_board, same_square, at, has_colour, same_kind, attacks, own, is_piece_step, is_pawn_step, is_pawn_way, is_en_passant, promotion_fits, castles_short, castles_long, short_right, long_right, short_wing, long_wing, legal, is_legal, is_check, is_mate, Form, Castle, Man, letter, file_letter, rank_digit, square_text, SpellsBare, Spells, is_among, letter_texts, hint_text, capture_texts, promotion_texts, is_mark, below_eight, is_form, hints_fit, same_promotion, is_castling, describes, agrees, is_capture, capture_if, capture_text, pawn_capture, promotion_text, castling_text, king_text, disambiguated_text, kind_text, piece_text, mark, san, disambiguation_by, rivals, on_file, on_rank, has_rivals, false_from_ne_true}
+use Rattle.chess_text.proofs.Words.{◌≡◌, ℕ, inl, inr, Bool, true, false, not, ◌&&◌, ◌||◌, List, [], ◌∷◌, ◌++◌, append-nil, refl, sym, ◌∙◌, ap, ap₂, subst, ◌==◌, Option, None, Some, is_none, codes, if◌then◌else◌, list_all, list_any, false≢true, and_parts, and_from, or_cases, eq-eqb, Kind, King, Queen, Rook, Bishop, Knight, Pawn, Piece, Promotion, Move, Parts, Square, on_board, same_square, at, has_colour, same_kind, attacks, own, is_piece_step, is_pawn_step, is_en_passant, castles_short, castles_long, short_right, long_right, short_wing, long_wing, legal, is_legal, Form, Castle, Man, letter, file_letter, rank_digit, square_text, SpellsBare, Spells, is_among, letter_texts, hint_text, capture_texts, promotion_texts, is_mark, below_eight, is_form, hints_fit, same_promotion, is_castling, describes, agrees, is_capture, capture_if, capture_text, pawn_capture, promotion_text, castling_text, king_text, disambiguated_text, kind_text, mark, san, disambiguation_by, rivals, on_file, on_rank, has_rivals, false_from_ne_true}
 use Rattle.chess_rules.specs.declared.piece.Promotion.TheVariants as become
 use Rattle.chess_text.proofs.forms.CastlingMoves.{stepped, castling_goes_far}
 use Rattle.chess_text.proofs.forms.CastlingForms.{castles_ends}

@@ -1,5 +1,5 @@
 -- The laws of the definitions of texts.
-use Rattle.chess_text.proofs.Words.{◌≡◌, ℕ, ◌+◌, ◌-◌, ◌==◌, nat_le, nat_lt, ◌&&◌, ◌||◌, Bool, true, false, List, [], ◌∷◌, refl, sym, ◌∙◌, ap, arith, false≢true, eqb-true, nat_tests, Option, None, Some, Ok, Err, is_some, if◌then◌else◌, prefix_len, Colour, Rights, Parts, White, Black, Square, square, Board, is_position, target_fits, FenFault, placement_of, side_of, rights_of, target_of, is_target, number_of, field, at_field, parts_or_fault, if_position, ReadingIsSpelling, FenOnce, FaultIsLowest, CanonicalSpells, CanonicalFits, CanonicalIsShortest, FieldsAreSpellings, same_Some}
+use Rattle.chess_text.proofs.Words.{◌≡◌, ℕ, ◌+◌, ◌-◌, ◌==◌, nat_le, nat_lt, ◌&&◌, ◌||◌, Bool, true, false, List, [], ◌∷◌, refl, sym, ◌∙◌, ap, arith, false≢true, eqb-true, nat_tests, Option, None, Some, Ok, Err, is_some, if◌then◌else◌, prefix_len, Colour, Rights, Parts, White, Black, Square, square, Board, target_fits, FenFault, side_of, rights_of, target_of, is_target, at_field, parts_or_fault, if_position, ReadingIsSpelling, FenOnce, FaultIsLowest, CanonicalSpells, CanonicalFits, CanonicalIsShortest, FieldsAreSpellings, same_Some}
 use Rattle.chess_text.proofs.positions.SixFieldsJoined.{length-fen_text}
 use Rattle.chess_text.proofs.positions.SpellingToReading.{spelled_is_read, board_read, side_read, rights_read, target_read, number_read}
 use Rattle.chess_text.proofs.positions.ReadingToSpelling.{read_is_spelled, board_spelled, side_spelled, rights_spelled, target_spelled, number_spelled}

@@ -1,5 +1,5 @@
 -- The fields of a text, which stand between its spaces.
-use Rattle.chess_text.proofs.Words.{◌≡◌, ℕ, suc, ◌+◌, Bool, true, false, not, ◌&&◌, List, [], ◌∷◌, ◌++◌, length, take, drop, add-one, refl, ◌∙◌, ap, arith, list_all, before_first, after_first, position_or_len, join_with_byte, false≢true, is_space, rest, field}
+use Rattle.chess_text.proofs.Words.{◌≡◌, ℕ, suc, Bool, true, false, not, ◌&&◌, List, [], ◌∷◌, ◌++◌, length, take, drop, add-one, refl, arith, list_all, before_first, after_first, position_or_len, join_with_byte, false≢true, is_space, rest, field}
 
 -- no byte of the text passes
 abbrev pub lacks : (ℕ → Bool) → List ℕ → Bool

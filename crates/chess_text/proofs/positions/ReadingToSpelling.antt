@@ -1,5 +1,5 @@
 -- What is read of a text is spelled by it.
-use Rattle.chess_text.proofs.Words.{◌≡◌, ℕ, ◌+◌, ◌-◌, ◌<◌, ◌≤◌, ◌==◌, nat_le, Bool, true, false, ◌&&◌, ◌||◌, List, [], ◌∷◌, ◌++◌, length, get_or, refl, sym, ◌∙◌, ap, ap₂, arith, length-drop, Option, None, Some, Result, Ok, Err, bytes_eq, codes, flat_map, reverse, if◌then◌else◌, list_all, before_first, after_first, position_or_len, false≢true, eqb-true, nat_tests, length-take, join_with_byte-slice_split, split_at_first, passes_at_first, bytes_eq-Decides, Colour, White, Black, Rights, Parts, Square, square, Board, is_position, FenFault, ranks, is_rank, is_placement, placement_of, cells_of, side_text, side_of, right_letter, or_dash, rights_text, rights_named, rights_of, target_text, target_of, is_target, is_number, is_digit, number_of, value, SpellsBoard, SpellsNumber, Fen, is_space, rest, field, at_field, parts_or_fault, parts_read, if_position, read, same_Some}
+use Rattle.chess_text.proofs.Words.{◌≡◌, ℕ, ◌+◌, ◌-◌, ◌<◌, ◌≤◌, ◌==◌, nat_le, Bool, true, false, ◌||◌, List, [], ◌∷◌, ◌++◌, length, get_or, refl, sym, ◌∙◌, ap, ap₂, arith, length-drop, Option, None, Some, Result, Ok, Err, bytes_eq, codes, flat_map, reverse, if◌then◌else◌, list_all, before_first, after_first, position_or_len, false≢true, eqb-true, nat_tests, length-take, join_with_byte-slice_split, split_at_first, passes_at_first, Colour, White, Black, Rights, Parts, Square, square, Board, is_position, FenFault, ranks, is_placement, placement_of, cells_of, side_text, side_of, or_dash, rights_text, rights_named, rights_of, target_text, target_of, is_target, is_number, number_of, value, SpellsBoard, SpellsNumber, Fen, is_space, rest, field, at_field, parts_or_fault, parts_read, if_position, read, same_Some}
 use Rattle.chess_text.proofs.positions.FieldsOfText.{first_of_two, second_of_two}
 use Rattle.chess_text.proofs.forms.SpellingToForm.{same_bytes}
 
@@ -153,8 +153,8 @@ read_is_spelled s p h =
     let side = side_spelled (field 2 s) p.side all.side in
     let rights = rights_spelled (field 3 s) p.rights all.rights in
     let target = target_spelled (field 4 s) p.target all.target in
-    let half = number_spelled _ _ all.half in
-    let full = number_spelled _ _ all.full in
+    let half = number_spelled (field 5 s) p.half all.half in
+    let full = number_spelled (field 6 s) p.full all.full in
     let one =
     spaced s (omega (arith, not_shorter (rest 1 s), ap (λ t. length t) side, some_side p.side)) in
     let two =

@@ -1,5 +1,5 @@
 -- A text that spells a position is read as that position.
-use Rattle.chess_text.proofs.Words.{◌≡◌, ℕ, ◌+◌, ◌-◌, ◌<◌, ◌==◌, nat_le, nat_lt, Bool, true, false, not, ◌&&◌, ◌||◌, List, [], ◌∷◌, ◌++◌, length, refl, sym, ◌∙◌, ap, ap₂, arith, Option, None, Some, Ok, is_none, if◌then◌else◌, list_all, join_with_byte, false≢true, eqb-true, nat_tests, list_all-append, slice_split-cons_no, Colour, White, Black, Rights, Parts, Kings, PawnOnEdge, KingCapturable, TargetRank, NumberRange, Square, square, on_board, Board, other, king_attacked, is_position, one_king, pawn_on_edge, target_fits, target_rank, ranks, is_slash, is_item, is_rank, is_placement, placement_of, cells_of, side_text, side_of, rights_text, rights_of, target_text, target_of, is_target, is_digit, is_number, number_of, SpellsBoard, SpellsNumber, Fen, is_space, field, parts_or_fault, read, not-true}
+use Rattle.chess_text.proofs.Words.{◌≡◌, ℕ, ◌+◌, ◌-◌, ◌<◌, ◌==◌, nat_le, nat_lt, Bool, true, false, not, ◌&&◌, ◌||◌, List, [], ◌∷◌, length, refl, sym, ◌∙◌, ap, ap₂, arith, Option, None, Some, Ok, is_none, if◌then◌else◌, list_all, join_with_byte, false≢true, eqb-true, nat_tests, list_all-append, slice_split-cons_no, Colour, White, Black, Rights, Parts, Kings, PawnOnEdge, KingCapturable, TargetRank, NumberRange, Square, square, on_board, Board, other, king_attacked, is_position, one_king, pawn_on_edge, target_fits, target_rank, ranks, is_slash, is_item, is_rank, is_placement, placement_of, side_text, side_of, rights_text, rights_of, target_text, target_of, is_digit, number_of, SpellsBoard, SpellsNumber, Fen, is_space, field, parts_or_fault, read, not-true}
 use Rattle.chess_text.proofs.positions.RanksOfText.{slice_split-around}
 use Rattle.chess_text.proofs.positions.FieldsOfText.{lacks, first_of_two, second_of_two, SixFields, six_fields}
 

@@ -26,7 +26,7 @@ ends_between : (p : Profile) (b : Progress) (ts : List Token) → RisesTo ts →
 ends_between p b [] rises e = absurd rises
 ends_between p b (t ∷ []) rises e =
     let free = first_passes p b t [] e in
-    ap (λ (r : Read). r.progress.part.stage) (goes_on p b t [] free) ∙ end_passes p b t.kind (passing_last p b.part t.kind rises free) free
+    ap (λ (r : Read). r.progress.part.stage) (goes_on p b t [] free) ∙ end_passes p b _ (passing_last p _ _ rises free) free
 ends_between p b (t ∷ u ∷ us) rises e =
     let here = goes_on p b t (u ∷ us) (first_passes p b t (u ∷ us) e) in
     ap (λ (r : Read). r.progress.part.stage) here ∙ ends_between p (progress_after b t) (u ∷ us) rises.2 (ap (λ (r : Read). r.fault) (sym here) ∙ e)
@@ -38,13 +38,13 @@ module _ (unique : UniqueReading) (rise : TokensRise) where
       let was_read = (unique p s gs).0 spelled in
       let part = (read p (tokens_of s)).progress.part in
       let none = no_torn p part Between (ends_between p _ (tokens_of s) (rise s) was_read.0) (λ e. absurd (cc)) in
-      ap (λ (xs : List ℕ). text_of p (read p (tokens_of s)).progress.games ++ xs) none ∙ append-nil (text_of p (read p (tokens_of s)).progress.games)
+      ap (λ (xs : List ℕ). text_of p (read p (tokens_of s)).progress.games ++ xs) none ∙ append-nil _
       ∙ ap (text_of p) was_read.1
 
   pub verdict_is : (p : Profile) (s : List ℕ) (gs : List Game) → Spells p (tokens_of s) gs → verdict p s ≡ totals (counted gs)
   verdict_is p s gs spelled =
       let was_read = (unique p s gs).0 spelled in
-      verdict_passes (read p (tokens_of s)) was_read.0 ∙ ap (λ xs. totals (counted xs)) was_read.1
+      cc (verdict_passes (read p (tokens_of s)) was_read.0)
 
 -- What a conversion of a text without a fault does.
 no_fault : (p : Profile) (s : List ℕ) (gs : List Game) (f : Fault) → verdict p s ≡ totals (counted gs) → verdict p s ≡ is_refused f → ⊥
@@ -82,7 +82,7 @@ consumed_fits o n s u e h = by_rest n (let Q : Option (List ℕ) → Type 0 = λ
 source_fails : (p : Profile) (s : List ℕ) (gs : List Game) (f : Fault) (left_old left_new before after : Option (List ℕ)) → verdict p s ≡ totals (counted gs) → length s ≤ 2 ^ 62
     → left_old ≡ Some s → Fails p left_old left_new before after f → SourceIsKept p gs (Err f) before after
 source_fails p s gs _ left_old left_new before after ver short left (conversion.Fails.refused f h) =
-    absurd (no_fault p s gs f ver (some_text left_old s (λ x. conversion.IsConverted p x (is_refused f) before after) left h).0)
+    absurd (no_fault p s gs f ver (some_text _ s _ left h).0)
 source_fails p s gs _ left_old left_new before after ver short left (conversion.Fails.unread u consumed none) = inl refl
 source_fails p s gs _ left_old left_new before after ver short left (conversion.Fails.unwritten u at consumed stops) = inr refl
 source_fails p s gs _ left_old left_new before after ver short left (conversion.Fails.too_long u rest consumed long some none) =
@@ -94,61 +94,61 @@ module _ (unique : UniqueReading) (rise : TokensRise) (exported_games : (p : Pro
   pub same_text : SameText
   same_text p gs hs h k = (
     λ e.
-        let one = ((unique p (text_of p gs) (map (filled p.mode) gs)).0 (exported_games p gs h).spells).1 in
-        let other = ((unique p (text_of p hs) (map (filled p.mode) hs)).0 (exported_games p hs k).spells).1 in
+        let one = ((unique p (text_of p gs) _).0 (exported_games p gs h).spells).1 in
+        let other = ((unique p (text_of p hs) _).0 (exported_games p hs k).spells).1 in
         sym one ∙ ap (λ s. (read p (tokens_of s)).progress.games) e ∙ other,
     λ e. sym (exported_games p gs h).again ∙ ap (text_of p) e ∙ (exported_games p hs k).again,
   )
 
   counted_again : (p : Profile) (gs : List Game) → AreExportable p gs → counted (map (filled p.mode) gs) ≡ counted gs
   counted_again p gs h =
-      ap (λ n. record { games = n; plies = sum (map plies_of (map (filled p.mode) gs)) }) (length-map gs (filled p.mode))
+      ap (λ n. record { games = n; plies = sum (map plies_of (map (filled p.mode) gs)) }) (length-map gs _)
       ∙ ap (λ ns. record { games = length gs; plies = sum ns }) (exported_games p gs h).plies
 
   pub fixed_point : FixedPoint
   fixed_point p gs h =
       let e = exported_games p gs h in (
-        output_is unique rise p (text_of p gs) (map (filled p.mode) gs) e.spells ∙ e.again,
-        verdict_is unique rise p (text_of p gs) (map (filled p.mode) gs) e.spells ∙ ap totals (counted_again p gs h),
+        output_is unique rise p (text_of p gs) _ e.spells ∙ e.again,
+        verdict_is unique rise p (text_of p gs) (map _ gs) e.spells ∙ ap totals (counted_again p gs h),
       )
 
 -- Converting an export text.
 pub slice_is_kept : FixedPoint → ExportIsKept
 slice_is_kept fixed p gs (Ok t) before after h short done =
-    let f = fixed p gs h in written_again p (text_of p gs) gs t before after f.0 f.1 done
-slice_is_kept fixed p gs (Err f) before after h short fails = slice_fails p (text_of p gs) gs f before after (fixed p gs h).1 short fails
+    let f = fixed p gs h in written_again p _ gs t before after f.0 f.1 done
+slice_is_kept fixed p gs (Err f) before after h short fails = slice_fails p _ gs f before after (fixed p gs h).1 short fails
 
 pub source_is_kept : FixedPoint → ExportIsKeptOfSource
 source_is_kept fixed p gs (Ok t) left_old left_new before after h short left done =
     let f = fixed p gs h in
     written_again p (text_of p gs) gs t before after f.0 f.1
-    (some_text left_old (text_of p gs) (λ s. conversion.IsTotalled p s t before after) left done)
+    (some_text _ _ _ left done)
 source_is_kept fixed p gs (Err f) left_old left_new before after h short left fails =
-    source_fails p (text_of p gs) gs f left_old left_new before after (fixed p gs h).1 short left fails
+    source_fails p _ gs f _ _ before after (fixed p gs h).1 short left fails
 
 -- The same of inputs: each without a fault is the text of its games.
 module _ (unique : UniqueReading) (rise : TokensRise) where
   spelled_in : (p : Profile) (s : List ℕ) → IsExportable p s → Spells p (tokens_of s) (games_in p s)
-  spelled_in p s h = (unique p s (games_in p s)).1 (h.no_fault, refl)
+  spelled_in p s h = (unique p s _).1 (h.no_fault, refl)
 
   exportable : (p : Profile) (s : List ℕ) → IsExportable p s → AreExportable p (games_in p s)
   exportable p s h = record { source = s; spelled = spelled_in p s h; room = h.room }
 
   output_of : (p : Profile) (s : List ℕ) → IsExportable p s → output p s ≡ text_of p (games_in p s)
-  output_of p s h = output_is unique rise p s (games_in p s) (spelled_in p s h)
+  output_of p s h = output_is unique rise p s _ (spelled_in p s h)
 
   verdict_of_games : (p : Profile) (s : List ℕ) → IsExportable p s → verdict p s ≡ totals (counted (games_in p s))
-  verdict_of_games p s h = verdict_is unique rise p s (games_in p s) (spelled_in p s h)
+  verdict_of_games p s h = verdict_is unique rise p s _ (spelled_in p s h)
 
   pub exporting_twice : FixedPoint → ExportingTwice
   exporting_twice fixed p s h =
-      let again = fixed p (games_in p s) (exportable p s h) in
+      let again = fixed p _ (exportable p s h) in
       let out = output_of p s h in
       (ap (output p) out ∙ again.0 ∙ sym out, ap (verdict p) out ∙ again.1 ∙ sym (verdict_of_games p s h))
 
   pub same_output : SameText → SameOutput
   same_output same p s t h k =
-      let texts = same p (games_in p s) (games_in p t) (exportable p s h) (exportable p t k) in (
+      let texts = same p _ _ (exportable p s h) (exportable p t k) in (
         λ e. texts.0 (sym (output_of p s h) ∙ e ∙ output_of p t k),
         λ e. output_of p s h ∙ texts.1 e ∙ sym (output_of p t k),
       )

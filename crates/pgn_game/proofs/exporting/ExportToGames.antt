@@ -1,6 +1,6 @@
 -- The export text of games that some text spells: it spells them with their defaults filled in, and
 -- these have the same text.
-use Rattle.pgn_game.proofs.Words.{◌≡◌, ℕ, false, List, [], ◌∷◌, ◌++◌, length, map, refl, sym, ap, subst, ◌∙◌, append_assoc, append-nil, Some, codes, All-append, All-map, AllByRecursion, LeavesPosition, TheOneMoveIsRead, ReadingIsSpelling, WrittenMoveIsSymbol, WrittenMoveIsRead, lines_of, text_of as text_of_lines, NumbersAreSymbols, KindsAreReadBack, TokensAreSound, IsSoundKind, CommentsClose, tokens_of, written, AreEnded, IsReadable, marker_of, exported_pairs, filled, TagSectionFits, AreExportable, TextSpells, Kind, Game, value_of, Profile, start_of, plies_of, Spells, by_name, SpellsText, new_level, IsResult, SpellsGame, SpellsGames, no_game, next_game, tag_lines, tokens_out, game_text}
+use Rattle.pgn_game.proofs.Words.{◌≡◌, ℕ, false, List, [], ◌∷◌, ◌++◌, map, refl, sym, ap, subst, ◌∙◌, append_assoc, append-nil, Some, codes, All-append, All-map, AllByRecursion, LeavesPosition, TheOneMoveIsRead, ReadingIsSpelling, WrittenMoveIsSymbol, WrittenMoveIsRead, lines_of, text_of as text_of_lines, NumbersAreSymbols, KindsAreReadBack, TokensAreSound, IsSoundKind, CommentsClose, tokens_of, written, AreEnded, IsReadable, marker_of, exported_pairs, filled, TagSectionFits, AreExportable, TextSpells, Kind, Game, value_of, Profile, start_of, plies_of, Spells, by_name, IsResult, SpellsGame, SpellsGames, no_game, next_game, tag_lines, tokens_out, game_text}
 use Rattle.pgn_layout.specs.Laws.{LinesOfKeepTokens}
 use Rattle.pgn_lexer.specs.Tokens as tokens
 use Rattle.pgn_game.specs.Text.{text_of}
@@ -8,7 +8,7 @@ use Rattle.pgn_game.proofs.AllOfJoined.{all_front, all_behind}
 use Rattle.pgn_game.proofs.exporting.GameTextToGame.{ExportedPairs, exported_of, exported_result, given_result, some_exported, start_is_position}
 use Rattle.pgn_game.proofs.exporting.PairsExportedAgain.{exported_again, start_again, is_set_up_again, result_again, by_name_order}
 use Rattle.pgn_game.proofs.exporting.MovetextOfMode.{kept, KeptText, kept_text}
-use Rattle.pgn_game.proofs.exporting.PiecesToTokens.{IsWritable, AllShown, none_shown, next_shown, single, shown-append, PiecesOf, no_pieces, both_pieces, at_text, line_feed, line_pieces, tag_kinds, tag_pieces, tags_spell, tags_close}
+use Rattle.pgn_game.proofs.exporting.PiecesToTokens.{AllShown, none_shown, next_shown, single, shown-append, PiecesOf, no_pieces, both_pieces, at_text, line_feed, line_pieces, tag_kinds, tag_pieces, tags_spell, tags_close}
 use Rattle.pgn_game.proofs.reading.RunsToEnd.{kinds}
 use Rattle.pgn_game.proofs.exporting.SpelledToSound.{SoundGame, sound_game, marker_opens, marker_closed, marker_written, marker_writable}
 
@@ -28,18 +28,18 @@ abbrev game_tokens : Profile → Game → List (List ℕ)
 game_tokens p g = tokens_out p.mode (start_of g.pairs) g.items ++ g.marker ∷ []
 
 marker_shown : (k : Kind) (marker : List ℕ) → marker_of k ≡ Some marker → AllShown (k ∷ []) (marker ∷ [])
-marker_shown k marker is = subst (λ t. AllShown (k ∷ []) (t ∷ [])) (marker_written k marker is) (next_shown (k ∷ []) [] (written k) [] (single k) none_shown)
+marker_shown k marker is = subst (λ t. AllShown (k ∷ []) (t ∷ [])) (marker_written k marker is) (next_shown _ [] (written k) [] (single k) none_shown)
 
 with_kinds : (ks ls : List Kind) (s : List ℕ) → ks ≡ ls → PiecesOf ks s → PiecesOf ls s
 with_kinds ks ls s e a = record { pieces = a.pieces; text = a.text; kinds = a.kinds ∙ e; sound = a.sound; ended = a.ended }
 
 with_feed : (ks : List Kind) (s : List ℕ) → PiecesOf ks s → PiecesOf ks (s ++ 10 ∷ [])
-with_feed ks s a = with_kinds (ks ++ []) ks (s ++ 10 ∷ []) (append-nil ks) (both_pieces ks [] s (10 ∷ []) a line_feed)
+with_feed ks s a = with_kinds (ks ++ []) ks _ (append-nil ks) (both_pieces ks [] s _ a line_feed)
 
 -- the pieces of a tag section, of lines and of the empty line
 section_pieces : (tags text : List Kind) (a b : List ℕ) → PiecesOf tags a → PiecesOf text b → PiecesOf (tags ++ text) ((a ++ 10 ∷ []) ++ b ++ 10 ∷ [])
 section_pieces tags text a b h k =
-    with_feed (tags ++ text) ((a ++ 10 ∷ []) ++ b) (both_pieces tags text (a ++ 10 ∷ []) b (with_feed tags a h) k)
+    with_feed _ _ (both_pieces tags text (a ++ 10 ∷ []) b (with_feed tags a h) k)
 
 -- What is shown of exportable games: their text spells them again, it is their text again, and they
 -- have as many plies.
@@ -51,48 +51,48 @@ pub record ExportedGames (p : Profile) (gs : List Game) : Type 0 where
 module _ (one_read : TheOneMoveIsRead) (leaves : LeavesPosition) (is_symbol : WrittenMoveIsSymbol) (is_read : WrittenMoveIsRead) (numbers : NumbersAreSymbols) (reads_fen : ReadingIsSpelling) (lines_keep : LinesOfKeepTokens) where
   text_kept : (p : Profile) (g : Game) (h : SoundGame p g) → ExportedPairs p g → KeptText p.mode p (start_of g.pairs) h.text g.items
   text_kept p g h e =
-      kept_text one_read leaves is_symbol is_read numbers p.mode p (start_of g.pairs) h.text g.items (start_is_position reads_fen p.mode g.pairs e.each) h.items h.sound_text
+      kept_text one_read leaves is_symbol is_read numbers _ p _ _ _ (start_is_position reads_fen p.mode g.pairs e.each) h.items h.sound_text
 
   game_pieces : (p : Profile) (g : Game) (h : SoundGame p g) → ExportedPairs p g → (k : KeptText p.mode p (start_of g.pairs) h.text g.items)
       → PiecesOf (tag_kinds (exported_pairs p.mode g) ++ (k.kinds ++ h.last ∷ [])) (game_text p g)
   game_pieces p g h e k =
       let lines = text_of_lines (lines_of (game_tokens p g)) in
       let text = k.kinds ++ h.last ∷ [] in
-      at_text (tag_kinds (exported_pairs p.mode g) ++ text) ((game_pairs p g ++ 10 ∷ []) ++ lines ++ 10 ∷ [])
-      (game_text p g)
-      (ap (λ ps. (tag_lines ps ++ 10 ∷ []) ++ lines ++ 10 ∷ []) (sym (exported_result p.mode p.missing_result g.marker g.pairs h.result)))
-      (section_pieces (tag_kinds (exported_pairs p.mode g)) text (game_pairs p g) lines (tag_pieces (exported_pairs p.mode g) e.sound)
+      at_text _ ((game_pairs p g ++ 10 ∷ []) ++ lines ++ 10 ∷ [])
+      _
+      (ap (λ ps. (tag_lines ps ++ 10 ∷ []) ++ lines ++ 10 ∷ []) (sym (exported_result _ p.missing_result _ _ h.result)))
+      (section_pieces _ text _ lines (tag_pieces _ e.sound)
       (line_pieces text (game_tokens p g) lines
-      (shown-append k.kinds (h.last ∷ []) (tokens_out p.mode (start_of g.pairs) g.items) (g.marker ∷ []) k.shown (marker_shown h.last g.marker h.marker))
-      (All-append IsWritable k.kinds _ k.writable (marker_writable h.last g.marker h.marker h.sound_marker, tt))
-      (lines_keep (game_tokens p g))))
+      (shown-append k.kinds (h.last ∷ []) (tokens_out p.mode (start_of g.pairs) g.items) (g.marker ∷ []) k.shown (marker_shown _ _ h.marker))
+      (All-append _ k.kinds _ k.writable (marker_writable _ g.marker h.marker h.sound_marker, tt))
+      (lines_keep _)))
 
   result_meets : (p : Profile) (g : Game) → SoundGame p g → ExportedPairs p g
       → IsResult p.missing_result (value_of (by_name (exported_pairs p.mode g)) (codes "Result")) g.marker
   result_meets p g h e =
-      subst (λ o. IsResult p.missing_result o g.marker) (sym (result_again p.mode g.marker g.pairs (by_name (exported_pairs p.mode g)) e.same))
-      (given_result p.missing_result (value_of g.pairs (codes "Result")) g.marker h.result)
+      rw (result_again p.mode g.marker g.pairs (by_name (exported_pairs p.mode g)) e.same)
+      (given_result p.missing_result (value_of g.pairs (codes "Result")) _ h.result)
 
   same_start : (p : Profile) (g : Game) → ExportedPairs p g → start_of (by_name (exported_pairs p.mode g)) ≡ start_of g.pairs
-  same_start p g e = start_again p.mode g.marker g.pairs (by_name (exported_pairs p.mode g)) e.each e.same
+  same_start p g e = start_again p.mode g.marker g.pairs (by_name (exported_pairs _ g)) e.each e.same
 
   game_spells : (p : Profile) (g : Game) (h : SoundGame p g) → ExportedPairs p g → (k : KeptText p.mode p (start_of g.pairs) h.text g.items)
       → SpellsGame p (tag_kinds (exported_pairs p.mode g) ++ (k.kinds ++ h.last ∷ [])) (filled p.mode g)
   game_spells p g h e k = record {
     before = [];
-    tags = tag_kinds (exported_pairs p.mode g);
+    tags = tag_kinds _;
     text = k.kinds;
     last = h.last;
-    given = exported_pairs p.mode g;
+    given = exported_pairs _ g;
     tokens = refl;
     dropped = refl;
-    pairs = tags_spell (exported_pairs p.mode g);
+    pairs = tags_spell _;
     keeps = e.keeps;
     sorted = refl;
-    set_up = is_set_up_again p.mode g.marker g.pairs (by_name (exported_pairs p.mode g)) h.set_up e.same;
-    bare = λ none. absurd (some_exported p.mode g.marker g.pairs none);
+    set_up = is_set_up_again p.mode g.marker g.pairs (by_name (exported_pairs _ g)) h.set_up e.same;
+    bare = λ none. absurd (some_exported _ _ _ none);
     items =
-        subst (λ first. SpellsText p first 0 (new_level []) k.kinds (kept p.mode (start_of g.pairs) g.items)) (sym (same_start p g e)) k.spells;
+        rw (same_start p g e) k.spells;
     marker = h.marker;
     result = result_meets p g h e;
   }
@@ -101,9 +101,9 @@ module _ (one_read : TheOneMoveIsRead) (leaves : LeavesPosition) (is_symbol : Wr
       → CommentsClose false ((tag_kinds (exported_pairs p.mode g) ++ (k.kinds ++ h.last ∷ [])) ++ more)
   game_closed p g h k more closes =
       simp append_assoc
-      (tags_close (exported_pairs p.mode g) (k.kinds ++ h.last ∷ more)
-      (k.closes (h.last ∷ h.later) (h.last ∷ more) (λ d c. marker_opens h.last g.marker d h.later more h.marker c closes)
-      (marker_closed h.last g.marker more h.marker closes) h.closes))
+      (tags_close (exported_pairs _ g) (k.kinds ++ h.last ∷ more)
+      (k.closes (h.last ∷ h.later) _ (λ d c. marker_opens _ g.marker d _ more h.marker c closes)
+      (marker_closed _ g.marker more h.marker closes) h.closes))
 
   game_again : (p : Profile) (g : Game) (h : SoundGame p g) → ExportedPairs p g → KeptText p.mode p (start_of g.pairs) h.text g.items
       → game_text p (filled p.mode g) ≡ game_text p g
@@ -121,12 +121,12 @@ module _ (one_read : TheOneMoveIsRead) (leaves : LeavesPosition) (is_symbol : Wr
       let e = exported_of p g h room in
       let k = text_kept p g h e in
       record {
-        kinds = tag_kinds (exported_pairs p.mode g) ++ (k.kinds ++ h.last ∷ []);
+        kinds = tag_kinds _ ++ (k.kinds ++ h.last ∷ []);
         spells = game_spells p g h e k;
         pieces = game_pieces p g h e k;
         closes = game_closed p g h k;
         again = game_again p g h e k;
-        plies = ap length k.moves;
+        plies = cc;
       }
 
   -- Games, one after another.
@@ -142,12 +142,12 @@ module _ (one_read : TheOneMoveIsRead) (leaves : LeavesPosition) (is_symbol : Wr
   one_more_game p g gs a b = record {
     kinds = a.kinds ++ b.kinds;
     spells =
-        subst (λ ks. SpellsGames p ks (filled p.mode g ∷ map (filled p.mode) gs)) (sym (append_assoc a.kinds b.kinds (tokens.end ∷ [])))
-        (next_game a.kinds (b.kinds ++ tokens.end ∷ []) (filled p.mode g) (map (filled p.mode) gs) a.spells b.spells);
+        rw (append_assoc a.kinds b.kinds (tokens.end ∷ []))
+        (next_game a.kinds (b.kinds ++ tokens.end ∷ []) _ _ a.spells b.spells);
     pieces = both_pieces a.kinds b.kinds (game_text p g) (text_of p gs) a.pieces b.pieces;
-    closes = a.closes b.kinds b.closes;
-    again = ap (λ s. s ++ text_of p (map (filled p.mode) gs)) a.again ∙ ap (λ s. game_text p g ++ s) b.again;
-    plies = ap (λ n. n ∷ map plies_of (map (filled p.mode) gs)) a.plies ∙ ap (λ ns. plies_of g ∷ ns) b.plies;
+    closes = a.closes _ b.closes;
+    again = cc;
+    plies = cc;
   }
 
   written_games : (p : Profile) (ks : List Kind) (gs : List Game) → SpellsGames p ks gs → AllByRecursion IsSoundKind ks → CommentsClose false ks
@@ -155,14 +155,14 @@ module _ (one_read : TheOneMoveIsRead) (leaves : LeavesPosition) (is_symbol : Wr
   written_games p _ _ (no_game ks are) sound closes room =
       record { kinds = []; spells = no_game [] refl; pieces = no_pieces; closes = tt; again = refl; plies = refl }
   written_games p _ _ (next_game ks ls g gs first rest) sound closes room =
-      let this = sound_game p ks ls g first (all_front IsSoundKind ks ls sound) closes in
-      one_more_game p g gs (written_game p g this.0 room.0) (written_games p ls gs rest (all_behind IsSoundKind ks ls sound) this.1 room.1)
+      let this = sound_game p ks ls g first (all_front _ ks ls sound) closes in
+      one_more_game p g gs (written_game p g this.0 room.0) (written_games p ls gs rest (all_behind _ ks ls sound) this.1 room.1)
 
   module _ (sound : TokensAreSound) (read_back : KindsAreReadBack) where
     exportable_written : (p : Profile) (gs : List Game) → AreExportable p gs → WrittenGames p gs
     exportable_written p gs h =
         let is = sound h.source in
-        written_games p (kinds (tokens_of h.source)) gs h.spelled (All-map IsSoundKind (λ t. t.kind) (tokens_of h.source) is.texts) is.comments h.room
+        written_games p (kinds _) gs h.spelled (All-map _ _ _ is.texts) is.comments h.room
 
     pub text_spells : TextSpells
     text_spells p gs h =

@@ -1,6 +1,6 @@
 -- The text of a game that sound tokens spelled: it spells the game with its defaults filled in, and
 -- that game has the same text.
-use Rattle.pgn_game.proofs.Words.{◌≡◌, ℕ, ◌≤◌, true, List, [], ◌++◌, length, refl, sym, ap, subst, arith, Option, None, Some, codes, not, unwrap_or, IsTrue, Ok, Result, AllByRecursion, list_all, is_position, FenFault, ReadingIsSpelling, starts_symbol, continues_symbol, begins_with, IsSymbol, IsData, Parts, Mode, Full, Reduced, Game, Pair, value_of, Profile, Missing, counts_as, takes_the_marker, first_position, position_of, is_result, result_for, exported_pairs, TagSectionFits, start_of, start_by, position_or_first, KeepsTags, IsPair, by_name, IsResult, roster, roster_pairs, with_set_up, other_pairs, exported}
+use Rattle.pgn_game.proofs.Words.{◌≡◌, ℕ, ◌≤◌, true, List, [], length, refl, sym, subst, arith, Option, None, Some, codes, not, unwrap_or, IsTrue, Ok, Result, AllByRecursion, list_all, is_position, FenFault, ReadingIsSpelling, starts_symbol, continues_symbol, begins_with, IsSymbol, IsData, Parts, Mode, Full, Reduced, Game, Pair, value_of, Profile, Missing, counts_as, takes_the_marker, first_position, position_of, is_result, result_for, exported_pairs, TagSectionFits, start_of, start_by, position_or_first, KeepsTags, IsPair, by_name, IsResult, roster, roster_pairs, exported}
 use Rattle.chess_rules.specs.Square.{squares}
 use Rattle.pgn_lexer.specs.Lexes.{is_barred}
 use Rattle.pgn_game.proofs.reading.PairsInTurn.{all-all}
@@ -24,8 +24,8 @@ roster_result r m ps e = cc
 pub exported_result : (mode : Mode) (missing : Missing) (m : List ℕ) (ps : List Pair) → IsResult missing (value_of ps (codes "Result")) m
     → exported mode (result_for missing m) ps ≡ exported mode m ps
 exported_result Full missing m ps is =
-    ap (λ xs. xs ++ other_pairs (with_set_up ps)) (roster_result (result_for missing m) m ps (same_result missing (value_of ps (codes "Result")) m is))
-exported_result Reduced missing m ps is = roster_result (result_for missing m) m ps (same_result missing (value_of ps (codes "Result")) m is)
+    cc (roster_result (result_for missing m) m ps (same_result missing (value_of ps (codes "Result")) m is))
+exported_result Reduced missing m ps is = roster_result _ m ps (same_result missing _ m is)
 
 pub given_result : (missing : Missing) (o : Option (List ℕ)) (m : List ℕ) → IsResult missing o m → m ≡ unwrap_or o m
 given_result missing (Some v) m is = is
@@ -40,30 +40,30 @@ data_of text bytes fits = record { bytes = bytes; fits = fits }
 
 marker_data : (m : List ℕ) → is_result m ≡ true → IsData m
 marker_data m is =
-    by_marker IsData m is (data_of (codes "1-0") refl (omega arith)) (data_of (codes "0-1") refl (omega arith)) (data_of (codes "1/2-1/2") refl (omega arith))
-    (data_of (codes "*") refl (omega arith))
+    by_marker IsData m is (data_of _ refl (omega arith)) (data_of _ refl (omega arith)) (data_of _ refl (omega arith))
+    (data_of _ refl (omega arith))
 
 unknown_pair : (name : List ℕ) → IsSymbol name → IsSoundPair (record { name = name; value = codes "?" })
-unknown_pair name is = record { name = is; value = data_of (codes "?") refl (omega arith) }
+unknown_pair name is = record { name = is; value = data_of _ refl (omega arith) }
 
 sound_roster : (m : List ℕ) → is_result m ≡ true → AllByRecursion IsSoundPair (roster m)
 sound_roster m is =
-    on_roster IsSoundPair m (unknown_pair (codes "Event") (symbol_of (codes "Event") refl refl (omega arith)))
-    (unknown_pair (codes "Site") (symbol_of (codes "Site") refl refl (omega arith)))
+    on_roster _ m (unknown_pair _ (symbol_of _ refl refl (omega arith)))
+    (unknown_pair _ (symbol_of _ refl refl (omega arith)))
     (record {
-      name = symbol_of (codes "Date") refl refl (omega arith);
-      value = data_of (codes "????.??.??") refl (omega arith);
+      name = symbol_of _ refl refl (omega arith);
+      value = data_of _ refl (omega arith);
     })
-    (unknown_pair (codes "Round") (symbol_of (codes "Round") refl refl (omega arith)))
-    (unknown_pair (codes "White") (symbol_of (codes "White") refl refl (omega arith)))
-    (unknown_pair (codes "Black") (symbol_of (codes "Black") refl refl (omega arith)))
-    (record { name = symbol_of (codes "Result") refl refl (omega arith); value = marker_data m is })
+    (unknown_pair _ (symbol_of _ refl refl (omega arith)))
+    (unknown_pair _ (symbol_of _ refl refl (omega arith)))
+    (unknown_pair _ (symbol_of _ refl refl (omega arith)))
+    (record { name = symbol_of _ refl refl (omega arith); value = marker_data m is })
 
 sound_exported : (mode : Mode) (m : List ℕ) (ps : List Pair) → is_result m ≡ true → AllByRecursion IsSoundPair ps → AllByRecursion IsSoundPair (exported mode m ps)
 sound_exported mode m ps is h =
     let one : IsSoundPair set_up =
-    record { name = symbol_of (codes "SetUp") refl refl (omega arith); value = data_of (codes "1") refl (omega arith) } in
-    all-exported IsSoundPair mode m ps one (sound_roster m is) h
+    record { name = symbol_of _ refl refl (omega arith); value = data_of _ refl (omega arith) } in
+    all-exported _ mode m ps one (sound_roster m is) h
 
 pub some_exported : (mode : Mode) (m : List ℕ) (ps : List Pair) → exported mode m ps ≡ [] → ⊥
 unfolding roster
@@ -100,8 +100,8 @@ pub record ExportedPairs (p : Profile) (g : Game) : Type 0 where
 pub exported_of : (p : Profile) (g : Game) → SoundGame p g → TagSectionFits p g → ExportedPairs p g
 exported_of p g h room =
     let order = subst InOrder (sym h.sorted) (by_name_order p h.given h.keeps) in
-    let each = subst (AllByRecursion (IsPair p.mode)) (sym h.sorted) (all-all (IsPair p.mode) [] h.given tt h.keeps.each) in
-    let sound = subst (AllByRecursion IsSoundPair) (sym h.sorted) (all-all IsSoundPair [] h.given tt h.sound_pairs) in
+    let each = subst (AllByRecursion (IsPair _)) (sym h.sorted) (all-all (IsPair _) [] h.given tt h.keeps.each) in
+    let sound = subst (AllByRecursion _) (sym h.sorted) (all-all _ [] h.given tt h.sound_pairs) in
     let is = marker_is_result h.last g.marker h.marker in
     let keeps = keeps_exported p g.marker g.pairs is order each room in
     record {
@@ -109,5 +109,5 @@ exported_of p g h room =
       sound = sound_exported p.mode g.marker g.pairs is sound;
       order = order;
       each = each;
-      same = λ n. by_name_values p (exported_pairs p.mode g) n keeps;
+      same = λ n. by_name_values p (exported_pairs _ g) n keeps;
     }

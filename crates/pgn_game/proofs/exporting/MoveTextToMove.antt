@@ -1,9 +1,6 @@
 -- The text of a move that a game has: a symbol that names the same move again, after its number.
-use Rattle.pgn_game.proofs.Words.{◌≡◌, ℕ, ◌<◌, ◌≤◌, ◌^◌, Bool, true, false, List, [], ◌∷◌, ◌++◌, length, refl, sym, ap, subst, arith, Option, None, Some, ◌&&◌, ◌||◌, not, ◌==◌, nat_le, codes, decimal, bytes_eq, is_none, unwrap_or, IsTrue, IsFalse, Ok, if◌then◌else◌, AllByRecursion, list_all, false≢true, or_parts, and_parts, and_from, leb-true, Move, LeavesPosition, is_position, position_fault, one_king, pawn_on_edge, target_fits, TheOneMoveIsRead, is_letter, is_move_byte, begins_with_letter, IsMoveSymbol, WrittenMoveIsSymbol, WrittenMoveIsRead, is_digit, starts_symbol, continues_symbol, NumbersAreSymbols, begins_with, IsSymbol, CommentsClose, move_of, text_of_move, play, is_number, is_score, Parts, Played, Kind, Item, Profile, Level, replayed, without_last, Names, SpellsText, token, number, period, number_before}
-use Rattle.chess_rules.specs.declared.piece.Colour.TheVariants.{White, Black}
+use Rattle.pgn_game.proofs.Words.{◌≡◌, ℕ, ◌<◌, ◌≤◌, ◌^◌, Bool, true, false, List, [], ◌∷◌, ◌++◌, length, refl, ap, arith, Option, None, Some, ◌||◌, not, ◌==◌, nat_le, decimal, bytes_eq, is_none, unwrap_or, IsTrue, IsFalse, Ok, if◌then◌else◌, AllByRecursion, list_all, false≢true, or_parts, and_parts, and_from, leb-true, Move, LeavesPosition, is_position, TheOneMoveIsRead, is_letter, is_move_byte, begins_with_letter, IsMoveSymbol, WrittenMoveIsSymbol, WrittenMoveIsRead, is_digit, starts_symbol, continues_symbol, NumbersAreSymbols, begins_with, IsSymbol, CommentsClose, move_of, text_of_move, play, is_number, is_score, Parts, Played, Kind, Item, Profile, Level, replayed, without_last, Names, SpellsText, token, number, period, number_before}
 use Rattle.chess_rules.specs.declared.position.PositionFault.TheVariants.{Kings, PawnOnEdge, KingCapturable, TargetRank, NumberRange}
-use Rattle.chess_rules.specs.Attacks.{king_attacked}
-use Rattle.chess_rules.specs.Board.{other}
 use Rattle.pgn_lexer.specs.Tokens as tokens
 use Rattle.pgn_game.proofs.putting.PlayedMovesAreLegal.{named_is_legal}
 use Rattle.pgn_game.proofs.exporting.PiecesToTokens.{IsWritable, AllShown, next_shown, white, black}
@@ -18,11 +15,11 @@ last_test _ _ _ _ false h = absurd (false≢true h)
 
 full_fits : (q : Parts) → IsTrue (is_position q) → q.full ≤ 99999
 full_fits q e =
-    let none = (and_parts (length q.board == 64) (is_none (position_fault q)) e).1 in
+    let none = (and_parts (length q.board == 64) (is_none _) e).1 in
     let numbers =
-    last_test (not (one_king q.board White && one_king q.board Black)) (pawn_on_edge q.board) (king_attacked q.board (other q.side)) (not (target_fits q.side q.target))
-    (nat_le q.half 99999 && nat_le q.full 99999) none in
-    leb-true q.full 99999 (and_parts (nat_le q.half 99999) (nat_le q.full 99999) numbers).1
+    last_test _ _ _ _
+    _ none in
+    leb-true _ 99999 (and_parts (nat_le _ 99999) (nat_le _ 99999) numbers).1
 
 -- All positions that the moves of a trail lead through are positions.
 abbrev pub ArePositions : Parts → List Move → Type 0
@@ -56,10 +53,10 @@ begins [] e = absurd (false≢true e)
 begins (c ∷ s) e = ap (λ (b : Bool). b || is_digit c) e
 
 as_symbol : (s : List ℕ) → IsMoveSymbol s → IsSymbol s
-as_symbol s h = let fits = h.fits in record { begins = begins s h.begins; bytes = each_of is_move_byte continues_symbol s move_byte h.bytes; fits = omega arith }
+as_symbol s h = let fits = h.fits in record { begins = begins s h.begins; bytes = each_of is_move_byte _ s move_byte h.bytes; fits = omega arith }
 
 no_score : (s : List ℕ) → IsMoveSymbol s → IsFalse (is_score s)
-no_score s h = (or_parts (is_score s) (bytes_eq s (codes "*")) h.no_marker).0
+no_score s h = (or_parts _ (bytes_eq s _) h.no_marker).0
 
 module _ (one_read : TheOneMoveIsRead) (leaves : LeavesPosition) (is_symbol : WrittenMoveIsSymbol) (is_read : WrittenMoveIsRead) (numbers : NumbersAreSymbols) where
   -- a move that is named leaves a position
@@ -69,7 +66,7 @@ module _ (one_read : TheOneMoveIsRead) (leaves : LeavesPosition) (is_symbol : Wr
       let at = replayed first trail in
       let is_legal = named_is_legal one_read at s x names.one in
       let next : play at x.mv ≡ x.next = ap (λ o. unwrap_or o at) is_legal in
-      (subst (λ q. IsTrue (is_position q)) (sym next) (leaves at x.next x.mv (last_position first trail h) is_legal), h)
+      (rw next (leaves at x.next x.mv (last_position first trail h) is_legal), h)
 
   -- the text that is written for it
   pub move_symbol : (at : Parts) (s : List ℕ) (x : Played) → Names at s x → IsMoveSymbol (text_of_move at x.mv)
@@ -81,25 +78,25 @@ module _ (one_read : TheOneMoveIsRead) (leaves : LeavesPosition) (is_symbol : Wr
       some_position (Some q) = true
 
   pub writable_move : (at : Parts) (s : List ℕ) (x : Played) → Names at s x → IsWritable (tokens.symbol (text_of_move at x.mv))
-  writable_move at s x names = as_symbol (text_of_move at x.mv) (move_symbol at s x names)
+  writable_move at s x names = as_symbol _ (move_symbol at s x names)
 
   reads_again : (at : Parts) (s : List ℕ) (x : Played) → IsTrue (is_position at) → Names at s x → move_of at (text_of_move at x.mv) ≡ Some (Ok x)
   unfolding text_of_move move_of
-  reads_again at s x h names = is_read at x.next x.mv h (named_is_legal one_read at s x names.one)
+  reads_again at s x h names = is_read at _ x.mv h (named_is_legal one_read at s x names.one)
 
   pub names_again : (at : Parts) (s : List ℕ) (x : Played) → IsTrue (is_position at) → Names at s x → Names at (text_of_move at x.mv) x
   names_again at s x h names =
       let symbol = move_symbol at s x names in
       record {
         no_number = symbol.no_number;
-        no_marker = no_score (text_of_move at x.mv) symbol;
+        no_marker = no_score _ symbol;
         one = reads_again at s x h names;
         within = names.within;
       }
 
   -- its number
   number_is_symbol : (at : Parts) → IsTrue (is_position at) → IsSymbol (decimal at.full) × IsTrue (is_number (decimal at.full))
-  number_is_symbol at h = let fits = full_fits at h in let small : at.full < 2 ^ 64 = omega arith in numbers at.full small
+  number_is_symbol at h = let fits = full_fits at h in let small : at.full < 2 ^ 64 = omega arith in numbers _ small
 
   abbrev pub number_kinds : Bool → Bool → ℕ → List Kind
   number_kinds is_after_move false n = tokens.symbol (decimal n) ∷ tokens.period ∷ []
@@ -107,20 +104,20 @@ module _ (one_read : TheOneMoveIsRead) (leaves : LeavesPosition) (is_symbol : Wr
   number_kinds true true n = []
 
   pub number_shown : (b is_black : Bool) (n : ℕ) (ks : List Kind) (ts : List (List ℕ)) → AllShown ks ts → AllShown (number_kinds b is_black n ++ ks) (number_before b is_black n ++ ts)
-  number_shown b false n ks ts h = next_shown (tokens.symbol (decimal n) ∷ tokens.period ∷ []) ks (decimal n ++ codes ".") ts (white n) h
+  number_shown b false n ks ts h = next_shown (tokens.symbol _ ∷ tokens.period ∷ []) ks _ ts (white n) h
   number_shown false true n ks ts h =
-      next_shown (tokens.symbol (decimal n) ∷ tokens.period ∷ tokens.period ∷ tokens.period ∷ []) ks (decimal n ++ codes "...") ts (black n) h
+      next_shown (tokens.symbol _ ∷ tokens.period ∷ tokens.period ∷ tokens.period ∷ []) ks _ ts (black n) h
   number_shown true true n ks ts h = h
 
   pub number_spells : (p : Profile) (first at : Parts) (deep : ℕ) (l : Level) (b is_black : Bool) (ks : List Kind) (items : List Item) → IsTrue (is_position at)
       → SpellsText p first deep l ks items → SpellsText p first deep l (number_kinds b is_black at.full ++ ks) items
   number_spells p first at deep l b false ks items h text =
-      token deep l (tokens.symbol (decimal at.full)) (tokens.period ∷ ks) [] items (number (decimal at.full) (number_is_symbol at h).1)
-      (token deep l tokens.period ks [] items period text)
+      token deep l _ _ [] items (number _ (number_is_symbol at h).1)
+      (token deep l _ ks [] items period text)
   number_spells p first at deep l false true ks items h text =
-      token deep l (tokens.symbol (decimal at.full)) (tokens.period ∷ tokens.period ∷ tokens.period ∷ ks) [] items (number (decimal at.full) (number_is_symbol at h).1)
-      (token deep l tokens.period (tokens.period ∷ tokens.period ∷ ks) [] items period
-      (token deep l tokens.period (tokens.period ∷ ks) [] items period (token deep l tokens.period ks [] items period text)))
+      token deep l _ _ [] items (number _ (number_is_symbol at h).1)
+      (token deep l _ _ [] items period
+      (token deep l _ _ [] items period (token deep l _ ks [] items period text)))
   number_spells p first at deep l true true ks items h text = text
 
   pub number_writable : (at : Parts) (b is_black : Bool) → IsTrue (is_position at) → AllByRecursion IsWritable (number_kinds b is_black at.full)

@@ -1,6 +1,6 @@
 -- The movetext that is written, of all items or of the moves outside variations: it spells the
 -- items that are kept, and these are written in the same way again.
-use Rattle.pgn_game.proofs.Words.{◌≡◌, ℕ, suc, ◌+◌, Bool, true, false, cond, List, [], ◌∷◌, ◌++◌, length, map, refl, sym, ap, subst, ◌∙◌, arith, ◌==◌, filter, fold, IsTrue, AllByRecursion, ne_eqb, filter-append, fold-append, LeavesPosition, is_position, TheOneMoveIsRead, WrittenMoveIsSymbol, WrittenMoveIsRead, NumbersAreSymbols, IsSoundKind, CommentsClose, Parts, Kind, Mode, Full, Reduced, Item, Profile, Level, Levels, levels_after, first_level, back_to, depth, here, main_moves, outermost, without_last, SpellsText, no_more, token, move, variation, new_level, level_after_move, Placed, placed_from, is_main_move, written_items, tokens_from, tokens_out}
+use Rattle.pgn_game.proofs.Words.{◌≡◌, ℕ, suc, ◌+◌, Bool, true, false, cond, List, [], ◌∷◌, ◌++◌, map, refl, sym, ap, subst, ◌∙◌, arith, ◌==◌, filter, fold, IsTrue, AllByRecursion, ne_eqb, filter-append, fold-append, LeavesPosition, is_position, TheOneMoveIsRead, WrittenMoveIsSymbol, WrittenMoveIsRead, NumbersAreSymbols, IsSoundKind, CommentsClose, Parts, Kind, Mode, Full, Reduced, Item, Profile, Level, Levels, levels_after, first_level, back_to, depth, here, main_moves, outermost, without_last, SpellsText, no_more, token, move, variation, new_level, level_after_move, Placed, placed_from, is_main_move, written_items, tokens_from, tokens_out}
 use Rattle.pgn_lexer.specs.Tokens as tokens
 use Rattle.pgn_game.specs.Game as games
 use Rattle.pgn_game.proofs.AllOfJoined.{all_behind}
@@ -9,25 +9,25 @@ use Rattle.pgn_game.proofs.exporting.MovetextToItems.{level_in, aside, around_ag
 
 -- Inside variations no move is one outside them.
 inside : (n : ℕ) → (suc n == 0) ≡ false
-inside n = ne_eqb (suc n) 0 (λ e. absurd (omega arith))
+inside n = ne_eqb _ 0 (λ e. absurd (omega arith))
 
 none_main : (p : Profile) (first : Parts) (deep : ℕ) (l : Level) (ks : List Kind) (items : List Item) → SpellsText p first deep l ks items → (m : Level) (around : List Level)
     → filter is_main_move (placed_from first (level_in l (m ∷ around)) items) ≡ []
 none_main p first _ _ _ _ (no_more deep l) m around = refl
 none_main p first _ _ _ _ (token deep l k ks item items stands rest) m around =
-    (aside k item items first (level_in l (m ∷ around)) stands).1 ∙ none_main p first deep l ks items rest m around
+    (aside k item items first (level_in l _) stands).1 ∙ none_main p first deep l ks items rest m around
 none_main p first _ _ _ _ (move deep l s x ks items names rest) m around =
     let at = level_in l (m ∷ around) in
     let this : Placed = record { position = here first at; depth = depth at; item = games.move x.mv } in
-    let others = filter is_main_move (placed_from first (level_in (level_after_move x.mv l.trail) (m ∷ around)) items) in
-    ap (λ v. cond v (this ∷ others) others) (inside (length around)) ∙ none_main p first deep (level_after_move x.mv l.trail) ks items rest m around
+    let others = filter is_main_move (placed_from first (level_in _ _) items) in
+    ap (λ v. cond v (this ∷ others) others) (inside _) ∙ none_main p first deep _ ks items rest m around
 none_main p first _ _ _ _ (variation deep l ks ls items more holds room inner rest) m around =
     let at = level_in (new_level (without_last l.trail)) (l ∷ m ∷ around) in
     let end = fold levels_after at items in
-    ap (filter is_main_move) (placed_variation p first deep l ks items more inner (m ∷ around))
-    ∙ filter-append is_main_move (placed_from first at items) (close_at first end ∷ placed_from first (level_in l (m ∷ around)) more)
+    ap (filter is_main_move) (placed_variation p first deep l ks items more inner _)
+    ∙ filter-append is_main_move (placed_from first at items) (close_at first end ∷ placed_from first (level_in l _) more)
     ∙ ap (λ xs. xs ++ filter is_main_move (placed_from first (level_in l (m ∷ around)) more))
-    (none_main p first (deep + 1) (new_level (without_last l.trail)) ks items inner l (m ∷ around))
+    (none_main p first _ _ ks items inner l (m ∷ around))
     ∙ none_main p first deep l ls more rest m around
 
 -- The moves outside variations.
@@ -46,16 +46,16 @@ main_variation p first deep l ks items more inner =
     let end = fold levels_after at items in
     ap (filter is_main_move) (placed_variation p first deep l ks items more inner [])
     ∙ filter-append is_main_move (placed_from first at items) (close_at first end ∷ placed_from first (level_in l []) more)
-    ∙ ap (λ xs. xs ++ placed_main first l more) (none_main p first (deep + 1) (new_level (without_last l.trail)) ks items inner l [])
+    ∙ ap (λ xs. xs ++ placed_main first l more) (none_main p first _ _ ks items inner l [])
 
 levels_variation : (p : Profile) (first : Parts) (deep : ℕ) (l : Level) (ks : List Kind) (items more : List Item)
     → SpellsText p first (deep + 1) (new_level (without_last l.trail)) ks items
     → fold levels_after (level_in l []) (games.open_variation ∷ (items ++ games.close_variation ∷ more)) ≡ fold levels_after (level_in l []) more
 levels_variation p first deep l ks items more inner =
-    let at = level_in (new_level (without_last l.trail)) (l ∷ []) in
-    fold-append levels_after at items (games.close_variation ∷ more)
+    let at = level_in (new_level _) (l ∷ []) in
+    fold-append _ at items _
     ∙ ap (λ (x : List Level). fold levels_after (back_to x (fold levels_after at items)) more)
-    (around_again p first (deep + 1) (new_level (without_last l.trail)) ks items inner (l ∷ []))
+    (around_again p first _ _ ks items inner _)
 
 -- They are spelled by their symbols alone, lead to the same levels, and have the same places.
 record Main (p : Profile) (first : Parts) (deep : ℕ) (l : Level) (items : List Item) : Type 0 where
@@ -73,11 +73,11 @@ main_same : (p : Profile) (first : Parts) (deep : ℕ) (l : Level) (items more :
     → Main p first deep l items
 main_same p first deep l items more e same r = record {
   kinds = r.kinds;
-  spells = subst (λ xs. SpellsText p first deep l r.kinds (map (λ i. i.item) xs)) (sym e) r.spells;
+  spells = rw e r.spells;
   sound = r.sound;
   closes = r.closes;
-  placed = ap (λ xs. placed_from first (level_in l []) (map (λ i. i.item) xs)) e ∙ r.placed ∙ sym e;
-  levels = ap (λ xs. fold levels_after (level_in l []) (map (λ i. i.item) xs)) e ∙ r.levels ∙ sym same;
+  placed = cc;
+  levels = cc;
 }
 
 main : (p : Profile) (first : Parts) (deep : ℕ) (l : Level) (ks : List Kind) (items : List Item) → SpellsText p first deep l ks items → AllByRecursion IsSoundKind ks
@@ -87,11 +87,11 @@ main p first _ _ _ _ (token deep l k ks item items stands rest) sound =
     let same = aside k item items first (level_in l []) stands in
     main_same p first deep l (item ++ items) items same.1 same.0 (main p first deep l ks items rest sound.1)
 main p first _ _ _ _ (move deep l s x ks items names rest) sound =
-    let r = main p first deep (level_after_move x.mv l.trail) ks items rest sound.1 in
+    let r = main p first deep (level_after_move x.mv _) ks items rest sound.1 in
     let this : Placed = record { position = here first (level_in l []); depth = 0; item = games.move x.mv } in
     record {
       kinds = tokens.symbol s ∷ r.kinds;
-      spells = move deep l s x r.kinds (main_items first (level_after_move x.mv l.trail) items) names r.spells;
+      spells = move deep l s x r.kinds (main_items first _ items) names r.spells;
       sound = (sound.0, r.sound);
       closes = r.closes;
       placed = ap (λ xs. this ∷ xs) r.placed;
@@ -108,16 +108,16 @@ kept mode first items = map (λ i. i.item) (written_items mode (placed_from firs
 
 all_kept : (first : Parts) (ls : Levels) (items : List Item) → map (λ i. i.item) (placed_from first ls items) ≡ items
 all_kept first ls [] = refl
-all_kept first ls (x ∷ xs) = ap (λ ys. x ∷ ys) (all_kept first (levels_after ls x) xs)
+all_kept first ls (x ∷ xs) = cc (all_kept first (levels_after ls x) xs)
 
 kept_again : (x : Placed) (xs : List Placed) (b : Bool) → is_main_move x ≡ b → filter is_main_move (filter is_main_move xs) ≡ filter is_main_move xs
     → filter is_main_move (cond b (x ∷ filter is_main_move xs) (filter is_main_move xs)) ≡ cond b (x ∷ filter is_main_move xs) (filter is_main_move xs)
-kept_again x xs true e rest = ap (λ v. cond v (x ∷ filter is_main_move (filter is_main_move xs)) (filter is_main_move (filter is_main_move xs))) e ∙ ap (λ ys. x ∷ ys) rest
+kept_again x xs true e rest = cc
 kept_again x xs false e rest = rest
 
 filter_again : (xs : List Placed) → filter is_main_move (filter is_main_move xs) ≡ filter is_main_move xs
 filter_again [] = refl
-filter_again (x ∷ xs) = kept_again x xs (is_main_move x) refl (filter_again xs)
+filter_again (x ∷ xs) = kept_again x xs _ refl (filter_again xs)
 
 -- The text that is written spells what is kept, in the place of the text that was read.
 pub record KeptText (mode : Mode) (p : Profile) (first : Parts) (ks : List Kind) (items : List Item) : Type 0 where
@@ -138,7 +138,7 @@ module _ (one_read : TheOneMoveIsRead) (leaves : LeavesPosition) (is_symbol : Wr
       let same = all_kept first first_level items in
       record {
         kinds = r.kinds;
-        spells = subst (SpellsText p first 0 (new_level []) r.kinds) (sym same) r.spells;
+        spells = subst (SpellsText p first 0 _ _) (sym same) r.spells;
         shown = r.shown;
         writable = r.writable;
         closes = λ more then f h. r.closes false more then f;
@@ -147,15 +147,15 @@ module _ (one_read : TheOneMoveIsRead) (leaves : LeavesPosition) (is_symbol : Wr
       }
   kept_text Reduced p first ks items start text sound =
       let m = main p first 0 (new_level []) ks items text sound in
-      let r = rewritten one_read leaves is_symbol is_read numbers p first 0 (new_level []) m.kinds (main_items first (new_level []) items) m.spells start m.sound [] false in
+      let r = rewritten one_read leaves is_symbol is_read numbers p first 0 (new_level []) m.kinds (main_items first _ items) m.spells start m.sound [] false in
       record {
         kinds = r.kinds;
         spells = r.spells;
-        shown = subst (AllShown r.kinds) (ap (tokens_from false) m.placed) r.shown;
+        shown = subst (AllShown _) (ap (tokens_from false) m.placed) r.shown;
         writable = r.writable;
         closes = λ more then f h k. r.closes false then then (λ d x. x) (m.closes then h);
         again =
             ap (λ xs. tokens_from false (filter is_main_move xs)) m.placed
-            ∙ ap (tokens_from false) (filter_again (placed_from first first_level items));
+            ∙ ap (tokens_from false) (filter_again (placed_from first _ items));
         moves = ap (λ (ls : Levels). (outermost ls.present ls.around).trail) m.levels;
       }

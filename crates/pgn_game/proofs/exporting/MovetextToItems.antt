@@ -1,5 +1,5 @@
 -- The movetext that is written of a game spells the same items again.
-use Rattle.pgn_game.proofs.Words.{◌≡◌, ℕ, ◌+◌, ◌<◌, Bool, true, false, List, [], ◌∷◌, ◌++◌, refl, sym, ap, subst, ◌∙◌, append_assoc, codes, filter, fold, IsTrue, All-append, AllByRecursion, fold-append, LeavesPosition, TheOneMoveIsRead, WrittenMoveIsSymbol, WrittenMoveIsRead, NumbersAreSymbols, IsSoundKind, CommentsClose, written, text_of_move, is_black_to_move, is_comment, Parts, Kind, Played, Item, Profile, Level, Levels, levels_after, back_to, depth, here, without_last, replayed, StandsFor, Names, SpellsText, no_more, token, move, variation, number, period, glyph, comment_open, word, comment_close, new_level, level_after_move, Placed, placed_from, is_main_move, tokens_from, tokens_at, number_before}
+use Rattle.pgn_game.proofs.Words.{◌≡◌, ℕ, ◌+◌, ◌<◌, Bool, true, false, List, [], ◌∷◌, ◌++◌, refl, sym, ap, subst, ◌∙◌, append_assoc, codes, filter, fold, IsTrue, All-append, AllByRecursion, fold-append, LeavesPosition, TheOneMoveIsRead, WrittenMoveIsSymbol, WrittenMoveIsRead, NumbersAreSymbols, IsSoundKind, CommentsClose, written, text_of_move, is_black_to_move, is_comment, Parts, Kind, Played, Item, Profile, Level, Levels, levels_after, back_to, depth, here, without_last, replayed, StandsFor, Names, SpellsText, no_more, token, move, variation, number, period, glyph, comment_open, word, comment_close, new_level, level_after_move, Placed, placed_from, is_main_move, tokens_from, tokens_at}
 use Rattle.pgn_lexer.specs.Tokens as tokens
 use Rattle.pgn_game.specs.Game as games
 use Rattle.pgn_game.proofs.AllOfJoined.{all_front, all_behind}
@@ -23,14 +23,14 @@ pub around_again : (p : Profile) (first : Parts) (deep : ℕ) (l : Level) (ks : 
     → (around : List Level) → (fold levels_after (level_in l around) items).around ≡ around
 around_again p first _ _ _ _ (no_more deep l) around = refl
 around_again p first _ _ _ _ (token deep l k ks item items stands rest) around =
-    ap (λ (x : Levels). x.around) (aside k item items first (level_in l around) stands).0
+    ap (λ (x : Levels). x.around) (aside k item items first _ stands).0
     ∙ around_again p first deep l ks items rest around
-around_again p first _ _ _ _ (move deep l s x ks items names rest) around = around_again p first deep (level_after_move x.mv l.trail) ks items rest around
+around_again p first _ _ _ _ (move deep l s x ks items names rest) around = around_again p first deep _ ks items rest around
 around_again p first _ _ _ _ (variation deep l ks ls items more holds room inner rest) around =
-    let at = level_in (new_level (without_last l.trail)) (l ∷ around) in
-    ap (λ (x : Levels). x.around) (fold-append levels_after at items (games.close_variation ∷ more))
+    let at = level_in (new_level _) (l ∷ around) in
+    ap (λ (x : Levels). x.around) (fold-append _ at items _)
     ∙ ap (λ (x : List Level). (fold levels_after (back_to x (fold levels_after at items)) more).around)
-    (around_again p first (deep + 1) (new_level (without_last l.trail)) ks items inner (l ∷ around))
+    (around_again p first _ _ ks items inner _)
     ∙ around_again p first deep l ls more rest around
 
 -- the end of a variation
@@ -44,11 +44,11 @@ pub placed_variation : (p : Profile) (first : Parts) (deep : ℕ) (l : Level) (k
     ≡ placed_from first (level_in (new_level (without_last l.trail)) (l ∷ around)) items
     ++ (close_at first (fold levels_after (level_in (new_level (without_last l.trail)) (l ∷ around)) items) ∷ placed_from first (level_in l around) more)
 placed_variation p first deep l ks items more inner around =
-    let at = level_in (new_level (without_last l.trail)) (l ∷ around) in
-    let end = fold levels_after at items in
-    placed-append first at items (games.close_variation ∷ more)
+    let at = level_in _ _ in
+    let end = fold _ at items in
+    placed-append first at items _
     ∙ ap (λ (x : List Level). placed_from first at items ++ (close_at first end ∷ placed_from first (back_to x end) more))
-    (around_again p first (deep + 1) (new_level (without_last l.trail)) ks items inner (l ∷ around))
+    (around_again p first _ _ ks items inner _)
 
 -- What is written in the place of tokens closes its comments if they do.
 abbrev pub InPlaceOf : List Kind → List Kind → Type 0
@@ -70,7 +70,7 @@ IsLeftOut k = (c : Bool) (more : List Kind) → CommentsClose c (k ∷ more) →
 
 no_comment : (k : Kind) → GoesOn k → is_comment k ≡ false → IsLeftOut k
 no_comment k on is c more h =
-    let none = plain k c more on is h in subst (λ b. CommentsClose b more) (sym none.0) none.1
+    let none = plain k c more on is h in rw none.0 none.1
 
 left_out : (p : Profile) (first : Parts) (deep : ℕ) (l : Level) (k : Kind) (ks : List Kind) (items : List Item) (ts : List (List ℕ)) → IsLeftOut k
     → Rewritten p first deep l ks items ts → Rewritten p first deep l (k ∷ ks) items ts
@@ -79,7 +79,7 @@ left_out p first deep l k ks items ts out r = record {
   spells = r.spells;
   shown = r.shown;
   writable = r.writable;
-  closes = λ c more then f h. r.closes c more then f (out c (ks ++ more) h);
+  closes = λ c more then f h. r.closes c more then f (out c _ h);
 }
 
 -- A token is written as it was read.
@@ -101,10 +101,10 @@ written_again : (p : Profile) (first : Parts) (deep : ℕ) (l : Level) (k : Kind
     → Rewritten p first deep l (k ∷ ks) (item ++ items) (written k ∷ ts)
 written_again p first deep l k ks item items ts stands writable r = record {
   kinds = k ∷ r.kinds;
-  spells = token deep l k r.kinds item items stands r.spells;
-  shown = next_shown (k ∷ []) r.kinds (written k) ts (single k) r.shown;
+  spells = token deep l k _ item items stands r.spells;
+  shown = next_shown (k ∷ []) r.kinds _ ts (single k) r.shown;
   writable = (writable, r.writable);
-  closes = λ c more then f h. passes k c (ks ++ more) (r.kinds ++ then) (λ d. r.closes d more then f) h;
+  closes = λ c more then f h. passes k c _ _ (λ d. r.closes d more then f) h;
 }
 
 -- A variation.
@@ -112,9 +112,9 @@ variation_closes : (js ks ls ms : List Kind) → InPlaceOf js ks → InPlaceOf m
     → InPlaceOf (tokens.left_paren ∷ (js ++ tokens.right_paren ∷ ms)) (tokens.left_paren ∷ (ks ++ tokens.right_paren ∷ ls))
 variation_closes js ks ls ms inner rest true more then f h = absurd h
 variation_closes js ks ls ms inner rest false more then f h =
-    subst (CommentsClose false) (sym (append_assoc js (tokens.right_paren ∷ ms) then))
-    (inner false (tokens.right_paren ∷ (ls ++ more)) (tokens.right_paren ∷ (ms ++ then)) behind
-    (subst (CommentsClose false) (append_assoc ks (tokens.right_paren ∷ ls) more) h))
+    rw (append_assoc js (tokens.right_paren ∷ ms) then)
+    (inner false (tokens.right_paren ∷ (ls ++ more)) _ behind
+    (rw (append_assoc ks (tokens.right_paren ∷ ls) more) at h))
   where
     behind : (d : Bool) → CommentsClose d (tokens.right_paren ∷ (ls ++ more)) → CommentsClose d (tokens.right_paren ∷ (ms ++ then))
     behind false k = rest false more then f k
@@ -126,11 +126,11 @@ variation_again : (p : Profile) (first : Parts) (deep : ℕ) (l : Level) (ks ls 
     (codes "(" ∷ (ts ++ codes ")" ∷ us))
 variation_again p first deep l ks ls items more ts us holds room a b = record {
   kinds = tokens.left_paren ∷ (a.kinds ++ tokens.right_paren ∷ b.kinds);
-  spells = variation deep l a.kinds b.kinds items more holds room a.spells b.spells;
+  spells = variation deep l _ _ items more holds room a.spells b.spells;
   shown =
-      next_shown (tokens.left_paren ∷ []) (a.kinds ++ tokens.right_paren ∷ b.kinds) (codes "(") (ts ++ codes ")" ∷ us) (single tokens.left_paren)
-      (shown-append a.kinds (tokens.right_paren ∷ b.kinds) ts (codes ")" ∷ us) a.shown
-      (next_shown (tokens.right_paren ∷ []) b.kinds (codes ")") us (single tokens.right_paren) b.shown));
+      next_shown _ _ _ _ (single _)
+      (shown-append a.kinds (tokens.right_paren ∷ b.kinds) ts _ a.shown
+      (next_shown _ _ _ us (single _) b.shown));
   writable = (tt, All-append IsWritable a.kinds (tokens.right_paren ∷ b.kinds) a.writable (tt, b.writable));
   closes = variation_closes a.kinds ks ls b.kinds a.closes b.closes;
 }
@@ -146,7 +146,7 @@ tokens_of_variation p first deep l ks items more inner around b =
     let end = fold levels_after at items in
     ap (λ xs. codes "(" ∷ xs)
     (ap (tokens_from false) (placed_variation p first deep l ks items more inner around)
-    ∙ tokens_from-append false (placed_from first at items) (close_at first end ∷ placed_from first (level_in l around) more))
+    ∙ tokens_from-append false _ (close_at first end ∷ placed_from first _ more))
 
 module _ (one_read : TheOneMoveIsRead) (leaves : LeavesPosition) (is_symbol : WrittenMoveIsSymbol) (is_read : WrittenMoveIsRead) (numbers : NumbersAreSymbols) where
   -- A move, with its number.
@@ -164,10 +164,10 @@ module _ (one_read : TheOneMoveIsRead) (leaves : LeavesPosition) (is_symbol : Wr
             number_spells one_read leaves is_symbol is_read numbers p first at deep l b is_black (tokens.symbol text ∷ r.kinds) (games.move x.mv ∷ items) here
             (move deep l text x r.kinds items (names_again one_read leaves is_symbol is_read numbers at s x here names) r.spells);
         shown =
-            subst (AllShown (number_kinds one_read leaves is_symbol is_read numbers b is_black at.full ++ tokens.symbol text ∷ r.kinds))
-            (sym (append_assoc (number_before b is_black at.full) (text ∷ []) ts))
+            subst (AllShown (number_kinds one_read leaves is_symbol is_read numbers b _ _ ++ tokens.symbol text ∷ r.kinds))
+            (sym (append_assoc _ _ ts))
             (number_shown one_read leaves is_symbol is_read numbers b is_black at.full (tokens.symbol text ∷ r.kinds) (text ∷ ts)
-            (next_shown (tokens.symbol text ∷ []) r.kinds text ts (single (tokens.symbol text)) r.shown));
+            (next_shown _ _ text ts (single _) r.shown));
         writable =
             All-append IsWritable (number_kinds one_read leaves is_symbol is_read numbers b is_black at.full)
             (tokens.symbol text ∷ r.kinds)
@@ -210,13 +210,13 @@ module _ (one_read : TheOneMoveIsRead) (leaves : LeavesPosition) (is_symbol : Wr
       (rewritten p first deep l ks items rest h sound.1 around false)
   rewritten p first _ _ _ _ (move deep l s x ks items names rest) h sound around b =
       move_again p first deep l s x ks items _ b names h
-      (rewritten p first deep (level_after_move x.mv l.trail) ks items rest (plays_on one_read leaves is_symbol is_read numbers first l.trail s x names h) sound.1 around true)
+      (rewritten p first deep _ ks items rest (plays_on one_read leaves is_symbol is_read numbers first _ s x names h) sound.1 around true)
   rewritten p first _ _ _ _ (variation deep l ks ls items more holds room inner rest) h sound around b =
       let sound_in = all_front IsSoundKind ks (tokens.right_paren ∷ ls) sound.1 in
       let sound_behind = all_behind IsSoundKind ks (tokens.right_paren ∷ ls) sound.1 in
       subst
-      (Rewritten p first deep l (tokens.left_paren ∷ (ks ++ tokens.right_paren ∷ ls)) (games.open_variation ∷ (items ++ games.close_variation ∷ more)))
+      (Rewritten p first deep l _ _)
       (sym (tokens_of_variation p first deep l ks items more inner around b))
       (variation_again p first deep l ks ls items more _ _ holds room
-      (rewritten p first (deep + 1) (new_level (without_last l.trail)) ks items inner (earlier_positions first l.trail h) sound_in (l ∷ around) false)
+      (rewritten p first _ _ ks items inner (earlier_positions first _ h) sound_in _ false)
       (rewritten p first deep l ls more rest h sound_behind.1 around false))

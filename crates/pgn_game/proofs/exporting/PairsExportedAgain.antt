@@ -1,5 +1,5 @@
 -- Exported tag pairs are tag pairs of a game again, and exporting them again changes nothing.
-use Rattle.pgn_game.proofs.Words.{◌≡◌, ℕ, ◌+◌, ◌≤◌, Bool, true, false, cond, List, [], ◌∷◌, ◌++◌, length, map, drop, refl, sym, ap, subst, ◌∙◌, arith, Option, None, Some, inl, inr, ◌&&◌, ◌||◌, not, bytes_eq, is_some, unwrap_or, codes, IsTrue, IsFalse, AllByRecursion, list_all, false≢true, cases_Bool, or_cases, escaped, Mode, Full, Reduced, Profile, Pair, value_of, has_pair, roster, in_roster, roster_pairs, with_set_up, other_pairs, exported, in_name, is_score, is_result, start_by, start_of, IsPair, AreDistinct, KeepsTags, IsSetUp, by_name}
+use Rattle.pgn_game.proofs.Words.{◌≡◌, ℕ, ◌+◌, ◌≤◌, Bool, true, false, cond, List, [], ◌∷◌, ◌++◌, length, map, drop, refl, sym, ap, subst, ◌∙◌, arith, Option, None, Some, inl, inr, ◌&&◌, ◌||◌, not, bytes_eq, is_some, unwrap_or, codes, IsTrue, IsFalse, AllByRecursion, list_all, false≢true, cases_Bool, or_cases, escaped, Mode, Full, Reduced, Profile, Pair, value_of, has_pair, roster, in_roster, roster_pairs, with_set_up, other_pairs, exported, in_name, is_score, is_result, start_of, IsPair, AreDistinct, KeepsTags, IsSetUp, by_name}
 use Rattle.pgn_game.proofs.reading.PairsInTurn.{takes, value_of-all, order-all}
 use Rattle.pgn_game.proofs.pairs.ExportedValues.{with_default, without_set_up, set_up, set_up_if, set_up_gone, set_up_values, no_fen, no_set_up, other_value, exported_known, exported_other, exported_none, no_set_up_of, on_roster, all-exported}
 use Rattle.pgn_game.proofs.pairs.NameOrder.{InOrder, order-insert, order-filter, same_pairs, distinct_in_order}
@@ -9,12 +9,12 @@ use Rattle.pgn_game.proofs.pairs.ValuesByName.{bytes_eq-true, bytes_eq-refl, pic
 order_set_up : (ps : List Pair) → InOrder ps → InOrder (with_set_up ps)
 order_set_up ps h =
     elim (has_pair ps (codes "FEN")) as (λ b. InOrder (set_up_if b ps)) [
-      | true ↦ order-insert set_up (without_set_up ps) (set_up_gone ps) (order-filter (λ p. not (bytes_eq p.name (codes "SetUp"))) ps h)
+      | true ↦ order-insert set_up (without_set_up ps) (set_up_gone ps) (order-filter _ ps h)
       | false ↦ h
     ]
 
 order_others : (ps : List Pair) → InOrder ps → InOrder (other_pairs (with_set_up ps))
-order_others ps h = order-filter (λ p. not (in_roster p.name)) (with_set_up ps) (order_set_up ps h)
+order_others ps h = order-filter (λ p. not _) (with_set_up ps) (order_set_up ps h)
 
 -- Exporting again.
 abbrev Same_values : Mode → List ℕ → List Pair → List Pair → Type 0
@@ -24,7 +24,7 @@ same_default : (fs ps ds : List Pair) → AllByRecursion (λ d. value_of fs d.na
     → map (with_default fs) ds ≡ map (with_default ps) ds
 same_default fs ps [] h = refl
 same_default fs ps (d ∷ ds) h =
-    ap (λ o. record { name = d.name; value = unwrap_or o d.value } ∷ map (with_default fs) ds) h.0 ∙ ap (λ xs. with_default ps d ∷ xs) (same_default fs ps ds h.1)
+    cc (same_default fs ps ds h.1)
 
 roster_again : (mode : Mode) (m : List ℕ) (ps fs : List Pair) → Same_values mode m ps fs → roster_pairs m fs ≡ roster_pairs m ps
 unfolding roster
@@ -44,7 +44,7 @@ pick_again true v o = refl
 pick_again false v o = refl
 
 fen_again : (m : List ℕ) (ps fs : List Pair) → Same_values Full m ps fs → value_of fs (codes "FEN") ≡ value_of ps (codes "FEN")
-fen_again m ps fs same = same (codes "FEN") ∙ exported_other m ps (codes "FEN") refl ∙ no_set_up ps (codes "FEN") refl
+fen_again m ps fs same = same _ ∙ exported_other m ps _ refl ∙ no_set_up ps _ refl
 
 set_up_again : (m : List ℕ) (ps fs : List Pair) (n : List ℕ) → Same_values Full m ps fs → in_roster n ≡ false
     → value_of (with_set_up fs) n ≡ value_of (with_set_up ps) n
@@ -56,8 +56,8 @@ set_up_again m ps fs n same other =
 others_again : (m : List ℕ) (ps fs : List Pair) → InOrder ps → InOrder fs → Same_values Full m ps fs
     → other_pairs (with_set_up fs) ≡ other_pairs (with_set_up ps)
 others_again m ps fs h k same =
-    same_pairs (other_pairs (with_set_up fs)) (other_pairs (with_set_up ps)) (order_others fs k) (order_others ps h)
-    (λ n. other_value fs n ∙ by_roster n (in_roster n) refl ∙ sym (other_value ps n))
+    same_pairs _ _ (order_others fs k) (order_others ps h)
+    (λ n. other_value fs n ∙ by_roster n _ refl ∙ sym (other_value ps n))
   where
     by_roster : (n : List ℕ) (b : Bool) → in_roster n ≡ b
         → cond (not b) (value_of (with_set_up fs) n) None ≡ cond (not b) (value_of (with_set_up ps) n) None
@@ -67,7 +67,7 @@ others_again m ps fs h k same =
 pub exported_again : (mode : Mode) (m : List ℕ) (ps fs : List Pair) → InOrder ps → InOrder fs → Same_values mode m ps fs
     → exported mode m fs ≡ exported mode m ps
 exported_again Full m ps fs h k same =
-    ap (λ xs. xs ++ other_pairs (with_set_up fs)) (roster_again Full m ps fs same) ∙ ap (λ xs. roster_pairs m ps ++ xs) (others_again m ps fs h k same)
+    cc (roster_again Full m ps fs same, others_again m ps fs h k same)
 exported_again Reduced m ps fs h k same = roster_again Reduced m ps fs same
 
 -- Where the game begins, its SetUp, and its Result.
@@ -84,25 +84,25 @@ result_of m = refl
 
 no_fen_in_reduced : (ps : List Pair) → AllByRecursion (IsPair Reduced) ps → (o : Option (List ℕ)) → value_of ps (codes "FEN") ≡ o → o ≡ None
 no_fen_in_reduced ps each None e = refl
-no_fen_in_reduced ps each (Some v) e = let full = ((found (IsPair Reduced) ps (codes "FEN") v each e).fen refl).0 in absurd (cc)
+no_fen_in_reduced ps each (Some v) e = let full = ((found _ ps _ v each e).fen refl).0 in absurd (cc)
 
 pub start_again : (mode : Mode) (m : List ℕ) (ps fs : List Pair) → AllByRecursion (IsPair mode) ps → Same_values mode m ps fs → start_of fs ≡ start_of ps
-start_again Full m ps fs each same = ap start_by (fen_again m ps fs same)
+start_again Full m ps fs each same = cc (fen_again m ps fs same)
 start_again Reduced m ps fs each same =
-    ap start_by (no_value_in_reduced m ps fs (codes "FEN") same (no_fen_of m) ∙ sym (no_fen_in_reduced ps each (value_of ps (codes "FEN")) refl))
+    cc (no_value_in_reduced m ps fs (codes "FEN") same (no_fen_of m), no_fen_in_reduced ps each (value_of ps (codes "FEN")) refl)
 
 pub is_set_up_again : (mode : Mode) (m : List ℕ) (ps fs : List Pair) → IsSetUp ps → Same_values mode m ps fs → IsSetUp fs
 is_set_up_again Full m ps fs h same e =
     ap is_some (fen_again m ps fs same)
-    ∙ elim (cases_Bool (has_pair ps (codes "FEN"))) [
+    ∙ elim (cases_Bool _) [
       | inl has ↦ has
-      | inr none ↦ h (sym (same (codes "SetUp") ∙ exported_other m ps (codes "SetUp") refl ∙ no_fen ps (codes "SetUp") none) ∙ e)
+      | inr none ↦ h (sym (same _ ∙ exported_other m ps _ refl ∙ no_fen ps _ none) ∙ e)
     ]
 is_set_up_again Reduced m ps fs h same e = let none = no_value_in_reduced m ps fs (codes "SetUp") same (no_set_up_of m) in absurd (cc)
 
 pub result_again : (mode : Mode) (m : List ℕ) (ps fs : List Pair) → Same_values mode m ps fs
     → value_of fs (codes "Result") ≡ Some (unwrap_or (value_of ps (codes "Result")) m)
-result_again mode m ps fs same = same (codes "Result") ∙ exported_known mode m ps (codes "Result") m (result_of m)
+result_again mode m ps fs same = same _ ∙ exported_known mode m ps _ m (result_of m)
 
 -- What is asked of pairs.
 differ : (a b : List ℕ) → bytes_eq a b ≡ false → a ≡ b → ⊥
@@ -113,41 +113,41 @@ plain_pair : (mode : Mode) (n v : List ℕ) → IsTrue (list_all in_name n) → 
 plain_pair mode n v name room no_result no_fen = record {
   name = name;
   room = room;
-  result = λ e. absurd (differ n (codes "Result") no_result e);
-  fen = λ e. absurd (differ n (codes "FEN") no_fen e);
+  result = λ e. absurd (differ n _ no_result e);
+  fen = λ e. absurd (differ n _ no_fen e);
 }
 
 pub by_marker : (P : List ℕ → Type 0) (m : List ℕ) → is_result m ≡ true → P (codes "1-0") → P (codes "0-1") → P (codes "1/2-1/2") → P (codes "*") → P m
 by_marker P m e a b c d =
-    elim (or_cases (is_score m) (bytes_eq m (codes "*")) e) [
-      | inl f ↦ elim (or_cases (bytes_eq m (codes "1-0") || bytes_eq m (codes "0-1")) (bytes_eq m (codes "1/2-1/2")) f) [
-        | inl g ↦ elim (or_cases (bytes_eq m (codes "1-0")) (bytes_eq m (codes "0-1")) g) [
-          | inl h ↦ subst P (sym (bytes_eq-true m (codes "1-0") h)) a
-          | inr h ↦ subst P (sym (bytes_eq-true m (codes "0-1") h)) b
+    elim (or_cases (is_score m) (bytes_eq m _) e) [
+      | inl f ↦ elim (or_cases (bytes_eq m _ || bytes_eq m _) (bytes_eq m _) f) [
+        | inl g ↦ elim (or_cases (bytes_eq m _) (bytes_eq m _) g) [
+          | inl h ↦ subst P (sym (bytes_eq-true m _ h)) a
+          | inr h ↦ subst P (sym (bytes_eq-true m _ h)) b
         ]
-        | inr g ↦ subst P (sym (bytes_eq-true m (codes "1/2-1/2") g)) c
+        | inr g ↦ subst P (sym (bytes_eq-true m _ g)) c
       ]
-      | inr f ↦ subst P (sym (bytes_eq-true m (codes "*") f)) d
+      | inr f ↦ subst P (sym (bytes_eq-true m _ f)) d
     ]
 
 marker_room : (m : List ℕ) → is_result m ≡ true → length (codes "Result") + length (escaped m) ≤ 249
 marker_room m e = by_marker (λ x. length (codes "Result") + length (escaped x) ≤ 249) m e (omega arith) (omega arith) (omega arith) (omega arith)
 
 result_pair : (mode : Mode) (m : List ℕ) → is_result m ≡ true → IsPair mode (record { name = codes "Result"; value = m })
-result_pair mode m e = record { name = refl; room = marker_room m e; result = λ f. e; fen = λ f. absurd (differ (codes "Result") (codes "FEN") refl f) }
+result_pair mode m e = record { name = refl; room = marker_room m e; result = λ f. e; fen = λ f. absurd (differ _ _ refl f) }
 
 each_of_roster : (mode : Mode) (m : List ℕ) → is_result m ≡ true → AllByRecursion (IsPair mode) (roster m)
 each_of_roster mode m e =
-    on_roster (IsPair mode) m (plain_pair mode (codes "Event") (codes "?") refl (omega arith) refl refl)
-    (plain_pair mode (codes "Site") (codes "?") refl (omega arith) refl refl)
-    (plain_pair mode (codes "Date") (codes "????.??.??") refl (omega arith) refl refl)
-    (plain_pair mode (codes "Round") (codes "?") refl (omega arith) refl refl)
-    (plain_pair mode (codes "White") (codes "?") refl (omega arith) refl refl)
-    (plain_pair mode (codes "Black") (codes "?") refl (omega arith) refl refl) (result_pair mode m e)
+    on_roster _ m (plain_pair mode _ _ refl (omega arith) refl refl)
+    (plain_pair mode _ _ refl (omega arith) refl refl)
+    (plain_pair mode _ _ refl (omega arith) refl refl)
+    (plain_pair mode _ _ refl (omega arith) refl refl)
+    (plain_pair mode _ _ refl (omega arith) refl refl)
+    (plain_pair mode _ _ refl (omega arith) refl refl) (result_pair mode m e)
 
 each_exported : (mode : Mode) (m : List ℕ) (ps : List Pair) → is_result m ≡ true → AllByRecursion (IsPair mode) ps → AllByRecursion (IsPair mode) (exported mode m ps)
 each_exported mode m ps e h =
-    all-exported (IsPair mode) mode m ps (plain_pair mode (codes "SetUp") (codes "1") refl (omega arith) refl refl)
+    all-exported _ mode m ps (plain_pair mode _ _ refl (omega arith) refl refl)
     (each_of_roster mode m e) h
 
 -- no name is exported twice
@@ -156,8 +156,8 @@ roster_distinct : (m : List ℕ) (ps others : List Pair) → ((n : List ℕ) →
 unfolding roster
 roster_distinct m ps others off h =
     let rest : AreDistinct (drop 4 (roster_pairs m ps) ++ others) =
-    (off (codes "White") refl, (off (codes "Black") refl, (off (codes "Result") refl, h))) in
-    (off (codes "Event") refl, (off (codes "Site") refl, (off (codes "Date") refl, (off (codes "Round") refl, rest))))
+    (off _ refl, (off _ refl, (off _ refl, h))) in
+    (off _ refl, (off _ refl, (off _ refl, (off _ refl, rest))))
 
 roster_alone : (m : List ℕ) (ps : List Pair) → AreDistinct (roster_pairs m ps)
 unfolding roster
@@ -165,17 +165,17 @@ roster_alone m ps = (refl, (refl, (refl, (refl, (refl, (refl, (refl, tt)))))))
 
 distinct_exported : (mode : Mode) (m : List ℕ) (ps : List Pair) → InOrder ps → AreDistinct (exported mode m ps)
 distinct_exported Full m ps h =
-    roster_distinct m ps (other_pairs (with_set_up ps))
+    roster_distinct m ps _
     (λ n e. ap is_some (other_value ps n) ∙ ap (λ (b : Bool). is_some (cond (not b) (value_of (with_set_up ps) n) None)) e)
-    (distinct_in_order (other_pairs (with_set_up ps)) (order_others ps h))
+    (distinct_in_order _ (order_others ps h))
 distinct_exported Reduced m ps h = roster_alone m ps
 
 pub keeps_exported : (p : Profile) (m : List ℕ) (ps : List Pair) → is_result m ≡ true → InOrder ps → AllByRecursion (IsPair p.mode) ps → length (exported p.mode m ps) ≤ p.tags
     → KeepsTags p (exported p.mode m ps)
 keeps_exported p m ps e order each room = record {
   count = room;
-  each = each_exported p.mode m ps e each;
-  distinct = distinct_exported p.mode m ps order;
+  each = each_exported _ m ps e each;
+  distinct = distinct_exported _ m ps order;
 }
 
 -- pairs that are kept have their values and their order by name

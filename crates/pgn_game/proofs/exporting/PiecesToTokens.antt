@@ -22,7 +22,7 @@ pub data AllShown : List Kind → List (List ℕ) → Type 0 where
 pub shown-append : (ks ls : List Kind) (ts us : List (List ℕ)) → AllShown ks ts → AllShown ls us → AllShown (ks ++ ls) (ts ++ us)
 shown-append _ ls _ us none_shown more = more
 shown-append _ ls _ us (next_shown ks js t ts first rest) more =
-    subst (λ xs. AllShown xs (t ∷ (ts ++ us))) (sym (append_assoc ks js ls)) (next_shown ks (js ++ ls) t (ts ++ us) first (shown-append js ls ts us rest more))
+    rw (append_assoc ks js ls) (next_shown ks _ t _ first (shown-append js ls ts us rest more))
 
 -- Pieces of a text, with these kinds. Whatever comes behind them, each is ended.
 pub record PiecesOf (ks : List Kind) (s : List ℕ) : Type 0 where
@@ -34,12 +34,12 @@ pub record PiecesOf (ks : List Kind) (s : List ℕ) : Type 0 where
 
 text-append : (ps qs : List Piece) → text_of_pieces (ps ++ qs) ≡ text_of_pieces ps ++ text_of_pieces qs
 text-append [] qs = refl
-text-append (written.token k ∷ ps) qs = ap (λ s. written.written k ++ s) (text-append ps qs) ∙ sym (append_assoc (written.written k) (text_of_pieces ps) (text_of_pieces qs))
-text-append (written.space b ∷ ps) qs = ap (λ s. b ∷ s) (text-append ps qs)
+text-append (written.token k ∷ ps) qs = cc (text-append ps qs, append_assoc (written.written k) (text_of_pieces ps) (text_of_pieces qs))
+text-append (written.space b ∷ ps) qs = cc (text-append ps qs)
 
 kinds-append : (ps qs : List Piece) → kinds_in (ps ++ qs) ≡ kinds_in ps ++ kinds_in qs
 kinds-append [] qs = refl
-kinds-append (written.token k ∷ ps) qs = ap (λ ks. k ∷ ks) (kinds-append ps qs)
+kinds-append (written.token k ∷ ps) qs = cc (kinds-append ps qs)
 kinds-append (written.space b ∷ ps) qs = kinds-append ps qs
 
 pub no_pieces : PiecesOf [] []
@@ -51,8 +51,8 @@ line_feed = record { pieces = written.space 10 ∷ []; text = refl; kinds = refl
 pub both_pieces : (ks ls : List Kind) (s t : List ℕ) → PiecesOf ks s → PiecesOf ls t → PiecesOf (ks ++ ls) (s ++ t)
 both_pieces ks ls s t a b = record {
   pieces = a.pieces ++ b.pieces;
-  text = text-append a.pieces b.pieces ∙ ap (λ x. x ++ text_of_pieces b.pieces) a.text ∙ ap (λ x. s ++ x) b.text;
-  kinds = kinds-append a.pieces b.pieces ∙ ap (λ x. x ++ kinds_in b.pieces) a.kinds ∙ ap (λ x. ks ++ x) b.kinds;
+  text = cc (text-append a.pieces b.pieces);
+  kinds = cc (kinds-append a.pieces b.pieces);
   sound = All-append IsPiece a.pieces b.pieces a.sound b.sound;
   ended = λ more h. subst AreEnded (sym (append_assoc a.pieces b.pieces more)) (a.ended (b.pieces ++ more) (b.ended more h));
 }
@@ -83,7 +83,7 @@ shown_pieces _ _ b (single k) h gap = record {
   ended = λ more rest. (gap_ends b (text_of_pieces more) k gap, rest);
 }
 shown_pieces _ _ b (white n) h gap = record {
-  pieces = written.token (tokens.symbol (decimal n)) ∷ written.token tokens.period ∷ written.space b ∷ [];
+  pieces = written.token _ ∷ written.token _ ∷ written.space b ∷ [];
   text = sym (append_assoc (decimal n) (codes ".") (b ∷ []));
   kinds = refl;
   sound = (h.0, (tt, (gap_is_space b gap, tt)));
@@ -91,7 +91,7 @@ shown_pieces _ _ b (white n) h gap = record {
 }
 shown_pieces _ _ b (black n) h gap = record {
   pieces =
-      written.token (tokens.symbol (decimal n)) ∷ written.token tokens.period ∷ written.token tokens.period ∷ written.token tokens.period ∷ written.space b ∷ [];
+      written.token _ ∷ written.token _ ∷ written.token _ ∷ written.token _ ∷ written.space b ∷ [];
   text = sym (append_assoc (decimal n) (codes "...") (b ∷ []));
   kinds = refl;
   sound = (h.0, (tt, (tt, (tt, (gap_is_space b gap, tt)))));
@@ -104,9 +104,9 @@ at_text ks s t e a = record { pieces = a.pieces; text = a.text ∙ e; kinds = a.
 pub line_pieces : (ks : List Kind) (ts : List (List ℕ)) (s : List ℕ) → AllShown ks ts → AllByRecursion IsWritable ks → IsTextOf ts s → PiecesOf ks s
 line_pieces _ _ _ none_shown h no_token = no_pieces
 line_pieces _ _ _ (next_shown ks ls _ _ first rest) h (next_token t b ts s gap more) =
-    at_text (ks ++ ls) ((t ++ b ∷ []) ++ s) (t ++ b ∷ s) (append_assoc t (b ∷ []) s)
-    (both_pieces ks ls (t ++ b ∷ []) s (shown_pieces ks t b first (all_front IsWritable ks ls h) gap)
-    (line_pieces ls ts s rest (all_behind IsWritable ks ls h) more))
+    at_text _ ((t ++ b ∷ []) ++ s) _ (append_assoc t _ s)
+    (both_pieces ks ls (t ++ b ∷ []) s (shown_pieces ks t b first (all_front _ ks ls h) gap)
+    (line_pieces ls ts s rest (all_behind _ ks ls h) more))
 
 -- Tag lines.
 pub record IsSoundPair (q : Pair) : Type 0 where
@@ -127,9 +127,9 @@ one_tag : (q : Pair) → IsSoundPair q
     → PiecesOf (tokens.left_bracket ∷ tokens.symbol q.name ∷ tokens.str q.value ∷ tokens.right_bracket ∷ []) (tag_line q.name q.value)
 one_tag q h = record {
   pieces =
-      written.token tokens.left_bracket ∷ written.token (tokens.symbol q.name) ∷ written.space 32 ∷ written.token (tokens.str q.value)
-      ∷ written.token tokens.right_bracket ∷ written.space 10 ∷ [];
-  text = tag_text q.name q.value;
+      written.token _ ∷ written.token _ ∷ written.space 32 ∷ written.token _
+      ∷ written.token _ ∷ written.space 10 ∷ [];
+  text = tag_text _ q.value;
   kinds = refl;
   sound = (tt, (h.name, (refl, (h.value, (tt, (refl, tt))))));
   ended = λ more rest. (tt, (refl, (tt, (tt, rest))));
@@ -138,15 +138,15 @@ one_tag q h = record {
 pub tag_pieces : (qs : List Pair) → AllByRecursion IsSoundPair qs → PiecesOf (tag_kinds qs) (tag_lines qs)
 tag_pieces [] h = no_pieces
 tag_pieces (q ∷ qs) h =
-    both_pieces (tokens.left_bracket ∷ tokens.symbol q.name ∷ tokens.str q.value ∷ tokens.right_bracket ∷ []) (tag_kinds qs) (tag_line q.name q.value) (tag_lines qs)
+    both_pieces (tokens.left_bracket ∷ tokens.symbol _ ∷ tokens.str _ ∷ tokens.right_bracket ∷ []) (tag_kinds qs) (tag_line _ q.value) (tag_lines qs)
     (one_tag q h.0) (tag_pieces qs h.1)
 
 -- they spell the pairs
 pub tags_spell : (qs : List Pair) → SpellsPairs (tag_kinds qs) qs
 tags_spell [] = no_pair
 tags_spell (q ∷ qs) =
-    next_pair (tokens.left_bracket ∷ tokens.symbol q.name ∷ tokens.str q.value ∷ tokens.right_bracket ∷ []) (tag_kinds qs) q qs
-    (pair [] [] [] q.name q.value refl refl refl) (tags_spell qs)
+    next_pair (tokens.left_bracket ∷ tokens.symbol _ ∷ tokens.str _ ∷ tokens.right_bracket ∷ []) (tag_kinds qs) q qs
+    (pair [] [] [] q.name _ refl refl refl) (tags_spell qs)
 
 pub tags_close : (qs : List Pair) (more : List Kind) → CommentsClose false more → CommentsClose false (tag_kinds qs ++ more)
 tags_close [] more h = h

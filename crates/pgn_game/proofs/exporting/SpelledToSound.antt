@@ -1,5 +1,5 @@
 -- What is known of a game that a text spells: its tokens are sound, and its comments close.
-use Rattle.pgn_game.proofs.Words.{◌≡◌, ℕ, ◌+◌, Bool, true, false, List, [], ◌∷◌, ◌++◌, refl, sym, ap, subst, ◌∙◌, append_assoc, Some, ◌||◌, codes, bytes_eq, AllByRecursion, list_all, All-append, false≢true, and_parts, IsSoundKind, CommentsClose, written, is_comment, is_score, is_result, marker_of, Parts, Kind, Item, Game, Pair, value_of, Profile, Level, start_of, AreDropped, SpellsPair, pair, SpellsPairs, no_pair, next_pair, KeepsTags, by_name, IsSetUp, SpellsText, no_more, token, move, variation, StandsFor, number, new_level, BeginsBare, IsResult, SpellsGame}
+use Rattle.pgn_game.proofs.Words.{◌≡◌, ℕ, Bool, true, false, List, [], ◌∷◌, ◌++◌, refl, ap, subst, append_assoc, Some, codes, AllByRecursion, list_all, All-append, false≢true, and_parts, IsSoundKind, CommentsClose, written, is_comment, is_result, marker_of, Parts, Kind, Item, Game, Pair, value_of, Profile, Level, start_of, AreDropped, SpellsPair, pair, SpellsPairs, no_pair, next_pair, KeepsTags, by_name, IsSetUp, SpellsText, no_more, token, move, variation, StandsFor, number, new_level, BeginsBare, IsResult, SpellsGame}
 use Rattle.pgn_lexer.specs.Tokens as tokens
 use Rattle.pgn_game.proofs.AllOfJoined.{all_front, all_behind}
 use Rattle.pgn_game.proofs.refusals.RefusalsInMovetext.{score_of}
@@ -30,12 +30,12 @@ pub plain : (k : Kind) (c : Bool) (ks : List Kind) → GoesOn k → is_comment k
     → (c ≡ false) × CommentsClose false ks
 plain k c ks on is h =
     let a = around_token k c ks on h in
-    let none = a.2 is in (none.0, subst (λ d. CommentsClose d ks) none.1 a.1)
+    let none = a.2 is in (none.0, rw none.1 at a.1)
 
 behind : (xs : List Kind) (c : Bool) (ks : List Kind) → AllByRecursion GoesOn xs → CommentsClose c (xs ++ ks)
     → Closes ks
 behind [] c ks on h = (c, h)
-behind (x ∷ xs) c ks on h = let next = around_token x c (xs ++ ks) on.0 h in behind xs next.0 ks on.1 next.1
+behind (x ∷ xs) c ks on h = let next = around_token x c _ on.0 h in behind xs next.0 ks on.1 next.1
 
 comment_goes_on : (k : Kind) → is_comment k ≡ true → GoesOn k
 comment_goes_on (tokens.refused r) is = absurd (false≢true is)
@@ -61,7 +61,7 @@ behind_pair _ _ c ls (pair xs ys zs name value d e f) h =
 behind_pairs : (ks : List Kind) (qs : List Pair) (ls : List Kind) → SpellsPairs ks qs → CommentsClose false (ks ++ ls) → CommentsClose false ls
 behind_pairs _ _ ls no_pair h = h
 behind_pairs _ _ ls (next_pair ks js q qs first rest) h =
-    behind_pairs js qs ls rest (behind_pair ks q false (js ++ ls) first (subst (CommentsClose false) (append_assoc ks js ls) h))
+    behind_pairs js qs ls rest (behind_pair ks q false (js ++ ls) first (rw (append_assoc ks js ls) at h))
 
 item_goes_on : (k : Kind) (item : List Item) → StandsFor k item → GoesOn k
 item_goes_on _ _ (number s is) = tt
@@ -74,7 +74,7 @@ text_goes_on p first _ _ _ _ (token deep l k ks item items stands rest) =
     (item_goes_on k item stands, text_goes_on p first deep l ks items rest)
 text_goes_on p first _ _ _ _ (move deep l s x ks items names rest) = (tt, text_goes_on p first deep _ ks items rest)
 text_goes_on p first _ _ _ _ (variation deep l ks js items more holds room inner rest) =
-    let all = All-append GoesOn ks (tokens.right_paren ∷ js) (text_goes_on p first (deep + 1) _ ks items inner)
+    let all = All-append GoesOn ks _ (text_goes_on p first _ _ ks items inner)
     (tt, text_goes_on p first deep l js more rest) in (tt, all)
 
 -- a marker is no comment
@@ -96,15 +96,15 @@ marker_closed _ marker ks is h = absurd (cc)
 
 pub marker_opens : (k : Kind) (marker : List ℕ) (c : Bool) (ks ls : List Kind) → marker_of k ≡ Some marker → CommentsClose c (k ∷ ks) → CommentsClose false ls → CommentsClose c (k ∷ ls)
 marker_opens k marker c ks ls is h more =
-    subst (λ b. CommentsClose b (k ∷ ls)) (sym (marker_plain k marker c ks is h).0) (marker_closed k marker ls is more)
+    rw ((marker_plain k marker c ks is h).0) (marker_closed k marker ls is more)
 
 -- no comment is open where movetext begins
 bare_text : (ks : List Kind) (c : Bool) (k : Kind) (marker : List ℕ) (ls : List Kind) → AllByRecursion GoesOn ks
     → BeginsBare ks
     → marker_of k ≡ Some marker → CommentsClose c (ks ++ k ∷ ls) → CommentsClose false (ks ++ k ∷ ls)
-bare_text [] c k marker ls on bare is h = subst (λ b. CommentsClose b (k ∷ ls)) (marker_plain k marker c ls is h).0 h
+bare_text [] c k marker ls on bare is h = rw (marker_plain k marker c ls is h).0 at h
 bare_text (t ∷ ts) c k marker ls on bare is h =
-    subst (λ b. CommentsClose b (t ∷ (ts ++ k ∷ ls))) (plain t c (ts ++ k ∷ ls) on.0 bare h).0 h
+    rw (plain t c (ts ++ k ∷ ls) on.0 bare h).0 at h
 
 before_text : (tags text : List Kind) (given : List Pair) (c : Bool) (k : Kind) (marker : List ℕ) (ls : List Kind)
     → SpellsPairs tags given → (given ≡ [] → BeginsBare text) → AllByRecursion GoesOn text → marker_of k ≡ Some marker
@@ -112,7 +112,7 @@ before_text : (tags text : List Kind) (given : List Pair) (c : Bool) (k : Kind) 
 before_text _ text _ c k marker ls no_pair bare on is h = bare_text text c k marker ls on (bare refl) is h
 before_text _ text _ c k marker ls (next_pair ks js q qs one rest) bare on is h =
     behind_pairs js qs (text ++ k ∷ ls) rest
-    (behind_pair ks q c (js ++ (text ++ k ∷ ls)) one (subst (CommentsClose c) (append_assoc ks js (text ++ k ∷ ls)) h))
+    (behind_pair ks q c (js ++ (text ++ k ∷ ls)) one (rw (append_assoc ks js (text ++ k ∷ ls)) at h))
 
 -- Pairs that sound tokens spell.
 sound_pair : (ks : List Kind) (q : Pair) → SpellsPair ks q → AllByRecursion IsSoundKind ks → IsSoundPair q
@@ -124,19 +124,19 @@ sound_pair _ _ (pair xs ys zs name value d e f) sound =
 sound_pairs : (ks : List Kind) (qs : List Pair) → SpellsPairs ks qs → AllByRecursion IsSoundKind ks → AllByRecursion IsSoundPair qs
 sound_pairs _ _ no_pair sound = tt
 sound_pairs _ _ (next_pair ks js q qs one rest) sound =
-    (sound_pair ks q one (all_front IsSoundKind ks js sound), sound_pairs js qs rest (all_behind IsSoundKind ks js sound))
+    (sound_pair ks q one (all_front _ ks js sound), sound_pairs js qs rest (all_behind _ ks js sound))
 
 -- Markers.
 pub marker_is_result : (k : Kind) (marker : List ℕ) → marker_of k ≡ Some marker → is_result marker ≡ true
-marker_is_result tokens.asterisk marker is = let same : codes "*" ≡ marker = cc in ap is_result (sym same)
+marker_is_result tokens.asterisk marker is = let same : codes "*" ≡ marker = cc in cc
 marker_is_result (tokens.symbol s) marker is =
-    let score = score_of s marker (is_score s) refl is in
-    ap is_result (sym score.1) ∙ ap (λ (b : Bool). b || bytes_eq s (codes "*")) score.0
+    let score = score_of s marker _ refl is in
+    cc
 marker_is_result _ marker is = absurd (cc)
 
 pub marker_written : (k : Kind) (marker : List ℕ) → marker_of k ≡ Some marker → written k ≡ marker
 marker_written tokens.asterisk marker is = let same : codes "*" ≡ marker = cc in same
-marker_written (tokens.symbol s) marker is = (score_of s marker (is_score s) refl is).1
+marker_written (tokens.symbol s) marker is = (score_of s marker _ refl is).1
 marker_written _ marker is = absurd (cc)
 
 pub marker_writable : (k : Kind) (marker : List ℕ) → marker_of k ≡ Some marker → IsSoundKind k → IsWritable k

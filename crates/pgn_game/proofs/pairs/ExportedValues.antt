@@ -1,5 +1,5 @@
 -- The value of a name in the pairs that are written, and a fact on each of them.
-use Rattle.pgn_game.proofs.Words.{◌≡◌, ℕ, suc, ◌+◌, Bool, true, false, cond, List, [], ◌∷◌, drop, Option, None, Some, refl, ap, sym, ◌∙◌, add-one, bytes_eq, slice_get, unwrap_or, map, filter, not, is_some, ◌||◌, ◌&&◌, codes, drop-cons, All-append, all_kept_by, AllByRecursion, and_right, Mode, Full, Reduced, Pair, value_of, has_pair, insert_pair, roster, in_roster, roster_pairs, other_pairs, with_set_up, exported}
+use Rattle.pgn_game.proofs.Words.{◌≡◌, ℕ, ◌+◌, Bool, true, false, cond, List, [], ◌∷◌, drop, Option, None, Some, refl, ap, sym, ◌∙◌, add-one, bytes_eq, slice_get, unwrap_or, map, filter, not, is_some, ◌||◌, ◌&&◌, codes, drop-cons, All-append, all_kept_by, AllByRecursion, and_right, Mode, Full, Reduced, Pair, value_of, has_pair, insert_pair, roster, in_roster, roster_pairs, other_pairs, with_set_up, exported}
 use Rattle.pgn_game.proofs.putting.WritesInTurn.{within_at}
 use Rattle.pgn_game.proofs.pairs.ValuesByName.{bytes_eq-true, bytes_eq-sym, pick, value_of-cons, value_of-append, value_of-kept, value_of-put, has-cons, no_value, either_of, either_none, found, all-insert}
 
@@ -17,26 +17,22 @@ pub value_of-at : (ps : List Pair) (i : ℕ) (p : Pair) (name : List ℕ) (b : B
     → value_of (drop i ps) name ≡ pick b p.value (value_of (drop (i + 1) ps) name)
 value_of-at ps i p name b e is =
     let h = within_at ps i p e in
-    let front : drop i ps ≡ p ∷ drop (i + 1) ps = drop-cons ps i p h.0 ∙ ap (λ q. q ∷ drop (suc i) ps) h.1 ∙ ap (λ n. p ∷ drop n ps) (sym (add-one i)) in
-    ap (λ qs. value_of qs name) front ∙ value_of-cons p (drop (i + 1) ps) name
-    ∙ ap (λ (t : Bool). pick t p.value (value_of (drop (i + 1) ps) name)) (bytes_eq-sym p.name name ∙ sym is)
+    let front : drop i ps ≡ p ∷ drop (i + 1) ps = cc (drop-cons ps i p h.0, add-one i) in
+    cc (value_of-cons p (drop (i + 1) ps) name, bytes_eq-sym p.name name)
 
 pick_default : (ps : List Pair) (d name : List ℕ) (v : List ℕ) (b : Bool) (rest : Option (List ℕ)) → (b ≡ true → d ≡ name)
     → pick b (unwrap_or (value_of ps d) v) (defaulted (value_of ps name) rest) ≡ defaulted (value_of ps name) (pick b v rest)
-pick_default ps d name v true rest same = ap (λ n. Some (unwrap_or (value_of ps n) v)) (same refl)
+pick_default ps d name v true rest same = cc (same refl)
 pick_default ps d name v false rest same = refl
 
 value_of-defaults : (ps ds : List Pair) (name : List ℕ) → value_of (map (with_default ps) ds) name ≡ defaulted (value_of ps name) (value_of ds name)
 value_of-defaults ps [] name = refl
 value_of-defaults ps (d ∷ ds) name =
-    value_of-cons (with_default ps d) (map (with_default ps) ds) name
-    ∙ ap (pick (bytes_eq d.name name) (unwrap_or (value_of ps d.name) d.value)) (value_of-defaults ps ds name)
-    ∙ pick_default ps d.name name d.value (bytes_eq d.name name) (value_of ds name) (bytes_eq-true d.name name)
-    ∙ ap (defaulted (value_of ps name)) (sym (value_of-cons d ds name))
+    cc (value_of-cons (with_default ps d) (map (with_default ps) ds) name, value_of-defaults ps ds name, pick_default ps d.name name d.value (bytes_eq d.name name) (value_of ds name) (bytes_eq-true d.name name), value_of-cons d ds name)
 
 reduced_value : (m : List ℕ) (ps : List Pair) (n : List ℕ) (o : Option (List ℕ)) → value_of (roster m) n ≡ o
     → value_of (roster_pairs m ps) n ≡ defaulted (value_of ps n) o
-reduced_value m ps n o e = value_of-defaults ps (roster m) n ∙ ap (defaulted (value_of ps n)) e
+reduced_value m ps n o e = cc (value_of-defaults ps (roster m) n)
 
 -- whether a name is in a list of pairs, one after another
 abbrev any_named : List ℕ → Bool → List Pair → Bool
@@ -48,8 +44,7 @@ any_named-value name true [] = refl
 any_named-value name false [] = refl
 any_named-value name true (p ∷ ps) = any_named-value name true ps
 any_named-value name false (p ∷ ps) =
-    any_named-value name (bytes_eq name p.name) ps ∙ ap (λ b. b || has_pair ps name) (bytes_eq-sym name p.name)
-    ∙ sym (has-cons p ps name)
+    cc (any_named-value name (bytes_eq name p.name) ps, bytes_eq-sym name p.name, has-cons p ps name)
 
 -- The roster, with a Result of m.
 pub in_roster-value : (m name : List ℕ) → in_roster name ≡ has_pair (roster m) name
@@ -57,7 +52,7 @@ unfolding roster
 in_roster-value m name = any_named-value name false (roster m)
 
 not_of_roster : (m name : List ℕ) → in_roster name ≡ false → value_of (roster m) name ≡ None
-not_of_roster m name e = no_value (value_of (roster m) name) (sym (in_roster-value m name) ∙ e)
+not_of_roster m name e = no_value _ (sym (in_roster-value m name) ∙ e)
 
 -- the pairs but SetUp, the pair that stands for it, and the pairs with it if there is a FEN
 abbrev pub without_set_up : List Pair → List Pair
@@ -71,17 +66,15 @@ set_up_if b ps = elim b [ true ↦ insert_pair set_up (without_set_up ps) | fals
 
 -- The values with SetUp 1, where there is a FEN, and without.
 pub set_up_gone : (ps : List Pair) → has_pair (without_set_up ps) (codes "SetUp") ≡ false
-set_up_gone ps = ap is_some (value_of-kept (λ m. not (bytes_eq m (codes "SetUp"))) ps (codes "SetUp"))
+set_up_gone ps = ap is_some (value_of-kept _ ps _)
 
 hidden : (b c : Bool) (v : List ℕ) (o : Option (List ℕ)) → c ≡ b → pick b v (cond (not c) o None) ≡ pick b v o
 hidden true c v o e = refl
-hidden false c v o e = ap (λ (x : Bool). cond (not x) o None) e
+hidden false c v o e = cc
 
 with_one : (ps : List Pair) (n : List ℕ) → value_of (set_up_if true ps) n ≡ pick (bytes_eq (codes "SetUp") n) (codes "1") (value_of ps n)
 with_one ps n =
-    value_of-put set_up (without_set_up ps) n (set_up_gone ps)
-    ∙ ap (pick (bytes_eq (codes "SetUp") n) (codes "1")) (value_of-kept (λ m. not (bytes_eq m (codes "SetUp"))) ps n)
-    ∙ hidden (bytes_eq (codes "SetUp") n) (bytes_eq n (codes "SetUp")) (codes "1") (value_of ps n) (bytes_eq-sym n (codes "SetUp"))
+    cc (value_of-put set_up (without_set_up ps) n (set_up_gone ps), value_of-kept (λ m. not (bytes_eq m (codes "SetUp"))) ps n, hidden (bytes_eq (codes "SetUp") n) (bytes_eq n (codes "SetUp")) (codes "1") (value_of ps n) (bytes_eq-sym n (codes "SetUp")))
 
 pub set_up_values : (ps : List Pair) (n : List ℕ)
     → value_of (with_set_up ps) n ≡ pick (has_pair ps (codes "FEN") && bytes_eq (codes "SetUp") n) (codes "1") (value_of ps n)
@@ -100,36 +93,33 @@ pub set_up_one : (ps : List Pair) (name : List ℕ) → bytes_eq name (codes "Se
 set_up_one ps name is some = set_up_picked true true ps name some is
 
 pub no_fen : (ps : List Pair) (name : List ℕ) → has_pair ps (codes "FEN") ≡ false → value_of (with_set_up ps) name ≡ value_of ps name
-no_fen ps name none = ap (λ b. value_of (set_up_if b ps) name) none
+no_fen ps name none = cc
 
 pub no_set_up : (ps : List Pair) (name : List ℕ) → bytes_eq name (codes "SetUp") ≡ false → value_of (with_set_up ps) name ≡ value_of ps name
 no_set_up ps name e =
-    set_up_picked (has_pair ps (codes "FEN")) false ps name refl e
-    ∙ ap (λ b. pick b (codes "1") (value_of ps name)) (and_right (has_pair ps (codes "FEN")) false refl)
+    cc (set_up_picked (has_pair ps (codes "FEN")) false ps name refl e, and_right (has_pair ps (codes "FEN")) false refl)
 
 -- What a name has in the section: in full mode the value of another name is that with SetUp.
 pub other_value : (ps : List Pair) (n : List ℕ)
     → value_of (other_pairs (with_set_up ps)) n ≡ cond (not (in_roster n)) (value_of (with_set_up ps) n) None
-other_value ps n = value_of-kept (λ m. not (in_roster m)) (with_set_up ps) n
+other_value ps n = value_of-kept (λ m. not _) (with_set_up ps) n
 
 full_value : (m : List ℕ) (ps : List Pair) (n : List ℕ) (o : Option (List ℕ)) → value_of (roster m) n ≡ o
     → value_of (exported Full m ps) n
     ≡ either_of (defaulted (value_of ps n) o) (value_of (other_pairs (with_set_up ps)) n)
 full_value m ps n o e =
-    value_of-append (roster_pairs m ps) (other_pairs (with_set_up ps)) n
-    ∙ ap (λ x. either_of x (value_of (other_pairs (with_set_up ps)) n)) (reduced_value m ps n o e)
+    cc (value_of-append (roster_pairs m ps) (other_pairs (with_set_up ps)) n, reduced_value m ps n o e)
 
 -- a name of the roster has its value, or what stands for it
 pub exported_known : (mode : Mode) (m : List ℕ) (ps : List Pair) (n d : List ℕ) → value_of (roster m) n ≡ Some d
     → value_of (exported mode m ps) n ≡ Some (unwrap_or (value_of ps n) d)
-exported_known Full m ps n d e = full_value m ps n (Some d) e
-exported_known Reduced m ps n d e = reduced_value m ps n (Some d) e
+exported_known Full m ps n d e = full_value m ps n _ e
+exported_known Reduced m ps n d e = reduced_value m ps n _ e
 
 pub exported_other : (m : List ℕ) (ps : List Pair) (n : List ℕ) → in_roster n ≡ false
     → value_of (exported Full m ps) n ≡ value_of (with_set_up ps) n
 exported_other m ps n e =
-    full_value m ps n None (not_of_roster m n e) ∙ other_value ps n
-    ∙ ap (λ (b : Bool). cond (not b) (value_of (with_set_up ps) n) None) e
+    cc (full_value m ps n None (not_of_roster m n e), other_value ps n)
 
 -- and it has none in reduced mode, where the roster has it not
 pub exported_none : (m : List ℕ) (ps : List Pair) (n : List ℕ) → value_of (roster m) n ≡ None
@@ -145,7 +135,7 @@ other_than_set_up : (m name unknown : List ℕ) (b : Bool) → value_of (roster 
     → bytes_eq name (codes "SetUp") ≡ b → b ≡ false
 other_than_set_up m name unknown false e is = refl
 other_than_set_up m name unknown true e is =
-    let none : None ≡ Some unknown = sym (no_set_up_of m) ∙ ap (value_of (roster m)) (sym (bytes_eq-true name (codes "SetUp") is)) ∙ e in
+    let none : None ≡ Some unknown = cc (no_set_up_of m, bytes_eq-true name (codes "SetUp") is) in
     absurd (cc)
 
 either_unknown : (value : Option (List ℕ)) (unknown : List ℕ) → Some (unwrap_or value unknown) ≡ either_of value (Some unknown)
@@ -156,19 +146,17 @@ exported_by : (mode : Mode) (m : List ℕ) (ps : List Pair) (name : List ℕ) (u
     → value_of (roster m) name ≡ unknown → (unknown ≡ None → mode ≡ Reduced → ⊥)
     → value_of (exported mode m ps) name ≡ either_of (value_of (with_set_up ps) name) unknown
 exported_by mode m ps name (Some u) e some =
-    exported_known mode m ps name u e
-    ∙ ap (λ o. Some (unwrap_or o u)) (sym (no_set_up ps name (other_than_set_up m name u _ e refl)))
-    ∙ either_unknown (value_of (with_set_up ps) name) u
+    cc (exported_known mode m ps name u e, no_set_up ps name (other_than_set_up m name u _ e refl), either_unknown (value_of (with_set_up ps) name) u)
 exported_by Full m ps name None e some =
     exported_other m ps name (in_roster-value m name ∙ ap is_some e)
-    ∙ sym (either_none (value_of (with_set_up ps) name))
+    ∙ sym (either_none _)
 exported_by Reduced m ps name None e some = absurd (some refl refl)
 
 -- what a name has in the section: its value with SetUp, or what stands for it in the roster
 pub exported_either : (mode : Mode) (m : List ℕ) (ps : List Pair) (name : List ℕ)
     → (value_of (roster m) name ≡ None → mode ≡ Reduced → ⊥)
     → value_of (exported mode m ps) name ≡ either_of (value_of (with_set_up ps) name) (value_of (roster m) name)
-exported_either mode m ps name some = exported_by mode m ps name (value_of (roster m) name) refl some
+exported_either mode m ps name some = exported_by mode m ps name _ refl some
 
 -- A fact on each pair that is exported: on those of the roster, on SetUp 1, and on those given.
 pub on_roster : (P : Pair → Type 0) (m : List ℕ) → P (record { name = codes "Event"; value = codes "?" })
@@ -184,17 +172,17 @@ on_roster P m event site date round white black result =
 all-default : (P : Pair → Type 0) (ps ds : List Pair) → AllByRecursion P ps → AllByRecursion P ds
     → AllByRecursion P (map (with_default ps) ds)
 all-default P ps [] h k = tt
-all-default P ps (d ∷ ds) h k = (by_value (value_of ps d.name) refl, all-default P ps ds h k.1)
+all-default P ps (d ∷ ds) h k = (by_value _ refl, all-default P ps ds h k.1)
   where
     by_value : (o : Option (List ℕ)) → value_of ps d.name ≡ o → P (record { name = d.name; value = unwrap_or o d.value })
     by_value None e = k.0
-    by_value (Some v) e = found P ps d.name v h e
+    by_value (Some v) e = found P ps _ v h e
 
 all-set_up : (P : Pair → Type 0) (ps : List Pair) → P set_up → AllByRecursion P ps → AllByRecursion P (with_set_up ps)
 all-set_up P ps one h =
     elim (has_pair ps (codes "FEN")) as (λ b. AllByRecursion P (set_up_if b ps)) [
       | true ↦
-          all-insert P set_up (without_set_up ps) one (all_kept_by (λ p. not (bytes_eq p.name (codes "SetUp"))) P ps h)
+          all-insert P set_up (without_set_up ps) one (all_kept_by _ P ps h)
       | false ↦ h
     ]
 
@@ -202,6 +190,6 @@ pub all-exported : (P : Pair → Type 0) (mode : Mode) (m : List ℕ) (ps : List
     → AllByRecursion P (roster m) → AllByRecursion P ps
     → AllByRecursion P (exported mode m ps)
 all-exported P Full m ps one each h =
-    All-append P (roster_pairs m ps) (other_pairs (with_set_up ps)) (all-default P ps (roster m) h each)
-    (all_kept_by (λ p. not (in_roster p.name)) P (with_set_up ps) (all-set_up P ps one h))
-all-exported P Reduced m ps one each h = all-default P ps (roster m) h each
+    All-append P (roster_pairs m ps) (other_pairs (with_set_up ps)) (all-default P ps _ h each)
+    (all_kept_by (λ p. not _) P (with_set_up ps) (all-set_up P ps one h))
+all-exported P Reduced m ps one each h = all-default P ps _ h each

@@ -1,6 +1,6 @@
 -- The order of names is a strict order of all names; and pairs in this order.
 use Rattle.pgn_game.proofs.Words.{◌≡◌, ℕ, ◌<◌, ◌⊎◌, inl, inr, Bool, true, false, cond, List, [], ◌∷◌, refl, sym, ap, ◌∙◌, arith, None, Some, le-ltb, lt-ltb, eq-eqb, ◌||◌, ◌&&◌, ◌==◌, nat_lt, bytes_eq, filter, is_some, AllByRecursion, All-weaker, all_kept_by, none-some, same_Some, false≢true, or_cases, and_parts, ltb-true, eqb-true, cases_order, Pair, value_of, has_pair, comes_before, insert_pair, AreDistinct}
-use Rattle.pgn_game.proofs.pairs.ValuesByName.{bytes_eq-true, bytes_eq-refl, pick, value_of-cons, not_among, all-insert}
+use Rattle.pgn_game.proofs.pairs.ValuesByName.{bytes_eq-true, bytes_eq-refl, value_of-cons, not_among, all-insert}
 
 -- Names, byte after byte.
 abbrev goes_first : ℕ → ℕ → Bool → Bool
@@ -14,16 +14,16 @@ first_cases x y rest e =
     ]
 
 by_byte : (x y : ℕ) (rest : Bool) → x < y → goes_first x y rest ≡ true
-by_byte x y rest h = ap (λ (t : Bool). t || ((x == y) && rest)) (lt-ltb x y h)
+by_byte x y rest h = cc (lt-ltb x y h)
 
 by_rest : (x y : ℕ) (rest : Bool) → x ≡ y → rest ≡ true → goes_first x y rest ≡ true
 by_rest x y rest e f =
-    ap (λ (t : Bool). t || ((x == y) && rest)) (le-ltb x y (omega (arith, e))) ∙ ap (λ (t : Bool). t && rest) (eq-eqb x y e) ∙ f
+    cc (le-ltb x y (omega (arith, e)), eq-eqb x y e)
 
 never_itself : (a : List ℕ) → comes_before a a ≡ true → ⊥
 never_itself [] e = false≢true e
 never_itself (x ∷ xs) e =
-    elim (first_cases x x (comes_before xs xs) e) [
+    elim (first_cases x x _ e) [
       | inl h ↦ absurd (omega arith)
       | inr h ↦ never_itself xs h.1
     ]
@@ -33,7 +33,7 @@ before-trans a [] c e f = absurd (false≢true e)
 before-trans a (y ∷ ys) [] e f = absurd (false≢true f)
 before-trans [] (y ∷ ys) (z ∷ zs) e f = refl
 before-trans (x ∷ xs) (y ∷ ys) (z ∷ zs) e f =
-    by_cases (before-trans xs ys zs) (first_cases x y (comes_before xs ys) e) (first_cases y z (comes_before ys zs) f)
+    by_cases (before-trans xs ys zs) (first_cases x y _ e) (first_cases y z _ f)
   where
     by_cases : (comes_before xs ys ≡ true → comes_before ys zs ≡ true → comes_before xs zs ≡ true) → (x < y) ⊎ ((x ≡ y) × (comes_before xs ys ≡ true)) → (y < z) ⊎ ((y ≡ z) × (comes_before ys zs ≡ true)) → goes_first x z (comes_before xs zs) ≡ true
     by_cases rest (inl h) (inl k) = by_byte x z (comes_before xs zs) (omega arith)
@@ -46,9 +46,9 @@ abbrev Comparable : List ℕ → List ℕ → Type 0
 Comparable a b = (comes_before a b ≡ true) ⊎ ((a ≡ b) ⊎ (comes_before b a ≡ true))
 
 comparable-cons : (x y : ℕ) (xs ys : List ℕ) → x ≡ y → Comparable xs ys → Comparable (x ∷ xs) (y ∷ ys)
-comparable-cons x y xs ys e (inl h) = inl (by_rest x y (comes_before xs ys) e h)
+comparable-cons x y xs ys e (inl h) = inl (by_rest x y _ e h)
 comparable-cons x y xs ys e (inr (inl h)) = inr (inl (ap (λ z. z ∷ xs) e ∙ ap (λ zs. y ∷ zs) h))
-comparable-cons x y xs ys e (inr (inr h)) = inr (inr (by_rest y x (comes_before ys xs) (sym e) h))
+comparable-cons x y xs ys e (inr (inr h)) = inr (inr (by_rest y x _ (sym e) h))
 
 comparable : (a b : List ℕ) → Comparable a b
 comparable [] [] = inr (inl refl)
@@ -57,8 +57,8 @@ comparable (x ∷ xs) [] = inr (inr refl)
 comparable (x ∷ xs) (y ∷ ys) =
     elim (cases_order x y) [
       | inl e ↦ comparable-cons x y xs ys e (comparable xs ys)
-      | inr (inl h) ↦ inl (by_byte x y (comes_before xs ys) h)
-      | inr (inr h) ↦ inr (inr (by_byte y x (comes_before ys xs) h))
+      | inr (inl h) ↦ inl (by_byte x y _ h)
+      | inr (inr h) ↦ inr (inr (by_byte y x _ h))
     ]
 
 -- Pairs in the order of their names, no name twice.
@@ -71,8 +71,8 @@ InOrder (q ∷ qs) = AllAfter q.name qs × InOrder qs
 
 further_after : (name next : List ℕ) (qs : List Pair) → comes_before name next ≡ true → AllAfter next qs → AllAfter name qs
 further_after name next qs e h =
-    All-weaker (λ q. comes_before next q.name ≡ true) (λ q. comes_before name q.name ≡ true)
-    (λ q f. before-trans name next q.name e f) qs h
+    All-weaker _ _
+    (λ q f. before-trans name next _ e f) qs h
 
 comes_later : (q r : List ℕ) → comes_before q r ≡ false → bytes_eq r q ≡ false → comes_before r q ≡ true
 comes_later q r e other =
@@ -85,8 +85,8 @@ comes_later q r e other =
 pub order-insert : (q : Pair) (qs : List Pair) → has_pair qs q.name ≡ false → InOrder qs → InOrder (insert_pair q qs)
 order-insert q [] new h = (tt, tt)
 order-insert q (r ∷ rs) new h =
-    let apart = not_among r rs q.name new in
-    by_test (order-insert q rs apart.1 h.1) apart.0 (comes_before q.name r.name) refl
+    let apart = not_among r rs _ new in
+    by_test (order-insert q rs apart.1 h.1) apart.0 _ refl
   where
     by_test : InOrder (insert_pair q rs) → bytes_eq r.name q.name ≡ false → (b : Bool) → comes_before q.name r.name ≡ b
         → InOrder (elim b [ true ↦ q ∷ r ∷ rs | false ↦ r ∷ insert_pair q rs ])
@@ -97,7 +97,7 @@ order-insert q (r ∷ rs) new h =
 pub order-filter : (f : Pair → Bool) (qs : List Pair) → InOrder qs → InOrder (filter f qs)
 order-filter f [] h = tt
 order-filter f (q ∷ qs) h =
-    let after = all_kept_by f (λ p. comes_before q.name p.name ≡ true) qs h.0 in
+    let after = all_kept_by f _ qs h.0 in
     let more = order-filter f qs h.1 in
     elim (f q) as (λ b. InOrder (cond b (q ∷ filter f qs) (filter f qs))) [ true ↦ (after, more) | false ↦ more ]
 
@@ -109,32 +109,30 @@ other_name name next e false is = refl
 absent : (name : List ℕ) (qs : List Pair) → AllAfter name qs → value_of qs name ≡ None
 absent name [] h = refl
 absent name (q ∷ qs) h =
-    value_of-cons q qs name
-    ∙ ap (λ b. pick b q.value (value_of qs name)) (other_name name q.name h.0 (bytes_eq q.name name) refl)
-    ∙ absent name qs h.1
+    cc (value_of-cons q qs name, other_name name q.name h.0 (bytes_eq q.name name) refl, absent name qs h.1)
 
 -- names in order are distinct
 pub distinct_in_order : (ps : List Pair) → InOrder ps → AreDistinct ps
 distinct_in_order [] h = tt
-distinct_in_order (q ∷ qs) h = (ap is_some (absent q.name qs h.0), distinct_in_order qs h.1)
+distinct_in_order (q ∷ qs) h = (ap is_some (absent _ qs h.0), distinct_in_order qs h.1)
 
 -- Pairs in order are determined by the values of the names.
 value_first : (q : Pair) (qs : List Pair) → value_of (q ∷ qs) q.name ≡ Some q.value
-value_first q qs = value_of-cons q qs q.name ∙ ap (λ b. pick b q.value (value_of qs q.name)) (bytes_eq-refl q.name q.name refl)
+value_first q qs = cc (value_of-cons q qs q.name, bytes_eq-refl q.name q.name refl)
 
 same_behind : (p q : Pair) (ps qs : List Pair) (n : List ℕ) → AllAfter p.name ps → AllAfter q.name qs → p.name ≡ q.name
     → value_of (p ∷ ps) n ≡ value_of (q ∷ qs) n → value_of ps n ≡ value_of qs n
-same_behind p q ps qs n h k same e = by_test (bytes_eq p.name n) refl
+same_behind p q ps qs n h k same e = by_test _ refl
   where
     by_test : (b : Bool) → bytes_eq p.name n ≡ b → value_of ps n ≡ value_of qs n
-    by_test true is = let here = bytes_eq-true p.name n is in cc (here, same, absent p.name ps h, absent q.name qs k)
+    by_test true is = let here = bytes_eq-true _ n is in cc (here, same, absent _ ps h, absent _ qs k)
     by_test false is = cc (is, same, value_of-cons p ps n, value_of-cons q qs n, e)
 
 pub same_pairs : (ps qs : List Pair) → InOrder ps → InOrder qs → ((name : List ℕ) → value_of ps name ≡ value_of qs name) → ps ≡ qs
 same_pairs [] [] h k e = refl
-same_pairs [] (q ∷ qs) h k e = absurd (none-some q.value (e q.name ∙ value_first q qs))
-same_pairs (p ∷ ps) [] h k e = absurd (none-some p.value (sym (e p.name) ∙ value_first p ps))
-same_pairs (p ∷ ps) (q ∷ qs) h k e = by_order (same_pairs ps qs h.1 k.1) (comparable p.name q.name)
+same_pairs [] (q ∷ qs) h k e = absurd (none-some _ (e _ ∙ value_first q qs))
+same_pairs (p ∷ ps) [] h k e = absurd (none-some _ (sym (e _) ∙ value_first p ps))
+same_pairs (p ∷ ps) (q ∷ qs) h k e = by_order (same_pairs ps qs h.1 k.1) (comparable _ _)
   where
     here : p.name ≡ q.name → p ≡ q
     here same =

@@ -15,7 +15,7 @@ same_bool false false there back = refl
 -- the tests of equality of texts agree either way round
 pub bytes_eq-sym : (xs ys : List ℕ) → bytes_eq xs ys ≡ bytes_eq ys xs
 bytes_eq-sym xs ys =
-    same_bool (bytes_eq xs ys) (bytes_eq ys xs) (λ e. bytes_eq-refl ys xs (sym (bytes_eq-true xs ys e)))
+    same_bool _ _ (λ e. bytes_eq-refl ys xs (sym (bytes_eq-true xs ys e)))
     (λ e. bytes_eq-refl xs ys (sym (bytes_eq-true ys xs e)))
 
 pub no_value : {A : Type 0} (o : Option A) → is_some o ≡ false → o ≡ None
@@ -29,7 +29,7 @@ pick false v o = o
 
 pub value_of-cons : (p : Pair) (ps : List Pair) (name : List ℕ) → value_of (p ∷ ps) name ≡ pick (bytes_eq p.name name) p.value (value_of ps name)
 value_of-cons p ps name =
-    elim (bytes_eq p.name name)
+    elim (bytes_eq _ name)
     as (λ b. elim b [ true ↦ Some p.value | false ↦ value_of ps name ] ≡ pick b p.value (value_of ps name)) [
       | true ↦ refl
       | false ↦ refl
@@ -41,25 +41,25 @@ some_pick false v o = refl
 
 pub has-cons : (q : Pair) (ps : List Pair) (name : List ℕ)
     → has_pair (q ∷ ps) name ≡ (bytes_eq q.name name || has_pair ps name)
-has-cons q ps name = ap is_some (value_of-cons q ps name) ∙ some_pick (bytes_eq q.name name) q.value (value_of ps name)
+has-cons q ps name = cc (value_of-cons q ps name, some_pick (bytes_eq q.name name) q.value (value_of ps name))
 
 -- a name that no pair has
 pub not_among : (r : Pair) (rs : List Pair) (name : List ℕ) → has_pair (r ∷ rs) name ≡ false → (bytes_eq r.name name ≡ false) × (has_pair rs name ≡ false)
-not_among r rs name e = or_parts (bytes_eq r.name name) (has_pair rs name) (sym (has-cons r rs name) ∙ e)
+not_among r rs name e = or_parts _ _ (sym (has-cons r rs name) ∙ e)
 
 -- the pair of a name that has a value
 found_at : (P : Pair → Type 0) (q : Pair) (n v : List ℕ) (o : Option (List ℕ)) (b : Bool) → P q → bytes_eq q.name n ≡ b
     → (o ≡ Some v → P (record { name = n; value = v })) → pick b q.value o ≡ Some v → P (record { name = n; value = v })
 found_at P q n v o true h is rest e =
-    let name : q.name ≡ n = bytes_eq-true q.name n is in
+    let name : q.name ≡ n = bytes_eq-true _ n is in
     let value : q.value ≡ v = cc in
-    subst (λ x. P (record { name = n; value = x })) value (subst (λ x. P (record { name = x; value = q.value })) name h)
+    subst (λ x. P (record { name = n; value = x })) value (rw name at h)
 found_at P q n v o false h is rest e = rest e
 
 pub found : (P : Pair → Type 0) (ps : List Pair) (n v : List ℕ) → AllByRecursion P ps → value_of ps n ≡ Some v → P (record { name = n; value = v })
 found P [] n v h e = absurd (cc)
 found P (q ∷ qs) n v h e =
-    found_at P q n v (value_of qs n) (bytes_eq q.name n) h.0 refl (found P qs n v h.1) (sym (value_of-cons q qs n) ∙ e)
+    found_at P q n v (value_of qs n) _ h.0 refl (found P qs n v h.1) (sym (value_of-cons q qs n) ∙ e)
 
 -- Pairs that are joined.
 abbrev pub either_of : Option (List ℕ) → Option (List ℕ) → Option (List ℕ)
@@ -84,19 +84,17 @@ value_of-append (p ∷ ps) qs name =
 kept_or_not : (f : List ℕ → Bool) (p : Pair) (n : List ℕ) (k b : Bool) (F : List Pair) (o : Option (List ℕ)) → f p.name ≡ k → bytes_eq p.name n ≡ b
     → value_of F n ≡ cond (f n) o None → value_of (cond k (p ∷ F) F) n ≡ cond (f n) (pick b p.value o) None
 kept_or_not f p n true true F o e is rest =
-    value_of-cons p F n ∙ ap (λ b. pick b p.value (value_of F n)) is
-    ∙ ap (λ c. cond c (Some p.value) None) (sym (ap f (sym (bytes_eq-true p.name n is)) ∙ e))
-kept_or_not f p n true false F o e is rest = value_of-cons p F n ∙ ap (λ b. pick b p.value (value_of F n)) is ∙ rest
+    cc (value_of-cons p F n, bytes_eq-true p.name n is)
+kept_or_not f p n true false F o e is rest = cc (value_of-cons p F n)
 kept_or_not f p n false true F o e is rest =
-    let out : f n ≡ false = ap f (sym (bytes_eq-true p.name n is)) ∙ e in
-    rest ∙ ap (λ c. cond c o None) out ∙ ap (λ c. cond c (Some p.value) None) (sym out)
+    let out : f n ≡ false = cc (bytes_eq-true p.name n is) in
+    cc
 kept_or_not f p n false false F o e is rest = rest
 
 pub value_of-kept : (f : List ℕ → Bool) (ps : List Pair) (n : List ℕ) → value_of (filter (λ p. f p.name) ps) n ≡ cond (f n) (value_of ps n) None
 value_of-kept f [] n = elim (f n) as (λ c. None ≡ cond {A = Option (List ℕ)} c None None) [ true ↦ refl | false ↦ refl ]
 value_of-kept f (p ∷ ps) n =
-    kept_or_not f p n (f p.name) (bytes_eq p.name n) (filter (λ q. f q.name) ps) (value_of ps n) refl refl (value_of-kept f ps n)
-    ∙ ap (λ o. cond (f n) o None) (sym (value_of-cons p ps n))
+    cc (kept_or_not f p n (f p.name) (bytes_eq p.name n) (filter (λ q. f q.name) ps) (value_of ps n) refl refl (value_of-kept f ps n), value_of-cons p ps n)
 
 -- A pair put in: what holds where it comes first, and of a pair before it, holds of all.
 pub by_insert : (P : List Pair → List Pair → Type 0) (q : Pair) → ((qs : List Pair) → P qs (q ∷ qs))
@@ -106,7 +104,7 @@ by_insert P q first later [] = first []
 by_insert P q first later (r ∷ rs) =
     let rest = later r rs (insert_pair q rs) (by_insert P q first later rs) in
     elim (comes_before q.name r.name) as (λ b. P (r ∷ rs) (elim b [ true ↦ q ∷ r ∷ rs | false ↦ r ∷ insert_pair q rs ])) [
-      | true ↦ first (r ∷ rs)
+      | true ↦ first _
       | false ↦ rest
     ]
 
@@ -118,18 +116,14 @@ or_swap false b c = refl
 -- a name is among the pairs with one more
 pub has-insert : (q : Pair) (ps : List Pair) (name : List ℕ) → has_pair (insert_pair q ps) name ≡ (bytes_eq q.name name || has_pair ps name)
 has-insert q ps name =
-    by_insert (λ qs l. has_pair l name ≡ (bytes_eq q.name name || has_pair qs name)) q (λ qs. has-cons q qs name)
-    (λ r rs l more.
-    has-cons r l name ∙ ap (λ (x : Bool). bytes_eq r.name name || x) more
-    ∙ or_swap (bytes_eq r.name name) (bytes_eq q.name name) (has_pair rs name)
-    ∙ ap (λ (x : Bool). bytes_eq q.name name || x) (sym (has-cons r rs name))) ps
+    cc (by_insert (λ qs l. has_pair l name ≡ (bytes_eq q.name name || has_pair qs name)) q (λ qs. has-cons q qs name) (λ r rs l more. has-cons r l name ∙ ap (λ (x : Bool). bytes_eq r.name name || x) more ∙ or_swap (bytes_eq r.name name) (bytes_eq q.name name) (has_pair rs name) ∙ ap (λ (x : Bool). bytes_eq q.name name || x) (sym (has-cons r rs name))) ps)
 
 -- it does not change the values of other names
 pub value_of-insert : (p : Pair) (qs : List Pair) (name : List ℕ) → bytes_eq p.name name ≡ false → value_of (insert_pair p qs) name ≡ value_of qs name
 value_of-insert p qs name e =
     by_insert (λ ps l. value_of l name ≡ value_of ps name) p
     (λ ps. value_of-cons p ps name ∙ ap (λ b. pick b p.value (value_of ps name)) e)
-    (λ r rs l e. value_of-cons r l name ∙ ap (pick (bytes_eq r.name name) r.value) e ∙ sym (value_of-cons r rs name)) qs
+    (λ r rs l e. value_of-cons r l name ∙ ap (pick (bytes_eq _ name) _) e ∙ sym (value_of-cons r rs name)) qs
 
 pick_swap : (b c : Bool) (v w : List ℕ) (o : Option (List ℕ)) → (b ≡ true → c ≡ true → ⊥) → pick b v (pick c w o) ≡ pick c w (pick b v o)
 pick_swap true true v w o apart = absurd (apart refl refl)
@@ -146,9 +140,9 @@ value_of-put q qs n =
     by_insert (λ ps l. has_pair ps q.name ≡ false → value_of l n ≡ pick (bytes_eq q.name n) q.value (value_of ps n)) q
     (λ ps new. value_of-cons q ps n)
     (λ r rs l more new.
-    let apart = not_among r rs q.name new in
-    value_of-cons r l n ∙ ap (pick (bytes_eq r.name n) r.value) (more apart.1)
-    ∙ pick_swap (bytes_eq r.name n) (bytes_eq q.name n) r.value q.value (value_of rs n) (two_names r.name q.name n apart.0)
+    let apart = not_among r rs _ new in
+    value_of-cons r l n ∙ ap (pick (bytes_eq _ n) r.value) (more apart.1)
+    ∙ pick_swap (bytes_eq _ n) (bytes_eq q.name n) r.value q.value (value_of rs n) (two_names _ q.name n apart.0)
     ∙ ap (pick (bytes_eq q.name n) q.value) (sym (value_of-cons r rs n))) qs
 
 pub all-insert : (P : Pair → Type 0) (q : Pair) (qs : List Pair) → P q → AllByRecursion P qs → AllByRecursion P (insert_pair q qs)

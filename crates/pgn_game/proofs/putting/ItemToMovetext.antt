@@ -1,5 +1,5 @@
 -- What an item adds to the movetext that is held.
-use Rattle.pgn_game.proofs.Words.{◌≡◌, ℕ, ◌+◌, ◌<◌, ◌≤◌, Bool, true, false, cond, List, [], ◌∷◌, ◌++◌, map, length, drop, Option, Some, refl, sym, ap, subst, ◌∙◌, append_assoc, append-nil, arith, All, ◌==◌, ◌&&◌, IsTrue, is_some, IfSome, Result, Ok, Err, IsErr, OnOk, unwrap_or, Appends, All-nil, All-cons, All-head, All-tail, length-map, drop-append_seam, Move, legal, AppendsFront, Counts, Device, Writes, IsToken, lines_of, full_lines, last_line, text_of as text_of_lines, Put, laid_from, text_put, line_put, Parts, Played, Mode, Full, Reduced, play, text_of_move, Item, open_variation, close_variation, Level as ModelLevel, Levels as ModelLevels, levels_after, levels_of, depth, here, outermost, main_moves, Placed, is_move, tokens_at, tokens_from, tokens_out, full_text, StoredLevels, Movetext, level_at, ClosesLevel, before_last, stored_level, stored_levels, ends_in_move, HoldsItems, ItemFits, model_item, PutsTokens, GoesOn, Plays, LeadsLevels, counted_at, writes, tokens_due, tokens_if, after_move_if, plies_in, item_text, Adds, WritesItem}
+use Rattle.pgn_game.proofs.Words.{◌≡◌, ℕ, ◌+◌, ◌<◌, ◌≤◌, Bool, true, false, cond, List, [], ◌∷◌, ◌++◌, map, length, Option, Some, refl, sym, ap, subst, ◌∙◌, append_assoc, append-nil, arith, All, ◌==◌, ◌&&◌, IsTrue, is_some, IfSome, Result, Ok, Err, IsErr, OnOk, Appends, All-nil, All-cons, All-head, All-tail, length-map, drop-append_seam, Move, legal, AppendsFront, Counts, Device, Writes, IsToken, lines_of, full_lines, last_line, text_of as text_of_lines, Put, laid_from, text_put, line_put, Parts, Played, Mode, Full, Reduced, play, text_of_move, Item, open_variation, close_variation, Level as ModelLevel, Levels as ModelLevels, levels_after, levels_of, depth, here, outermost, main_moves, Placed, is_move, tokens_at, tokens_from, tokens_out, full_text, StoredLevels, Movetext, level_at, ClosesLevel, before_last, stored_level, stored_levels, ends_in_move, HoldsItems, ItemFits, model_item, PutsTokens, GoesOn, Plays, LeadsLevels, counted_at, writes, tokens_due, tokens_if, after_move_if, plies_in, item_text, Adds, WritesItem}
 use Rattle.std.proofs.lemmas.List.Elements.{All-append}
 use Rattle.std.proofs.Math.Dec.{eqb-suc-zero}
 use Rattle.chess_text.specs.San.{san, MarkPairs, disambiguation_pairs}
@@ -15,7 +15,7 @@ use Rattle.pgn_game.proofs.putting.ItemsAppended.{written_from_start, written_be
 full_lines_laid : (ts us : List (List ℕ)) → All IsToken ts → All IsToken us
     → text_of_lines (full_lines (lines_of (ts ++ us))) ≡ text_of_lines (full_lines (lines_of ts)) ++ (laid_from (last_line (lines_of ts)) (map Put us)).written
 full_lines_laid ts [] each more =
-    ap (λ l. text_of_lines (full_lines (lines_of l))) (append-nil ts) ∙ sym (append-nil (text_of_lines (full_lines (lines_of ts))))
+    ap (λ l. text_of_lines (full_lines (lines_of l))) (append-nil ts) ∙ sym (append-nil (text_of_lines _))
 full_lines_laid ts (u ∷ us) each more =
     let full = text_of_lines (full_lines (lines_of ts)) in
     let last = last_line (lines_of ts) in
@@ -27,17 +27,15 @@ full_lines_laid ts (u ∷ us) each more =
     ∙ append_assoc full (text_put last u) (laid_from (line_put last u) (map Put us)).written
 
 last_line_laid : (ts us : List (List ℕ)) → All IsToken ts → All IsToken us → last_line (lines_of (ts ++ us)) ≡ (laid_from (last_line (lines_of ts)) (map Put us)).line
-last_line_laid ts [] each more = ap (λ l. last_line (lines_of l)) (append-nil ts)
+last_line_laid ts [] each more = cc (append-nil ts)
 last_line_laid ts (u ∷ us) each more =
-    let first = All-append IsToken ts (u ∷ []) each (All-cons IsToken u [] (All-head IsToken u us more) (All-nil IsToken)) in
-    ap (λ l. last_line (lines_of l)) (sym (append_assoc ts (u ∷ []) us))
-    ∙ last_line_laid (ts ++ u ∷ []) us first (All-tail IsToken u us more)
-    ∙ ap (λ l. (laid_from l (map Put us)).line) (last_line_put ts u each)
+    let first = All-append IsToken ts _ each (All-cons IsToken u [] (All-head IsToken u us more) (All-nil IsToken)) in
+    cc (append_assoc ts (u ∷ []) us, last_line_laid (ts ++ u ∷ []) us first (All-tail IsToken u us more), last_line_put ts u each)
 
 -- One item more.
 ends_in_move-append : (b : Bool) (xs ys : List Placed) → ends_in_move b (xs ++ ys) ≡ ends_in_move (ends_in_move b xs) ys
 ends_in_move-append b [] ys = refl
-ends_in_move-append b (x ∷ xs) ys = ends_in_move-append (is_move x.item) xs ys
+ends_in_move-append b (x ∷ xs) ys = ends_in_move-append _ xs ys
 
 -- the moves outside variations
 abbrev main_of : ModelLevels → List Move
@@ -49,7 +47,7 @@ plies_by (move m) present [] = omega arith
 plies_by (move m) present (l ∷ around) =
     let n = length (main_of (record { present = present; around = l ∷ around })) in
     let none_more : n ≡ n + 0 = omega arith in
-    none_more ∙ ap (λ b. n + elim b [ true ↦ 1 | false ↦ 0 ]) (sym (eqb-suc-zero (length around)))
+    none_more ∙ ap (λ b. n + elim b [ true ↦ 1 | false ↦ 0 ]) (sym (eqb-suc-zero _))
 plies_by close_variation present [] = omega arith
 plies_by close_variation present (l ∷ around) = omega arith
 plies_by _ present around = omega arith
@@ -57,7 +55,7 @@ plies_by _ present around = omega arith
 plies-snoc : (items : List Item) (i : Item)
     → length (main_moves (items ++ i ∷ [])) ≡ length (main_moves items) + plies_in i (depth (levels_of items))
 plies-snoc items i =
-    ap (λ ls. length (main_of ls)) (levels_more items i) ∙ plies_by i (levels_of items).present (levels_of items).around
+    cc (levels_more items i, plies_by i (levels_of items).present (levels_of items).around)
 
 -- Whether an item is written decides its tokens, and whether a move was written last.
 module _ (mode : Mode) (start : Parts) (items : List Item) (i : Item) (text : Movetext) (line : List ℕ) (written : Bool)
@@ -67,7 +65,7 @@ module _ (mode : Mode) (start : Parts) (items : List Item) (i : Item) (text : Mo
 
   same_depth : depth (levels_of items) ≡ length text.levels.around
   same_depth =
-      sym (ap (λ (ls : StoredLevels). length ls.around) holds.levels ∙ length-map (levels_of items).around (stored_level start))
+      cc (length-map (levels_of items).around (stored_level start))
 
   behind_by : (m : Mode)
       → written_behind m start items (i ∷ []) ≡ elim (writes m (depth (levels_of items)) i) [ true ↦ placed ∷ [] | false ↦ [] ]
@@ -121,7 +119,7 @@ closed start present (l ∷ around) new some h = h
 -- a legal move leads to the position after it
 played_is : (p : Parts) (m : Move) (next : Parts) → legal p m ≡ Some next → next ≡ play p m
 unfolding play
-played_is p m next is = sym (ap (λ o. unwrap_or o p) is)
+played_is p m next is = cc
 
 abbrev then_at : StoredLevels → Parts → StoredLevels
 then_at ls next = record { present = record { present = next; before = Some ls.present.present }; around = ls.around }
@@ -135,7 +133,7 @@ pub record Advances (i : Item) (text new : Movetext) : Type 0 where
 pub plays_on : (x : Played) (text new : Movetext) → legal text.levels.present.present x.mv ≡ Some x.next → Plays x text new → Advances (move x.mv) text new
 plays_on x text new is on = record {
   levels = λ start ls e.
-      on.levels ∙ ap (then_at text.levels) (played_is text.levels.present.present x.mv x.next is)
+      on.levels ∙ ap (then_at text.levels) (played_is text.levels.present.present x.mv _ is)
       ∙ ap (λ (l : StoredLevels). then_at l (play l.present.present x.mv)) e;
   plies = on.plies;
   is_after_move = on.is_after_move;
@@ -189,17 +187,13 @@ module _ (mode : Mode) (i : Item) (text : Movetext) (line new_line : List ℕ) (
   tokens_then : (start : Parts) (items : List Item) → HoldsItems mode start items text line
       → tokens_out mode start (items ++ i ∷ []) ≡ tokens_out mode start items ++ us
   tokens_then start items holds =
-      tokens_more mode start items (i ∷ [])
-      ∙ ap (λ l. tokens_out mode start items ++ l) (tokens_are mode start items i text line written holds refl)
+      cc (tokens_more mode start items (i ∷ []), tokens_are mode start items i text line written holds refl)
 
   item_text_is : (start : Parts) (items : List Item) → HoldsItems mode start items text line → All IsToken us
       → (laid_from line (map Put us)).written ≡ item_text mode start items i
   item_text_is start items holds each =
       let ts = tokens_out mode start items in
-      ap (λ (l : List ℕ). (laid_from l (map Put us)).written) holds.last
-      ∙ sym (ap (λ l. drop (length (full_text mode start items)) (text_of_lines (full_lines (lines_of l)))) (tokens_then start items holds)
-      ∙ ap (drop (length (full_text mode start items))) (full_lines_laid ts us holds.tokens each)
-      ∙ drop-append_seam (full_text mode start items) (laid_from (last_line (lines_of ts)) (map Put us)).written)
+      cc (tokens_then start items holds, full_lines_laid ts us holds.tokens each, drop-append_seam (full_text mode start items) (laid_from (last_line (lines_of ts)) (map Put us)).written)
 
   held_then : (start : Parts) (items : List Item) (new : Movetext) → HoldsItems mode start items text line → All IsToken us
       → new_line ≡ (laid_from line (map Put us)).line → Advances i between new
@@ -215,7 +209,7 @@ module _ (mode : Mode) (i : Item) (text : Movetext) (line new_line : List ℕ) (
             ∙ ap (λ n. n + plies_in i (depth (levels_of items))) holds.plies ∙ sym (plies-snoc items i);
         is_after_move = on.is_after_move ∙ ends_are mode start items i text line written holds refl
             ∙ ap (λ b. ends_in_move b behind) holds.is_after_move
-            ∙ sym (ap (ends_in_move false) (written_more mode start items (i ∷ []))
+            ∙ sym (ap (ends_in_move false) (written_more mode start items _)
             ∙ ends_in_move-append false (written_from_start mode start items) behind);
         tokens = subst (All IsToken) (sym (tokens_then start items holds)) (All-append IsToken ts us holds.tokens each);
         last = held ∙ ap (λ (l : List ℕ). (laid_from l (map Put us)).line) holds.last
@@ -227,7 +221,7 @@ module _ (mode : Mode) (i : Item) (text : Movetext) (line new_line : List ℕ) (
   adds_put new puts on = record {
     adds = λ start items holds. (
       held_then start items new holds puts.each puts.held on,
-      subst (Appends d.before d.after) (item_text_is start items holds puts.each) puts.text,
+      subst (Appends _ _) (item_text_is start items holds puts.each) puts.text,
     );
     plies = omega (arith, on.plies, one_at_most (is_move i) (length text.levels.around == 0));
     counted = puts.counted;
@@ -237,7 +231,7 @@ module _ (mode : Mode) (i : Item) (text : Movetext) (line new_line : List ℕ) (
       → IsErr result → Adds mode i text line new new_line result d
   adds_front new e (Ok x) puts same err = absurd (cc)
   adds_front new e (Err f) puts same err = record {
-    adds = λ start items holds. subst (AppendsFront d.before d.after) (item_text_is start items holds puts.each) puts.text;
+    adds = λ start items holds. subst (AppendsFront _ _) (item_text_is start items holds puts.each) puts.text;
     plies = omega (arith, ap (λ (t : Movetext). t.plies) same);
     counted = puts.counted;
   }
@@ -246,17 +240,17 @@ module _ (mode : Mode) (i : Item) (text : Movetext) (line new_line : List ℕ) (
 pub left_out : (mode : Mode) (i : Item) (text : Movetext) (line : List ℕ) (d : Device) → writes mode (length text.levels.around) i ≡ false
     → Appends d.before d.after [] → d.failures_after ≡ d.failures → WritesItem {A = Unit} {E = WriteFault} mode i text line text line (Ok tt) d
 left_out mode i text line d none nothing counted = record {
-  puts = subst (λ (b : Bool). PutsTokens {A = Unit} {E = WriteFault} (tokens_if b text i) line line (Ok tt) d) (sym none)
+  puts = rw none
       (record { text = nothing; held = refl; each = All-nil IsToken; counted = counted });
-  ends = ap (λ (b : Bool). record text { is_after_move = after_move_if b text i }) (sym none);
+  ends = cc;
 }
 
 pub written_out : (mode : Mode) (i : Item) (text : Movetext) (line new_line : List ℕ) (d : Device) → writes mode (length text.levels.around) i ≡ true
     → PutsTokens {A = Unit} {E = WriteFault} (tokens_due text i) line new_line (Ok tt) d
     → WritesItem {A = Unit} {E = WriteFault} mode i text line (record text { is_after_move = is_move i }) new_line (Ok tt) d
 written_out mode i text line new_line d is puts = record {
-  puts = subst (λ (b : Bool). PutsTokens {A = Unit} {E = WriteFault} (tokens_if b text i) line new_line (Ok tt) d) (sym is) puts;
-  ends = ap (λ (b : Bool). record text { is_after_move = after_move_if b text i }) (sym is);
+  puts = rw is puts;
+  ends = cc;
 }
 
 pub not_written : {A E : Type 0} (mode : Mode) (i : Item) (text : Movetext) (line new_line : List ℕ) (e : E) (result : Result Unit WriteFault) (d : Device)
@@ -264,7 +258,7 @@ pub not_written : {A E : Type 0} (mode : Mode) (i : Item) (text : Movetext) (lin
     → WritesItem mode i text line text new_line result d
 not_written mode i text line new_line e (Ok x) d is puts err = absurd (cc)
 not_written mode i text line new_line e (Err f) d is puts err = record {
-  puts = subst (λ (b : Bool). PutsTokens {A = Unit} (tokens_if b text i) line new_line (Err f) d) (sym is)
+  puts = rw is
       (record { text = puts.text; held = tt; each = puts.each; counted = puts.counted });
   ends = refl;
 }
@@ -275,8 +269,7 @@ laid-written : (line : List ℕ) (xs ys : List (List ℕ))
 laid-written line [] ys = refl
 laid-written line (x ∷ xs) ys =
     let next = line_put line x in
-    ap (λ l. text_put line x ++ l) (laid-written next xs ys)
-    ∙ sym (append_assoc (text_put line x) (laid_from next (map Put xs)).written (laid_from (laid_from next (map Put xs)).line (map Put ys)).written)
+    cc (laid-written next xs ys, append_assoc (text_put line x) (laid_from next (map Put xs)).written (laid_from (laid_from next (map Put xs)).line (map Put ys)).written)
 
 laid-line : (line : List ℕ) (xs ys : List (List ℕ)) → (laid_from line (map Put (xs ++ ys))).line ≡ (laid_from (laid_from line (map Put xs)).line (map Put ys)).line
 laid-line line [] ys = refl
@@ -302,7 +295,7 @@ pub puts_fail : {A B E F : Type 0} (xs ys : List (List ℕ)) (line new_line then
     → PutsTokens {A = A} {E = E} xs line new_line (Err e) d → IsErr result → PutsTokens (xs ++ ys) line then_line result d
 puts_fail xs ys line new_line then_line e (Ok x) d each first err = absurd (cc)
 puts_fail xs ys line new_line then_line e (Err f) d each first err = record {
-  text = subst (AppendsFront d.before d.after) (sym (laid-written line xs ys)) (front_of_more d.before d.after _ _ first.text);
+  text = rw (laid-written line xs ys) (front_of_more _ _ _ _ first.text);
   held = tt;
   each = All-append IsToken xs ys first.each each;
   counted = first.counted;
@@ -311,7 +304,7 @@ puts_fail xs ys line new_line then_line e (Err f) d each first err = record {
 -- The text that is written for a move is the one of the definitions, and a token.
 pub is_text : (p q : Parts) (m : Move) (s : List ℕ) → s ≡ san q m → q ≡ p → s ≡ text_of_move p m
 unfolding text_of_move
-is_text p q m s text same = text ∙ ap (λ r. san r m) same
+is_text p q m s text same = cc
 
 pub is_token : (p : Parts) (m : Move) (s : List ℕ) → s ≡ text_of_move p m → 0 < length s → length s ≤ 7 → All IsToken (text_of_move p m ∷ [])
 is_token p m s text some short =
@@ -321,5 +314,5 @@ is_token p m s text some short =
 pub writes_move : (place held : Parts) (m : Move) (next : Parts) (n k : ℕ) → held ≡ place → legal place m ≡ Some next
     → MarkPairs next (n + disambiguation_pairs held m) k → MarkPairs (play place m) (n + disambiguation_pairs place m) k
 writes_move place held m next n k same is h =
-    subst (λ (q : Parts). MarkPairs q (n + disambiguation_pairs place m) k) (played_is place m next is)
-    (subst (λ (p : Parts). MarkPairs next (n + disambiguation_pairs p m) k) same h)
+    rw (played_is place m next is) at
+    (rw same at h)

@@ -1,5 +1,5 @@
 -- What putting a token of movetext adds to what stands written of its game, and to the reader.
-use Rattle.pgn_game.proofs.Words.{◌≡◌, max, ℕ, ◌<◌, ◌≤◌, Bool, true, false, ◌||◌, ◌==◌, List, [], ◌∷◌, ◌++◌, length, drop, Option, None, refl, sym, ap, subst, ◌∙◌, append-nil, length-append, arith, IsTrue, Ok, Err, list_any, list_any-append, drop-append-add, drop-length, Appends-trans, Appends, Move, AppendsFront, Device, one_more, Parts, Mode, Full, Reduced, Stage, Between, AfterTags, InMovetext, Profile, known_result, Pair, Item, Part, More, is_at, stage_number, start_of, tag_section, is_move, full_text, torn_at, has_move, Next, going, Movetext, HoldsItems, ReaderState, Agrees, as_written, HoldsPairs, HoldsText, plies_behind, whole_plies, IsOpen, may_have_movetext, with_items, Adds, BeginsText, Goes, Keeps, PutResult, PutsItems, gain_to, section_due, section_due_of}
+use Rattle.pgn_game.proofs.Words.{◌≡◌, max, ℕ, ◌<◌, ◌≤◌, Bool, true, false, ◌||◌, List, [], ◌∷◌, ◌++◌, length, drop, Option, None, refl, sym, ap, subst, ◌∙◌, append-nil, length-append, arith, IsTrue, Ok, Err, list_any, list_any-append, drop-append-add, drop-length, Appends-trans, Appends, Move, AppendsFront, Device, one_more, Parts, Mode, Full, Reduced, Stage, Between, AfterTags, InMovetext, Profile, known_result, Pair, Item, Part, More, is_at, start_of, tag_section, is_move, full_text, torn_at, has_move, Next, going, Movetext, HoldsItems, ReaderState, Agrees, as_written, plies_behind, whole_plies, IsOpen, may_have_movetext, with_items, Adds, BeginsText, Goes, Keeps, PutResult, PutsItems, gain_to, section_due, section_due_of}
 use Rattle.std.proofs.Math.Nat.{le-max_left}
 use Rattle.pgn_layout.specs.declared.sink.WriteFault.{WriteFault}
 use Rattle.pgn_game.specs.declared.reason.Reason.TheVariants as reasons
@@ -24,41 +24,39 @@ pub gain_at : (mode : Mode) (result : List ℕ) (stage : Stage) (ps : List Pair)
     → drop (length (torn_at stage mode result (part_at stage ps name items))) (tag_section mode result ps ++ lines)
     ≡ section_due stage mode result ps ++ drop (length (full_text mode (start_of ps) items)) lines
 gain_at mode result AfterTags ps name items lines at fresh =
-    ap (λ (n : ℕ). tag_section mode result ps ++ drop n lines) (sym (ap (λ (is : List Item). length (full_text mode (start_of ps) is)) (fresh refl) ∙ ap (length {A = ℕ}) (no_text mode (start_of ps))))
+    cc (fresh refl, no_text mode (start_of ps))
 gain_at mode result InMovetext ps name items lines at fresh =
     let section = tag_section mode result ps in
     let full = full_text mode (start_of ps) items in
-    ap (λ n. drop n (section ++ lines)) (length-append section full) ∙ drop-append-add section lines (length full)
+    ap (λ n. drop n (section ++ lines)) (length-append section full) ∙ drop-append-add section lines _
 gain_at mode result _ ps name items lines at fresh = absurd (cc)
 
 -- the stage of a part is the reader's
 pub open_stage : (old : ReaderState) (part : Part) → IsOpen old part → IsTrue (may_have_movetext old.stage) → IsTrue (may_have_movetext part.stage)
-open_stage old part is at = subst (λ (s : Stage). IsTrue (may_have_movetext s)) is.stage at
+open_stage old part is at = rw is.stage at at
 
 -- what is due of the section is the part's
 pub section_is : (old : ReaderState) (part : Part) → IsOpen old part
     → section_due_of old ≡ section_due part.stage old.profile.mode (known_result old.profile.missing_result) part.pairs
 section_is old part is =
     let result = known_result old.profile.missing_result in
-    ap (λ (s : Stage). section_due s old.profile.mode result old.tags.held) is.stage
-    ∙ ap (λ (ps : List Pair). section_due part.stage old.profile.mode result ps) (ap (λ t. t.held) is.pairs)
+    cc
 
 -- What items add: the tag section, where movetext begins, and what they add to the full lines.
 pub gain_is : (old : ReaderState) (part : Part) (more : List Item) → IsTrue (may_have_movetext old.stage) → IsOpen old part
     → section_due_of old ++ lines_gain old.profile.mode part.pairs part.items more ≡ gain_to (as_written old.profile) part (going (with_items part more))
 gain_is old part more at is =
     let p = old.profile in
-    ap (λ l. l ++ lines_gain p.mode part.pairs part.items more) (section_is old part is)
-    ∙ sym (gain_at p.mode (known_result p.missing_result) part.stage part.pairs part.name part.items (full_text p.mode (start_of part.pairs) (part.items ++ more)) (open_stage old part is at) (λ e. is.fresh (is.stage ∙ e)))
+    cc (section_is old part is, gain_at p.mode (known_result p.missing_result) part.stage part.pairs part.name part.items (full_text p.mode (start_of part.pairs) (part.items ++ more)) (open_stage old part is at) (λ e. is.fresh (is.stage ∙ e)))
 
 -- The section was written: so it is said of the reader as its fields make it.
 pub begins_as : (old begun held : ReaderState) (d : Device) → held ≡ begun → BeginsText {A = Unit {0}} {E = WriteFault} old begun (Ok tt) d
     → BeginsText {A = Unit {0}} {E = WriteFault} old held (Ok tt) d
-begins_as old begun held d same begins = subst (λ (r : ReaderState). BeginsText {A = Unit {0}} {E = WriteFault} old r (Ok tt) d) (sym same) begins
+begins_as old begun held d same begins = rw same begins
 
 -- no move was played outside the games before
 pub plies_before : (old : ReaderState) → IsTrue (may_have_movetext old.stage) → whole_plies old ≡ old.earlier_plies
-plies_before old at = by_stage old.stage at
+plies_before old at = by_stage _ at
   where
     by_stage : (stage : Stage) → IsTrue (may_have_movetext stage) → plies_behind stage old.earlier_plies old.text.plies ≡ old.earlier_plies
     by_stage Between at = absurd (cc)
@@ -80,8 +78,8 @@ agrees_in_text : (r : ReaderState) (part : Part) → r.stage ≡ InMovetext → 
 agrees_in_text r part stage same tags held probed =
     record {
       stage = stage ∙ sym same;
-      pairs = subst (λ (s : Stage). HoldsPairs s r.tags part) (sym stage) tags;
-      text = subst (λ (s : Stage). HoldsText s r part) (sym stage) (held, probed);
+      pairs = rw stage tags;
+      text = rw stage (held, probed);
     }
 
 not_between : (stage : Stage) {P : Type 0} → stage ≡ InMovetext → stage ≡ Between → P
@@ -105,8 +103,7 @@ goes_with old begun new part more d at is begins next held probed appended =
     let stage : new.stage ≡ InMovetext = next.stage ∙ ap (λ (r : ReaderState). r.stage) begins in
     record {
       leads = agrees_in_text new (with_items part more) stage refl (next.tags ∙ ap (λ (r : ReaderState). r.tags) begins ∙ is.pairs)
-          (subst (λ (p : Profile). HoldsItems p.mode (start_of part.pairs) (part.items ++ more) new.text new.line)
-          (sym (next.profile ∙ ap (λ (r : ReaderState). r.profile) begins)) held) probed;
+          (rw (next.profile ∙ ap (λ (r : ReaderState). r.profile) begins) held) probed;
       plies = ap (λ (s : Stage). plies_behind s new.earlier_plies new.text.plies) stage
           ∙ omega (arith, next.earlier, ap (λ (r : ReaderState). r.earlier_plies) begins, plies_before old at);
       appended = appended;
@@ -132,7 +129,7 @@ puts_number old new d at begins = record {
       goes_with old new new part [] d at is begins.begun (record { profile = refl; stage = refl; tags = refl; earlier = refl; probes = omega arith })
       (subst (λ (r : ReaderState). HoldsItems old.profile.mode (start_of ps) (items ++ []) r.text r.line) (sym begins.begun)
       (subst (λ (l : List Item). HoldsItems old.profile.mode (start_of ps) l old.text old.line) (sym (append-nil items)) is.held))
-      (λ has. subst (λ (n : ℕ). 0 < n) (sym begins.probes) (is.probed (subst (λ (l : List Item). IsTrue (has_move l)) (append-nil items) has)))
+      (λ has. subst (λ (n : ℕ). 0 < n) (sym begins.probes) (is.probed (rw (append-nil items) at has)))
       (subst (Appends d.before d.after) (sym (append-nil _) ∙ ap (λ l. section_due_of old ++ l) (sym nothing) ∙ gain_is old part [] at is) begins.text));
   goes_on = tt;
   probes = begins.probes;
@@ -142,7 +139,7 @@ puts_number old new d at begins = record {
 pub begun_before : (old : ReaderState) (d : Device) → old.stage ≡ InMovetext
     → Appends d.before d.after [] → d.failures_after ≡ d.failures → BeginsText {A = Unit {0}} {E = WriteFault} old old (Ok tt) d
 begun_before old d at nothing counted = record {
-  text = subst (λ (s : Stage). Appends d.before d.after (section_due s old.profile.mode (known_result old.profile.missing_result) old.tags.held)) (sym at) nothing;
+  text = rw at nothing;
   begun = ap (λ (s : Stage). record old { stage = s }) at;
   profile = refl;
   earlier = refl;
@@ -154,7 +151,7 @@ begun_before old d at nothing counted = record {
 -- where a move was played, some pair was tried
 probed_with : (old : ReaderState) (part : Part) (i : Item) (most : ℕ) → (is_move i ≡ true → 0 < old.most_probes) → old.most_probes ≤ most
     → (IsTrue (has_move part.items) → 0 < old.most_probes) → IsTrue (has_move (part.items ++ i ∷ [])) → 0 < most
-probed_with old part i most put rises before has = by_kind (is_move i) refl
+probed_with old part i most put rises before has = by_kind _ refl
   where
     or_left : (x y : Bool) → y ≡ false → (x || y) ≡ true → x ≡ true
     or_left true y e h = refl
@@ -172,7 +169,7 @@ probed_with old part i most put rises before has = by_kind (is_move i) refl
 -- the movetext that was held is held where its section is written
 begun_held : (old begun : ReaderState) (part : Part) → IsOpen old part → begun ≡ record old { stage = InMovetext }
     → HoldsItems begun.profile.mode (start_of part.pairs) part.items begun.text begun.line
-begun_held old begun part is begins = subst (λ (r : ReaderState). HoldsItems r.profile.mode (start_of part.pairs) part.items r.text r.line) (sym begins) is.held
+begun_held old begun part is begins = rw begins is.held
 
 -- The section was written, and then an item put.
 module _ (old begun new : ReaderState) (i : Item) (a b c : Option (List ℕ)) (n m k : ℕ) (at : IsTrue (may_have_movetext old.stage))
@@ -182,7 +179,7 @@ module _ (old begun new : ReaderState) (i : Item) (a b c : Option (List ℕ)) (n
       → PutResult old (IsOpen old) (to_items (i ∷ [])) new (Ok More) (from_to a c n k)
   puts_item put adds =
       let most : old.most_probes ≤ new.most_probes = omega (arith, next.probes, begins.probes) in
-      more_comes old new (IsOpen old) (to_items (i ∷ [])) (from_to a c n k)
+      more_comes old new (IsOpen old) (to_items _) (from_to a c n k)
       (record { profile = next.profile ∙ begins.profile; plies = omega (arith, next.earlier, begins.earlier, begins.plies, adds.plies); probes = most })
       (not_between new.stage (next.stage ∙ ap (λ (r : ReaderState). r.stage) begins.begun)) (adds.counted ∙ begins.counted)
       (λ part is.
@@ -191,16 +188,16 @@ module _ (old begun new : ReaderState) (i : Item) (a b c : Option (List ℕ)) (n
       (subst (λ (p : Profile). HoldsItems p.mode (start_of part.pairs) (part.items ++ i ∷ []) new.text new.line) begins.profile added.0)
       (probed_with old part i new.most_probes put most is.probed)
       (subst (Appends a c) (ap (λ (p : Profile). section_due_of old ++ lines_gain p.mode part.pairs part.items (i ∷ [])) begins.profile
-      ∙ gain_is old part (i ∷ []) at is) (Appends-trans a b c _ _ begins.text added.1)))
+      ∙ gain_is old part _ at is) (Appends-trans a b c _ _ begins.text added.1)))
 
   pub fails_item : (f : WriteFault) → Adds {A = Unit} begun.profile.mode i begun.text begun.line new.text new.line (Err f) (from_to b c m k)
       → PutResult old (IsOpen old) (to_items (i ∷ [])) new (Err reasons.WriteFault) (from_to a c n k)
   fails_item f adds =
-      unwritten old new (IsOpen old) (to_items (i ∷ [])) (from_to a c n k)
+      unwritten old new (IsOpen old) (to_items _) (from_to a c n k)
       (record { profile = next.profile ∙ begins.profile; plies = omega (arith, next.earlier, begins.earlier, begins.plies, adds.plies); probes = omega (arith, next.probes, begins.probes) })
       (adds.counted ∙ ap one_more begins.counted) (λ part is.
       subst (AppendsFront a c) (ap (λ (p : Profile). section_due_of old ++ lines_gain p.mode part.pairs part.items (i ∷ [])) begins.profile
-      ∙ gain_is old part (i ∷ []) at is)
+      ∙ gain_is old part _ at is)
       (front_after a b c _ _ begins.text (adds.adds (start_of part.pairs) part.items (begun_held old begun part is begins.begun))))
 
 -- Items could not be put, since the section could not be written.
@@ -210,24 +207,21 @@ puts_unbegun old new more f d at begins =
     unwritten old new (IsOpen old) (to_items more) d
     (record { profile = begins.profile; plies = omega (arith, begins.earlier, begins.plies); probes = omega (arith, begins.probes) }) begins.counted
     (λ part is.
-    subst (AppendsFront d.before d.after) (gain_is old part more at is)
-    (front_of_more d.before d.after _ (lines_gain old.profile.mode part.pairs part.items more) begins.text))
+    subst (AppendsFront _ _) (gain_is old part more at is)
+    (front_of_more _ _ _ (lines_gain old.profile.mode part.pairs part.items more) begins.text))
 
 -- Behind the section the movetext is what it was before it.
 module _ (old begun held : ReaderState) (d : Device) (same : held ≡ begun) (begins : BeginsText {A = Unit} {E = WriteFault} old begun (Ok tt) d) where
-  held_begun : held ≡ record old { stage = InMovetext }
-  held_begun = same ∙ begins.begun
-
   pub text_begun : held.text ≡ old.text
-  text_begun = ap (λ (r : ReaderState). r.text) held_begun
+  text_begun = cc
 
 -- the reader after a move, once its probes are counted
 after_move : (begun new : ReaderState) (text : Movetext) (line : List ℕ) (n : ℕ) → new ≡ record begun { text = text; line = line; most_probes = max begun.most_probes n } → IsAfterItem begun new
 after_move begun new text line n is = record {
-  profile = ap (λ (r : ReaderState). r.profile) is;
-  stage = ap (λ (r : ReaderState). r.stage) is;
-  tags = ap (λ (r : ReaderState). r.tags) is;
-  earlier = ap (λ (r : ReaderState). r.earlier_plies) is;
+  profile = cc;
+  stage = cc;
+  tags = cc;
+  earlier = cc;
   probes = omega (arith, ap (λ (r : ReaderState). r.most_probes) is, le-max_left begun.most_probes n);
 }
 
@@ -236,21 +230,21 @@ module _ (old begun new : ReaderState) (mv : Move) (after : ℕ) {text : Movetex
     (begins : BeginsText {A = Unit} {E = WriteFault} old begun (Ok tt) (from_to a b n m)) (is : new ≡ record begun { text = text; line = line; most_probes = max begun.most_probes after }) where
   pub puts_move : 0 < old.most_probes → Adds {A = Unit} {E = WriteFault} begun.profile.mode (move mv) begun.text begun.line text line (Ok tt) (from_to b c m k)
       → PutResult old (IsOpen old) (to_items (move mv ∷ [])) new (Ok More) (from_to a c n k)
-  puts_move probed adds = puts_item old begun new (move mv) a b c n m k at begins (after_move begun new text line after is) (λ is. probed) (rw is adds)
+  puts_move probed adds = puts_item old begun new _ a b c n m k at begins (after_move begun new text line after is) (λ is. probed) (rw is adds)
 
   pub fails_move : (f : WriteFault) → Adds {A = Unit} begun.profile.mode (move mv) begun.text begun.line text line (Err f) (from_to b c m k)
       → PutResult old (IsOpen old) (to_items (move mv ∷ [])) new (Err reasons.WriteFault) (from_to a c n k)
-  fails_move f adds = fails_item old begun new (move mv) a b c n m k at begins (after_move begun new text line after is) f (rw is adds)
+  fails_move f adds = fails_item old begun new _ a b c n m k at begins (after_move begun new text line after is) f (rw is adds)
 
 pub most_after : (old begun new : ReaderState) (text : Movetext) (line : List ℕ) (after : ℕ) (d : Device) → BeginsText {A = Unit} {E = WriteFault} old begun (Ok tt) d
     → new ≡ record begun { text = text; line = line; most_probes = max begun.most_probes after } → new.most_probes ≡ max old.most_probes after
-most_after old begun new text line after d begins is = ap (λ (r : ReaderState). r.most_probes) is ∙ ap (λ n. max n after) begins.probes
+most_after old begun new text line after d begins is = cc
 
 -- where the section could not be written, movetext had not begun
 pub unbegun_part : {A : Type 0} (old new : ReaderState) (f : WriteFault) (d : Device) (part : Part) → IsTrue (may_have_movetext old.stage) → BeginsText {A = A} old new (Err f) d
     → old.stage ≡ part.stage → is_at InMovetext part ≡ false
 unbegun_part old new f d part at begins same =
-    ap (λ (s : Stage). stage_number InMovetext == stage_number s) (sym same ∙ by_stage old.stage at begins.text)
+    cc (by_stage old.stage at begins.text)
   where
     by_stage : (stage : Stage) → IsTrue (may_have_movetext stage)
         → AppendsFront d.before d.after (section_due stage old.profile.mode (known_result old.profile.missing_result) old.tags.held) → stage ≡ AfterTags

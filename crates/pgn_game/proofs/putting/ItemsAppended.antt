@@ -1,5 +1,5 @@
 -- Movetext of more items: its tokens, and the lines that are full.
-use Rattle.pgn_game.proofs.Words.{◌≡◌, ℕ, ◌<◌, Bool, true, false, List, [], ◌∷◌, ◌++◌, length, refl, sym, ap, subst, ◌∙◌, append_assoc, append-nil, length-append, arith, All, fold, filter-append, All-nil, All-cons, All-head, All-tail, IsToken, has_room, lines_from, lines_of, full_lines, last_line, text_of as text_of_lines, Put, EndGame, ended, text_put, line_put, text_at, line_at, Parts, Mode, Full, Reduced, Item, Levels, levels_after, levels_of, first_level, depth, here, Placed, placed_from, is_move, is_main_move, written_items, tokens_at, tokens_from, tokens_out, full_text, ends_in_move}
+use Rattle.pgn_game.proofs.Words.{◌≡◌, ℕ, ◌<◌, Bool, true, false, List, [], ◌∷◌, ◌++◌, length, refl, sym, ap, subst, ◌∙◌, append_assoc, append-nil, length-append, arith, All, fold, filter-append, All-nil, All-cons, All-head, All-tail, IsToken, has_room, lines_from, lines_of, full_lines, last_line, text_of as text_of_lines, Put, EndGame, ended, text_put, line_put, text_at, line_at, Parts, Mode, Full, Reduced, Item, Levels, levels_after, levels_of, first_level, Placed, placed_from, is_move, is_main_move, written_items, tokens_at, tokens_from, tokens_out, full_text, ends_in_move}
 use Rattle.std.proofs.lemmas.List.Elements.{All-append}
 use Rattle.pgn_game.specs.Laws.{IsPrefix}
 
@@ -23,7 +23,7 @@ last_line-cons l = by_lines (λ ls. last_line (l ∷ ls) ≡ last_line ls) (λ x
 full_lines-append : (xs : List (List ℕ)) (t : List ℕ) (ts : List (List ℕ)) → full_lines (xs ++ lines_from t ts) ≡ xs ++ full_lines (lines_from t ts)
 full_lines-append [] t ts = refl
 full_lines-append (x ∷ []) t ts = full_lines-cons x t ts
-full_lines-append (x ∷ y ∷ ys) t ts = ap (λ l. x ∷ l) (full_lines-append (y ∷ ys) t ts)
+full_lines-append (x ∷ y ∷ ys) t ts = cc (full_lines-append (y ∷ ys) t ts)
 
 last_line-append : (xs : List (List ℕ)) (t : List ℕ) (ts : List (List ℕ)) → last_line (xs ++ lines_from t ts) ≡ last_line (lines_from t ts)
 last_line-append [] t ts = refl
@@ -46,17 +46,17 @@ lines_from-append line (t ∷ ts) us =
 
 text_of_lines-append : (xs ys : List (List ℕ)) → text_of_lines (xs ++ ys) ≡ text_of_lines xs ++ text_of_lines ys
 text_of_lines-append [] ys = refl
-text_of_lines-append (x ∷ xs) ys = ap (λ l. (x ++ 10 ∷ []) ++ l) (text_of_lines-append xs ys) ∙ sym (append_assoc (x ++ 10 ∷ []) (text_of_lines xs) (text_of_lines ys))
+text_of_lines-append (x ∷ xs) ys = cc (text_of_lines-append xs ys, append_assoc (x ++ 10 ∷ []) (text_of_lines xs) (text_of_lines ys))
 
 -- more tokens keep the lines that are full
 full_lines-grow : (ts us : List (List ℕ)) → IsPrefix (text_of_lines (full_lines (lines_of ts))) (text_of_lines (full_lines (lines_of (ts ++ us))))
-full_lines-grow [] us = (text_of_lines (full_lines (lines_of us)), refl)
+full_lines-grow [] us = (text_of_lines _, refl)
 full_lines-grow (t ∷ ts) us =
-    let full = full_lines (lines_from t ts) in
+    let full = full_lines _ in
     let last = last_line (lines_from t ts) in (
-      text_of_lines (full_lines (lines_from last us)),
+      text_of_lines (full_lines _),
       ap (λ ls. text_of_lines (full_lines ls)) (lines_from-append t ts us) ∙ ap text_of_lines (full_lines-append full last us)
-          ∙ text_of_lines-append full (full_lines (lines_from last us)),
+          ∙ text_of_lines-append full (full_lines _),
     )
 
 -- and the text of all lines begins with that of those
@@ -65,12 +65,12 @@ full_lines-front [] = ([], refl)
 full_lines-front (l ∷ []) = (text_of_lines (l ∷ []), refl)
 full_lines-front (l ∷ m ∷ ls) =
     let rest = full_lines-front (m ∷ ls) in
-    (rest.0, ap (λ x. (l ++ 10 ∷ []) ++ x) rest.1 ∙ sym (append_assoc (l ++ 10 ∷ []) (text_of_lines (full_lines (m ∷ ls))) rest.0))
+    (rest.0, ap (λ x. (l ++ 10 ∷ []) ++ x) rest.1 ∙ sym (append_assoc (l ++ 10 ∷ []) (text_of_lines _) rest.0))
 
 -- Items.
 pub placed-append : (start : Parts) (ls : Levels) (xs ys : List Item) → placed_from start ls (xs ++ ys) ≡ placed_from start ls xs ++ placed_from start (fold levels_after ls xs) ys
 placed-append start ls [] ys = refl
-placed-append start ls (x ∷ xs) ys = ap (λ l. record { position = here start ls; depth = depth ls; item = x } ∷ l) (placed-append start (levels_after ls x) xs ys)
+placed-append start ls (x ∷ xs) ys = cc (placed-append start (levels_after ls x) xs ys)
 
 written-append : (mode : Mode) (xs ys : List Placed) → written_items mode (xs ++ ys) ≡ written_items mode xs ++ written_items mode ys
 written-append Full xs ys = refl
@@ -79,8 +79,7 @@ written-append Reduced xs ys = filter-append is_main_move xs ys
 pub tokens_from-append : (b : Bool) (xs ys : List Placed) → tokens_from b (xs ++ ys) ≡ tokens_from b xs ++ tokens_from (ends_in_move b xs) ys
 tokens_from-append b [] ys = refl
 tokens_from-append b (x ∷ xs) ys =
-    ap (λ l. tokens_at b x.position x.item ++ l) (tokens_from-append (is_move x.item) xs ys)
-    ∙ sym (append_assoc (tokens_at b x.position x.item) (tokens_from (is_move x.item) xs) (tokens_from (ends_in_move (is_move x.item) xs) ys))
+    cc (tokens_from-append (is_move x.item) xs ys, append_assoc (tokens_at b x.position x.item) (tokens_from (is_move x.item) xs) (tokens_from (ends_in_move (is_move x.item) xs) ys))
 
 -- the items that are written of a game that begins there, and of those that follow them
 abbrev pub written_from_start : Mode → Parts → List Item → List Placed
@@ -92,8 +91,7 @@ written_behind mode start items more = written_items mode (placed_from start (le
 pub written_more : (mode : Mode) (start : Parts) (items more : List Item)
     → written_from_start mode start (items ++ more) ≡ written_from_start mode start items ++ written_behind mode start items more
 written_more mode start items more =
-    ap (written_items mode) (placed-append start first_level items more)
-    ∙ written-append mode (placed_from start first_level items) (placed_from start (levels_of items) more)
+    cc (placed-append start first_level items more, written-append mode (placed_from start first_level items) (placed_from start (levels_of items) more))
 
 -- the tokens that they add
 abbrev pub tokens_behind : Mode → Parts → List Item → List Item → List (List ℕ)
@@ -101,13 +99,12 @@ tokens_behind mode start items more = tokens_from (ends_in_move false (written_f
 
 pub tokens_more : (mode : Mode) (start : Parts) (items more : List Item) → tokens_out mode start (items ++ more) ≡ tokens_out mode start items ++ tokens_behind mode start items more
 tokens_more mode start items more =
-    ap (tokens_from false) (written_more mode start items more)
-    ∙ tokens_from-append false (written_from_start mode start items) (written_behind mode start items more)
+    cc (written_more mode start items more, tokens_from-append false (written_from_start mode start items) (written_behind mode start items more))
 
 -- What stands on full lines stays there when more items come.
 pub full_text_grows : (mode : Mode) (start : Parts) (items more : List Item) → IsPrefix (full_text mode start items) (full_text mode start (items ++ more))
 full_text_grows mode start items more =
-    subst (λ ts. IsPrefix (full_text mode start items) (text_of_lines (full_lines (lines_of ts)))) (sym (tokens_more mode start items more))
+    rw (tokens_more mode start items more)
     (full_lines-grow (tokens_out mode start items) (tokens_behind mode start items more))
 
 -- So it does when the marker comes and the game ends.
@@ -119,8 +116,8 @@ full_text_marker mode start items marker =
     let full = full_lines-grow ts (marker ∷ []) in
     let all = full_lines-front whole in (
       full.0 ++ (all.0 ++ 10 ∷ []),
-      ap (λ l. l ++ 10 ∷ []) (all.1 ∙ ap (λ l. l ++ all.0) full.1 ∙ append_assoc (full_text mode start items) full.0 all.0)
-          ∙ append_assoc (full_text mode start items) (full.0 ++ all.0) (10 ∷ []) ∙ ap (λ l. full_text mode start items ++ l) (append_assoc full.0 all.0 (10 ∷ [])),
+      ap (λ l. l ++ 10 ∷ []) (all.1 ∙ ap (λ l. l ++ all.0) full.1 ∙ append_assoc _ _ all.0)
+          ∙ append_assoc (full_text mode start items) (full.0 ++ all.0) (10 ∷ []) ∙ ap (λ l. full_text mode start items ++ l) (append_assoc _ all.0 _),
     )
 
 -- Tokens that are put.
@@ -140,7 +137,7 @@ put_full (b ∷ bs) t some =
     elim (has_room (b ∷ bs) t)
     as (λ v. text_of_lines (full_lines (elim v [ true ↦ ((b ∷ bs) ++ 32 ∷ t) ∷ [] | false ↦ (b ∷ bs) ∷ t ∷ [] ])) ≡ elim v [ true ↦ [] | false ↦ ended (b ∷ bs) ]) [
       | true ↦ refl
-      | false ↦ append-nil ((b ∷ bs) ++ 10 ∷ [])
+      | false ↦ append-nil _
     ]
 
 put_last : (line t : List ℕ) → 0 < length line → last_line (lines_from line (t ∷ [])) ≡ line_put line t
@@ -160,8 +157,8 @@ full_lines_put (x ∷ xs) t each =
     let full = full_lines (lines_from x xs) in
     let last = last_line (lines_from x xs) in
     let some : 0 < length last = still_not_empty x xs (All-head IsToken x xs each).not_empty (All-tail IsToken x xs each) in
-    ap (λ ls. text_of_lines (full_lines ls)) (lines_from-append x xs (t ∷ [])) ∙ ap text_of_lines (full_lines-append full last (t ∷ []))
-    ∙ text_of_lines-append full (full_lines (lines_from last (t ∷ []))) ∙ ap (λ l. text_of_lines full ++ l) (put_full last t some)
+    ap (λ ls. text_of_lines (full_lines ls)) (lines_from-append x xs _) ∙ ap text_of_lines (full_lines-append full last (t ∷ []))
+    ∙ text_of_lines-append full (full_lines _) ∙ ap (λ l. text_of_lines full ++ l) (put_full last t some)
 
 pub last_line_put : (ts : List (List ℕ)) (t : List ℕ) → All IsToken ts → last_line (lines_of (ts ++ t ∷ [])) ≡ line_put (last_line (lines_of ts)) t
 last_line_put [] t each = refl
@@ -169,21 +166,20 @@ last_line_put (x ∷ xs) t each =
     let full = full_lines (lines_from x xs) in
     let last = last_line (lines_from x xs) in
     let some : 0 < length last = still_not_empty x xs (All-head IsToken x xs each).not_empty (All-tail IsToken x xs each) in
-    ap last_line (lines_from-append x xs (t ∷ [])) ∙ last_line-append full last (t ∷ []) ∙ put_last last t some
+    ap last_line (lines_from-append x xs _) ∙ last_line-append full last (t ∷ []) ∙ put_last last t some
 
 -- the lines are those that are full, and the last
 lines_ended : (ls : List (List ℕ)) → 0 < length (last_line ls) → text_of_lines ls ≡ text_of_lines (full_lines ls) ++ ended (last_line ls)
 lines_ended [] some = absurd (omega arith)
 lines_ended ([] ∷ []) some = absurd (omega arith)
-lines_ended ((b ∷ bs) ∷ []) some = append-nil ((b ∷ bs) ++ 10 ∷ [])
+lines_ended ((b ∷ bs) ∷ []) some = append-nil _
 lines_ended (l ∷ m ∷ ls) some =
-    ap (λ x. (l ++ 10 ∷ []) ++ x) (lines_ended (m ∷ ls) some)
-    ∙ sym (append_assoc (l ++ 10 ∷ []) (text_of_lines (full_lines (m ∷ ls))) (ended (last_line (m ∷ ls))))
+    cc (lines_ended (m ∷ ls) some, append_assoc (l ++ 10 ∷ []) (text_of_lines (full_lines (m ∷ ls))) (ended (last_line (m ∷ ls))))
 
 held_not_empty : (ts : List (List ℕ)) (m : List ℕ) → All IsToken ts → IsToken m → 0 < length (last_line (lines_of (ts ++ m ∷ [])))
 held_not_empty [] m each token = token.not_empty
 held_not_empty (x ∷ xs) m each token =
-    still_not_empty x (xs ++ m ∷ []) (All-head IsToken x xs each).not_empty (All-append IsToken xs (m ∷ []) (All-tail IsToken x xs each) (All-cons IsToken m [] token (All-nil IsToken)))
+    still_not_empty x _ (All-head IsToken x xs each).not_empty (All-append IsToken xs _ (All-tail IsToken x xs each) (All-cons IsToken m [] token (All-nil IsToken)))
 
 -- What the marker and the end of the game write behind the lines that are full.
 pub game_ends : (ts : List (List ℕ)) (m : List ℕ) → All IsToken ts → IsToken m
@@ -193,7 +189,7 @@ game_ends ts m each token =
     let before = text_of_lines (full_lines (lines_of ts)) in
     let last = last_line (lines_of ts) in
     ap (λ l. l ++ 10 ∷ [])
-    (lines_ended (lines_of (ts ++ m ∷ [])) (held_not_empty ts m each token)
+    (lines_ended _ (held_not_empty ts m each token)
     ∙ ap (λ l. l ++ ended (last_line (lines_of (ts ++ m ∷ [])))) (full_lines_put ts m each)
     ∙ ap (λ l. (before ++ text_put last m) ++ ended l) (last_line_put ts m each))
     ∙ append_assoc (before ++ text_put last m) (ended (line_put last m)) (10 ∷ [])

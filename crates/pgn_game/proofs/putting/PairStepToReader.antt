@@ -9,7 +9,7 @@ use Rattle.pgn_game.proofs.pairs.PairsToFirstPosition.{with_pair, start_found, s
 -- before movetext nothing stands written
 nothing_torn : (p : Profile) (stage : Stage) (ps : List Pair) (name : List ℕ) (items : List Item) → (stage ≡ InMovetext → ⊥)
     → torn p (record { stage = stage; pairs = ps; name = name; items = items }) ≡ []
-nothing_torn p stage ps name items before = by_profile p.missing_result stage before
+nothing_torn p stage ps name items before = by_profile _ stage before
   where
     by_profile : (missing : Missing) (s : Stage) → (s ≡ InMovetext → ⊥) → torn_for missing p.mode (record { stage = s; pairs = ps; name = name; items = items }) ≡ []
     by_profile takes_the_marker s before = refl
@@ -17,12 +17,12 @@ nothing_torn p stage ps name items before = by_profile p.missing_result stage be
     by_profile (counts_as text) _ before = refl
 
 pub no_torn : (p : Profile) (part : Part) (stage : Stage) → part.stage ≡ stage → (stage ≡ InMovetext → ⊥) → torn p part ≡ []
-no_torn p part stage at before = nothing_torn p part.stage part.pairs part.name part.items (λ e. before (sym at ∙ e))
+no_torn p part stage at before = nothing_torn p _ _ _ _ (λ e. before (sym at ∙ e))
 
 -- so that nothing is added
 adds_nothing : (p : Profile) (part to : Part) (o : Option (List ℕ)) → torn p to ≡ [] → Appends o o (gain_to p part (going to))
 adds_nothing p part to o none =
-    subst (Appends o o) (sym (ap (drop (length (torn p part))) none ∙ drop_of_length-le {A = ℕ} [] (omega arith))) (Appends-nil o)
+    rw (ap (drop (length (torn p part))) none ∙ drop_of_length-le {A = ℕ} [] (omega arith)) (Appends-nil o)
 
 -- A step goes from a stage in which the game has begun to another one, and to a part that the
 -- reader then agrees with.
@@ -50,7 +50,7 @@ steps old new to from stage tags start o n is at begun goes before each =
     })))
   where
     few : (s : Option Parts) → (movetext_after_fen s old.text).plies ≤ old.text.plies
-    few None = le_refl old.text.plies
+    few None = le_refl _
     few (Some p) = omega arith
 
     earlier : (s : Stage) (plies : ℕ) → (s ≡ Between → ⊥) → plies_behind s old.earlier_plies plies ≡ old.earlier_plies
@@ -60,8 +60,8 @@ steps old new to from stage tags start o n is at begun goes before each =
 -- where a game begins once the pair is held
 begins_with : (name value : List ℕ) (ps : List Pair) (start : Option Parts) (text : Movetext) → has_pair ps name ≡ false → fen_position name value ≡ Ok start → text ≡ movetext_from (start_of ps)
     → movetext_after_fen start text ≡ movetext_from (start_of (with_pair name value ps))
-begins_with name value ps None text new told is = is ∙ ap movetext_from (sym (start_kept name value ps told))
-begins_with name value ps (Some start) text new told is = ap movetext_from (sym (start_found name value ps start new told))
+begins_with name value ps None text new told is = cc (start_kept name value ps told)
+begins_with name value ps (Some start) text new told is = cc (start_found name value ps start new told)
 
 abbrev pub completed : List ℕ → List ℕ → List Pair → TagPairs
 completed name value ps = record { held = with_pair name value ps; pending_name = None }
@@ -99,40 +99,40 @@ puts_value old new value name start held o n at completes begun told is =
 -- nothing changes at a comment in the tag section, or at a token between games
 pub puts_nothing : (old : ReaderState) (o : Option (List ℕ)) (n : ℕ) → PutResult old (Agrees old) going old (Ok More) (from_to o o n n)
 puts_nothing old o n =
-    more_comes old old (Agrees old) going (from_to o o n n) (record { profile = refl; plies = omega arith; probes = le_refl old.most_probes }) (λ e. refl) refl
-    (λ part agrees. record { leads = agrees; plies = omega arith; appended = subst (Appends o o) (sym (drop-length (torn (as_written old.profile) part))) (Appends-nil o) })
+    more_comes old old _ going _ (record { profile = refl; plies = omega arith; probes = le_refl _ }) (λ e. refl) refl
+    (λ part agrees. record { leads = agrees; plies = omega arith; appended = rw (drop-length (torn (as_written old.profile) part)) (Appends-nil o) })
 
 -- a bracket changes the stage alone
 pub puts_left_bracket : (old new : ReaderState) (o : Option (List ℕ)) (n : ℕ) → old.stage ≡ AfterTags → new ≡ record old { stage = AfterLeftBracket }
     → PutResult old (Agrees old) (to_stage AfterLeftBracket) new (Ok More) (from_to o o n n)
 puts_left_bracket old new o n at is =
-    steps old new (to_stage AfterLeftBracket) AfterTags AfterLeftBracket old.tags None o n is at (λ e. absurd (cc)) (λ e. absurd (cc)) (λ e. absurd (cc)) (λ part agrees. record {
-      to = at_stage AfterLeftBracket part;
+    steps old new _ _ _ _ None o n is at (λ e. absurd (cc)) (λ e. absurd (cc)) (λ e. absurd (cc)) (λ part agrees. record {
+      to = at_stage _ part;
       leads = refl;
-      agrees = record { stage = refl; pairs = held_at old part AfterTags agrees at; text = text_at old part AfterTags agrees at };
+      agrees = record { stage = refl; pairs = held_at old part _ agrees at; text = text_at old part _ agrees at };
     })
 
 pub puts_right_bracket : (old new : ReaderState) (o : Option (List ℕ)) (n : ℕ) → old.stage ≡ AfterValue → new ≡ record old { stage = AfterTags }
     → PutResult old (Agrees old) (to_stage AfterTags) new (Ok More) (from_to o o n n)
 puts_right_bracket old new o n at is =
-    steps old new (to_stage AfterTags) AfterValue AfterTags old.tags None o n is at (λ e. absurd (cc)) (λ e. absurd (cc)) (λ e. absurd (cc)) (λ part agrees. record {
-      to = at_stage AfterTags part;
+    steps old new _ _ _ _ None o n is at (λ e. absurd (cc)) (λ e. absurd (cc)) (λ e. absurd (cc)) (λ part agrees. record {
+      to = at_stage _ part;
       leads = refl;
-      agrees = record { stage = refl; pairs = held_at old part AfterValue agrees at; text = text_at old part AfterValue agrees at };
+      agrees = record { stage = refl; pairs = held_at old part _ agrees at; text = text_at old part _ agrees at };
     })
 
 pub puts_name : (old new : ReaderState) (name : List ℕ) (held : TagPairs) (o : Option (List ℕ)) (n : ℕ) → old.stage ≡ AfterLeftBracket → has_pair old.tags.held name ≡ false
     → held ≡ record old.tags { pending_name = Some name } → new ≡ record old { stage = AfterName; tags = held }
     → PutResult old (Agrees old) (to_name name) new (Ok More) (from_to o o n n)
 puts_name old new name held o n at fresh begins is =
-    steps old new (to_name name) AfterLeftBracket AfterName held None o n is at (λ e. absurd (cc)) (λ e. absurd (cc)) (λ e. absurd (cc)) (λ part agrees.
-    let pairs = held_at old part AfterLeftBracket agrees at in
+    steps old new _ _ _ held None o n is at (λ e. absurd (cc)) (λ e. absurd (cc)) (λ e. absurd (cc)) (λ part agrees.
+    let pairs = held_at old part _ agrees at in
     record {
       to = record { stage = AfterName; pairs = part.pairs; name = name; items = part.items };
       leads = refl;
       agrees = record {
         stage = refl;
-        pairs = (begins ∙ ap (λ (t : TagPairs). record t { pending_name = Some name }) pairs, subst (λ (t : TagPairs). has_pair t.held name ≡ false) pairs fresh);
-        text = text_at old part AfterLeftBracket agrees at;
+        pairs = (begins ∙ ap (λ (t : TagPairs). record t { pending_name = Some name }) pairs, rw pairs at fresh);
+        text = text_at old part _ agrees at;
       };
     })

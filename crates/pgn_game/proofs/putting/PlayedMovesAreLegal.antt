@@ -1,7 +1,6 @@
 -- Each move that is read is legal where it stands.
-use Rattle.pgn_game.proofs.Words.{◌≡◌, ℕ, Bool, true, false, List, [], ◌∷◌, ◌++◌, Option, None, Some, Result, Ok, refl, sym, ap, subst, ◌∙◌, ◌⊎◌, inl, inr, IsTrue, option_map, is_some, list_all, and_from, list_all-append, legal, TheOneMoveIsRead, Parts, Played, SanFault, Kind, Token, Reason, Stage, Between, AfterLeftBracket, AfterName, AfterValue, AfterTags, InMovetext, Profile, Pair, Item, Game, Part, move_of, Levels, here, levels_of, start_of, first_level, is_number, marker_of, position_in, levels_of_part, refusal, placed_from, Next, going, whole, next, next_in, in_text, move_item, items_of, Progress, progress_with, progress_after, no_progress, read_from}
+use Rattle.pgn_game.proofs.Words.{◌≡◌, ℕ, Bool, true, false, List, [], ◌∷◌, ◌++◌, Option, None, Some, Result, Ok, refl, sym, ap, subst, ◌∙◌, ◌⊎◌, inl, inr, IsTrue, option_map, is_some, list_all, and_from, list_all-append, legal, TheOneMoveIsRead, Parts, Played, SanFault, Kind, Token, Reason, Stage, Between, AfterLeftBracket, AfterName, AfterValue, AfterTags, InMovetext, Profile, Pair, Item, Game, Part, move_of, Levels, here, levels_of, start_of, is_number, marker_of, position_in, levels_of_part, placed_from, Next, going, whole, next, next_in, in_text, move_item, items_of, Progress, progress_with, progress_after, no_progress, read_from}
 use Rattle.chess_text.specs.declared.form.Form.{Form}
-use Rattle.chess_text.specs.Form.{form_of}
 use Rattle.chess_text.specs.MoveOfForm.{move_of_form}
 use Rattle.pgn_lexer.specs.Tokens as tokens
 use Rattle.pgn_game.specs.MovesAreLegal.{is_legal_at, plays_legally, MovesAreLegal}
@@ -24,7 +23,7 @@ none_held _ items e = e
 
 nothing_to_play : (pairs : List Pair) (items : List Item) → items ≡ []
     → IsTrue (plays_legally pairs items)
-nothing_to_play pairs items e = subst (λ xs. IsTrue (plays_legally pairs xs)) (sym e) refl
+nothing_to_play pairs items e = rw e refl
 
 abbrev IsLegal : Part → Type 0
 IsLegal part = HoldsNone part.stage part.items × IsTrue (plays_legally part.pairs part.items)
@@ -56,7 +55,7 @@ adds_none _ part _ none = inr none
 
 leads_none : (nx : Next) → AddsNone nx → LeadsLegally nx
 leads_none (going part) none =
-    (none_held part.stage part.items none, nothing_to_play part.pairs part.items none)
+    (none_held _ _ none, nothing_to_play part.pairs _ none)
 leads_none (whole g) none = absurd none
 
 more_items : (pairs : List Pair) (items more : List Item) → IsTrue (plays_legally pairs items)
@@ -64,9 +63,9 @@ more_items : (pairs : List Pair) (items more : List Item) → IsTrue (plays_lega
     → IsTrue (plays_legally pairs (items ++ more))
 more_items pairs items more h k =
     let start = start_of pairs in
-    ap (list_all (λ i. is_legal_at i.position i.item)) (placed-append start first_level items more)
-    ∙ list_all-append (λ i. is_legal_at i.position i.item) (placed_from start first_level items)
-    (placed_from start (levels_of items) more)
+    ap (list_all (λ i. is_legal_at i.position i.item)) (placed-append start _ items more)
+    ∙ list_all-append (λ i. is_legal_at i.position i.item) (placed_from start _ items)
+    (placed_from start _ more)
     ∙ and_from _ _ h k
 
 module _ (one_read : TheOneMoveIsRead) where
@@ -74,7 +73,7 @@ module _ (one_read : TheOneMoveIsRead) where
   pub named_is_legal : (p : Parts) (s : List ℕ) (x : Played) → move_of p s ≡ Some (Ok x)
       → legal p x.mv ≡ Some x.next
   unfolding move_of
-  named_is_legal p s x e = by_form (form_of s) e
+  named_is_legal p s x e = by_form _ e
     where
       by_form : (o : Option Form) → option_map (move_of_form p) o ≡ Some (Ok x)
           → legal p x.mv ≡ Some x.next
@@ -95,7 +94,7 @@ module _ (one_read : TheOneMoveIsRead) where
       (elim b [ true ↦ [] | false ↦ move_item (move_of (position_in part) s) ]))) [
         | true ↦ refl
         | false ↦
-            item_legal (start_of part.pairs) (levels_of_part part) s (move_of (position_in part) s) refl
+            item_legal (start_of part.pairs) (levels_of_part part) s _ refl
       ]
   items_legal part _ = refl
 
@@ -113,9 +112,9 @@ module _ (one_read : TheOneMoveIsRead) where
 
   next_legal : (part : Part) (k : Kind) → IsLegal part → LeadsLegally (next part k)
   next_legal part k (none, h) =
-      elim (adds_none part.stage part k none) [
+      elim (adds_none _ part k none) [
         | inl e ↦ subst LeadsLegally (sym e) (text_legal part k h)
-        | inr e ↦ leads_none (next part k) e
+        | inr e ↦ leads_none _ e
       ]
 
   abbrev AllLegal : Progress → Type 0
@@ -126,7 +125,7 @@ module _ (one_read : TheOneMoveIsRead) where
       → AllLegal (progress_with games nx)
   with_legal games (going part) h k = (h, k)
   with_legal games (whole g) h k = (
-    list_all-append (λ g. plays_legally g.pairs g.items) games (g ∷ [])
+    list_all-append _ games _
         ∙ and_from _ _ h (and_from _ _ k refl),
     (refl, refl),
   )
@@ -135,10 +134,10 @@ module _ (one_read : TheOneMoveIsRead) where
       → AllLegal (read_from p b ts).progress
   read_legal p b [] h = h
   read_legal p b (t ∷ ts) h =
-      let here = with_legal b.games (next b.part t.kind) h.0 (next_legal b.part t.kind h.1) in
+      let here = with_legal b.games (next _ t.kind) h.0 (next_legal _ _ h.1) in
       let more = read_legal p (progress_after b t) ts here in
-      subst (λ r. AllLegal r.progress) (sym (read_from-test p b t ts))
-      (by_test more (refusal p b.part t.kind))
+      rw (read_from-test p b t ts)
+      (by_test more _)
     where
       by_test : AllLegal (read_from p (progress_after b t) ts).progress → (o : Option Reason)
           → AllLegal (after_test p b t ts o).progress

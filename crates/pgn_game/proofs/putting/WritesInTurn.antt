@@ -1,42 +1,41 @@
 -- Texts written in turn.
-use Rattle.pgn_game.proofs.Words.{◌≡◌, ℕ, ◌+◌, ◌<◌, List, [], ◌∷◌, ◌++◌, length, take, drop, get_or, Option, ap, sym, subst, ◌∙◌, refl, add-one, append-nil, append_assoc, length-append, arith, Some, slice_get, Result, Ok, Err, take-suc, take-append-add, take-append-drop, take-append-le, slice_get_within, get_or_from_slice_get, Appends-trans, Appends, AppendsFront, Counts, Writes, one_more, text_by}
+use Rattle.pgn_game.proofs.Words.{◌≡◌, ℕ, ◌+◌, ◌<◌, List, [], ◌∷◌, ◌++◌, length, take, drop, get_or, Option, ap, sym, ◌∙◌, refl, add-one, append-nil, append_assoc, length-append, arith, Some, slice_get, Result, Ok, Err, take-suc, take-append-add, take-append-drop, take-append-le, slice_get_within, get_or_from_slice_get, Appends-trans, Appends, AppendsFront, Counts, Writes, text_by}
 
 -- a front of a text is one of a longer text
 pub front_of_more : (a b : Option (List ℕ)) (text more : List ℕ) → AppendsFront a b text → AppendsFront a b (text ++ more)
 front_of_more a b text more (n, within, front) =
-    (n, omega (arith, length-append text more), subst (Appends a b) (sym (take-append-le n text more (omega (arith, within)))) front)
+    (n, omega (arith, length-append text more), rw (take-append-le n text more (omega (arith, within))) front)
 
 -- the whole of one text, and then a front of the next
 pub front_after : (a b c : Option (List ℕ)) (text more : List ℕ) → Appends a b text → AppendsFront b c more → AppendsFront a c (text ++ more)
 front_after a b c text more done (n, within, front) = (
   length text + n,
   omega (arith, length-append text more),
-  subst (Appends a c) (sym (take-append-add text more n)) (Appends-trans a b c _ _ done front),
+  rw (take-append-add text more n) (Appends-trans a b c _ _ done front),
 )
 
 text_by-append : {A : Type 0} (f : A → List ℕ) (xs ys : List A) → text_by f (xs ++ ys) ≡ text_by f xs ++ text_by f ys
 text_by-append f [] ys = refl
-text_by-append f (x ∷ xs) ys = ap (λ l. f x ++ l) (text_by-append f xs ys) ∙ sym (append_assoc (f x) (text_by f xs) (text_by f ys))
+text_by-append f (x ∷ xs) ys = cc (text_by-append f xs ys, append_assoc (f x) (text_by f xs) (text_by f ys))
 
 -- one element more
 text_by-next : {A : Type 0} (f : A → List ℕ) (xs : List A) (i : ℕ) (x : A) → i < length xs → get_or xs i x ≡ x → text_by f (take (i + 1) xs) ≡ text_by f (take i xs) ++ f x
 text_by-next f xs i x h e =
-    ap (λ n. text_by f (take n xs)) (add-one i) ∙ ap (text_by f) (take-suc xs i x h ∙ ap (λ y. take i xs ++ y ∷ []) e)
-    ∙ text_by-append f (take i xs) (x ∷ []) ∙ ap (λ l. text_by f (take i xs) ++ l) (append-nil (f x))
+    cc (add-one i, take-suc xs i x h, text_by-append f (take i xs) (x ∷ []), append-nil (f x))
 
 -- the texts so far, and the next one
 pub next_text : {A : Type 0} (f : A → List ℕ) (xs : List A) (i : ℕ) (x : A) (a b c : Option (List ℕ)) → i < length xs → get_or xs i x ≡ x
     → Appends a b (text_by f (take i xs)) → Appends b c (f x) → Appends a c (text_by f (take (i + 1) xs))
-next_text f xs i x a b c h e done next = subst (Appends a c) (sym (text_by-next f xs i x h e)) (Appends-trans a b c _ _ done next)
+next_text f xs i x a b c h e done next = rw (text_by-next f xs i x h e) (Appends-trans a b c _ _ done next)
 
 -- the texts so far, and a front of the next one
 pub next_front : {A : Type 0} (f : A → List ℕ) (xs : List A) (i : ℕ) (x : A) (a b c : Option (List ℕ)) → i < length xs → get_or xs i x ≡ x
     → Appends a b (text_by f (take i xs)) → AppendsFront b c (f x) → AppendsFront a c (text_by f xs)
 next_front f xs i x a b c h e done next =
     let whole : text_by f xs ≡ (text_by f (take i xs) ++ f x) ++ text_by f (drop (i + 1) xs) =
-    ap (text_by f) (sym (take-append-drop (i + 1) xs)) ∙ text_by-append f (take (i + 1) xs) (drop (i + 1) xs)
+    ap (text_by f) (sym (take-append-drop _ xs)) ∙ text_by-append f (take _ xs) (drop _ xs)
     ∙ ap (λ l. l ++ text_by f (drop (i + 1) xs)) (text_by-next f xs i x h e) in
-    subst (AppendsFront a c) (sym whole) (front_of_more a c _ _ (front_after a b c _ _ done next))
+    rw whole (front_of_more a c _ _ (front_after a b c _ _ done next))
 
 -- at a place that is known to hold the element
 pub within_at : {A : Type 0} (xs : List A) (i : ℕ) (x : A) → slice_get xs i ≡ Some x → (i < length xs) × (get_or xs i x ≡ x)
@@ -50,4 +49,4 @@ Writes-append a b c text more (Err e) done next = front_after a b c text more do
 -- a call that fails counts once, also behind calls that did not fail
 pub counts_behind : {A E : Type 0} (m n o : ℕ) (r : Result A E) → n ≡ m → Counts r n o → Counts r m o
 counts_behind m n o (Ok x) same counted = counted ∙ same
-counts_behind m n o (Err e) same counted = counted ∙ ap one_more same
+counts_behind m n o (Err e) same counted = cc

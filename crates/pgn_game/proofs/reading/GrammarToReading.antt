@@ -1,11 +1,11 @@
 -- From the grammar to reading: tokens that spell games run, and finish these games.
-use Rattle.pgn_game.proofs.Words.{◌≡◌, ℕ, ◌+◌, ◌<◌, Bool, true, false, ◌&&◌, not, List, [], ◌∷◌, ◌++◌, length, nat_lt, nat_le, refl, sym, ap, subst, ◌∙◌, arith, append_assoc, append-nil, Option, None, Some, ◌==◌, codes, bytes_eq, is_some, unwrap_or, IsTrue, IsFalse, list_all, bytes_eq-Decides, and_parts, nat_tests, escaped, Played, Kind, Mode, Full, Reduced, BadTagName, DuplicateTag, TooManyTags, BadResult, BadFen, TagLineTooLong, SetUpWithoutFen, ReducedFen, MoveLimit, NoMoveBefore, TooDeep, UnmatchedClose, MarkerInVariation, ResultDiffers, Stage, Between, AfterLeftBracket, AfterName, AfterValue, AfterTags, InMovetext, Profile, Pair, value_of, has_pair, insert_pair, Item, Game, Part, no_part, Level, Levels, levels_of, levels_after, depth, here, replayed, without_last, start_of, refusal, is_comment, in_name, is_result, is_end, is_at_limit, is_reduced, fen_field, fen_field_of, fen_fault_field, marker_of, lacks_fen, next, going, whole, AreDropped, SpellsPair, pair, SpellsPairs, no_pair, next_pair, IsPair, by_name, IsSetUp, Names, new_level, level_after_move, SpellsText, no_more, token, move, variation, BeginsBare, IsResult, SpellsGame, SpellsGames, no_game, next_game}
+use Rattle.pgn_game.proofs.Words.{◌≡◌, ℕ, ◌+◌, ◌<◌, Bool, true, false, ◌&&◌, not, List, [], ◌∷◌, ◌++◌, length, nat_lt, nat_le, refl, sym, ap, subst, ◌∙◌, arith, append_assoc, append-nil, Option, None, Some, ◌==◌, codes, bytes_eq, is_some, unwrap_or, IsTrue, IsFalse, list_all, bytes_eq-Decides, and_parts, nat_tests, escaped, Played, Kind, Mode, Full, Reduced, BadTagName, DuplicateTag, TagLineTooLong, ReducedFen, TooDeep, MarkerInVariation, ResultDiffers, Stage, Between, AfterLeftBracket, AfterName, AfterTags, InMovetext, Profile, Pair, value_of, has_pair, insert_pair, Item, Game, Part, no_part, Level, Levels, levels_of, levels_after, depth, here, replayed, without_last, start_of, refusal, is_comment, in_name, is_result, is_end, is_reduced, fen_field, fen_fault_field, marker_of, lacks_fen, next, going, whole, AreDropped, SpellsPair, pair, SpellsPairs, no_pair, next_pair, IsPair, by_name, IsSetUp, Names, new_level, SpellsText, no_more, token, move, variation, BeginsBare, IsResult, SpellsGame, SpellsGames, no_game, next_game}
 use Rattle.pgn_lexer.specs.Tokens as tokens
 use Rattle.pgn_game.specs.Game as games
 use Rattle.pgn_game.proofs.reading.RunsToEnd.{at, Runs, ends, goes, finishes}
 use Rattle.pgn_game.proofs.refusals.RefusalsByStage.{pass, drops_comments, comment_free, comment_stays, comment_goes, open_refusal, open_between, name_refusal, value_refusal, close_refusal, is_textual, after_tags, leads_after_tags, between, leads_between, is_lexical, text_row}
 use Rattle.pgn_game.proofs.reading.PairsInTurn.{with_pairs, Takes, takes}
-use Rattle.pgn_game.proofs.refusals.RefusalsInMovetext.{refused_as, move_refusal, symbol_next, symbol_leads, marker_refusal, marker_whole}
+use Rattle.pgn_game.proofs.refusals.RefusalsInMovetext.{refused_as, move_refusal, symbol_leads, marker_refusal, marker_whole}
 use Rattle.pgn_game.proofs.reading.MovetextTokens.{levels_more, result_meets, stands_free, stands_leads, stands_levels, stands_goes}
 
 -- Comments that are dropped.
@@ -14,7 +14,7 @@ dropped_run : (p : Profile) (stage : Stage) (ps : List Pair) (name : List ℕ) (
 dropped_run p stage ps name items drops [] rest gs are runs = runs
 dropped_run p stage ps name items drops (k ∷ ks) rest gs are runs =
     let both = and_parts (is_comment k) (list_all is_comment ks) are in
-    goes (at stage ps name items) (at stage ps name items) k (ks ++ rest) gs
+    goes _ (at stage ps name items) k _ gs
     (comment_free p stage (at stage ps name items) k drops both.0) (comment_goes k both.0)
     (comment_stays stage (at stage ps name items) k drops both.0)
     (dropped_run p stage ps name items drops ks rest gs both.1 runs)
@@ -22,20 +22,18 @@ dropped_run p stage ps name items drops (k ∷ ks) rest gs are runs =
 -- Pairs.
 name_fits : (mode : Mode) (q : Pair) → IsPair mode q → (is_reduced mode && bytes_eq q.name (codes "FEN")) ≡ false
 name_fits Full q h = refl
-name_fits Reduced q h = by_test (bytes_eq q.name (codes "FEN")) refl
+name_fits Reduced q h = by_test _ refl
   where
     by_test : (b : Bool) → bytes_eq q.name (codes "FEN") ≡ b → bytes_eq q.name (codes "FEN") ≡ false
     by_test false e = e
-    by_test true e = let full : Reduced ≡ Full = (h.fen ((bytes_eq-Decides q.name (codes "FEN")).0 e)).0 in absurd (cc)
+    by_test true e = let full : Reduced ≡ Full = (h.fen ((bytes_eq-Decides _ _).0 e)).0 in absurd (cc)
 
 name_passes : (p : Profile) (ps : List Pair) (name : List ℕ) (items : List Item) (q : Pair) → IsFalse (has_pair ps q.name) → IsPair p.mode q
     → refusal p (at AfterLeftBracket ps name items) (tokens.symbol q.name) ≡ None
 name_passes p ps name items q new h =
     let room = h.room in
     let short : nat_lt 249 (length q.name) ≡ false = grind (arith, nat_tests) in
-    name_refusal p (at AfterLeftBracket ps name items) q.name refl ∙ pass (not (list_all in_name q.name)) BadTagName _ (ap not h.name)
-    ∙ pass (has_pair ps q.name) DuplicateTag _ new ∙ pass (nat_lt 249 (length q.name)) TagLineTooLong _ short
-    ∙ pass (is_reduced p.mode && bytes_eq q.name (codes "FEN")) ReducedFen None (name_fits p.mode q h)
+    cc (name_refusal p (at AfterLeftBracket ps name items) q.name refl, pass (not (list_all in_name q.name)) BadTagName _ (ap not h.name), pass (has_pair ps q.name) DuplicateTag _ new, pass (nat_lt 249 (length q.name)) TagLineTooLong _ short, pass (is_reduced p.mode && bytes_eq q.name (codes "FEN")) ReducedFen None (name_fits p.mode q h))
 
 guarded : (a b : Bool) → (a ≡ true → b ≡ false) → (a && b) ≡ false
 guarded true b h = h refl
@@ -47,13 +45,13 @@ value_passes p ps items q h =
     let room = h.room in
     let short : nat_lt 249 (length q.name + length (escaped q.value)) ≡ false = grind (arith, nat_tests) in
     let is_marker : (bytes_eq q.name (codes "Result") && not (is_result q.value)) ≡ false =
-    guarded (bytes_eq q.name (codes "Result")) (not (is_result q.value)) (λ e. ap not (h.result ((bytes_eq-Decides q.name (codes "Result")).0 e))) in
+    guarded (bytes_eq q.name (codes "Result")) (not (is_result q.value)) (λ e. ap not (h.result ((bytes_eq-Decides _ _).0 e))) in
     let is_position : (bytes_eq q.name (codes "FEN") && is_some (fen_field q.value)) ≡ false =
-    guarded (bytes_eq q.name (codes "FEN")) (is_some (fen_field q.value))
-    (λ e. ap (λ r. is_some (fen_fault_field r)) (h.fen ((bytes_eq-Decides q.name (codes "FEN")).0 e)).2) in
-    value_refusal p (at AfterName ps q.name items) q.value refl ∙ pass (bytes_eq q.name (codes "Result") && not (is_result q.value)) BadResult _ is_marker
-    ∙ pass (bytes_eq q.name (codes "FEN") && is_some (fen_field q.value)) (BadFen (fen_field_of (tokens.str q.value))) _ is_position
-    ∙ pass (nat_lt 249 (length q.name + length (escaped q.value))) TagLineTooLong None short
+    guarded (bytes_eq q.name (codes "FEN")) (is_some (fen_field _))
+    (λ e. ap (λ r. is_some (fen_fault_field r)) (h.fen ((bytes_eq-Decides _ _).0 e)).2) in
+    value_refusal p _ _ refl ∙ pass _ _ _ is_marker
+    ∙ pass _ _ _ is_position
+    ∙ pass _ _ None short
 
 -- the tokens of a pair, and those behind it
 pair_run : (p : Profile) (ps : List Pair) (name : List ℕ) (ks rest : List Kind) (q : Pair) (gs : List Game) → SpellsPair ks q
@@ -63,13 +61,13 @@ pair_run p ps name _ rest _ gs (pair xs ys zs n v before_name before_value befor
     let q : Pair = record { name = n; value = v } in
     let free : nat_le p.tags (length ps) ≡ false = grind (arith, nat_tests) in
     simp append_assoc
-    (goes (at AfterTags ps name []) (at AfterLeftBracket ps name []) tokens.left_bracket _ gs (open_refusal p (at AfterTags ps name []) refl ∙ pass (nat_le p.tags (length ps)) TooManyTags None free) refl refl
-    (dropped_run p AfterLeftBracket ps name [] refl xs _ gs before_name
-    (goes (at AfterLeftBracket ps name []) (at AfterName ps n []) (tokens.symbol n) _ gs (name_passes p ps name [] q new is) refl refl
-    (dropped_run p AfterName ps n [] refl ys _ gs before_value
-    (goes (at AfterName ps n []) (at AfterValue (insert_pair q ps) [] []) (tokens.str v) _ gs (value_passes p ps [] q is) refl refl
-    (dropped_run p AfterValue (insert_pair q ps) [] [] refl zs _ gs before_bracket
-    (goes (at AfterValue (insert_pair q ps) [] []) (at AfterTags (insert_pair q ps) [] []) tokens.right_bracket rest gs (close_refusal p (at AfterValue (insert_pair q ps) [] []) refl) refl refl runs)))))))
+    (goes _ _ _ _ gs (open_refusal p (at _ ps name []) refl ∙ pass _ _ None free) refl refl
+    (dropped_run p _ ps name [] refl xs _ gs before_name
+    (goes _ _ _ _ gs (name_passes p ps name [] q new is) refl refl
+    (dropped_run p _ ps n [] refl ys _ gs before_value
+    (goes _ _ _ _ gs (value_passes p ps [] q is) refl refl
+    (dropped_run p _ _ [] [] refl zs _ gs before_bracket
+    (goes _ _ _ rest gs (close_refusal p _ refl) refl refl runs)))))))
 
 pairs_run : (p : Profile) (ps : List Pair) (name : List ℕ) (ks rest : List Kind) (qs : List Pair) (gs : List Game) → SpellsPairs ks qs → Takes p ps qs
     → ((n : List ℕ) → Runs p (at AfterTags (with_pairs ps qs) n []) rest gs) → Runs p (at AfterTags ps name []) (ks ++ rest) gs
@@ -83,25 +81,25 @@ move_free : (p : Profile) (ps : List Pair) (name : List ℕ) (items : List Item)
     → refusal p (at InMovetext ps name items) (tokens.symbol s) ≡ None
 move_free p ps name items s played h =
     let place = here (start_of ps) (levels_of items) in
-    text_row p (at InMovetext ps name items) (tokens.symbol s) refl ∙ move_refusal p (at InMovetext ps name items) s h.no_number h.no_marker ∙ ap (refused_as place) h.one
-    ∙ pass (is_at_limit place) MoveLimit None h.within
+    text_row p (at InMovetext ps name items) _ refl ∙ move_refusal p (at InMovetext ps name items) s h.no_number h.no_marker ∙ ap (refused_as place) h.one
+    ∙ pass _ _ None h.within
 
 move_leads : (ps : List Pair) (name : List ℕ) (items : List Item) (s : List ℕ) (played : Played) → Names (here (start_of ps) (levels_of items)) s played
     → next (at InMovetext ps name items) (tokens.symbol s) ≡ going (at InMovetext ps name (items ++ games.move played.mv ∷ []))
-move_leads ps name items s played h = symbol_leads (at InMovetext ps name items) s false false h.no_number h.no_marker ∙ ap (symbol_next (at InMovetext ps name items) s false false) h.one
+move_leads ps name items s played h = cc (symbol_leads (at InMovetext ps name items) s false false h.no_number h.no_marker)
 
 opens_free : (p : Profile) (ps : List Pair) (name : List ℕ) (items : List Item) → (levels_of items).present.has_own_move ≡ true → depth (levels_of items) < p.depth
     → refusal p (at InMovetext ps name items) tokens.left_paren ≡ None
 opens_free p ps name items holds room =
     let free : nat_le p.depth (depth (levels_of items)) ≡ false = grind (arith, nat_tests) in
-    text_row p (at InMovetext ps name items) tokens.left_paren refl ∙ pass (not (levels_of items).present.has_own_move) NoMoveBefore _ (ap not holds)
-    ∙ pass (nat_le p.depth (depth (levels_of items))) TooDeep None free
+    text_row p (at InMovetext ps name items) _ refl ∙ pass _ _ _ (ap not holds)
+    ∙ pass _ TooDeep None free
 
 closes_free : (p : Profile) (ps : List Pair) (name : List ℕ) (items : List Item) → 0 < depth (levels_of items)
     → refusal p (at InMovetext ps name items) tokens.right_paren ≡ None
 closes_free p ps name items some =
     let free : (depth (levels_of items) == 0) ≡ false = grind (arith, nat_tests) in
-    text_row p (at InMovetext ps name items) tokens.right_paren refl ∙ pass (depth (levels_of items) == 0) UnmatchedClose None free
+    text_row p (at InMovetext ps name items) _ refl ∙ pass _ _ None free
 
 abbrev leveled : Level → List Level → Levels
 leveled l around = record { present = l; around = around }
@@ -117,18 +115,18 @@ text_run p ps name deep l _ _ (no_more _ _) before all around rest gs at_level a
     let e : all ≡ before = sym same ∙ append-nil before in
     subst (λ xs. Runs p (at InMovetext ps name xs) rest gs) e (further l (ap levels_of e ∙ at_level))
 text_run p ps name deep l _ _ (token _ _ k ks item items stands text) before all around rest gs at_level at_depth same further =
-    goes (at InMovetext ps name before) (at InMovetext ps name (before ++ item)) k (ks ++ rest) gs (stands_free p ps name before k item stands) (stands_goes k item stands)
+    goes (at _ ps name before) (at _ ps name _) k (ks ++ rest) gs (stands_free p ps name before k item stands) (stands_goes k item stands)
     (stands_leads ps name before k item stands)
-    (text_run p ps name deep l ks items text (before ++ item) all around rest gs (stands_levels before k item stands ∙ at_level) at_depth
+    (text_run p ps name deep l ks items text _ all around rest gs (stands_levels before k item stands ∙ at_level) at_depth
     (append_assoc before item items ∙ same) further)
 text_run p ps name deep l _ _ (move _ _ s played ks items names text) before all around rest gs at_level at_depth same further =
     let placed : replayed (start_of ps) l.trail ≡ here (start_of ps) (levels_of before) = ap (λ (x : Levels). here (start_of ps) x) (sym at_level) in
     let named : Names (here (start_of ps) (levels_of before)) s played = subst (λ x. Names x s played) placed names in
-    goes (at InMovetext ps name before) (at InMovetext ps name (before ++ games.move played.mv ∷ [])) (tokens.symbol s) (ks ++ rest) gs (move_free p ps name before s played named) refl
+    goes _ _ _ _ gs (move_free p ps name before s played named) refl
     (move_leads ps name before s played named)
-    (text_run p ps name deep (level_after_move played.mv l.trail) ks items text (before ++ games.move played.mv ∷ []) all around rest gs
-    (levels_more before (games.move played.mv) ∙ ap (λ (x : Levels). levels_after x (games.move played.mv)) at_level) at_depth
-    (append_assoc before (games.move played.mv ∷ []) items ∙ same) further)
+    (text_run p ps name deep _ ks items text _ all around rest gs
+    (levels_more before _ ∙ ap (λ (x : Levels). levels_after x (games.move played.mv)) at_level) at_depth
+    (append_assoc before _ items ∙ same) further)
 text_run p ps name deep l _ _ (variation _ _ ks ls items more holds room inner text) before all around rest gs at_level at_depth same further =
     let opened : levels_of (before ++ games.open_variation ∷ []) ≡ leveled (new_level (without_last l.trail)) (l ∷ around) =
     levels_more before games.open_variation ∙ ap (λ (x : Levels). levels_after x games.open_variation) at_level in
@@ -136,17 +134,17 @@ text_run p ps name deep l _ _ (variation _ _ ks ls items more holds room inner t
     let holding : (levels_of before).present.has_own_move ≡ true = ap (λ (x : Levels). x.present.has_own_move) at_level ∙ holds in
     let deepness : depth (levels_of before) ≡ deep = ap (λ (x : Levels). depth x) at_level ∙ at_depth in
     let deeper : depth (levels_of before) < p.depth = omega arith in
-    subst (λ js. Runs p (at InMovetext ps name before) (tokens.left_paren ∷ js) gs) (sym (append_assoc ks (tokens.right_paren ∷ ls) rest))
-    (goes (at InMovetext ps name before) (at InMovetext ps name (before ++ games.open_variation ∷ [])) tokens.left_paren (ks ++ tokens.right_paren ∷ (ls ++ rest)) gs
+    rw (append_assoc ks (tokens.right_paren ∷ ls) rest)
+    (goes _ _ _ _ gs
     (opens_free p ps name before holding deeper) refl refl
-    (text_run p ps name (deep + 1) (new_level (without_last l.trail)) ks items inner (before ++ games.open_variation ∷ []) middle (l ∷ around) (tokens.right_paren ∷ (ls ++ rest)) gs
+    (text_run p ps name _ _ ks items inner _ middle _ _ gs
     opened (omega arith) refl
     (λ m inside.
-    let some : 0 < depth (levels_of middle) = subst (λ (x : Levels). 0 < depth x) (sym inside) (omega arith) in
-    goes (at InMovetext ps name middle) (at InMovetext ps name (middle ++ games.close_variation ∷ [])) tokens.right_paren (ls ++ rest) gs
+    let some : 0 < depth (levels_of middle) = rw inside (omega arith) in
+    goes _ _ _ _ gs
     (closes_free p ps name middle some) refl refl
-    (text_run p ps name deep l ls more text (middle ++ games.close_variation ∷ []) all around rest gs
-    (levels_more middle games.close_variation ∙ ap (λ (x : Levels). levels_after x games.close_variation) inside) at_depth
+    (text_run p ps name deep l ls more text _ all around rest gs
+    (levels_more middle _ ∙ ap (λ (x : Levels). levels_after x games.close_variation) inside) at_depth
     (joined before items more ∙ same) further))))
   where
     joined : (xs ys zs : List Item)
@@ -167,12 +165,12 @@ marker_finishes : (p : Profile) (ps : List Pair) (name : List ℕ) (items : List
     → IsResult p.missing_result (value_of ps (codes "Result")) marker → Finishes p ps name items k marker
 marker_finishes p ps name items k marker is outside result =
     let shallow : nat_le 1 (depth (levels_of items)) ≡ false = grind (arith, nat_tests) in
-    let same = result_meets p.missing_result (value_of ps (codes "Result")) marker result in
+    let same = result_meets _ _ marker result in
     let plain = plain_marker k marker is in
     record {
       free =
           text_row p (at InMovetext ps name items) k plain.0 ∙ marker_refusal p (at InMovetext ps name items) k marker is
-          ∙ pass (nat_le 1 (depth (levels_of items))) MarkerInVariation _ shallow ∙ pass _ ResultDiffers None (ap (λ (b : Bool). b && (depth (levels_of items) == 0)) same);
+          ∙ pass _ MarkerInVariation _ shallow ∙ pass _ ResultDiffers None (ap (λ (b : Bool). b && (depth (levels_of items) == 0)) same);
       goes = plain.1;
       leads = marker_whole (at InMovetext ps name items) k marker is;
     }
@@ -188,7 +186,7 @@ runs_alike : (p : Profile) (part other : Part) (ks : List Kind) (gs : List Game)
     → ((k : Kind) (js : List Kind) → ks ≡ k ∷ js → refusal p part k ≡ None
     → (refusal p other k ≡ None) × (next other k ≡ next part k))
     → Runs p part ks gs → Runs p other ks gs
-runs_alike p _ other _ _ alike (ends part free) = ends other (alike tokens.end [] refl free).0
+runs_alike p _ other _ _ alike (ends part free) = ends other (alike _ [] refl free).0
 runs_alike p _ other _ _ alike (goes part to k ks gs free end leads runs) =
     let a = alike k ks refl free in goes other to k ks gs a.0 end (a.1 ∙ leads) runs
 runs_alike p _ other _ _ alike (finishes part k g ks gs free end leads runs) =
@@ -204,9 +202,9 @@ textual p ps name items _ free = cc
 begins_after_tags : (p : Profile) (ps : List Pair) (name : List ℕ) (items : List Item) (ks : List Kind) (gs : List Game) → lacks_fen ps ≡ false
     → Runs p (at InMovetext ps name items) ks gs → Runs p (at AfterTags ps name items) ks gs
 begins_after_tags p ps name items ks gs has =
-    runs_alike p (at InMovetext ps name items) (at AfterTags ps name items) ks gs (λ k js e free.
+    runs_alike p _ _ ks gs (λ k js e free.
     let is = textual p ps name items k free in (
-      after_tags p (at InMovetext ps name items) k is ∙ pass (lacks_fen ps) SetUpWithoutFen _ has ∙ free,
+      after_tags p (at InMovetext ps name items) k is ∙ pass _ _ _ has ∙ free,
       leads_after_tags (at InMovetext ps name items) k is,
     ))
 
@@ -214,7 +212,7 @@ begins_after_tags p ps name items ks gs has =
 begins_between : (p : Profile) (ps : List Pair) (name : List ℕ) (items : List Item) (ks : List Kind) (gs : List Game) → BeginsBare ks
     → Runs p (at InMovetext ps name items) ks gs → Runs p (at Between ps name items) ks gs
 begins_between p ps name items ks gs bare =
-    runs_alike p (at InMovetext ps name items) (at Between ps name items) ks gs (λ k js e free.
+    runs_alike p _ _ ks gs (λ k js e free.
     let is = textual p ps name items k free in
     let plain = subst BeginsBare e bare in
     (between p (at InMovetext ps name items) k is plain ∙ free, leads_between (at InMovetext ps name items) k is plain))
@@ -224,21 +222,21 @@ whole_text_run : (p : Profile) (ps : List Pair) (name : List ℕ) (text rest : L
     → SpellsText p (start_of ps) 0 (new_level []) text items → marker_of last ≡ Some marker → IsResult p.missing_result (value_of ps (codes "Result")) marker
     → Runs p no_part rest gs → Runs p (at InMovetext ps name []) (text ++ last ∷ rest) (finished ps items marker ∷ gs)
 whole_text_run p ps name text rest items last marker gs spells is result runs =
-    text_run p ps name 0 (new_level []) text items spells [] items [] (last ∷ rest) (finished ps items marker ∷ gs) refl refl refl
+    text_run p ps name 0 _ text items spells [] items [] (last ∷ rest) (finished ps items marker ∷ gs) refl refl refl
     (λ m outside.
     let h = marker_finishes p ps name items last marker is (ap (λ (x : Levels). depth x) outside) result in
-    finishes (at InMovetext ps name items) last (finished ps items marker) rest gs h.free h.goes h.leads runs)
+    finishes _ last _ rest gs h.free h.goes h.leads runs)
 
 -- the first pair opens as any other
 opens_between : (p : Profile) (ps : List Pair) (name : List ℕ) (ks : List Kind) (gs : List Game)
     → Runs p (at AfterTags ps name []) (tokens.left_bracket ∷ ks) gs → Runs p (at Between ps name []) (tokens.left_bracket ∷ ks) gs
 opens_between p ps name _ _ (goes _ to _ ks gs free end leads runs) =
-    goes (at Between ps name []) to tokens.left_bracket ks gs (open_between p (at Between ps name []) ∙ sym (open_refusal p (at AfterTags ps name []) refl) ∙ free) end leads runs
+    goes _ to _ ks gs (open_between p (at Between ps name []) ∙ sym (open_refusal p (at _ ps name []) refl) ∙ free) end leads runs
 opens_between p ps name _ _ (finishes _ _ g ks gs free end leads runs) = absurd (cc)
 
 has_fen : (o : Option (List ℕ)) (fen : Bool) → (o ≡ Some (codes "1") → fen ≡ true) → (bytes_eq (unwrap_or o []) (codes "1") && not fen) ≡ false
 has_fen None fen h = refl
-has_fen (Some v) fen h = guarded (bytes_eq v (codes "1")) (not fen) (λ e. ap not (h (ap Some ((bytes_eq-Decides v (codes "1")).0 e))))
+has_fen (Some v) fen h = guarded (bytes_eq v _) (not fen) (λ e. ap not (h (ap Some ((bytes_eq-Decides v _).0 e))))
 
 bare_with : (text : List Kind) (last : Kind) (rest : List Kind) (marker : List ℕ) → marker_of last ≡ Some marker → BeginsBare text → BeginsBare (text ++ last ∷ rest)
 bare_with (k ∷ ks) last rest marker is bare = bare
@@ -253,7 +251,7 @@ tags_run p _ _ rest gs (next_pair _ ls q qs (pair xs ys zs n v before_name befor
     let ps = with_pairs [] (q ∷ qs) in
     opens_between p [] [] _ gs
     (pairs_run p [] [] _ rest (q ∷ qs) gs (next_pair _ ls q qs (pair xs ys zs n v before_name before_value before_bracket) others) takes
-    (λ name. begins_after_tags p ps name [] rest gs (has_fen (value_of ps (codes "SetUp")) (has_pair ps (codes "FEN")) set_up) (runs name)))
+    (λ name. begins_after_tags p ps name [] rest gs (has_fen _ _ set_up) (runs name)))
 
 game_run : (p : Profile) (ks rest : List Kind) (g : Game) (gs : List Game) → SpellsGame p ks g → Runs p no_part rest gs → Runs p no_part (ks ++ rest) (g ∷ gs)
 game_run p ks rest g gs h runs =
@@ -264,7 +262,7 @@ game_run p ks rest g gs h runs =
     let e : ks ++ rest ≡ h.before ++ (h.tags ++ behind) = ap (λ js. js ++ rest) h.tokens ∙ simp append_assoc in
     subst (λ js. Runs p no_part js (g ∷ gs)) (sym e)
     (dropped_run p Between [] [] [] refl h.before (h.tags ++ behind) (g ∷ gs) h.dropped
-    (tags_run p h.tags h.given behind (g ∷ gs) h.pairs (takes p h.given h.keeps) set_up (λ none. bare_with h.text h.last rest g.marker h.marker (h.bare none)) whole_text))
+    (tags_run p _ h.given behind _ h.pairs (takes p _ h.keeps) set_up (λ none. bare_with _ _ rest g.marker h.marker (h.bare none)) whole_text))
 
 end_free : (p : Profile) → refusal p no_part tokens.end ≡ None
 unfolding refusal

@@ -1,5 +1,5 @@
 -- Pairs that come one after another, and what is asked of each beside those before it.
-use Rattle.pgn_game.proofs.Words.{◌≡◌, ℕ, suc, ◌+◌, ◌<◌, ◌≤◌, Bool, true, false, List, [], ◌∷◌, length, refl, sym, ap, ◌∙◌, arith, Option, None, Some, IsFalse, bytes_eq, AllByRecursion, or_parts, or_from, Profile, Pair, value_of, has_pair, insert_pair, IsPair, AreDistinct, KeepsTags}
+use Rattle.pgn_game.proofs.Words.{◌≡◌, ℕ, suc, ◌+◌, ◌<◌, ◌≤◌, Bool, true, false, List, [], ◌∷◌, length, refl, sym, ap, ◌∙◌, arith, Option, None, IsFalse, bytes_eq, AllByRecursion, or_parts, or_from, Profile, Pair, value_of, has_pair, insert_pair, IsPair, AreDistinct, KeepsTags}
 use Rattle.std.specs.List.{fold}
 use Rattle.pgn_game.proofs.pairs.NameOrder.{InOrder, order-insert}
 use Rattle.pgn_game.proofs.pairs.ValuesByName.{bytes_eq-true, bytes_eq-sym, either_of, either_none, pick, value_of-cons, value_of-put, has-cons, has-insert, not_among, no_value, by_insert, all-insert}
@@ -27,16 +27,16 @@ apart_less : (q : Pair) (ps qs : List Pair) → Apart (insert_pair q ps) qs → 
 apart_less q ps [] h = (tt, refl)
 apart_less q ps (r ∷ rs) h =
     let rest = apart_less q ps rs h.1 in
-    let here = or_parts (bytes_eq q.name r.name) (has_pair ps r.name) (sym (has-insert q ps r.name) ∙ h.0) in (
+    let here = or_parts (bytes_eq q.name r.name) _ (sym (has-insert q ps _) ∙ h.0) in (
       (here.1, rest.0),
-      has-cons r rs q.name ∙ or_from (bytes_eq r.name q.name) (has_pair rs q.name) (bytes_eq-sym r.name q.name ∙ here.0) rest.1,
+      has-cons r rs _ ∙ or_from (bytes_eq r.name q.name) (has_pair rs _) (bytes_eq-sym r.name q.name ∙ here.0) rest.1,
     )
 
 apart_more : (q : Pair) (ps qs : List Pair) → Apart ps qs → IsFalse (has_pair qs q.name) → Apart (insert_pair q ps) qs
 apart_more q ps [] h new = tt
 apart_more q ps (r ∷ rs) h new =
-    let there = not_among r rs q.name new in (
-      has-insert q ps r.name ∙ or_from (bytes_eq q.name r.name) (has_pair ps r.name) (bytes_eq-sym q.name r.name ∙ there.0) h.0,
+    let there = not_among r rs _ new in (
+      has-insert q ps _ ∙ or_from _ _ (bytes_eq-sym q.name r.name ∙ there.0) h.0,
       apart_more q ps rs h.1 there.1,
     )
 
@@ -85,16 +85,13 @@ takes p qs h = let count = h.count in takes_from p [] qs (omega arith) h.each h.
 -- The values of names in pairs of new names, all put in.
 put_later : (q : Pair) (n : List ℕ) (b : Bool) (o more : Option (List ℕ)) → bytes_eq q.name n ≡ b → (q.name ≡ n → o ≡ None)
     → either_of (pick b q.value o) more ≡ either_of o (pick b q.value more)
-put_later q n true o more is new = ap (λ x. either_of x (Some q.value)) (sym (new (bytes_eq-true q.name n is)))
+put_later q n true o more is new = cc (new (bytes_eq-true q.name n is))
 put_later q n false o more is new = refl
 
 pub value_of-all : (p : Profile) (ps qs : List Pair) (n : List ℕ) → Takes p ps qs → value_of (with_pairs ps qs) n ≡ either_of (value_of ps n) (value_of qs n)
-value_of-all p ps [] n h = sym (either_none (value_of ps n))
+value_of-all p ps [] n h = sym (either_none _)
 value_of-all p ps (q ∷ qs) n h =
-    value_of-all p (insert_pair q ps) qs n h.3
-    ∙ ap (λ o. either_of o (value_of qs n)) (value_of-put q ps n h.1)
-    ∙ put_later q n (bytes_eq q.name n) (value_of ps n) (value_of qs n) refl (λ e. no_value (value_of ps n) (ap (has_pair ps) (sym e) ∙ h.1))
-    ∙ ap (either_of (value_of ps n)) (sym (value_of-cons q qs n))
+    cc (value_of-all p (insert_pair q ps) qs n h.3, value_of-put q ps n h.1, put_later q n (bytes_eq q.name n) (value_of ps n) (value_of qs n) refl (λ e. no_value (value_of ps n) (ap (has_pair ps) (sym e) ∙ h.1)), value_of-cons q qs n)
 
 -- what is all put in is in order, and has what each has
 pub order-all : (p : Profile) (ps qs : List Pair) → Takes p ps qs → InOrder ps → InOrder (with_pairs ps qs)

@@ -1,5 +1,5 @@
 -- From reading to the grammar: tokens that run to their end spell the games that they finish.
-use Rattle.pgn_game.proofs.Words.{◌≡◌, ℕ, ◌+◌, ◌<◌, ◌≤◌, Bool, true, false, ◌&&◌, ◌||◌, not, List, [], ◌∷◌, ◌++◌, length, nat_lt, nat_le, refl, sym, ap, subst, ◌∙◌, arith, append_assoc, append-nil, Option, None, Some, ◌==◌, codes, bytes_eq, is_some, unwrap_or, IsTrue, IsFalse, Result, Ok, Err, list_all, bytes_eq-Decides, false≢true, not-false, leb-false, ltb-false, none-some, nat_tests, FenFault, NoMove, Ambiguous, escaped, Parts, Played, SanFault, Kind, Mode, Full, Reduced, BadTagName, DuplicateTag, TooManyTags, BadResult, BadFen, TagLineTooLong, SetUpWithoutFen, ReducedFen, MoveLimit, NoMoveBefore, TooDeep, UnmatchedClose, MarkerInVariation, ResultDiffers, Stage, Between, AfterLeftBracket, AfterName, AfterValue, AfterTags, InMovetext, Profile, Pair, value_of, has_pair, insert_pair, Item, Game, Part, no_part, position_of, move_of, Level, Levels, levels_of, levels_after, depth, here, without_last, start_of, refusal, is_comment, in_name, is_result, is_score, is_number, is_end, is_at_limit, is_reduced, fen_field, fen_field_of, fen_fault_field, marker_of, lacks_fen, Next, next, going, whole, AreDropped, pair, SpellsPairs, no_pair, next_pair, by_name, IsSetUp, StandsFor, number, period, glyph, comment_open, word, comment_close, Names, new_level, level_after_move, SpellsText, no_more, token, move, variation, BeginsBare, IsResult, SpellsGame, SpellsGames, no_game, next_game, or_else}
+use Rattle.pgn_game.proofs.Words.{◌≡◌, ℕ, ◌+◌, ◌<◌, ◌≤◌, Bool, true, false, ◌&&◌, ◌||◌, not, List, [], ◌∷◌, ◌++◌, length, nat_lt, nat_le, refl, sym, ap, subst, ◌∙◌, arith, append_assoc, append-nil, Option, None, Some, ◌==◌, codes, bytes_eq, is_some, unwrap_or, IsTrue, IsFalse, Result, Ok, Err, list_all, bytes_eq-Decides, false≢true, not-false, leb-false, ltb-false, none-some, nat_tests, FenFault, NoMove, Ambiguous, escaped, Parts, Played, SanFault, Kind, Mode, Full, Reduced, BadTagName, DuplicateTag, TooManyTags, BadResult, BadFen, TagLineTooLong, SetUpWithoutFen, ReducedFen, MoveLimit, NoMoveBefore, TooDeep, UnmatchedClose, MarkerInVariation, ResultDiffers, Stage, Between, AfterLeftBracket, AfterName, AfterValue, AfterTags, InMovetext, Profile, Pair, value_of, has_pair, insert_pair, Item, Game, Part, no_part, position_of, move_of, Level, levels_of, levels_after, depth, here, without_last, start_of, refusal, is_comment, in_name, is_result, is_score, is_number, is_end, is_reduced, fen_fault_field, marker_of, lacks_fen, Next, next, going, whole, AreDropped, pair, SpellsPairs, no_pair, next_pair, by_name, IsSetUp, StandsFor, number, period, glyph, comment_open, word, comment_close, Names, new_level, level_after_move, SpellsText, no_more, token, move, variation, BeginsBare, IsResult, SpellsGame, SpellsGames, no_game, next_game, or_else}
 use Rattle.pgn_lexer.specs.Tokens as tokens
 use Rattle.pgn_game.specs.Game as games
 use Rattle.pgn_game.proofs.reading.RunsToEnd.{at, Runs, ends, goes, finishes}
@@ -30,10 +30,10 @@ add_front : (p : Profile) (first : Parts) (l n : Level) (around : List Level) (k
     → SpellsText p first d l (k ∷ js) (item ++ is))
     → Closes p first n around ks items → Closes p first l around (k ∷ ks) (item ++ items)
 add_front p first l _ _ k _ item _ front (outermost n ks items text) =
-    outermost l (k ∷ ks) (item ++ items) (front 0 ks items text)
+    outermost l _ _ (front 0 ks items text)
 add_front p first l _ _ k _ item _ front (inside n m around ks ls items more text rest) =
-    subst (Closes p first l (m ∷ around) (k ∷ (ks ++ tokens.right_paren ∷ ls))) (append_assoc item items (games.close_variation ∷ more))
-    (inside l m around (k ∷ ks) ls (item ++ items) more (front (deep around + 1) ks items text) rest)
+    subst (Closes p first l _ (k ∷ (ks ++ tokens.right_paren ∷ ls))) (append_assoc item items _)
+    (inside l m around (k ∷ ks) ls (item ++ items) more (front _ ks items text) rest)
 
 -- a variation, with what comes behind it
 add_variation : (p : Profile) (first : Parts) (l : Level) (around : List Level) (ks ls : List Kind) (items more : List Item) → IsTrue l.has_own_move → deep around < p.depth
@@ -44,21 +44,21 @@ add_variation p first _ _ ks _ items _ holds room inner (outermost l ls more tex
     (variation 0 l ks ls items more holds room inner text)
 add_variation p first _ _ ks _ items _ holds room inner (inside l m around ls js more others text rest) =
     subst (λ xs. Closes p first l (m ∷ around) (tokens.left_paren ∷ xs) (games.open_variation ∷ (items ++ games.close_variation ∷ (more ++ games.close_variation ∷ others))))
-    (append_assoc ks (tokens.right_paren ∷ ls) (tokens.right_paren ∷ js))
+    (append_assoc ks _ _)
     (subst (λ xs. Closes p first l (m ∷ around) (tokens.left_paren ∷ ((ks ++ tokens.right_paren ∷ ls) ++ tokens.right_paren ∷ js)) (games.open_variation ∷ xs))
-    (append_assoc items (games.close_variation ∷ more) (games.close_variation ∷ others))
+    (append_assoc items _ _)
     (inside l m around (tokens.left_paren ∷ (ks ++ tokens.right_paren ∷ ls)) js (games.open_variation ∷ (items ++ games.close_variation ∷ more)) others
-    (variation (deep around + 1) l ks ls items more holds room inner text) rest))
+    (variation _ l ks ls items more holds room inner text) rest))
 
 add_open : (p : Profile) (first : Parts) (l n : Level) (around : List Level) (ks : List Kind) (items : List Item) → IsTrue l.has_own_move → deep around < p.depth
     → n ≡ new_level (without_last l.trail) → Closes p first n (l ∷ around) ks items
     → Closes p first l around (tokens.left_paren ∷ ks) (games.open_variation ∷ items)
 add_open p first _ _ _ _ _ holds room e (inside n l around ks ls items more text rest) =
-    add_variation p first l around ks ls items more holds room (subst (λ x. SpellsText p first (deep around + 1) x ks items) e text) rest
+    add_variation p first l around ks ls items more holds room (rw e at text) rest
 
 add_close : (p : Profile) (first : Parts) (l m : Level) (around : List Level) (ks : List Kind) (items : List Item) → Closes p first m around ks items
     → Closes p first l (m ∷ around) (tokens.right_paren ∷ ks) (games.close_variation ∷ items)
-add_close p first l m around ks items rest = inside l m around [] ks [] items (no_more (deep around + 1) l) rest
+add_close p first l m around ks items rest = inside l m around [] ks [] items (no_more _ l) rest
 
 nothing_left : (p : Profile) (first : Parts) (l : Level) (around : List Level) → length around ≡ 0 → Closes p first l around [] []
 nothing_left p first l [] e = outermost l [] [] (no_more 0 l)
@@ -94,11 +94,11 @@ text_more p ps items new k ks gs adds h = record {
   more = new ++ h.more;
   marker = h.marker;
   later = h.later;
-  kinds = ap (λ xs. k ∷ xs) h.kinds;
-  closes = adds h.text h.more h.closes;
+  kinds = cc;
+  closes = adds _ _ h.closes;
   is_marker = h.is_marker;
   result = h.result;
-  games = h.games ∙ ap (λ xs. record { pairs = ps; items = xs; marker = h.marker } ∷ h.later) (append_assoc items new h.more);
+  games = cc (append_assoc items new h.more);
   others = h.others;
 }
 
@@ -184,25 +184,25 @@ token_step : (p : Profile) (ps : List Pair) (items item : List Item) (k : Kind) 
 token_step p ps items item k ks gs stands h =
     text_more p ps items item k ks gs (λ text more c.
     let l = (levels_of items).present in
-    add_front p (start_of ps) l l (levels_of items).around k text item more
+    add_front p _ l l _ k text item more
     (λ d js is rest. token d l k js item is stands rest)
-    (subst (λ (ls : Levels). Closes p (start_of ps) ls.present ls.around text more) (stands_levels items k item stands) c)) h
+    (rw (stands_levels items k item stands) at c)) h
 
 adds_move : (p : Profile) (ps : List Pair) (items : List Item) (s : List ℕ) (played : Played) → Names (here (start_of ps) (levels_of items)) s played
     → Adds p ps items (tokens.symbol s) (games.move played.mv ∷ [])
 adds_move p ps items s played names text more c =
     let l = (levels_of items).present in
-    add_front p (start_of ps) l (level_after_move played.mv l.trail) (levels_of items).around (tokens.symbol s) text
-    (games.move played.mv ∷ []) more
+    add_front p _ l (level_after_move _ _) _ _ text
+    (games.move _ ∷ []) more
     (λ d js is rest. move d l s played js is names rest)
-    (subst (λ (ls : Levels). Closes p (start_of ps) ls.present ls.around text more) (levels_more items (games.move played.mv)) c)
+    (rw (levels_more items (games.move played.mv)) at c)
 
 adds_open : (p : Profile) (ps : List Pair) (items : List Item) → IsTrue (levels_of items).present.has_own_move → depth (levels_of items) < p.depth
     → Adds p ps items tokens.left_paren (games.open_variation ∷ [])
 adds_open p ps items holds room text more c =
     let e = deep-length (levels_of items).around in
-    add_open p (start_of ps) (levels_of items).present _ (levels_of items).around text more holds (omega arith) refl
-    (subst (λ (ls : Levels). Closes p (start_of ps) ls.present ls.around text more) (levels_more items games.open_variation) c)
+    add_open p _ _ _ _ text more holds (omega arith) refl
+    (rw (levels_more items games.open_variation) at c)
 
 close_at : (p : Profile) (first : Parts) (l : Level) (around : List Level) (text : List Kind) (more : List Item) → (length around == 0) ≡ false
     → Closes p first (levels_after (record { present = l; around = around }) games.close_variation).present
@@ -213,8 +213,8 @@ close_at p first l (m ∷ around) text more some c = add_close p first l m aroun
 
 adds_close : (p : Profile) (ps : List Pair) (items : List Item) → (depth (levels_of items) == 0) ≡ false → Adds p ps items tokens.right_paren (games.close_variation ∷ [])
 adds_close p ps items some text more c =
-    close_at p (start_of ps) (levels_of items).present (levels_of items).around text more some
-    (subst (λ (ls : Levels). Closes p (start_of ps) ls.present ls.around text more) (levels_more items games.close_variation) c)
+    close_at p _ _ _ text more some
+    (rw (levels_more items games.close_variation) at c)
 
 -- what a test of two numbers says that failed
 no_one : (n : ℕ) → nat_le 1 n ≡ false → n ≡ 0
@@ -223,25 +223,25 @@ no_one n e = grind (arith, nat_tests)
 open_step : (p : Profile) (ps : List Pair) (name : List ℕ) (items : List Item) (ks : List Kind) (gs : List Game) → refusal p (at InMovetext ps name items) tokens.left_paren ≡ None
     → Text_left p ps (items ++ games.open_variation ∷ []) ks gs → Text_left p ps items (tokens.left_paren ∷ ks) gs
 open_step p ps name items ks gs free h =
-    let e : or_else (not (levels_of items).present.has_own_move) NoMoveBefore (or_else (nat_le p.depth (depth (levels_of items))) TooDeep None) ≡ None = sym (text_row p (at InMovetext ps name items) tokens.left_paren refl) ∙ free in
-    let holds = not-false (levels_of items).present.has_own_move (test_failed (not (levels_of items).present.has_own_move) NoMoveBefore _ e) in
+    let e : or_else (not (levels_of items).present.has_own_move) NoMoveBefore (or_else (nat_le p.depth (depth (levels_of items))) TooDeep None) ≡ None = sym (text_row p (at InMovetext ps name items) _ refl) ∙ free in
+    let holds = not-false (levels_of items).present.has_own_move (test_failed _ NoMoveBefore _ e) in
     let room : nat_le p.depth (depth (levels_of items)) ≡ false =
-    test_failed (nat_le p.depth (depth (levels_of items))) TooDeep None (rest_passed (not (levels_of items).present.has_own_move) NoMoveBefore _ e) in
-    text_more p ps items (games.open_variation ∷ []) tokens.left_paren ks gs
-    (adds_open p ps items holds (leb-false p.depth (depth (levels_of items)) room)) h
+    test_failed _ TooDeep None (rest_passed (not _) NoMoveBefore _ e) in
+    text_more p ps items _ _ ks gs
+    (adds_open p ps items holds (leb-false _ _ room)) h
 
 close_step : (p : Profile) (ps : List Pair) (name : List ℕ) (items : List Item) (ks : List Kind) (gs : List Game) → refusal p (at InMovetext ps name items) tokens.right_paren ≡ None
     → Text_left p ps (items ++ games.close_variation ∷ []) ks gs → Text_left p ps items (tokens.right_paren ∷ ks) gs
 close_step p ps name items ks gs free h =
-    text_more p ps items (games.close_variation ∷ []) tokens.right_paren ks gs
-    (adds_close p ps items (test_failed (depth (levels_of items) == 0) UnmatchedClose None (sym (text_row p (at InMovetext ps name items) tokens.right_paren refl) ∙ free))) h
+    text_more p ps items _ _ ks gs
+    (adds_close p ps items (test_failed _ UnmatchedClose None (sym (text_row p (at InMovetext ps name items) _ refl) ∙ free))) h
 
 -- a marker finishes the game
 marker_step : (p : Profile) (ps : List Pair) (items : List Item) (k : Kind) (marker : List ℕ) (ks : List Kind) (gs : List Game) → marker_of k ≡ Some marker
     → nat_le 1 (depth (levels_of items)) ≡ false → (differs p.missing_result (value_of ps (codes "Result")) marker && (depth (levels_of items) == 0)) ≡ false
     → After p (whole (record { pairs = ps; items = items; marker = marker })) ks gs → Text_left p ps items (k ∷ ks) gs
 marker_step p ps items k marker ks gs is shallow same after =
-    let outside : depth (levels_of items) ≡ 0 = no_one (depth (levels_of items)) shallow in
+    let outside : depth (levels_of items) ≡ 0 = no_one _ shallow in
     record {
       text = [];
       last = k;
@@ -250,12 +250,12 @@ marker_step p ps items k marker ks gs is shallow same after =
       marker = marker;
       later = after.0;
       kinds = refl;
-      closes = nothing_left p (start_of ps) (levels_of items).present (levels_of items).around outside;
+      closes = nothing_left p _ _ _ outside;
       is_marker = is;
       result =
-          result_is p.missing_result (value_of ps (codes "Result")) marker
-          (at_zero (differs p.missing_result (value_of ps (codes "Result")) marker) (depth (levels_of items)) outside same);
-      games = after.1 ∙ ap (λ xs. record { pairs = ps; items = xs; marker = marker } ∷ after.0) (sym (append-nil items));
+          result_is _ _ marker
+          (at_zero _ _ outside same);
+      games = cc (append-nil items);
       others = after.2;
     }
   where
@@ -271,20 +271,20 @@ symbol_step : (p : Profile) (ps : List Pair) (name : List ℕ) (items : List Ite
 symbol_step p ps name items s ks gs true false o digits is_marker one free after =
     token_step p ps items [] (tokens.symbol s) ks gs (number s digits) (after tt)
 symbol_step p ps name items s ks gs false false (Some (Ok played)) digits is_marker one free after =
-    text_more p ps items (games.move played.mv ∷ []) (tokens.symbol s) ks gs
+    text_more p ps items _ _ ks gs
     (adds_move p ps items s played
-    (record { no_number = digits; no_marker = is_marker; one = one; within = test_failed (is_at_limit (here (start_of ps) (levels_of items))) MoveLimit _ free })) (after tt)
+    (record { no_number = digits; no_marker = is_marker; one = one; within = test_failed _ MoveLimit _ free })) (after tt)
 symbol_step p ps name items s ks gs false false None digits is_marker one free after = absurd (none-some _ (sym free))
 symbol_step p ps name items s ks gs false false (Some (Err NoMove)) digits is_marker one free after = absurd (none-some _ (sym free))
 symbol_step p ps name items s ks gs false false (Some (Err Ambiguous)) digits is_marker one free after = absurd (none-some _ (sym free))
 symbol_step p ps name items s ks gs true true o digits is_marker one free after =
-    marker_step p ps items (tokens.symbol s) s ks gs (ap (λ (b : Bool). marker_if b s) is_marker)
-    (test_failed (nat_le 1 (depth (levels_of items))) MarkerInVariation _ free)
-    (test_failed _ ResultDiffers None (rest_passed (nat_le 1 (depth (levels_of items))) MarkerInVariation _ free)) after
+    marker_step p ps items _ s ks gs (ap (λ (b : Bool). marker_if b s) is_marker)
+    (test_failed _ MarkerInVariation _ free)
+    (test_failed _ ResultDiffers None (rest_passed (nat_le 1 _) MarkerInVariation _ free)) after
 symbol_step p ps name items s ks gs false true o digits is_marker one free after =
-    marker_step p ps items (tokens.symbol s) s ks gs (ap (λ (b : Bool). marker_if b s) is_marker)
-    (test_failed (nat_le 1 (depth (levels_of items))) MarkerInVariation _ free)
-    (test_failed _ ResultDiffers None (rest_passed (nat_le 1 (depth (levels_of items))) MarkerInVariation _ free)) after
+    marker_step p ps items _ s ks gs (ap (λ (b : Bool). marker_if b s) is_marker)
+    (test_failed _ MarkerInVariation _ free)
+    (test_failed _ ResultDiffers None (rest_passed (nat_le 1 _) MarkerInVariation _ free)) after
 
 text_step : (p : Profile) (ps : List Pair) (name : List ℕ) (items : List Item) (k : Kind) (ks : List Kind) (gs : List Game) → refusal p (at InMovetext ps name items) k ≡ None
     → is_end k ≡ false → After p (next (at InMovetext ps name items) k) ks gs → Text_left p ps items (k ∷ ks) gs
@@ -293,20 +293,20 @@ text_step p ps name items tokens.left_paren ks gs free end after = open_step p p
 text_step p ps name items tokens.right_paren ks gs free end after = close_step p ps name items ks gs free (after tt)
 text_step p ps name items tokens.period ks gs free end after = token_step p ps items [] tokens.period ks gs period (after tt)
 text_step p ps name items (tokens.glyph n) ks gs free end after =
-    token_step p ps items _ (tokens.glyph n) ks gs (glyph n) (after tt)
+    token_step p ps items _ _ ks gs (glyph n) (after tt)
 text_step p ps name items tokens.comment_open ks gs free end after =
-    token_step p ps items _ tokens.comment_open ks gs comment_open (after tt)
+    token_step p ps items _ _ ks gs comment_open (after tt)
 text_step p ps name items (tokens.word s) ks gs free end after =
-    token_step p ps items _ (tokens.word s) ks gs (word s) (after tt)
+    token_step p ps items _ _ ks gs (word s) (after tt)
 text_step p ps name items tokens.comment_close ks gs free end after =
-    token_step p ps items _ tokens.comment_close ks gs comment_close (after tt)
+    token_step p ps items _ _ ks gs comment_close (after tt)
 text_step p ps name items tokens.asterisk ks gs free end after =
     let e = sym (text_row p (at InMovetext ps name items) tokens.asterisk refl) ∙ free in
-    marker_step p ps items tokens.asterisk (codes "*") ks gs refl (test_failed (nat_le 1 (depth (levels_of items))) MarkerInVariation _ e)
-    (test_failed _ ResultDiffers None (rest_passed (nat_le 1 (depth (levels_of items))) MarkerInVariation _ e)) after
+    marker_step p ps items _ _ ks gs refl (test_failed _ MarkerInVariation _ e)
+    (test_failed _ ResultDiffers None (rest_passed (nat_le 1 _) MarkerInVariation _ e)) after
 text_step p ps name items (tokens.symbol s) ks gs free end after =
     let place = here (start_of ps) (levels_of items) in
-    symbol_step p ps name items s ks gs (is_number s) (is_score s) (move_of place s) refl refl refl
+    symbol_step p ps name items s ks gs _ _ _ refl refl refl
     (sym (text_row p (at InMovetext ps name items) (tokens.symbol s) refl ∙ symbol_refusal p (at InMovetext ps name items) s _ _ refl refl) ∙ free) after
 text_step p ps name items tokens.end ks gs free end after = absurd (false≢true (sym end))
 text_step p ps name items _ ks gs free end after = absurd (none-some _ (sym free))
@@ -340,33 +340,33 @@ bracket_step : (p : Profile) (ps : List Pair) (name : List ℕ) (items : List It
     → refusal p (at AfterValue ps name items) k ≡ None → After p (next (at AfterValue ps name items) k) ks gs → Bracket_left p ps (k ∷ ks) gs
 unfolding refusal
 bracket_step p ps name items tokens.comment_open ks gs none free after =
-    one_dropped (Bracket p ps gs) tokens.comment_open ks refl (after none)
-bracket_step p ps name items (tokens.word s) ks gs none free after = one_dropped (Bracket p ps gs) (tokens.word s) ks refl (after none)
+    one_dropped _ _ ks refl (after none)
+bracket_step p ps name items (tokens.word s) ks gs none free after = one_dropped _ _ ks refl (after none)
 bracket_step p ps name items tokens.comment_close ks gs none free after =
-    one_dropped (Bracket p ps gs) tokens.comment_close ks refl (after none)
+    one_dropped _ _ ks refl (after none)
 bracket_step p ps name items tokens.right_bracket ks gs none free after =
-    none_dropped (Bracket p ps gs) (tokens.right_bracket ∷ ks) (record { behind = ks; kinds = refl; tags = after none })
+    none_dropped _ _ (record { behind = ks; kinds = refl; tags = after none })
 bracket_step p ps name items _ ks gs none free after = absurd (none-some _ (sym free))
 
 value_given : (p : Profile) (ps : List Pair) (name : List ℕ) (items : List Item) (s : List ℕ) (ks : List Kind) (gs : List Game)
     → refusal p (at AfterName ps name items) (tokens.str s) ≡ None → Bracket_left p (insert_pair (record { name = name; value = s }) ps) ks gs
     → Value_left p ps name (tokens.str s ∷ ks) gs
 value_given p ps name items s ks gs free h =
-    let e = sym (value_refusal p (at AfterName ps name items) s refl) ∙ free in
-    let is_marker = test_failed (bytes_eq name (codes "Result") && not (is_result s)) BadResult _ e in
-    let f = rest_passed (bytes_eq name (codes "Result") && not (is_result s)) BadResult _ e in
-    let is_position = test_failed (bytes_eq name (codes "FEN") && is_some (fen_field s)) (BadFen (fen_field_of (tokens.str s))) _ f in
+    let e = sym (value_refusal p _ s refl) ∙ free in
+    let is_marker = test_failed (bytes_eq name _ && not _) BadResult _ e in
+    let f = rest_passed (bytes_eq name _ && not _) BadResult _ e in
+    let is_position = test_failed (bytes_eq name _ && is_some _) (BadFen _) _ f in
     let short : nat_lt 249 (length name + length (escaped s)) ≡ false =
-    test_failed (nat_lt 249 (length name + length (escaped s))) TagLineTooLong None
-    (rest_passed (bytes_eq name (codes "FEN") && is_some (fen_field s)) (BadFen (fen_field_of (tokens.str s))) _ f) in
-    none_dropped (Value p ps name gs) (tokens.str s ∷ ks) (record {
+    test_failed _ TagLineTooLong None
+    (rest_passed (bytes_eq name _ && is_some _) (BadFen _) _ f) in
+    none_dropped _ _ (record {
       value = s;
       behind = ks;
       kinds = refl;
-      room = ltb-false 249 (length name + length (escaped s)) short;
-      result = λ is. not-false (is_result s)
-          (forced (bytes_eq name (codes "Result")) (not (is_result s)) is_marker ((bytes_eq-Decides name (codes "Result")).1 is));
-      fen = λ is. position_is (position_of s) (forced (bytes_eq name (codes "FEN")) (is_some (fen_field s)) is_position ((bytes_eq-Decides name (codes "FEN")).1 is));
+      room = ltb-false 249 _ short;
+      result = λ is. not-false _
+          (forced (bytes_eq name _) _ is_marker ((bytes_eq-Decides name _).1 is));
+      fen = λ is. position_is _ (forced (bytes_eq name _) _ is_position ((bytes_eq-Decides name _).1 is));
       bracket = h;
     })
 
@@ -374,28 +374,28 @@ value_step : (p : Profile) (ps : List Pair) (name : List ℕ) (items : List Item
     → refusal p (at AfterName ps name items) k ≡ None → After p (next (at AfterName ps name items) k) ks gs → Value_left p ps name (k ∷ ks) gs
 unfolding refusal
 value_step p ps name items tokens.comment_open ks gs none free after =
-    one_dropped (Value p ps name gs) tokens.comment_open ks refl (after none)
-value_step p ps name items (tokens.word s) ks gs none free after = one_dropped (Value p ps name gs) (tokens.word s) ks refl (after none)
+    one_dropped _ _ ks refl (after none)
+value_step p ps name items (tokens.word s) ks gs none free after = one_dropped _ _ ks refl (after none)
 value_step p ps name items tokens.comment_close ks gs none free after =
-    one_dropped (Value p ps name gs) tokens.comment_close ks refl (after none)
+    one_dropped _ _ ks refl (after none)
 value_step p ps name items (tokens.str s) ks gs none free after = value_given p ps name items s ks gs free (after none)
 value_step p ps name items _ ks gs none free after = absurd (none-some _ (sym free))
 
 name_given : (p : Profile) (ps : List Pair) (name : List ℕ) (items : List Item) (s : List ℕ) (ks : List Kind) (gs : List Game)
     → refusal p (at AfterLeftBracket ps name items) (tokens.symbol s) ≡ None → Value_left p ps s ks gs → Name_left p ps (tokens.symbol s ∷ ks) gs
 name_given p ps name items s ks gs free h =
-    let e = sym (name_refusal p (at AfterLeftBracket ps name items) s refl) ∙ free in
+    let e = sym (name_refusal p (at _ ps name items) s refl) ∙ free in
     let f = rest_passed (not (list_all in_name s)) BadTagName _ e in
     let g = rest_passed (nat_lt 249 (length s)) TagLineTooLong _ (rest_passed (has_pair ps s) DuplicateTag _ f) in
-    none_dropped (Name p ps gs) (tokens.symbol s ∷ ks) (record {
+    none_dropped _ _ (record {
       name = s;
       behind = ks;
       kinds = refl;
-      fresh = test_failed (has_pair ps s) DuplicateTag _ f;
-      is_name = not-false (list_all in_name s) (test_failed (not (list_all in_name s)) BadTagName _ e);
+      fresh = test_failed _ DuplicateTag _ f;
+      is_name = not-false _ (test_failed _ BadTagName _ e);
       full = λ is.
-          is_full p.mode (bytes_eq s (codes "FEN")) (test_failed (is_reduced p.mode && bytes_eq s (codes "FEN")) ReducedFen None g)
-          ((bytes_eq-Decides s (codes "FEN")).1 is);
+          is_full _ (bytes_eq s _) (test_failed _ ReducedFen None g)
+          ((bytes_eq-Decides s _).1 is);
       value = h;
     })
 
@@ -403,10 +403,10 @@ name_step : (p : Profile) (ps : List Pair) (name : List ℕ) (items : List Item)
     → refusal p (at AfterLeftBracket ps name items) k ≡ None → After p (next (at AfterLeftBracket ps name items) k) ks gs → Name_left p ps (k ∷ ks) gs
 unfolding refusal
 name_step p ps name items tokens.comment_open ks gs none free after =
-    one_dropped (Name p ps gs) tokens.comment_open ks refl (after none)
-name_step p ps name items (tokens.word s) ks gs none free after = one_dropped (Name p ps gs) (tokens.word s) ks refl (after none)
+    one_dropped _ _ ks refl (after none)
+name_step p ps name items (tokens.word s) ks gs none free after = one_dropped _ _ ks refl (after none)
 name_step p ps name items tokens.comment_close ks gs none free after =
-    one_dropped (Name p ps gs) tokens.comment_close ks refl (after none)
+    one_dropped _ _ ks refl (after none)
 name_step p ps name items (tokens.symbol s) ks gs none free after = name_given p ps name items s ks gs free (after none)
 name_step p ps name items _ ks gs none free after = absurd (none-some _ (sym free))
 
@@ -431,7 +431,7 @@ pair_step p ps ks gs free dn =
         given = q ∷ t.given;
         behind = t.behind;
         kinds = ap (λ js. tokens.left_bracket ∷ js) whole ∙ simp append_assoc;
-        pairs = next_pair _ t.tags q t.given (pair xs ys zs n.name v.value dn.dropped dv.dropped db.dropped) t.pairs;
+        pairs = next_pair _ t.tags q t.given (pair xs ys zs _ _ dn.dropped dv.dropped db.dropped) t.pairs;
         takes = (
           leb-false p.tags (length ps) free,
           n.fresh,
@@ -454,7 +454,7 @@ no_pair_step p ps items ks gs none set_up h = record {
   pairs = no_pair;
   takes = tt;
   set_up = set_up;
-  text = subst (λ xs. Text_left p ps xs ks gs) none h;
+  text = rw none at h;
 }
 
 is_set_up : (o : Option (List ℕ)) (fen : Bool) → (bytes_eq (unwrap_or o []) (codes "1") && not fen) ≡ false → o ≡ Some (codes "1") → fen ≡ true
@@ -466,14 +466,14 @@ tags_text : (p : Profile) (ps : List Pair) (name : List ℕ) (items : List Item)
 tags_text p ps name items k ks gs none is free end after =
     let e = sym (after_tags p (at AfterTags ps name items) k is) ∙ free in
     let lacks = lacks_fen ps in
-    no_pair_step p ps items (k ∷ ks) gs none (is_set_up (value_of ps (codes "SetUp")) (has_pair ps (codes "FEN")) (test_failed lacks SetUpWithoutFen _ e))
-    (text_step p ps name items k ks gs (rest_passed lacks SetUpWithoutFen _ e) end (subst (λ n. After p n ks gs) (leads_after_tags (at AfterTags ps name items) k is) after))
+    no_pair_step p ps items _ gs none (is_set_up _ _ (test_failed lacks SetUpWithoutFen _ e))
+    (text_step p ps name items k ks gs (rest_passed lacks SetUpWithoutFen _ e) end (rw (leads_after_tags (at AfterTags ps name items) k is) at after))
 
 tags_step : (p : Profile) (ps : List Pair) (name : List ℕ) (items : List Item) (k : Kind) (ks : List Kind) (gs : List Game) → items ≡ []
     → refusal p (at AfterTags ps name items) k ≡ None → is_end k ≡ false → After p (next (at AfterTags ps name items) k) ks gs → Tags_left p ps (k ∷ ks) gs
 unfolding refusal
 tags_step p ps name items tokens.left_bracket ks gs none free end after =
-    (pair_step p ps ks gs (test_failed (nat_le p.tags (length ps)) TooManyTags None (sym (open_refusal p (at AfterTags ps name items) refl) ∙ free)) (after none)).0
+    (pair_step p ps ks gs (test_failed _ TooManyTags None (sym (open_refusal p (at _ ps name items) refl) ∙ free)) (after none)).0
 tags_step p ps name items tokens.end ks gs none free end after = absurd (false≢true (sym end))
 tags_step p ps name items (tokens.refused r) ks gs none free end after = absurd (none-some _ (sym free))
 tags_step p ps name items k ks gs none free end after = tags_text p ps name items k ks gs none refl free end after
@@ -486,7 +486,7 @@ game_drops p k ks g is h = record {
   text = h.text;
   last = h.last;
   given = h.given;
-  tokens = ap (λ xs. k ∷ xs) h.tokens;
+  tokens = cc;
   dropped = dropped_more k h.before is h.dropped;
   pairs = h.pairs;
   keeps = h.keeps;
@@ -531,29 +531,29 @@ game_begins p ps ks gs none t bare =
       marker = x.is_marker;
       result = x.result;
     } in
-    subst (λ js. SpellsGames p js gs) (sym e) (subst (SpellsGames p (front ++ x.behind)) (sym x.games) (next_game front x.behind g x.later game x.others))
+    subst (λ js. SpellsGames p js gs) (sym e) (subst (SpellsGames p _) (sym x.games) (next_game front _ g x.later game x.others))
 
 bare_from : (k : Kind) (ks text : List Kind) (last : Kind) (behind : List Kind) → IsFalse (is_comment k) → k ∷ ks ≡ text ++ last ∷ behind → BeginsBare text
 bare_from k ks [] last behind is e = tt
-bare_from k ks (j ∷ js) last behind is e = let same : j ≡ k = cc in ap is_comment same ∙ is
+bare_from k ks (j ∷ js) last behind is e = let same : j ≡ k = cc in cc
 
 between_text : (p : Profile) (ps : List Pair) (name : List ℕ) (items : List Item) (k : Kind) (ks : List Kind) (gs : List Game) → ps ≡ [] → items ≡ [] → IsTrue (is_textual k)
     → IsFalse (is_comment k) → refusal p (at Between ps name items) k ≡ None → is_end k ≡ false → After p (next (at Between ps name items) k) ks gs → SpellsGames p (k ∷ ks) gs
 unfolding no_pair_step
 between_text p ps name items k ks gs no_pairs none is bare free end after =
-    let text = text_step p ps name items k ks gs (sym (between p (at Between ps name items) k is bare) ∙ free) end (subst (λ n. After p n ks gs) (leads_between (at Between ps name items) k is bare) after) in
-    let t = no_pair_step p ps items (k ∷ ks) gs none (subst IsSetUp (sym no_pairs) (λ e. absurd (cc))) text in
-    game_begins p ps (k ∷ ks) gs no_pairs t (λ given. bare_from k ks t.text.text t.text.last t.text.behind bare t.text.kinds)
+    let text = text_step p ps name items k ks gs (sym (between p (at Between ps name items) k is bare) ∙ free) end (rw (leads_between (at Between ps name items) k is bare) at after) in
+    let t = no_pair_step p ps items _ gs none (subst IsSetUp (sym no_pairs) (λ e. absurd (cc))) text in
+    game_begins p ps _ gs no_pairs t (λ given. bare_from k ks t.text.text t.text.last t.text.behind bare t.text.kinds)
 
 between_step : (p : Profile) (ps : List Pair) (name : List ℕ) (items : List Item) (k : Kind) (ks : List Kind) (gs : List Game) → ps ≡ [] → items ≡ []
     → refusal p (at Between ps name items) k ≡ None → is_end k ≡ false → After p (next (at Between ps name items) k) ks gs → SpellsGames p (k ∷ ks) gs
 unfolding refusal
-between_step p ps name items tokens.comment_open ks gs no_pairs none free end after = games_drop p tokens.comment_open ks gs refl (after (no_pairs, none))
-between_step p ps name items (tokens.word s) ks gs no_pairs none free end after = games_drop p (tokens.word s) ks gs refl (after (no_pairs, none))
-between_step p ps name items tokens.comment_close ks gs no_pairs none free end after = games_drop p tokens.comment_close ks gs refl (after (no_pairs, none))
+between_step p ps name items tokens.comment_open ks gs no_pairs none free end after = games_drop p _ ks gs refl (after (no_pairs, none))
+between_step p ps name items (tokens.word s) ks gs no_pairs none free end after = games_drop p _ ks gs refl (after (no_pairs, none))
+between_step p ps name items tokens.comment_close ks gs no_pairs none free end after = games_drop p _ ks gs refl (after (no_pairs, none))
 between_step p ps name items tokens.left_bracket ks gs no_pairs none free end after =
-    let t = pair_step p ps ks gs (test_failed (nat_le p.tags (length ps)) TooManyTags None (sym (open_between p (at Between ps name items)) ∙ free)) (after none) in
-    game_begins p ps (tokens.left_bracket ∷ ks) gs no_pairs t.0 (λ e. absurd (t.1 e))
+    let t = pair_step p ps ks gs (test_failed _ TooManyTags None (sym (open_between p (at Between ps name items)) ∙ free)) (after none) in
+    game_begins p ps _ gs no_pairs t.0 (λ e. absurd (t.1 e))
 between_step p ps name items tokens.end ks gs no_pairs none free end after = absurd (false≢true (sym end))
 between_step p ps name items (tokens.refused r) ks gs no_pairs none free end after = absurd (none-some _ (sym free))
 between_step p ps name items k ks gs no_pairs none free end after = between_text p ps name items k ks gs no_pairs none refl refl free end after
@@ -577,12 +577,12 @@ at_end p _ ps name items free = absurd (none-some _ (sym free))
 
 left : (p : Profile) (part : Part) (ks : List Kind) (gs : List Game) → Runs p part ks gs → Fits part.stage part.pairs part.items
     → Left p part.stage part.pairs part.name part.items ks gs
-left p _ _ _ (ends part free) fits = at_end p part.stage part.pairs part.name part.items free
+left p _ _ _ (ends part free) fits = at_end p _ _ _ _ free
 left p _ _ _ (goes part to k ks gs free end leads runs) fits =
-    step p part.stage part.pairs part.name part.items k ks gs fits free end (subst (λ n. After p n ks gs) (sym leads) (left p to ks gs runs))
+    step p _ _ _ _ k ks gs fits free end (rw leads (left p to ks gs runs))
 left p _ _ _ (finishes part k g ks gs free end leads runs) fits =
-    step p part.stage part.pairs part.name part.items k ks (g ∷ gs) fits free end
-    (subst (λ n. After p n ks (g ∷ gs)) (sym leads) (gs, refl, left p no_part ks gs runs (refl, refl)))
+    step p _ _ _ _ k ks _ fits free end
+    (rw leads (gs, refl, left p no_part ks gs runs (refl, refl)))
 
 pub games_spelled : (p : Profile) (ks : List Kind) (gs : List Game) → Runs p no_part ks gs → SpellsGames p ks gs
 games_spelled p ks gs runs = left p no_part ks gs runs (refl, refl)

@@ -16,16 +16,16 @@ text_at old part stage agrees at = subst (λ (s : Stage). HoldsText s old part) 
 -- a call that found a value found it in the list, and one that found none did not
 pub has_pair_found : (ps qs : List Pair) (name : List ℕ) (found : Option (Bor (List ℕ))) (b : Bool) → ps ≡ qs → option_copied found ≡ value_of ps name → b ≡ is_some found
     → has_pair qs name ≡ b
-has_pair_found ps qs name None b same copied is = ap (λ (l : List Pair). has_pair l name) (sym same) ∙ ap is_some (sym copied) ∙ sym is
-has_pair_found ps qs name (Some x) b same copied is = ap (λ (l : List Pair). has_pair l name) (sym same) ∙ ap is_some (sym copied) ∙ sym is
+has_pair_found ps qs name None b same copied is = cc
+has_pair_found ps qs name (Some x) b same copied is = cc
 
 -- the pairs held are those of the part, so SetUp asks for the same
 pub lacks_of : (old : ReaderState) (part : Part) (lacks : Bool) → Agrees old part → old.stage ≡ AfterTags → lacks_fen old.tags.held ≡ lacks → lacks_fen part.pairs ≡ lacks
-lacks_of old part lacks agrees at is = ap (λ (t : TagPairs). lacks_fen t.held) (sym (held_at old part AfterTags agrees at)) ∙ is
+lacks_of old part lacks agrees at is = cc (held_at old part AfterTags agrees at)
 
 -- the name that has begun is the part's
 pub begun_name : (tags : TagPairs) (part : Part) (name : List ℕ) → tags ≡ record { held = part.pairs; pending_name = Some part.name } → tags.pending_name ≡ Some name → name ≡ part.name
-begun_name tags part name is begun = let e : Some name ≡ Some part.name = sym begun ∙ ap (λ (t : TagPairs). t.pending_name) is in cc
+begun_name tags part name is begun = let e : Some name ≡ Some part.name = cc in cc
 
 -- Movetext that has no item yet is held.
 nothing_held : (mode : Mode) (start : Parts) → HoldsItems mode start [] (movetext_from start) []
@@ -39,19 +39,19 @@ held_none mode start items text line none begins_game empty = rw (none, begins_g
 -- Where movetext can begin or goes on, it is open.
 open_at : (old : ReaderState) (part : Part) (stage : Stage) → Agrees old part → old.stage ≡ stage → IsTrue (may_have_movetext stage) → IsOpen old part
 open_at old part AfterTags agrees at is =
-    let text = text_at old part AfterTags agrees at in
+    let text = text_at old part _ agrees at in
     record {
       stage = agrees.stage;
-      pairs = held_at old part AfterTags agrees at;
+      pairs = held_at old part _ agrees at;
       fresh = λ e. text.0;
-      held = held_none old.profile.mode (start_of part.pairs) part.items old.text old.line text.0 text.1 text.2;
-      probed = λ has. let h : IsTrue (has_move []) = subst (λ (is : List Item). IsTrue (has_move is)) text.0 has in absurd (cc);
+      held = held_none _ _ _ _ _ text.0 text.1 text.2;
+      probed = λ has. let h : IsTrue (has_move []) = rw text.0 at has in absurd (cc);
     }
 open_at old part InMovetext agrees at is =
-    let text = text_at old part InMovetext agrees at in
+    let text = text_at old part _ agrees at in
     record {
       stage = agrees.stage;
-      pairs = held_at old part InMovetext agrees at;
+      pairs = held_at old part _ agrees at;
       fresh = λ e. let h : InMovetext ≡ AfterTags = sym at ∙ e in absurd (cc);
       held = text.0;
       probed = text.1;
@@ -59,7 +59,7 @@ open_at old part InMovetext agrees at is =
 open_at old part _ agrees at is = absurd (cc)
 
 pub open_agrees : (old : ReaderState) (part : Part) → Agrees old part → IsTrue (may_have_movetext old.stage) → IsOpen old part
-open_agrees old part agrees is = open_at old part old.stage agrees refl is
+open_agrees old part agrees is = open_at old part _ agrees refl is
 
 -- Where a game has begun, the present position that is held is that of the part.
 pub open_position : (old : ReaderState) (part : Part) → IsOpen old part → old.text.levels.present.present ≡ position_in part
@@ -71,23 +71,23 @@ first_held old part none begins_game =
 
 pub position_in_pair : (old : ReaderState) (part : Part) (stage : Stage) → Agrees old part → old.stage ≡ stage → is_outside_tag_pairs (at_stage stage part) ≡ false
     → old.text.levels.present.present ≡ position_in part
-position_in_pair old part AfterLeftBracket agrees at is = let text = text_at old part AfterLeftBracket agrees at in first_held old part text.0 text.1
-position_in_pair old part AfterName agrees at is = let text = text_at old part AfterName agrees at in first_held old part text.0 text.1
-position_in_pair old part AfterValue agrees at is = let text = text_at old part AfterValue agrees at in first_held old part text.0 text.1
+position_in_pair old part AfterLeftBracket agrees at is = let text = text_at old part _ agrees at in first_held old part text.0 text.1
+position_in_pair old part AfterName agrees at is = let text = text_at old part _ agrees at in first_held old part text.0 text.1
+position_in_pair old part AfterValue agrees at is = let text = text_at old part _ agrees at in first_held old part text.0 text.1
 position_in_pair old part _ agrees at is = absurd (cc)
 
 -- The table and the step of movetext are those of a token in it, and of the first one.
 pub entry_in_movetext : (old : ReaderState) (k : TokenKind) (part : Part) → old.stage ≡ InMovetext → Agrees old part → IsEntry old (kind_of k) part
 entry_in_movetext old k part at agrees =
-    let there = part_stage old part InMovetext agrees at in
-    record { is_open = open_agrees old part agrees (ap may_have_movetext at); row = row_in_movetext old.profile part k there; leads = next_in_movetext part k there }
+    let there = part_stage old part _ agrees at in
+    record { is_open = open_agrees old part agrees (ap may_have_movetext at); row = row_in_movetext _ part k there; leads = next_in_movetext part k there }
 
 pub entry_after_tags : (old : ReaderState) (k : TokenKind) (part : Part) → old.stage ≡ AfterTags → IsTrue (is_textual (kind_of k)) → lacks_fen part.pairs ≡ false → Agrees old part
     → IsEntry old (kind_of k) part
 entry_after_tags old k part at is free agrees =
-    let there = part_stage old part AfterTags agrees at in
+    let there = part_stage old part _ agrees at in
     record {
       is_open = open_agrees old part agrees (ap may_have_movetext at);
-      row = row_after_tags old.profile part k there is free;
+      row = row_after_tags _ part k there is free;
       leads = next_after_tags part k there is;
     }

@@ -1,17 +1,17 @@
 -- Which tokens are rejected at a stage, row by row, and where the others lead.
-use Rattle.pgn_game.proofs.Words.{◌≡◌, ℕ, ◌+◌, Bool, true, false, ◌&&◌, ◌||◌, not, List, [], length, nat_lt, nat_le, Option, None, Some, refl, sym, ap, subst, ◌∙◌, ◌==◌, codes, bytes_eq, is_some, Bor, IsTrue, IsFalse, Result, list_all, and_right, false≢true, escaped, left_bracket, right_bracket, symbol, str, kind_of, TokenKind, Played, SanFault, Kind, Reason, ExpectedName, BadTagName, DuplicateTag, TooManyTags, ExpectedValue, BadResult, BadFen, TagLineTooLong, ExpectedBracket, SetUpWithoutFen, ReducedFen, NotAMove, IllegalMove, AmbiguousMove, MoveLimit, MarkerInVariation, ResultDiffers, UnexpectedEnd, Stage, Between, AfterLeftBracket, AfterName, AfterValue, AfterTags, InMovetext, Profile, Pair, has_pair, insert_pair, Part, no_part, refusal, is_comment, is_end, in_name, is_result, is_no_form, is_no_move, is_many_moves, is_one_move, fen_field, fen_field_of, lacks_fen, is_reduced, going, next, at_stage, in_text, or_else, text_refusal}
+use Rattle.pgn_game.proofs.Words.{◌≡◌, ℕ, ◌+◌, Bool, true, false, ◌&&◌, ◌||◌, not, List, [], length, nat_lt, nat_le, Option, None, Some, refl, sym, ◌∙◌, ◌==◌, codes, bytes_eq, is_some, Bor, IsTrue, IsFalse, Result, list_all, and_right, false≢true, escaped, left_bracket, right_bracket, symbol, str, kind_of, TokenKind, Played, SanFault, Kind, Reason, ExpectedName, BadTagName, DuplicateTag, TooManyTags, ExpectedValue, BadResult, BadFen, TagLineTooLong, ExpectedBracket, SetUpWithoutFen, ReducedFen, NotAMove, IllegalMove, AmbiguousMove, MoveLimit, MarkerInVariation, ResultDiffers, UnexpectedEnd, Stage, Between, AfterLeftBracket, AfterName, AfterValue, AfterTags, InMovetext, Profile, Pair, has_pair, insert_pair, Part, no_part, refusal, is_comment, is_end, in_name, is_result, is_no_form, is_no_move, is_many_moves, is_one_move, fen_field, fen_field_of, lacks_fen, is_reduced, going, next, at_stage, in_text, or_else, text_refusal}
 use Rattle.pgn_lexer.specs.Tokens as tokens
 use Rattle.pgn_lexer.specs.declared.token.TokenKind.TheVariants as variants
 
 -- what holds of a part at a stage holds of each that is there
 at_the_stage : (P : Part → Type 0) (part : Part) (stage : Stage) → part.stage ≡ stage → P (at_stage stage part) → P part
-at_the_stage P part stage e h = subst (λ (s : Stage). P (at_stage s part)) (sym e) h
+at_the_stage P part stage e h = rw e h
 
 pub hit : (test : Bool) (reason : Reason) (rest : Option Reason) → test ≡ true → or_else test reason rest ≡ Some reason
-hit test reason rest e = ap (λ (b : Bool). or_else b reason rest) e
+hit test reason rest e = cc
 
 pub pass : (test : Bool) (reason : Reason) (rest : Option Reason) → test ≡ false → or_else test reason rest ≡ rest
-pass test reason rest e = ap (λ (b : Bool). or_else b reason rest) e
+pass test reason rest e = cc
 
 pub test_failed : (test : Bool) (reason : Reason) (rest : Option Reason) → or_else test reason rest ≡ None → test ≡ false
 test_failed true reason rest e = absurd (cc)
@@ -29,10 +29,10 @@ drops_comments _ = true
 
 no_value_rows : (name : List ℕ) → or_else (bytes_eq name (codes "Result") && false) BadResult (or_else (bytes_eq name (codes "FEN") && false) (BadFen 0) None) ≡ None
 no_value_rows name =
-    pass _ BadResult _ (and_right (bytes_eq name (codes "Result")) false refl) ∙ pass _ (BadFen 0) None (and_right (bytes_eq name (codes "FEN")) false refl)
+    pass _ _ _ (and_right _ false refl) ∙ pass _ _ None (and_right _ false refl)
 
 reduced_row : (p : Profile) → or_else (is_reduced p.mode && false) ReducedFen None ≡ None
-reduced_row p = pass _ ReducedFen None (and_right (is_reduced p.mode) false refl)
+reduced_row p = pass _ _ None (and_right _ false refl)
 
 pub comment_free : (p : Profile) (stage : Stage) (part : Part) (k : Kind) → IsTrue (drops_comments stage) → IsTrue (is_comment k) → refusal p (at_stage stage part) k ≡ None
 unfolding refusal
@@ -67,8 +67,8 @@ comment_goes _ is = refl
 pub comment_passes : (p : Profile) (part : Part) (k : TokenKind) (stage : Stage) → stage ≡ part.stage → IsTrue (drops_comments stage)
     → true ≡ is_comment (kind_of k) → (refusal p part (kind_of k) ≡ None) × (next part (kind_of k) ≡ going part)
 comment_passes p part k stage at out is =
-    let drops = subst (λ (s : Stage). IsTrue (drops_comments s)) at out in
-    (comment_free p part.stage part (kind_of k) drops (sym is), comment_stays part.stage part (kind_of k) drops (sym is))
+    let drops = rw at at out in
+    (comment_free p _ part _ drops (sym is), comment_stays _ part _ drops (sym is))
 
 -- Pairs.
 expected_name_at : (p : Profile) (part : Part) (k : TokenKind) → false ≡ is_comment (kind_of k) → ((text : Bor (List ℕ)) → k ≡ variants.Symbol text → ⊥)
@@ -82,7 +82,7 @@ expected_name_at p part _ is other = refl
 
 pub expected_name : (p : Profile) (part : Part) (k : TokenKind) → part.stage ≡ AfterLeftBracket → false ≡ is_comment (kind_of k) → ((text : Bor (List ℕ)) → k ≡ variants.Symbol text → ⊥)
     → refusal p part (kind_of k) ≡ Some ExpectedName
-expected_name p part k at is other = at_the_stage (λ q. refusal p q (kind_of k) ≡ Some ExpectedName) part AfterLeftBracket at (expected_name_at p part k is other)
+expected_name p part k at is other = at_the_stage (λ q. refusal p q (kind_of k) ≡ Some ExpectedName) part _ at (expected_name_at p part k is other)
 
 expected_value_at : (p : Profile) (part : Part) (k : TokenKind) → false ≡ is_comment (kind_of k) → ((text : Bor (List ℕ)) → k ≡ variants.Str text → ⊥)
     → refusal p (at_stage AfterName part) (kind_of k) ≡ Some ExpectedValue
@@ -95,7 +95,7 @@ expected_value_at p part _ is other = refl
 
 pub expected_value : (p : Profile) (part : Part) (k : TokenKind) → part.stage ≡ AfterName → false ≡ is_comment (kind_of k) → ((text : Bor (List ℕ)) → k ≡ variants.Str text → ⊥)
     → refusal p part (kind_of k) ≡ Some ExpectedValue
-expected_value p part k at is other = at_the_stage (λ q. refusal p q (kind_of k) ≡ Some ExpectedValue) part AfterName at (expected_value_at p part k is other)
+expected_value p part k at is other = at_the_stage (λ q. refusal p q (kind_of k) ≡ Some ExpectedValue) part _ at (expected_value_at p part k is other)
 
 expected_bracket_at : (p : Profile) (part : Part) (k : TokenKind) → false ≡ is_comment (kind_of k) → (k ≡ variants.RightBracket → ⊥)
     → refusal p (at_stage AfterValue part) (kind_of k) ≡ Some ExpectedBracket
@@ -108,7 +108,7 @@ expected_bracket_at p part _ is other = refl
 
 pub expected_bracket : (p : Profile) (part : Part) (k : TokenKind) → part.stage ≡ AfterValue → false ≡ is_comment (kind_of k) → (k ≡ variants.RightBracket → ⊥)
     → refusal p part (kind_of k) ≡ Some ExpectedBracket
-expected_bracket p part k at is other = at_the_stage (λ q. refusal p q (kind_of k) ≡ Some ExpectedBracket) part AfterValue at (expected_bracket_at p part k is other)
+expected_bracket p part k at is other = at_the_stage (λ q. refusal p q (kind_of k) ≡ Some ExpectedBracket) part _ at (expected_bracket_at p part k is other)
 
 -- what a name and a value are rejected for, each test before the next
 abbrev pub name_rows : Profile → List Pair → List ℕ → Option Reason
@@ -119,10 +119,10 @@ name_rows p ps s =
 
 pub name_refusal : (p : Profile) (part : Part) (name : List ℕ) → part.stage ≡ AfterLeftBracket → refusal p part (symbol name) ≡ name_rows p part.pairs name
 unfolding refusal
-name_refusal p part name at = at_the_stage (λ q. refusal p q (symbol name) ≡ name_rows p q.pairs name) part AfterLeftBracket at refl
+name_refusal p part name at = at_the_stage (λ q. refusal p q (symbol name) ≡ name_rows p q.pairs name) part _ at refl
 
 pub name_next : (part : Part) (name : List ℕ) → part.stage ≡ AfterLeftBracket → next part (symbol name) ≡ going (record { stage = AfterName; pairs = part.pairs; name = name; items = part.items })
-name_next part name at = at_the_stage (λ q. next q (symbol name) ≡ going (record { stage = AfterName; pairs = q.pairs; name = name; items = q.items })) part AfterLeftBracket at refl
+name_next part name at = at_the_stage (λ q. next q (symbol name) ≡ going (record { stage = AfterName; pairs = q.pairs; name = name; items = q.items })) part _ at refl
 
 abbrev pub value_rows : List ℕ → List ℕ → Option Reason
 value_rows name s =
@@ -132,28 +132,28 @@ value_rows name s =
 
 pub value_refusal : (p : Profile) (part : Part) (value : List ℕ) → part.stage ≡ AfterName → refusal p part (str value) ≡ value_rows part.name value
 unfolding refusal
-value_refusal p part value at = at_the_stage (λ q. refusal p q (str value) ≡ value_rows q.name value) part AfterName at refl
+value_refusal p part value at = at_the_stage (λ q. refusal p q (str value) ≡ value_rows q.name value) part _ at refl
 
 pub value_next : (part : Part) (value : List ℕ) → part.stage ≡ AfterName
     → next part (str value) ≡ going (record { stage = AfterValue; pairs = insert_pair (record { name = part.name; value = value }) part.pairs; name = []; items = part.items })
 value_next part value at =
-    at_the_stage (λ q. next q (str value) ≡ going (record { stage = AfterValue; pairs = insert_pair (record { name = q.name; value = value }) q.pairs; name = []; items = q.items })) part AfterName at refl
+    at_the_stage (λ q. next q (str value) ≡ going (record { stage = AfterValue; pairs = insert_pair (record { name = q.name; value = value }) q.pairs; name = []; items = q.items })) part _ at refl
 
 pub close_refusal : (p : Profile) (part : Part) → part.stage ≡ AfterValue → refusal p part right_bracket ≡ None
 unfolding refusal
-close_refusal p part at = at_the_stage (λ q. refusal p q right_bracket ≡ None) part AfterValue at refl
+close_refusal p part at = at_the_stage (λ q. refusal p q right_bracket ≡ None) part _ at refl
 
 pub close_next : (part : Part) → part.stage ≡ AfterValue → next part right_bracket ≡ going (at_stage AfterTags part)
-close_next part at = at_the_stage (λ q. next q right_bracket ≡ going (at_stage AfterTags q)) part AfterValue at refl
+close_next part at = at_the_stage (λ q. next q right_bracket ≡ going (at_stage AfterTags q)) part _ at refl
 
 -- what a `[` is rejected for
 pub open_refusal : (p : Profile) (part : Part) → part.stage ≡ AfterTags
     → refusal p part left_bracket ≡ or_else (nat_le p.tags (length part.pairs)) TooManyTags None
 unfolding refusal
-open_refusal p part at = at_the_stage (λ q. refusal p q left_bracket ≡ or_else (nat_le p.tags (length q.pairs)) TooManyTags None) part AfterTags at refl
+open_refusal p part at = at_the_stage (λ q. refusal p q left_bracket ≡ or_else (nat_le p.tags (length q.pairs)) TooManyTags None) part _ at refl
 
 pub open_next : (part : Part) → part.stage ≡ AfterTags → next part left_bracket ≡ going (at_stage AfterLeftBracket part)
-open_next part at = at_the_stage (λ q. next q left_bracket ≡ going (at_stage AfterLeftBracket q)) part AfterTags at refl
+open_next part at = at_the_stage (λ q. next q left_bracket ≡ going (at_stage AfterLeftBracket q)) part _ at refl
 
 pub open_between : (p : Profile) (part : Part) → refusal p (at_stage Between part) left_bracket ≡ or_else (nat_le p.tags (length part.pairs)) TooManyTags None
 unfolding refusal
@@ -225,22 +225,22 @@ no_lexical variants.End = refl
 no_lexical _ = refl
 
 pub row_in_movetext : (p : Profile) (part : Part) (k : TokenKind) → part.stage ≡ InMovetext → refusal p part (kind_of k) ≡ text_refusal p part (kind_of k)
-row_in_movetext p part k at = at_the_stage (λ q. refusal p q (kind_of k) ≡ text_refusal p part (kind_of k)) part InMovetext at (text_row p part (kind_of k) (no_lexical k))
+row_in_movetext p part k at = at_the_stage (λ q. refusal p q (kind_of k) ≡ text_refusal p part (kind_of k)) part _ at (text_row p part _ (no_lexical k))
 
 pub next_in_movetext : (part : Part) (k : TokenKind) → part.stage ≡ InMovetext → next part (kind_of k) ≡ in_text part (kind_of k)
-next_in_movetext part k at = at_the_stage (λ q. next q (kind_of k) ≡ in_text part (kind_of k)) part InMovetext at refl
+next_in_movetext part k at = at_the_stage (λ q. next q (kind_of k) ≡ in_text part (kind_of k)) part _ at refl
 
 pub row_after_tags : (p : Profile) (part : Part) (k : TokenKind) → part.stage ≡ AfterTags → IsTrue (is_textual (kind_of k)) → lacks_fen part.pairs ≡ false
     → refusal p part (kind_of k) ≡ text_refusal p part (kind_of k)
 row_after_tags p part k at is free =
-    at_the_stage (λ q. refusal p q (kind_of k) ≡ text_refusal p part (kind_of k)) part AfterTags at
-    (after_tags p part (kind_of k) is ∙ pass (lacks_fen part.pairs) SetUpWithoutFen _ free
-    ∙ text_row p part (kind_of k) (no_lexical k))
+    at_the_stage (λ q. refusal p q (kind_of k) ≡ text_refusal p part (kind_of k)) part _ at
+    (after_tags p part _ is ∙ pass _ _ _ free
+    ∙ text_row p part _ (no_lexical k))
 
 pub next_after_tags : (part : Part) (k : TokenKind) → part.stage ≡ AfterTags → IsTrue (is_textual (kind_of k)) → next part (kind_of k) ≡ in_text part (kind_of k)
 next_after_tags part k at is =
-    at_the_stage (λ q. next q (kind_of k) ≡ in_text part (kind_of k)) part AfterTags at
-    (leads_after_tags part (kind_of k) is)
+    at_the_stage (λ q. next q (kind_of k) ≡ in_text part (kind_of k)) part _ at
+    (leads_after_tags part _ is)
 
 -- a comment between games and the end there change nothing
 pub passes_between : (p : Profile) (part : Part) (k : TokenKind) → part.stage ≡ Between → (is_comment (kind_of k) || is_end (kind_of k)) ≡ true
@@ -269,14 +269,14 @@ begins_alike p _ comment over = (refl, refl)
 -- the end after the pairs of a game
 pub end_after_tags : (p : Profile) (part : Part) → part.stage ≡ AfterTags → refusal p part tokens.end ≡ Some UnexpectedEnd
 unfolding refusal
-end_after_tags p part at = at_the_stage (λ q. refusal p q tokens.end ≡ Some UnexpectedEnd) part AfterTags at refl
+end_after_tags p part at = at_the_stage (λ q. refusal p q tokens.end ≡ Some UnexpectedEnd) part _ at refl
 
 -- a token after the pairs of a game whose SetUp asks for a FEN
 pub refuses_set_up : (p : Profile) (part : Part) (k : TokenKind) → part.stage ≡ AfterTags → IsTrue (is_textual (kind_of k)) → lacks_fen part.pairs ≡ true
     → refusal p part (kind_of k) ≡ Some SetUpWithoutFen
 refuses_set_up p part k at is lacks =
-    at_the_stage (λ q. refusal p q (kind_of k) ≡ Some SetUpWithoutFen) part AfterTags at
-    (after_tags p part (kind_of k) is ∙ hit _ SetUpWithoutFen _ lacks)
+    at_the_stage (λ q. refusal p q (kind_of k) ≡ Some SetUpWithoutFen) part _ at
+    (after_tags p part _ is ∙ hit _ _ _ lacks)
 
 -- What a symbol is rejected for, by what it is: a number, a score, what it comes to as a move,
 -- whether the numbers are at their limit, the depth, and whether it differs from the Result.

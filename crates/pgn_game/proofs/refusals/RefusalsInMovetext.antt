@@ -1,5 +1,5 @@
 -- What the tokens of movetext are rejected for, and where they lead, for a part that is open.
-use Rattle.pgn_game.proofs.Words.{◌≡◌, subst, IsFalse, ℕ, Bool, true, false, ◌&&◌, ◌||◌, not, List, [], ◌∷◌, length, nat_le, Option, None, Some, Bor, refl, sym, ap, ◌∙◌, arith, is_some, ◌==◌, Result, Ok, Err, bytes_eq, codes, unwrap_or, length-map, or_right, or_from, option_copied, NoMove, Ambiguous, Kind, asterisk, symbol, Parts, Played, SanFault, Reason, NotAMove, IllegalMove, AmbiguousMove, MoveLimit, MarkerInVariation, ResultDiffers, Profile, Missing, Pair, value_of, Part, move_of, Level as ModelLevel, depth, start_of, replayed, without_last, marker_of, is_number, is_score, is_at_limit, levels_of_part, position_in, result_for, Next, going, whole, in_text, move_item, items_of, StoredLevels, before_last, stored_level, ReaderState, is_outside_the_table, IsOpen, game_of, or_else, text_refusal, with_items}
+use Rattle.pgn_game.proofs.Words.{◌≡◌, IsFalse, ℕ, Bool, true, false, ◌&&◌, ◌||◌, not, List, [], ◌∷◌, length, nat_le, Option, None, Some, Bor, refl, sym, ap, ◌∙◌, arith, is_some, ◌==◌, Result, Ok, Err, bytes_eq, codes, unwrap_or, length-map, or_right, or_from, option_copied, NoMove, Ambiguous, Kind, asterisk, symbol, Parts, Played, SanFault, Reason, NotAMove, IllegalMove, AmbiguousMove, MoveLimit, MarkerInVariation, ResultDiffers, Profile, Missing, Pair, value_of, Part, move_of, Level as ModelLevel, depth, start_of, replayed, without_last, marker_of, is_number, is_score, is_at_limit, levels_of_part, position_in, result_for, Next, going, whole, in_text, move_item, items_of, StoredLevels, before_last, stored_level, ReaderState, is_outside_the_table, IsOpen, game_of, or_else, text_refusal, with_items}
 use Rattle.pgn_game.specs.Game as games
 use Rattle.pgn_game.specs.FoundMove.{found_in}
 use Rattle.pgn_game.proofs.refusals.RefusalsByStage.{hit, pass, symbol_rows}
@@ -16,8 +16,7 @@ holds_is old part is =
 
 pub depth_is : (old : ReaderState) (part : Part) → IsOpen old part → length old.text.levels.around ≡ depth (levels_of_part part)
 depth_is old part is =
-    ap (λ (ls : StoredLevels). length ls.around) is.held.levels
-    ∙ length-map (levels_of_part part).around (stored_level (start_of part.pairs))
+    cc (length-map (levels_of_part part).around (stored_level (start_of part.pairs)))
 
 pub position_is : (old : ReaderState) (part : Part) → IsOpen old part → old.text.levels.present.present ≡ position_in part
 position_is old part is = ap (λ (ls : StoredLevels). ls.present.present) is.held.levels
@@ -66,7 +65,7 @@ move_rows p part s _ = refl
 
 pub move_refusal : (p : Profile) (part : Part) (s : List ℕ) → is_number s ≡ false → is_score s ≡ false → text_refusal p part (symbol s) ≡ refused_as (position_in part) (move_of (position_in part) s)
 move_refusal p part s number score =
-    symbol_refusal p part s false false (or_from (is_number s) (is_score s) number score) score ∙ move_rows p part s (move_of (position_in part) s)
+    symbol_refusal p part s false false (or_from _ _ number score) score ∙ move_rows p part s _
 
 abbrev one_move : Played → MoveReading
 one_move played = Some (Ok played)
@@ -75,50 +74,50 @@ abbrev limited : Bool → Played → Result Played Reason
 limited b one = elim b [ true ↦ Err MoveLimit | false ↦ Ok one ]
 
 found_free : (p : Parts) (r : MoveReading) (played : Played) → found_in p r ≡ Ok played → (refused_as p r ≡ None) × (r ≡ Some (Ok played))
-found_free p (Some (Ok one)) played e = by_limit (is_at_limit p) refl
+found_free p (Some (Ok one)) played e = by_limit _ refl
   where
     by_limit : (b : Bool) → is_at_limit p ≡ b → (refused_as p (one_move one) ≡ None) × (one_move one ≡ one_move played)
-    by_limit true is = let h : limited true one ≡ Ok played = sym (ap (λ (b : Bool). limited b one) is) ∙ e in absurd (cc)
+    by_limit true is = let h : limited true one ≡ Ok played = cc in absurd (cc)
     by_limit false is =
-        let h : limited false one ≡ Ok played = sym (ap (λ (b : Bool). limited b one) is) ∙ e in
+        let h : limited false one ≡ Ok played = cc in
         let k : one ≡ played = cc in
-        (pass (is_at_limit p) MoveLimit None is, ap one_move k)
+        (pass _ _ None is, ap one_move k)
 found_free p (Some (Err NoMove)) played e = absurd (cc)
 found_free p _ played e = absurd (cc)
 
 -- a reason of the table is the one that was met
 met : (known reason : Reason) → is_outside_the_table known ≡ false → known ≡ reason → (Some known ≡ Some reason) × (is_outside_the_table reason ≡ false)
-met known reason inside is = (ap Some is, subst (λ (r : Reason). is_outside_the_table r ≡ false) is inside)
+met known reason inside is = (ap Some is, rw is at inside)
 
 found_refused : (p : Parts) (r : MoveReading) (reason : Reason) → found_in p r ≡ Err reason → (refused_as p r ≡ Some reason) × (is_outside_the_table reason ≡ false)
-found_refused p None reason e = met NotAMove reason refl (cc)
-found_refused p (Some (Err NoMove)) reason e = met IllegalMove reason refl (cc)
-found_refused p (Some (Err Ambiguous)) reason e = met AmbiguousMove reason refl (cc)
-found_refused p (Some (Ok one)) reason e = by_limit (is_at_limit p) refl
+found_refused p None reason e = met _ reason refl (cc)
+found_refused p (Some (Err NoMove)) reason e = met _ reason refl (cc)
+found_refused p (Some (Err Ambiguous)) reason e = met _ reason refl (cc)
+found_refused p (Some (Ok one)) reason e = by_limit _ refl
   where
     by_limit : (b : Bool) → is_at_limit p ≡ b → (refused_as p (one_move one) ≡ Some reason) × (is_outside_the_table reason ≡ false)
     by_limit true is =
-        let h : limited true one ≡ Err reason = sym (ap (λ (b : Bool). limited b one) is) ∙ e in
+        let h : limited true one ≡ Err reason = cc in
         let limit = met MoveLimit reason refl (cc) in
-        (hit (is_at_limit p) MoveLimit None is ∙ limit.0, limit.1)
+        (hit _ _ None is ∙ limit.0, limit.1)
     by_limit false is =
-        let h : limited false one ≡ Err reason = sym (ap (λ (b : Bool). limited b one) is) ∙ e in
+        let h : limited false one ≡ Err reason = cc in
         absurd (cc)
 
 -- what was found at the reader's position was found at the part's
 found_at : (old : ReaderState) (part : Part) (s : List ℕ) (here : Parts) (r : Result Played Reason) → IsOpen old part → here ≡ old.text.levels.present.present → r ≡ found_in here (move_of here s)
     → found_in (position_in part) (move_of (position_in part) s) ≡ r
-found_at old part s here r is same found = sym (found ∙ ap (λ (p : Parts). found_in p (move_of p s)) (same ∙ position_is old part is))
+found_at old part s here r is same found = cc (position_is old part is)
 
 pub move_free : (old : ReaderState) (part : Part) (s : List ℕ) (here : Parts) (played : Played) → is_number s ≡ false → is_score s ≡ false → IsOpen old part → here ≡ old.text.levels.present.present
     → Ok played ≡ found_in here (move_of here s) → text_refusal old.profile part (symbol s) ≡ None
 move_free old part s here played number score is same found =
-    move_refusal old.profile part s number score ∙ (found_free (position_in part) (move_of (position_in part) s) played (found_at old part s here (Ok played) is same found)).0
+    move_refusal old.profile part s number score ∙ (found_free (position_in part) (move_of _ s) played (found_at old part s here _ is same found)).0
 
 pub move_refused : (old : ReaderState) (part : Part) (s : List ℕ) (here : Parts) (reason : Reason) → is_number s ≡ false → is_score s ≡ false → IsOpen old part → here ≡ old.text.levels.present.present
     → Err reason ≡ found_in here (move_of here s) → text_refusal old.profile part (symbol s) ≡ Some reason
 move_refused old part s here reason number score is same found =
-    move_refusal old.profile part s number score ∙ (found_refused (position_in part) (move_of (position_in part) s) reason (found_at old part s here (Err reason) is same found)).0
+    move_refusal old.profile part s number score ∙ (found_refused (position_in part) (move_of _ s) reason (found_at old part s here _ is same found)).0
 
 pub refused_inside : (here : Parts) (s : List ℕ) (reason : Reason) → Err reason ≡ found_in here (move_of here s) → IsFalse (is_outside_the_table reason)
 refused_inside here s reason found = (found_refused here (move_of here s) reason (sym found)).1
@@ -127,7 +126,7 @@ pub move_leads : (old : ReaderState) (part : Part) (s : List ℕ) (here : Parts)
     → Ok played ≡ found_in here (move_of here s) → in_text part (symbol s) ≡ going (with_items part (games.move played.mv ∷ []))
 move_leads old part s here played number score is same found =
     symbol_leads part s false false number score
-    ∙ ap (λ (r : MoveReading). going (with_items part (move_item r))) (found_free (position_in part) (move_of (position_in part) s) played (found_at old part s here (Ok played) is same found)).1
+    ∙ ap (λ (r : MoveReading). going (with_items part (move_item r))) (found_free (position_in part) _ played (found_at old part s here _ is same found)).1
 
 -- a number is not rejected, and adds no item
 number_rows : (p : Profile) (part : Part) (s : List ℕ) (r : MoveReading) → rows_for p part s true false r ≡ None
@@ -154,11 +153,11 @@ score_of s marker false e h = absurd (cc)
 
 symbol_marker : (p : Profile) (part : Part) (s marker : List ℕ) → marker_of (symbol s) ≡ Some marker → text_refusal p part (symbol s) ≡ marker_rows p part marker
 symbol_marker p part s marker is =
-    let h = score_of s marker (is_score s) refl is in
-    symbol_refusal p part s true true (or_right (is_number s) (is_score s) h.0) h.0 ∙ ap (λ (m : List ℕ). marker_rows p part m) h.1
+    let h = score_of s marker _ refl is in
+    cc (symbol_refusal p part s true true (or_right (is_number s) (is_score s) h.0) h.0)
 
 asterisk_marker : (p : Profile) (part : Part) (marker : List ℕ) → codes "*" ≡ marker → text_refusal p part asterisk ≡ marker_rows p part marker
-asterisk_marker p part marker e = ap (λ (m : List ℕ). marker_rows p part m) e
+asterisk_marker p part marker e = cc
 
 pub marker_refusal : (p : Profile) (part : Part) (k : Kind) (marker : List ℕ) → marker_of k ≡ Some marker → text_refusal p part k ≡ marker_rows p part marker
 marker_refusal p part asterisk marker is = let e : codes "*" ≡ marker = cc in asterisk_marker p part marker e
@@ -171,35 +170,30 @@ differs missing value marker = not (bytes_eq marker (unwrap_or value missing))
 
 other_is : (p : Profile) (ps : List Pair) (missing marker : List ℕ) → result_for p.missing_result marker ≡ missing
     → other_if p.missing_result ps (Some marker) ≡ differs missing (value_of ps (codes "Result")) marker
-other_is p ps missing marker known = ap (λ (result : List ℕ). differs result (value_of ps (codes "Result")) marker) known
+other_is p ps missing marker known = cc
 
 marker_tested : (p : Profile) (part : Part) (missing marker : List ℕ) (inside other : Bool) → nat_le 1 (depth (levels_of_part part)) ≡ inside → result_for p.missing_result marker ≡ missing
     → differs missing (value_of part.pairs (codes "Result")) marker ≡ other
     → marker_rows p part marker ≡ or_else inside MarkerInVariation (or_else (other && (depth (levels_of_part part) == 0)) ResultDiffers None)
 marker_tested p part missing marker inside other within known test =
-    ap (λ (b : Bool). or_else b MarkerInVariation (or_else (other_if p.missing_result part.pairs (Some marker) && (depth (levels_of_part part) == 0)) ResultDiffers None)) within
-    ∙ ap (λ (b : Bool). or_else inside MarkerInVariation (or_else (b && (depth (levels_of_part part) == 0)) ResultDiffers None)) (other_is p part.pairs missing marker known ∙ test)
+    cc (other_is p part.pairs missing marker known)
 
 pub marker_inside : (old : ReaderState) (k : Kind) (marker : List ℕ) (part : Part) → marker_of k ≡ Some marker → nat_le 1 (depth (levels_of_part part)) ≡ true
     → text_refusal old.profile part k ≡ Some MarkerInVariation
-marker_inside old k marker part is within = marker_refusal old.profile part k marker is ∙ hit _ MarkerInVariation _ within
+marker_inside old k marker part is within = marker_refusal old.profile part k marker is ∙ hit _ _ _ within
 
 pub marker_differs : (old : ReaderState) (k : Kind) (missing marker : List ℕ) (part : Part) → marker_of k ≡ Some marker → depth (levels_of_part part) ≡ 0
     → result_for old.profile.missing_result marker ≡ missing → differs missing (value_of part.pairs (codes "Result")) marker ≡ true → text_refusal old.profile part k ≡ Some ResultDiffers
 marker_differs old k missing marker part is none known test =
-    marker_refusal old.profile part k marker is ∙ marker_tested old.profile part missing marker false true (ap (λ n. nat_le 1 n) none) known test
-    ∙ ap (λ n. or_else (n == 0) ResultDiffers None) none
+    cc (marker_refusal old.profile part k marker is, marker_tested old.profile part missing marker false true (ap (λ n. nat_le 1 n) none) known test)
 
 pub marker_free : (old : ReaderState) (k : Kind) (missing marker : List ℕ) (part : Part) → marker_of k ≡ Some marker → depth (levels_of_part part) ≡ 0
     → result_for old.profile.missing_result marker ≡ missing → differs missing (value_of part.pairs (codes "Result")) marker ≡ false → text_refusal old.profile part k ≡ None
 marker_free old k missing marker part is none known test =
-    marker_refusal old.profile part k marker is ∙ marker_tested old.profile part missing marker false false (ap (λ n. nat_le 1 n) none) known test
-
-abbrev leads_to : Part → Kind → Option (List ℕ) → Next
-leads_to part k o = elim o [ Some m ↦ whole (game_of part m) | None ↦ going (with_items part (items_of part k)) ]
+    marker_refusal old.profile part k marker is ∙ marker_tested old.profile part missing marker false false (ap (nat_le 1) none) known test
 
 pub marker_whole : (part : Part) (k : Kind) (marker : List ℕ) → marker_of k ≡ Some marker → in_text part k ≡ whole (game_of part marker)
-marker_whole part k marker is = ap (leads_to part k) is
+marker_whole part k marker is = cc
 
 -- the test of a reader that has the text of a missing Result
 unwrap_copied : (o : Option (Bor (List ℕ))) (d : Bor (List ℕ)) → (unwrap_or o d).now ≡ unwrap_or (option_copied o) d.now
@@ -210,10 +204,7 @@ pub test_of : (held : List Pair) (value : Option (Bor (List ℕ))) (d known : Bo
     → option_copied value ≡ value_of held (codes "Result") → d.now ≡ missing → known ≡ unwrap_or value d → test ≡ not (bytes_eq marker known.now)
     → differs missing (value_of tags (codes "Result")) marker ≡ test
 test_of held value d known missing marker test tags same found text is tested =
-    sym (
-    tested ∙ ap (λ (n : List ℕ). not (bytes_eq marker n)) (ap (λ (x : Bor (List ℕ)). x.now) is ∙ unwrap_copied value d ∙ ap (unwrap_or (option_copied value)) text)
-    ∙ ap (λ (o : Option (List ℕ)). differs missing o marker) (found ∙ ap (λ (ps : List Pair). value_of ps (codes "Result")) same)
-    )
+    cc (unwrap_copied value d)
 
 pub none_around : {A : Type 0} (ls : List A) → length ls ≡ 0 → ls ≡ []
 none_around [] e = refl

@@ -1,5 +1,5 @@
 -- Each text can be cut.
-use Rattle.pgn_lexer.proofs.Words.{◌≡◌, ℕ, zero, suc, ◌+◌, ◌<◌, ◌≤◌, Bool, true, false, inl, inr, List, [], ◌∷◌, ◌++◌, length, refl, sym, ap, subst, ◌∙◌, append_assoc, arith, length-append, ◌||◌, ◌&&◌, ◌⊎◌, not, nat_le, nat_lt, ◌==◌, if◌then◌else◌, list_all, both_true, eqb-true, leb-true, leb-false, ltb-true, ltb-false, false≢true, agree_below_at, LexReason, StrayByte, ControlByte, Reserved, Class, CommentClass, StringClass, is_line_end, is_blank, is_control, is_digit, starts_symbol, continues_symbol, is_suffix, continues_word, Kind, Token, class, comment_class, string_class, number_of, tokens_from, tokens_of, has_mark, LexesOnce, StopsAt, IsAtLineEnd, IsRun, is_escaped, is_barred, is_plain, Data, IsSuffix, SpellsToken, Refuses, Where, Cuts, Lexes, or_cases, and_parts, or_right, or_left}
+use Rattle.pgn_lexer.proofs.Words.{◌≡◌, ℕ, zero, suc, ◌+◌, ◌<◌, ◌≤◌, Bool, true, false, inl, inr, List, [], ◌∷◌, ◌++◌, length, refl, sym, ap, subst, ◌∙◌, append_assoc, arith, length-append, ◌||◌, ◌&&◌, ◌⊎◌, not, nat_le, nat_lt, ◌==◌, if◌then◌else◌, list_all, both_true, eqb-true, leb-true, leb-false, ltb-true, ltb-false, false≢true, agree_below_at, LexReason, StrayByte, ControlByte, Reserved, Class, CommentClass, StringClass, is_line_end, is_blank, is_control, is_digit, starts_symbol, continues_symbol, is_suffix, continues_word, Kind, Token, class, comment_class, string_class, number_of, tokens_from, tokens_of, has_mark, LexesOnce, StopsAt, IsAtLineEnd, is_escaped, is_barred, is_plain, Data, IsSuffix, SpellsToken, Refuses, Where, Cuts, Lexes, or_cases, and_parts, or_right, or_left}
 use Rattle.pgn_lexer.specs.declared.class.Single.TheVariants as singles
 use Rattle.pgn_lexer.specs.declared.class.Class.TheVariants as classes
 use Rattle.pgn_lexer.specs.declared.class.CommentClass.TheVariants as comments

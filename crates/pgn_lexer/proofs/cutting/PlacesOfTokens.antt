@@ -1,5 +1,5 @@
 -- Where tokens stand.
-use Rattle.pgn_lexer.proofs.Words.{◌≡◌, ℕ, ◌+◌, ◌<◌, ◌≤◌, inl, inr, Bool, true, false, cond, List, [], ◌∷◌, ◌++◌, length, refl, ap, ◌∙◌, arith, take_while, nat_lt, drop, nat_le, ◌==◌, if◌then◌else◌, AllByRecursion, lt-ltb, le-ltb, Single, Class, CommentClass, StringClass, SymbolTooLong, StringTooLong, WordTooLong, GlyphRange, UnclosedString, ControlByte, LexReason, is_digit, continues_symbol, is_suffix, continues_word, Kind, Token, symbol, glyph, word, IsLast, RisesTo, TokensRise, kind_of_single, class, comment_class, string_class, Found, gives, stops, Reading, closed, broken, datum, reading, symbol_at, word_at, glyph_at, numbered_at, suffix_at, string_at, number_of, Within, begins_class, begins_first, begins_after, begins_word, begins_brace, begins_line, begins, next, onto, at_end, tokens_from, take_while-cons}
+use Rattle.pgn_lexer.proofs.Words.{◌≡◌, ℕ, ◌+◌, ◌<◌, ◌≤◌, inl, inr, Bool, true, false, cond, List, [], ◌∷◌, ◌++◌, refl, ap, ◌∙◌, arith, take_while, nat_lt, drop, if◌then◌else◌, AllByRecursion, lt-ltb, le-ltb, Single, Class, CommentClass, StringClass, StringTooLong, UnclosedString, ControlByte, LexReason, Kind, Token, glyph, IsLast, RisesTo, TokensRise, kind_of_single, string_class, Found, gives, stops, Reading, closed, broken, datum, reading, glyph_at, suffix_at, string_at, Within, begins_class, begins_first, begins_after, begins_word, begins_brace, begins_line, begins, next, onto, at_end, tokens_from, take_while-cons}
 use Rattle.pgn_lexer.specs.declared.class.Single.TheVariants as singles
 use Rattle.pgn_lexer.specs.declared.class.Class.TheVariants as classes
 use Rattle.pgn_lexer.specs.declared.class.CommentClass.TheVariants as comments

@@ -1,5 +1,5 @@
 -- How a text is cut, and its tokens.
-use Rattle.pgn_lexer.proofs.Words.{◌≡◌, ℕ, ◌+◌, ◌<◌, ◌≤◌, Bool, true, false, inl, inr, List, [], ◌∷◌, ◌++◌, length, refl, sym, ap, ◌∙◌, append-nil, append_assoc, arith, length-append, ◌||◌, ◌⊎◌, not, take_while, if◌then◌else◌, list_all, false≢true, LexReason, ControlByte, BadSuffix, Class, CommentClass, is_line_end, is_blank, is_space, is_control, is_digit, starts_symbol, continues_symbol, is_suffix, continues_word, Kind, Token, class, comment_class, symbol_at, word_at, number_of, glyph_at, suffix_at, Within, begins_class, begins_brace, begins_line, after_class, after_brace, after_line, onto, tokens_from, tokens_of, StopsAt, IsRun, IsSingle, IsSuffix, SpellsToken, Refuses, Where, Cuts, both_true, string_at, reading, with_front, Data, or_cases, and_parts, not-true, not-false}
+use Rattle.pgn_lexer.proofs.Words.{◌≡◌, ℕ, ◌+◌, ◌<◌, ◌≤◌, Bool, true, false, inl, inr, List, [], ◌∷◌, ◌++◌, length, refl, sym, ap, ◌∙◌, append-nil, append_assoc, arith, length-append, ◌||◌, ◌⊎◌, not, take_while, if◌then◌else◌, list_all, false≢true, LexReason, ControlByte, BadSuffix, Class, CommentClass, is_line_end, is_blank, is_space, is_control, is_digit, starts_symbol, continues_symbol, is_suffix, continues_word, Kind, Token, class, comment_class, symbol_at, word_at, glyph_at, suffix_at, Within, begins_class, begins_brace, begins_line, after_class, after_brace, after_line, onto, tokens_from, StopsAt, IsRun, IsSingle, IsSuffix, SpellsToken, Refuses, Where, Cuts, both_true, string_at, reading, with_front, Data, or_cases, and_parts, not-true, not-false}
 use Rattle.pgn_lexer.specs.declared.class.Class.TheVariants as classes
 use Rattle.pgn_lexer.specs.declared.class.CommentClass.TheVariants as comments
 use Rattle.pgn_lexer.specs.Tokens as tokens

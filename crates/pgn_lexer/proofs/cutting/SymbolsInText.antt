@@ -1,5 +1,5 @@
 -- The bytes of a symbol stand in the text at its place, and so does an asterisk.
-use Rattle.pgn_lexer.proofs.Words.{◌≡◌, ℕ, ◌+◌, List, [], ◌∷◌, ◌++◌, length, drop, codes, refl, sym, ap, subst, ◌∙◌, append_assoc, length-append, arith, AllByRecursion, drop-append_seam, IsSingle, SpellsToken, Where, Cuts, Lexes, BeginsWithToken, SymbolsStandInText, Kind, Token, tokens_of}
+use Rattle.pgn_lexer.proofs.Words.{◌≡◌, ℕ, ◌+◌, List, [], ◌∷◌, ◌++◌, length, drop, codes, refl, sym, ap, subst, ◌∙◌, append_assoc, length-append, arith, AllByRecursion, drop-append_seam, IsSingle, SpellsToken, Where, Cuts, Lexes, BeginsWithToken, SymbolsStandInText, Kind, Token}
 use Rattle.pgn_lexer.specs.Lexes as rules
 use Rattle.pgn_lexer.proofs.cutting.EachTextIsCut.{lexes_once}
 

@@ -1,5 +1,5 @@
 -- The tokens behind a symbol or an asterisk, and those behind white space.
-use Rattle.pgn_lexer.proofs.Words.{◌≡◌, ℕ, zero, suc, ◌+◌, Bool, true, false, cond, ◌&&◌, List, [], ◌∷◌, ◌++◌, length, refl, sym, ap, ◌∙◌, arith, append_assoc, subst, length-append, take_while, drop, nat_le, replicate, None, ◌==◌, if◌then◌else◌, length-replicate, take_while-cons, Class, Single, CommentClass, SymbolTooLong, is_digit, continues_symbol, is_suffix, continues_word, Kind, Token, EndsAt, symbol, glyph, LineStart, Outside, PartialToken, coming, StandsAfter, CanBeMarker, TextsRestart, class, comment_class, Found, gives, stops, closed, broken, Reading, kind_of_single, symbol_at, string_at, glyph_at, suffix_at, reading, number_of, Within, after_class, after_run, begins_class, begins_first, begins_after, begins_word, begins_brace, begins_line, begins, next, onto, at_end, tokens_from, tokens_of, has_mark}
+use Rattle.pgn_lexer.proofs.Words.{◌≡◌, ℕ, zero, suc, ◌+◌, Bool, true, false, cond, ◌&&◌, List, [], ◌∷◌, ◌++◌, length, refl, sym, ap, ◌∙◌, arith, append_assoc, subst, length-append, take_while, drop, nat_le, replicate, None, ◌==◌, if◌then◌else◌, length-replicate, take_while-cons, Class, Single, CommentClass, SymbolTooLong, continues_symbol, Kind, Token, EndsAt, symbol, glyph, LineStart, Outside, PartialToken, coming, StandsAfter, CanBeMarker, TextsRestart, class, Found, gives, stops, closed, broken, Reading, kind_of_single, symbol_at, string_at, glyph_at, suffix_at, number_of, Within, after_class, after_run, begins_class, begins_first, begins_after, begins_word, begins_brace, begins_line, begins, next, onto, at_end, tokens_from, tokens_of, has_mark}
 use Rattle.pgn_lexer.specs.declared.class.Class.TheVariants as classes
 use Rattle.pgn_lexer.specs.declared.class.Single.TheVariants as singles
 use Rattle.pgn_lexer.specs.declared.class.CommentClass.TheVariants as comments

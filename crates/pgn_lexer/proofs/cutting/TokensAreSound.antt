@@ -1,5 +1,5 @@
 -- What the tokens that the rules cut are made of.
-use Rattle.pgn_lexer.proofs.Words.{◌≡◌, ℕ, ◌≤◌, Bool, true, false, not, inl, inr, List, ◌∷◌, refl, arith, ◌||◌, ◌⊎◌, map, ◌==◌, both_true, AllByRecursion, list_all, eqb-true, false≢true, starts_symbol, continues_symbol, is_escaped, is_barred, Data, IsSingle, IsSuffix, SpellsToken, Where, Cuts, Lexes, TokensAreSound, IsSoundKind, CommentsClose, AreSoundTokens, Kind, Token, tokens_of, or_cases}
+use Rattle.pgn_lexer.proofs.Words.{◌≡◌, ℕ, ◌≤◌, Bool, true, false, not, inl, inr, List, ◌∷◌, refl, arith, ◌||◌, ◌⊎◌, map, ◌==◌, both_true, AllByRecursion, list_all, eqb-true, false≢true, starts_symbol, continues_symbol, is_escaped, is_barred, Data, IsSingle, IsSuffix, SpellsToken, Where, Cuts, Lexes, TokensAreSound, IsSoundKind, CommentsClose, AreSoundTokens, Kind, Token, or_cases}
 use Rattle.pgn_lexer.specs.Lexes as rules
 use Rattle.pgn_lexer.proofs.cutting.EachTextIsCut.{lexes_once}
 

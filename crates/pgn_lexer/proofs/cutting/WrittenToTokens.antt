@@ -1,5 +1,5 @@
 -- Written tokens, read back.
-use Rattle.pgn_lexer.proofs.Words.{◌≡◌, ℕ, ◌+◌, ◌≤◌, Bool, true, false, not, List, [], ◌∷◌, ◌++◌, length, refl, sym, ap, subst, ◌∙◌, arith, ◌||◌, ◌&&◌, map, ◌==◌, decimal, if◌then◌else◌, AllByRecursion, list_all, eqb-true, false≢true, is_line_end, is_space, is_digit, starts_symbol, continues_symbol, continues_word, PiecesAreReadBack, KindsAreReadBack, StopsAt, is_escaped, is_barred, is_plain, Data, SpellsToken, Where, Cuts, Lexes, IsSymbol, IsWord, CommentsClose, Kind, Token, has_mark, written, Piece, token, space, text_of_pieces, kinds_in, tokens_at, IsPiece, IsEndedBy, AreEnded, IsReadable, and_parts}
+use Rattle.pgn_lexer.proofs.Words.{◌≡◌, ℕ, ◌+◌, ◌≤◌, Bool, true, false, not, List, [], ◌∷◌, ◌++◌, length, refl, sym, ap, subst, ◌∙◌, arith, ◌||◌, ◌&&◌, map, ◌==◌, if◌then◌else◌, AllByRecursion, list_all, eqb-true, false≢true, is_space, is_digit, starts_symbol, continues_symbol, continues_word, PiecesAreReadBack, KindsAreReadBack, StopsAt, is_escaped, is_barred, is_plain, Data, SpellsToken, Where, Cuts, Lexes, IsSymbol, IsWord, CommentsClose, Kind, Token, has_mark, written, Piece, token, space, text_of_pieces, kinds_in, tokens_at, IsPiece, IsEndedBy, AreEnded, IsReadable, and_parts}
 use Rattle.pgn_lexer.specs.Lexes as rules
 use Rattle.pgn_lexer.specs.Tokens as tokens
 use Rattle.pgn_lexer.specs.Written.{escaped}

@@ -1,5 +1,5 @@
 -- The tokens given are those that are decided.
-use Rattle.pgn_lexer.proofs.Words.{◌≡◌, ℕ, ◌+◌, ◌*◌, ◌≤◌, Bool, true, false, List, [], ◌∷◌, ◌++◌, length, sym, ap, ◌∙◌, append-nil, arith, length-append, Option, None, Some, nat_le, if◌then◌else◌, SymbolTooLong, WordTooLong, GlyphRange, Mode, Kind, Token, symbol, str, glyph, word, comment_close, end, refused, gives, stops, symbol_at, word_at, numbered_at, onto, tokens_of, common, decided, PartialToken, IsSound, HasNotFailed, tokens_to_come, tokens_to_come_in}
+use Rattle.pgn_lexer.proofs.Words.{◌≡◌, ℕ, ◌+◌, ◌*◌, ◌≤◌, Bool, true, false, List, [], ◌∷◌, ◌++◌, length, sym, ap, ◌∙◌, append-nil, arith, length-append, Option, None, Some, if◌then◌else◌, SymbolTooLong, WordTooLong, GlyphRange, Mode, Kind, Token, symbol, glyph, word, end, refused, gives, stops, symbol_at, word_at, numbered_at, onto, tokens_of, common, decided, PartialToken, IsSound, HasNotFailed, tokens_to_come, tokens_to_come_in}
 use Rattle.pgn_lexer.specs.declared.partial_token.Mode.TheVariants as modes
 use Rattle.pgn_lexer.specs.declared.partial_token.SuffixRun.TheVariants as runs
 use Rattle.pgn_lexer.proofs.deciding.CommonTokens.{common-append, common-refl, head, common_heads, no_head}

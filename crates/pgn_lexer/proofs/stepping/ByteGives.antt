@@ -1,5 +1,5 @@
 -- Each byte, and the end of the text, gives the tokens that come.
-use Rattle.pgn_lexer.proofs.Words.{◌≡◌, ℕ, ◌+◌, ◌<◌, ◌≤◌, List, [], ◌∷◌, length, refl, sym, ap, subst, arith, nat_lt, nat_le, ◌==◌, ◌-◌, ◌*◌, Some, LexFault, Mode, TokenForm, is_line_end, is_digit, continues_symbol, is_suffix, HasLength, symbol, glyph, word, end, class, comment_class, string_class, symbol_at, word_at, suffix_at, in_glyph, onto, tokens_from, PartialToken, IsSound, HasNotFailed, tokens_to_come, kind_in, token_of, refusal, pending, spelling, fault_met, fault_in_mode, after_byte, after_byte_in, after_end, after_end_in, AfterByte, IsAfterEnd, glyph_of, reached_after}
+use Rattle.pgn_lexer.proofs.Words.{◌≡◌, ℕ, ◌<◌, ◌≤◌, List, [], ◌∷◌, length, refl, sym, ap, subst, arith, Some, LexFault, Mode, TokenForm, HasLength, symbol, glyph, word, end, symbol_at, word_at, suffix_at, in_glyph, onto, tokens_from, PartialToken, IsSound, HasNotFailed, tokens_to_come, kind_in, token_of, refusal, pending, spelling, fault_met, fault_in_mode, after_byte, after_byte_in, after_end, after_end_in, AfterByte, IsAfterEnd, reached_after}
 use Rattle.pgn_lexer.specs.declared.partial_token.Mode.TheVariants as modes
 use Rattle.pgn_lexer.specs.declared.partial_token.Reached.{Reached}
 use Rattle.pgn_lexer.specs.declared.partial_token.Reached.TheVariants as reached

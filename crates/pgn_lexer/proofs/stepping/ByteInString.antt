@@ -1,5 +1,5 @@
 -- A byte in a string.
-use Rattle.pgn_lexer.proofs.Words.{◌≡◌, ℕ, ◌+◌, ◌<◌, ◌≤◌, Bool, true, false, List, [], ◌∷◌, ◌++◌, length, refl, sym, ap, ◌∙◌, append-nil, append_assoc, arith, length-append, nat_lt, if◌then◌else◌, ltb-true, ControlByte, StringTooLong, UnclosedString, StringClass, Used, Token, str, string_class, Reading, closed, broken, datum, reading, string_at, quotes, after_quoted, onto, tokens_from, PartialToken, with_front, AfterByte, into, grown, fails}
+use Rattle.pgn_lexer.proofs.Words.{◌≡◌, ℕ, ◌+◌, ◌<◌, ◌≤◌, Bool, true, false, List, [], ◌∷◌, ◌++◌, length, refl, sym, ap, ◌∙◌, append-nil, append_assoc, arith, length-append, nat_lt, if◌then◌else◌, ltb-true, ControlByte, StringTooLong, UnclosedString, StringClass, Used, Token, str, string_class, Reading, closed, broken, datum, reading, string_at, quotes, after_quoted, onto, tokens_from, PartialToken, with_front, into, grown, fails}
 use Rattle.pgn_lexer.specs.declared.class.StringClass.TheVariants as strings
 use Rattle.pgn_lexer.specs.declared.partial_token.Mode.TheVariants as modes
 use Rattle.pgn_lexer.specs.ByteResult as after

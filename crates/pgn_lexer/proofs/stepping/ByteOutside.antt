@@ -1,5 +1,5 @@
 -- A byte outside strings and comments.
-use Rattle.pgn_lexer.proofs.Words.{◌≡◌, ℕ, ◌+◌, ◌≤◌, Bool, true, false, List, [], ◌∷◌, ◌++◌, length, refl, sym, ap, arith, take_while, ◌==◌, if◌then◌else◌, Single, Class, is_suffix, Token, EndsAt, HasLength, glyph, is_run, kind_of_single, Reading, closed, broken, gives, reading, suffix_at, string_at, begins_class, begins_first, after_class, after_first, in_suffix, quotes, onto, tokens_from, PartialToken, spelling, with_front, begin, begin_line}
+use Rattle.pgn_lexer.proofs.Words.{◌≡◌, ℕ, ◌+◌, ◌≤◌, Bool, true, false, List, [], ◌∷◌, ◌++◌, length, refl, sym, ap, arith, ◌==◌, if◌then◌else◌, Single, Class, Token, EndsAt, HasLength, glyph, is_run, kind_of_single, Reading, closed, broken, gives, suffix_at, string_at, begins_class, begins_first, after_class, after_first, in_suffix, quotes, onto, tokens_from, PartialToken, spelling, with_front, begin, begin_line}
 use Rattle.pgn_lexer.specs.declared.class.Single.TheVariants as singles
 use Rattle.pgn_lexer.specs.declared.class.Class.TheVariants as classes
 use Rattle.pgn_lexer.specs.declared.partial_token.SuffixRun.TheVariants as runs

@@ -1,5 +1,5 @@
 -- The end of the text gives what is left.
-use Rattle.pgn_lexer.proofs.Words.{◌≡◌, ℕ, ◌<◌, List, [], ◌∷◌, ◌++◌, refl, sym, ap, subst, ◌∙◌, append_assoc, None, LexFault, TokenForm, Token, end, PartialToken, tokens_to_come, token_of, kind_in, fault_met, Scanned, fault, Standing, coming, waiting, fault_in_mode, FinishGivesToken, IsNext, HasLeft, Finishes}
+use Rattle.pgn_lexer.proofs.Words.{◌≡◌, ℕ, ◌<◌, List, [], ◌∷◌, ◌++◌, refl, sym, ap, subst, ◌∙◌, append_assoc, None, LexFault, TokenForm, Token, end, PartialToken, kind_in, fault_met, Scanned, fault, Standing, coming, waiting, fault_in_mode, FinishGivesToken, IsNext, HasLeft, Finishes}
 use Rattle.pgn_lexer.specs.declared.class.Single.TheVariants as singles
 use Rattle.pgn_lexer.specs.declared.partial_token.TokenForm.TheVariants as forms
 use Rattle.pgn_lexer.specs.Scanned.{token}

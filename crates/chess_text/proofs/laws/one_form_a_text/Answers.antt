@@ -1,4 +1,4 @@
-use Rattle.chess_text.proofs.Words.{◌≡◌, sym, ◌∙◌, Some, same_Some}
+use Rattle.chess_text.proofs.Words.{sym, ◌∙◌, same_Some}
 use Rattle.chess_text.proofs.forms.SpellingToForm.{form_read}
 use Rattle.chess_text.proofs.laws.one_form_a_text.Goals as goal
 

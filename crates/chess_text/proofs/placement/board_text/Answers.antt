@@ -1,4 +1,4 @@
-use Rattle.chess_text.proofs.Words.{◌≡◌, ℕ, ◌+◌, ◌≤◌, List, [], ◌∷◌, ◌++◌, length, sym, ◌∙◌, ap, subst, arith}
+use Rattle.chess_text.proofs.Words.{ℕ, ◌+◌, ◌≤◌, List, ◌++◌, length, sym, ◌∙◌, ap, subst, arith}
 use Rattle.chess_text.proofs.positions.BytesOfRank.{when_ok}
 use Rattle.chess_text.proofs.positions.BoardToText.{WrittenTo, next_rank, last_rank_written}
 use Rattle.chess_text.proofs.placement.board_text.Goals as goal

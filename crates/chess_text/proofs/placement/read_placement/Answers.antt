@@ -1,6 +1,6 @@
-use Rattle.chess_text.proofs.Words.{◌≡◌, ◌+◌, ◌-◌, ◌<◌, ◌++◌, length, take, drop, sym, ◌∙◌, ap, subst, arith, Board}
+use Rattle.chess_text.proofs.Words.{◌+◌, ◌-◌, ◌++◌, length, take, drop, sym, ◌∙◌, ap, subst, arith, Board}
 use Rattle.std.proofs.Common.{length-take}
-use Rattle.chess_text.proofs.positions.TextToBoard.{ReadSoFar, RankRead, ranks_left, goes_on, no_placement, too_many_ranks, rank_missing, rank_there, beyond, when_no_err, eight_cells}
+use Rattle.chess_text.proofs.positions.TextToBoard.{ReadSoFar, ranks_left, goes_on, no_placement, too_many_ranks, rank_missing, rank_there, beyond, when_no_err, eight_cells}
 use Rattle.chess_text.proofs.placement.read_placement.Goals as goal
 
 pub returns-in_default : goal.returns-in_default

@@ -1,5 +1,5 @@
-use Rattle.chess_text.proofs.Words.{◌≡◌, ℕ, List, [], ◌∷◌, length, sym, refl, ◌∙◌, ap, subst, arith, Option, None, Some, is_some, cons_option, ok_or, option_to_list, IsPermutation, and_parts, IsPermutation-refl, length_permutation, Kind, Promotion, Parts, Square, candidates, lone, CandidatesComplete, is_legal, Man, Played, NoMove, move_from, move_of_form, only, piece_move_fits, played}
-use Rattle.chess_text.proofs.forms.MoveKept.{with_position, IsLegalIfAny, kept_is_some, kept_next, fitting_is_played, other_is_not_played}
+use Rattle.chess_text.proofs.Words.{◌≡◌, ℕ, List, [], ◌∷◌, length, sym, refl, ◌∙◌, ap, subst, arith, Option, None, Some, is_some, cons_option, ok_or, option_to_list, IsPermutation, and_parts, IsPermutation-refl, length_permutation, Kind, Promotion, Parts, Square, candidates, lone, CandidatesComplete, Man, Played, NoMove, move_from, move_of_form, only, piece_move_fits, played}
+use Rattle.chess_text.proofs.forms.MoveKept.{with_position, kept_is_some, kept_next, fitting_is_played, other_is_not_played}
 use Rattle.chess_text.proofs.forms.OnlyElement.{still_none, first_one, second_one, not_at_once, at_the_end}
 use Rattle.chess_text.proofs.forms.PieceForms.{candidates_own, from_square, reads_candidates, tried_at, tried_own}
 use Rattle.chess_text.proofs.resolution.resolve_piece_move.Goals as goal
@@ -34,7 +34,7 @@ returns-then-is_some-clause-answer c =
     let p = c.args.position.now in
     let xs = c.as_slice-origin-items.result.now in
     let perm = permuted _ _ xs c.as_slice-origin-items.ensures.value c.origins-origins.ensures.exactly in
-    let h = from_square p (Man _ _ _ _ _) c.args.to c.args.promotion in
+    let h = from_square p (Man c.args.kind c.args.hints.file c.args.hints.rank c.args.to c.args.promotion) c.args.to c.args.promotion in
     let m = move_from c.args.to c.args.promotion c.origin-item.result in
     let fits = piece_move_fits p c.args.hints.file c.args.hints.rank m in
     let tried =
@@ -49,7 +49,7 @@ returns-then-is_some-clause-answer c =
 pub returns-then-is_some-clause-two : goal.returns-then-is_some-clause-two
 returns-then-is_some-clause-two c _ =
     let p = c.args.position.now in
-    let h = from_square p (Man _ _ _ _ _) c.args.to c.args.promotion in
+    let h = from_square p (Man c.args.kind c.args.hints.file c.args.hints.rank c.args.to c.args.promotion) c.args.to c.args.promotion in
     let late =
     not_at_once h _ _ _ c.loop-origin.invariant.found
     (kept_is_some p c.loop-origin.found c.loop-origin.invariant.legal ∙ (sym c.is_some.ensures ∙ c.if-is_some.true)) in
@@ -67,8 +67,8 @@ loop-origin-preserved c =
     let p = c.args.position.now in
     let xs = c.as_slice-origin-items.result.now in
     let perm = permuted _ _ xs c.as_slice-origin-items.ensures.value c.origins-origins.ensures.exactly in
-    let h = from_square p (Man _ _ _ _ _) c.args.to c.args.promotion in
-    let m = move_from _ _ _ in
+    let h = from_square p (Man c.args.kind c.args.hints.file c.args.hints.rank c.args.to c.args.promotion) c.args.to c.args.promotion in
+    let m = move_from c.args.to c.args.promotion c.origin-item.result in
     let fits = piece_move_fits p c.args.hints.file c.args.hints.rank m in
     let tried =
     tried_at p c.args.kind c.args.hints.file c.args.hints.rank c.args.to c.args.promotion xs perm c.loop-origin.origin-index c.origin-item.result (played fits p m) (omega arith) c.origin-item.is refl in
@@ -103,7 +103,7 @@ returns-in-None-clause-answer c =
     let p = c.args.position.now in
     let xs = c.as_slice-origin-items.result.now in
     let perm = permuted _ _ xs c.as_slice-origin-items.ensures.value c.origins-origins.ensures.exactly in
-    let h = from_square p (Man _ _ _ _ _) c.args.to c.args.promotion in
+    let h = from_square p (Man c.args.kind c.args.hints.file c.args.hints.rank c.args.to c.args.promotion) c.args.to c.args.promotion in
     ap (λ o. ok_or (with_position p o) NoMove) (sym c.in-None.is)
     ∙ (at_the_end h xs c.loop-origin.origin-index (with_position p c.loop-origin.found) c.loop-origin.invariant.found (omega (arith, c.loop-origin-test.false))
     ∙ reads_candidates p _ _ _ _ _ c.candidates_are_complete.ensures xs perm)
@@ -127,7 +127,7 @@ returns-in-Some-found-clause-answer c =
     let p = c.args.position.now in
     let xs = c.as_slice-origin-items.result.now in
     let perm = permuted _ _ xs c.as_slice-origin-items.ensures.value c.origins-origins.ensures.exactly in
-    let h = from_square p (Man _ _ _ _ _) c.args.to c.args.promotion in
+    let h = from_square p (Man c.args.kind c.args.hints.file c.args.hints.rank c.args.to c.args.promotion) c.args.to c.args.promotion in
     ap (λ o. ok_or (with_position p o) NoMove) (sym c.in-Some-found.is)
     ∙ (at_the_end h xs c.loop-origin.origin-index (with_position p c.loop-origin.found) c.loop-origin.invariant.found (omega (arith, c.loop-origin-test.false))
     ∙ reads_candidates p _ _ _ _ _ c.candidates_are_complete.ensures xs perm)
@@ -149,7 +149,7 @@ returns-in-Some-found-clause-most c =
 pub returns-in-Some-found-clause-some : goal.returns-in-Some-found-clause-some
 returns-in-Some-found-clause-some c =
     let p = c.args.position.now in
-    let h = from_square p (Man _ _ _ _ _) c.args.to c.args.promotion in
+    let h = from_square p (Man c.args.kind c.args.hints.file c.args.hints.rank c.args.to c.args.promotion) c.args.to c.args.promotion in
     let late =
     not_at_once h _ _ _ c.loop-origin.invariant.found
     (kept_is_some p c.loop-origin.found c.loop-origin.invariant.legal ∙ ap (λ o. is_some o) c.in-Some-found.is) in

@@ -1,4 +1,4 @@
-use Rattle.chess_text.proofs.Words.{◌≡◌, true, Some, sym, ◌∙◌, ap, subst, arith, Kind, King, Pawn, Piece, Move, Parts, at, own, disambiguation_pairs, kind_pairs, kind_text, piece_pairs, piece_text, unmarked}
+use Rattle.chess_text.proofs.Words.{◌≡◌, true, Some, sym, ◌∙◌, subst, arith, Kind, King, Pawn, Piece, Move, Parts, at, own, disambiguation_pairs, kind_pairs, kind_text, unmarked}
 use Rattle.chess_text.proofs.forms.MoverOfMove.{may_have_rivals, mover, mover_stands}
 use Rattle.chess_text.proofs.san.push_unmarked.Goals as goal
 

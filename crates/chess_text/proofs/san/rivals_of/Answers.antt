@@ -1,4 +1,4 @@
-use Rattle.chess_text.proofs.Words.{◌≡◌, ◌≤◌, Bool, true, List, length, take, ◌∙◌, sym, ap, subst, arith, ◌==◌, list_any, IsPermutation, length_permutation, Square, candidates, rivals}
+use Rattle.chess_text.proofs.Words.{◌≡◌, Bool, true, length, take, ◌∙◌, ap, arith, list_any, IsPermutation, length_permutation, Square, candidates, rivals}
 use Rattle.chess_text.proofs.names.LonePiece.{lone_candidate, no_rivals}
 use Rattle.chess_text.proofs.names.RivalsAreCandidates.{seen, found_more, all_found, rivals_seen}
 use Rattle.chess_text.proofs.san.rivals_of.Goals as goal
