@@ -20,7 +20,7 @@ pub(crate) enum StepKind {
     Plain,
     // A pawn takes the pawn beside it.
     EnPassant,
-    // The king goes two files, and the rook of the h file to the square that he crosses.
+    // The king goes two files, and the rook of the h file to the square that the king crosses.
     ShortCastling,
     // The same, with the rook of the a file.
     LongCastling,
@@ -88,7 +88,7 @@ fn promotion_fits(position: &Position, mv: &Move) -> bool
     (mv.to.rank() == rank_from(position.side(), 7)) == mv.promotion.is_some()
 }
 
-// The square of the pawn that is taken in passing.
+// The square of the pawn that is captured en passant.
 fn captured_pawn(mv: &Move) -> Square
     ensures { result ≡ spec.captured_pawn mv.now }
 {
@@ -105,7 +105,7 @@ pub(crate) fn is_target(target: Option<Square>, square: Square) -> bool
     }
 }
 
-// Whether a pawn of the side to move may take in passing. (FIDE Laws 3.7.3.1)
+// Whether a pawn of the side to move may capture en passant. (FIDE Laws 3.7.3.1)
 fn is_en_passant(position: &Position, mv: &Move) -> bool
     ensures { result ≡ spec.is_en_passant position.now mv.now }
 {
