@@ -1,4 +1,4 @@
-use Rattle.std.proofs.Common.{rules, ◌-◌, max, refl, ap, ◌∙◌, arith}
+use Rattle.std.proofs.Common.{◌-◌, max, refl, ap, ◌∙◌, arith}
 use Rattle.std.proofs.lemmas.Result.{err_from_is_err_and}
 use Rattle.pgn_layout.specs.Device.{device, one_more}
 use Rattle.pgn_game.specs.Checked.{checked_profile}
@@ -6,7 +6,6 @@ use Rattle.pgn_game.proofs.Words.{Fault}
 use Rattle.pgn_game.specs.Pass.{Pass}
 use Rattle.pgn_game.proofs.twice.FailuresOfSteps.{first_counts, no_write, second_counts, source_fails}
 use Rattle.pgn_game.proofs.twice.ReadingsToConversion.{both_end, both_more, both_none, first_stops, second_stops}
-use Rattle.pgn_game.proofs.ReaderFitsInMemory.{pass_alike, pass_fits_reader}
 use Rattle.pgn_game.proofs.checked.convert_checked.Goals as goal
 
 pub loop-mark-init : goal.loop-mark-init
@@ -87,24 +86,6 @@ returns-in_err-write_game-clause-counted g c =
     (device g.R.Source.left g.R.Source.failures c.args.second.now c.write_game.new.source) (device g.W.Sink.taken g.W.Sink.failures c.args.writer.now c.write_game.new.out) _ _
     (c.in_ok-mark.ensures.counted.0 ∙ so.first) so.second so.sink c.in_err-write_game.ensures.counted)
 
-pub new-ahead-requires : goal.new-ahead-requires
-new-ahead-requires g c = (search pass_alike, c.requires.levels)
-
-pub new-behind-requires : goal.new-behind-requires
-new-behind-requires g c = (search pass_alike, c.requires.levels)
-
-pub read_game-requires : goal.read_game-requires
-read_game-requires g c = (search pass_alike, c.loop-mark.invariant.first_going)
-
-pub write_game-requires : goal.write_game-requires
-write_game-requires g c = (search pass_alike, search rules)
-
-pub most_probes-requires : goal.most_probes-requires
-most_probes-requires g c = search pass_fits_reader
-
-pub totals-requires : goal.totals-requires
-totals-requires g c = (search pass_alike, (search rules, search rules))
-
 pub returns-in_err-mark-clause-counted : goal.returns-in_err-mark-clause-counted
 returns-in_err-mark-clause-counted g c =
     let so = c.loop-mark.invariant in
@@ -113,13 +94,3 @@ returns-in_err-mark-clause-counted g c =
     (first_counts c.in_err-mark.field-0.0.reason (device g.Q.Source.left g.Q.Source.failures c.args.first.now c.read_game.new.source)
     (device g.R.Source.left g.R.Source.failures c.args.second.now c.loop-mark.second) (device g.W.Sink.taken g.W.Sink.failures c.args.writer.now c.loop-mark.writer) _
     so.first so.second so.sink c.in_err-mark.ensures.counted)
-
-pub returns-in_default-clause-counted : goal.returns-in_default-clause-counted
-returns-in_default-clause-counted g c =
-    let so = c.loop-mark.invariant in
-    (c.in_ok-mark.ensures.counted.0 ∙ so.first, so.second, so.sink)
-
-pub loop-mark-smaller : goal.loop-mark-smaller
-loop-mark-smaller g c =
-    let goes_on = rw c.in-Some.is at c.in_ok-mark.ensures.going in
-    goes_on.fewer

@@ -1,4 +1,4 @@
-use Rattle.std.proofs.Common.{rules, None, false, ◌≡◌, refl, sym, ◌∙◌, arith}
+use Rattle.std.proofs.Common.{None, false, ◌≡◌, refl, sym, ◌∙◌}
 use Rattle.pgn_lexer.specs.Scanned.{kind_of}
 use Rattle.pgn_lexer.specs.Tokens.{Token}
 use Rattle.pgn_layout.specs.Device.{device}
@@ -7,7 +7,6 @@ use Rattle.pgn_game.specs.Pass.{marks_differ}
 use Rattle.pgn_game.proofs.pairs.ValuesByName.{no_value}
 use Rattle.pgn_game.proofs.twice.AcceptedToTaken.{fails, fails_at_end, fails_marks, one_game, taken_end, taken_game, taken_more}
 use Rattle.pgn_game.proofs.twice.FailuresOfSteps.{reader_counts}
-use Rattle.pgn_game.proofs.ReaderFitsInMemory.{reader_alike}
 use Rattle.pgn_game.proofs.checked.take_token.Goals as goal
 use Rattle.pgn_game.proofs.checked.take_token.Given.{Over}
 use Rattle.pgn_game.proofs.checked.take_token.Goals.{After-accept}
@@ -58,12 +57,6 @@ returns-else-is_some-clause-takes g c q part takes under agrees =
     taken_end q part c.args.told (t g b) c.args.reader.now c.accept.new.self _ _ takes under (differ g b) c.accept.ensures.profile accepts
     (no_value c.args.told (sym c.is_some.ensures ∙ c.if-is_some.false))
 
-pub accept-requires : goal.accept-requires
-accept-requires g c = (search reader_alike, (search rules, search rules))
-
-pub overflow_add-games : goal.overflow_add-games
-overflow_add-games g c = omega (arith, c.requires.few.1)
-
 pub returns-in-Ok-Finished-clause-games : goal.returns-in-Ok-Finished-clause-games
 returns-in-Ok-Finished-clause-games g c =
     let finished = rw c.in-Ok-Finished.field-0-is at c.in-Ok-Finished.ensures.finished in
@@ -74,19 +67,6 @@ returns-in-Ok-Finished-clause-end g c =
     let finished = rw c.in-Ok-Finished.field-0-is at c.in-Ok-Finished.ensures.finished in
     (one_game (kind_of c.args.kind) _ c.args.at c.args.games.now c.game_end.result refl finished.0 c.game_end.ensures).1
 
-pub returns-then-not-is_end-clause-end : goal.returns-then-not-is_end-clause-end
-returns-then-not-is_end-clause-end g c = sym c.is_end.ensures ∙ c.if-not-is_end.true
-
-pub returns-else-is_some-clause-end : goal.returns-else-is_some-clause-end
-returns-else-is_some-clause-end g c = sym c.is_end.ensures ∙ c.if-not-is_end.false
-
-pub returns-then-marks_differ-clause-counted : goal.returns-then-marks_differ-clause-counted
-returns-then-marks_differ-clause-counted g c = rw c.differs.ensures (refl, refl)
-
 pub returns-in-Err-clause-counted : goal.returns-in-Err-clause-counted
 returns-in-Err-clause-counted g c =
     reader_counts c.args.at c.in-Err.reason (device g.W.Sink.taken g.W.Sink.failures c.args.out.now c.accept.new.out) c.in-Err.ensures.counted
-
-pub returns-then-is_some-clause-counted : goal.returns-then-is_some-clause-counted
-returns-then-is_some-clause-counted g c =
-    rw c.differs-then-is_some.ensures (refl, c.in-Ok-More.ensures.counted)

@@ -1,4 +1,4 @@
-use Rattle.std.proofs.Common.{ℕ, true, length, refl, sym, ap, subst, ◌∙◌, arith}
+use Rattle.std.proofs.Common.{ℕ, true, length, sym, ap, subst, ◌∙◌, arith}
 use Rattle.pgn_game.specs.Pass.{HasGiven, IsGoing, Pass}
 use Rattle.pgn_game.proofs.twice.BytesOfReading.{ended_here, fails_too_long, fails_unread, filled_here}
 use Rattle.pgn_game.proofs.twice.CountsStaySmall.{keeps_filled, keeps_from}
@@ -50,9 +50,3 @@ returns-else-room-eq0-clause-keeps g c =
     keeps_from _ _ _ c.self.view_is
     (keeps_filled _ c.fill.new.self _ going (omega (arith, c.in-Ok-true.ensures.fits, c.bytes_to_read.ensures.room, c.if-room-eq0.false, c.count-at.ensures, going.room))
     (rw (ended, empty) (omega (arith, read.0))))
-
-pub returns-in-Err-clause-counted : goal.returns-in-Err-clause-counted
-returns-in-Err-clause-counted g c = (c.in-Err.ensures.counted, refl)
-
-pub overflow_sub-room : goal.overflow_sub-room
-overflow_sub-room g c = omega (arith, c.count-at.ensures, ap (λ (s : Pass). s.lexer.count) c.self.view_is, c.requires.going.room)

@@ -8,7 +8,6 @@ use Rattle.pgn_game.specs.MostTried.{MostTried, none}
 use Rattle.pgn_game.specs.ReaderState.{ReaderState, Agrees, whole_plies}
 use Rattle.pgn_game.specs.Checked.{checked_profile}
 use Rattle.pgn_game.specs.Pass.{reading_under}
-use Rattle.pgn_game.proofs.ReaderFitsInMemory.{pass_fits_reader}
 use Rattle.pgn_game.proofs.tokens.SoundAtStart.{few_waiting}
 use Rattle.pgn_game.proofs.checked.Pass.new.Goals as goal
 
@@ -37,9 +36,6 @@ returns-clause-given g c left =
       profile = ap (λ (r : ReaderState). r.profile) is;
     }
 
-pub new-reader-requires : goal.new-reader-requires
-new-reader-requires g c = (search pass_fits_reader, c.requires)
-
 pub returns-clause-going : goal.returns-clause-going
 returns-clause-going g c =
     let is = c.count_missing_result_as.ensures
@@ -51,6 +47,3 @@ returns-clause-going g c =
       few_plies = omega (arith, few, ap (λ (r : ReaderState). r.earlier_plies) is, ap (λ (r : ReaderState). r.text.plies) is);
       room = omega (arith, count, ap (length {A = ℕ}) c.new.ensures);
     }
-
-pub count_missing_result_as-requires : goal.count_missing_result_as-requires
-count_missing_result_as-requires g c = search pass_fits_reader

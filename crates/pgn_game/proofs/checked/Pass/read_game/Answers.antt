@@ -31,33 +31,17 @@ loop-mark-preserved g c =
           goes_more q c.args.told left_old _ _ given c.loop-mark.self c.step.new.self _ _ _ x (step q left_old x.tokens x.has_given);
     }
 
-pub loop-mark-smaller : goal.loop-mark-smaller
-loop-mark-smaller g c =
-    let keeps = rw c.in-More.is at c.in_ok-step.ensures.keeps in
-    keeps.fewer
-
 pub returns-in-Game-clause-reads : goal.returns-in-Game-clause-reads
 returns-in-Game-clause-reads g c q left_old given stands =
     let step = rw c.in-Game.is at c.in_ok-step.ensures.takes in
     let x = c.loop-mark.invariant.reads q left_old given stands in
     record { left = _; mid = _; now = _; so = x; last = step q left_old x.tokens x.has_given }
 
-pub returns-in-Game-clause-going : goal.returns-in-Game-clause-going
-returns-in-Game-clause-going g c =
-    let keeps = rw c.in-Game.is at c.in_ok-step.ensures.keeps in
-    record { going = keeps.going; fewer = omega (arith, c.loop-mark.invariant.fewer, keeps.fewer) }
-
-pub returns-in-Game-clause-counted : goal.returns-in-Game-clause-counted
-returns-in-Game-clause-counted g c = (c.in_ok-step.ensures.counted.0 ∙ c.loop-mark.invariant.source, c.in_ok-step.ensures.counted.1 ∙ c.loop-mark.invariant.sink)
-
 pub returns-in-End-clause-reads : goal.returns-in-End-clause-reads
 returns-in-End-clause-reads g c q left_old given stands =
     let step = rw c.in-End.is at c.in_ok-step.ensures.takes in
     let x = c.loop-mark.invariant.reads q left_old given stands in
     record { left = _; mid = _; now = _; so = x; last = step q left_old x.tokens x.has_given }
-
-pub returns-in-End-clause-counted : goal.returns-in-End-clause-counted
-returns-in-End-clause-counted g c = (c.in_ok-step.ensures.counted.0 ∙ c.loop-mark.invariant.source, c.in_ok-step.ensures.counted.1 ∙ c.loop-mark.invariant.sink)
 
 pub returns-in_err-step-clause-reads : goal.returns-in_err-step-clause-reads
 returns-in_err-step-clause-reads g c q left_old given stands =

@@ -1,4 +1,4 @@
-use Rattle.std.proofs.Common.{rules, ◌<◌, ℕ, length, inl, inr, refl, sym, ap, subst, ◌∙◌, length-drop, arith}
+use Rattle.std.proofs.Common.{rules, ◌<◌, ℕ, length, inl, inr, sym, ap, subst, ◌∙◌, length-drop, arith}
 use Rattle.std.proofs.KnownBytes.{Appends-nil}
 use Rattle.std.proofs.lemmas.Result.{err_from_is_err_and}
 use Rattle.pgn_lexer.specs.Scanned.{kind_of}
@@ -53,12 +53,6 @@ returns-in_err-fill-clause-counted g c =
 
 pub returns-then-is_empty-clause-takes : goal.returns-then-is_empty-clause-takes
 returns-then-is_empty-clause-takes g c q left_old given has = inl (c.in_ok-fill.ensures.fills q c.args.told left_old given has, Appends-nil _)
-
-pub returns-then-is_empty-clause-keeps : goal.returns-then-is_empty-clause-keeps
-returns-then-is_empty-clause-keeps g c = c.in_ok-fill.ensures.keeps
-
-pub returns-then-is_empty-clause-counted : goal.returns-then-is_empty-clause-counted
-returns-then-is_empty-clause-counted g c = (c.in_ok-fill.ensures.counted.0, refl)
 
 -- In the buffer.
 pub returns-in-NeedMore-outcome-clause-takes : goal.returns-in-NeedMore-outcome-clause-takes

@@ -1,7 +1,6 @@
 use Rattle.std.proofs.Common.{sym, subst}
-use Rattle.pgn_game.specs.Pass.{IsGoing, StandsBetween}
+use Rattle.pgn_game.specs.Pass.{StandsBetween}
 use Rattle.pgn_game.proofs.twice.StepsToGame.{tell, write_done}
-use Rattle.pgn_game.proofs.ReaderFitsInMemory.{pass_alike, pass_fits_reader}
 use Rattle.pgn_game.proofs.checked.Pass.write_game.Goals as goal
 
 pub returns-in-Ok-clause-writes : goal.returns-in-Ok-clause-writes
@@ -17,11 +16,3 @@ returns-in-Err-clause-writes g c q told left_old given stands =
       c.in-Err.ensures.reads q left_old given (tell q told left_old _ c.args.mark given _ _ c.count_missing_result_as.ensures here),
       c.changed.ensures,
     )
-
-pub count_missing_result_as-requires : goal.count_missing_result_as-requires
-count_missing_result_as-requires g c = search pass_fits_reader
-
-pub read_game-requires : goal.read_game-requires
-read_game-requires g c =
-    let going = subst IsGoing (sym c.self.view_is) c.requires.going in
-    (search pass_alike, record { few = going.few; few_plies = rw c.count_missing_result_as.ensures going.few_plies; room = going.room })

@@ -1,19 +1,12 @@
-use Rattle.std.proofs.Common.{◌≡◌, ◌+◌, ℕ, arith, refl, sym, ap, ◌∙◌}
+use Rattle.std.proofs.Common.{◌≡◌, ◌+◌, ℕ, refl, sym, ap, ◌∙◌}
 use Rattle.pgn_game.specs.ReaderState.{ReaderState, plies_behind}
 use Rattle.pgn_game.proofs.Words.{Stage, Between}
-use Rattle.pgn_game.proofs.ReaderFitsInMemory.{reader_alike}
 use Rattle.pgn_game.proofs.reader.Reader.whole_plies.Goals as goal
 
 -- in a game its own moves are not counted yet
 plies_elsewhere : (stage : Stage) (earlier plies : ℕ) → (stage ≡ Between → ⊥) → plies_behind stage earlier plies ≡ earlier
 plies_elsewhere Between earlier plies inside = absurd (inside refl)
 plies_elsewhere _ earlier plies inside = refl
-
-pub is_between-requires : goal.is_between-requires
-is_between-requires g c = search reader_alike
-
-pub overflow_add-result : goal.overflow_add-result
-overflow_add-result g c = omega (arith, c.plies.ensures, ap (λ (r : ReaderState). r.earlier_plies + r.text.plies) c.self.view_is, c.requires)
 
 pub returns-then-is_between : goal.returns-then-is_between
 returns-then-is_between g c =
