@@ -3,3 +3,4 @@ mod rows
 mod runs
 mod splitting
 mod NameToNumber
+mod Words

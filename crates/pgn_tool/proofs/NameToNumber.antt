@@ -1,14 +1,10 @@
 -- The name of a file gives its number back, and a log by names is one by numbers.
-use Rattle.std.proofs.Common.{◌≡◌, ℕ, ◌-◌, ◌^◌, ◌<◌, suc, zero, List, [], ◌∷◌, ◌++◌, length, take, drop, Option, None, Some, Result, refl, ap, ◌∙◌, length-append, arith}
-use Rattle.std.specs.Prelude.{codes, decimal}
+use Rattle.pgn_tool.proofs.Words.{◌≡◌, ℕ, ◌-◌, ◌^◌, ◌<◌, suc, zero, List, [], ◌∷◌, ◌++◌, length, take, drop, Option, None, Some, Result, refl, ap, ◌∙◌, length-append, arith, codes, decimal, map-append, SystemFault, added}
 use Rattle.std.specs.Str.Parse.{digits_value}
 use Rattle.std.proofs.lemmas.Fmt.{digits_value-decimal}
-use Rattle.std.proofs.lemmas.List.{map-append}
 use Rattle.std.proofs.lemmas.Str.Parse.{numerals_by_value, tells_digits}
 use lib.Seq.{take-append_seam}
-use Rattle.pgn_tool.specs.declared.machine.SystemFault.{SystemFault}
 use Rattle.pgn_tool.specs.FileName.{file_name, zeros_before}
-use Rattle.pgn_tool.specs.Files.{added}
 use Rattle.pgn_tool.specs.FileSystem.{NameStep, making, number_of, numbered, step_at, step_of}
 
 -- each byte is a zero

@@ -1,20 +1,16 @@
 -- Worked rows of inputs that are read twice.
 use Rattle.std.proofs.Common.{◌≡◌, ℕ, List, [], ◌++◌, None, refl}
 use Rattle.std.specs.Prelude.{codes, replicate, take}
-use Rattle.std.specs.Fmt.{digits}
-use Rattle.chess_rules.specs.Square.{squares}
-use Rattle.chess_text.specs.MoveOfForm.{agreeing}
 use Rattle.pgn_lexer.specs.TokensOf.{tokens_of}
 use Rattle.pgn_lexer.specs.Decided.{decided}
 use Rattle.pgn_game.specs.declared.mode.Mode.TheVariants.{Full, Reduced}
 use Rattle.pgn_game.specs.declared.reason.Reason.TheVariants.{ResultDiffers, IllegalMove, UnexpectedEnd, Changed}
 use Rattle.pgn_game.specs.Profile.{Profile}
-use Rattle.pgn_game.specs.Chess.{move_of, play, text_of_move, position_of, first_position}
 use Rattle.pgn_game.specs.FaultTable.{refusal}
 use Rattle.pgn_game.specs.TagSection.{roster}
 use Rattle.pgn_game.specs.Progress.{Verdict, totals, due, output}
 use Rattle.pgn_game.specs.Checked.{checked_profile, compared, written_by, checked_verdict, checked_output}
-use Rattle.worked_rows.proofs.WorkedRows.{counted, fault, head, unknown}
+use Rattle.worked_rows.proofs.WorkedRows.{counted, fault, head, unknown, of_moves}
 
 abbrev twice : Profile
 twice = checked_profile 64 32 Full
@@ -43,23 +39,23 @@ unfolding refusal roster
 keeps_a_result = (refl, refl)
 
 nothing_of_a_fault : Gives (codes "* 1. e4 e5 2. Ke3 *") (fault 14 IllegalMove) (head ++ codes "*\n\n")
-unfolding refusal roster move_of play text_of_move position_of first_position squares agreeing digits
+unfolding of_moves
 nothing_of_a_fault = (refl, refl)
 
 nothing_of_an_only_game : Gives (codes "1. e4 e5 2. Ke3 *") (fault 12 IllegalMove) []
-unfolding refusal roster move_of play text_of_move position_of first_position squares agreeing digits
+unfolding of_moves
 nothing_of_an_only_game = (refl, refl)
 
 first_ends_in_a_game : Gives (codes "1. e4") (fault 5 UnexpectedEnd) []
-unfolding refusal roster move_of play text_of_move position_of first_position squares agreeing digits
+unfolding of_moves
 first_ends_in_a_game = (refl, refl)
 
 second_ends_sooner : Gives_of twice (codes "1. e4 *") (codes "1. e4") (fault 5 Changed) head
-unfolding refusal roster move_of play text_of_move position_of first_position squares agreeing digits
+unfolding of_moves
 second_ends_sooner = (refl, refl)
 
 moves_may_differ : Gives_of twice (codes "1. e4 *") (codes "1. d4 *") (totals (record { games = 1; plies = 1 })) (head ++ codes "1. d4 *\n\n")
-unfolding refusal roster move_of play text_of_move position_of first_position squares agreeing digits
+unfolding of_moves
 moves_may_differ = (refl, refl)
 
 second_may_go_on : Gives_of twice (codes "*") (codes "* *") (counted 1) (head ++ codes "*\n\n")
@@ -84,7 +80,7 @@ a_game_fewer = (refl, refl)
 
 -- the torn text has the marker of `first` for a missing Result
 torn_with_the_marker_of_first : Gives_of twice (codes "e4 1-0") (codes "e4 e4 *") (fault 3 Changed) (head_of (codes "1-0"))
-unfolding refusal roster move_of play text_of_move position_of first_position squares agreeing digits
+unfolding of_moves
 torn_with_the_marker_of_first = (refl, refl)
 
 -- `first` is rejected at a later place than the one at which `second` differs
@@ -115,7 +111,7 @@ unfolding refusal roster
 first_stops_in_a_marker = (refl, refl, refl, refl)
 
 first_stops_in_a_game : FirstStops (codes "* e4 e") (codes "5 *") (head ++ codes "*\n\n")
-unfolding refusal roster move_of play text_of_move position_of first_position squares agreeing digits
+unfolding of_moves
 first_stops_in_a_game = (refl, refl, refl, refl)
 
 -- `first` is rejected at a token that `second` does not read
@@ -129,7 +125,7 @@ second_stops_between_games = (refl, refl, refl, refl)
 
 -- the current game is torn with the marker that `first` has for it
 second_stops_in_a_game : SecondStops (codes "* e4 e") (codes "5 1-0") (head ++ codes "*\n\n") (head_of (codes "1-0")) (codes "1. e4 e5 1-0\n\n")
-unfolding refusal roster move_of play text_of_move position_of first_position squares agreeing digits
+unfolding of_moves
 second_stops_in_a_game = (refl, refl, refl, refl)
 
 -- with a full line of movetext
@@ -142,10 +138,10 @@ second_stops_behind_a_line = (refl, refl, refl, refl)
 
 -- `first` is rejected in the game in which `second` stops, which is not written then
 second_stops_in_a_game_at_fault : SecondStops (codes "* e4 e") (codes "5 ]") (head ++ codes "*\n\n") [] []
-unfolding refusal roster move_of play text_of_move position_of first_position squares agreeing digits
+unfolding of_moves
 second_stops_in_a_game_at_fault = (refl, refl, refl, refl)
 
 -- at its first move, the tag section of a game is written
 written_at_a_move : written_by twice (compared twice (tokens_of (codes "e4 1-0")) (take 1 (tokens_of (codes "e4 1-0")))) ≡ head_of (codes "1-0")
-unfolding refusal roster move_of play text_of_move position_of first_position squares agreeing digits
+unfolding of_moves
 written_at_a_move = refl

@@ -7,12 +7,15 @@ use Rattle.pgn_game.specs.declared.mode.Mode.TheVariants.{Full, Reduced}
 use Rattle.pgn_game.specs.declared.reason.Reason.{Reason}
 use Rattle.pgn_game.specs.declared.reason.Reason.TheVariants.{Lexical, ExpectedName, BadTagName, DuplicateTag, TooManyTags, ExpectedValue, BadResult, TagLineTooLong, ExpectedBracket, ReducedFen, NotAMove, NoMoveBefore, ResultDiffers, UnexpectedEnd}
 use Rattle.pgn_game.specs.Profile.{Profile, counts_as, takes_the_marker}
-use Rattle.pgn_game.specs.Chess.{move_of}
+use Rattle.pgn_game.specs.Chess.{move_of, first_position, position_of, text_of_move, play}
 use Rattle.pgn_game.specs.FaultTable.{refusal, rows}
 use Rattle.pgn_game.specs.Reason.{number_of}
 use Rattle.pgn_game.specs.Game.{no_part}
 use Rattle.pgn_game.specs.TagSection.{roster}
 use Rattle.pgn_game.specs.Progress.{output, verdict, Verdict, refused, totals}
+use Rattle.std.specs.Fmt.{digits}
+use Rattle.chess_rules.specs.Square.{squares}
+use Rattle.chess_text.specs.MoveOfForm.{agreeing}
 
 abbrev pub plain : Profile
 plain = record { tags = 64; depth = 32; mode = Full; missing_result = counts_as (codes "*") }
@@ -35,6 +38,11 @@ checked = record { tags = 64; depth = 32; mode = Full; missing_result = takes_th
 -- a verdict and what is written
 abbrev pub Gives : Profile → List ℕ → Verdict → List ℕ → Type 0
 Gives p s v text = (verdict p s ≡ v) × (output p s ≡ text)
+
+-- what a row with moves opens
+unfoldable pub of_moves : ℕ
+unfolding refusal roster move_of play text_of_move position_of first_position squares agreeing digits
+of_moves = 0
 
 abbrev pub counted : ℕ → Verdict
 counted games = totals (record { games = games; plies = 0 })

@@ -29,7 +29,7 @@ full_lines_laid ts (u ∷ us) each more =
 last_line_laid : (ts us : List (List ℕ)) → All IsToken ts → All IsToken us → last_line (lines_of (ts ++ us)) ≡ (laid_from (last_line (lines_of ts)) (map Put us)).line
 last_line_laid ts [] each more = cc (append-nil ts)
 last_line_laid ts (u ∷ us) each more =
-    let first = All-append IsToken ts _ each (All-cons IsToken u [] (All-head IsToken u us more) (All-nil IsToken)) in
+    let first = All-append IsToken ts (u ∷ []) each (All-cons IsToken u [] (All-head IsToken u us more) (All-nil IsToken)) in
     cc (append_assoc ts (u ∷ []) us, last_line_laid (ts ++ u ∷ []) us first (All-tail IsToken u us more), last_line_put ts u each)
 
 -- One item more.

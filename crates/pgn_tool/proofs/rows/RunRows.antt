@@ -1,16 +1,7 @@
 -- Worked rows: what a job writes for a text, how it ends, and what is told.
-use Rattle.std.proofs.Common.{◌≡◌, ℕ, List, [], ◌++◌, refl}
-use Rattle.std.specs.Prelude.{codes}
-use Rattle.std.specs.Fmt.{digits}
-use Rattle.pgn_game.specs.declared.mode.Mode.TheVariants.{Full, Reduced}
-use Rattle.pgn_game.specs.declared.reason.Reason.TheVariants.{UnexpectedEnd}
-use Rattle.pgn_game.specs.FaultTable.{refusal}
-use Rattle.pgn_game.specs.TagSection.{roster}
-use Rattle.pgn_game.specs.Progress.{verdict}
+use Rattle.pgn_tool.proofs.Words.{◌≡◌, ℕ, List, [], ◌++◌, refl, codes, digits, Full, Reduced, UnexpectedEnd, refusal, roster, verdict, finished_game_line, Job, checking, counting_line, exporting, line, listing, profile_for, status_of, text_for}
 use Rattle.pgn_game.specs.Reason.{line_of}
 use Rattle.pgn_game.specs.Chess.{first_position}
-use Rattle.pgn_tool.specs.ListLines.{finished_game_line}
-use Rattle.pgn_tool.specs.TaskRun.{Job, checking, counting_line, exporting, line, listing, profile_for, status_of, text_for}
 
 -- the six roster lines before Result, with no value
 abbrev unknown : List ℕ

@@ -1,15 +1,5 @@
 -- Worked rows: the files that a split makes of a text.
-use Rattle.std.proofs.Common.{◌≡◌, ℕ, List, [], ◌∷◌, ◌++◌, Some, refl}
-use Rattle.std.specs.Prelude.{codes}
-use Rattle.std.specs.Fmt.{digits}
-use Rattle.pgn_lexer.specs.TokensOf.{tokens_of}
-use Rattle.pgn_game.specs.declared.reason.Reason.TheVariants.{UnmatchedClose}
-use Rattle.pgn_game.specs.FaultTable.{refusal}
-use Rattle.pgn_game.specs.TagSection.{roster}
-use Rattle.pgn_game.specs.Progress.{read}
-use Rattle.pgn_tool.specs.ListLines.{list_profile}
-use Rattle.pgn_tool.specs.Files.{FileStep, closed, made}
-use Rattle.pgn_tool.specs.SplitGames.{files_of}
+use Rattle.pgn_tool.proofs.Words.{◌≡◌, ℕ, List, [], ◌∷◌, ◌++◌, Some, refl, codes, digits, tokens_of, UnmatchedClose, refusal, roster, read, list_profile, FileStep, closed, made, files_of}
 
 -- the tag section of a game without tag pairs
 abbrev head : List ℕ

@@ -1,28 +1,11 @@
 -- Games listed one by one.
-use Rattle.std.proofs.Common.{◌≡◌, ℕ, ◌+◌, List, [], ◌∷◌, ◌++◌, length, take, Option, None, Some, IfSome, refl, sym, ap, subst, ◌∙◌, append-nil, append_assoc, length-append, arith}
-use Rattle.std.specs.Io.KnownBytes.{Appends, Consumes, IsAtEnd}
-use Rattle.std.proofs.KnownBytes.{Appends-trans, Consumes-trans, Consumes-nil}
-use Rattle.std.proofs.Math.Seq.{take-append-add}
-use Rattle.std.proofs.lemmas.List.{take-append-le}
-use Rattle.pgn_layout.specs.Device.{AppendsFront}
-use Rattle.pgn_lexer.specs.Tokens.{Token}
-use Rattle.pgn_lexer.specs.TokensOf.{tokens_of}
+use Rattle.pgn_tool.proofs.Words.{◌≡◌, ℕ, ◌+◌, List, [], ◌∷◌, ◌++◌, length, take, Option, None, Some, IfSome, refl, sym, ap, subst, ◌∙◌, append-nil, append_assoc, length-append, arith, Appends, Consumes, IsAtEnd, Appends-trans, Consumes-trans, Consumes-nil, take-append-add, take-append-le, AppendsFront, Token, tokens_of, Profile, WriteFault, InputTooLong, Fault, Game, Read, no_progress, read, FinishedGame, HasRead, finished_game_of, CountsDevices, Games, HaveRead, within, at_end, NextGame, NoGame, NextStops, ReadsNoGame, IsListed, ListsNoMore, ListStops, game_line, finished_game_line, line_just_finished, lines_from, list_profile, list_text, too_long, unread, ListedSoFar, Refused, Unwritten}
 use Rattle.pgn_lexer.specs.Standing.{coming}
 use Rattle.pgn_lexer.specs.Stands.{Follows, first}
-use Rattle.pgn_game.specs.Profile.{Profile}
-use Rattle.pgn_game.specs.declared.reason.Reason.TheVariants.{WriteFault, InputTooLong}
-use Rattle.pgn_game.specs.declared.reason.Fault.{Fault}
-use Rattle.pgn_game.specs.Game.{Game}
-use Rattle.pgn_game.specs.Progress.{Read, no_progress, read}
 use Rattle.pgn_game.specs.ConverterCalls as converter
-use Rattle.pgn_game.specs.ConverterCalls.{Converter, FinishedGame, HasRead, finished_game_of}
-use Rattle.pgn_game.specs.Conversion.{CountsDevices}
 use Rattle.pgn_game.specs.GamesCalls as calls
-use Rattle.pgn_game.specs.GamesCalls.{Games, HaveRead, within, at_end, NextGame, NoGame, NextStops, ReadsNoGame}
-use Rattle.pgn_tool.specs.ListLines.{CutsLine, IsListed, ListsNoMore, ListStops, game_line, finished_game_line, line_just_finished, lines_from, lines_of, list_profile, list_text, too_long, unread, unwritten}
-use Rattle.pgn_tool.specs.ListState.{ListedSoFar}
+use Rattle.pgn_tool.specs.ListLines.{lines_of, unwritten}
 use Rattle.pgn_tool.specs.ListLines as list_lines
-use Rattle.pgn_tool.specs.declared.list.Stopped.TheVariants.{Refused, Unwritten}
 use Rattle.pgn_tool.proofs.runs.TokensInTwoParts.{games_grow, read_stops}
 
 -- ---- lines

@@ -1,25 +1,9 @@
 -- A run that reads the same text twice has written a prefix of its output, whichever device fails.
-use Rattle.std.proofs.Common.{◌≡◌, ◌∙◌, ℕ, List, ◌++◌, length, take, Option, Some, IfSome, None, [], ap, append_assoc, append-nil, refl, subst, sym}
-use Rattle.std.proofs.Math.Seq.{take-append_seam}
-use Rattle.std.specs.Prelude.{Result, Ok, Err}
-use Rattle.std.specs.Io.KnownBytes.{Appends, Consumes}
-use Rattle.pgn_layout.specs.Device.{Device}
-use Rattle.pgn_lexer.specs.Tokens.{Token}
-use Rattle.pgn_lexer.specs.TokensOf.{tokens_of}
-use Rattle.pgn_lexer.specs.Decided.{decided}
+use Rattle.pgn_tool.proofs.Words.{◌≡◌, ◌∙◌, ℕ, List, ◌++◌, length, take, Option, Some, IfSome, None, [], ap, append_assoc, append-nil, refl, subst, sym, take-append_seam, Result, Ok, Err, Appends, Consumes, Device, Token, tokens_of, decided, Mode, Fault, Totals, Profile, takes_the_marker, Verdict, due, output, refused as is_refused, AreConverted, AreTotalled, IsTokenPrefix, TwoReadingsConvert, Decides, FirstStops, SecondStops, TwoReadingsFail, HasTaken, MatchesAllMarks, WriteStops, first_too_long, first_unread, second_too_long, second_unread, unwritten, EqualReadings, InterruptedReadings, HasFront, Gives, RunsTwice, WritesFront, profile_twice}
 use Rattle.pgn_lexer.specs.Laws.{DecidedIsPrefix}
-use Rattle.pgn_game.specs.declared.mode.Mode.{Mode}
-use Rattle.pgn_game.specs.declared.reason.Fault.{Fault}
-use Rattle.pgn_game.specs.declared.conversion.Totals.{Totals}
-use Rattle.pgn_game.specs.Profile.{Profile, takes_the_marker}
-use Rattle.pgn_game.specs.Progress.{Verdict, due, output, refused as is_refused}
 use Rattle.pgn_game.specs.Laws.{DueGrows, IsPrefix}
 use Rattle.pgn_game.specs.Checked.{compared, written_by}
-use Rattle.pgn_game.specs.CheckedConversion.{AreConverted, AreTotalled, IsTokenPrefix, TwoReadingsConvert, Decides, FirstStops, SecondStops, TwoReadingsFail, HasTaken, MatchesAllMarks, WriteStops}
-use Rattle.pgn_game.specs.CheckedConversion.{first_too_long, first_unread, refused, second_too_long, second_unread, unwritten}
-use Rattle.pgn_game.specs.EqualReadings.{EqualReadings, InterruptedReadings}
-use Rattle.pgn_tool.specs.TaskRun.{HasFront}
-use Rattle.pgn_tool.specs.CheckedRun.{Gives, RunsTwice, WritesFront, profile_twice}
+use Rattle.pgn_game.specs.CheckedConversion.{refused}
 
 front_is : (out : Device) (written whole : List ℕ) → IsPrefix written whole → HasTaken out written → HasFront out whole
 front_is out written whole prefix taken =

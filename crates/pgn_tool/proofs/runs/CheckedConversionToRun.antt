@@ -1,23 +1,6 @@
 -- What follows of a run from the conversion in it, of an input that is read twice.
-use Rattle.std.proofs.Common.{◌≡◌, ◌∙◌, ◌++◌, ℕ, ◌≤◌, List, Option, None, Some, IfSome, ◌⊎◌, inl, inr, ap, refl, subst, sym, arith}
-use Rattle.std.specs.Prelude.{Result, Ok, Err}
-use Rattle.std.specs.Io.KnownBytes.{Appends, Consumes, Keeps}
-use Rattle.pgn_layout.specs.Device.{Counts, Device, IsStill, one_more}
-use Rattle.pgn_lexer.specs.Tokens.{Token}
-use Rattle.pgn_lexer.specs.TokensOf.{tokens_of}
-use Rattle.pgn_lexer.specs.Decided.{decided}
-use Rattle.pgn_game.specs.declared.mode.Mode.{Mode}
-use Rattle.pgn_game.specs.declared.reason.Reason.{Reason}
-use Rattle.pgn_game.specs.declared.reason.Reason.TheVariants.{ReadFault, WriteFault}
-use Rattle.pgn_game.specs.declared.reason.Fault.{Fault}
-use Rattle.pgn_game.specs.declared.conversion.Totals.{Totals}
-use Rattle.pgn_game.specs.Profile.{Profile}
-use Rattle.pgn_game.specs.Progress.{Verdict, refused as is_refused}
-use Rattle.pgn_game.specs.CheckedConversion.{AreConverted, AreTotalled, TwoReadingsConvert, CountsThree, FirstStops, SecondStops, TwoReadingsFail, HasTaken, MatchesAllMarks, OneFails, WriteStops}
-use Rattle.pgn_game.specs.CheckedConversion.{first_too_long, first_unread, refused, second_too_long, second_unread, unwritten}
-use Rattle.pgn_game.specs.EqualReadings.{EqualReadings}
-use Rattle.pgn_tool.specs.TaskRun.{FlushCounts, HasFailed, IsCalm, IsSmooth, TellsVerdict, status_of}
-use Rattle.pgn_tool.specs.CheckedRun.{AnswersSame, AnswersTwice, BlamesTwice, EndsTwice, RunsTwice, profile_twice}
+use Rattle.pgn_tool.proofs.Words.{◌≡◌, ◌∙◌, ◌++◌, ℕ, ◌≤◌, List, Option, None, Some, IfSome, ◌⊎◌, inl, inr, ap, refl, subst, sym, arith, Result, Ok, Err, Appends, Consumes, Keeps, Counts, Device, IsStill, one_more, Token, tokens_of, decided, Mode, Reason, ReadFault, WriteFault, Fault, Totals, Profile, Verdict, refused as is_refused, AreConverted, AreTotalled, TwoReadingsConvert, CountsThree, FirstStops, SecondStops, TwoReadingsFail, HasTaken, MatchesAllMarks, OneFails, WriteStops, first_too_long, first_unread, second_too_long, second_unread, unwritten, EqualReadings, FlushCounts, HasFailed, IsCalm, IsSmooth, TellsVerdict, status_of, AnswersSame, AnswersTwice, BlamesTwice, EndsTwice, RunsTwice, profile_twice}
+use Rattle.pgn_game.specs.CheckedConversion.{refused}
 use Rattle.pgn_tool.proofs.runs.ConversionToRun.{calm_fails, keeps_on, longer, risen, well}
 
 -- ---- a conversion, and a flush after it

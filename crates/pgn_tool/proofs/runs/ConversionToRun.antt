@@ -1,26 +1,8 @@
 -- What follows of a run from the conversion in it.
-use Rattle.std.proofs.Common.{◌≡◌, ◌∙◌, ℕ, ◌^◌, ◌<◌, ◌≤◌, Bool, true, false, List, [], ◌++◌, length, ap, refl, subst, sym, arith, append-nil, take, length-append, Option, None, Some, inl, inr}
-use Rattle.std.proofs.lemmas.Bool.{false≢true}
-use Rattle.std.proofs.Math.Seq.{take-length}
-use Rattle.std.specs.Prelude.{Result, Ok, Err, OnOk, is_ok, map, sum, codes, ◌⊎◌, if◌then◌else◌}
-use Rattle.std.specs.Io.KnownBytes.{Appends, Consumes, Keeps}
-use Rattle.pgn_layout.specs.Device.{Counts, Device, IsStill, Writes, one_more}
-use Rattle.pgn_game.specs.declared.mode.Mode.TheVariants.{Full}
-use Rattle.pgn_game.specs.declared.reason.Reason.{Reason}
-use Rattle.pgn_game.specs.declared.reason.Reason.TheVariants.{ReadFault, WriteFault}
-use Rattle.pgn_game.specs.declared.reason.Fault.{Fault}
-use Rattle.pgn_game.specs.declared.conversion.Totals.{Totals}
-use Rattle.pgn_game.specs.Profile.{Profile}
-use Rattle.pgn_lexer.specs.TokensOf.{tokens_of}
-use Rattle.pgn_game.specs.Progress.{Read, read, refused as is_refused, totals, verdict_of}
-use Rattle.pgn_game.specs.Levels.{plies_of}
-use Rattle.pgn_game.specs.ConverterCalls.{profile_of}
-use Rattle.pgn_game.specs.Conversion.{AfterConversion, CountsDevices, Fails, IsConverted, refused, unread, unwritten, too_long}
-use Rattle.pgn_tool.specs.declared.list.Stopped.{Stopped}
+use Rattle.pgn_tool.proofs.Words.{◌≡◌, ◌∙◌, ℕ, ◌^◌, ◌<◌, ◌≤◌, Bool, true, false, List, [], ◌++◌, length, ap, refl, subst, sym, arith, append-nil, take, length-append, Option, None, Some, inl, inr, false≢true, take-length, Result, Ok, Err, OnOk, is_ok, map, sum, codes, ◌⊎◌, if◌then◌else◌, Appends, Consumes, Keeps, Counts, Device, IsStill, Writes, one_more, Full, Reason, ReadFault, WriteFault, Fault, Totals, Profile, tokens_of, Read, read, refused as is_refused, totals, verdict_of, plies_of, profile_of, AfterConversion, CountsDevices, Fails, IsConverted, Stopped, CountsReadFault, ListResult, ListStops, list_profile, Answers, Blames, Concludes, Ends, EndsList, FlushCounts, HasFailed, IsCalm, IsSmooth, IsUntouched, Job, Runs, Tells, TellsVerdict, Works, checking, counting_of, exporting, line, listing, status_of}
+use Rattle.pgn_game.specs.Conversion.{refused, unread, unwritten, too_long}
 use Rattle.pgn_tool.specs.declared.list.Stopped.TheVariants as stopped
 use Rattle.pgn_tool.specs.ListLines as list_lines
-use Rattle.pgn_tool.specs.ListLines.{CountsReadFault, ListResult, ListStops, list_profile}
-use Rattle.pgn_tool.specs.TaskRun.{Answers, Blames, Concludes, Ends, EndsList, FlushCounts, HasFailed, IsCalm, IsSmooth, IsUntouched, Job, Runs, Tells, TellsVerdict, Works, checking, counting_of, exporting, line, listing, status_of}
 
 -- ---- devices
 

@@ -1,19 +1,9 @@
 -- How a run of the program is put together from opening its file and carrying out its task.
-use Rattle.std.proofs.Common.{◌≡◌, ◌∙◌, ℕ, Bool, true≢false, false, List, Option, None, Some, Result, Ok, Err, refl, sym, ap, subst, map}
-use Rattle.std.specs.Prelude.{IfOk, String, Vec, string_bytes}
-use Rattle.std.specs.Global.{Global}
-use Rattle.pgn_layout.specs.Device.{Device}
-use Rattle.pgn_game.specs.declared.mode.Mode.{Mode}
+use Rattle.pgn_tool.proofs.Words.{◌≡◌, ◌∙◌, ℕ, Bool, true≢false, false, List, Option, None, Some, Result, Ok, Err, refl, sym, ap, subst, map, IfOk, String, Vec, string_bytes, Global, Device, Mode, Export, Checked, Check, Split, SystemFault, Holding, IsOpened, Machine, Opens, Reading, holds, missing, Carries, EndsUnopened, IsMissing, Ran, RunsAgain, RunsAnswer, RunsOpened, RunsToOutput, RunsWords, StartsFrom, by_fault, by_task, file_source, makes_files, opened, source_of, unopened, unopened_again, IsUntouched, mode_for, checked_mode, FileStep, none-some}
 use Rattle.pgn_arguments.specs.declared.arguments.Task.{Task}
-use Rattle.pgn_arguments.specs.declared.arguments.Task.TheVariants.{Export, Checked, Check, List as ListGames, Split}
+use Rattle.pgn_arguments.specs.declared.arguments.Task.TheVariants.{List as ListGames}
 use Rattle.pgn_arguments.specs.declared.arguments.ParseFault.{ParseFault}
-use Rattle.pgn_tool.specs.declared.machine.SystemFault.{SystemFault}
-use Rattle.pgn_tool.specs.Machine.{Holding, IsOpened, Machine, Opens, Reading, holds, missing}
-use Rattle.pgn_tool.specs.Program.{Carries, EndsUnopened, IsMissing, Ran, RunsAgain, RunsAnswer, RunsOpened, RunsToOutput, RunsWords, StartsFrom, by_fault, by_task, file_source, makes_files, opened, source_of, unopened, unopened_again}
 use Rattle.pgn_arguments.specs.Requests.{AnswersBy, file_of, request_in, request_of}
-use Rattle.pgn_tool.specs.TaskRun.{IsUntouched, mode_for}
-use Rattle.pgn_tool.specs.CheckedRun.{checked_mode}
-use Rattle.pgn_tool.specs.Files.{FileStep}
 
 -- the device that was opened: what it had at first, and what it has in the end
 abbrev pub left_at : Option (List ℕ) → ℕ → Reading → Device
@@ -103,12 +93,9 @@ ran_answer call words texts m status (Ok task) is same request free carries =
 ran_answer call words texts m status (Err fault) is same request refused (answers, idle) =
     ran_words call words texts m status is same (by_fault fault refused answers idle)
 
-none_is_some : {A : Type 0} → (x : A) → None ≡ Some x → ⊥
-none_is_some x same = cc
-
 -- a file that is not there is reported, and nothing is written
 pub missing_told : (task : Task) (m : Machine) (status : ℕ) (name : List ℕ) → file_of (request_of task) ≡ Some name
     → m.input.holding name ≡ missing → Carries task m status → IsMissing m.out m.err status
 missing_told task m status name named gone (unopened other fault same refuses idle out ends) = (fault, ends, out)
 missing_told task m status name named gone (opened source is runs) =
-    absurd (none_is_some source (sym (ap (λ h. file_source h m.input) gone) ∙ sym (ap (λ f. source_of f m.input) named) ∙ is))
+    absurd (none-some source (sym (ap (λ h. file_source h m.input) gone) ∙ sym (ap (λ f. source_of f m.input) named) ∙ is))

@@ -1,18 +1,8 @@
 -- Texts that are written in parts, and the line of the game just finished.
-use Rattle.std.proofs.Common.{◌≡◌, ℕ, ◌+◌, List, [], ◌++◌, length, Option, None, Some, Result, Ok, Err, ap, subst, sym, codes, decimal, unwrap_or, length-append, ◌∙◌, arith}
-use Rattle.std.specs.Prelude.{option_map}
-use Rattle.std.specs.Io.KnownBytes.{Appends}
-use Rattle.std.proofs.KnownBytes.{Appends-trans}
-use Rattle.std.proofs.Math.Seq.{take-append-add}
-use Rattle.std.proofs.lemmas.List.{take-append-le}
+use Rattle.pgn_tool.proofs.Words.{◌≡◌, ℕ, ◌+◌, List, [], ◌++◌, length, Option, None, Some, Result, Ok, Err, ap, subst, sym, codes, decimal, unwrap_or, length-append, ◌∙◌, arith, option_map, Appends, Appends-trans, take-append-add, take-append-le, AppendsFront, Writes, Profile, known_result, exported, Converter, FinishedGame, finished_game_plies, finished_game_position, finished_game_value, finished_game_line, line_just_finished, six_fields, listed_value}
 use Rattle.chess_rules.specs.declared.position.Parts.{Parts}
 use Rattle.chess_text.specs.Fen.{fen_text}
-use Rattle.pgn_layout.specs.Device.{AppendsFront, Writes}
-use Rattle.pgn_game.specs.Profile.{Profile, known_result}
 use Rattle.pgn_game.specs.Pairs.{value_of}
-use Rattle.pgn_game.specs.TagSection.{exported}
-use Rattle.pgn_game.specs.ConverterCalls.{Converter, FinishedGame, finished_game_plies, finished_game_position, finished_game_value}
-use Rattle.pgn_tool.specs.ListLines.{finished_game_line, line_just_finished, six_fields, listed_value}
 
 -- a part that is written, and a front of the rest
 pub front_after : (a b c : Option (List ℕ)) (xs ys : List ℕ) → Appends a b xs → AppendsFront b c ys → AppendsFront a c (xs ++ ys)

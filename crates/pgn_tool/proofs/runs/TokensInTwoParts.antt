@@ -1,12 +1,5 @@
 -- Tokens read in two parts.
-use Rattle.std.proofs.Common.{◌≡◌, List, [], ◌∷◌, ◌++◌, Option, None, Some, refl, sym, ap, subst, ◌∙◌, append_assoc, append-nil}
-use Rattle.pgn_lexer.specs.Tokens.{Token}
-use Rattle.pgn_game.specs.declared.reason.Reason.{Reason}
-use Rattle.pgn_game.specs.declared.reason.Fault.{Fault}
-use Rattle.pgn_game.specs.Profile.{Profile}
-use Rattle.pgn_game.specs.Game.{Game}
-use Rattle.pgn_game.specs.FaultTable.{refusal}
-use Rattle.pgn_game.specs.Progress.{Progress, Next, Read, progress_after, progress_with, going, next, no_progress, read, read_from, whole}
+use Rattle.pgn_tool.proofs.Words.{◌≡◌, List, [], ◌∷◌, ◌++◌, Option, None, Some, refl, sym, ap, subst, ◌∙◌, append_assoc, append-nil, Token, Reason, Fault, Profile, Game, refusal, Progress, Next, Read, progress_after, progress_with, going, next, no_progress, read, read_from, whole}
 
 -- ---- one token
 

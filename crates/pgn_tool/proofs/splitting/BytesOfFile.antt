@@ -1,10 +1,5 @@
 -- The bytes in the file of a game.
-use Rattle.std.proofs.Common.{◌≡◌, ℕ, ◌<◌, ◌≤◌, true, List, [], ◌∷◌, ◌++◌, length, length-append, length-take, append-nil, take, Option, None, Some, Result, Ok, Err, refl, sym, ap, subst, ◌∙◌, arith, is_some}
-use Rattle.std.specs.Prelude.{IfOk}
-use Rattle.std.proofs.lemmas.Bool.{false≢true}
-use Rattle.std.specs.Io.KnownBytes.{Appends, WriteAppends}
-use Rattle.pgn_layout.specs.Device.{Counts}
-use Rattle.pgn_tool.specs.Files.{FileStep, IsNew, added, has_bytes, is_text}
+use Rattle.pgn_tool.proofs.Words.{◌≡◌, ℕ, ◌<◌, ◌≤◌, true, List, [], ◌∷◌, ◌++◌, length, length-append, length-take, append-nil, take, Option, None, Some, Result, Ok, Err, refl, sym, ap, subst, ◌∙◌, arith, is_some, IfOk, false≢true, Appends, WriteAppends, Counts, FileStep, IsNew, added, has_bytes, is_text}
 
 -- its bytes are reported, if the log is
 abbrev pub IsKnown : Option (List FileStep) → Option (List ℕ) → Type 0

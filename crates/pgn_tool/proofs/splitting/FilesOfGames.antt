@@ -1,23 +1,7 @@
 -- The files of a split hold the export texts of the games.
-use Rattle.std.proofs.Common.{◌≡◌, ◌∙◌, ℕ, ◌+◌, true, List, [], ◌∷◌, ◌++◌, length, Option, None, Some, refl, sym, ap, arith, append_assoc, append-nil, length-append}
-use Rattle.std.specs.Io.KnownBytes.{Appends}
-use Rattle.std.proofs.lemmas.Bool.{false≢true}
-use Rattle.std.proofs.lemmas.List.{append_cancel_left}
-use Rattle.pgn_layout.specs.Device.{one_more}
+use Rattle.pgn_tool.proofs.Words.{◌≡◌, ◌∙◌, ℕ, ◌+◌, true, List, [], ◌∷◌, ◌++◌, length, Option, None, Some, refl, sym, ap, arith, append_assoc, append-nil, length-append, Appends, false≢true, append_cancel_left, one_more, Token, Full, Game, start_of, tag_section, result_for, game_text, text_of, tokens_out, due, read, GameFile, NotMade, Open, list_profile, FileStep, IsBegun, added, bytes_in, closed, failures_in, file_steps, is_text, made, number_after, whole_files, torn_file, torn_text}
 use Rattle.pgn_layout.specs.Lines.{lines_of, text_of as text_of_lines}
-use Rattle.pgn_lexer.specs.Tokens.{Token}
-use Rattle.pgn_game.specs.declared.mode.Mode.TheVariants.{Full}
-use Rattle.pgn_game.specs.Game.{Game}
-use Rattle.pgn_game.specs.Levels.{start_of}
-use Rattle.pgn_game.specs.TagSection.{tag_section}
-use Rattle.pgn_game.specs.FaultTable.{result_for}
-use Rattle.pgn_game.specs.Text.{game_text, text_of, tokens_out}
-use Rattle.pgn_game.specs.Progress.{due, read}
-use Rattle.pgn_tool.specs.declared.game_sink.GameFile.{GameFile}
-use Rattle.pgn_tool.specs.declared.game_sink.GameFile.TheVariants.{NotMade, Open, Refused}
-use Rattle.pgn_tool.specs.ListLines.{list_profile}
-use Rattle.pgn_tool.specs.Files.{FileStep, IsBegun, added, bytes_in, closed, failures_in, file_steps, is_text, made, number_after, whole_files}
-use Rattle.pgn_tool.specs.SplitGames.{torn_file, torn_text}
+use Rattle.pgn_tool.specs.declared.game_sink.GameFile.TheVariants.{Refused}
 
 -- ---- logs
 

@@ -1,35 +1,13 @@
 -- What each game makes of the files of the games so far.
-use Rattle.std.proofs.Common.{◌≡◌, ◌∙◌, ℕ, ◌^◌, ◌<◌, ◌≤◌, true, false, List, [], ◌∷◌, ◌++◌, length, length-append, length-take, map, take, Option, None, Some, IfSome, Result, Ok, Err, refl, sym, ap, subst, inl, inr, ◌⊎◌, arith, append_assoc, append-nil}
-use Rattle.std.specs.Io.KnownBytes.{Appends, Consumes, IsAtEnd}
-use Rattle.std.proofs.KnownBytes.{Consumes-nil, Consumes-trans}
-use Rattle.std.proofs.lemmas.Bool.{false≢true}
-use Rattle.std.proofs.lemmas.List.{length-map, map-append}
-use Rattle.pgn_layout.specs.Device.{Device, one_more}
-use Rattle.pgn_lexer.specs.Tokens.{Token}
-use Rattle.pgn_lexer.specs.TokensOf.{tokens_of}
-use Rattle.pgn_game.specs.declared.reason.Reason.{Reason}
-use Rattle.pgn_game.specs.declared.reason.Reason.TheVariants.{ReadFault, WriteFault, InputTooLong}
-use Rattle.pgn_game.specs.declared.reason.Fault.{Fault}
+use Rattle.pgn_tool.proofs.Words.{◌≡◌, ◌∙◌, ℕ, ◌^◌, ◌<◌, ◌≤◌, true, false, List, [], ◌∷◌, ◌++◌, length, length-append, length-take, map, take, Option, None, Some, IfSome, Result, Ok, Err, refl, sym, ap, subst, inl, inr, ◌⊎◌, arith, append_assoc, append-nil, Appends, Consumes, IsAtEnd, Consumes-nil, Consumes-trans, false≢true, length-map, map-append, Device, one_more, Token, tokens_of, Reason, ReadFault, WriteFault, InputTooLong, Fault, game_text, text_of, torn, Read, due, no_progress, read, StopsWriting, CountsDevices, Games, HaveRead, NextGame, NextStops, NoGame, ReadsNoGame, GameFile, NotMade, Open, Unsplit, list_profile, FileStep, IsBegun, added, bytes_in, closed, failures_in, file_steps, made, number_after, refusal_step, whole_files, CountsSource, CountsSplit, GameSplit, IsOwn, LastFile, SplitFiles, reported, settled, CutFile, CutsFile, IsSplit, IsSplitWhole, Logs, LogsCut, SplitResult, SplitStops, SplitsNoMore, StopsAt, files_of, texts_in, torn_file, torn_text, SplitSoFar}
 use Rattle.pgn_game.specs.Due.{Gains}
-use Rattle.pgn_game.specs.Text.{game_text, text_of, torn}
-use Rattle.pgn_game.specs.Progress.{Read, due, no_progress, read}
 use Rattle.pgn_game.specs.ConverterCalls as calls
-use Rattle.pgn_game.specs.ConverterCalls.{StopsWriting}
-use Rattle.pgn_game.specs.Conversion.{CountsDevices}
 use Rattle.pgn_game.specs.GamesCalls as next
-use Rattle.pgn_game.specs.GamesCalls.{AfterNext, CountsNext, Games, HaveRead, NextGame, NextStops, NoGame, ReadsNoGame}
 use Rattle.pgn_tool.specs.declared.files.CreateFault.TheVariants as creating
-use Rattle.pgn_tool.specs.declared.game_sink.GameFile.{GameFile}
-use Rattle.pgn_tool.specs.declared.game_sink.GameFile.TheVariants.{NotMade, Open, Refused}
-use Rattle.pgn_tool.specs.declared.split.Unsplit.{Unsplit}
+use Rattle.pgn_tool.specs.declared.game_sink.GameFile.TheVariants.{Refused}
 use Rattle.pgn_tool.specs.declared.split.Unsplit.TheVariants as unsplit
-use Rattle.pgn_tool.specs.ListLines.{list_profile}
-use Rattle.pgn_tool.specs.Files.{FileStep, IsBegun, added, bytes_in, closed, failures_in, file_steps, made, number_after, refusal_step, whole_files}
 use Rattle.pgn_tool.specs.SplitFiles as split_files
-use Rattle.pgn_tool.specs.SplitFiles.{CountsSource, CountsSplit, GameSplit, IsOwn, LastFile, SplitFiles, reported, settled}
 use Rattle.pgn_tool.specs.SplitGames as games
-use Rattle.pgn_tool.specs.SplitGames.{CutFile, CutsFile, IsSplit, IsSplitWhole, Logs, LogsCut, SplitResult, SplitStops, SplitsNoMore, StopsAt, files_of, texts_in, torn_file, torn_text}
-use Rattle.pgn_tool.specs.SplitState.{SplitSoFar}
 use Rattle.pgn_tool.proofs.runs.CallToLines.{has_read_of, known_left, known_whole}
 use Rattle.pgn_tool.proofs.runs.TokensInTwoParts.{read_stops}
 use Rattle.pgn_tool.proofs.splitting.FilesOfGames.{file_holds, game_is, log_on, none_torn, number_next, torn_is, whole_and_one, whole_file}

@@ -1,14 +1,6 @@
 -- No token is rejected because of a write that failed.
-use Rattle.std.proofs.Common.{◌≡◌, ◌∙◌, Bool, List, [], ◌∷◌, Option, None, Some, true, false, refl, sym, ap, subst}
+use Rattle.pgn_tool.proofs.Words.{◌≡◌, ◌∙◌, Bool, List, [], ◌∷◌, Option, None, Some, true, false, refl, sym, ap, subst, Kind, Token, Reason, Fault, Profile, Part, Row, first_holding, refusal, rows, Progress, Read, progress_after, read_from, IsOwn}
 use Rattle.pgn_lexer.specs.Tokens as tokens
-use Rattle.pgn_lexer.specs.Tokens.{Kind, Token}
-use Rattle.pgn_game.specs.declared.reason.Reason.{Reason}
-use Rattle.pgn_game.specs.declared.reason.Fault.{Fault}
-use Rattle.pgn_game.specs.Profile.{Profile}
-use Rattle.pgn_game.specs.Game.{Part}
-use Rattle.pgn_game.specs.FaultTable.{Row, first_holding, refusal, rows}
-use Rattle.pgn_game.specs.Progress.{Progress, Read, progress_after, read_from}
-use Rattle.pgn_tool.specs.SplitFiles.{IsOwn}
 use Rattle.pgn_tool.proofs.runs.TokensInTwoParts.{reads_on}
 
 abbrev AreOwn : List Row → Type 0

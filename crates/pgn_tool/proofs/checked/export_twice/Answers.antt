@@ -1,7 +1,4 @@
-use Rattle.std.proofs.Common.{◌∙◌, ap, refl, sym, inl}
-use Rattle.std.specs.Prelude.{Err, Ok}
-use Rattle.pgn_layout.specs.Device.{device}
-use Rattle.pgn_tool.specs.CheckedRun.{profile_twice}
+use Rattle.pgn_tool.proofs.Words.{◌∙◌, ap, refl, sym, inl, Err, Ok, device, profile_twice}
 use Rattle.pgn_tool.proofs.runs.ConversionToRun.{concludes_as, flush_counts, flush_failed, flush_still, flushed_after, ill_status}
 use Rattle.pgn_tool.proofs.runs.CheckedConversionToRun.{blames_twice_of, converts_twice_on, counted_once_of_two}
 use Rattle.pgn_tool.proofs.checked.export_twice.Goals as goal

@@ -1,5 +1,4 @@
-use Rattle.std.proofs.Common.{◌∙◌, ap, sym}
-use Rattle.pgn_tool.specs.CheckedRun.{checked_mode}
+use Rattle.pgn_tool.proofs.Words.{◌∙◌, ap, sym, checked_mode}
 use Rattle.pgn_tool.proofs.runs.CheckedConversionToFront.{twice_front}
 use Rattle.pgn_tool.proofs.runs.CheckedConversionToRun.{same_answers, twice_answers, twice_as, twice_status, twice_still}
 use Rattle.pgn_tool.proofs.checked.run_checked.Goals as goal

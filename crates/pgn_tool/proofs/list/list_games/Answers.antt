@@ -1,5 +1,4 @@
-use Rattle.std.proofs.Common.{refl, ◌∙◌}
-use Rattle.std.proofs.KnownBytes.{Appends-nil}
+use Rattle.pgn_tool.proofs.Words.{refl, ◌∙◌, Appends-nil}
 use Rattle.pgn_tool.proofs.runs.CallToLines.{all_listed, game_cut, game_listed, list_stops, none_listed}
 use Rattle.pgn_tool.proofs.list.list_games.Goals as goal
 

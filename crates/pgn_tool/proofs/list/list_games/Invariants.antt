@@ -1,6 +1,4 @@
-use Rattle.std.proofs.Common.{◌≡◌, None}
-use Rattle.pgn_game.specs.GamesCalls.{most_left}
-use Rattle.pgn_tool.specs.ListState.{ListedSoFar}
+use Rattle.pgn_tool.proofs.Words.{◌≡◌, None, most_left, ListedSoFar}
 use Rattle.pgn_tool.proofs.list.list_games.Given as goal
 
 abbrev pub invariant-loop-fault : goal.invariant-loop-fault

@@ -1,5 +1,4 @@
-use Rattle.std.proofs.Common.{◌∙◌, ap, sym, subst, decimal}
-use Rattle.pgn_layout.specs.Device.{Writes}
+use Rattle.pgn_tool.proofs.Words.{◌∙◌, ap, sym, subst, decimal, Writes}
 use Rattle.pgn_tool.proofs.runs.PartsOfText.{line_just_finished-told, six_as}
 use Rattle.pgn_tool.proofs.list.write_game.Goals as goal
 

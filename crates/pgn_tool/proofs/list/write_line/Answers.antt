@@ -1,5 +1,4 @@
-use Rattle.std.proofs.KnownBytes.{Appends-trans}
-use Rattle.std.proofs.lemmas.Result.{err_from_is_err_and}
+use Rattle.pgn_tool.proofs.Words.{Appends-trans, err_from_is_err_and}
 use Rattle.pgn_tool.proofs.runs.PartsOfText.{front_after, front_within, writes_after}
 use Rattle.pgn_tool.proofs.list.write_line.Goals as goal
 

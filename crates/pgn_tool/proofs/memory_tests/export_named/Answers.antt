@@ -1,17 +1,5 @@
-use Rattle.std.proofs.Common.{arith, rules, ◌≡◌, ℕ, ◌-◌, ◌^◌, ◌<◌, ◌≤◌, Bool, false, List, length, Option, Some}
-use Rattle.std.specs.Prelude.{String, string_bytes}
-use Rattle.std.specs.Global.{Global}
-use Rattle.std.specs.Io.KnownBytes.{Appends}
-use Rattle.pgn_layout.specs.Device.{Device}
-use Rattle.pgn_game.specs.declared.mode.Mode.TheVariants.{Full}
-use Rattle.pgn_game.specs.ConverterCalls.{profile_of}
-use Rattle.pgn_game.specs.Progress.{output}
-use Rattle.pgn_arguments.specs.declared.arguments.Task.TheVariants.{Export}
-use Rattle.pgn_tool.specs.declared.machine.SystemFault.{SystemFault}
+use Rattle.pgn_tool.proofs.Words.{arith, rules, ◌≡◌, ℕ, ◌-◌, ◌^◌, ◌<◌, ◌≤◌, Bool, false, List, length, Option, Some, String, string_bytes, Global, Appends, Device, Full, profile_of, output, Export, SystemFault, Holding, Machine, Reading, holds, missing, Carries, EndsUnopened, RunsStream, file_source, opened, streams, unbuffered, unopened, Job, text_for}
 use Rattle.pgn_tool.specs.declared.machine.SystemFault.TheVariants.{Refused, NoMemory}
-use Rattle.pgn_tool.specs.Machine.{Holding, Machine, Reading, holds, missing}
-use Rattle.pgn_tool.specs.Program.{Carries, EndsUnopened, RunsStream, file_source, opened, streams, unbuffered, unopened}
-use Rattle.pgn_tool.specs.TaskRun.{Job, text_for}
 use Rattle.pgn_tool.proofs.runs.ConversionToRun.{runs_still}
 use Rattle.pgn_tool.proofs.memory_tests.export_named.Goals as goal
 

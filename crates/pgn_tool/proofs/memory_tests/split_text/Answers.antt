@@ -1,12 +1,5 @@
-use Rattle.std.proofs.Common.{arith, ◌≡◌, ℕ, List, Option, Some, Result, Ok, Err, refl, subst}
-use Rattle.std.specs.Prelude.{IfSome}
-use Rattle.pgn_layout.specs.Device.{Device}
-use Rattle.pgn_lexer.specs.TokensOf.{tokens_of}
-use Rattle.pgn_tool.specs.declared.split.Unsplit.{Unsplit}
-use Rattle.pgn_tool.specs.declared.split.Unsplit.TheVariants.{Refused, NoMemory}
-use Rattle.pgn_tool.specs.Files.{FileStep, whole_files}
-use Rattle.pgn_tool.specs.SplitFiles.{EndsSplit}
-use Rattle.pgn_tool.specs.SplitGames.{IsSplitWhole, Logs, SplitResult, texts_in}
+use Rattle.pgn_tool.proofs.Words.{arith, ◌≡◌, ℕ, List, Option, Some, Result, Ok, Err, refl, subst, IfSome, Device, tokens_of, Unsplit, NoMemory, FileStep, whole_files, EndsSplit, IsSplitWhole, Logs, SplitResult, texts_in}
+use Rattle.pgn_tool.specs.declared.split.Unsplit.TheVariants.{Refused}
 use Rattle.pgn_tool.proofs.memory_tests.split_text.Goals as goal
 
 whole : (answer : Result Unit Unsplit) (source left : Option (List ℕ)) (before after : Option (List FileStep)) (err : Device)

@@ -1,4 +1,4 @@
-use Rattle.std.proofs.Common.{inl}
+use Rattle.pgn_tool.proofs.Words.{inl}
 use Rattle.pgn_tool.proofs.replies.answer_fault.Goals as goal
 
 pub returns-in-Help-clause-flushed : goal.returns-in-Help-clause-flushed

@@ -1,6 +1,4 @@
-use Rattle.std.proofs.Common.{Some, refl}
-use Rattle.pgn_tool.specs.Machine.{reading}
-use Rattle.pgn_tool.specs.Program.{opened_again}
+use Rattle.pgn_tool.proofs.Words.{Some, refl, reading, opened_again}
 use Rattle.pgn_tool.proofs.runs.FileToRun.{opened_is, refused_again}
 use Rattle.pgn_tool.proofs.run.run_again.Goals as goal
 

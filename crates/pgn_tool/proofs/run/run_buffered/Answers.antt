@@ -1,4 +1,4 @@
-use Rattle.std.proofs.Common.{◌∙◌, inl}
+use Rattle.pgn_tool.proofs.Words.{◌∙◌, inl}
 use Rattle.pgn_tool.proofs.runs.ConversionToRun.{flushed_from}
 use Rattle.pgn_tool.proofs.run.run_buffered.Goals as goal
 

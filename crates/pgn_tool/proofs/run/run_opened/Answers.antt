@@ -1,5 +1,4 @@
-use Rattle.std.proofs.Common.{rules, ◌≡◌, false}
-use Rattle.pgn_tool.specs.Program.{makes_files}
+use Rattle.pgn_tool.proofs.Words.{rules, ◌≡◌, false, makes_files}
 use Rattle.pgn_tool.proofs.runs.FileToRun.{opened_to_output}
 use Rattle.pgn_tool.proofs.run.run_opened.Goals as goal
 

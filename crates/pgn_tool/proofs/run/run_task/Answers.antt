@@ -1,5 +1,4 @@
-use Rattle.std.proofs.Common.{refl}
-use Rattle.pgn_tool.specs.Program.{opened}
+use Rattle.pgn_tool.proofs.Words.{refl, opened}
 use Rattle.pgn_tool.proofs.runs.FileToRun.{missing_told, opened_is, unopened_is}
 use Rattle.pgn_tool.proofs.run.run_task.Goals as goal
 

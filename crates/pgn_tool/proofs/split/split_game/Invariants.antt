@@ -1,4 +1,4 @@
-use Rattle.pgn_layout.specs.Device.{one_more}
+use Rattle.pgn_tool.proofs.Words.{one_more}
 use Rattle.pgn_tool.proofs.split.split_game.Given as goal
 
 abbrev pub ghosts-write_game : goal.ghosts-write_game

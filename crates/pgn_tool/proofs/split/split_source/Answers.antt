@@ -1,6 +1,4 @@
-use Rattle.std.proofs.Common.{◌∙◌, ap, refl}
-use Rattle.std.specs.Prelude.{Ok}
-use Rattle.std.proofs.lemmas.Result.{err_from_is_err_and}
+use Rattle.pgn_tool.proofs.Words.{◌∙◌, ap, refl, Ok, err_from_is_err_and}
 use Rattle.pgn_tool.proofs.splitting.GameToFiles.{no_more_games, none_split, one_more_game, stops_at}
 use Rattle.pgn_tool.proofs.split.split_source.Goals as goal
 

@@ -1,6 +1,4 @@
-use Rattle.std.proofs.Common.{◌≡◌, None}
-use Rattle.pgn_game.specs.GamesCalls.{most_left}
-use Rattle.pgn_tool.specs.SplitState.{SplitSoFar}
+use Rattle.pgn_tool.proofs.Words.{◌≡◌, None, most_left, SplitSoFar}
 use Rattle.pgn_tool.proofs.split.split_source.Given as goal
 
 abbrev pub invariant-loop : goal.invariant-loop

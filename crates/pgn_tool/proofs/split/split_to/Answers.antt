@@ -1,9 +1,5 @@
-use Rattle.std.proofs.Common.{◌≡◌, ◌∙◌, ap, refl, subst, sym}
-use Rattle.std.specs.Prelude.{Result, Err}
-use Rattle.pgn_layout.specs.Device.{device}
-use Rattle.pgn_tool.specs.declared.split.Unsplit.{Unsplit}
-use Rattle.pgn_tool.specs.declared.split.Unsplit.TheVariants.{NoMemory, Refused}
-use Rattle.pgn_tool.specs.SplitFiles.{EndsSplit}
+use Rattle.pgn_tool.proofs.Words.{◌≡◌, ◌∙◌, ap, refl, subst, sym, Result, Err, device, Unsplit, NoMemory, EndsSplit}
+use Rattle.pgn_tool.specs.declared.split.Unsplit.TheVariants.{Refused}
 use Rattle.pgn_tool.proofs.split.split_to.Goals as goal
 
 pub returns-in-Ok-clause-runs : goal.returns-in-Ok-clause-runs

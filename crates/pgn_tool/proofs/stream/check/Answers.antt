@@ -1,5 +1,4 @@
-use Rattle.std.proofs.Common.{ap, inl, refl}
-use Rattle.std.specs.Prelude.{Err, Ok}
+use Rattle.pgn_tool.proofs.Words.{ap, inl, refl, Err, Ok}
 use Rattle.pgn_tool.proofs.runs.ConversionToRun.{concludes_as, flush_counts, flushed_after, flushed_well, silent_blames, tells_as}
 use Rattle.pgn_tool.proofs.stream.check.Goals as goal
 

@@ -1,5 +1,4 @@
-use Rattle.std.proofs.Common.{◌∙◌, ap, sym, inl}
-use Rattle.std.specs.Prelude.{Err, Ok}
+use Rattle.pgn_tool.proofs.Words.{◌∙◌, ap, sym, inl, Err, Ok}
 use Rattle.pgn_tool.proofs.runs.ConversionToRun.{blames_of, concludes_as, converts_on, counted_once, flush_counts, flush_failed, flush_still, flushed_after, ill_status}
 use Rattle.pgn_tool.proofs.stream.export.Goals as goal
 

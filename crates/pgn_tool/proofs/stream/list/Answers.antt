@@ -1,8 +1,4 @@
-use Rattle.std.proofs.Common.{◌≡◌, ◌∙◌, ap, refl, subst, sym, inl, inr}
-use Rattle.std.specs.Prelude.{Err, Ok, Result}
-use Rattle.pgn_tool.specs.declared.list.Stopped.{Stopped}
-use Rattle.pgn_tool.specs.declared.list.Stopped.TheVariants.{Refused, Unwritten}
-use Rattle.pgn_tool.specs.ListLines.{CountsList, ListResult}
+use Rattle.pgn_tool.proofs.Words.{◌≡◌, ◌∙◌, ap, refl, subst, sym, inl, inr, Err, Ok, Result, Stopped, Refused, Unwritten, CountsList, ListResult}
 use Rattle.pgn_tool.proofs.runs.ConversionToRun.{concludes_as, flush_counts, flush_failed, flush_still, flushed_after, ill_status, list_blames, lists_on, risen}
 use Rattle.pgn_tool.proofs.stream.list.Goals as goal
 

@@ -1,5 +1,4 @@
-use Rattle.std.proofs.Common.{◌∙◌, ap, sym}
-use Rattle.pgn_tool.specs.TaskRun.{checking, exporting, job_of, listing}
+use Rattle.pgn_tool.proofs.Words.{◌∙◌, ap, sym, checking, exporting, job_of, listing}
 use Rattle.pgn_tool.proofs.runs.ConversionToRun.{runs_answers, runs_as, runs_status, runs_still}
 use Rattle.pgn_tool.proofs.stream.run_stream.Goals as goal
 

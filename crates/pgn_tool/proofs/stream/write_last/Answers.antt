@@ -1,4 +1,4 @@
-use Rattle.std.proofs.Common.{refl}
+use Rattle.pgn_tool.proofs.Words.{refl}
 use Rattle.pgn_tool.proofs.runs.ConversionToRun.{flush_counts, front_as}
 use Rattle.pgn_tool.proofs.stream.write_last.Goals as goal
 

@@ -1,4 +1,4 @@
-use Rattle.std.proofs.Common.{◌∙◌}
+use Rattle.pgn_tool.proofs.Words.{◌∙◌}
 use Rattle.pgn_tool.proofs.NameToNumber.{numbered-making}
 use Rattle.pgn_tool.proofs.folder.FolderGameFiles.create.Goals as goal
 

@@ -1,5 +1,4 @@
-use Rattle.std.proofs.Common.{◌≡◌, vec_len, vec_capacity}
-use Rattle.std.specs.Io.KnownBytes.{Keeps, append_known}
+use Rattle.pgn_tool.proofs.Words.{◌≡◌, vec_len, vec_capacity, Keeps, append_known}
 use Rattle.pgn_tool.proofs.standard.StandardOutput.write_out.Given as goal
 
 -- What was taken stays, and no call has failed.
