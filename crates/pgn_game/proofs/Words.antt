@@ -47,7 +47,7 @@ pub use Rattle.pgn_game.specs.Game.{close_variation, open_variation}
 pub use Rattle.pgn_game.specs.ItemResult.{Adds, GoesOn, LeadsLevels, Plays, PutsTokens, WritesItem, after_move_if, counted_at, item_text, plies_in, tokens_due, tokens_if, writes}
 pub use Rattle.pgn_game.specs.Levels.{Level, Levels, back_to, depth, first_level, here, last_position, levels_after, levels_of, main_moves, outermost, plies_of, position_or_first, replayed, start_by, start_of, without_last}
 pub use Rattle.pgn_game.specs.Markers.{marker_text}
-pub use Rattle.pgn_game.specs.Movetext.{ClosesLevel, HoldsItems, Movetext, StoredLevel, StoredLevels, before_last, code_levels, ends_in_move, inside, level_at, level_of, movetext_after_fen, movetext_from, stored_level, stored_levels}
+pub use Rattle.pgn_game.specs.Movetext.{ClosesLevel, HoldsItems, Movetext, StoredLevel, StoredLevels, before_last, ends_in_move, level_at, movetext_after_fen, movetext_from, stored_level, stored_levels}
 pub use Rattle.pgn_game.specs.Progress.{Counted, Next, Progress, Read, at_stage, going, in_text, items_of, move_item, next, next_in, no_progress, output, progress_after, progress_with, read, read_from, refused, totals, verdict, whole}
 pub use Rattle.pgn_game.specs.PutResult.{BeginsText, Goes, Keeps, PutResult, PutsItems, gain_to, section_due, section_due_of}
 pub use Rattle.pgn_game.specs.ReaderState.{Agrees, HoldsPairs, HoldsText, IsBehind, ReaderState, as_written, is_outside_the_table, plies_behind, whole_plies}
