@@ -40,10 +40,11 @@ begins_with (b ∷ piece) rest = refl
 first_of_text : (p : Profile) (left left_new : Option (List ℕ)) (u : List ℕ) (now : Games) (given : List Token)
     → Consumes left left_new u → HaveRead p left_new u now given → IfSome left (λ s. (later : List Token) × (tokens_of s ≡ given ++ later))
 first_of_text p left left_new u now given consumed (calls.within on) =
-    known_left left left_new u (λ s. (later : List Token) × (tokens_of s ≡ given ++ later)) consumed (λ rest.
-        (coming now.converter.lexer (now.unused ++ rest),
-        ap (λ l. tokens_of (l ++ rest)) on.bytes ∙ ap tokens_of (append_assoc on.used now.unused rest)
-        ∙ on.stands.lexer.tokens (now.unused ++ rest) (begins_with now.unused rest)))
+    known_left left left_new u (λ s. (later : List Token) × (tokens_of s ≡ given ++ later)) consumed (λ rest. (
+      coming now.converter.lexer (now.unused ++ rest),
+      ap (λ l. tokens_of (l ++ rest)) on.bytes ∙ ap tokens_of (append_assoc on.used now.unused rest)
+          ∙ on.stands.lexer.tokens (now.unused ++ rest) (begins_with now.unused rest),
+    ))
 first_of_text p left left_new u now given consumed (calls.at_end all) =
     known_whole left left_new u (λ s. (later : List Token) × (tokens_of s ≡ given ++ later)) consumed all.at_end
     ([], sym all.whole ∙ sym (append-nil given))
