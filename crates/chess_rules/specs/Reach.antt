@@ -71,7 +71,6 @@ slides b c t s = slides_with c (at b s) s t
 abbrev pub may_attack : Board → Colour → Square → Square → Bool
 may_attack b c t s = near_with c (at b s) s t || slides_with c (at b s) s t
 
--- The king's square, as a position stores it.
-
+-- the first square with a king of the colour, or a1 if there is none
 abbrev pub king_square : Colour → Board → Square
 king_square c b = square_at (unwrap_or (position (has_piece c King) b) 0)

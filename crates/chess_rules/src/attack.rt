@@ -1,7 +1,6 @@
 //! Which squares are attacked on a board.
 
-ghost use Rattle.std.specs.Prelude.{◌≡◌, ◌&&◌, IsTrue, false, is_some};
-ghost use Rattle.std.specs.List.{list_any};
+ghost use Rattle.std.specs.Prelude.{◌≡◌, ◌&&◌, IsTrue, false};
 ghost use Rattle.chess_rules.specs.Square.{squares};
 ghost use Rattle.chess_rules.specs.Board.{at, cell_of};
 ghost use Rattle.chess_rules.specs.Position.{one_king};

@@ -3,7 +3,7 @@
 ghost use Rattle.std.specs.Prelude.{◌≡◌, ◌<◌, ◌≤◌, ◌^◌, false, length, nat_lt, not};
 ghost use Rattle.chess_rules.specs.Board.{cell_of};
 ghost use Rattle.chess_rules.specs.Words as spec;
-ghost use Rattle.chess_rules.specs.Words.{Carries, FirstOf, IsFirst, IsHighest, IsLowest, IsOnly, Joins, Meets, Misses, Places, Sets, Takes};
+ghost use Rattle.chess_rules.specs.Words.{Carries, FirstOf, IsHighest, IsLowest, IsOnly, Joins, Meets, Misses, Places, Sets, Takes};
 
 use crate::square::Square;
 use std::marker::Model;
@@ -106,7 +106,7 @@ impl Squares {
         self.bits == 0
     }
 
-    // Whether the set has two squares or more.
+    // Whether the set has two squares or more. The clause has the half that callers rest on.
     pub(crate) fn has_several(self) -> bool
         ensures { result ≡ false → length (spec.members self) ≤ 1 }
     {

@@ -1,4 +1,4 @@
-//! One step (pseudo-legal move) of the side to move: which pairs are one, and the board after it.
+//! One step (pseudo-legal move) of the side to move: its kind, its rules, and the board after it.
 
 ghost use Rattle.std.specs.Prelude.{◌≡◌, ◌<◌, ◌||◌, IsTrue, Some, None, is_some};
 ghost use Rattle.chess_rules.specs.Board.{put, some_piece};
@@ -96,7 +96,7 @@ fn captured_pawn(mv: &Move) -> Square
 }
 
 // Whether the square is the en passant target.
-pub(crate) fn is_target(target: Option<Square>, square: Square) -> bool
+fn is_target(target: Option<Square>, square: Square) -> bool
     ensures { result ≡ spec.is_target target square }
 {
     match target {
