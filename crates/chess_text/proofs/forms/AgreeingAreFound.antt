@@ -1,5 +1,5 @@
 -- The moves that agree with a form are those that are found, and none is found twice.
-use Rattle.chess_text.proofs.Words.{◌≡◌, ◌≢◌, ℕ, ◌<◌, inl, inr, Bool, true, false, not, ◌&&◌, List, [], ◌∷◌, map, refl, sym, ◌∙◌, ap, subst, arith, Option, None, Some, Ok, Err, is_some, is_none, nat_lt, flat_map, filter_map, cons_option, list_any, Contains, false≢true, both_ways, not-true, and_parts, and_from, or_left, or_right, ltb-true, get_or-range_with_len, length-range_with_len, Contains-append_left, Contains-append_right, Promotion, Move, Parts, Square, square, squares, lines, on_board, same_square, same_kind, own, kind_of, legal, is_legal, Form, Castle, Man, Played, NoMove, Ambiguous, hints_fit, same_promotion, is_castling, describes, agrees, with_next, played, move_from, moves_to_try, agreeing, only, TheOneMoveIsRead, NoMoveIsRead, TwoMovesAreAmbiguous}
+use Rattle.chess_text.proofs.Words.{◌≡◌, ◌≢◌, ℕ, ◌<◌, inl, inr, Bool, true, false, not, ◌&&◌, List, [], ◌∷◌, map, refl, sym, ◌∙◌, ap, subst, arith, Option, None, Some, Ok, Err, is_some, is_none, nat_lt, flat_map, filter_map, cons_option, list_any, Contains, false≢true, both_ways, not-true, and_parts, and_from, or_left, or_right, ltb-true, get_or-range_with_len, length-range_with_len, Contains-append_left, Contains-append_right, Promotion, Move, Parts, Square, square, squares, lines, on_board, same_square, same_kind, own, kind_of, short_wing, long_wing, short_right, long_right, legal, is_legal, Form, Castle, Man, Played, NoMove, Ambiguous, hints_fit, same_promotion, is_castling, describes, agrees, with_next, played, castling_move, move_from, moves_to_try, agreeing, only, TheOneMoveIsRead, NoMoveIsRead, TwoMovesAreAmbiguous}
 use Rattle.chess_rules.specs.declared.piece.Promotion.TheVariants.{Queen, Rook, Bishop, Knight}
 use Rattle.chess_text.proofs.forms.CastlingMoves.{stepped, squares_same}
 use Rattle.chess_text.proofs.forms.CastlingForms.{castles_ends, legal_next, played_some}
@@ -12,7 +12,7 @@ in_flat_map : {X Y : Type 0} (f : X → List Y) (xs : List X) (x : X) (y : Y) �
 in_flat_map f [] x y c d = absurd (none_in x c)
 in_flat_map {X} {Y} f (z ∷ zs) x y c d =
     elim (element z x zs c) [
-      | inl is ↦ Contains-append_left (f z) (flat_map f zs) y (rw is d)
+      | inl is ↦ Contains-append_left (f z) (flat_map f zs) y (subst (λ (w : X). Contains (f w) y) (sym is) d)
       | inr more ↦ Contains-append_right (f z) (flat_map f zs) y (in_flat_map f zs x y more d)
     ]
 
@@ -24,8 +24,8 @@ unfolding squares
 in_squares s h =
     let both = and_parts (nat_lt s.file 8) (nat_lt s.rank 8) h in
     in_flat_map (λ rank. map (λ file. square file rank) lines) lines s.rank s
-    (in_lines _ (ltb-true _ 8 both.1))
-    (in_map (λ file. square file s.rank) lines s.file (in_lines _ (ltb-true _ 8 both.0)))
+    (in_lines s.rank (ltb-true s.rank 8 both.1))
+    (in_map (λ file. square file s.rank) lines s.file (in_lines s.file (ltb-true s.file 8 both.0)))
 
 -- no element stands twice in the list
 abbrev Apart : {X : Type 0} → List X → Type 0
@@ -40,15 +40,15 @@ pub any_contained : {X : Type 0} (test : X → Bool) (xs : List X) (x : X) → C
 any_contained test [] x c h = absurd (none_in x c)
 any_contained {X} test (y ∷ ys) x c h =
     elim (element y x ys c) [
-      | inl is ↦ or_left (test y) (list_any test ys) (rw is h)
+      | inl is ↦ or_left (test y) (list_any test ys) (subst (λ (z : X). test z ≡ true) (sym is) h)
       | inr more ↦ or_right (test y) (list_any test ys) (any_contained test ys x more h)
     ]
 
 apart_from_test : (ss : List Square) → all_apart ss ≡ true → Apart ss
 apart_from_test [] h = tt
 apart_from_test (s ∷ ss) h =
-    let both = and_parts (not _) (all_apart ss) h in
-    (λ t c e. both_ways (list_any (same_square s) ss) (not-true (list_any _ ss) both.0) (any_contained (same_square s) ss t c (subst (λ (u : Square). same_square s u ≡ true) e (same_square-refl s))), apart_from_test ss both.1)
+    let both = and_parts (not (list_any (same_square s) ss)) (all_apart ss) h in
+    (λ t c e. both_ways (list_any (same_square s) ss) (not-true (list_any (same_square s) ss) both.0) (any_contained (same_square s) ss t c (subst (λ (u : Square). same_square s u ≡ true) e (same_square-refl s))), apart_from_test ss both.1)
 
 tested : all_apart squares ≡ true
 unfolding squares
@@ -59,16 +59,16 @@ squares_apart = apart_from_test squares tested
 
 moves_apart : (to : Square) (promotion : Option Promotion) (ss : List Square) → Apart ss → Apart (map (move_from to promotion) ss)
 moves_apart to promotion [] h = tt
-moves_apart to promotion (s ∷ ss) h = (differs, moves_apart to _ ss h.1)
+moves_apart to promotion (s ∷ ss) h = (differs, moves_apart to promotion ss h.1)
   where
     differs : (m : Move) → Contains (map (move_from to promotion) ss) m → move_from to promotion s ≢ m
     differs m c e =
-        let g = of_map _ ss m c in
+        let g = of_map (move_from to promotion) ss m c in
         h.0 g.at g.among (ap (λ (n : Move). n.from) (e ∙ sym g.gives))
 
 possible_apart : (p : Parts) (f : Form) → Apart (moves_to_try p f)
 possible_apart p (Castle long) = ((λ m c. absurd (none_in m c)), tt)
-possible_apart p (Man k file rank to promotion) = moves_apart to _ squares squares_apart
+possible_apart p (Man k file rank to promotion) = moves_apart to promotion squares squares_apart
 
 -- A move that agrees is possible.
 
@@ -108,17 +108,17 @@ move_of m from to promotion a b c =
 
 pub is_possible : (p : Parts) (f : Form) (m : Move) → is_legal p m ≡ true → describes p f m ≡ true → Contains (moves_to_try p f) m
 is_possible p (Castle false) m legal h =
-    let ends = castles_ends p m _ _ h in
-    rw (move_of m _ _ None ends.0 ends.1 (no_promotion m.promotion ends.2)) (here _ [])
+    let ends = castles_ends p m (short_right p.side p.rights) short_wing h in
+    subst (λ (n : Move). Contains (moves_to_try p (Castle false)) n) (sym (move_of m _ _ None ends.0 ends.1 (no_promotion m.promotion ends.2))) (here (castling_move p.side false) [])
 is_possible p (Castle true) m legal h =
-    let ends = castles_ends p m _ _ h in
-    rw (move_of m _ _ None ends.0 ends.1 (no_promotion m.promotion ends.2)) (here _ [])
+    let ends = castles_ends p m (long_right p.side p.rights) long_wing h in
+    subst (λ (n : Move). Contains (moves_to_try p (Castle true)) n) (sym (move_of m _ _ None ends.0 ends.1 (no_promotion m.promotion ends.2))) (here (castling_move p.side true) [])
 is_possible p (Man k file rank to promotion) m legal h =
-    let rest = (and_parts (own p k _ && hints_fit file rank _) ((same_square m.to to && same_promotion m.promotion promotion) && not (is_castling p m)) h).1 in
-    let same = and_parts (same_square m.to to) (same_promotion m.promotion promotion) (and_parts _ (not _) rest).0 in
+    let rest = (and_parts (own p k m.from && hints_fit file rank m.from) ((same_square m.to to && same_promotion m.promotion promotion) && not (is_castling p m)) h).1 in
+    let same = and_parts (same_square m.to to) (same_promotion m.promotion promotion) (and_parts (same_square m.to to && same_promotion m.promotion promotion) (not (is_castling p m)) rest).0 in
     let on = (and_parts (on_board m.from) (on_board m.to) (stepped p m legal).on).0 in
-    subst (λ (n : Move). Contains (map (move_from to promotion) squares) n) (sym (move_of m _ to _ refl (squares_same m.to to same.0) (promotions_same _ _ same.1)))
-    (in_map (move_from to promotion) squares m.from (in_squares _ on))
+    subst (λ (n : Move). Contains (map (move_from to promotion) squares) n) (sym (move_of m m.from to promotion refl (squares_same m.to to same.0) (promotions_same m.promotion promotion same.1)))
+    (in_map (move_from to promotion) squares m.from (in_squares m.from on))
 
 -- What is found.
 
@@ -130,8 +130,8 @@ pub agreeing_found : (p : Parts) (f : Form) (m : Move) (q : Parts) → agrees p 
 unfolding agreeing
 agreeing_found p f m q h after =
     let both = and_parts (is_legal p m) (describes p f m) h in
-    in_found (told p f) (moves_to_try p f) m _ (is_possible p f m both.0 both.1)
-    (played_some _ p q m both.1 after)
+    in_found (told p f) (moves_to_try p f) m (record { mv = m; next = q }) (is_possible p f m both.0 both.1)
+    (played_some (describes p f m) p q m both.1 after)
 
 -- what is found of a move
 record Tells (b : Bool) (p : Parts) (m : Move) (x : Played) : Type 0 where
@@ -141,7 +141,7 @@ record Tells (b : Bool) (p : Parts) (m : Move) (x : Played) : Type 0 where
 
 tells : (b : Bool) (p : Parts) (m : Move) (x : Played) → played b p m ≡ Some x → Tells b p m x
 tells false p m x h = absurd (cc)
-tells true p m x h = by_next _ refl h
+tells true p m x h = by_next (legal p m) refl h
   where
     by_next : (o : Option Parts) → legal p m ≡ o → with_next m o ≡ Some x → Tells true p m x
     by_next None e g = absurd (cc)
@@ -163,14 +163,14 @@ found_agrees p f x c =
     record {
       holds =
           and_from (is_legal p x.mv) (describes p f x.mv) (ap (λ (o : Option Parts). is_some o) after)
-          (rw t.same t.says);
+          (subst (λ (n : Move). describes p f n ≡ true) (sym t.same) t.says);
       after = after;
     }
 
 -- of two that are found, the moves differ
 two_differ : (p : Parts) (f : Form) (ms : List Move) → Apart ms → (x y : Played) (more : List Played) → filter_map (told p f) ms ≡ x ∷ y ∷ more → x.mv ≢ y.mv
 two_differ p f [] apart x y more e = absurd (cc)
-two_differ p f (m ∷ ms) apart x y more e = by_found _ refl e (two_differ p f ms apart.1 x y more)
+two_differ p f (m ∷ ms) apart x y more e = by_found (told p f m) refl e (two_differ p f ms apart.1 x y more)
   where
     by_found : (o : Option Played) → told p f m ≡ o → cons_option o (filter_map (told p f) ms) ≡ x ∷ y ∷ more → (filter_map (told p f) ms ≡ x ∷ y ∷ more → x.mv ≢ y.mv) → x.mv ≢ y.mv
     by_found None g h rest = rest h
@@ -184,7 +184,7 @@ two_differ p f (m ∷ ms) apart x y more e = by_found _ refl e (two_differ p f m
 
 pub agreeing_differ : (p : Parts) (f : Form) (x y : Played) (more : List Played) → agreeing p f ≡ x ∷ y ∷ more → x.mv ≢ y.mv
 unfolding agreeing
-agreeing_differ p f x y more e = two_differ p f _ (possible_apart p f) x y more e
+agreeing_differ p f x y more e = two_differ p f (moves_to_try p f) (possible_apart p f) x y more e
 
 -- The laws.
 
@@ -192,22 +192,22 @@ module _ (p : Parts) (f : Form) where
   -- a move that agrees is one of those found
   is_found : (xs : List Played) → agreeing p f ≡ xs → (m : Move) → agrees p f m ≡ true → (q : Parts) × (legal p m ≡ Some q) × Contains xs (record { mv = m; next = q })
   is_found xs e m h =
-      let (q, after) = legal_next _ (and_parts _ _ h).0 in
+      let (q, after) = legal_next (legal p m) (and_parts (is_legal p m) (describes p f m) h).0 in
       (q, after, subst (λ (ys : List Played). Contains ys (record { mv = m; next = q })) e (agreeing_found p f m q h after))
 
   first_agrees : (x : Played) (more : List Played) → agreeing p f ≡ x ∷ more → Agrees p f x
-  first_agrees x more e = found_agrees p f x (rw e (here x more))
+  first_agrees x more e = found_agrees p f x (subst (λ (ys : List Played). Contains ys x) (sym e) (here x more))
 
   second_agrees : (x y : Played) (more : List Played) → agreeing p f ≡ x ∷ y ∷ more → Agrees p f y
   second_agrees x y more e =
-      found_agrees p f y (rw e (later x y (y ∷ more) (here y more)))
+      found_agrees p f y (subst (λ (ys : List Played). Contains ys y) (sym e) (later x y (y ∷ more) (here y more)))
 
   alone : (x : Played) → agreeing p f ≡ x ∷ [] → (m : Move) → agrees p f m ≡ true → m ≡ x.mv
   alone x e m h =
-      let (q, after, c) = is_found _ e m h in
-      elim (element x _ [] c) [
+      let (q, after, c) = is_found (x ∷ []) e m h in
+      elim (element x (record { mv = m; next = q }) [] c) [
         | inl is ↦ sym (ap (λ (y : Played). y.mv) is)
-        | inr more ↦ absurd (none_in _ more)
+        | inr more ↦ absurd (none_in (record { mv = m; next = q }) more)
       ]
 
   one_to : (x : Played) (xs : List Played) → agreeing p f ≡ xs → only xs ≡ Ok x → (agrees p f x.mv ≡ true) × (legal p x.mv ≡ Some x.next) × ((m : Move) → agrees p f m ≡ true → m ≡ x.mv)
@@ -220,17 +220,17 @@ module _ (p : Parts) (f : Form) where
   one_to x (y ∷ z ∷ more) e h = absurd (cc)
 
   one_from : (x : Played) (xs : List Played) → agreeing p f ≡ xs → agrees p f x.mv ≡ true → legal p x.mv ≡ Some x.next → ((m : Move) → agrees p f m ≡ true → m ≡ x.mv) → only xs ≡ Ok x
-  one_from x [] e h after single = absurd (none_in x (subst (λ (ys : List Played). Contains ys x) e (agreeing_found p f x.mv _ h after)))
+  one_from x [] e h after single = absurd (none_in x (subst (λ (ys : List Played). Contains ys x) e (agreeing_found p f x.mv x.next h after)))
   one_from x (y ∷ []) e h after single =
-      elim (element y x [] (subst (λ (ys : List Played). Contains ys x) e (agreeing_found p f x.mv _ h after))) [
+      elim (element y x [] (subst (λ (ys : List Played). Contains ys x) e (agreeing_found p f x.mv x.next h after))) [
         | inl is ↦ ap (λ (z : Played). Ok z) is
         | inr more ↦ absurd (none_in x more)
       ]
   one_from x (y ∷ z ∷ more) e h after single =
-      absurd (agreeing_differ p f y z more e (single y.mv (first_agrees y _ e).holds ∙ sym (single z.mv (second_agrees y z more e).holds)))
+      absurd (agreeing_differ p f y z more e (single y.mv (first_agrees y (z ∷ more) e).holds ∙ sym (single z.mv (second_agrees y z more e).holds)))
 
   none_to : (xs : List Played) → agreeing p f ≡ xs → only xs ≡ Err NoMove → (m : Move) → agrees p f m ≡ true → ⊥
-  none_to [] e h m agreed = (let (q, after, c) = is_found [] e m agreed in none_in _ c)
+  none_to [] e h m agreed = (let (q, after, c) = is_found [] e m agreed in none_in (record { mv = m; next = q }) c)
   none_to (y ∷ []) e h m agreed = cc
   none_to (y ∷ z ∷ more) e h m agreed = cc
 
@@ -242,20 +242,20 @@ module _ (p : Parts) (f : Form) where
   two_to [] e h = absurd (cc)
   two_to (y ∷ []) e h = absurd (cc)
   two_to (y ∷ z ∷ more) e h =
-      (y.mv, z.mv, agreeing_differ p f y z more e, (first_agrees y _ e).holds, (second_agrees y z more e).holds)
+      (y.mv, z.mv, agreeing_differ p f y z more e, (first_agrees y (z ∷ more) e).holds, (second_agrees y z more e).holds)
 
   two_from : (xs : List Played) → agreeing p f ≡ xs → (m n : Move) → m ≢ n → agrees p f m ≡ true → agrees p f n ≡ true → only xs ≡ Err Ambiguous
-  two_from [] e m n differ a b = (let (q, after, c) = is_found [] e m a in absurd (none_in _ c))
+  two_from [] e m n differ a b = (let (q, after, c) = is_found [] e m a in absurd (none_in (record { mv = m; next = q }) c))
   two_from (y ∷ []) e m n differ a b = absurd (differ (alone y e m a ∙ sym (alone y e n b)))
   two_from (y ∷ z ∷ more) e m n differ a b = refl
 
 pub the_one_move_is_read : TheOneMoveIsRead
 the_one_move_is_read p f x =
-    (one_to p f x _ refl, λ (agreed, after, single). one_from p f x _ refl agreed after single)
+    (one_to p f x (agreeing p f) refl, λ (agreed, after, single). one_from p f x (agreeing p f) refl agreed after single)
 
 pub no_move_is_read : NoMoveIsRead
-no_move_is_read p f = (none_to p f _ refl, none_from p f _ refl)
+no_move_is_read p f = (none_to p f (agreeing p f) refl, none_from p f (agreeing p f) refl)
 
 pub two_moves_are_ambiguous : TwoMovesAreAmbiguous
 two_moves_are_ambiguous p f =
-    (two_to p f _ refl, λ (m, n, differ, a, b). two_from p f _ refl m n differ a b)
+    (two_to p f (agreeing p f) refl, λ (m, n, differ, a, b). two_from p f (agreeing p f) refl m n differ a b)

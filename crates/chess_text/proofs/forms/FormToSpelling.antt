@@ -1,5 +1,5 @@
 -- A form that is read of a text is spelled by it.
-use Rattle.chess_text.proofs.Words.{◌≡◌, ℕ, ◌+◌, ◌-◌, ◌<◌, Bool, true, false, ◌&&◌, nat_lt, nat_le, ◌==◌, List, [], ◌∷◌, ◌++◌, length, append-nil, refl, sym, ◌∙◌, ap, ap₂, subst, arith, Option, None, Some, is_some, find, codes, if◌then◌else◌, list_all, eqb-true, nat_tests, Kind, King, Queen, Rook, Bishop, Knight, Pawn, Promotion, Square, on_board, Form, Man, letter, kinds, file_letter, rank_digit, square_text, SpellsBare, Spells, is_among, letter_texts, hint_text, capture_texts, promotion_letter, promotions, promotion_texts, castle_texts, is_mark, below_eight, is_form, last_byte, front, front_if, before_marks, file_of, rank_of, promotion_of, promotion_at_end, before_sign, before_promotion, square_of, target_at_end, before_capture, before_target, rank_at_end, before_rank, file_at_end, before_file, kind_of_text, piece_move_if, piece_move_of, castle_of, castle_or, bare_form, form_of, same_Some}
+use Rattle.chess_text.proofs.Words.{◌≡◌, ℕ, ◌+◌, ◌-◌, ◌<◌, Bool, true, false, ◌&&◌, nat_lt, nat_le, ◌==◌, List, [], ◌∷◌, ◌++◌, length, append-nil, refl, sym, ◌∙◌, ap, ap₂, subst, arith, Option, None, Some, is_some, find, codes, if◌then◌else◌, list_all, eqb-true, nat_tests, Kind, King, Queen, Rook, Bishop, Knight, Pawn, Promotion, Square, square, on_board, Form, Castle, Man, letter, kinds, file_letter, rank_digit, square_text, SpellsBare, Spells, is_among, letter_texts, hint_text, capture_texts, promotion_letter, promotions, promotion_texts, castle_texts, is_mark, below_eight, is_form, last_byte, front, front_if, before_marks, file_of, rank_of, promotion_of, promotion_at_end, before_sign, before_promotion, square_of, target_at_end, before_capture, before_target, rank_at_end, before_rank, file_at_end, before_file, kind_of_text, piece_move_if, piece_move_of, castle_of, castle_or, bare_form, form_of, same_Some}
 use Rattle.std.proofs.lemmas.List.{append_assoc}
 use Rattle.chess_rules.specs.declared.piece.Promotion.TheVariants as become
 use Rattle.chess_text.proofs.forms.SpellingToForm.{snoc_again}
@@ -13,7 +13,7 @@ record Marked (s : List ℕ) : Type 0 where
 
 marked : (s : List ℕ) → Marked s
 marked [] = record { marks = []; joined = refl; alone = refl }
-marked (c ∷ s) = by_test _ refl (marked s)
+marked (c ∷ s) = by_test (list_all is_mark (c ∷ s)) refl (marked s)
   where
     by_test : (b : Bool) → list_all is_mark (c ∷ s) ≡ b → Marked s → Marked (c ∷ s)
     by_test true e rest = record { marks = c ∷ s; joined = rw e refl; alone = e }
@@ -29,35 +29,35 @@ ends_in : (s : List ℕ) (n : ℕ) → last_byte s ≡ n → 0 < n → s ≡ fro
 ends_in s n e h = cc (snoc_again s (not_empty s n e h))
 
 is_it : (s : List ℕ) (n : ℕ) → (last_byte s == n) ≡ true → 0 < n → s ≡ front s ++ n ∷ []
-is_it s n h low = ends_in s n (eqb-true _ n h) low
+is_it s n h low = ends_in s n (eqb-true (last_byte s) n h) low
 
 pub file_byte : (c n : ℕ) → file_of c ≡ Some n → (c ≡ 97 + n) × (nat_lt n 8 ≡ true)
-file_byte c n h = by_test _ refl h
+file_byte c n h = by_test (nat_le 97 c && nat_le c 104) refl h
   where
     by_test : (b : Bool) → (nat_le 97 c && nat_le c 104) ≡ b → (if b then Some (c - 97) else None) ≡ Some n → (c ≡ 97 + n) × (nat_lt n 8 ≡ true)
-    by_test true e g = let same = same_Some _ n g in (grind (arith, nat_tests), grind (arith, nat_tests))
+    by_test true e g = let same : c - 97 ≡ n = same_Some (c - 97) n g in (grind (arith, nat_tests), grind (arith, nat_tests))
     by_test false e g = absurd (cc)
 
 rank_byte : (c n : ℕ) → rank_of c ≡ Some n → (c ≡ 49 + n) × (nat_lt n 8 ≡ true)
-rank_byte c n h = by_test _ refl h
+rank_byte c n h = by_test (nat_le 49 c && nat_le c 56) refl h
   where
     by_test : (b : Bool) → (nat_le 49 c && nat_le c 56) ≡ b → (if b then Some (c - 49) else None) ≡ Some n → (c ≡ 49 + n) × (nat_lt n 8 ≡ true)
-    by_test true e g = let same = same_Some _ n g in (grind (arith, nat_tests), grind (arith, nat_tests))
+    by_test true e g = let same : c - 49 ≡ n = same_Some (c - 49) n g in (grind (arith, nat_tests), grind (arith, nat_tests))
     by_test false e g = absurd (cc)
 
 file_spelled : (s : List ℕ) → (s ≡ before_file s ++ hint_text file_letter (file_at_end s)) × (below_eight (file_at_end s) ≡ true)
-file_spelled s = by_byte _ refl
+file_spelled s = by_byte (file_at_end s) refl
   where
     by_byte : (o : Option ℕ) → file_at_end s ≡ o → (s ≡ front_if (is_some o) s ++ hint_text file_letter o) × (below_eight o ≡ true)
     by_byte None e = (sym (append-nil s), refl)
-    by_byte (Some n) e = (ends_in s (97 + n) (file_byte _ n e).0 (omega arith), (file_byte (last_byte s) n e).1)
+    by_byte (Some n) e = (ends_in s (97 + n) (file_byte (last_byte s) n e).0 (omega arith), (file_byte (last_byte s) n e).1)
 
 rank_spelled : (s : List ℕ) → (s ≡ before_rank s ++ hint_text rank_digit (rank_at_end s)) × (below_eight (rank_at_end s) ≡ true)
-rank_spelled s = by_byte _ refl
+rank_spelled s = by_byte (rank_at_end s) refl
   where
     by_byte : (o : Option ℕ) → rank_at_end s ≡ o → (s ≡ front_if (is_some o) s ++ hint_text rank_digit o) × (below_eight o ≡ true)
     by_byte None e = (sym (append-nil s), refl)
-    by_byte (Some n) e = (ends_in s (49 + n) (rank_byte _ n e).0 (omega arith), (rank_byte (last_byte s) n e).1)
+    by_byte (Some n) e = (ends_in s (49 + n) (rank_byte (last_byte s) n e).0 (omega arith), (rank_byte (last_byte s) n e).1)
 
 -- one of the ways to write a part, and what stands before it
 record Part (s before : List ℕ) (texts : List (List ℕ)) : Type 0 where
@@ -66,38 +66,38 @@ record Part (s before : List ℕ) (texts : List (List ℕ)) : Type 0 where
   fits : is_among text texts ≡ true
 
 capture_spelled : (s : List ℕ) → Part s (before_capture s) capture_texts
-capture_spelled s = by_test _ refl
+capture_spelled s = by_test (last_byte s == 120) refl
   where
     by_test : (b : Bool) → (last_byte s == 120) ≡ b → Part s (front_if b s) capture_texts
     by_test true e = record { text = codes "x"; joined = is_it s 120 e (omega arith); fits = refl }
     by_test false e = record { text = []; joined = sym (append-nil s); fits = refl }
 
 pub target_spelled : (s : List ℕ) (to : Square) → target_at_end s ≡ Some to → (s ≡ front (front s) ++ square_text to) × (on_board to ≡ true)
-target_spelled s to h = by_bytes _ _ refl refl h
+target_spelled s to h = by_bytes (file_of (last_byte (front s))) (rank_of (last_byte s)) refl refl h
   where
     by_bytes : (f r : Option ℕ) → file_of (last_byte (front s)) ≡ f → rank_of (last_byte s) ≡ r → square_of f r ≡ Some to → (s ≡ front (front s) ++ square_text to) × (on_board to ≡ true)
     by_bytes None r e g h = absurd (cc)
     by_bytes (Some f) None e g h = absurd (cc)
     by_bytes (Some f) (Some r) e g h =
-        let same = same_Some _ to h in
-        let file = file_byte _ f e in
-        let rank = rank_byte _ r g in
-        let joined =
+        let same : square f r ≡ to = same_Some (square f r) to h in
+        let file : (last_byte (front s) ≡ 97 + f) × (nat_lt f 8 ≡ true) = file_byte (last_byte (front s)) f e in
+        let rank : (last_byte s ≡ 49 + r) × (nat_lt r 8 ≡ true) = rank_byte (last_byte s) r g in
+        let joined : s ≡ front (front s) ++ (97 + f) ∷ (49 + r) ∷ [] =
         ends_in s (49 + r) rank.0 (omega arith)
-        ∙ ap (λ t. t ++ (49 + r) ∷ []) (ends_in (front s) (97 + f) file.0 (omega arith)) ∙ append_assoc (front (front s)) ((97 + f) ∷ []) ((49 + r) ∷ []) in
+        ∙ (ap (λ t. t ++ (49 + r) ∷ []) (ends_in (front s) (97 + f) file.0 (omega arith)) ∙ append_assoc (front (front s)) ((97 + f) ∷ []) ((49 + r) ∷ [])) in
         (joined ∙ ap (λ t. front (front s) ++ square_text t) same, ap (λ t. on_board t) (sym same) ∙ ap₂ (λ a b. a && b) file.1 rank.1)
 
 -- what is found passes the test
 found : {X : Type 0} (p : X → Bool) (xs : List X) (x : X) → find p xs ≡ Some x → p x ≡ true
 found p [] x h = absurd (cc)
-found {X} p (y ∷ xs) x h = by_test _ refl (found p xs x) h
+found {X} p (y ∷ xs) x h = by_test (p y) refl (found p xs x) h
   where
     by_test : (b : Bool) → p y ≡ b → (find p xs ≡ Some x → p x ≡ true) → (if b then Some y else find p xs) ≡ Some x → p x ≡ true
     by_test true e more g = cc (same_Some y x g)
     by_test false e more g = more g
 
 promotion_byte : (c : ℕ) (q : Promotion) → promotion_of c ≡ Some q → c ≡ promotion_letter q
-promotion_byte c q h = sym (eqb-true _ c (found (λ p. promotion_letter p == c) promotions q h))
+promotion_byte c q h = sym (eqb-true (promotion_letter q) c (found (λ p. promotion_letter p == c) promotions q h))
 
 some_letter : (q : Promotion) → 0 < promotion_letter q
 some_letter become.Queen = omega arith
@@ -118,20 +118,20 @@ without_sign become.Bishop = refl
 without_sign become.Knight = refl
 
 promotion_spelled : (s : List ℕ) → Part s (before_promotion s) (promotion_texts (promotion_at_end s))
-promotion_spelled s = by_byte _ refl
+promotion_spelled s = by_byte (promotion_at_end s) refl
   where
     by_sign : (q : Promotion) (b : Bool) → (last_byte (front s) == 61) ≡ b → s ≡ front s ++ promotion_letter q ∷ [] → Part s (front_if b (front s)) (promotion_texts (Some q))
     by_sign q true e h =
         record {
           text = 61 ∷ promotion_letter q ∷ [];
-          joined = cc (is_it (front s) 61 e (omega arith), append_assoc (front _) (61 ∷ []) (promotion_letter q ∷ []));
+          joined = cc (is_it (front s) 61 e (omega arith), append_assoc (front (front s)) (61 ∷ []) (promotion_letter q ∷ []));
           fits = with_sign q;
         }
     by_sign q false e h = record { text = promotion_letter q ∷ []; joined = h; fits = without_sign q }
 
     by_byte : (o : Option Promotion) → promotion_at_end s ≡ o → Part s (if is_some o then before_sign (front s) else s) (promotion_texts o)
     by_byte None e = record { text = []; joined = sym (append-nil s); fits = refl }
-    by_byte (Some q) e = by_sign q (last_byte (front s) == 61) refl (ends_in s (promotion_letter q) (promotion_byte _ q e) (some_letter q))
+    by_byte (Some q) e = by_sign q (last_byte (front s) == 61) refl (ends_in s (promotion_letter q) (promotion_byte (last_byte s) q e) (some_letter q))
 
 own_letter : (k : Kind) → is_among (letter k ∷ []) (letter_texts k) ≡ true
 own_letter King = refl
@@ -155,7 +155,7 @@ record Told (s : List ℕ) (f : Form) : Type 0 where
 -- what stands before the target, and what the rest says
 piece_move_spelled : (s : List ℕ) (f : Form) → piece_move_of s ≡ Some f → Told s f
 piece_move_spelled s f h =
-    by_parts _ _ refl refl h
+    by_parts (kind_of_text (before_file (before_rank b))) (target_at_end d) refl refl h
   where
     d : List ℕ
     d = before_promotion s
@@ -168,11 +168,11 @@ piece_move_spelled s f h =
     by_parts k None e g h = absurd (cc)
     by_parts None (Some to) e g h = absurd (cc)
     by_parts (Some k) (Some to) e g h =
-        let a = before_rank b in
-        let l = before_file a in
-        let p = promotion_spelled s in
-        let t = target_spelled d to g in
-        let x = capture_spelled (front (front d)) in
+        let a : List ℕ = before_rank b in
+        let l : List ℕ = before_file a in
+        let p : Part s d (promotion_texts (promotion_at_end s)) = promotion_spelled s in
+        let t : (d ≡ front (front d) ++ square_text to) × (on_board to ≡ true) = target_spelled d to g in
+        let x : Part (front (front d)) b capture_texts = capture_spelled (front (front d)) in
         let r : (b ≡ a ++ hint_text rank_digit (rank_at_end b)) × (below_eight (rank_at_end b) ≡ true) = rank_spelled b in
         let i : (a ≡ l ++ hint_text file_letter (file_at_end a)) × (below_eight (file_at_end a) ≡ true) = file_spelled a in
         let r_is : b ≡ (l ++ hint_text file_letter (file_at_end a)) ++ hint_text rank_digit (rank_at_end b) = cc in
@@ -183,19 +183,19 @@ piece_move_spelled s f h =
           spelled = record { letters = l; capture = x.text; promoted = p.text; joined = p.joined ∙ ap (λ u. u ++ p.text) d_is; letters_fit = kind_spelled l k e; capture_fits = x.fits; promoted_fits = p.fits };
           good = ap₂ (λ v w. v && w) (ap₂ (λ v w. v && w) i.1 r.1) t.1;
         } in
-        subst (λ z. Told s z) (same_Some _ f h) piece_move
+        subst (λ z. Told s z) (same_Some (Man k (file_at_end a) (rank_at_end b) to (promotion_at_end s)) f h) piece_move
 
 bare_spelled : (s : List ℕ) (f : Form) → bare_form s ≡ Some f → Told s f
-bare_spelled s f h = by_castling _ refl h
+bare_spelled s f h = by_castling (castle_of s) refl h
   where
     by_castling : (o : Option Bool) → castle_of s ≡ o → castle_or o (piece_move_of s) ≡ Some f → Told s f
     by_castling None e g = piece_move_spelled s f g
     by_castling (Some long) e g =
-        subst (λ z. Told s z) (same_Some _ f g)
+        subst (λ z. Told s z) (same_Some (Castle long) f g)
         (record { spelled = found (λ l. is_among s (castle_texts l)) (false ∷ true ∷ []) long e; good = refl })
 
 pub form_spelled : (s : List ℕ) (f : Form) → form_of s ≡ Some f → Spells s f × (is_form f ≡ true)
 form_spelled s f h =
-    let m = marked s in
-    let t = bare_spelled _ f h in
+    let m : Marked s = marked s in
+    let t : Told (before_marks s) f = bare_spelled (before_marks s) f h in
     (record { bare = before_marks s; marks = m.marks; joined = m.joined; spells_bare = t.spelled; marks_alone = m.alone }, t.good)

@@ -13,7 +13,7 @@ pub data PawnWay (p : Parts) (m : Move) : Type 0 where
 
 pawn_attack : (c : Colour) (cell : Option Piece) (b : Board) (s t : Square) → has_piece c Pawn cell ≡ true → cell_attacks cell b s t ≡ true → (gap s.file t.file ≡ 1) × (is_ahead c s.rank t.rank ≡ true)
 pawn_attack c None b s t h g = absurd (false≢true h)
-pawn_attack c (Some x) b s t h g = by_kind _ (and_parts _ _ h).1 g
+pawn_attack c (Some x) b s t h g = by_kind x.kind (and_parts (same_colour c x.colour) (same_kind Pawn x.kind) h).1 g
   where
     ahead : (c d : Colour) → same_colour c d ≡ true → is_ahead d s.rank t.rank ≡ true → is_ahead c s.rank t.rank ≡ true
     ahead White White e f = f
@@ -28,8 +28,8 @@ pawn_attack c (Some x) b s t h g = by_kind _ (and_parts _ _ h).1 g
     by_kind Bishop a g = absurd (false≢true a)
     by_kind Knight a g = absurd (false≢true a)
     by_kind Pawn a g =
-        let both = and_parts _ _ g in
-        (eqb-true (gap _ _) 1 both.0, ahead c x.colour (and_parts _ _ h).0 both.1)
+        let both = and_parts (gap s.file t.file == 1) (is_ahead x.colour s.rank t.rank) g in
+        (eqb-true (gap s.file t.file) 1 both.0, ahead c x.colour (and_parts (same_colour c x.colour) (same_kind Pawn x.kind) h).0 both.1)
 
 full : (c : Colour) (cell : Option Piece) → has_colour c cell ≡ true → is_none cell ≡ false
 full c None g = absurd (false≢true g)
@@ -38,23 +38,23 @@ full c (Some x) g = refl
 pub pawn_way : (p : Parts) (m : Move) → is_legal p m ≡ true → own p Pawn m.from ≡ true → PawnWay p m
 pawn_way p m h pawn =
     elim (or_cases (is_piece_step p m || is_pawn_step p m) (is_en_passant p m || is_castling p m) (stepped p m h).way) [
-      | inl plain ↦ elim (or_cases _ (is_pawn_step p m) plain) [
+      | inl plain ↦ elim (or_cases (is_piece_step p m) (is_pawn_step p m) plain) [
         | inl piece ↦ absurd (no_piece piece)
-        | inr step ↦ by_way (and_parts _ (promotion_fits p m) (and_parts _ _ step).1).0
+        | inr step ↦ by_way (and_parts (is_pawn_way p m) (promotion_fits p m) (and_parts (own p Pawn m.from) (is_pawn_way p m && promotion_fits p m) step).1).0
       ]
-      | inr more ↦ elim (or_cases _ (is_castling p m) more) [
+      | inr more ↦ elim (or_cases (is_en_passant p m) (is_castling p m) more) [
         | inl passing ↦ by_passing passing
         | inr castling ↦ absurd (no_castle castling)
       ]
     ]
   where
     hits : attacks p.board m.from m.to ≡ true → (gap m.from.file m.to.file ≡ 1) × (is_ahead p.side m.from.rank m.to.rank ≡ true)
-    hits g = pawn_attack _ _ _ _ m.to pawn g
+    hits g = pawn_attack p.side (at p.board m.from) p.board m.from m.to pawn g
 
     no_piece : is_piece_step p m ≡ true → ⊥
     no_piece piece =
-        let stands = (and_parts _ _ piece).0 in
-        let no_pawn = (and_parts _ _ stands).0 in
+        let stands = (and_parts ((has_colour p.side (at p.board m.from) && not (own p Pawn m.from)) && is_none m.promotion) (attacks p.board m.from m.to && not (has_colour p.side (at p.board m.to))) piece).0 in
+        let no_pawn = (and_parts (has_colour p.side (at p.board m.from) && not (own p Pawn m.from)) (is_none m.promotion) stands).0 in
         false≢true (sym (ap not pawn) ∙ (and_parts (has_colour p.side (at p.board m.from)) (not (own p Pawn m.from)) no_pawn).1)
 
     no_castle : is_castling p m ≡ true → ⊥
@@ -69,9 +69,9 @@ pawn_way p m h pawn =
 
     by_advance : is_advance p m ≡ true → PawnWay p m
     by_advance g =
-        let both = and_parts _ _ g in
+        let both = and_parts ((m.from.file == m.to.file) && is_ahead p.side m.from.rank m.to.rank) (is_empty p.board m.to) g in
         let way = and_parts (m.from.file == m.to.file) (is_ahead p.side m.from.rank m.to.rank) both.0 in
-        advances (eqb-true _ _ way.0) way.1 both.1
+        advances (eqb-true m.from.file m.to.file way.0) way.1 both.1
 
     by_double : is_double_step p m ≡ true → PawnWay p m
     by_double g =
@@ -79,19 +79,19 @@ pawn_way p m h pawn =
         let way = and_parts (m.from.file == m.to.file) ((m.from.rank == pawn_rank p.side) && (m.to.rank == double_rank p.side)) both.0 in
         let ranks = and_parts (m.from.rank == pawn_rank p.side) (m.to.rank == double_rank p.side) way.1 in
         let free = and_parts (is_empty p.board (crossed m)) (is_empty p.board m.to) both.1 in
-        doubles (eqb-true m.from.file m.to.file way.0) (eqb-true m.from.rank (pawn_rank _) ranks.0) (eqb-true m.to.rank (double_rank _) ranks.1) free.0 free.1
+        doubles (eqb-true m.from.file m.to.file way.0) (eqb-true m.from.rank (pawn_rank p.side) ranks.0) (eqb-true m.to.rank (double_rank p.side) ranks.1) free.0 free.1
 
     by_capture : is_pawn_capture p m ≡ true → PawnWay p m
     by_capture g =
-        let both = and_parts (attacks p.board m.from m.to) (has_colour (other _) (at _ m.to)) g in
+        let both = and_parts (attacks p.board m.from m.to) (has_colour (other p.side) (at p.board m.to)) g in
         let way = hits both.0 in
-        takes way.0 way.1 (full (other _) (at _ m.to) both.1)
+        takes way.0 way.1 (full (other p.side) (at p.board m.to) both.1)
 
     by_way : is_pawn_way p m ≡ true → PawnWay p m
     by_way g =
-        elim (or_cases _ _ g) [
+        elim (or_cases (is_advance p m) (is_double_step p m || is_pawn_capture p m) g) [
           | inl one ↦ by_advance one
-          | inr more ↦ elim (or_cases _ _ more) [
+          | inr more ↦ elim (or_cases (is_double_step p m) (is_pawn_capture p m) more) [
             | inl two ↦ by_double two
             | inr capture ↦ by_capture capture
           ]
@@ -117,7 +117,7 @@ pawn_takes p m pawn legal = by_way (pawn_way p m legal pawn)
         cc (false_from_ne_true (is_en_passant p m) (λ h. let hits = (and_parts (attacks p.board m.from m.to) (has_piece (other p.side) Pawn (at p.board (captured_pawn m))) (and_parts ((own p Pawn m.from && promotion_fits p m) && (is_target p.target m.to && is_empty p.board m.to)) (attacks p.board m.from m.to && has_piece (other p.side) Pawn (at p.board (captured_pawn m))) h).1).0 in gap_apart m.from.file m.to.file file (pawn_attack p.side (at p.board m.from) p.board m.from m.to pawn hits).0), eq-eqb m.from.file m.to.file file)
 
     by_way : PawnWay p m → is_capture p m ≡ not (m.from.file == m.to.file)
-    by_way (takes g a f) = cc (sideways _ _ g)
-    by_way (passes g a t e) = cc (or_true _, sideways _ _ g)
+    by_way (takes g a f) = cc (sideways m.from.file m.to.file g)
+    by_way (passes g a t e) = cc (or_true (not (is_empty p.board m.to)), sideways m.from.file m.to.file g)
     by_way (advances s a f) = straight s f
     by_way (doubles s a b e f) = straight s f

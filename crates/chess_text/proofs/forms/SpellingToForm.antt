@@ -20,7 +20,7 @@ front-snoc t c = cc (end_of t c, take-append_seam t (c ∷ []))
 pub snoc_again : (s : List ℕ) → 0 < length s → s ≡ front s ++ last_byte s ∷ []
 snoc_again s h =
     let whole : take ((length s - 1) + 1) s ≡ s = cc (up (length s) h, take_all (length s) s (omega arith)) in
-    sym whole ∙ take_more s _ 0 (omega arith)
+    sym whole ∙ take_more s (length s - 1) 0 (omega arith)
   where
     up : (n : ℕ) → 0 < n → (n - 1) + 1 ≡ n
     up n h = omega arith
@@ -28,7 +28,7 @@ snoc_again s h =
 no_mark_end : (s : List ℕ) → is_mark (last_byte s) ≡ false → before_marks s ≡ s
 no_mark_end [] h = refl
 no_mark_end (c ∷ s) h =
-    let again = snoc_again (c ∷ s) (omega arith) in
+    let again : c ∷ s ≡ front (c ∷ s) ++ last_byte (c ∷ s) ∷ [] = snoc_again (c ∷ s) (omega arith) in
     cc (before_marks-last (front (c ∷ s)) (last_byte (c ∷ s)) h)
 
 -- One of the ways to write a part.
@@ -41,14 +41,14 @@ or_none true h = refl
 or_none false h = h
 
 pub one_of : (s a : List ℕ) → is_among s (a ∷ []) ≡ true → s ≡ a
-one_of s a h = same_bytes s a (or_none _ h)
+one_of s a h = same_bytes s a (or_none (bytes_eq s a) h)
 
 pub two_of : (s a b : List ℕ) → is_among s (a ∷ b ∷ []) ≡ true → (s ≡ a) ⊎ (s ≡ b)
-two_of s a b h = by_first _ refl h
+two_of s a b h = by_first (bytes_eq s a) refl h
   where
     by_first : (x : Bool) → bytes_eq s a ≡ x → (x || (bytes_eq s b || false)) ≡ true → (s ≡ a) ⊎ (s ≡ b)
     by_first true e g = inl (same_bytes s a e)
-    by_first false e g = inr (same_bytes s b (or_none _ g))
+    by_first false e g = inr (same_bytes s b (or_none (bytes_eq s b) g))
 
 -- The letter.
 
@@ -60,15 +60,15 @@ record Letters (s : List ℕ) (k : Kind) : Type 0 where
   no_x : (last_byte s == 120) ≡ false
 
 letters_read : (k : Kind) (s : List ℕ) → is_among s (letter_texts k) ≡ true → Letters s k
-letters_read King s h = rw (one_of s (codes "K") h) (record { named = refl; no_file = refl; no_rank = refl; no_x = refl })
-letters_read Queen s h = rw (one_of s (codes "Q") h) (record { named = refl; no_file = refl; no_rank = refl; no_x = refl })
-letters_read Rook s h = rw (one_of s (codes "R") h) (record { named = refl; no_file = refl; no_rank = refl; no_x = refl })
-letters_read Bishop s h = rw (one_of s (codes "B") h) (record { named = refl; no_file = refl; no_rank = refl; no_x = refl })
-letters_read Knight s h = rw (one_of s (codes "N") h) (record { named = refl; no_file = refl; no_rank = refl; no_x = refl })
+letters_read King s h = subst (λ t. Letters t King) (sym (one_of s (codes "K") h)) (record { named = refl; no_file = refl; no_rank = refl; no_x = refl })
+letters_read Queen s h = subst (λ t. Letters t Queen) (sym (one_of s (codes "Q") h)) (record { named = refl; no_file = refl; no_rank = refl; no_x = refl })
+letters_read Rook s h = subst (λ t. Letters t Rook) (sym (one_of s (codes "R") h)) (record { named = refl; no_file = refl; no_rank = refl; no_x = refl })
+letters_read Bishop s h = subst (λ t. Letters t Bishop) (sym (one_of s (codes "B") h)) (record { named = refl; no_file = refl; no_rank = refl; no_x = refl })
+letters_read Knight s h = subst (λ t. Letters t Knight) (sym (one_of s (codes "N") h)) (record { named = refl; no_file = refl; no_rank = refl; no_x = refl })
 letters_read Pawn s h =
     elim (two_of s [] (codes "P") h) [
-      | inl e ↦ rw e (record { named = refl; no_file = refl; no_rank = refl; no_x = refl })
-      | inr e ↦ rw e (record { named = refl; no_file = refl; no_rank = refl; no_x = refl })
+      | inl e ↦ subst (λ t. Letters t Pawn) (sym e) (record { named = refl; no_file = refl; no_rank = refl; no_x = refl })
+      | inr e ↦ subst (λ t. Letters t Pawn) (sym e) (record { named = refl; no_file = refl; no_rank = refl; no_x = refl })
     ]
 
 -- The hints.
@@ -97,14 +97,14 @@ record FileRead (s t : List ℕ) (file : Option ℕ) : Type 0 where
 
 file_read : (s : List ℕ) (k : Kind) (file : Option ℕ) → below_eight file ≡ true → Letters s k → FileRead s (s ++ hint_text file_letter file) file
 file_read s k None h l =
-    rw (append-nil s)
+    subst (λ t. FileRead s t None) (sym (append-nil s))
     (record { told = l.no_file; before = cc; no_rank = l.no_rank; no_x = l.no_x })
 file_read s k (Some n) h l =
-    let last = last_byte-snoc s (97 + n) in
+    let last : last_byte (s ++ (97 + n) ∷ []) ≡ 97 + n = last_byte-snoc s (97 + n) in
     let there : file_at_end (s ++ (97 + n) ∷ []) ≡ Some n = cc (file_back n h) in
     record {
       told = there;
-      before = cc (front-snoc s _);
+      before = cc (front-snoc s (97 + n));
       no_rank = cc (file_no_rank n h);
       no_x = cc (file_no_x n h);
     }
@@ -116,13 +116,13 @@ record RankRead (s t : List ℕ) (rank : Option ℕ) : Type 0 where
 
 rank_read : (s : List ℕ) (rank : Option ℕ) → below_eight rank ≡ true → rank_of (last_byte s) ≡ None → (last_byte s == 120) ≡ false → RankRead s (s ++ hint_text rank_digit rank) rank
 rank_read s None h none no_x =
-    rw (append-nil s) (record { told = none; before = cc; no_x = no_x })
+    subst (λ t. RankRead s t None) (sym (append-nil s)) (record { told = none; before = cc; no_x = no_x })
 rank_read s (Some n) h none no_x =
-    let last = last_byte-snoc s (49 + n) in
+    let last : last_byte (s ++ (49 + n) ∷ []) ≡ 49 + n = last_byte-snoc s (49 + n) in
     let there : rank_at_end (s ++ (49 + n) ∷ []) ≡ Some n = cc (rank_back n h) in
     record {
       told = there;
-      before = cc (front-snoc s _);
+      before = cc (front-snoc s (49 + n));
       no_x = cc (rank_no_x n h);
     }
 
@@ -131,8 +131,8 @@ rank_read s (Some n) h none no_x =
 capture_read : (s x : List ℕ) → is_among x capture_texts ≡ true → (last_byte s == 120) ≡ false → before_capture (s ++ x) ≡ s
 capture_read s x h no_x =
     elim (two_of x [] (codes "x") h) [
-      | inl e ↦ ap (λ t. before_capture (s ++ t)) e ∙ ap (λ t. before_capture t) (append-nil s) ∙ ap (λ b. front_if b s) no_x
-      | inr e ↦ ap (λ t. before_capture (s ++ t)) e ∙ ap (λ c. front_if (c == 120) (s ++ 120 ∷ [])) (last_byte-snoc s 120) ∙ front-snoc s 120
+      | inl e ↦ ap (λ t. before_capture (s ++ t)) e ∙ (ap (λ t. before_capture t) (append-nil s) ∙ ap (λ b. front_if b s) no_x)
+      | inr e ↦ ap (λ t. before_capture (s ++ t)) e ∙ (ap (λ c. front_if (c == 120) (s ++ 120 ∷ [])) (last_byte-snoc s 120) ∙ front-snoc s 120)
     ]
 
 -- The target.
@@ -144,15 +144,15 @@ record TargetRead (s t : List ℕ) (to : Square) : Type 0 where
 
 target_read : (s : List ℕ) (to : Square) → on_board to ≡ true → TargetRead s (s ++ square_text to) to
 target_read s to h =
-    let a = 97 + to.file in
-    let b = 49 + to.rank in
-    let apart = sym (append_assoc s (a ∷ []) (b ∷ [])) in
-    let last = last_byte-snoc (s ++ a ∷ []) b in
-    let fore = front-snoc (s ++ a ∷ []) b in
-    let file =
-    ap (λ t. file_of (last_byte t)) fore ∙ ap (λ c. file_of c) (last_byte-snoc s a) ∙ file_back to.file (first_of_two (nat_lt to.file 8) (nat_lt to.rank 8) h) in
-    let rank =
-    ap rank_of last ∙ rank_back to.rank (second_of_two (nat_lt to.file 8) (nat_lt to.rank 8) h) in
+    let a : ℕ = 97 + to.file in
+    let b : ℕ = 49 + to.rank in
+    let apart : s ++ a ∷ b ∷ [] ≡ (s ++ a ∷ []) ++ b ∷ [] = sym (append_assoc s (a ∷ []) (b ∷ [])) in
+    let last : last_byte ((s ++ a ∷ []) ++ b ∷ []) ≡ b = last_byte-snoc (s ++ a ∷ []) b in
+    let fore : front ((s ++ a ∷ []) ++ b ∷ []) ≡ s ++ a ∷ [] = front-snoc (s ++ a ∷ []) b in
+    let file : file_of (last_byte (front ((s ++ a ∷ []) ++ b ∷ []))) ≡ Some to.file =
+    ap (λ t. file_of (last_byte t)) fore ∙ (ap (λ c. file_of c) (last_byte-snoc s a) ∙ file_back to.file (first_of_two (nat_lt to.file 8) (nat_lt to.rank 8) h)) in
+    let rank : rank_of (last_byte ((s ++ a ∷ []) ++ b ∷ [])) ≡ Some to.rank =
+    ap (λ c. rank_of c) last ∙ rank_back to.rank (second_of_two (nat_lt to.file 8) (nat_lt to.rank 8) h) in
     subst (λ t. TargetRead s t to) (sym apart)
     (record {
       told = cc;
@@ -204,18 +204,18 @@ record PromotionRead (s t : List ℕ) (promotion : Option Promotion) : Type 0 wh
 promotion_read : (s p : List ℕ) (n : ℕ) (promotion : Option Promotion) → is_among p (promotion_texts promotion) ≡ true → nat_lt n 8 ≡ true → last_byte s ≡ 49 + n → PromotionRead s (s ++ p) promotion
 promotion_read s p n None h low last =
     let none : promotion_at_end s ≡ None = cc (digit_no_promotion n low) in
-    rw (ap (λ u. s ++ u) (one_of p [] h) ∙ append-nil s)
+    subst (λ t. PromotionRead s t None) (sym (ap (λ u. s ++ u) (one_of p [] h) ∙ append-nil s))
     (record {
       told = none;
       before = rw none refl;
-      ends = rw last (record { no_mark = digit_no_mark n low; no_letter = digit_no_letter n low; no_zero = digit_no_zero n low });
+      ends = subst (λ c. Ends c) (sym last) (record { no_mark = digit_no_mark n low; no_letter = digit_no_letter n low; no_zero = digit_no_zero n low });
     })
 promotion_read s p n (Some q) h low last =
-    elim (two_of p _ _ h) [
-      | inl e ↦ rw e (by_letter s (ap (λ c. front_if (c == 61) s) last ∙ ap (λ b. front_if b s) (digit_no_sign n low)))
+    elim (two_of p (promotion_letter q ∷ []) (61 ∷ promotion_letter q ∷ []) h) [
+      | inl e ↦ subst (λ u. PromotionRead s (s ++ u) (Some q)) (sym e) (by_letter s (ap (λ c. front_if (c == 61) s) last ∙ ap (λ b. front_if b s) (digit_no_sign n low)))
       | inr e ↦
-          rw e
-          (subst (λ t. PromotionRead s t (Some q)) (append_assoc s _ _)
+          subst (λ u. PromotionRead s (s ++ u) (Some q)) (sym e)
+          (subst (λ t. PromotionRead s t (Some q)) (append_assoc s (61 ∷ []) (promotion_letter q ∷ []))
           (by_letter (s ++ 61 ∷ []) (ap (λ c. front_if (c == 61) (s ++ 61 ∷ [])) (last_byte-snoc s 61) ∙ front-snoc s 61)))
     ]
   where
@@ -224,8 +224,8 @@ promotion_read s p n (Some q) h low last =
         let there : promotion_at_end (t ++ promotion_letter q ∷ []) ≡ Some q = cc (last_byte-snoc t (promotion_letter q), promotion_back q) in
         record {
           told = there;
-          before = rw there (ap (λ u. before_sign u) (front-snoc t _) ∙ before);
-          ends = subst (λ c. Ends c) (sym (last_byte-snoc t _)) (letter_ends q);
+          before = rw there (ap (λ u. before_sign u) (front-snoc t (promotion_letter q)) ∙ before);
+          ends = subst (λ c. Ends c) (sym (last_byte-snoc t (promotion_letter q))) (letter_ends q);
         }
 
 -- All of it.
@@ -235,16 +235,16 @@ record BareRead (s : List ℕ) (f : Form) : Type 0 where
   whole : before_marks s ≡ s
 
 ends_not : (s t : List ℕ) (c : ℕ) → (last_byte s == c) ≡ false → (last_byte t == c) ≡ true → s ≡ t → ⊥
-ends_not s t c h g e = false≢true (sym h ∙ ap (λ u. last_byte u == c) e ∙ g)
+ends_not s t c h g e = false≢true (sym h ∙ (ap (λ u. last_byte u == c) e ∙ g))
 
 no_castle : (s : List ℕ) → Ends (last_byte s) → castle_of s ≡ None
 no_castle s h =
     rw (
-      false_from_ne_true (is_among s _) (λ g. elim (two_of s _ _ g) [
+      false_from_ne_true (is_among s (castle_texts false)) (λ g. elim (two_of s (codes "O-O") (codes "0-0") g) [
         | inl e ↦ ends_not s (codes "O-O") 79 h.no_letter refl e
         | inr e ↦ ends_not s (codes "0-0") 48 h.no_zero refl e
       ]),
-      false_from_ne_true (is_among s _) (λ g. elim (two_of s _ _ g) [
+      false_from_ne_true (is_among s (castle_texts true)) (λ g. elim (two_of s (codes "O-O-O") (codes "0-0-0") g) [
         | inl e ↦ ends_not s (codes "O-O-O") 79 h.no_letter refl e
         | inr e ↦ ends_not s (codes "0-0-0") 48 h.no_zero refl e
       ]),
@@ -284,19 +284,19 @@ piece_move_read s k file rank to promotion h g =
 
 castle_read : (s : List ℕ) (long : Bool) → is_among s (castle_texts long) ≡ true → BareRead s (Castle long)
 castle_read s false h =
-    elim (two_of s _ _ h) [
-      | inl e ↦ rw e (record { told = refl; whole = refl })
-      | inr e ↦ rw e (record { told = refl; whole = refl })
+    elim (two_of s (codes "O-O") (codes "0-0") h) [
+      | inl e ↦ subst (λ t. BareRead t (Castle false)) (sym e) (record { told = refl; whole = refl })
+      | inr e ↦ subst (λ t. BareRead t (Castle false)) (sym e) (record { told = refl; whole = refl })
     ]
 castle_read s true h =
-    elim (two_of s _ _ h) [
-      | inl e ↦ rw e (record { told = refl; whole = refl })
-      | inr e ↦ rw e (record { told = refl; whole = refl })
+    elim (two_of s (codes "O-O-O") (codes "0-0-0") h) [
+      | inl e ↦ subst (λ t. BareRead t (Castle true)) (sym e) (record { told = refl; whole = refl })
+      | inr e ↦ subst (λ t. BareRead t (Castle true)) (sym e) (record { told = refl; whole = refl })
     ]
 
 bare_read : (s : List ℕ) (f : Form) → SpellsBare s f → is_form f ≡ true → BareRead s f
 bare_read s (Castle long) h g = castle_read s long h
-bare_read s (Man k file rank to promotion) h g = piece_move_read s k file rank to _ h g
+bare_read s (Man k file rank to promotion) h g = piece_move_read s k file rank to promotion h g
 
 pub form_read : (s : List ℕ) (f : Form) → Spells s f → is_form f ≡ true → form_of s ≡ Some f
 form_read s f h g =
