@@ -36,7 +36,3 @@ games_fit_converter T L fits = second _ _ _ _ (first _ _ _ _ fits)
 
 pub pass_fits_reader : (T L : RattleType) → FitsInMemory (pass_row T L) → FitsInMemory (reader_row T L)
 pass_fits_reader T L fits = search rules
-
--- and so does a reading
-pub pass_alike : (T L : RattleType) → FitsInMemory (pass_row T L) → FitsInMemory (pass_row T L)
-pass_alike T L fits = fits
