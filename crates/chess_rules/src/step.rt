@@ -286,6 +286,7 @@ fn is_pawn_step(position: &Position, mv: &Move) -> bool
 }
 
 // Whether a piece of the side to move goes so by itself. The cheapest tests are first.
+#[inline(always)]
 fn is_plain_step(position: &Position, mv: &Move) -> bool
     ensures { result
         ≡ (spec.is_piece_step position.now mv.now || spec.is_pawn_step position.now mv.now) }
@@ -346,6 +347,7 @@ pub fn is_step(position: &Position, mv: &Move) -> bool
 }
 
 // Whether the move is a step, by the rules of its kind.
+#[inline(always)]
 pub(crate) fn is_step_of_kind(position: &Position, mv: &Move, kind: StepKind) -> bool
     requires { kind ≡ kinds.kind position.now mv.now }
     ensures { result ≡ is_some (spec.board_after position.now mv.now) }
