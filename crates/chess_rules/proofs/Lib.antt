@@ -1,3 +1,4 @@
+mod Words
 mod lines
 mod moves
 mod positions

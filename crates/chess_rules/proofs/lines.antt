@@ -1,6 +1,5 @@
 -- The lines through a square, what is seen along them, and what attacks it.
 pub mod AttackToReach
-pub mod AttackersToAttacked
 pub mod ClearWays
 pub mod InView
 pub mod LinesThrough

@@ -1,4 +1,6 @@
 -- Steps of a piece, and the position after a legal move.
+use Rattle.std.proofs.lemmas.Bool.Decides.{nat_tests}
+use Rattle.chess_rules.proofs.positions.RulesOfPosition.{own_king}
 pub mod BoardAfterMove
 pub mod CellsAfterPut
 pub mod KindsOfSteps
@@ -7,3 +9,6 @@ pub mod OneWayToStep
 pub mod PlainStepAttacks
 pub mod RightsStay
 pub mod StepsKeepBoard
+
+-- whether a king moves, and how far
+pub ruleset kings = (own_king, nat_tests)

@@ -2,8 +2,6 @@
 pub mod Square
 pub mod Words
 pub mod Board
-pub mod Index
-pub mod WordsAndCells
 pub mod Attacks
 pub mod Position
 pub mod Step

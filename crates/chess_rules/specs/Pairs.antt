@@ -1,28 +1,24 @@
 -- **Bookkeeping**: which pairs of an origin and a target the code tries, target by target.
 -- No rule of play rests on it. Letters: p is a position, s an origin, t a target.
-use Rattle.std.specs.Prelude.{◌≡◌, ◌<◌, ◌≤◌, ℕ, ◌+◌, Bool, true, false, ◌&&◌, ◌||◌, not, Option, None, Some, filter, length, sum_by, ◌==◌, if◌then◌else◌}
+use Rattle.std.specs.Prelude.{◌≡◌, ◌<◌, ◌≤◌, ℕ, ◌+◌, Bool, true, false, ◌&&◌, ◌||◌, not, None, Some, filter, length, ◌==◌, if◌then◌else◌}
 use Rattle.std.specs.List.{list_any}
 use Rattle.chess_rules.specs.declared.piece.Kind.TheVariants.{King, Knight, Pawn}
-use Rattle.chess_rules.specs.declared.piece.Promotion.{Promotion}
 use Rattle.chess_rules.specs.declared.piece.Promotion.TheVariants as promotions
 use Rattle.chess_rules.specs.declared.position.Move.{Move}
 use Rattle.chess_rules.specs.declared.position.Parts.{Parts}
 use Rattle.chess_rules.specs.Square.{Square, squares, is_adjacent, is_jump}
-use Rattle.chess_rules.specs.Board.{at, cell_of, has_colour}
+use Rattle.chess_rules.specs.Board.{at, has_colour}
 use Rattle.chess_rules.specs.Attacks.{is_clear}
 use Rattle.chess_rules.specs.Step.{own, last_rank}
 use Rattle.chess_rules.specs.Legal.{is_legal}
 use Rattle.chess_rules.specs.Reach.{is_aligned, king_square}
-use Rattle.chess_rules.specs.Words.{has}
 
 -- One pair.
 
 -- a queen where a pawn is promoted: all four are legal, or none
-abbrev pub one_promotion : Parts → Square → Square → Option Promotion
-one_promotion p s t = if (t.rank == last_rank p.side) && own p Pawn s then Some promotions.Queen else None
-
 abbrev pub one_move : Parts → Square → Square → Move
-one_move p s t = record { from = s; to = t; promotion = one_promotion p s t }
+one_move p s t =
+    record { from = s; to = t; promotion = if (t.rank == last_rank p.side) && own p Pawn s then Some promotions.Queen else None }
 
 unfoldable pub is_legal_pair : Parts → Square → Square → Bool
 is_legal_pair p s t = is_legal p (one_move p s t)
@@ -32,10 +28,6 @@ is_legal_pair p s t = is_legal p (one_move p s t)
 -- a single step of the king leads to t, and no piece of its side is there
 abbrev pub is_king_step : Parts → Square → Bool
 is_king_step p t = is_adjacent t (king_square p.side p.board) && not (has_colour p.side (at p.board t))
-
--- s is of these pieces, and is no king whose step to t was tried
-abbrev pub is_without_tried_king : Parts → ℕ → Square → Square → Bool
-is_without_tried_king p pieces t s = has pieces (cell_of s) && not (is_king_step p t && own p King s)
 
 -- the piece there is of the side to move and no knight, sees t, and is no king whose step was tried
 abbrev pub is_untried_aligned : Parts → Square → Square → Bool
@@ -58,12 +50,6 @@ has_untried_move p t = list_any (λ s. is_legal_pair p s t) (filter (is_untried 
 
 unfoldable pub count_untried : Parts → Square → ℕ
 count_untried p t = length (filter (is_untried p t) squares)
-
-unfoldable pub has_other_move : Parts → Bool
-has_other_move p = list_any (has_untried_move p) squares
-
-unfoldable pub count_others : Parts → ℕ
-count_others p = sum_by (count_untried p) squares
 
 -- What a search counts: each of its pairs, or fewer, but one at least, where one is legal.
 pub record Counts (found : Bool) (old new whole : ℕ) : Type 0 where

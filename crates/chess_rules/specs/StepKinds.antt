@@ -1,5 +1,5 @@
 -- **Bookkeeping**: which kind of step a move is, if it is one. No rule of play rests on it.
-use Rattle.std.specs.Prelude.{ℕ, ◌-◌, Bool, ◌&&◌, not, nat_lt, ◌==◌, if◌then◌else◌}
+use Rattle.std.specs.Prelude.{◌≡◌, ℕ, ◌-◌, IsTrue, ◌&&◌, not, nat_lt, ◌==◌, if◌then◌else◌}
 use Rattle.chess_rules.specs.declared.piece.Colour.{Colour}
 use Rattle.chess_rules.specs.declared.piece.Colour.TheVariants.{White, Black}
 use Rattle.chess_rules.specs.declared.piece.Kind.TheVariants.{King, Pawn}
@@ -9,22 +9,20 @@ use Rattle.chess_rules.specs.declared.step.StepKind.{StepKind}
 use Rattle.chess_rules.specs.declared.step.StepKind.TheVariants.{Plain, EnPassant, ShortCastling, LongCastling}
 use Rattle.chess_rules.specs.Square.{gap}
 use Rattle.chess_rules.specs.Board.{is_empty}
-use Rattle.chess_rules.specs.Step.{own, is_target}
+use Rattle.chess_rules.specs.Step.{own, is_on_board, is_target}
 
--- a king goes further than to the next file
-abbrev pub king_goes_far : Parts → Move → Bool
-king_goes_far p m = nat_lt 1 (gap m.from.file m.to.file) && own p King m.from
-
--- a pawn goes to the en passant target, which is empty, and leaves its file
-abbrev pub pawn_passes : Parts → Move → Bool
-pawn_passes p m =
-    (is_target p.target m.to && own p Pawn m.from) && (not (m.from.file == m.to.file) && is_empty p.board m.to)
-
-unfoldable pub kind : Parts → Move → StepKind
-kind p m =
-    if king_goes_far p m then (if m.to.file == 6 then ShortCastling else LongCastling)
-    else if pawn_passes p m then EnPassant
+-- castling if a king goes further than to the next file; en passant if a pawn goes to the en
+-- passant target, which is empty, and leaves its file
+unfoldable pub step_kind : Parts → Move → StepKind
+step_kind p m =
+    if nat_lt 1 (gap m.from.file m.to.file) && own p King m.from then (if m.to.file == 6 then ShortCastling else LongCastling)
+    else if (is_target p.target m.to && own p Pawn m.from) && (not (m.from.file == m.to.file) && is_empty p.board m.to) then EnPassant
     else Plain
+
+-- the kind is that of the move, which is on the board
+pub record IsKindOfStep (k : StepKind) (p : Parts) (m : Move) : Type 0 where
+  pub on_board : IsTrue (is_on_board m)
+  pub kind : k ≡ step_kind p m
 
 -- a rank, counted from the colour's home rank
 abbrev pub rank_from : Colour → ℕ → ℕ

@@ -1,17 +1,16 @@
 -- **Bookkeeping**: the four words of 64 bits in which the code stores a board.
 -- Bit i of each belongs to the square with number i. No rule of play rests on it.
-use Rattle.std.specs.Prelude.{◌≡◌, ◌<◌, ℕ, ◌+◌, ◌*◌, ◌^◌, Bool, true, false, ◌&&◌, ◌||◌, not, List, [], ◌∷◌, filter, map, Option, None, Some, ◌==◌, if◌then◌else◌, slice_index_or}
+use Rattle.std.specs.Prelude.{◌≡◌, ◌<◌, ℕ, ◌+◌, ◌*◌, ◌^◌, Bool, true, false, ◌||◌, List, [], ◌∷◌, filter, map, Option, None, Some, ◌==◌, if◌then◌else◌}
 use Rattle.std.specs.Int.{bit_at}
 use Rattle.std.specs.List.{list_any, range_with_len}
 use Rattle.chess_rules.specs.declared.piece.Colour.{Colour}
 use Rattle.chess_rules.specs.declared.piece.Colour.TheVariants.{White, Black}
-use Rattle.chess_rules.specs.declared.piece.Kind.{Kind}
 use Rattle.chess_rules.specs.declared.piece.Kind.TheVariants.{King, Queen, Rook, Bishop, Knight, Pawn}
 use Rattle.chess_rules.specs.declared.piece.Piece.{Piece}
 use Rattle.chess_rules.specs.declared.board.Board.TheInside.{Inside}
 use Rattle.chess_rules.specs.Square.{Square, squares}
-use Rattle.chess_rules.specs.Board.{cell_of, same_kind, some_piece}
-use Rattle.chess_rules.specs.Reach.{square_at}
+use Rattle.chess_rules.specs.Board.{cell_of, has_colour, some_piece}
+use Rattle.chess_rules.specs.Reach.{has_kind, is_near, square_at}
 
 -- a word as a set of places: whether it has place i
 unfoldable pub has : ℕ → ℕ → Bool
@@ -36,40 +35,12 @@ coded true false true black = some_piece (colour_of black) Knight
 coded false true true black = some_piece (colour_of black) King
 coded true true true black = some_piece (colour_of black) King
 
--- no square is in all three, and no piece is not black
-abbrev pub is_code : Bool → Bool → Bool → Bool → Bool
-is_code straight diagonal near black = not (straight && (diagonal && near)) && (not black || (straight || (diagonal || near)))
-
--- The bits of what a square holds.
-
-abbrev pub is_straight : Kind → Bool
-is_straight k = same_kind k Queen || (same_kind k Rook || same_kind k Knight)
-
-abbrev pub is_diagonal : Kind → Bool
-is_diagonal k = same_kind k King || (same_kind k Queen || same_kind k Bishop)
-
-abbrev pub is_near : Kind → Bool
-is_near k = same_kind k King || (same_kind k Knight || same_kind k Pawn)
-
-abbrev pub is_black : Colour → Bool
-is_black White = false
-is_black Black = true
-
-abbrev pub if_piece : (Piece → Bool) → Option Piece → Bool
-if_piece test None = false
-if_piece test (Some x) = test x
-
+-- the bits of what a square holds; `near` has `is_near`, and `black` has what is black
 abbrev pub straight_of : Option Piece → Bool
-straight_of = if_piece (λ x. is_straight x.kind)
+straight_of cell = has_kind Queen cell || (has_kind Rook cell || has_kind Knight cell)
 
 abbrev pub diagonal_of : Option Piece → Bool
-diagonal_of = if_piece (λ x. is_diagonal x.kind)
-
-abbrev pub near_of : Option Piece → Bool
-near_of = if_piece (λ x. is_near x.kind)
-
-abbrev pub black_of : Option Piece → Bool
-black_of = if_piece (λ x. is_black x.colour)
+diagonal_of cell = has_kind King cell || (has_kind Queen cell || has_kind Bishop cell)
 
 -- The words and the cells.
 
@@ -85,53 +56,24 @@ word test [] = 0
 word test (x ∷ xs) = (if test x then 1 else 0) + 2 * word test xs
 
 abbrev pub words : List (Option Piece) → Inside
-words b = record { straight = word straight_of b; diagonal = word diagonal_of b; near = word near_of b; black = word black_of b }
+words b = record { straight = word straight_of b; diagonal = word diagonal_of b; near = word is_near b; black = word (has_colour Black) b }
 
-pub record AreWords (w : Inside) : Type 0 where
-  pub straight : w.straight < 2 ^ 64
-  pub diagonal : w.diagonal < 2 ^ 64
-  pub near : w.near < 2 ^ 64
-  pub black : w.black < 2 ^ 64
-  pub codes : (i : ℕ) → i < 64 → is_code (has w.straight i) (has w.diagonal i) (has w.near i) (has w.black i) ≡ true
+-- the words are those of the cells: no square is in the first three, none is empty and black
+abbrev pub AreWords : Inside → Type 0
+AreWords w = words (cells w) ≡ w
 
--- the word has exactly the places whose cells pass
-pub record Marks (word : ℕ) (test : Option Piece → Bool) (b : List (Option Piece)) : Type 0 where
-  pub of : (i : ℕ) → i < 64 → has word i ≡ test (slice_index_or b i None)
+-- the word has exactly the places that pass, and exactly the squares that pass
+pub record Bits (word : ℕ) (test : ℕ → Bool) : Type 0 where
+  pub of : (i : ℕ) → i < 64 → has word i ≡ test i
+
+pub record Places (word : ℕ) (test : Square → Bool) : Type 0 where
+  pub of : (i : ℕ) → i < 64 → has word i ≡ test (square_at i)
 
 -- a place is set or cleared, and no other changes
 pub record Sets (old new : ℕ) (place : ℕ) (value : Bool) : Type 0 where
   pub inside : place < 64
   pub fits : new < 2 ^ 64
   pub of : (i : ℕ) → i < 64 → has new i ≡ (if i == place then value else has old i)
-
--- one place is cleared, and what it had goes to another
-pub record Carries (old new : ℕ) (from to : ℕ) : Type 0 where
-  pub from_inside : from < 64
-  pub to_inside : to < 64
-  pub fits : new < 2 ^ 64
-  pub of : (i : ℕ) → i < 64 → has new i ≡ (if i == to then has old from else (if i == from then false else has old i))
-
--- what is in both sets, in one of them or both, and not in a set
-pub record Meets (a b both : ℕ) : Type 0 where
-  pub of : (i : ℕ) → i < 64 → has both i ≡ (has a i && has b i)
-
-pub record Joins (a b either : ℕ) : Type 0 where
-  pub of : (i : ℕ) → i < 64 → has either i ≡ (has a i || has b i)
-
-pub record Misses (a rest : ℕ) : Type 0 where
-  pub of : (i : ℕ) → i < 64 → has rest i ≡ not (has a i)
-
--- the places whose bit is of that value
-abbrev pub is_it : Bool → Bool → Bool
-is_it true x = x
-is_it false x = not x
-
-pub record Chosen (word chosen : ℕ) (value : Bool) : Type 0 where
-  pub of : (i : ℕ) → i < 64 → has chosen i ≡ is_it value (has word i)
-
--- the word has exactly the squares that pass
-pub record Places (word : ℕ) (test : Square → Bool) : Type 0 where
-  pub of : (i : ℕ) → i < 64 → has word i ≡ test (square_at i)
 
 -- the first place, and the last one
 pub record IsLowest (word place : ℕ) : Type 0 where

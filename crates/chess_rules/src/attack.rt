@@ -1,19 +1,16 @@
 //! Which squares are attacked on a board.
 
-ghost use Rattle.std.specs.Prelude.{◌≡◌, ◌&&◌, IsTrue, false};
-ghost use Rattle.chess_rules.specs.Square.{squares};
+ghost use Rattle.std.specs.Prelude.{◌≡◌, ◌&&◌, is_some};
 ghost use Rattle.chess_rules.specs.Board.{at, cell_of};
-ghost use Rattle.chess_rules.specs.Position.{one_king};
 ghost use Rattle.chess_rules.specs.Attacks as spec;
 ghost use Rattle.chess_rules.specs.Reach as reach;
-ghost use Rattle.chess_rules.specs.Reach.{IsLine};
 ghost use Rattle.chess_rules.specs.Words.{Places, has};
 
 use crate::board::Board;
 use crate::geometry::{
-    adjacent, aligned, between, diagonals, knights_to, lines, pawns_to, reaches, steep,
+    adjacent, between, diagonals, knights_to, pawns_to, rank_and_file, reaches, steep,
 };
-use crate::piece::{Colour, Kind};
+use crate::piece::{Colour, Kind, Piece};
 use crate::square::Square;
 use crate::squares::Squares;
 
@@ -40,8 +37,9 @@ pub(crate) fn clear_among(board: &Board, set: Squares, target: Square) -> Square
 
 // The pieces nearest to the target on a line through it, on either side of it.
 fn nearest(board: &Board, line: Squares, target: Square) -> Squares
-    requires { IsLine (λ s. has line (cell_of s)) target }
-    ensures { Places result (λ s. has line (cell_of s) && reach.is_open board.now target s) }
+    requires { reach.IsLine (λ s. has line (cell_of s)) target }
+    ensures { Places result (λ s. has line (cell_of s)
+        && (is_some (at board.now s) && spec.is_clear board.now s target)) }
 {
     target.recall_invariant();
     let pieces = line & board.occupied();
@@ -51,53 +49,25 @@ fn nearest(board: &Board, line: Squares, target: Square) -> Squares
 
 // The pieces nearest to the target on the four lines through it.
 fn pieces_in_view(board: &Board, target: Square) -> Squares
-    ensures { Places result (reach.is_in_view board.now target) }
+    ensures { Places result (λ s. reach.is_aligned s target
+        && (is_some (at board.now s) && spec.is_clear board.now s target)) }
 {
     target.recall_invariant();
-    let lines = lines(target);
+    let rank_and_file = rank_and_file(target);
     let diagonals = diagonals(target);
     let steep = steep(target);
-    nearest(board, lines & steep, target)
-        | nearest(board, lines & !steep, target)
+    nearest(board, rank_and_file & steep, target)
+        | nearest(board, rank_and_file & !steep, target)
         | nearest(board, diagonals & steep, target)
         | nearest(board, diagonals & !steep, target)
 }
 
-// Whether a piece of the kind and colour on `from` attacks `to`.
-#[inline(always)]
-pub(crate) fn piece_attacks(
-    board: &Board,
-    kind: Kind,
-    colour: Colour,
-    from: Square,
-    to: Square,
-) -> bool
-    ensures { result ≡ spec.kind_attacks kind colour board.now from to }
+// Whether such a piece on `from` attacks `to`.
+pub(crate) fn piece_attacks(board: &Board, piece: Piece, from: Square, to: Square) -> bool
+    ensures { result ≡ spec.kind_attacks piece.kind piece.colour board.now from to }
 {
-    if !reaches(kind, colour, from, to) {
-        return false;
-    }
-    match kind {
-        Kind::Queen | Kind::Rook | Kind::Bishop => is_clear(board, from, to),
-        Kind::King | Kind::Knight | Kind::Pawn => true,
-    }
-}
-
-// Whether the piece on `from`, if there is one, attacks `to` if all squares between are empty.
-//
-// From most squares no piece attacks it: these need no look at the board.
-#[inline(always)]
-pub(crate) fn may_attack(board: &Board, from: Square, to: Square) -> bool
-    ensures { result ≡ false → spec.attacks board.now from to ≡ false }
-{
-    from.recall_invariant();
-    if !(aligned(to) | knights_to(to)).has(from) {
-        return false;
-    }
-    match board.at(from) {
-        None => false,
-        Some(piece) => reaches(piece.kind, piece.colour, from, to),
-    }
+    let is_near = matches!(piece.kind, Kind::King | Kind::Knight | Kind::Pawn);
+    reaches(piece, from, to) && (is_near || is_clear(board, from, to))
 }
 
 // The rooks, bishops and queens of the colour that would attack the target if all squares between
@@ -105,7 +75,7 @@ pub(crate) fn may_attack(board: &Board, from: Square, to: Square) -> bool
 pub(crate) fn sliders(board: &Board, by: Colour, target: Square) -> Squares
     ensures { Places result (reach.slides board.now by target) }
 {
-    (lines(target) & (board.of_kind(Kind::Rook) | board.of_kind(Kind::Queen))
+    (rank_and_file(target) & (board.of_kind(Kind::Rook) | board.of_kind(Kind::Queen))
         | diagonals(target) & (board.of_kind(Kind::Bishop) | board.of_kind(Kind::Queen)))
         & board.of_colour(by)
 }
@@ -127,39 +97,22 @@ fn possible_attackers(board: &Board, by: Colour, target: Square) -> Squares
 pub(crate) fn is_attacked(board: &Board, by: Colour, target: Square) -> bool
     ensures { result ≡ spec.is_attacked board.now by target }
 {
-    target.recall_invariant();
     let possible = possible_attackers(board, by, target);
-    let Some(first) = possible.lowest() else {
-        return false;
-    };
-    if is_clear(board, first, target) {
-        return true;
-    }
-    let others = possible.with(first, false);
-    if others.is_empty() {
+    if possible.is_empty() {
         return false;
     }
-    !(others & (pieces_in_view(board, target) | knights_to(target))).is_empty()
-}
-
-// Whether the colour's one king is attacked.
-pub(crate) fn is_king_attacked(board: &Board, colour: Colour) -> bool
-    requires { IsTrue (one_king board.now colour) }
-    ensures { result ≡ spec.king_attacked board.now colour }
-{
-    board.recall_invariant();
-    is_attacked(board, colour.other(), board.king(colour))
+    match possible.only() {
+        Some(attacker) => is_clear(board, attacker, target),
+        None => !(possible & (pieces_in_view(board, target) | knights_to(target))).is_empty(),
+    }
 }
 
 // The squares of the pieces of the colour that attack the target, and those between the target and
-// the lowest of these; no square if nothing attacks it. Against one attacker, a move goes there
-// unless it is a king's or en passant.
+// the lowest of these; no square if nothing attacks it.
 //
 // The caller chooses an order by this and nothing else, so it has no contract.
 pub(crate) fn evasion_targets(board: &Board, by: Colour, target: Square) -> Squares {
     let attackers = clear_among(board, possible_attackers(board, by, target), target);
-    match attackers.lowest() {
-        None => attackers,
-        Some(first) => attackers | between(first, target),
-    }
+    let first = attackers.lowest();
+    first.map_or(attackers, |first| attackers | between(first, target))
 }

@@ -1,11 +1,11 @@
 //! The board: the piece on each of the 64 squares, in four words.
 
-ghost use Rattle.std.specs.Prelude.{◌≡◌, IsTrue, is_some, length};
+ghost use Rattle.std.specs.Prelude.{◌≡◌, if◌then◌else◌, is_some, length};
 ghost use Rattle.chess_rules.specs.Board as spec;
 ghost use Rattle.chess_rules.specs.Position.{initial_board, one_king};
 ghost use Rattle.chess_rules.specs.Reach as reach;
 ghost use Rattle.chess_rules.specs.Words as words;
-ghost use Rattle.chess_rules.specs.Words.{Marks};
+ghost use Rattle.chess_rules.specs.declared.piece.Colour.TheVariants.{Black};
 
 use crate::piece::{Colour, Kind, Piece};
 use crate::square::Square;
@@ -27,7 +27,6 @@ impl Model for Board {
     ghost use Rattle.std.specs.Prelude.{List, Option};
     ghost use Rattle.chess_rules.specs.declared.piece.Piece.{Piece};
     ghost use Rattle.chess_rules.specs.Words.{AreWords, cells, words};
-    ghost use Rattle.chess_rules.specs.WordsAndCells.{words_again};
 
     ghost Value = { List (Option Piece) };
 
@@ -37,52 +36,41 @@ impl Model for Board {
 
     ghost inverse = { words };
 
-    ghost inverse_ok = { words_again };
+    ghost inverse_ok = { λ a h. h };
 }
 
-// Whether `straight` has the squares of the kind; below, the other two and `black`.
-fn is_straight(kind: Kind) -> bool
-    ensures { result ≡ words.is_straight kind }
+// The bits of a content in `straight`, `diagonal`, `near` and `black`.
+fn bits_of(content: Option<Piece>) -> (bool, bool, bool, bool)
+    ensures straight { result.0 ≡ words.straight_of content }
+    ensures diagonal { result.1 ≡ words.diagonal_of content }
+    ensures near { result.2 ≡ reach.is_near content }
+    ensures black { result.3 ≡ spec.has_colour Black content }
 {
-    matches!(kind, Kind::Queen | Kind::Rook | Kind::Knight)
-}
-
-fn is_diagonal(kind: Kind) -> bool
-    ensures { result ≡ words.is_diagonal kind }
-{
-    matches!(kind, Kind::King | Kind::Queen | Kind::Bishop)
-}
-
-fn is_near(kind: Kind) -> bool
-    ensures { result ≡ words.is_near kind }
-{
-    matches!(kind, Kind::King | Kind::Knight | Kind::Pawn)
-}
-
-fn is_black(colour: Colour) -> bool
-    ensures { result ≡ words.is_black colour }
-{
-    colour == Colour::Black
-}
-
-// The places whose bit is of that value.
-fn chosen(set: Squares, value: bool) -> Squares
-    ensures { words.Chosen set result value }
-{
-    if value { set } else { !set }
+    let Some(piece) = content else {
+        return (false, false, false, false);
+    };
+    let black = piece.colour == Colour::Black;
+    match piece.kind {
+        Kind::King => (false, true, true, black),
+        Kind::Queen => (true, true, false, black),
+        Kind::Rook => (true, false, false, black),
+        Kind::Bishop => (false, true, false, black),
+        Kind::Knight => (true, false, true, black),
+        Kind::Pawn => (false, false, true, black),
+    }
 }
 
 impl Board {
     // The squares that are not empty.
     pub(crate) fn occupied(&self) -> Squares
-        ensures { Marks result is_some self.now }
+        ensures { words.Places result (λ s. is_some (spec.at self.now s)) }
     {
         self.straight | self.diagonal | self.near
     }
 
     // The squares with a piece of the kind, of either colour.
     pub(crate) fn of_kind(&self, kind: Kind) -> Squares
-        ensures { Marks result (reach.has_kind kind) self.now }
+        ensures { words.Places result (λ s. reach.has_kind kind (spec.at self.now s)) }
     {
         match kind {
             Kind::King => self.near & self.diagonal,
@@ -96,28 +84,28 @@ impl Board {
 
     // The squares with a piece of the colour.
     pub(crate) fn of_colour(&self, colour: Colour) -> Squares
-        ensures { Marks result (spec.has_colour colour) self.now }
+        ensures { words.Places result (λ s. spec.has_colour colour (spec.at self.now s)) }
     {
-        self.occupied() & chosen(self.black, is_black(colour))
+        match colour {
+            Colour::White => self.occupied() & !self.black,
+            Colour::Black => self.black,
+        }
     }
 
     // The squares with such a piece.
     pub(crate) fn pieces(&self, colour: Colour, kind: Kind) -> Squares
-        ensures { Marks result (spec.has_piece colour kind) self.now }
+        ensures { words.Places result (λ s. spec.has_piece colour kind (spec.at self.now s)) }
     {
-        self.of_kind(kind) & chosen(self.black, is_black(colour))
+        self.of_kind(kind) & self.of_colour(colour)
     }
 
-    // The square of the colour's one king.
-    pub(crate) fn king(&self, colour: Colour) -> Square
-        requires { IsTrue (one_king self.now colour) }
-        ensures { result ≡ reach.king_square colour self.now }
+    // The square of the colour's king, if it has exactly one.
+    pub(crate) fn king(&self, colour: Colour) -> Option<Square>
+        requires { length self.now ≡ 64 }
+        ensures { result ≡ (if one_king self.now colour
+            then Some (reach.king_square colour self.now) else None) }
     {
-        self.recall_invariant();
-        match self.pieces(colour, Kind::King).lowest() {
-            None => Square::nth(0),
-            Some(king) => king,
-        }
+        self.pieces(colour, Kind::King).only()
     }
 
     pub(crate) fn at(&self, square: Square) -> Option<Piece>
@@ -154,6 +142,7 @@ impl Board {
         self.of_colour(colour).has(square)
     }
 
+    #[inline(always)]
     pub(crate) fn has_piece(&self, square: Square, colour: Colour, kind: Kind) -> bool
         ensures { result ≡ spec.has_piece colour kind (spec.at self.now square) }
     {
@@ -164,24 +153,13 @@ impl Board {
     pub(crate) fn put(&mut self, square: Square, content: Option<Piece>)
         ensures { self.new ≡ spec.put self.old square content }
     {
-        match content {
-            None => {
-                *self = Board {
-                    straight: self.straight.with(square, false),
-                    diagonal: self.diagonal.with(square, false),
-                    near: self.near.with(square, false),
-                    black: self.black.with(square, false),
-                };
-            }
-            Some(piece) => {
-                *self = Board {
-                    straight: self.straight.with(square, is_straight(piece.kind)),
-                    diagonal: self.diagonal.with(square, is_diagonal(piece.kind)),
-                    near: self.near.with(square, is_near(piece.kind)),
-                    black: self.black.with(square, is_black(piece.colour)),
-                };
-            }
-        }
+        let (straight, diagonal, near, black) = bits_of(content);
+        *self = Board {
+            straight: self.straight.with(square, straight),
+            diagonal: self.diagonal.with(square, diagonal),
+            near: self.near.with(square, near),
+            black: self.black.with(square, black),
+        };
     }
 
     // Moves the content of one square to another.
@@ -190,10 +168,16 @@ impl Board {
         ensures { self.new ≡ spec.put (spec.put self.old from None) to (spec.at self.old from) }
     {
         *self = Board {
-            straight: self.straight.with_moved(from, to),
-            diagonal: self.diagonal.with_moved(from, to),
-            near: self.near.with_moved(from, to),
-            black: self.black.with_moved(from, to),
+            straight: self
+                .straight
+                .with(from, false)
+                .with(to, self.straight.has(from)),
+            diagonal: self
+                .diagonal
+                .with(from, false)
+                .with(to, self.diagonal.has(from)),
+            near: self.near.with(from, false).with(to, self.near.has(from)),
+            black: self.black.with(from, false).with(to, self.black.has(from)),
         };
     }
 
@@ -209,33 +193,15 @@ impl Board {
         }
     }
 
-    // A board with nothing on it.
-    fn empty() -> Board
-        ensures { length result ≡ 64 }
-    {
-        Board {
-            straight: Squares::of_bits(0),
-            diagonal: Squares::of_bits(0),
-            near: Squares::of_bits(0),
-            black: Squares::of_bits(0),
-        }
-    }
-
     // The board with these contents, from a1, b1 to h8.
     pub(crate) fn of(contents: &[Option<Piece>; 64]) -> Board
         ensures { result ≡ contents.now }
     {
-        let mut board = Board::empty();
+        // Each square is put, so any board will do to begin with.
+        let mut board = Board::initial();
         for (i, content) in contents.iter().enumerate() {
             board.put(Square::nth(i), *content);
         }
         board
-    }
-
-    // Gives the proof of a body the invariant of every board; it does nothing when it runs.
-    pub(crate) fn recall_invariant(&self)
-        ensures { length self.now ≡ 64 }
-    {
-        let _ = &self.straight;
     }
 }

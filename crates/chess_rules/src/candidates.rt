@@ -1,10 +1,12 @@
 //! The origins from which a piece may reach a square, seen from that square.
 
-ghost use Rattle.std.specs.Prelude.{◌≡◌, ◌<◌, ◌≤◌, ◌≢◌, AllPairs, false, length};
+ghost use Rattle.std.specs.Prelude.{◌≡◌, ◌≤◌, ◌≢◌, ◌&&◌, AllPairs, false, length};
 ghost use Rattle.std.specs.List.Sorted.{IsPermutation};
 ghost use Rattle.arrayvec.specs.ArrayVec.{array_vec_len};
 ghost use Rattle.chess_rules.specs.Candidate.{candidates, lone};
-ghost use Rattle.chess_rules.specs.Words.{members};
+ghost use Rattle.chess_rules.specs.Reach.{may_see};
+ghost use Rattle.chess_rules.specs.Step.{own};
+ghost use Rattle.chess_rules.specs.Words.{Places, members};
 
 use crate::attack::clear_among;
 use crate::geometry::{aligned, knights_to};
@@ -29,42 +31,48 @@ use arrayvec::ArrayVec;
 /// let g1 = Square::new(6, 0).unwrap();
 /// assert_eq!(origins(&Position::initial(), Kind::Knight, f3).as_slice(), [g1]);
 /// ```
-#[inline(always)]
 pub fn origins(position: &Position, kind: Kind, target: Square) -> ArrayVec<Square, 8>
     ensures exactly { IsPermutation (candidates position.now kind target) result.items }
     ensures once { AllPairs ◌≢◌ result.items }
     ensures few { array_vec_len result ≤ 8 }
 {
     target.recall_invariant();
-    squares_of(origin_set(position, kind, target))
+    let mut origins = ArrayVec::new();
+    let mut left = origin_set(position, kind, target);
+    while let Some(origin) = left.take_lowest() {
+        origins.push(origin);
+    }
+    origins
 }
 
 /// Returns the one square that `origins` lists, or `None` if it lists none or several.
 ///
 /// For most moves the kind has one origin, and this is then cheaper than `origins`.
-#[inline(always)]
 pub fn only_origin(position: &Position, kind: Kind, target: Square) -> Option<Square>
     ensures { result ≡ lone (candidates position.now kind target) }
 {
-    let mut origins = origin_set(position, kind, target);
-    let Some(first) = origins.take_lowest() else {
-        return None;
-    };
-    match origins.take_lowest() {
-        None => Some(first),
-        Some(_) => None,
-    }
+    origin_set(position, kind, target).only()
 }
 
 // The squares from which a piece of the kind sees the target, as a set.
-#[inline(always)]
 fn origin_set(position: &Position, kind: Kind, target: Square) -> Squares
     ensures { members result ≡ candidates position.now kind target }
+{
+    let possible = possible_origins(position, kind, target);
+    match kind {
+        Kind::Knight => possible,
+        _ => clear_among(position.board(), possible, target),
+    }
+}
+
+// The squares from which a piece of the kind sees the target if all squares between are empty.
+fn possible_origins(position: &Position, kind: Kind, target: Square) -> Squares
+    ensures { Places result (λ s. own position.now kind s && may_see kind s target) }
 {
     let own = position.board().pieces(position.side(), kind);
     match kind {
         Kind::Knight => own & knights_to(target),
-        _ => clear_among(position.board(), own & aligned(target), target),
+        _ => own & aligned(target),
     }
 }
 
@@ -75,22 +83,5 @@ fn origin_set(position: &Position, kind: Kind, target: Square) -> Squares
 pub fn may_have_two_origins(position: &Position, kind: Kind, target: Square) -> bool
     ensures { result ≡ false → length (candidates position.now kind target) ≤ 1 }
 {
-    let own = position.board().pieces(position.side(), kind);
-    match kind {
-        Kind::Knight => (own & knights_to(target)).has_several(),
-        _ => (own & aligned(target)).has_several(),
-    }
-}
-
-// The squares of a set of 8 at most.
-fn squares_of(set: Squares) -> ArrayVec<Square, 8>
-    requires { length (members set) ≤ 8 }
-    ensures { result.items ≡ members set }
-{
-    let mut squares = ArrayVec::new();
-    let mut left = set;
-    while let Some(square) = left.take_lowest() {
-        squares.push(square);
-    }
-    squares
+    possible_origins(position, kind, target).only().is_none()
 }

@@ -1,13 +1,12 @@
 //! The empty board: what a piece reaches on it, the lines through a square, what lies between two.
 
-ghost use Rattle.std.specs.Prelude.{◌≡◌, ◌<◌};
-ghost use Rattle.chess_rules.specs.Attacks as attacks;
+ghost use Rattle.std.specs.Prelude.{◌≡◌};
 ghost use Rattle.chess_rules.specs.Reach as reach;
 ghost use Rattle.chess_rules.specs.Square as square;
 ghost use Rattle.chess_rules.specs.Words.{Places};
 ghost use Rattle.chess_rules.specs.declared.piece.Kind.TheVariants.{Pawn};
 
-use crate::piece::{Colour, Kind};
+use crate::piece::{Colour, Kind, Piece};
 use crate::square::Square;
 use crate::squares::Squares;
 use crate::tables::{
@@ -18,7 +17,6 @@ use crate::tables::{
 pub(crate) fn knights_to(target: Square) -> Squares
     ensures { Places result (λ s. square.is_jump s target) }
 {
-    target.recall_invariant();
     Squares::of_bits(KNIGHT_JUMPS[target.index()])
 }
 
@@ -26,15 +24,13 @@ pub(crate) fn knights_to(target: Square) -> Squares
 pub(crate) fn adjacent(target: Square) -> Squares
     ensures { Places result (λ s. square.is_adjacent s target) }
 {
-    target.recall_invariant();
     Squares::of_bits(ADJACENT[target.index()])
 }
 
 // The others of its rank and its file.
-pub(crate) fn lines(target: Square) -> Squares
+pub(crate) fn rank_and_file(target: Square) -> Squares
     ensures { Places result (λ s. square.in_line s target) }
 {
-    target.recall_invariant();
     Squares::of_bits(LINES[target.index()])
 }
 
@@ -42,7 +38,6 @@ pub(crate) fn lines(target: Square) -> Squares
 pub(crate) fn diagonals(target: Square) -> Squares
     ensures { Places result (λ s. square.on_diagonal s target) }
 {
-    target.recall_invariant();
     Squares::of_bits(DIAGONALS[target.index()])
 }
 
@@ -50,7 +45,6 @@ pub(crate) fn diagonals(target: Square) -> Squares
 pub(crate) fn steep(target: Square) -> Squares
     ensures { Places result (λ s. reach.is_steep s target) }
 {
-    target.recall_invariant();
     Squares::of_bits(STEEP[target.index()])
 }
 
@@ -58,14 +52,13 @@ pub(crate) fn steep(target: Square) -> Squares
 pub(crate) fn aligned(target: Square) -> Squares
     ensures { Places result (λ s. reach.is_aligned s target) }
 {
-    lines(target) | diagonals(target)
+    rank_and_file(target) | diagonals(target)
 }
 
 // Whether the two are on one rank, file or diagonal.
-pub(crate) fn sees(from: Square, to: Square) -> bool
+pub(crate) fn is_aligned(from: Square, to: Square) -> bool
     ensures { result ≡ reach.is_aligned from to }
 {
-    from.recall_invariant();
     aligned(to).has(from)
 }
 
@@ -73,52 +66,30 @@ pub(crate) fn sees(from: Square, to: Square) -> bool
 pub(crate) fn pawns_to(by: Colour, target: Square) -> Squares
     ensures { Places result (λ s. reach.reaches Pawn by s target) }
 {
-    target.recall_invariant();
     match by {
         Colour::White => Squares::of_bits(WHITE_PAWNS[target.index()]),
         Colour::Black => Squares::of_bits(BLACK_PAWNS[target.index()]),
     }
 }
 
-// The squares from which such a piece attacks `to`, if all squares between are empty.
-fn reaching(kind: Kind, colour: Colour, to: Square) -> Squares
-    ensures { Places result (λ s. reach.reaches kind colour s to) }
+// Whether such a piece on `from` attacks `to`, if all squares between are empty.
+pub(crate) fn reaches(piece: Piece, from: Square, to: Square) -> bool
+    ensures { result ≡ reach.reaches piece.kind piece.colour from to }
 {
-    match kind {
+    let origins = match piece.kind {
         Kind::King => adjacent(to),
         Kind::Queen => aligned(to),
-        Kind::Rook => lines(to),
+        Kind::Rook => rank_and_file(to),
         Kind::Bishop => diagonals(to),
         Kind::Knight => knights_to(to),
-        Kind::Pawn => pawns_to(colour, to),
-    }
-}
-
-// Whether such a piece on `from` attacks `to`, if all squares between are empty.
-pub(crate) fn reaches(kind: Kind, colour: Colour, from: Square, to: Square) -> bool
-    ensures { result ≡ reach.reaches kind colour from to }
-{
-    from.recall_invariant();
-    reaching(kind, colour, to).has(from)
-}
-
-// Whether a pawn of the colour goes from the first rank to the second one.
-pub(crate) fn is_ahead(colour: Colour, rank: u8, ahead: u8) -> bool
-    requires low { rank < 8 }
-    requires high { ahead < 8 }
-    ensures { result ≡ attacks.is_ahead colour rank ahead }
-{
-    match colour {
-        Colour::White => ahead == rank + 1,
-        Colour::Black => rank == ahead + 1,
-    }
+        Kind::Pawn => pawns_to(piece.colour, to),
+    };
+    origins.has(from)
 }
 
 // The squares strictly between the two; none if they are not on one rank, file or diagonal.
 pub(crate) fn between(from: Square, to: Square) -> Squares
     ensures { Places result (λ s. square.strictly_between from s to) }
 {
-    from.recall_invariant();
-    to.recall_invariant();
     Squares::of_bits(BETWEEN[64 * from.index() + to.index()])
 }

@@ -1,11 +1,11 @@
 //! Which moves are legal, and check.
 
-ghost use Rattle.chess_rules.specs.Step.{is_on_board};
 ghost use Rattle.std.specs.Prelude.{IsTrue, ◌≡◌, ◌+◌, ◌<◌, ◌≤◌, ◌^◌, Some, true, false};
 ghost use Rattle.chess_rules.specs.Candidate.{pair_count};
 ghost use Rattle.chess_rules.specs.Legal as spec;
 
-use crate::pairs::{has_king_step, has_other_move};
+use crate::attack::evasion_targets;
+use crate::pairs::{has_king_step, has_other_move_to};
 use crate::position::{Move, Position};
 use crate::probes::Probes;
 use crate::step::{is_step_of_kind, kind_of_step};
@@ -34,10 +34,9 @@ pub fn try_pair(position: &Position, mv: Move, probes: &mut Probes) -> Option<Po
     ensures after { result ≡ spec.legal position.now mv }
     ensures count { probes.new ≡ probes.old + 1 }
 {
-    mv.from.recall_invariant();
-    mv.to.recall_invariant();
-    if is_legal(position, mv, probes) {
-        Some(position.after(&mv, kind_of_step(position, &mv)))
+    probes.add_one();
+    if allows(position, &mv) {
+        Some(position_after(position, &mv))
     } else {
         None
     }
@@ -51,34 +50,16 @@ pub fn position_after(position: &Position, mv: &Move) -> Position
     requires { IsTrue (spec.is_legal position.now mv.now) }
     ensures { spec.legal position.now mv.now ≡ Some result }
 {
-    mv.from.recall_invariant();
-    mv.to.recall_invariant();
     position.after(mv, kind_of_step(position, mv))
-}
-
-// Whether the move is legal: `try_pair` without the position after it.
-//
-// It counts as one pair tried.
-#[inline(always)]
-pub(crate) fn is_legal(position: &Position, mv: Move, probes: &mut Probes) -> bool
-    requires { probes.old + 1 < 2 ^ 32 }
-    ensures legal { result ≡ spec.is_legal position.now mv }
-    ensures count { probes.new ≡ probes.old + 1 }
-{
-    probes.add_one();
-    mv.from.recall_invariant();
-    mv.to.recall_invariant();
-    allows(position, &mv)
 }
 
 // Whether the rules allow the move.
 #[inline(never)]
 fn allows(position: &Position, mv: &Move) -> bool
-    requires { IsTrue (is_on_board mv.now) }
     ensures { result ≡ spec.is_legal position.now mv.now }
 {
-    let kind = kind_of_step(position, mv);
-    is_step_of_kind(position, mv, kind) && position.is_safe_after(mv, kind)
+    let step_kind = kind_of_step(position, mv);
+    is_step_of_kind(position, mv, step_kind) && position.is_safe_after(mv, step_kind)
 }
 
 /// Whether the king of the side to move is in check. (FIDE Laws 3.9.1)
@@ -118,5 +99,12 @@ pub fn has_legal_move(position: &Position, probes: &mut Probes) -> bool
     ensures all { result ≡ false → probes.new ≡ probes.old + pair_count position.now }
 {
     position.recall_invariant();
-    has_king_step(position, probes) || has_other_move(position, probes)
+    if has_king_step(position, probes) {
+        return true;
+    }
+    // In check, the targets that may meet the check come first. To the others only en passant can
+    // meet it, but if no pair is legal, all of them are counted.
+    let first = evasion_targets(position.board(), position.side().other(), position.king());
+    let others = !first;
+    has_other_move_to(position, first, probes) || has_other_move_to(position, others, probes)
 }

@@ -1,22 +1,21 @@
 //! Moves and positions.
 
-ghost use Rattle.std.specs.Prelude.{◌≡◌, ◌<◌, ◌≤◌, IsTrue, Some, is_some, true};
-ghost use Rattle.chess_rules.specs.Board.{at, has_piece, kings as count_of_kings, other};
-ghost use Rattle.chess_rules.specs.declared.piece.Kind.TheVariants.{King};
+ghost use Rattle.std.specs.Prelude.{◌≡◌, ◌<◌, ◌≤◌, IfSome, IsTrue, Some, is_some};
+ghost use Rattle.chess_rules.specs.Board.{at, is_empty, other};
 ghost use Rattle.chess_rules.specs.Attacks.{king_attacked};
 ghost use Rattle.chess_rules.specs.Position as spec;
 ghost use Rattle.chess_rules.specs.Step as step;
-ghost use Rattle.chess_rules.specs.StepKinds.{kind as step_kind};
+ghost use Rattle.chess_rules.specs.StepKinds.{IsKindOfStep};
 ghost use Rattle.chess_rules.specs.Legal.{legal, is_legal, is_check};
 ghost use Rattle.chess_rules.specs.Reach.{king_square as king_square_of};
 
-use crate::attack::{is_attacked, is_king_attacked, may_attack, sliders};
+use crate::attack::{is_attacked, sliders};
 use crate::board::Board;
-use crate::geometry::sees;
+use crate::geometry::{is_aligned, reaches};
 use crate::piece::{Colour, Kind, Piece, Promotion};
 use crate::square::Square;
 use crate::squares::Squares;
-use crate::step::{StepKind, board_after, crossed, is_double_step};
+use crate::step::{StepKind, board_after, crossed, is_double_step, rank_from};
 use std::marker::Model;
 
 /// A move: its origin, its target and what a pawn becomes.
@@ -83,6 +82,9 @@ pub struct Position {
     target: Option<Square>,
     half: u32,
     full: u32,
+    // The square of the king of the side to move, and of the other one.
+    king: Square,
+    other_king: Square,
     // Whether the king of the side to move is attacked.
     checked: bool,
 }
@@ -92,15 +94,13 @@ impl Model for Position {
 
     ghost Value = { Parts };
 
-    ghost use Rattle.chess_rules.specs.StoredPosition.{FitsPosition, parts_of, store_of};
+    ghost use Rattle.chess_rules.specs.StoredPosition.{FitsPosition, parts_of, store_of, store_of_parts};
 
     ghost view = { parts_of };
 
     ghost invariant = { FitsPosition };
 
     ghost inverse = { store_of };
-
-    ghost use Rattle.chess_rules.specs.StoredPosition.{store_of_parts};
 
     ghost inverse_ok = { store_of_parts };
 }
@@ -122,6 +122,8 @@ impl Position {
             target: None,
             half: 0,
             full: 1,
+            king: Square::nth(4),
+            other_king: Square::nth(60),
             checked: false,
         }
     }
@@ -159,14 +161,15 @@ impl Position {
     pub fn build(parts: &Parts) -> Result<Position, PositionFault>
         ensures { result ≡ spec.built parts.now }
     {
-        if kings(&parts.board, Colour::White) != 1 || kings(&parts.board, Colour::Black) != 1 {
-            return Err(PositionFault::Kings);
-        }
         let board = Board::of(&parts.board);
+        let kings = (board.king(parts.side), board.king(parts.side.other()));
+        let (Some(king), Some(other_king)) = kings else {
+            return Err(PositionFault::Kings);
+        };
         if has_pawn_on_edge(&board) {
             return Err(PositionFault::PawnOnEdge);
         }
-        if is_king_attacked(&board, parts.side.other()) {
+        if is_attacked(&board, parts.side, other_king) {
             return Err(PositionFault::KingCapturable);
         }
         if !target_fits(parts.side, parts.target) {
@@ -182,7 +185,9 @@ impl Position {
             target: parts.target,
             half: parts.half,
             full: parts.full,
-            checked: is_king_attacked(&board, parts.side),
+            king,
+            other_king,
+            checked: is_attacked(&board, parts.side.other(), king),
         })
     }
 
@@ -204,7 +209,7 @@ impl Position {
     pub(crate) fn king(&self) -> Square
         ensures { result ≡ king_square_of self.now.side self.now.board }
     {
-        self.board.king(self.side)
+        self.king
     }
 
     // Whether the king of the side to move is attacked.
@@ -217,16 +222,16 @@ impl Position {
     // Whether the step, which leaves that board, attacks the other king.
     //
     // A plain step attacks it by the piece that it moves, or along the line that this leaves.
-    fn gives_check(&self, mv: &Move, kind: StepKind, board: &Board) -> bool
-        requires kind { kind ≡ step_kind self.now mv.now }
-        requires on_board { IsTrue (step.is_on_board mv.now) }
+    #[inline(always)]
+    fn gives_check(&self, mv: &Move, step_kind: StepKind, board: &Board) -> bool
+        requires kind { IsKindOfStep step_kind self.now mv.now }
         requires step { step.board_after self.now mv.now ≡ Some board.now }
         ensures { result ≡ king_attacked board.now (other self.now.side) }
     {
-        let king = board.king(self.side.other());
-        if matches!(kind, StepKind::Plain)
-            && !sees(mv.from, king)
-            && !may_attack(board, mv.to, king)
+        let king = self.other_king;
+        if matches!(step_kind, StepKind::Plain)
+            && !is_aligned(mv.from, king)
+            && !matches!(board.at(mv.to), Some(piece) if reaches(piece, mv.to, king))
         {
             return false;
         }
@@ -234,67 +239,68 @@ impl Position {
     }
 
     // Whether the king of the side to move is safe after its step.
-    pub(crate) fn is_safe_after(&self, mv: &Move, kind: StepKind) -> bool
-        requires kind { kind ≡ step_kind self.now mv.now }
-        requires on_board { IsTrue (step.is_on_board mv.now) }
+    //
+    // A quick test is enough if the king is not attacked and does not move, and the step opens no
+    // line to it, or no rook, bishop or queen is on its lines.
+    pub(crate) fn is_safe_after(&self, mv: &Move, step_kind: StepKind) -> bool
+        requires kind { IsKindOfStep step_kind self.now mv.now }
         requires step { IsTrue (is_some (step.board_after self.now mv.now)) }
         ensures { result ≡ is_legal self.now mv.now }
     {
-        self.keeps_line(mv, kind) || self.is_safe_on_board(mv, kind)
-    }
-
-    // Whether a quick test shows that the step leaves the king safe: the king is not attacked and
-    // does not move, and the step opens no line to it, or no rook, bishop or queen is on its lines.
-    fn keeps_line(&self, mv: &Move, kind: StepKind) -> bool
-        requires kind { kind ≡ step_kind self.now mv.now }
-        requires on_board { IsTrue (step.is_on_board mv.now) }
-        requires step { IsTrue (is_some (step.board_after self.now mv.now)) }
-        ensures { result ≡ true → is_legal self.now mv.now ≡ true }
-    {
-        let king = self.king();
-        if self.checked {
-            return false;
+        if self.checked || mv.from.is(self.king) || !matches!(step_kind, StepKind::Plain) {
+            return self.is_safe_on_board(mv, step_kind);
         }
-        if mv.from.is(king) {
-            return false;
-        }
-        if !matches!(kind, StepKind::Plain) {
-            return false;
-        }
-        if !sees(mv.from, king) {
-            return true;
-        }
-        sliders(&self.board, self.side.other(), king).is_empty()
+        !is_aligned(mv.from, self.king)
+            || sliders(&self.board, self.side.other(), self.king).is_empty()
+            || self.is_safe_on_board(mv, step_kind)
     }
 
     // Whether the king of the side to move is safe on the board after its step.
     #[inline(never)]
-    fn is_safe_on_board(&self, mv: &Move, kind: StepKind) -> bool
-        requires kind { kind ≡ step_kind self.now mv.now }
-        requires on_board { IsTrue (step.is_on_board mv.now) }
+    fn is_safe_on_board(&self, mv: &Move, step_kind: StepKind) -> bool
+        requires kind { IsKindOfStep step_kind self.now mv.now }
         requires step { IsTrue (is_some (step.board_after self.now mv.now)) }
         ensures { result ≡ is_legal self.now mv.now }
     {
-        !is_king_attacked(&board_after(self, mv, kind), self.side)
+        let board = board_after(self, mv, step_kind);
+        !is_attacked(&board, self.side.other(), self.king_after(mv))
+    }
+
+    // The square of the king of the side to move after its step, which may be the king's own.
+    fn king_after(&self, mv: &Move) -> Square
+        requires { IsTrue (step.is_on_board mv.now) }
+        ensures { IfSome (step.board_after self.now mv.now)
+            (λ board. result ≡ king_square_of self.now.side board) }
+    {
+        if mv.from.is(self.king) {
+            mv.to
+        } else {
+            self.king
+        }
     }
 
     // The position after a legal move.
     #[inline(always)]
-    pub(crate) fn after(&self, mv: &Move, kind: StepKind) -> Position
-        requires kind { kind ≡ step_kind self.now mv.now }
-        requires on_board { IsTrue (step.is_on_board mv.now) }
+    pub(crate) fn after(&self, mv: &Move, step_kind: StepKind) -> Position
+        requires kind { IsKindOfStep step_kind self.now mv.now }
         requires legal { IsTrue (is_legal self.now mv.now) }
         ensures { Some result ≡ legal self.now mv.now }
     {
-        let board = board_after(self, mv, kind);
-        let checked = self.gives_check(mv, kind, &board);
+        let board = board_after(self, mv, step_kind);
+        let checked = self.gives_check(mv, step_kind, &board);
         Position {
             board,
             side: self.side.other(),
             rights: rights_after(mv, self.rights),
             target: self.target_after(mv),
             half: self.half_after(mv),
-            full: full_after(self.side, self.full),
+            // One more after Black's move. (PGN 16.1.3.6)
+            full: match self.side {
+                Colour::White => self.full,
+                Colour::Black => counted(self.full),
+            },
+            king: self.other_king,
+            other_king: self.king_after(mv),
             checked,
         }
     }
@@ -304,11 +310,8 @@ impl Position {
     fn target_after(&self, mv: &Move) -> Option<Square>
         ensures { result ≡ step.target_after self.now mv.now }
     {
-        if self.board.has_piece(mv.from, self.side, Kind::Pawn) && is_double_step(self, mv) {
-            Some(crossed(mv))
-        } else {
-            None
-        }
+        let is_pawn = self.board.has_piece(mv.from, self.side, Kind::Pawn);
+        (is_pawn && is_double_step(self, mv)).then_some(crossed(mv))
     }
 
     // The halfmove clock after the move. (PGN 16.1.3.5)
@@ -328,6 +331,13 @@ impl Position {
         ensures { result ≡ at self.now.board square }
     {
         self.board.at(square)
+    }
+
+    /// Returns whether no piece is on the square. Square by square it is quicker than `at`.
+    pub fn is_empty(&self, square: Square) -> bool
+        ensures { result ≡ is_empty self.now.board square }
+    {
+        !self.board.occupied().has_on_rank(square)
     }
 
     /// Returns the side to move.
@@ -368,43 +378,21 @@ impl Position {
     }
 }
 
-fn is_king_of(content: Option<Piece>, colour: Colour) -> bool
-    ensures { result ≡ has_piece colour King content }
-{
-    match content {
-        None => false,
-        Some(piece) => piece.colour == colour && piece.kind == Kind::King,
-    }
-}
-
-// How many kings the colour has.
-fn kings(contents: &[Option<Piece>; 64], colour: Colour) -> usize
-    ensures { result ≡ count_of_kings colour contents.now }
-{
-    contents
-        .iter()
-        .filter(|content| is_king_of(**content, colour))
-        .count()
-}
-
-// Ranks 1 and 8.
-const EDGES: u64 = 0xff00_0000_0000_00ff;
-
 // Whether a pawn is on rank 1 or 8.
 fn has_pawn_on_edge(board: &Board) -> bool
     ensures { result ≡ spec.pawn_on_edge board.now }
 {
-    !(Squares::of_bits(EDGES) & board.of_kind(Kind::Pawn)).is_empty()
+    let edges = Squares::of_bits(0xff00_0000_0000_00ff);
+    !(edges & board.of_kind(Kind::Pawn)).is_empty()
 }
 
 // Whether the target is on the rank that a pawn of the other side crosses by its double step.
 fn target_fits(side: Colour, target: Option<Square>) -> bool
     ensures { result ≡ spec.target_fits side target }
 {
-    match (side, target) {
-        (_, None) => true,
-        (Colour::White, Some(square)) => square.rank() == 5,
-        (Colour::Black, Some(square)) => square.rank() == 2,
+    match target {
+        None => true,
+        Some(square) => square.rank() == rank_from(side, 5),
     }
 }
 
@@ -415,44 +403,24 @@ fn counted(number: u32) -> u32
     if number < 99_999 { number + 1 } else { 99_999 }
 }
 
-// The fullmove number after a move of that side. (PGN 16.1.3.6)
-fn full_after(side: Colour, full: u32) -> u32
-    ensures { result ≡ step.full_after side full }
-{
-    match side {
-        Colour::White => full,
-        Colour::Black => counted(full),
-    }
-}
-
-// Whether the move begins or ends on the square.
-fn touches(mv: &Move, file: u8, rank: u8) -> bool
-    requires file { file < 8 }
-    requires rank { rank < 8 }
-    ensures { result ≡ step.touches mv.now file rank }
-{
-    let square = Square::nth(8 * rank as usize + file as usize);
-    mv.from.is(square) || mv.to.is(square)
-}
-
 // Whether a castling right of the king of that rank and the rook of that file stays.
 fn keeps(mv: &Move, file: u8, rank: u8) -> bool
     requires file { file < 8 }
     requires rank { rank < 8 }
     ensures { result ≡ step.keeps mv.now file rank }
 {
-    !(touches(mv, 4, rank) || touches(mv, file, rank))
+    let king = Square::on(4, rank);
+    let rook = Square::on(file, rank);
+    !(mv.from.is(king) || mv.to.is(king) || mv.from.is(rook) || mv.to.is(rook))
 }
-
-// The squares on which kings and rooks begin: a1, e1, h1, a8, e8, h8.
-const HOMES: u64 = 0x9100_0000_0000_0091;
 
 // The castling rights after the move. (FIDE Laws 3.8.2.1; PGN 16.1.3.3)
 #[inline(always)]
 fn rights_after(mv: &Move, rights: Rights) -> Rights
     ensures { result ≡ step.rights_after mv.now rights }
 {
-    let homes = Squares::of_bits(HOMES);
+    // The squares on which kings and rooks begin: a1, e1, h1, a8, e8, h8.
+    let homes = Squares::of_bits(0x9100_0000_0000_0091);
     if !homes.has(mv.from) && !homes.has(mv.to) {
         return rights;
     }

@@ -14,6 +14,7 @@ pub struct Square {
 }
 
 impl Model for Square {
+    ghost use Rattle.std.proofs.Common.{ap, arith};
     ghost use Rattle.std.specs.Prelude.{◌<◌, ◌+◌, ◌*◌, ◌/◌, ◌%◌};
     ghost use Rattle.chess_rules.specs.Square as spec;
 
@@ -25,9 +26,7 @@ impl Model for Square {
 
     ghost inverse = { λ s. record { index = 8 * s.rank + s.file } };
 
-    ghost use Rattle.chess_rules.specs.Index.{index_again};
-
-    ghost inverse_ok = { λ a h. index_again a };
+    ghost inverse_ok = { λ a h. ap (λ n. record { index = n }) (omega arith) };
 }
 
 impl Default for Square {
@@ -46,9 +45,7 @@ impl Square {
             ≡ (if nat_lt file 8 && nat_lt rank 8 then Some (spec.square file rank) else None) }
     {
         if file < 8 && rank < 8 {
-            Some(Square {
-                index: 8 * rank + file,
-            })
+            Some(Square::on(file, rank))
         } else {
             None
         }
@@ -70,13 +67,26 @@ impl Square {
         self.index / 8
     }
 
+    // The square on this file and rank.
+    pub(crate) fn on(file: u8, rank: u8) -> Square
+        requires file { file < 8 }
+        requires rank { rank < 8 }
+        ensures { result ≡ spec.square file rank }
+    {
+        Square {
+            index: 8 * rank + file,
+        }
+    }
+
     // The square's place among all, rank by rank from a1.
     pub(crate) fn index(self) -> usize
         ensures value { result ≡ cell_of self }
         ensures below { result < 64 }
+        ensures again { square_at result ≡ self }
     {
         self.index as usize
     }
+
     // The square with that place among all.
     pub(crate) fn nth(index: usize) -> Square
         requires { index < 64 }

@@ -1,14 +1,13 @@
 //! One step (pseudo-legal move) of the side to move: its kind, its rules, and the board after it.
 
-ghost use Rattle.std.specs.Prelude.{◌≡◌, ◌<◌, ◌||◌, IsTrue, Some, None, is_some};
-ghost use Rattle.chess_rules.specs.Board.{put, some_piece};
+ghost use Rattle.std.specs.Prelude.{◌≡◌, ◌<◌, ◌||◌, IsTrue, Some, is_some};
 ghost use Rattle.chess_rules.specs.Step as spec;
-ghost use Rattle.chess_rules.specs.StepKinds as kinds;
-ghost use Rattle.chess_rules.specs.declared.piece.Kind.TheVariants.{Pawn, Rook};
+ghost use Rattle.chess_rules.specs.StepKinds as step_kinds;
+ghost use Rattle.chess_rules.specs.declared.piece.Kind.TheVariants.{Pawn};
 
 use crate::attack::{is_attacked, is_clear, piece_attacks};
 use crate::board::Board;
-use crate::geometry::{is_ahead, reaches};
+use crate::geometry::pawns_to;
 use crate::piece::{Colour, Kind, Piece, Promotion};
 use crate::position::{Move, Position};
 use crate::square::Square;
@@ -26,31 +25,10 @@ pub(crate) enum StepKind {
     LongCastling,
 }
 
-// A wing of the board: the files of its rook, of the king's end, and of the square that the king
-// crosses, where the rook ends.
-#[derive(Clone, Copy)]
-struct Wing {
-    rook: u8,
-    end: u8,
-    crossing: u8,
-}
-
-const SHORT_WING: Wing = Wing {
-    rook: 7,
-    end: 6,
-    crossing: 5,
-};
-
-const LONG_WING: Wing = Wing {
-    rook: 0,
-    end: 2,
-    crossing: 3,
-};
-
 // A rank, counted from 0 at the colour's home rank.
 pub(crate) fn rank_from(colour: Colour, rank: u8) -> u8
     requires { rank < 8 }
-    ensures value { result ≡ kinds.rank_from colour rank }
+    ensures value { result ≡ step_kinds.rank_from colour rank }
     ensures below { result < 8 }
 {
     match colour {
@@ -63,8 +41,7 @@ pub(crate) fn rank_from(colour: Colour, rank: u8) -> u8
 pub(crate) fn crossed(mv: &Move) -> Square
     ensures { result ≡ spec.crossed mv.now }
 {
-    let place = 8 * ((mv.from.rank() + mv.to.rank()) / 2) + mv.from.file();
-    Square::nth(place as usize)
+    Square::on(mv.from.file(), (mv.from.rank() + mv.to.rank()) / 2)
 }
 
 // Whether a pawn of the side to move may go two squares forward. (FIDE Laws 3.7.2)
@@ -92,31 +69,7 @@ fn promotion_fits(position: &Position, mv: &Move) -> bool
 fn captured_pawn(mv: &Move) -> Square
     ensures { result ≡ spec.captured_pawn mv.now }
 {
-    Square::nth(8 * mv.from.rank() as usize + mv.to.file() as usize)
-}
-
-// Whether the square is the en passant target.
-fn is_target(target: Option<Square>, square: Square) -> bool
-    ensures { result ≡ spec.is_target target square }
-{
-    match target {
-        None => false,
-        Some(target) => target.is(square),
-    }
-}
-
-// Whether a pawn of the side to move may capture en passant. (FIDE Laws 3.7.3.1)
-fn is_en_passant(position: &Position, mv: &Move) -> bool
-    ensures { result ≡ spec.is_en_passant position.now mv.now }
-{
-    let board = position.board();
-    let side = position.side();
-    is_target(position.target(), mv.to)
-        && board.has_piece(mv.from, side, Kind::Pawn)
-        && promotion_fits(position, mv)
-        && board.is_empty(mv.to)
-        && reaches(Kind::Pawn, side, mv.from, mv.to)
-        && board.has_piece(captured_pawn(mv), side.other(), Kind::Pawn)
+    Square::on(mv.to.file(), mv.from.rank())
 }
 
 // The square of that file on the side's home rank.
@@ -124,24 +77,18 @@ fn home(position: &Position, file: u8) -> Square
     requires { file < 8 }
     ensures { result ≡ spec.home position.now file }
 {
-    Square::nth(8 * rank_from(position.side(), 0) as usize + file as usize)
+    Square::on(file, rank_from(position.side(), 0))
 }
 
-fn short_right(position: &Position) -> bool
-    ensures { result ≡ spec.short_right position.now.side position.now.rights }
+// The castling rights of the side, short and long.
+fn own_rights(position: &Position) -> (bool, bool)
+    ensures short { result.0 ≡ spec.short_right position.now.side position.now.rights }
+    ensures long { result.1 ≡ spec.long_right position.now.side position.now.rights }
 {
+    let rights = position.rights();
     match position.side() {
-        Colour::White => position.rights().white_short,
-        Colour::Black => position.rights().black_short,
-    }
-}
-
-fn long_right(position: &Position) -> bool
-    ensures { result ≡ spec.long_right position.now.side position.now.rights }
-{
-    match position.side() {
-        Colour::White => position.rights().white_long,
-        Colour::Black => position.rights().black_long,
+        Colour::White => (rights.white_short, rights.white_long),
+        Colour::Black => (rights.black_short, rights.black_long),
     }
 }
 
@@ -150,35 +97,34 @@ fn is_unattacked(position: &Position, file: u8) -> bool
     requires { file < 8 }
     ensures { result ≡ spec.is_unattacked position.now file }
 {
-    !is_attacked(
-        position.board(),
-        position.side().other(),
-        home(position, file),
-    )
+    let by = position.side().other();
+    !is_attacked(position.board(), by, home(position, file))
 }
 
-// Whether the move castles on the wing, if the side has that right. (FIDE Laws 3.8.2)
-fn castles(position: &Position, mv: &Move, right: bool, wing: Wing) -> bool
-    requires rook { wing.rook < 8 }
-    requires end { wing.end < 8 }
-    requires crossing { wing.crossing < 8 }
+// Whether the move castles, if the side has that right. `wing` has the files of the rook, of the
+// king's end, and of the square that the king crosses, where the rook ends. (FIDE Laws 3.8.2)
+fn castles(position: &Position, mv: &Move, right: bool, wing: (u8, u8, u8)) -> bool
+    requires rook { wing.0 < 8 }
+    requires end { wing.1 < 8 }
+    requires crossing { wing.2 < 8 }
     ensures { result ≡ spec.castles position.now mv.now right
-        (record { rook = wing.rook; end = wing.end; crossing = wing.crossing }) }
+        (record { rook = wing.0; end = wing.1; crossing = wing.2 }) }
 {
     let board = position.board();
     let side = position.side();
+    let (rook_file, end, crossing) = wing;
     let king = home(position, 4);
-    let rook = home(position, wing.rook);
+    let rook = home(position, rook_file);
     right
         && mv.promotion.is_none()
         && mv.from.is(king)
-        && mv.to.is(home(position, wing.end))
+        && mv.to.is(home(position, end))
         && board.has_piece(king, side, Kind::King)
         && board.has_piece(rook, side, Kind::Rook)
         && is_clear(board, king, rook)
         && is_unattacked(position, 4)
-        && is_unattacked(position, wing.crossing)
-        && is_unattacked(position, wing.end)
+        && is_unattacked(position, crossing)
+        && is_unattacked(position, end)
 }
 
 fn kind_of(promotion: Promotion) -> Kind
@@ -192,80 +138,29 @@ fn kind_of(promotion: Promotion) -> Kind
     }
 }
 
-// Moves the piece from the origin to the target; a promotion puts another piece there. (FIDE Laws
-// 3.7.3.3)
-#[inline(always)]
-fn carry(position: &Position, mv: &Move, board: &mut Board)
-    requires { board.old ≡ position.now.board }
-    ensures { board.new ≡ spec.carried position.now mv.now }
-{
-    match mv.promotion {
-        None => board.carry(mv.from, mv.to),
-        Some(promotion) => {
-            board.put(mv.from, None);
-            board.put(
-                mv.to,
-                Some(Piece {
-                    colour: position.side(),
-                    kind: kind_of(promotion),
-                }),
-            );
-        }
-    }
-}
-
-// Puts the rook of a king that castles on the square that the king crosses.
-#[inline(always)]
-fn move_rook(position: &Position, wing: Wing, board: &mut Board)
-    requires rook { wing.rook < 8 }
-    requires crossing { wing.crossing < 8 }
-    ensures { board.new ≡ put (put board.old (spec.home position.now wing.rook) None)
-        (spec.home position.now wing.crossing) (some_piece position.now.side Rook) }
-{
-    board.put(home(position, wing.rook), None);
-    board.put(
-        home(position, wing.crossing),
-        Some(Piece {
-            colour: position.side(),
-            kind: Kind::Rook,
-        }),
-    );
-}
-
-// Whether the move takes a king further than to the next file.
-fn king_goes_far(position: &Position, mv: &Move) -> bool
-    ensures { result ≡ kinds.king_goes_far position.now mv.now }
-{
-    let board = position.board();
-    board.has_piece(mv.from, position.side(), Kind::King)
-        && mv.from.file().abs_diff(mv.to.file()) > 1
-}
-
-// Whether a pawn goes to the en passant target, which is empty, and leaves its file.
-fn pawn_passes(position: &Position, mv: &Move) -> bool
-    ensures { result ≡ kinds.pawn_passes position.now mv.now }
-{
-    let board = position.board();
-    is_target(position.target(), mv.to)
-        && board.has_piece(mv.from, position.side(), Kind::Pawn)
-        && mv.from.file() != mv.to.file()
-        && board.is_empty(mv.to)
-}
-
 // The kind of step that the move is, if it is one. This asks no rule.
+#[tactic(auto, using(crate::proofs::moves::kings), unfolding(crate::specs::StepKinds::step_kind))]
 pub(crate) fn kind_of_step(position: &Position, mv: &Move) -> StepKind
-    ensures { result ≡ kinds.kind position.now mv.now }
+    ensures { step_kinds.IsKindOfStep result position.now mv.now }
 {
-    if king_goes_far(position, mv) {
+    position.recall_invariant();
+    mv.from.recall_invariant();
+    mv.to.recall_invariant();
+    let board = position.board();
+    if mv.from.is(position.king()) && mv.from.file().abs_diff(mv.to.file()) > 1 {
         if mv.to.file() == 6 {
             return StepKind::ShortCastling;
         }
         return StepKind::LongCastling;
     }
-    if pawn_passes(position, mv) {
-        return StepKind::EnPassant;
+    match position.target() {
+        Some(target)
+            if target.is(mv.to)
+                && board.has_piece(mv.from, position.side(), Kind::Pawn)
+                && mv.from.file() != mv.to.file()
+                && board.is_empty(mv.to) => StepKind::EnPassant,
+        _ => StepKind::Plain,
     }
-    StepKind::Plain
 }
 
 // Whether a pawn, which is on the origin, may go so. (FIDE Laws 3.7)
@@ -279,10 +174,10 @@ fn is_pawn_step(position: &Position, mv: &Move) -> bool
         return false;
     }
     if mv.from.file() != mv.to.file() {
-        return reaches(Kind::Pawn, side, mv.from, mv.to) && board.has_colour(mv.to, side.other());
+        return pawns_to(side, mv.to).has(mv.from) && board.has_colour(mv.to, side.other());
     }
-    is_ahead(side, mv.from.rank(), mv.to.rank()) && board.is_empty(mv.to)
-        || is_double_step(position, mv)
+    let is_ahead = rank_from(side, mv.to.rank()) == rank_from(side, mv.from.rank()) + 1;
+    is_ahead && board.is_empty(mv.to) || is_double_step(position, mv)
 }
 
 // Whether a piece of the side to move goes so by itself. The cheapest tests are first.
@@ -296,15 +191,12 @@ fn is_plain_step(position: &Position, mv: &Move) -> bool
     if board.has_colour(mv.to, side) {
         return false;
     }
-    let Some(piece) = board.at(mv.from) else {
-        return false;
-    };
-    if piece.colour != side {
-        return false;
-    }
-    match piece.kind {
-        Kind::Pawn => is_pawn_step(position, mv),
-        kind => mv.promotion.is_none() && piece_attacks(board, kind, side, mv.from, mv.to),
+    match board.at(mv.from) {
+        Some(piece) if piece.colour == side => match piece.kind {
+            Kind::Pawn => is_pawn_step(position, mv),
+            _ => mv.promotion.is_none() && piece_attacks(board, piece, mv.from, mv.to),
+        },
+        _ => false,
     }
 }
 
@@ -341,22 +233,26 @@ fn is_plain_step(position: &Position, mv: &Move) -> bool
 pub fn is_step(position: &Position, mv: &Move) -> bool
     ensures { result ≡ is_some (spec.step position.now mv.now) }
 {
-    mv.from.recall_invariant();
-    mv.to.recall_invariant();
     is_step_of_kind(position, mv, kind_of_step(position, mv))
 }
 
 // Whether the move is a step, by the rules of its kind.
 #[inline(always)]
-pub(crate) fn is_step_of_kind(position: &Position, mv: &Move, kind: StepKind) -> bool
-    requires { kind ≡ kinds.kind position.now mv.now }
+pub(crate) fn is_step_of_kind(position: &Position, mv: &Move, step_kind: StepKind) -> bool
+    requires { step_kinds.IsKindOfStep step_kind position.now mv.now }
     ensures { result ≡ is_some (spec.board_after position.now mv.now) }
 {
-    match kind {
+    let board = position.board();
+    let side = position.side();
+    match step_kind {
         StepKind::Plain => is_plain_step(position, mv),
-        StepKind::EnPassant => is_en_passant(position, mv),
-        StepKind::ShortCastling => castles(position, mv, short_right(position), SHORT_WING),
-        StepKind::LongCastling => castles(position, mv, long_right(position), LONG_WING),
+        StepKind::EnPassant => {
+            promotion_fits(position, mv)
+                && pawns_to(side, mv.to).has(mv.from)
+                && board.has_piece(captured_pawn(mv), side.other(), Kind::Pawn)
+        }
+        StepKind::ShortCastling => castles(position, mv, own_rights(position).0, (7, 6, 5)),
+        StepKind::LongCastling => castles(position, mv, own_rights(position).1, (0, 2, 3)),
     }
 }
 
@@ -365,26 +261,26 @@ pub(crate) fn is_step_of_kind(position: &Position, mv: &Move, kind: StepKind) ->
 // All that writes to the board is inlined here. So the compiler sees that a test of legality writes
 // to nothing else, and drops it if nobody asks for the result.
 #[inline(always)]
-pub(crate) fn board_after(position: &Position, mv: &Move, kind: StepKind) -> Board
-    requires kind { kind ≡ kinds.kind position.now mv.now }
+pub(crate) fn board_after(position: &Position, mv: &Move, step_kind: StepKind) -> Board
+    requires kind { step_kinds.IsKindOfStep step_kind position.now mv.now }
     requires step { IsTrue (is_some (spec.board_after position.now mv.now)) }
     ensures { spec.board_after position.now mv.now ≡ Some result }
 {
     let mut board = *position.board();
-    carry(position, mv, &mut board);
-    match kind {
-        StepKind::Plain => board,
-        StepKind::EnPassant => {
-            board.put(captured_pawn(mv), None);
-            board
-        }
-        StepKind::ShortCastling => {
-            move_rook(position, SHORT_WING, &mut board);
-            board
-        }
-        StepKind::LongCastling => {
-            move_rook(position, LONG_WING, &mut board);
-            board
+    match mv.promotion {
+        None => board.carry(mv.from, mv.to),
+        Some(promotion) => {
+            let colour = position.side();
+            let kind = kind_of(promotion);
+            board.put(mv.from, None);
+            board.put(mv.to, Some(Piece { colour, kind }));
         }
     }
+    match step_kind {
+        StepKind::Plain => {}
+        StepKind::EnPassant => board.put(captured_pawn(mv), None),
+        StepKind::ShortCastling => board.carry(home(position, 7), home(position, 5)),
+        StepKind::LongCastling => board.carry(home(position, 0), home(position, 3)),
+    }
+    board
 }

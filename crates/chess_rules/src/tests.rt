@@ -3,7 +3,7 @@
 
 mod candidates;
 
-use crate::legal::{in_check, is_legal, try_pair};
+use crate::legal::{in_check, try_pair};
 use crate::piece::{Colour, Kind, Piece, Promotion};
 use crate::position::{Move, Parts, Position, PositionFault, Rights};
 use crate::probes::Probes;
@@ -160,7 +160,7 @@ fn count_moves(position: &Position) -> u32 {
                     to: Square::nth(to),
                     promotion,
                 };
-                if is_legal(position, mv, &mut Probes::new()) {
+                if try_pair(position, mv, &mut Probes::new()).is_some() {
                     moves = moves.wrapping_add(1);
                 }
             }

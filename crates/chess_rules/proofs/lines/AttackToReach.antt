@@ -1,18 +1,14 @@
 -- What a piece attacks it reaches over empty squares, whatever its kind.
-use Rattle.std.proofs.Common.{◌≡◌, ℕ, ◌<◌, ◌≤◌, Bool, true, false, not, ◌&&◌, ◌||◌, ◌⊎◌, inl, inr, refl, sym, ◌∙◌, ap, ap₂, arith}
-use Rattle.std.specs.Prelude.{Option, None, Some, is_none, is_some, nat_le}
-use Rattle.std.specs.List.{list_any}
-use Rattle.std.proofs.lemmas.Bool.Decides.{nat_tests}
-use Rattle.std.proofs.lemmas.Bool.{or_cases, or_left, and_from}
-use Rattle.chess_rules.specs.declared.piece.Colour.{Colour}
-use Rattle.chess_rules.specs.declared.piece.Kind.{Kind}
-use Rattle.chess_rules.specs.declared.piece.Kind.TheVariants.{King, Queen, Rook, Bishop, Knight, Pawn}
-use Rattle.chess_rules.specs.declared.piece.Piece.{Piece}
-use Rattle.chess_rules.specs.Square.{Square, squares, gap, same_square, is_adjacent, is_jump, in_line, on_diagonal, strictly_between, between_on_rank, between_on_file, between_on_diagonal}
-use Rattle.chess_rules.specs.Board.{Board, at, is_empty, has_colour, same_colour, same_kind}
-use Rattle.chess_rules.specs.Attacks.{is_clear, is_ahead, kind_attacks, cell_attacks, attacks, is_attacked}
-use Rattle.chess_rules.specs.Reach.{is_aligned, is_in_view, may_attack, near_with, reaches, slides_with}
+use Rattle.chess_rules.proofs.Words.{Colour, Kind, King, Queen, Rook, Bishop, Knight, Pawn, Piece, Square, squares, gap, same_square, is_adjacent, is_jump, in_line, on_diagonal, strictly_between, between_on_rank, between_on_file, between_on_diagonal, Board, at, is_empty, has_colour, same_colour, same_kind, is_clear, is_ahead, kind_attacks, cell_attacks, attacks, is_attacked, has_kind, is_aligned, is_near, may_attack, reaches, reaches_from, ◌≡◌, ℕ, ◌<◌, ◌≤◌, Bool, true, false, not, ◌&&◌, ◌||◌, ◌⊎◌, inl, inr, refl, sym, ◌∙◌, ap, arith, Option, None, Some, is_none, is_some, nat_le, list_any, nat_tests, leb-true, or_cases, and_from}
 use Rattle.chess_rules.proofs.sets.AllSquares.{first_true, second_true, all_squares, any_same, implied}
+
+-- a piece is on s, and all squares between s and t are empty
+abbrev pub is_open : Board → Square → Square → Bool
+is_open b t s = is_some (at b s) && is_clear b s t
+
+-- such a piece is on a rank, a file or a diagonal with t
+abbrev pub is_in_view : Board → Square → Square → Bool
+is_in_view b t s = is_aligned s t && is_open b t s
 
 -- What a cell holds is determined.
 
@@ -78,9 +74,6 @@ near_aligned s t files ranks apart = grind arith
 pub near : (b : Board) (s t : Square) → gap s.file t.file ≤ 1 → gap s.rank t.rank ≤ 1 → not (same_square s t) ≡ true → (is_aligned s t && is_clear b s t) ≡ true
 near b s t files ranks apart = and_from _ _ (near_aligned s t files ranks apart) (near_clear b s t files ranks)
 
-at_most : (a b : ℕ) → nat_le a b ≡ true → a ≤ b
-at_most a b h = grind arith
-
 pub apart_by_file : (s t : Square) → gap s.file t.file ≡ 1 → not (same_square s t) ≡ true
 apart_by_file s t h = grind arith
 
@@ -91,7 +84,7 @@ pub adjacent_seen : (b : Board) (s t : Square) → is_adjacent s t ≡ true → 
 adjacent_seen b s t h =
     let steps : (nat_le (gap s.file t.file) 1 && nat_le (gap s.rank t.rank) 1) ≡ true = first_true _ (not (same_square s t)) h in
     near b s t
-    (at_most _ _ (first_true (nat_le (gap s.file t.file) 1) _ steps)) (at_most _ _ (second_true (nat_le (gap s.file t.file) 1) _ steps))
+    (leb-true _ _ (first_true (nat_le (gap s.file t.file) 1) _ steps)) (leb-true _ _ (second_true (nat_le (gap s.file t.file) 1) _ steps))
     (second_true (nat_le (gap s.file t.file) 1 && nat_le (gap s.rank t.rank) 1) _ h)
 
 pub pawn_seen : (c : Colour) (b : Board) (s t : Square) → reaches Pawn c s t ≡ true → (is_aligned s t && is_clear b s t) ≡ true
@@ -101,129 +94,111 @@ pawn_seen c b s t h = grind (arith, ahead_gap, near, apart_by_file)
 pub attack_seen : (k : Kind) (c : Colour) (b : Board) (s t : Square) → kind_attacks k c b s t ≡ true → (k ≡ Knight) ⊎ ((is_aligned s t && is_clear b s t) ≡ true)
 attack_seen k c b s t h = grind (arith, adjacent_seen, pawn_seen)
 
--- no piece attacks from where none would on an empty board
-pub unreached : (b : Board) (s t : Square) → (is_aligned s t || is_jump s t) ≡ false → attacks b s t ≡ false
-unreached b s t out = grind (arith, nat_tests)
+-- A piece attacks what it would if all squares between were empty, by a clear way.
 
--- Near pieces and sliding ones.
+adjacent_clear : (b : Board) (s t : Square) → is_adjacent s t ≡ true → is_clear b s t ≡ true
+adjacent_clear b s t h = second_true (is_aligned s t) _ (adjacent_seen b s t h)
 
-and_no : (x : Bool) → (x && false) ≡ false
-and_no x = grind arith
+pawn_clear : (c : Colour) (b : Board) (s t : Square) → reaches Pawn c s t ≡ true → is_clear b s t ≡ true
+pawn_clear c b s t h = second_true (is_aligned s t) _ (pawn_seen c b s t h)
 
-both_no : (x y : Bool) → ((x && false) || (y && false)) ≡ false
-both_no x y = grind arith
+pub with_second : (x y : Bool) → (x ≡ true → y ≡ true) → x ≡ (x && y)
+with_second x y h = grind (arith, h)
 
--- near it, or far
-abbrev near_or_far : Bool → Bool → Bool → Bool → Bool
-near_or_far near slide same first = (near && same) || ((slide && same) && first)
+pub attack_is : (k : Kind) (c : Colour) (b : Board) (s t : Square) → kind_attacks k c b s t ≡ (reaches k c s t && is_clear b s t)
+attack_is King c b s t = with_second _ _ (adjacent_clear b s t)
+attack_is Queen c b s t = refl
+attack_is Rook c b s t = refl
+attack_is Bishop c b s t = refl
+attack_is Knight c b s t = with_second _ _ (jump_clear b s t)
+attack_is Pawn c b s t = with_second _ _ (pawn_clear c b s t)
 
-no_colour : (x y f : Bool) → false ≡ near_or_far x y false f
-no_colour x y f = grind arith
+cell_attack_is : (cell : Option Piece) (b : Board) (s t : Square) → cell_attacks cell b s t ≡ (reaches_from cell s t && is_clear b s t)
+cell_attack_is None b s t = refl
+cell_attack_is (Some x) b s t = attack_is x.kind x.colour b s t
 
-jumps : (j a p : Bool) → (((j && true) || (a && false)) || (p && false)) ≡ j
-jumps j a p = grind arith
+-- from other squares no piece reaches it
+pub reached : (cell : Option Piece) (s t : Square) → (is_aligned s t || is_jump s t) ≡ false → reaches_from cell s t ≡ false
+reached cell s t out = grind (arith, nat_tests)
 
-steps : (j a p : Bool) → (((j && false) || (a && true)) || (p && false)) ≡ a
-steps j a p = grind arith
+pub no_attack : (b : Board) (s t : Square) → reaches_from (at b s) s t ≡ false → attacks b s t ≡ false
+no_attack b s t h = cell_attack_is (at b s) b s t ∙ ap (λ x. x && is_clear b s t) h
 
-takes : (j a p : Bool) → (((j && false) || (a && false)) || (p && true)) ≡ p
-takes j a p = grind arith
-
-none_near : (j a p : Bool) → (((j && false) || (a && false)) || (p && false)) ≡ false
-none_near j a p = grind arith
-
-along_lines : (l c clear : Bool) → (((l && true) || (c && false)) && clear) ≡ (l && clear)
-along_lines l c clear = grind arith
-
-along_cross : (l c clear : Bool) → (((l && false) || (c && true)) && clear) ≡ (c && clear)
-along_cross l c clear = grind arith
-
-along_both : (l c clear : Bool) → (((l && true) || (c && true)) && clear) ≡ ((l || c) && clear)
-along_both l c clear = grind arith
-
--- what is near, if a piece of that kind stands there, and what slides
-abbrev near_kind : Kind → Bool → Bool → Bool → Bool
-near_kind k jump adjacent pawn = ((jump && same_kind Knight k) || (adjacent && same_kind King k)) || (pawn && same_kind Pawn k)
-
-abbrev slide_kind : Kind → Bool → Bool → Bool
-slide_kind k line cross = (line && (same_kind Rook k || same_kind Queen k)) || (cross && (same_kind Bishop k || same_kind Queen k))
-
-by_kind : (k : Kind) (c : Colour) (b : Board) (s t : Square)
-    → kind_attacks k c b s t
-    ≡ near_or_far (near_kind k (is_jump s t) (is_adjacent s t) (reaches Pawn c s t)) (slide_kind k (in_line s t) (on_diagonal s t)) true (is_clear b s t)
-by_kind k c b s t = of k
+attacker_is : (b : Board) (c : Colour) (s t : Square) → (has_colour c (at b s) && attacks b s t) ≡ (may_attack b c t s && is_clear b s t)
+attacker_is b c s t = ap (λ x. has_colour c (at b s) && x) (cell_attack_is (at b s) b s t) ∙ in_turn (has_colour c (at b s)) (reaches_from (at b s) s t) (is_clear b s t)
   where
-    near : (x m n : Bool) → m ≡ x → n ≡ false → x ≡ near_or_far m n true (is_clear b s t)
-    near x m n e h = grind arith
-
-    far : (x m n : Bool) → m ≡ false → (n && is_clear b s t) ≡ x → x ≡ near_or_far m n true (is_clear b s t)
-    far x m n e h = grind arith
-
-    of : (l : Kind) → kind_attacks l c b s t
-        ≡ near_or_far (near_kind l (is_jump s t) (is_adjacent s t) (reaches Pawn c s t)) (slide_kind l (in_line s t) (on_diagonal s t)) true (is_clear b s t)
-    of King = near (is_adjacent s t) _ _ (steps (is_jump s t) (is_adjacent s t) (reaches Pawn c s t)) (both_no (in_line s t) (on_diagonal s t))
-    of Knight = near (is_jump s t) _ _ (jumps (is_jump s t) (is_adjacent s t) (reaches Pawn c s t)) (both_no (in_line s t) (on_diagonal s t))
-    of Pawn = near (reaches Pawn c s t) _ _ (takes (is_jump s t) (is_adjacent s t) (reaches Pawn c s t)) (both_no (in_line s t) (on_diagonal s t))
-    of Rook = far (in_line s t && is_clear b s t) _ _ (none_near (is_jump s t) (is_adjacent s t) (reaches Pawn c s t)) (along_lines (in_line s t) (on_diagonal s t) (is_clear b s t))
-    of Bishop = far (on_diagonal s t && is_clear b s t) _ _ (none_near (is_jump s t) (is_adjacent s t) (reaches Pawn c s t)) (along_cross (in_line s t) (on_diagonal s t) (is_clear b s t))
-    of Queen = far ((in_line s t || on_diagonal s t) && is_clear b s t) _ _ (none_near (is_jump s t) (is_adjacent s t) (reaches Pawn c s t)) (along_both (in_line s t) (on_diagonal s t) (is_clear b s t))
-
-pub by_cell : (c : Colour) (cell : Option Piece) (b : Board) (s t : Square)
-    → (has_colour c cell && cell_attacks cell b s t) ≡ (near_with c cell s t || (slides_with c cell s t && is_clear b s t))
-by_cell c None b s t =
-    no_colour (((is_jump s t && false) || (is_adjacent s t && false)) || (reaches Pawn c s t && false)) ((in_line s t && false) || (on_diagonal s t && false)) (is_clear b s t)
-by_cell c (Some x) b s t = by_colour (same_colour c x.colour) refl
-  where
-    by_colour : (v : Bool) → same_colour c x.colour ≡ v
-        → (same_colour c x.colour && kind_attacks x.kind x.colour b s t)
-        ≡ near_or_far (near_kind x.kind (is_jump s t) (is_adjacent s t) (reaches Pawn c s t)) (slide_kind x.kind (in_line s t) (on_diagonal s t)) (same_colour c x.colour) (is_clear b s t)
-    by_colour false e =
-        ap (λ v. v && kind_attacks x.kind x.colour b s t) e
-        ∙ (no_colour (near_kind x.kind (is_jump s t) (is_adjacent s t) (reaches Pawn c s t)) (slide_kind x.kind (in_line s t) (on_diagonal s t)) (is_clear b s t)
-        ∙ ap (λ v. near_or_far (near_kind x.kind (is_jump s t) (is_adjacent s t) (reaches Pawn c s t)) (slide_kind x.kind (in_line s t) (on_diagonal s t)) v (is_clear b s t)) (sym e))
-    by_colour true e =
-        ap (λ v. v && kind_attacks x.kind x.colour b s t) e
-        ∙ (by_kind x.kind x.colour b s t
-        ∙ ap₂ (λ d v. near_or_far (near_kind x.kind (is_jump s t) (is_adjacent s t) (reaches Pawn d s t)) (slide_kind x.kind (in_line s t) (on_diagonal s t)) v (is_clear b s t))
-        (sym (colours_same c x.colour e)) (sym e))
-
-near_alone_seen : (c : Colour) (cell : Option Piece) (b : Board) (s t : Square) → near_with c cell s t ≡ true → (is_some cell ≡ true) × (((is_aligned s t && is_clear b s t) || is_jump s t) ≡ true)
-near_alone_seen c None b s t h = cc (sym h ∙ and_no _)
-near_alone_seen c (Some x) b s t h =
-    (refl, by_near (or_cases ((is_jump s t && same_kind Knight x.kind) || (is_adjacent s t && same_kind King x.kind)) _ (first_true _ (same_colour c x.colour) h)))
-  where
-    by_first : ((is_jump s t && same_kind Knight x.kind) ≡ true) ⊎ ((is_adjacent s t && same_kind King x.kind) ≡ true) → ((is_aligned s t && is_clear b s t) || is_jump s t) ≡ true
-    by_first h = grind (arith, nat_tests, adjacent_seen)
-
-    by_near : (((is_jump s t && same_kind Knight x.kind) || (is_adjacent s t && same_kind King x.kind)) ≡ true) ⊎ ((reaches Pawn c s t && same_kind Pawn x.kind) ≡ true)
-        → ((is_aligned s t && is_clear b s t) || is_jump s t) ≡ true
-    by_near h = grind (arith, by_first, or_cases, or_left, pawn_seen, first_true)
-
--- Of a piece that may attack, three tests say the same: whether it attacks, whether the way is
--- clear, and whether it is in view or a jump away.
-
-near_is_clear : (c : Colour) (cell : Option Piece) (b : Board) (s t : Square) → near_with c cell s t ≡ true → is_clear b s t ≡ true
-near_is_clear c cell b s t h =
-    elim (or_cases (is_aligned s t && is_clear b s t) (is_jump s t) ((near_alone_seen c cell b s t h).1)) [ inl seen ↦ second_true (is_aligned s t) _ seen | inr jump ↦ jump_clear b s t jump ]
-
-pub attacker_is : (b : Board) (c : Colour) (s t : Square) → (has_colour c (at b s) && attacks b s t) ≡ (may_attack b c t s && is_clear b s t)
-attacker_is b c s t =
-    by_cell c (at b s) b s t
-    ∙ join (near_with c (at b s) s t) (slides_with c (at b s) s t) (is_clear b s t) (near_is_clear c (at b s) b s t)
-  where
-    join : (x y z : Bool) → (x ≡ true → z ≡ true) → (x || (y && z)) ≡ ((x || y) && z)
-    join x y z h = grind arith
+    in_turn : (x y z : Bool) → (x && (y && z)) ≡ ((x && y) && z)
+    in_turn x y z = grind arith
 
 pub attacked_is : (b : Board) (c : Colour) (t : Square) → is_attacked b c t ≡ list_any (λ s. may_attack b c t s && is_clear b s t) squares
 attacked_is b c t = any_same (λ s. has_colour c (at b s) && attacks b s t) (λ s. may_attack b c t s && is_clear b s t) squares (λ s. attacker_is b c s t)
 
-pub open_or_jump : (b : Board) (c : Colour) (s t : Square) → may_attack b c t s ≡ true → (is_in_view b t s || is_jump s t) ≡ is_clear b s t
-open_or_jump b c s t h = elim (or_cases (near_with c (at b s) s t) (slides_with c (at b s) s t) h) [ inl near ↦ by_near near | inr slide ↦ by_slide slide ]
+-- of the pieces that may attack, those in view do, and those a jump away
+pub seen_attacker : (b : Board) (c : Colour) (t s : Square) → (may_attack b c t s && (is_in_view b t s || is_jump s t)) ≡ (may_attack b c t s && is_clear b s t)
+seen_attacker b c t s = by_tests (has_colour c (at b s)) (reaches_from (at b s) s t) (is_aligned s t) (is_jump s t) (is_some (at b s)) (is_clear b s t)
+    (some_of c (at b s)) (reached (at b s) s t) (jump_clear b s t)
   where
-    by_near : near_with c (at b s) s t ≡ true → (is_in_view b t s || is_jump s t) ≡ is_clear b s t
-    by_near near =
-        let seen : (is_some (at b s) ≡ true) × (((is_aligned s t && is_clear b s t) || is_jump s t) ≡ true) = near_alone_seen c (at b s) b s t near in
-        ap (λ x. (is_aligned s t && (x && is_clear b s t)) || is_jump s t) seen.0 ∙ (seen.1 ∙ sym (near_is_clear c (at b s) b s t near))
+    some_of : (d : Colour) (cell : Option Piece) → has_colour d cell ≡ true → is_some cell ≡ true
+    some_of d cell h = grind arith
 
-    by_slide : slides_with c (at b s) s t ≡ true → (is_in_view b t s || is_jump s t) ≡ is_clear b s t
-    by_slide slide = grind (arith, nat_tests)
+    by_tests : (own reaches aligned jump some clear : Bool) → (own ≡ true → some ≡ true) → ((aligned || jump) ≡ false → reaches ≡ false) → (jump ≡ true → clear ≡ true)
+        → ((own && reaches) && ((aligned && (some && clear)) || jump)) ≡ ((own && reaches) && clear)
+    by_tests own reaches aligned jump some clear h g f = grind (arith, h, g, f)
+
+-- The sets of the code, piece by piece.
+
+pub slider_is : (c : Colour) (cell : Option Piece) (s t : Square)
+    → (((in_line s t && (has_kind Rook cell || has_kind Queen cell)) || (on_diagonal s t && (has_kind Bishop cell || has_kind Queen cell))) && has_colour c cell)
+    ≡ ((has_colour c cell && reaches_from cell s t) && not (is_near cell))
+slider_is c None s t = grind arith
+slider_is c (Some x) s t = of x.kind
+  where
+    of : (k : Kind) → (((in_line s t && (same_kind Rook k || same_kind Queen k)) || (on_diagonal s t && (same_kind Bishop k || same_kind Queen k))) && same_colour c x.colour)
+        ≡ ((same_colour c x.colour && reaches k x.colour s t) && not (same_kind King k || (same_kind Knight k || same_kind Pawn k)))
+    of k = grind arith
+
+-- whether a piece of the kind reaches a square that is a jump away, adjacent, and so on
+abbrev reach_of : Kind → Bool → Bool → Bool → Bool → Bool → Bool
+reach_of King jump adjacent pawn line diagonal = adjacent
+reach_of Queen jump adjacent pawn line diagonal = line || diagonal
+reach_of Rook jump adjacent pawn line diagonal = line
+reach_of Bishop jump adjacent pawn line diagonal = diagonal
+reach_of Knight jump adjacent pawn line diagonal = jump
+reach_of Pawn jump adjacent pawn line diagonal = pawn
+
+reach_is : (k : Kind) (c : Colour) (s t : Square) → reaches k c s t ≡ reach_of k (is_jump s t) (is_adjacent s t) (reaches Pawn c s t) (in_line s t) (on_diagonal s t)
+reach_is King c s t = refl
+reach_is Queen c s t = refl
+reach_is Rook c s t = refl
+reach_is Bishop c s t = refl
+reach_is Knight c s t = refl
+reach_is Pawn c s t = refl
+
+pub attacker_of : (c : Colour) (cell : Option Piece) (s t : Square)
+    → (((((is_jump s t && has_kind Knight cell) || (is_adjacent s t && has_kind King cell)) || (reaches Pawn c s t && has_kind Pawn cell)) && has_colour c cell)
+    || ((has_colour c cell && reaches_from cell s t) && not (is_near cell)))
+    ≡ (has_colour c cell && reaches_from cell s t)
+attacker_of c None s t = no_colour (((is_jump s t && false) || (is_adjacent s t && false)) || (reaches Pawn c s t && false)) false true
+  where
+    no_colour : (n r m : Bool) → ((n && false) || ((false && r) && m)) ≡ false
+    no_colour n r m = grind arith
+attacker_of c (Some x) s t = by_colour (same_colour c x.colour) refl
+  where
+    by_kind : (k : Kind) (j a p l d : Bool) → (((((j && same_kind Knight k) || (a && same_kind King k)) || (p && same_kind Pawn k)) && true)
+        || ((true && reach_of k j a p l d) && not (same_kind King k || (same_kind Knight k || same_kind Pawn k)))) ≡ (true && reach_of k j a p l d)
+    by_kind k j a p l d = grind arith
+
+    others : (n r m : Bool) → ((n && false) || ((false && r) && m)) ≡ (false && r)
+    others n r m = grind arith
+
+    by_colour : (v : Bool) → same_colour c x.colour ≡ v
+        → (((((is_jump s t && same_kind Knight x.kind) || (is_adjacent s t && same_kind King x.kind)) || (reaches Pawn c s t && same_kind Pawn x.kind)) && same_colour c x.colour)
+        || ((same_colour c x.colour && reaches x.kind x.colour s t) && not (same_kind King x.kind || (same_kind Knight x.kind || same_kind Pawn x.kind))))
+        ≡ (same_colour c x.colour && reaches x.kind x.colour s t)
+    by_colour false e =
+        rw e (others (((is_jump s t && same_kind Knight x.kind) || (is_adjacent s t && same_kind King x.kind)) || (reaches Pawn c s t && same_kind Pawn x.kind))
+        (reaches x.kind x.colour s t) (not (same_kind King x.kind || (same_kind Knight x.kind || same_kind Pawn x.kind))))
+    by_colour true e =
+        let same : reaches x.kind x.colour s t ≡ reach_of x.kind (is_jump s t) (is_adjacent s t) (reaches Pawn c s t) (in_line s t) (on_diagonal s t) =
+        ap (λ d. reaches x.kind d s t) (sym (colours_same c x.colour e)) ∙ reach_is x.kind c s t in
+        rw (e, same) (by_kind x.kind (is_jump s t) (is_adjacent s t) (reaches Pawn c s t) (in_line s t) (on_diagonal s t))

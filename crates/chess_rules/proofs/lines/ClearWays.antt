@@ -1,16 +1,8 @@
 -- All squares between two are empty exactly if the set of them has no piece; and the squares of a
 -- set from which the way is so clear.
-use Rattle.std.proofs.Common.{◌≡◌, ℕ, ◌<◌, Bool, not, ◌&&◌, ◌||◌, List, [], ◌∷◌, refl, sym, ◌∙◌, ap, ap₂, arith}
-use Rattle.std.specs.Prelude.{Option, is_none, is_some}
-use Rattle.std.specs.List.{list_all, list_any}
-use Rattle.chess_rules.specs.declared.piece.Piece.{Piece}
-use Rattle.chess_rules.specs.Square.{Square, squares, strictly_between}
-use Rattle.chess_rules.specs.Board.{Board, at, cell_of, is_empty}
-use Rattle.chess_rules.specs.Attacks.{is_clear}
-use Rattle.chess_rules.specs.Reach.{square_at}
-use Rattle.chess_rules.specs.Words.{has, has_any, HasNone, Marks, Meets, Places}
+use Rattle.chess_rules.proofs.Words.{Piece, Square, squares, strictly_between, Board, at, cell_of, is_empty, is_clear, square_at, Bits, has, has_any, HasNone, Places, ◌≡◌, ℕ, ◌<◌, Bool, not, ◌&&◌, ◌||◌, List, [], ◌∷◌, refl, sym, ◌∙◌, ap, ap₂, arith, Option, is_none, is_some, list_all, list_any}
 use Rattle.chess_rules.proofs.positions.OneKing.{cell_of-square_at}
-use Rattle.chess_rules.proofs.sets.SetsToSquares.{any_of_set, marked, places_and}
+use Rattle.chess_rules.proofs.sets.SetsToSquares.{any_of_set, places_and}
 
 all_unless : {X : Type 0} (p q r : X → Bool) (xs : List X) → ((x : X) → q x ≡ not (r x)) → list_all (λ x. not (p x) || r x) xs ≡ not (list_any (λ x. p x && q x) xs)
 all_unless p q r [] h = refl
@@ -22,10 +14,10 @@ all_unless p q r (x ∷ xs) h = by_tests (p x) (q x) (r x) _ _ (h x) (all_unless
 filled : (o : Option Piece) → is_some o ≡ not (is_none o)
 filled o = grind arith
 
-pub clear_by_set : (b : Board) (s t : Square) (v w r : ℕ) → Places v (λ u. strictly_between s u t) → Marks w is_some b → Meets v w r → not (has_any r) ≡ is_clear b s t
+pub clear_by_set : (b : Board) (s t : Square) (v w r : ℕ) → Places v (λ u. strictly_between s u t) → Places w (λ u. is_some (at b u)) → Bits r (λ i. has v i && has w i) → not (has_any r) ≡ is_clear b s t
 clear_by_set b s t v w r between pieces both =
     ap not (any_of_set r (λ u. strictly_between s u t && is_some (at b u))
-    (places_and v w r (λ u. strictly_between s u t) (λ u. is_some (at b u)) both between (marked w is_some b pieces)))
+    (places_and v w r (λ u. strictly_between s u t) (λ u. is_some (at b u)) both between pieces))
     ∙ sym (all_unless (λ u. strictly_between s u t) (λ u. is_some (at b u)) (is_empty b) squares (λ u. filled (at b u)))
 
 -- The squares of a set from which the way is clear, square by square.

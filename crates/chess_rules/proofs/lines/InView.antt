@@ -1,18 +1,11 @@
 -- On a line through a square, the nearest piece on either side is the one in view. So at most eight
 -- pieces are in view of a square.
-use Rattle.std.proofs.Common.{◌≡◌, ◌≢◌, ℕ, ◌<◌, ◌≤◌, Bool, true, false, not, ◌&&◌, ◌||◌, ◌⊎◌, length, refl, sym, ◌∙◌, ap, ap₂, arith}
-use Rattle.std.specs.Prelude.{filter, is_some, nat_lt}
-use Rattle.std.proofs.lemmas.Bool.{false≢true, or_left, or_right, not-true, and_from}
-use Rattle.chess_rules.specs.Square.{Square, squares, inside, in_line, on_diagonal, strictly_between}
-use Rattle.chess_rules.specs.Board.{Board, at, cell_of, is_empty}
-use Rattle.chess_rules.specs.Attacks.{is_clear}
-use Rattle.chess_rules.specs.Reach.{IsLine, is_in_view, is_open, is_steep, square_at}
-use Rattle.chess_rules.specs.Words.{has, IsHighest, IsLowest, IsOnly, Joins, Places}
+use Rattle.chess_rules.proofs.Words.{Square, squares, inside, in_line, on_diagonal, strictly_between, Board, at, cell_of, is_empty, is_clear, IsLine, is_steep, square_at, Bits, has, IsHighest, IsLowest, IsOnly, Places, ◌≡◌, ◌≢◌, ℕ, ◌<◌, ◌≤◌, Bool, true, false, not, ◌&&◌, ◌||◌, ◌⊎◌, length, refl, sym, ◌∙◌, ap, ap₂, arith, filter, is_some, nat_lt, false≢true, or_left, or_right, not-true, and_from}
 use Rattle.chess_rules.proofs.positions.OneKing.{cell_of-square_at}
 use Rattle.chess_rules.proofs.sets.AllSquares.{first_true, second_true, same_tests, each_square, not_true}
 use Rattle.chess_rules.proofs.sets.SetsToSquares.{at_square, one_kept}
 use Rattle.chess_rules.proofs.trying.FoundLists.{kept_either, kept_more}
-use Rattle.chess_rules.proofs.lines.AttackToReach.{clear_if, not_empty}
+use Rattle.chess_rules.proofs.lines.AttackToReach.{clear_if, is_in_view, is_open, not_empty}
 use Rattle.chess_rules.proofs.lines.LinesThrough.{file_line, rank_line, rising_line, falling_line, inside_means, inside_up, inside_down}
 
 strict : (m n : ℕ) → m ≤ n → (m ≡ n → ⊥) → m < n
@@ -167,7 +160,7 @@ module _ (b : Board) (t : Square) (line occupied up down low high : ℕ) (tf : t
                   let both : (has line k && has occupied k) ≡ true = first_true _ (nat_lt k (cell_of t)) all in
                   absurd (none_between k low_k (inside_up i k (cell_of t) more (test_below k (cell_of t) (second_true (has line k && has occupied k) _ all))) both)
 
-  pub nearest_places : (near : ℕ) → Joins low high near → Places near (λ s. has line (cell_of s) && is_open b t s)
+  pub nearest_places : (near : ℕ) → Bits near (λ i. has low i || has high i) → Places near (λ s. has line (cell_of s) && is_open b t s)
   nearest_places near either = record { of = λ i h. either.of i h ∙ same_tests (has low i || has high i) _ (one_of (has low i) (has high i) _ (from_low i h) (from_high i h)) (found i h) }
     where
       one_of : (x y z : Bool) → (x ≡ true → z ≡ true) → (y ≡ true → z ≡ true) → (x || y) ≡ true → z ≡ true
@@ -268,7 +261,7 @@ line_of_set line t w tf tr on h =
           ∙ ap (λ x. x && inside (cell_of s) (cell_of u) (cell_of t)) (sym (at_square w line u h uf ur));
     }
 
-pub view_places : (b : Board) (t : Square) (v w x y k l m n two three four : ℕ) → Joins k l two → Joins two m three → Joins three n four → t.file < 8 → t.rank < 8
+pub view_places : (b : Board) (t : Square) (v w x y k l m n two three four : ℕ) → Bits two (λ i. has k i || has l i) → Bits three (λ i. has two i || has m i) → Bits four (λ i. has three i || has n i) → t.file < 8 → t.rank < 8
     → Places v (on_file t) → Places w (on_rank t) → Places x (on_rising t) → Places y (on_falling t)
     → Places k (λ s. has v (cell_of s) && is_open b t s) → Places l (λ s. has w (cell_of s) && is_open b t s)
     → Places m (λ s. has x (cell_of s) && is_open b t s) → Places n (λ s. has y (cell_of s) && is_open b t s)

@@ -1,10 +1,5 @@
 -- Four lines go through a square. Of two squares on one, those between are between in order too.
-use Rattle.std.proofs.Common.{◌≡◌, ℕ, ◌+◌, ◌<◌, ◌≢◌, Bool, true, false, not, ◌&&◌, ◌||◌, ◌⊎◌, inl, inr, arith}
-use Rattle.std.proofs.lemmas.Bool.Decides.{nat_tests}
-use Rattle.std.proofs.lemmas.Bool.{or_cases, or_left, or_right}
-use Rattle.chess_rules.specs.Square.{Square, gap, inside, in_line, on_diagonal, strictly_between, between_on_rank, between_on_file, between_on_diagonal}
-use Rattle.chess_rules.specs.Board.{cell_of}
-use Rattle.chess_rules.specs.Reach.{IsLine, is_steep}
+use Rattle.chess_rules.proofs.Words.{Square, gap, inside, in_line, on_diagonal, strictly_between, between_on_rank, between_on_file, between_on_diagonal, cell_of, IsLine, is_steep, ◌≡◌, ℕ, ◌+◌, ◌<◌, ◌≢◌, Bool, true, false, not, ◌&&◌, ◌||◌, ◌⊎◌, inl, inr, arith, nat_tests, or_cases, or_left, or_right}
 use Rattle.chess_rules.proofs.sets.AllSquares.{first_true, second_true, same_tests}
 
 pub inside_means : (a x b : ℕ) → inside a x b ≡ true → ((a < x) × (x < b)) ⊎ ((b < x) × (x < a))

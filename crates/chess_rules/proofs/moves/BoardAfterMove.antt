@@ -1,25 +1,22 @@
--- What a move leaves on the board: one king of each colour, where it was if it does not move,
--- and no pawn on rank 1 or 8.
-use Rattle.std.proofs.Common.{◌≡◌, ◌≢◌, ℕ, ◌+◌, true, false, inl, inr, sym, ◌∙◌, ap, subst, arith, length, cond}
-use Rattle.std.specs.Prelude.{Option, None}
-use Rattle.chess_rules.specs.declared.piece.Colour.{Colour}
-use Rattle.chess_rules.specs.declared.piece.Kind.TheVariants.{King}
-use Rattle.chess_rules.specs.declared.piece.Piece.{Piece}
-use Rattle.chess_rules.specs.declared.position.Move.{Move}
-use Rattle.chess_rules.specs.declared.position.Parts.{Parts}
-use Rattle.chess_rules.specs.Square.{Square, same_square}
-use Rattle.chess_rules.specs.Board.{Board, at, put, kings, has_piece, is_pawn}
-use Rattle.chess_rules.specs.Step.{promoted, carried}
+-- What a move leaves on the board: one king of each colour, where it was or where it moved, and no
+-- pawn on rank 1 or 8.
+use Rattle.chess_rules.proofs.Words.{Colour, King, Piece, Move, Parts, Square, same_square, Board, at, put, kings, has_colour, has_piece, is_pawn, promoted, carried, ◌≡◌, ◌≢◌, ℕ, ◌+◌, Bool, true, false, inl, inr, refl, sym, ◌∙◌, ap, subst, arith, length, cond, Option, None, if◌then◌else◌}
+use Rattle.chess_rules.proofs.lines.AttackToReach.{squares_same}
 use Rattle.chess_rules.proofs.positions.OneKing.{StandsAt}
-use Rattle.chess_rules.proofs.moves.CellsAfterPut.{OnBoard, at_put, length-put, king_count, kings-put, kings-put_alike}
-use Rattle.chess_rules.proofs.positions.RulesOfPosition.{Sound, is_edge, no_pawn_there}
+use Rattle.chess_rules.proofs.moves.CellsAfterPut.{OnBoard, at_put, at_put_here, length-put, king_count, kings-put, kings-put_alike}
+use Rattle.chess_rules.proofs.positions.RulesOfPosition.{Sound, is_edge, no_pawn_there, itself}
 
 abbrev pub arriving : Parts → Move → Option Piece
 arriving p m = promoted p.side m.promotion (at p.board m.from)
 
--- no king stands on the target; a king arrives exactly if one leaves; no pawn arrives on rank 1 or
--- 8
+-- where a king stands after a move that may be its own
+abbrev pub king_after : Square → Move → Square
+king_after k m = if same_square m.from k then m.to else k
+
+-- a piece of the side to move leaves; no king stands on the target; a king arrives exactly if one
+-- leaves; no pawn arrives on rank 1 or 8
 pub record Lands (p : Parts) (m : Move) : Type 0 where
+  pub own : has_colour p.side (at p.board m.from) ≡ true
   pub on_from : OnBoard m.from
   pub on_to : OnBoard m.to
   pub free : (c : Colour) → has_piece c King (at p.board m.to) ≡ false
@@ -27,24 +24,23 @@ pub record Lands (p : Parts) (m : Move) : Type 0 where
   pub no_pawn : is_edge m.to.rank ≡ true → is_pawn (arriving p m) ≡ false
 
 pub record Stays (p : Parts) (m : Move) (b : Board) : Type 0 where
+  pub own : has_colour p.side (at p.board m.from) ≡ true
   pub long : length b ≡ 64
   pub kings_of : (c : Colour) → kings c b ≡ 1
   pub pawns : (u : Square) → OnBoard u → is_edge u.rank ≡ true → is_pawn (at b u) ≡ false
-  pub placed : (c : Colour) (k : Square) → same_square m.from k ≡ false → StandsAt c p.board k → StandsAt c b k
+  pub placed : (c : Colour) (k : Square) → StandsAt c p.board k → StandsAt c b (king_after k m)
 
 count_none : (c : Colour) (cell : Option Piece) → has_piece c King cell ≡ false → king_count c cell ≡ 0
 count_none c cell h = ap (λ v. cond v 1 0) h
 
-itself : (s : Square) → same_square s s ≡ true
-itself s = grind arith
-
 pub carried_stays : (p : Parts) (m : Move) → Sound p → Lands p m → Stays p m (carried p m)
 carried_stays p m sound lands =
     record {
+      own = lands.own;
       long = length-put left m.to (arriving p m) ∙ left_long;
       kings_of = kings_kept;
       pawns = no_pawns;
-      placed = still;
+      placed = λ c k stands. by_own c k stands (same_square m.from k) refl;
     }
   where
     left : Board
@@ -78,8 +74,15 @@ carried_stays p m sound lands =
           ]
         ]
 
-    still : (c : Colour) (k : Square) → same_square m.from k ≡ false → StandsAt c p.board k → StandsAt c (carried p m) k
-    still c k differ stands =
+    by_own : (c : Colour) (k : Square) → StandsAt c p.board k → (x : Bool) → same_square m.from k ≡ x → StandsAt c (carried p m) (if x then m.to else k)
+    by_own c k stands true same =
+        record {
+          file = lands.on_to.file;
+          rank = lands.on_to.rank;
+          king = ap (has_piece c King) (at_put_here (put p.board m.from None) m.to (arriving p m) left_long lands.on_to)
+              ∙ (lands.alike c ∙ subst (λ (s : Square). has_piece c King (at p.board s) ≡ true) (sym (squares_same m.from k same)) stands.king);
+        }
+    by_own c k stands false differ =
         record {
           file = stands.file;
           rank = stands.rank;
@@ -104,6 +107,7 @@ pub record IsPlain (cell : Option Piece) : Type 0 where
 pub put_stays : (p : Parts) (m : Move) (b : Board) (s : Square) (x : Option Piece) → Stays p m b → OnBoard s → ((c : Colour) → has_piece c King (at b s) ≡ false) → IsPlain x → Stays p m (put b s x)
 put_stays p m b s x stays on free plain =
     record {
+      own = stays.own;
       long = length-put b s x ∙ stays.long;
       kings_of = λ c. kings-put_alike c b s x stays.long on (count_none c (at b s) (free c) ∙ sym (count_none c x (plain.no_king c))) ∙ stays.kings_of c;
       pawns = λ u on_u edge.
@@ -111,7 +115,7 @@ put_stays p m b s x stays on free plain =
             | inl here ↦ ap is_pawn here.1 ∙ plain.no_pawn
             | inr there ↦ ap is_pawn there.1 ∙ stays.pawns u on_u edge
           ];
-      placed = λ c k apart stands. there_still c k (stays.placed c k apart stands);
+      placed = λ c k stands. there_still c (king_after k m) (stays.placed c k stands);
     }
   where
     there_still : (c : Colour) (k : Square) → StandsAt c b k → StandsAt c (put b s x) k

@@ -1,13 +1,5 @@
 -- What stands where after a piece is put on a square, and how many kings there are then.
-use Rattle.std.proofs.Common.{◌≡◌, ◌≢◌, ℕ, ◌+◌, ◌<◌, ◌⊎◌, inl, inr, sym, ap, subst, arith, length, length-set, set, get_or, cond}
-use Rattle.std.specs.Prelude.{Option, None}
-use Rattle.std.proofs.lemmas.List.{get_or-set_same, get_or-set_other}
-use Rattle.std.proofs.lemmas.List.Sums.{sum_by-set}
-use Rattle.chess_rules.specs.declared.piece.Colour.{Colour}
-use Rattle.chess_rules.specs.declared.piece.Kind.TheVariants.{King}
-use Rattle.chess_rules.specs.declared.piece.Piece.{Piece}
-use Rattle.chess_rules.specs.Square.{Square}
-use Rattle.chess_rules.specs.Board.{Board, at, put, cell_of, kings, has_piece}
+use Rattle.chess_rules.proofs.Words.{Colour, King, Piece, Square, Board, at, put, cell_of, kings, has_piece, ◌≡◌, ◌≢◌, ℕ, ◌+◌, ◌<◌, ◌⊎◌, inl, inr, sym, ap, subst, arith, length, length-set, set, get_or, cond, Option, None, get_or-set_same, get_or-set_other, sum_by-set}
 
 pub record OnBoard (s : Square) : Type 0 where
   pub file : s.file < 8

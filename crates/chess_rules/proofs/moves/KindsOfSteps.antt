@@ -1,22 +1,19 @@
 -- A step is of one kind, obeys the rules of that kind, and has its board.
-use Rattle.std.proofs.Common.{◌≡◌, ℕ, Bool, true, false, not, ◌&&◌, ◌||◌, ◌⊎◌, inl, inr, refl, sym, ◌∙◌, ap, arith}
-use Rattle.std.specs.Prelude.{nat_lt, ◌==◌, Option, None, Some, is_some, if◌then◌else◌}
-use Rattle.std.proofs.lemmas.Bool.{false≢true, false_from_ne_true, and_from}
-use Rattle.std.proofs.lemmas.Bool.Decides.{nat_tests}
-use Rattle.chess_rules.specs.declared.piece.Kind.TheVariants.{King, Pawn}
-use Rattle.chess_rules.specs.declared.position.Move.{Move}
-use Rattle.chess_rules.specs.declared.position.Parts.{Parts}
-use Rattle.chess_rules.specs.declared.step.StepKind.{StepKind}
-use Rattle.chess_rules.specs.declared.step.StepKind.TheVariants.{Plain, EnPassant, ShortCastling, LongCastling}
-use Rattle.chess_rules.specs.Square.{gap, is_adjacent}
-use Rattle.chess_rules.specs.Attacks.{attacks}
-use Rattle.chess_rules.specs.Board.{Board, at, is_empty, has_colour}
-use Rattle.chess_rules.specs.Step.{own, is_piece_step, is_pawn_way, is_pawn_step, promotion_fits, is_target, is_en_passant, castles_short, castles_long, short_right, long_right, short_wing, long_wing, carried, en_passant_board, castled, board_after}
-use Rattle.chess_rules.specs.StepKinds.{king_goes_far, pawn_passes, kind}
+use Rattle.chess_rules.proofs.Words.{King, Rook, Pawn, Kind, Colour, Piece, Move, Parts, StepKind, Plain, EnPassant, ShortCastling, LongCastling, Square, gap, is_adjacent, attacks, Board, at, cell_of, put, some_piece, is_empty, other, has_colour, has_piece, Wing, own, home, captured_pawn, castles, is_piece_step, is_pawn_way, is_pawn_step, promotion_fits, is_target, is_en_passant, castles_short, castles_long, short_right, long_right, short_wing, long_wing, carried, en_passant_board, castled, board_after, reaches, step_kind, ◌≡◌, ◌≢◌, ℕ, Bool, true, false, not, ◌&&◌, ◌||◌, ◌⊎◌, inl, inr, refl, sym, ◌∙◌, ap, ap₂, arith, nat_lt, ◌==◌, Option, None, Some, is_some, if◌then◌else◌, false≢true, false_from_ne_true, and_from, nat_tests, get_or-set_other}
 use Rattle.chess_rules.proofs.sets.AllSquares.{first_true, second_true, same_tests, equal_tests}
+use Rattle.chess_rules.proofs.lines.AttackToReach.{kinds_same, colours_same}
 use Rattle.chess_rules.proofs.moves.StepsKeepBoard.{one_kind, not_both, attacks_as, pawn_is_no_king, pawn_attack, Castles, castles_means}
 use Rattle.chess_rules.proofs.moves.OneWayToStep.{no_pawn_moves, pawn_of_step, pawn_of_en_passant, en_passant_stands}
 use Rattle.chess_rules.proofs.moves.LegalToPosition.{way_of}
+
+-- a king goes further than to the next file
+abbrev king_goes_far : Parts → Move → Bool
+king_goes_far p m = nat_lt 1 (gap m.from.file m.to.file) && own p King m.from
+
+-- a pawn goes to the en passant target, which is empty, and leaves its file
+abbrev pawn_passes : Parts → Move → Bool
+pawn_passes p m =
+    (is_target p.target m.to && own p Pawn m.from) && (not (m.from.file == m.to.file) && is_empty p.board m.to)
 
 -- Nothing goes to a square with a piece of its side.
 
@@ -52,21 +49,18 @@ board_of LongCastling p m = castled p m 0 3
 abbrev kind_by : Bool → Bool → Bool → StepKind
 kind_by far short passes = if far then (if short then ShortCastling else LongCastling) else if passes then EnPassant else Plain
 
-plain_by : (far short passes : Bool) → far ≡ false → passes ≡ false → kind_by far short passes ≡ Plain
-plain_by far short passes e f = grind arith
-
-passing_by : (far short passes : Bool) → far ≡ false → passes ≡ true → kind_by far short passes ≡ EnPassant
-passing_by far short passes e f = grind arith
+passes_by : (far short passes : Bool) → EnPassant ≡ kind_by far short passes → passes ≡ true
+passes_by far short passes e = grind arith
 
 module _ (p : Parts) (m : Move) where
   no_far_pawn : own p Pawn m.from ≡ true → king_goes_far p m ≡ false
   no_far_pawn pawn =
       false_from_ne_true (king_goes_far p m) (λ far. pawn_is_no_king (one_kind p.side p.side King Pawn (at p.board m.from) (second_true (nat_lt 1 (gap m.from.file m.to.file)) _ far) pawn))
 
-  piece_is_plain : is_piece_step p m ≡ true → kind p m ≡ Plain
-  unfolding kind
+  piece_is_plain : is_piece_step p m ≡ true → step_kind p m ≡ Plain
+  unfolding step_kind
   piece_is_plain h =
-      plain_by (king_goes_far p m) (m.to.file == 6) (pawn_passes p m)
+      ap₂ (λ far passes. kind_by far (m.to.file == 6) passes)
       (false_from_ne_true (king_goes_far p m) (λ far. near far (attacks_as p.side King (at p.board m.from) p.board m.from m.to (second_true (nat_lt 1 (gap m.from.file m.to.file)) _ far) (first_true _ _ (second_true _ _ h)))))
       (false_from_ne_true (pawn_passes p m) (λ passes. no_pawn_moves p m h (second_true _ (own p Pawn m.from) (first_true _ _ passes))))
     where
@@ -77,10 +71,10 @@ module _ (p : Parts) (m : Move) where
   file_or_full : is_pawn_way p m ≡ true → (m.from.file ≡ m.to.file) ⊎ (is_empty p.board m.to ≡ false)
   file_or_full h = grind (arith, nat_tests)
 
-  pawn_is_plain : is_pawn_step p m ≡ true → kind p m ≡ Plain
-  unfolding kind
+  pawn_is_plain : is_pawn_step p m ≡ true → step_kind p m ≡ Plain
+  unfolding step_kind
   pawn_is_plain h =
-      plain_by (king_goes_far p m) (m.to.file == 6) (pawn_passes p m)
+      ap₂ (λ far passes. kind_by far (m.to.file == 6) passes)
       (no_far_pawn (pawn_of_step p m h)) (false_from_ne_true (pawn_passes p m) no_passing)
     where
       way : is_pawn_way p m ≡ true
@@ -95,9 +89,9 @@ module _ (p : Parts) (m : Move) where
       no_passing : pawn_passes p m ≡ true → ⊥
       no_passing passes = apart (second_true (is_target p.target m.to && own p Pawn m.from) _ passes)
 
-  passing_is_en_passant : is_en_passant p m ≡ true → kind p m ≡ EnPassant
-  unfolding kind
-  passing_is_en_passant h = passing_by (king_goes_far p m) (m.to.file == 6) (pawn_passes p m) (no_far_pawn (pawn_of_en_passant p m h)) passes
+  passing_is_en_passant : is_en_passant p m ≡ true → step_kind p m ≡ EnPassant
+  unfolding step_kind
+  passing_is_en_passant h = ap₂ (λ far passes. kind_by far (m.to.file == 6) passes) (no_far_pawn (pawn_of_en_passant p m h)) passes
     where
       goes : ((own p Pawn m.from && promotion_fits p m) && (is_target p.target m.to && is_empty p.board m.to)) ≡ true
       goes = en_passant_stands p m h
@@ -113,26 +107,26 @@ module _ (p : Parts) (m : Move) where
           and_from _ _ (and_from _ _ (first_true _ _ (second_true (own p Pawn m.from && promotion_fits p m) _ goes)) (pawn_of_en_passant p m h))
           (and_from _ _ (leaves m.from.file m.to.file (first_true _ _ (pawn_attack p m (pawn_of_en_passant p m h) hits))) (second_true (is_target p.target m.to) _ (second_true (own p Pawn m.from && promotion_fits p m) _ goes)))
 
-  castling_is_short : castles_short p m ≡ true → kind p m ≡ ShortCastling
-  unfolding kind
+  castling_is_short : castles_short p m ≡ true → step_kind p m ≡ ShortCastling
+  unfolding step_kind
   castling_is_short h = by_wing (castles_means p m (short_right p.side p.rights) short_wing h)
     where
-      by_wing : Castles p m short_wing → kind p m ≡ ShortCastling
+      by_wing : Castles p m short_wing → step_kind p m ≡ ShortCastling
       by_wing w = grind arith
 
-  castling_is_long : castles_long p m ≡ true → kind p m ≡ LongCastling
-  unfolding kind
+  castling_is_long : castles_long p m ≡ true → step_kind p m ≡ LongCastling
+  unfolding step_kind
   castling_is_long h = by_wing (castles_means p m (long_right p.side p.rights) long_wing h)
     where
-      by_wing : Castles p m long_wing → kind p m ≡ LongCastling
+      by_wing : Castles p m long_wing → step_kind p m ≡ LongCastling
       by_wing w = grind arith
 
   -- a step obeys the rules of its kind, and has its board
   pub record OfKind (b : Board) : Type 0 where
-    pub obeys : obeys (kind p m) p m ≡ true
-    pub board : board_of (kind p m) p m ≡ b
+    pub obeys : obeys (step_kind p m) p m ≡ true
+    pub board : board_of (step_kind p m) p m ≡ b
 
-  of_kind : (k : StepKind) (b : Board) → kind p m ≡ k → obeys k p m ≡ true → board_of k p m ≡ b → OfKind b
+  of_kind : (k : StepKind) (b : Board) → step_kind p m ≡ k → obeys k p m ≡ true → board_of k p m ≡ b → OfKind b
   of_kind k b is h g = record { obeys = ap (λ l. obeys l p m) is ∙ h; board = ap (λ l. board_of l p m) is ∙ g }
 
   pub step_of_kind : (b : Board) → board_after p m ≡ Some b → OfKind b
@@ -162,7 +156,7 @@ module _ (p : Parts) (m : Move) where
       by_board o e g = grind (arith, nat_tests)
 
   -- a move is a step exactly if it obeys the rules of its kind
-  pub obeys_if_step : (k : StepKind) → k ≡ kind p m → obeys k p m ≡ is_some (board_after p m)
+  pub obeys_if_step : (k : StepKind) → k ≡ step_kind p m → obeys k p m ≡ is_some (board_after p m)
   obeys_if_step k is =
       same_tests (obeys k p m) (is_some (board_after p m)) (there k)
       (λ h. let (b, stepped) = stepped_board h in ap (λ l. obeys l p m) is ∙ (step_of_kind b stepped).obeys)
@@ -185,7 +179,40 @@ module _ (p : Parts) (m : Move) where
       there ShortCastling h = made (inr (inr (inl h)))
       there LongCastling h = made (inr (inr (inr h)))
 
-  pub board_of_step : (k : StepKind) → k ≡ kind p m → is_some (board_after p m) ≡ true → board_after p m ≡ Some (board_of k p m)
+  pub board_of_step : (k : StepKind) → k ≡ step_kind p m → is_some (board_after p m) ≡ true → board_after p m ≡ Some (board_of k p m)
   board_of_step k is h =
       let (b, stepped) = stepped_board h in
       stepped ∙ ap Some (sym (ap (λ l. board_of l p m) is ∙ (step_of_kind b stepped).board))
+
+  -- en passant asks these rules beside what its kind says
+  pub passing_rules : EnPassant ≡ step_kind p m
+      → is_some (board_after p m) ≡ ((promotion_fits p m && reaches Pawn p.side m.from m.to) && has_piece (other p.side) Pawn (at p.board (captured_pawn m)))
+  unfolding step_kind
+  passing_rules is =
+      sym (obeys_if_step EnPassant is)
+      ∙ with_passing (own p Pawn m.from) (promotion_fits p m) (is_target p.target m.to) (is_empty p.board m.to) (attacks p.board m.from m.to) (reaches Pawn p.side m.from m.to) _
+      (second_true _ _ (first_true _ _ passes)) (first_true _ _ (first_true _ _ passes)) (second_true _ _ (second_true _ _ passes)) (hits (second_true _ _ (first_true _ _ passes)))
+    where
+      passes : pawn_passes p m ≡ true
+      passes = passes_by (king_goes_far p m) (m.to.file == 6) (pawn_passes p m) is
+
+      hits : own p Pawn m.from ≡ true → attacks p.board m.from m.to ≡ reaches Pawn p.side m.from m.to
+      hits pawn = grind arith
+
+      with_passing : (o f t e a r k : Bool) → o ≡ true → t ≡ true → e ≡ true → a ≡ r → (((o && f) && (t && e)) && (a && k)) ≡ ((f && r) && k)
+      with_passing o f t e a r k owns target empty same = grind arith
+
+-- The rook of a king that castles is still there when the king has moved.
+
+piece_there : (c : Colour) (k : Kind) (cell : Option Piece) → has_piece c k cell ≡ true → cell ≡ some_piece c k
+piece_there c k cell h = grind (arith, kinds_same, colours_same, first_true, second_true)
+
+home_apart : (p : Parts) (a b : ℕ) (s : Square) → s ≡ home p b → a ≢ b → cell_of (home p a) ≢ cell_of s
+home_apart p a b s is differ e = differ (let f : cell_of (home p a) ≡ cell_of (home p b) = e ∙ ap cell_of is in omega arith)
+
+pub rook_waits : (p : Parts) (m : Move) (right : Bool) (wing : Wing) → wing.rook ≢ 4 → wing.rook ≢ wing.end → castles p m right wing ≡ true → at (carried p m) (home p wing.rook) ≡ some_piece p.side Rook
+rook_waits p m right wing apart differ h =
+    let w = castles_means p m right wing h in
+    get_or-set_other (put p.board m.from None) (cell_of m.to) (cell_of (home p wing.rook)) _ None (home_apart p wing.rook wing.end m.to w.to differ)
+    ∙ (get_or-set_other p.board (cell_of m.from) (cell_of (home p wing.rook)) None None (home_apart p wing.rook 4 m.from w.from apart)
+    ∙ piece_there p.side Rook (at p.board (home p wing.rook)) w.rook)

@@ -1,24 +1,12 @@
--- A legal move leaves a position, and a king that does not move where it was.
-use Rattle.std.proofs.Common.{◌≡◌, ℕ, ◌<◌, ◌≤◌, Bool, true, false, not, ◌||◌, ◌⊎◌, inl, inr, refl, sym, ◌∙◌, ap, subst, arith}
-use Rattle.std.specs.Prelude.{nat_lt, Option, None, Some, option_map, if◌then◌else◌}
-use Rattle.std.proofs.lemmas.Bool.Decides.{nat_tests}
-use Rattle.chess_rules.specs.declared.piece.Colour.{Colour}
-use Rattle.chess_rules.specs.declared.position.Move.{Move}
-use Rattle.chess_rules.specs.declared.position.Parts.{Parts}
-use Rattle.chess_rules.specs.Square.{Square, on_board, same_square}
-use Rattle.chess_rules.specs.Board.{Board, other}
-use Rattle.chess_rules.specs.Attacks.{is_attacked, king_attacked}
-use Rattle.chess_rules.specs.Position.{is_position, one_king, target_fits}
-use Rattle.chess_rules.specs.Step.{is_on_board, is_piece_step, is_pawn_step, is_en_passant, castles_short, castles_long, short_right, long_right, short_wing, long_wing, carried, en_passant_board, castled, board_after, after, target_after, half_after, full_after}
-use Rattle.chess_rules.specs.Legal.{legal, if_safe, is_legal}
-use Rattle.chess_rules.specs.Reach.{king_square}
-use Rattle.chess_rules.specs.Laws.{LeavesPosition}
-use Rattle.chess_rules.proofs.sets.AllSquares.{first_true, second_true, equal_tests}
+-- A legal move leaves a position, and the kings where they are said to be.
+use Rattle.chess_rules.proofs.Words.{Colour, King, Move, Parts, Square, on_board, same_square, Board, at, other, has_colour, is_attacked, king_attacked, is_position, target_fits, is_on_board, is_piece_step, is_pawn_step, is_en_passant, castles_short, castles_long, short_right, long_right, short_wing, long_wing, carried, en_passant_board, castled, board_after, after, target_after, half_after, full_after, legal, if_safe, is_legal, king_square, LeavesPosition, ◌≡◌, ℕ, ◌<◌, ◌≤◌, Bool, true, false, not, ◌||◌, ◌⊎◌, inl, inr, refl, sym, ◌∙◌, ap, subst, arith, nat_lt, Option, None, Some, option_map, if◌then◌else◌, false_from_ne_true, nat_tests}
+use Rattle.chess_rules.proofs.sets.AllSquares.{first_true, second_true}
+use Rattle.chess_rules.proofs.lines.AttackToReach.{squares_same}
 use Rattle.chess_rules.proofs.positions.OneKing.{king_stands, king_only_there, king_attacked_there}
 use Rattle.chess_rules.proofs.moves.CellsAfterPut.{OnBoard}
 use Rattle.chess_rules.proofs.positions.RulesOfPosition.{Sound, sound_from_position, position_from_sound, no_pawn_on_edge}
-use Rattle.chess_rules.proofs.moves.BoardAfterMove.{Stays, carried_stays}
-use Rattle.chess_rules.proofs.moves.StepsKeepBoard.{other-other, piece_lands, pawn_lands, passing_stays, castling_stays, castles_means, short_is_wing, long_is_wing}
+use Rattle.chess_rules.proofs.moves.BoardAfterMove.{Stays, carried_stays, king_after}
+use Rattle.chess_rules.proofs.moves.StepsKeepBoard.{other-other, not_both, colour_of_piece, piece_lands, pawn_lands, passing_stays, castling_stays, castles_means, short_is_wing, long_is_wing}
 
 at_most : (m n : ℕ) → nat_lt m n ≡ true → m < n
 at_most m n h = grind arith
@@ -96,22 +84,39 @@ after_sound p m b sound on h safe =
       full = full_low p.side p.full sound.full;
     }
 
--- a king that does not move stays where it is
-pub king_stays : (p : Parts) (m : Move) (b : Board) (c : Colour) → Sound p → is_on_board m ≡ true → board_after p m ≡ Some b → same_square m.from (king_square c p.board) ≡ false → king_square c p.board ≡ king_square c b
-king_stays p m b c sound on h apart =
+-- each king stands where the move leaves it
+pub king_moves : (p : Parts) (m : Move) (b : Board) (c : Colour) → is_position p ≡ true → is_on_board m ≡ true → board_after p m ≡ Some b → king_after (king_square c p.board) m ≡ king_square c b
+king_moves p m b c position on h =
+    let sound : Sound p = sound_from_position p position in
     let stays : Stays p m b = board_stays p m b sound on h in
-    king_only_there c b (king_square c p.board) (king_square c b) stays.long (stays.kings_of c)
-    (stays.placed c (king_square c p.board) apart (king_stands c p.board sound.long (sound.kings_of c)))
+    king_only_there c b (king_after (king_square c p.board) m) (king_square c b) stays.long (stays.kings_of c)
+    (stays.placed c (king_square c p.board) (king_stands c p.board sound.long (sound.kings_of c)))
     (king_stands c b stays.long (stays.kings_of c))
+
+pub king_waits : (m : Move) (k : Square) → same_square m.from k ≡ false → king_after k m ≡ k
+king_waits m k apart = grind arith
+
+-- the other king stays where it is
+pub other_king_stays : (p : Parts) (m : Move) (b : Board) → is_position p ≡ true → is_on_board m ≡ true → board_after p m ≡ Some b → king_square (other p.side) p.board ≡ king_square (other p.side) b
+other_king_stays p m b position on h = sym (king_waits m king apart) ∙ king_moves p m b (other p.side) position on h
+  where
+    sound : Sound p
+    sound = sound_from_position p position
+
+    king : Square
+    king = king_square (other p.side) p.board
+
+    apart : same_square m.from king ≡ false
+    apart =
+        false_from_ne_true (same_square m.from king) (λ same.
+        not_both p.side (at p.board king) (subst (λ (s : Square). has_colour p.side (at p.board s) ≡ true) (squares_same m.from king same) (board_stays p m b sound on h).own)
+        (colour_of_piece (other p.side) King (at p.board king) (king_stands (other p.side) p.board sound.long (sound.kings_of (other p.side))).king))
 
 -- whether a king is attacked is seen from its square
 pub king_seen : (p : Parts) (m : Move) (b : Board) (c : Colour) → is_position p ≡ true → is_on_board m ≡ true → board_after p m ≡ Some b → king_attacked b c ≡ is_attacked b (other c) (king_square c b)
 king_seen p m b c position on h =
     let stays : Stays p m b = board_stays p m b (sound_from_position p position) on h in
     king_attacked_there c b stays.long (stays.kings_of c)
-
-pub one_king_after : (p : Parts) (m : Move) (b : Board) (c : Colour) → is_position p ≡ true → is_on_board m ≡ true → board_after p m ≡ Some b → one_king b c ≡ true
-one_king_after p m b c position on h = equal_tests _ 1 ((board_stays p m b (sound_from_position p position) on h).kings_of c)
 
 -- Legality of a step.
 
@@ -150,9 +155,11 @@ pub position_after : (p : Parts) (m : Move) (b : Board) → is_position p ≡ tr
 position_after p m b position on h safe =
     position_from_sound (after p m b) (after_sound p m b (sound_from_position p position) on h safe)
 
--- a step is legal exactly if the king is not attacked then
-pub legal_unless_attacked : (p : Parts) (m : Move) (b : Board) (attacked : Bool) → is_on_board m ≡ true → board_after p m ≡ Some b → attacked ≡ king_attacked b p.side → not attacked ≡ is_legal p m
-legal_unless_attacked p m b attacked on h e = by_test attacked (ap (king_attacked b) (other-other p.side) ∙ sym e)
+-- a step is legal exactly if the king is not attacked then, seen from its square
+pub legal_unless_attacked : (p : Parts) (m : Move) (b : Board) (attacked : Bool) → is_position p ≡ true → is_on_board m ≡ true → board_after p m ≡ Some b
+    → attacked ≡ is_attacked b (other p.side) (king_square p.side b) → not attacked ≡ is_legal p m
+legal_unless_attacked p m b attacked position on h e =
+    by_test attacked (ap (king_attacked b) (other-other p.side) ∙ (king_seen p m b p.side position on h ∙ sym e))
   where
     by_test : (x : Bool) → king_attacked b (other (other p.side)) ≡ x → not x ≡ is_legal p m
     by_test x is = grind arith

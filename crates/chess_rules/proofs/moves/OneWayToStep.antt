@@ -1,16 +1,5 @@
 -- No move is a step in two ways.
-use Rattle.std.proofs.Common.{◌≡◌, ◌≤◌, Bool, true, ◌&&◌, arith, [], ◌∷◌}
-use Rattle.std.specs.Prelude.{count_by}
-use Rattle.std.proofs.lemmas.Bool.Decides.{nat_tests}
-use Rattle.std.proofs.lemmas.Bool.{or_cases}
-use Rattle.chess_rules.specs.declared.piece.Kind.TheVariants.{Pawn}
-use Rattle.chess_rules.specs.declared.position.Move.{Move}
-use Rattle.chess_rules.specs.declared.position.Parts.{Parts}
-use Rattle.chess_rules.specs.Square.{gap}
-use Rattle.chess_rules.specs.Board.{at, is_empty, other, has_piece}
-use Rattle.chess_rules.specs.Attacks.{attacks}
-use Rattle.chess_rules.specs.Step.{own, is_piece_step, is_pawn_way, is_pawn_step, promotion_fits, is_target, captured_pawn, is_en_passant, castles_short, castles_long, short_wing, long_wing, Wing}
-use Rattle.chess_rules.specs.Laws.{CasesApart}
+use Rattle.chess_rules.proofs.Words.{Pawn, Move, Parts, gap, at, is_empty, other, has_piece, attacks, own, is_piece_step, is_pawn_way, is_pawn_step, promotion_fits, is_target, captured_pawn, is_en_passant, castles_short, castles_long, short_wing, long_wing, Wing, CasesApart, ◌≡◌, ◌≤◌, Bool, true, ◌&&◌, arith, [], ◌∷◌, count_by, nat_tests, or_cases}
 use Rattle.chess_rules.proofs.sets.AllSquares.{first_true, second_true, equal_from}
 use Rattle.chess_rules.proofs.moves.StepsKeepBoard.{pawn_attack, Castles}
 

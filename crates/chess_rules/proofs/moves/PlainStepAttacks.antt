@@ -1,33 +1,14 @@
 -- A plain step gives an attack only by the piece that moves, or along the line that it leaves.
-use Rattle.std.proofs.Common.{◌≡◌, ◌≢◌, Bool, true, false, not, ◌&&◌, ◌||◌, ◌⊎◌, inl, inr, refl, sym, ◌∙◌, ap, ap₂, subst, arith, length}
-use Rattle.std.specs.Prelude.{Option, None, Some, is_none, is_some, option_map, if◌then◌else◌}
-use Rattle.std.specs.List.{list_any}
-use Rattle.std.proofs.lemmas.Bool.{false≢true, or_cases, and_from, false_from_ne_true}
-use Rattle.std.proofs.lemmas.Bool.Decides.{nat_tests}
-use Rattle.chess_rules.specs.declared.piece.Colour.{Colour}
-use Rattle.chess_rules.specs.declared.piece.Kind.TheVariants.{King, Pawn}
-use Rattle.chess_rules.specs.declared.piece.Piece.{Piece}
-use Rattle.chess_rules.specs.declared.piece.Promotion.{Promotion}
-use Rattle.chess_rules.specs.declared.position.Move.{Move}
-use Rattle.chess_rules.specs.declared.position.Parts.{Parts}
-use Rattle.chess_rules.specs.Square.{Square, on_board, same_square, between_on_rank, between_on_file, between_on_diagonal, strictly_between, squares}
-use Rattle.chess_rules.specs.Board.{Board, at, put, is_empty, other, has_colour}
-use Rattle.chess_rules.specs.Attacks.{attacks, cell_attacks, is_attacked, is_clear, king_attacked}
-use Rattle.chess_rules.specs.Position.{is_position}
-use Rattle.chess_rules.specs.Step.{is_piece_step, is_pawn_step, is_on_board, promoted, carried, board_after, after}
-use Rattle.chess_rules.specs.Legal.{legal, if_safe, is_legal, is_check}
-use Rattle.chess_rules.specs.Reach.{is_aligned, king_square, slides, slides_with}
-use Rattle.chess_rules.specs.declared.step.StepKind.TheVariants.{Plain}
-use Rattle.chess_rules.specs.StepKinds.{kind}
+use Rattle.chess_rules.proofs.Words.{Colour, Piece, Promotion, Move, Parts, Square, on_board, same_square, between_on_rank, between_on_file, between_on_diagonal, strictly_between, squares, Board, at, put, is_empty, other, has_colour, attacks, cell_attacks, is_attacked, is_clear, king_attacked, is_position, is_on_board, promoted, carried, board_after, after, legal, if_safe, is_legal, is_check, is_aligned, is_near, king_square, reaches_from, slides, Plain, step_kind, ◌≡◌, ◌≢◌, Bool, true, false, not, ◌&&◌, ◌||◌, ◌⊎◌, inl, inr, refl, sym, ◌∙◌, ap, ap₂, subst, arith, length, Option, None, Some, is_none, is_some, option_map, if◌then◌else◌, list_any, false≢true, or_cases, and_from, false_from_ne_true, nat_tests}
 use Rattle.chess_rules.proofs.sets.AllSquares.{first_true, second_true, each_square, all_squares, Passes, some_square, any_square, not_true, implied}
-use Rattle.chess_rules.proofs.lines.AttackToReach.{squares_same, none_or_all}
+use Rattle.chess_rules.proofs.lines.AttackToReach.{no_attack, none_or_all}
 use Rattle.chess_rules.proofs.positions.OneKing.{StandsAt, king_stands, king_attacked_there}
 use Rattle.chess_rules.proofs.moves.CellsAfterPut.{OnBoard, at_put, at_put_here, length-put}
 use Rattle.chess_rules.proofs.positions.RulesOfPosition.{Sound, sound_from_position}
-use Rattle.chess_rules.proofs.moves.BoardAfterMove.{arriving}
-use Rattle.chess_rules.proofs.moves.StepsKeepBoard.{other-other, colour_of_piece, not_both}
-use Rattle.chess_rules.proofs.moves.KindsOfSteps.{obeys, board_of, OfKind, step_of_kind}
-use Rattle.chess_rules.proofs.moves.LegalToPosition.{on_board_means, king_stays, king_seen, legal_unless_attacked}
+use Rattle.chess_rules.proofs.moves.BoardAfterMove.{arriving, king_after}
+use Rattle.chess_rules.proofs.moves.StepsKeepBoard.{other-other}
+use Rattle.chess_rules.proofs.moves.KindsOfSteps.{board_of, step_of_kind}
+use Rattle.chess_rules.proofs.moves.LegalToPosition.{on_board_means, board_stays, king_moves, king_waits, other_king_stays, king_seen, legal_unless_attacked}
 
 -- A square between two lies on a line with the second.
 
@@ -56,7 +37,7 @@ cell_still : (cell : Option Piece) (a b : Board) (s t : Square) → (is_clear a 
 cell_still cell a b s t clear h = grind arith
 
 -- what does not slide attacks on each board alike
-no_slide : (c : Colour) (cell : Option Piece) (a b : Board) (s t : Square) → slides_with c cell s t ≡ false → (has_colour c cell && cell_attacks cell a s t) ≡ (has_colour c cell && cell_attacks cell b s t)
+no_slide : (c : Colour) (cell : Option Piece) (a b : Board) (s t : Square) → ((has_colour c cell && reaches_from cell s t) && not (is_near cell)) ≡ false → (has_colour c cell && cell_attacks cell a s t) ≡ (has_colour c cell && cell_attacks cell b s t)
 no_slide c cell a b s t none = grind arith
 
 -- Where a piece leaves no line to k, and the piece that arrives does not attack k, k is attacked no
@@ -122,22 +103,8 @@ module _ (b : Board) (from to k : Square) (cell : Option Piece) (c : Colour) (lo
 
 -- A plain step.
 
-pub record PlainStep (p : Parts) (m : Move) (b : Board) : Type 0 where
-  pub own : has_colour p.side (at p.board m.from) ≡ true
-  pub board : carried p m ≡ b
-
-pub plain_step : (p : Parts) (m : Move) (b : Board) → kind p m ≡ Plain → board_after p m ≡ Some b → PlainStep p m b
-plain_step p m b plain h =
-    record {
-      own = elim (or_cases (is_piece_step p m) (is_pawn_step p m) (ap (λ k. obeys k p m) (sym plain) ∙ step.obeys)) [
-        | inl piece ↦ first_true _ _ (first_true _ _ (first_true _ _ piece))
-        | inr pawn ↦ colour_of_piece p.side Pawn (at p.board m.from) (first_true _ _ pawn)
-      ];
-      board = ap (λ k. board_of k p m) (sym plain) ∙ step.board;
-    }
-  where
-    step : OfKind p m b
-    step = step_of_kind p m b h
+pub plain_board : (p : Parts) (m : Move) (b : Board) → step_kind p m ≡ Plain → board_after p m ≡ Some b → carried p m ≡ b
+plain_board p m b plain h = ap (λ k. board_of k p m) (sym plain) ∙ (step_of_kind p m b h).board
 
 arriving_own : (c : Colour) (q : Option Promotion) (cell : Option Piece) → has_colour c cell ≡ true → has_colour c (promoted c q cell) ≡ true
 arriving_own c q cell h = grind arith
@@ -146,20 +113,19 @@ not_other : (c : Colour) (cell : Option Piece) → has_colour c cell ≡ true �
 not_other c cell h = grind arith
 
 -- the king that stays is safe, if it was not attacked and sees no square that is left
-pub safe_when_plain : (p : Parts) (m : Move) (b : Board) (k : Square) → is_position p ≡ true → is_on_board m ≡ true → board_after p m ≡ Some b → kind p m ≡ Plain
+pub safe_when_plain : (p : Parts) (m : Move) (b : Board) (k : Square) → is_position p ≡ true → is_on_board m ≡ true → board_after p m ≡ Some b → step_kind p m ≡ Plain
     → k ≡ king_square p.side p.board → is_check p ≡ false → same_square m.from k ≡ false
     → (is_aligned m.from k ≡ false) ⊎ (list_any (slides p.board (other p.side) k) squares ≡ false) → is_legal p m ≡ true
 safe_when_plain p m b k position on h plain is calm_before apart unseen =
-    sym (legal_unless_attacked p m b false on h
-    (sym (king_seen p m b p.side position on h
-    ∙ (ap (is_attacked b (other p.side)) (sym (is ∙ king_stays p m b p.side sound on h (subst (λ (s : Square). same_square m.from s ≡ false) is apart)))
-    ∙ (ap (λ a. is_attacked a (other p.side) k) (sym step.board) ∙ quiet)))))
+    sym (legal_unless_attacked p m b false position on h
+    (sym (ap (is_attacked b (other p.side)) (sym still)
+    ∙ (ap (λ a. is_attacked a (other p.side) k) (sym (plain_board p m b plain h)) ∙ quiet))))
   where
     sound : Sound p
     sound = sound_from_position p position
 
-    step : PlainStep p m b
-    step = plain_step p m b plain h
+    still : k ≡ king_square p.side b
+    still = sym (king_waits m k apart) ∙ (ap (λ s. king_after s m) is ∙ king_moves p m b p.side position on h)
 
     stands : StandsAt p.side p.board (king_square p.side p.board)
     stands = king_stands p.side p.board sound.long (sound.kings_of p.side)
@@ -171,7 +137,7 @@ safe_when_plain p m b k position on h plain is calm_before apart unseen =
     before = ap (is_attacked p.board (other p.side)) is ∙ (sym (king_attacked_there p.side p.board sound.long (sound.kings_of p.side)) ∙ calm_before)
 
     arrives : has_colour p.side (arriving p m) ≡ true
-    arrives = arriving_own p.side m.promotion (at p.board m.from) step.own
+    arrives = arriving_own p.side m.promotion (at p.board m.from) (board_stays p m b sound on h).own
 
     quiet : is_attacked (carried p m) (other p.side) k ≡ false
     quiet =
@@ -181,42 +147,32 @@ safe_when_plain p m b k position on h plain is calm_before apart unseen =
 
 -- whether the step gives check, seen from the other king
 pub check_is_seen : (p : Parts) (m : Move) (b : Board) (k : Square) → is_position p ≡ true → is_on_board m ≡ true → board_after p m ≡ Some b
-    → k ≡ king_square (other p.side) b → king_attacked b (other p.side) ≡ is_attacked b p.side k
+    → k ≡ king_square (other p.side) p.board → king_attacked b (other p.side) ≡ is_attacked b p.side k
 check_is_seen p m b k position on h is =
-    king_seen p m b (other p.side) position on h ∙ ap₂ (λ c s. is_attacked b c s) (other-other p.side) (sym is)
+    king_seen p m b (other p.side) position on h
+    ∙ ap₂ (λ c s. is_attacked b c s) (other-other p.side) (sym (is ∙ other_king_stays p m b position on h))
 
 -- the other king is not attacked, if the piece that arrives does not attack it, and it sees no
 -- square that is left
-pub no_check_when_plain : (p : Parts) (m : Move) (b : Board) (k : Square) → is_position p ≡ true → is_on_board m ≡ true → board_after p m ≡ Some b → kind p m ≡ Plain
-    → k ≡ king_square (other p.side) b → is_aligned m.from k ≡ false → attacks b m.to k ≡ false → king_attacked b (other p.side) ≡ false
+pub no_check_when_plain : (p : Parts) (m : Move) (b : Board) (k : Square) → is_position p ≡ true → is_on_board m ≡ true → board_after p m ≡ Some b → step_kind p m ≡ Plain
+    → k ≡ king_square (other p.side) p.board → is_aligned m.from k ≡ false → reaches_from (at b m.to) m.to k ≡ false → king_attacked b (other p.side) ≡ false
 no_check_when_plain p m b k position on h plain is unseen harmless =
-    check_is_seen p m b k position on h is ∙ (ap (λ a. is_attacked a p.side k) (sym step.board) ∙ quiet)
+    check_is_seen p m b k position on h is ∙ (ap (λ a. is_attacked a p.side k) (sym (plain_board p m b plain h)) ∙ quiet)
   where
     sound : Sound p
     sound = sound_from_position p position
 
-    step : PlainStep p m b
-    step = plain_step p m b plain h
-
     stands : StandsAt (other p.side) p.board (king_square (other p.side) p.board)
     stands = king_stands (other p.side) p.board sound.long (sound.kings_of (other p.side))
 
-    apart : same_square m.from (king_square (other p.side) p.board) ≡ false
-    apart = false_from_ne_true (same_square m.from (king_square (other p.side) p.board)) (λ same. not_both p.side (at p.board (king_square (other p.side) p.board))
-        (subst (λ (s : Square). has_colour p.side (at p.board s) ≡ true) (squares_same m.from (king_square (other p.side) p.board) same) step.own)
-        (colour_of_piece (other p.side) King (at p.board (king_square (other p.side) p.board)) stands.king))
-
-    was : k ≡ king_square (other p.side) p.board
-    was = is ∙ sym (king_stays p m b (other p.side) sound on h apart)
-
     stands_k : StandsAt (other p.side) p.board k
-    stands_k = subst (λ (s : Square). StandsAt (other p.side) p.board s) (sym was) stands
+    stands_k = subst (λ (s : Square). StandsAt (other p.side) p.board s) (sym is) stands
 
     before : is_attacked p.board p.side k ≡ false
-    before = ap₂ (λ c s. is_attacked p.board c s) (sym (other-other p.side)) was ∙ (sym (king_attacked_there (other p.side) p.board sound.long (sound.kings_of (other p.side))) ∙ sound.safe)
+    before = ap₂ (λ c s. is_attacked p.board c s) (sym (other-other p.side)) is ∙ (sym (king_attacked_there (other p.side) p.board sound.long (sound.kings_of (other p.side))) ∙ sound.safe)
 
     arrives : has_colour p.side (arriving p m) ≡ true
-    arrives = arriving_own p.side m.promotion (at p.board m.from) step.own
+    arrives = arriving_own p.side m.promotion (at p.board m.from) (board_stays p m b sound on h).own
 
     no : (x : Bool) → (x && false) ≡ false
     no x = grind arith
@@ -226,7 +182,7 @@ no_check_when_plain p m b k position on h plain is unseen harmless =
         calm p.board m.from m.to k (arriving p m) p.side sound.long (on_board_means m.from (first_true (on_board m.from) _ on)) (on_board_means m.to (second_true (on_board m.from) _ on))
         (record { file = stands_k.file; rank = stands_k.rank })
         (none_or_all p.side (arriving p m) arrives) (inl unseen)
-        (ap (λ x. has_colour p.side (arriving p m) && x) (ap (λ a. attacks a m.to k) step.board ∙ harmless) ∙ no (has_colour p.side (arriving p m))) before
+        (ap (λ x. has_colour p.side (arriving p m) && x) (ap (λ a. attacks a m.to k) (plain_board p m b plain h) ∙ no_attack b m.to k harmless) ∙ no (has_colour p.side (arriving p m))) before
 
 -- a move that is no step is not legal, and a legal one is a step
 by_step : (on : Bool) (p : Parts) (m : Move) (o : Option Board) → is_some o ≡ false → if_safe (if on then option_map (after p m) o else None) ≡ None

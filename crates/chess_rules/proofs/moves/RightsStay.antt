@@ -1,11 +1,5 @@
 -- A move that begins and ends on no square of a king or a rook at the start keeps every right.
-use Rattle.std.proofs.Common.{arith, ◌≡◌, ℕ, Bool, true, false, ◌&&◌}
-use Rattle.chess_rules.specs.declared.position.Move.{Move}
-use Rattle.chess_rules.specs.declared.position.Rights.{Rights}
-use Rattle.chess_rules.specs.Square.{square}
-use Rattle.chess_rules.specs.Board.{cell_of}
-use Rattle.chess_rules.specs.Step.{keeps, rights_after}
-use Rattle.chess_rules.specs.Words.{has}
+use Rattle.chess_rules.proofs.Words.{Move, Rights, square, cell_of, keeps, rights_after, has, arith, ◌≡◌, ℕ, Bool, true, false, ◌&&◌}
 
 -- a1, e1, h1, a8, e8, h8
 abbrev pub homes : ℕ

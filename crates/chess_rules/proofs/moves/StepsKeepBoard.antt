@@ -1,20 +1,5 @@
 -- Each of the ways to step leaves the board in order.
-use Rattle.std.proofs.Common.{◌≡◌, ◌≢◌, ℕ, ◌<◌, Bool, true, false, not, ◌&&◌, ◌||◌, ◌⊎◌, inl, inr, refl, sym, ◌∙◌, ap, subst, arith}
-use Rattle.std.specs.Prelude.{◌==◌, Option, None, Some, is_none, is_some, if◌then◌else◌}
-use Rattle.std.proofs.lemmas.Bool.Decides.{nat_tests}
-use Rattle.std.proofs.lemmas.Bool.{or_cases, not-true, and_from, false_from_ne_true}
-use Rattle.chess_rules.specs.declared.piece.Colour.{Colour}
-use Rattle.chess_rules.specs.declared.piece.Kind.{Kind}
-use Rattle.chess_rules.specs.declared.piece.Kind.TheVariants.{King, Rook, Pawn}
-use Rattle.chess_rules.specs.declared.piece.Piece.{Piece}
-use Rattle.chess_rules.specs.declared.piece.Promotion.{Promotion}
-use Rattle.chess_rules.specs.declared.position.Move.{Move}
-use Rattle.chess_rules.specs.declared.position.Parts.{Parts}
-use Rattle.chess_rules.specs.Square.{Square, square, gap, strictly_between}
-use Rattle.chess_rules.specs.Board.{Board, some_piece, at, put, is_empty, other, has_colour, has_piece, is_pawn}
-use Rattle.chess_rules.specs.Attacks.{is_clear, is_ahead, kind_attacks, cell_attacks, attacks, is_attacked, king_attacked}
-use Rattle.chess_rules.specs.Position.{target_fits, target_rank}
-use Rattle.chess_rules.specs.Step.{own, home, home_rank, pawn_rank, double_rank, last_rank, is_piece_step, is_advance, is_double_step, is_pawn_capture, is_pawn_way, is_pawn_step, promotion_fits, is_en_passant, is_target, captured_pawn, crossed, castles, Wing, short_wing, long_wing, kind_of, promoted, carried, en_passant_board, castled}
+use Rattle.chess_rules.proofs.Words.{Colour, Kind, King, Rook, Pawn, Piece, Promotion, Move, Parts, Square, square, gap, strictly_between, Board, some_piece, at, put, is_empty, other, has_colour, has_piece, is_pawn, is_clear, is_ahead, kind_attacks, cell_attacks, attacks, is_attacked, king_attacked, target_fits, target_rank, own, home, home_rank, pawn_rank, double_rank, last_rank, is_piece_step, is_advance, is_double_step, is_pawn_capture, is_pawn_way, is_pawn_step, promotion_fits, is_en_passant, is_target, captured_pawn, crossed, castles, Wing, short_wing, long_wing, kind_of, promoted, carried, en_passant_board, castled, ◌≡◌, ◌≢◌, ℕ, ◌<◌, Bool, true, false, not, ◌&&◌, ◌||◌, ◌⊎◌, inl, inr, refl, sym, ◌∙◌, ap, subst, arith, ◌==◌, Option, None, Some, is_none, is_some, if◌then◌else◌, nat_tests, or_cases, not-true, and_from, false_from_ne_true}
 use Rattle.chess_rules.proofs.sets.AllSquares.{first_true, second_true, each_square, any_square, equal_tests, not_true}
 use Rattle.chess_rules.proofs.lines.AttackToReach.{kinds_same, colours_same, ahead_gap}
 use Rattle.chess_rules.proofs.moves.CellsAfterPut.{OnBoard, at_put}
@@ -87,6 +72,7 @@ piece_lands p m sound on_from on_to h =
     record {
       on_from = on_from;
       on_to = on_to;
+      own = own_piece;
       free = free_of p m.to (not-true (has_colour p.side (at p.board m.to)) (second_true (attacks p.board m.from m.to) _ goes)) (king_not_taken p m.from m.to sound on_from on_to own_piece (first_true (attacks p.board m.from m.to) _ goes));
       alike = λ c. ap (has_piece c King) (arrives_as p m plain);
       no_pawn = λ edge. ap is_pawn (arrives_as p m plain) ∙ no_pawn_but_own p.side (at p.board m.from) own_piece (not-true (own p Pawn m.from) (second_true (has_colour p.side (at p.board m.from)) _ whose));
@@ -145,6 +131,7 @@ pawn_lands p m sound on_from on_to h =
     record {
       on_from = on_from;
       on_to = on_to;
+      own = colour_of_piece p.side Pawn (at p.board m.from) pawn;
       free = way_free p m sound on_from on_to pawn way;
       alike = λ c. alike_for c m.promotion;
       no_pawn = λ edge. last_for m.promotion (equal_tests m.to.rank (last_rank p.side) (last_of p.side m.from.rank m.to.rank on_from.rank (way_goes p m pawn way) edge)) fits;
@@ -177,6 +164,7 @@ passing_lands p m sound on_from on_to h =
     record {
       on_from = on_from;
       on_to = on_to;
+      own = colour_of_piece p.side Pawn (at p.board m.from) (first_true (own p Pawn m.from) _ (first_true _ (is_target p.target m.to && is_empty p.board m.to) stands));
       free = λ c. empty_free c King (at p.board m.to) (second_true (is_target p.target m.to) _ (second_true (own p Pawn m.from && promotion_fits p m) _ stands));
       alike = λ c. ap (has_piece c King) (arrives_as p m plain);
       no_pawn = λ edge. cc (edge, line.1);
@@ -283,6 +271,7 @@ castling_lands p m wing is_wing on_from on_to h =
     record {
       on_from = on_from;
       on_to = on_to;
+      own = colour_of_piece p.side King (at p.board m.from) h.king;
       free = λ c. empty_free c King (at p.board m.to) (castling_ends_empty p m wing is_wing h);
       alike = λ c. ap (has_piece c King) (arrives_as p m h.plain);
       no_pawn = λ edge. ap is_pawn (arrives_as p m h.plain) ∙ king_is_no_pawn p.side (at p.board m.from) h.king;

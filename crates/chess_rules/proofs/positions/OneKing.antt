@@ -1,21 +1,10 @@
 -- Where the one king of a colour stands.
-use Rattle.std.proofs.Common.{◌≡◌, ℕ, zero, suc, ◌+◌, ◌<◌, ◌≤◌, Bool, true, false, not, ◌&&◌, refl, sym, ◌∙◌, ap, subst, arith, List, [], ◌∷◌, length, get_or, cond}
-use Rattle.std.specs.Prelude.{None, Some, unwrap_or, position, count_by}
-use Rattle.std.specs.List.{position_or_len}
-use Rattle.std.proofs.lemmas.List.Quantifiers.{position-Some}
-use Rattle.std.proofs.lemmas.List.Recursion.{is_count_by}
-use Rattle.std.proofs.lemmas.Bool.{and_from}
-use Rattle.chess_rules.specs.declared.piece.Colour.{Colour}
-use Rattle.chess_rules.specs.declared.piece.Kind.TheVariants.{King}
-use Rattle.chess_rules.specs.Square.{Square}
-use Rattle.chess_rules.specs.Board.{Board, at, cell_of, kings, other, has_piece}
-use Rattle.chess_rules.specs.Attacks.{is_attacked, king_attacked}
-use Rattle.chess_rules.specs.Reach.{square_at, king_square}
+use Rattle.chess_rules.proofs.Words.{Colour, King, Square, Board, at, cell_of, kings, other, has_piece, is_attacked, king_attacked, square_at, king_square, ◌≡◌, ℕ, zero, suc, ◌+◌, ◌<◌, ◌≤◌, Bool, true, false, not, ◌&&◌, refl, sym, ◌∙◌, ap, subst, arith, List, [], ◌∷◌, length, get_or, cond, None, Some, unwrap_or, position, count_by, position_or_len, position-Some, is_count_by, and_from}
 use Rattle.chess_rules.proofs.sets.AllSquares.{first_true, second_true, same_tests, Passes, some_square, any_square}
 
 -- How many elements pass, an element at a time.
 
-abbrev tally : {X : Type 0} → (X → Bool) → List X → ℕ
+abbrev pub tally : {X : Type 0} → (X → Bool) → List X → ℕ
 tally p [] = 0
 tally p (x ∷ xs) = cond (p x) (1 + tally p xs) (tally p xs)
 

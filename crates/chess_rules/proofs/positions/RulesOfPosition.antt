@@ -1,19 +1,9 @@
 -- The rules of a position, one by one.
-use Rattle.std.proofs.Common.{◌≡◌, ℕ, ◌≤◌, Bool, true, false, not, ◌&&◌, ◌||◌, subst, arith, length}
-use Rattle.std.specs.Prelude.{◌==◌, nat_le, Option, None, Some, is_none, if◌then◌else◌}
-use Rattle.std.proofs.lemmas.Bool.{and_from, false_from_ne_true}
-use Rattle.chess_rules.specs.declared.piece.Colour.{Colour}
-use Rattle.chess_rules.specs.declared.piece.Colour.TheVariants.{White, Black}
-use Rattle.chess_rules.specs.declared.position.Parts.{Parts}
-use Rattle.chess_rules.specs.declared.position.PositionFault.{PositionFault}
-use Rattle.chess_rules.specs.declared.position.PositionFault.TheVariants.{Kings, PawnOnEdge, KingCapturable, TargetRank, NumberRange}
-use Rattle.chess_rules.specs.Square.{Square}
-use Rattle.chess_rules.specs.Board.{Board, at, other, kings, is_pawn}
-use Rattle.chess_rules.specs.Attacks.{king_attacked}
-use Rattle.chess_rules.specs.Position.{is_position, one_king, pawn_on_edge, target_fits}
-use Rattle.chess_rules.specs.StoredPosition.{parts_of, FitsPosition}
+use Rattle.chess_rules.proofs.Words.{Colour, White, Black, King, Parts, PositionFault, Kings, PawnOnEdge, KingCapturable, TargetRank, NumberRange, Square, same_square, Board, at, other, kings, is_pawn, is_attacked, king_attacked, is_position, one_king, pawn_on_edge, target_fits, own, king_square, is_check, parts_of, FitsPosition, ◌≡◌, ℕ, ◌<◌, ◌≤◌, Bool, true, false, not, ◌&&◌, ◌||◌, refl, sym, ◌∙◌, ap, subst, arith, length, ◌==◌, nat_le, Option, None, Some, is_none, if◌then◌else◌, and_from, false_from_ne_true}
 use Rattle.chess_rules.specs.declared.position.Position.TheInside.{Inside}
-use Rattle.chess_rules.proofs.sets.AllSquares.{first_true, second_true, Passes, some_square, any_square, equal_from, equal_tests}
+use Rattle.chess_rules.proofs.sets.AllSquares.{first_true, second_true, same_tests, Passes, some_square, any_square, equal_from, equal_tests}
+use Rattle.chess_rules.proofs.lines.AttackToReach.{squares_same}
+use Rattle.chess_rules.proofs.positions.OneKing.{StandsAt, king_stands, king_only_there, king_attacked_there}
 use Rattle.chess_rules.proofs.moves.CellsAfterPut.{OnBoard}
 
 pub record Sound (p : Parts) : Type 0 where
@@ -82,9 +72,34 @@ position_from_sound p s =
       numbers_ok = and_from _ _ (at_most_holds p.half 99999 s.half) (at_most_holds p.full 99999 s.full);
     }))
 
--- what is stored as a position is one
-pub stored_position : (a : Inside) (p : Parts) → FitsPosition a → parts_of a ≡ p → is_position p ≡ true
-stored_position a p kept view = subst (λ (q : Parts). is_position q ≡ true) view kept.position
+-- what is stored of a position
+pub record Stored (a : Inside) (p : Parts) : Type 0 where
+  pub position : is_position p ≡ true
+  pub side : a.side ≡ p.side
+  pub board : a.board ≡ p.board
+  pub king : a.king ≡ king_square p.side p.board
+  pub other_king : a.other_king ≡ king_square (other p.side) p.board
+  pub checked : a.checked ≡ is_check p
+
+pub stored : (a : Inside) (p : Parts) → FitsPosition a → parts_of a ≡ p → Stored a p
+stored a p kept view =
+    subst (λ (q : Parts). Stored a q) view
+    (record { position = kept.position; side = refl; board = refl; king = kept.king; other_king = kept.other_king; checked = kept.checked })
+
+-- whether a king is attacked is seen from its square
+
+each_king : (b : Board) → kings White b ≡ 1 → kings Black b ≡ 1 → (c : Colour) → kings c b ≡ 1
+each_king b white black White = white
+each_king b white black Black = black
+
+pub own_king_seen : (b : Board) (c : Colour) (k : Square) → length b ≡ 64 → kings White b ≡ 1 → kings Black b ≡ 1 → k ≡ king_square c b → is_attacked b (other c) k ≡ king_attacked b c
+own_king_seen b c k long white black is = ap (is_attacked b (other c)) is ∙ sym (king_attacked_there c b long (each_king b white black c))
+
+pub other_king_seen : (b : Board) (c : Colour) (k : Square) → length b ≡ 64 → kings White b ≡ 1 → kings Black b ≡ 1 → k ≡ king_square (other c) b → is_attacked b c k ≡ king_attacked b (other c)
+other_king_seen b c k long white black is = ap (λ d. is_attacked b d k) (sym (twice c)) ∙ own_king_seen b (other c) k long white black is
+  where
+    twice : (d : Colour) → other (other d) ≡ d
+    twice d = grind arith
 
 -- rank 1 or 8
 abbrev pub is_edge : ℕ → Bool
@@ -101,3 +116,24 @@ no_pawn_on_edge b h =
   where
     by_pawn : Passes (λ s. ((s.rank == 0) || (s.rank == 7)) && is_pawn (at b s)) → ⊥
     by_pawn w = grind arith
+
+pub itself : (s : Square) → same_square s s ≡ true
+itself s = grind arith
+
+-- the king of the side to move is on its square alone
+pub own_king : (p : Parts) (s k : Square) → is_position p ≡ true → s.file < 8 → s.rank < 8 → k ≡ king_square p.side p.board → own p King s ≡ same_square s k
+own_king p s k position file rank is = same_tests _ _ there back ∙ ap (same_square s) (sym is)
+  where
+    sound : Sound p
+    sound = sound_from_position p position
+
+    king : StandsAt p.side p.board (king_square p.side p.board)
+    king = king_stands p.side p.board sound.long (sound.kings_of p.side)
+
+    there : own p King s ≡ true → same_square s (king_square p.side p.board) ≡ true
+    there h =
+        subst (λ t. same_square s t ≡ true)
+        (king_only_there p.side p.board s (king_square p.side p.board) sound.long (sound.kings_of p.side) (record { file = file; rank = rank; king = h }) king) (itself s)
+
+    back : same_square s (king_square p.side p.board) ≡ true → own p King s ≡ true
+    back h = subst (λ t. own p King t ≡ true) (sym (squares_same s (king_square p.side p.board) h)) king.king

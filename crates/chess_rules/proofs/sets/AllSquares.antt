@@ -1,17 +1,5 @@
 -- What a test of all 64 squares says of each square.
-use Rattle.std.proofs.Common.{◌≡◌, ℕ, zero, suc, ◌+◌, ◌<◌, ◌≤◌, Bool, true, false, not, ◌&&◌, ◌||◌, ◌⊎◌, inl, inr, List, [], ◌∷◌, map, refl, sym, ◌∙◌, ap, subst, arith}
-use Rattle.std.specs.Prelude.{◌==◌}
-use Rattle.std.specs.List.{list_all, range_with_len, list_any, flat_map}
-use Rattle.std.proofs.lemmas.List.Folds.{list_all-append, list_any-append}
-use Rattle.std.proofs.lemmas.Bool.{or_cases, or_left, or_right, and_from}
-use Rattle.chess_rules.specs.Square.{Square, square, squares, lines}
-
--- a test in two parts, as it is run
-pub true_or : (x y r : Bool) → r ≡ x → r ≡ true → (x || y) ≡ r
-true_or x y r e h = grind arith
-
-pub false_or : (x y r q : Bool) → r ≡ x → r ≡ false → q ≡ y → (x || y) ≡ q
-false_or x y r q e h g = grind arith
+use Rattle.chess_rules.proofs.Words.{Square, square, squares, lines, ◌≡◌, ℕ, zero, suc, ◌+◌, ◌<◌, ◌≤◌, Bool, true, not, ◌&&◌, ◌||◌, ◌⊎◌, inl, inr, List, [], ◌∷◌, map, refl, sym, ◌∙◌, ap, subst, arith, ◌==◌, list_all, range_with_len, list_any, flat_map, list_all-append, list_any-append, or_cases, or_left, or_right, and_from}
 
 pub not_true : (x y : Bool) → x ≡ true → (not x || y) ≡ true → y ≡ true
 not_true x y h g = grind arith

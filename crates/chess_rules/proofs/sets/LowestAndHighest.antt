@@ -1,11 +1,5 @@
 -- The lowest and the highest place of a set that is not empty.
-use Rattle.std.proofs.Common.{◌≡◌, ℕ, zero, suc, ◌+◌, ◌-◌, ◌*◌, ◌^◌, ◌<◌, ◌≤◌, pow-suc, true, w64, sym, ◌∙◌, ap, subst, arith}
-use Rattle.std.specs.Prelude.{◌==◌}
-use Rattle.std.proofs.lemmas.Bool.{false≢true}
-use Rattle.std.specs.Int.{bit_at, leading_zeros, trailing_zeros}
-use Rattle.std.proofs.lemmas.Nat.{leading_length}
-use Rattle.std.proofs.lemmas.Nat.Bits.{bit_at_above, bit_at-trailing_zeros}
-use Rattle.chess_rules.specs.Words.{has, HasNone, IsHighest, IsLowest, IsOnly}
+use Rattle.chess_rules.proofs.Words.{has, HasNone, IsHighest, IsLowest, IsOnly, ◌≡◌, ℕ, zero, suc, ◌+◌, ◌-◌, ◌*◌, ◌^◌, ◌<◌, ◌≤◌, pow-suc, true, w64, sym, ◌∙◌, ap, subst, arith, ◌==◌, false≢true, bit_at, leading_zeros, trailing_zeros, leading_length, bit_at_above, bit_at-trailing_zeros}
 use Rattle.chess_rules.proofs.sets.AllSquares.{equal_from, equal_tests}
 use Rattle.chess_rules.proofs.sets.WordsToCells.{has_single, has_zero}
 
@@ -42,8 +36,8 @@ nothing_in w i none h = false≢true (sym (has_zero i) ∙ (ap (λ n. has n i) (
 pub no_lowest : (w : ℕ) → HasNone w → IsOnly IsLowest w w
 no_lowest w none = record { here = λ i low h. absurd (false≢true (sym (none.of i low) ∙ h)); there = λ i l. l.here }
 
-pub no_highest : (w : ℕ) → w ≡ 0 → IsOnly IsHighest w 0
-no_highest w none = record { here = λ i _ h. absurd (false≢true (sym (has_zero i) ∙ h)); there = λ i l. absurd (nothing_in w i none l.here) }
+pub no_highest : (w : ℕ) → w ≡ 0 → IsOnly IsHighest w w
+no_highest w none = record { here = λ i _ h. absurd (nothing_in w i none h); there = λ i l. absurd (nothing_in w i none l.here) }
 
 at_single : (r n i : ℕ) → r ≡ 2 ^ n → has r i ≡ (i == n)
 at_single r n i is = ap (λ m. has m i) is ∙ has_single n i

@@ -1,35 +1,28 @@
 -- Sets of squares: what is in a meet or a union, whether a set is empty, and its members in turn.
-use Rattle.std.proofs.Common.{◌≡◌, ℕ, zero, suc, ◌+◌, ◌<◌, ◌≤◌, ◌^◌, Bool, true, false, not, ◌&&◌, ◌||◌, inl, inr, List, [], ◌∷◌, length, map, cond, get_or, refl, sym, ◌∙◌, ap, ap₂, subst, w64, arith}
-use Rattle.std.specs.Prelude.{◌==◌, Option, None, filter, if◌then◌else◌}
-use Rattle.std.specs.List.{list_any, range_with_len}
-use Rattle.std.specs.Int.{trailing_zeros}
-use Rattle.std.proofs.lemmas.Bool.{false≢true}
-use Rattle.chess_rules.specs.declared.piece.Piece.{Piece}
-use Rattle.chess_rules.specs.Square.{Square, squares}
-use Rattle.chess_rules.specs.Board.{Board, at, cell_of}
-use Rattle.chess_rules.specs.Reach.{square_at}
-use Rattle.chess_rules.specs.Words.{has, has_any, members, HasNone, IsFirst, IsLowest, Joins, Marks, Meets, Misses, Places, Sets, TakesLowest}
+use Rattle.chess_rules.proofs.Words.{Square, squares, cell_of, lone, square_at, Bits, has, has_any, HasNone, IsFirst, IsLowest, members, Places, Sets, TakesLowest, ◌≡◌, ℕ, zero, suc, ◌+◌, ◌<◌, ◌≤◌, ◌^◌, Bool, true, false, not, ◌&&◌, ◌||◌, inl, inr, List, [], ◌∷◌, length, map, cond, refl, sym, ◌∙◌, ap, ap₂, subst, w64, arith, ◌==◌, None, Some, filter, if◌then◌else◌, list_any, range_with_len, trailing_zeros, false≢true}
 use Rattle.chess_rules.proofs.sets.WordsToCells.{has_zero, same_or_apart}
 use Rattle.chess_rules.proofs.sets.LowestAndHighest.{lowest_place}
 use Rattle.chess_rules.proofs.positions.OneKing.{cell_of-square_at, square_at-cell_of}
 use Rattle.chess_rules.proofs.sets.AllSquares.{Passes, some_square, any_square}
 use Rattle.chess_rules.proofs.trying.FoundLists.{list_any-filter}
 
-pub places_and : (v w r : ℕ) (p q : Square → Bool) → Meets v w r → Places v p → Places w q → Places r (λ s. p s && q s)
+pub places_and : (v w r : ℕ) (p q : Square → Bool) → Bits r (λ i. has v i && has w i) → Places v p → Places w q → Places r (λ s. p s && q s)
 places_and v w r p q both h g = record { of = λ i low. both.of i low ∙ ap₂ (λ x y. x && y) (h.of i low) (g.of i low) }
 
-pub places_or : (v w r : ℕ) (p q : Square → Bool) → Joins v w r → Places v p → Places w q → Places r (λ s. p s || q s)
+pub places_or : (v w r : ℕ) (p q : Square → Bool) → Bits r (λ i. has v i || has w i) → Places v p → Places w q → Places r (λ s. p s || q s)
 places_or v w r p q either h g = record { of = λ i low. either.of i low ∙ ap₂ (λ x y. x || y) (h.of i low) (g.of i low) }
 
-pub places_not : (w r : ℕ) (p : Square → Bool) → Misses w r → Places w p → Places r (λ s. not (p s))
+pub places_not : (w r : ℕ) (p : Square → Bool) → Bits r (λ i. not (has w i)) → Places w p → Places r (λ s. not (p s))
 places_not w r p rest h = record { of = λ i low. rest.of i low ∙ ap not (h.of i low) }
 
--- a set of cells is one of squares
-pub marked : (w : ℕ) (test : Option Piece → Bool) (b : Board) → Marks w test b → Places w (λ s. test (at b s))
-marked w test b h = record { of = λ i low. h.of i low ∙ ap (λ k. test (get_or b k None)) (sym (cell_of-square_at i)) }
+pub places_same : (w : ℕ) (p q : Square → Bool) → Places w p → ((s : Square) → p s ≡ q s) → Places w q
+places_same w p q h same = record { of = λ i low. h.of i low ∙ same (square_at i) }
 
 pub at_square : (w : ℕ) (test : Square → Bool) (s : Square) → Places w test → s.file < 8 → s.rank < 8 → has w (cell_of s) ≡ test s
 at_square w test s h file rank = grind arith
+
+pub at_place : (w : ℕ) (test : Square → Bool) (s : Square) → Places w test → cell_of s < 64 → square_at (cell_of s) ≡ s → has w (cell_of s) ≡ test s
+at_place w test s h inside again = h.of (cell_of s) inside ∙ ap test again
 
 -- A set is empty exactly if no square passes.
 
@@ -67,7 +60,7 @@ empty_test w fits = not_again (w == 0) _ (set_test w (λ s. has w (cell_of s)) (
 
 -- The members in turn.
 
-by_places : squares ≡ map square_at (range_with_len 0 64)
+pub by_places : squares ≡ map square_at (range_with_len 0 64)
 unfolding squares
 by_places = refl
 
@@ -164,6 +157,11 @@ no_member w none = record { of = λ i low. ap (λ n. has n i) none ∙ has_zero 
     nothing [] = refl
     nothing (x ∷ xs) = nothing xs
 
+pub lone_means : (xs : List Square) (s : Square) → lone xs ≡ Some s → xs ≡ s ∷ []
+lone_means [] s h = cc
+lone_means (x ∷ []) s h = cc
+lone_means (x ∷ (y ∷ xs)) s h = cc
+
 -- the first square is taken out
 pub takes_lowest : (w rest : ℕ) (s : Square) → IsFirst w s → Sets w rest (cell_of s) false → TakesLowest w rest s
 takes_lowest w rest s first sets =
@@ -174,6 +172,19 @@ takes_lowest w rest s first sets =
       rest = sets;
       next = next_member w rest (cell_of s) first.place sets ∙ ap (λ t. t ∷ members rest) (square_at-cell_of s first.file);
     }
+
+-- it is the one square, if none is left
+lone_after : (p : Square → Bool) (xs : List Square) (s : Square) → lone (s ∷ filter p xs) ≡ (if list_any p xs then None else Some s)
+lone_after p [] s = refl
+lone_after p (x ∷ xs) s = by_first (p x) (filter p xs) (list_any p xs) (lone_after p xs s)
+  where
+    by_first : (v : Bool) (ys : List Square) (more : Bool) → lone (s ∷ ys) ≡ (if more then None else Some s) → lone (s ∷ cond v (x ∷ ys) ys) ≡ (if v || more then None else Some s)
+    by_first true ys more h = refl
+    by_first false ys more h = h
+
+pub lone_first : (w rest : ℕ) (s : Square) → IsFirst w s → Sets w rest (cell_of s) false → lone (members w) ≡ (if has_any rest then None else Some s)
+unfolding members has_any
+lone_first w rest s first sets = ap lone (takes_lowest w rest s first sets).next ∙ lone_after (λ t. has rest (cell_of t)) squares s
 
 pub first_place : (w : ℕ) (s : Square) → 0 < w → w < 2 ^ 64 → s ≡ square_at (trailing_zeros w64 w) → IsFirst w s
 first_place w s some fits is =

@@ -1,16 +1,6 @@
 -- The tables of squares hold what is said of each square.
-use Rattle.std.proofs.Common.{◌≡◌, ℕ, zero, suc, ◌+◌, ◌*◌, ◌/◌, ◌%◌, ◌<◌, Bool, true, false, sym, List, [], ◌∷◌, refl, ◌∙◌, ap, ap₂, arith, get_or}
-use Rattle.std.specs.Prelude.{◌==◌, map, if◌then◌else◌}
-use Rattle.std.proofs.lemmas.Bool.Decides.{nat_tests}
-use Rattle.chess_rules.proofs.sets.WordsToCells.{has_zero}
-use Rattle.chess_rules.specs.Square.{Square, strictly_between}
-use Rattle.std.specs.List.{range_with_len}
-use Rattle.std.proofs.lemmas.List.FromFn.{get_or-range_with_len, length-range_with_len}
-use Rattle.chess_rules.specs.Board.{cell_of}
-use Rattle.chess_rules.specs.WordsAndCells.{digit, word_bit}
-use Rattle.chess_rules.specs.Words.{has, word, Places}
-use Rattle.chess_rules.specs.Reach.{square_at, is_aligned}
-use Rattle.chess_rules.proofs.positions.OneKing.{square_at-cell_of}
+use Rattle.chess_rules.proofs.sets.WordsToCells.{has_word, has_zero}
+use Rattle.chess_rules.proofs.Words.{Square, strictly_between, has, word, Places, square_at, is_aligned, ◌≡◌, ℕ, zero, suc, ◌+◌, ◌*◌, ◌/◌, ◌%◌, ◌<◌, Bool, true, false, sym, List, [], ◌∷◌, refl, ◌∙◌, ap, ap₂, arith, get_or, map, if◌then◌else◌, nat_tests, range_with_len, get_or-range_with_len, length-range_with_len}
 
 -- What the tables hold.
 
@@ -47,41 +37,31 @@ table_at f table n i are less = grind (arith, get_or, at_number)
 
 -- A set of squares in a table.
 
-is_one : (b : Bool) → (digit b == 1) ≡ b
-is_one b = grind arith
-
 mask_has : (test : Square → Bool) (i : ℕ) → i < 64 → has (mask test) i ≡ test (square_at i)
-unfolding has mask
+unfolding mask
 mask_has test i low =
-    ap (λ n. n == 1) (word_bit (λ k. test (square_at k)) (range_with_len 0 64) i 0 (omega (arith, length-range_with_len 0 64)))
-    ∙ (is_one (test (square_at (get_or (range_with_len 0 64) i 0)))
-    ∙ ap (λ k. test (square_at k)) (get_or-range_with_len 0 64 i 0 low ∙ omega arith))
+    has_word (λ k. test (square_at k)) (range_with_len 0 64) i 0 (omega (arith, length-range_with_len 0 64))
+    ∙ ap (λ k. test (square_at k)) (get_or-range_with_len 0 64 i 0 low ∙ omega arith)
 
 pub places : (test : Square → Bool) (n : ℕ) → n ≡ mask test → Places n test
 places test n is = record { of = λ i low. ap (λ m. has m i) is ∙ mask_has test i low }
 
 -- a table of the squares that lie to each square so
 pub table_places : (lies : Square → Square → Bool) (table : List ℕ) (t : Square) (i n : ℕ) → table ≡ map (mask_to lies) (numbers 64 0) → n ≡ get_or table i 0
-    → i ≡ cell_of t → i < 64 → t.file < 8 → Places n (λ s. lies s t)
+    → i < 64 → square_at i ≡ t → Places n (λ s. lies s t)
 unfolding mask_to
-table_places lies table t i n are is at low file =
-    places (λ s. lies s t) n
-    (is ∙ (table_at (mask_to lies) table 64 i are low ∙ ap (λ u. mask (λ s. lies s u)) (ap square_at at ∙ square_at-cell_of t file)))
-
--- two squares again from the number of their pair
-first_of_pair : (s t : Square) → s.file < 8 → t.file < 8 → t.rank < 8 → square_at ((64 * cell_of s + cell_of t) / 64) ≡ s
-first_of_pair s t sf tf tr = grind arith
-
-second_of_pair : (s t : Square) → t.file < 8 → t.rank < 8 → square_at ((64 * cell_of s + cell_of t) % 64) ≡ t
-second_of_pair s t tf tr = grind arith
+table_places lies table t i n are is low again =
+    places (λ s. lies s t) n (is ∙ (table_at (mask_to lies) table 64 i are low ∙ ap (λ u. mask (λ s. lies s u)) again))
 
 -- two squares with one between them are on a line
 
-pub between_places : (s t : Square) (n : ℕ) → s.file < 8 → t.file < 8 → t.rank < 8 → n ≡ between_mask (64 * cell_of s + cell_of t) → Places n (λ u. strictly_between s u t)
+pub between_places : (s t : Square) (i j n : ℕ) → square_at i ≡ s → square_at j ≡ t → j < 64 → n ≡ between_mask (64 * i + j) → Places n (λ u. strictly_between s u t)
 unfolding between_mask
-between_places s t n sf tf tr is =
+between_places s t i j n from to low is =
+    let first : (64 * i + j) / 64 ≡ i = omega arith in
+    let second : (64 * i + j) % 64 ≡ j = omega arith in
     by_line (is_aligned s t) refl
-    (is ∙ ap₂ (λ (v w : Square). if is_aligned v w then mask (λ u. strictly_between v u w) else 0) (first_of_pair s t sf tf tr) (second_of_pair s t tf tr))
+    (is ∙ ap₂ (λ (v w : Square). if is_aligned v w then mask (λ u. strictly_between v u w) else 0) (ap square_at first ∙ from) (ap square_at second ∙ to))
   where
     by_line : (x : Bool) → is_aligned s t ≡ x → n ≡ (if is_aligned s t then mask (λ u. strictly_between s u t) else 0) → Places n (λ u. strictly_between s u t)
     by_line true e h = places (λ u. strictly_between s u t) n (h ∙ ap (λ x. if x then mask (λ u. strictly_between s u t) else 0) e)

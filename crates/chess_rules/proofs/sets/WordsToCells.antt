@@ -1,21 +1,8 @@
 -- Words as sets of places, and what the four words of a board say of its cells.
-use Rattle.std.proofs.Common.{◌≡◌, ℕ, zero, suc, ◌-◌, ◌*◌, ◌%◌, ◌^◌, ◌<◌, ◌≢◌, min, max, Bool, true, false, not, ◌&&◌, ◌||◌, ◌⊎◌, List, get_or, set, length, length-set, sym, ◌∙◌, ap, ap₂, w64, arith}
-use Rattle.std.specs.Prelude.{Option, None, ◌==◌, is_some, nat_lt, if◌then◌else◌}
-use Rattle.std.specs.Int.{bit_at, bit_not}
 use Rattle.std.specs.Int.Bits.{bit_and, bit_or}
-use Rattle.std.proofs.lemmas.Grind.{get_or-set_at}
-use Rattle.std.proofs.lemmas.List.{ext_get_or, get_or-set_other}
-use Rattle.std.proofs.lemmas.Nat.{and_le_r, or_lt}
-use Rattle.std.proofs.lemmas.Nat.Bits.{bit_at_and, bit_at_or, bit_at_not, bit_at-lt, bit_at-pow_same, bit_at-pow_other, bit_at_ones, bit_at_ones_above}
-use Rattle.chess_rules.specs.declared.piece.Colour.{Colour}
-use Rattle.chess_rules.specs.declared.piece.Kind.{Kind}
-use Rattle.chess_rules.specs.declared.piece.Kind.TheVariants.{King, Queen, Rook, Bishop, Knight, Pawn}
-use Rattle.chess_rules.specs.declared.piece.Piece.{Piece}
+use Rattle.chess_rules.proofs.Words.{Colour, White, Black, Kind, King, Queen, Rook, Bishop, Knight, Pawn, Piece, AreWords, cell_in, cells, has, Places, Sets, coded, straight_of, diagonal_of, word, has_kind, is_near, square_at, at, has_colour, has_piece, ◌≡◌, ℕ, zero, suc, ◌+◌, ◌-◌, ◌*◌, ◌^◌, ◌<◌, ◌≢◌, min, max, Bool, true, false, not, ◌&&◌, ◌||◌, ◌⊎◌, List, [], ◌∷◌, get_or, set, length, length-set, pow-suc, refl, subst, sym, ◌∙◌, ap, ap₂, w64, arith, Option, None, ◌==◌, is_some, nat_lt, if◌then◌else◌, bit_at, bit_not, get_or-set_at, get_or-map-range_with_len, length-map-range_with_len, ext_get_or, get_or-set_other, and_le_r, or_lt, bit_at_and, bit_at_or, bit_at_not, bit_at_lowest, bit_at-suc, bit_at-lt, same_from_bits_below, bit_at-pow_same, bit_at-pow_other, bit_at_ones, bit_at_ones_above}
 use Rattle.chess_rules.specs.declared.board.Board.TheInside.{Inside}
-use Rattle.chess_rules.specs.WordsAndCells.{cell_at, cells_long}
-use Rattle.chess_rules.specs.Words.{Marks, cell_in, cells, has, Sets, Carries, Chosen, Misses, coded, is_code, is_it, is_black, straight_of, diagonal_of, near_of, black_of}
-use Rattle.chess_rules.specs.Reach.{has_kind}
-use Rattle.chess_rules.specs.Board.{has_colour, has_piece}
+use Rattle.chess_rules.proofs.positions.OneKing.{cell_of-square_at}
 
 -- One bit.
 
@@ -82,44 +69,6 @@ sets_place old bit k value inside fits small is e =
 pub clears_place : (old bit k : ℕ) (value : Bool) → k < 64 → bit < 2 ^ 64 → bit ≡ 2 ^ k → value ≡ false → Sets old (bit_and old (bit_not w64 bit)) k value
 clears_place old bit k value inside small is e = grind (arith, and_fits, w64, has_and, has_not, has_single, cleared_bit)
 
--- a bit that is moved to a place
-moved_bit : (v k i : ℕ) → v < 2 → 2 ^ k < 2 ^ 64 → has (v * 2 ^ k % 2 ^ 64) i ≡ ((v == 1) && (i == k))
-moved_bit zero k i low fits =
-    let none : 0 * 2 ^ k % 2 ^ 64 ≡ 0 = omega arith in
-    ap (λ n. has n i) none ∙ has_zero i
-moved_bit (suc zero) k i low fits =
-    let same : 1 * 2 ^ k % 2 ^ 64 ≡ 2 ^ k = omega (arith, fits) in
-    ap (λ n. has n i) same ∙ has_single k i
-moved_bit (suc (suc v)) k i low fits = absurd (omega arith)
-
-carried_bit : (x a b v : Bool) → ((x && not (a || b)) || (v && b)) ≡ (if b then v else (if a then false else x))
-carried_bit x a b v = grind arith
-
-pub carries : (old s t v from to : ℕ) → from < 64 → to < 64 → s < 2 ^ 64 → t < 2 ^ 64 → s ≡ 2 ^ from → t ≡ 2 ^ to → v ≡ bit_at old from
-    → Carries old (bit_or (bit_and old (bit_not w64 (bit_or s t))) (v * 2 ^ to % 2 ^ 64)) from to
-unfolding has
-carries old s t v from to from_inside to_inside small little is_from is_to e =
-    let both : bit_or s t < 2 ^ 64 = or_lt 64 s t small little in
-    let bit : v < 2 = omega (arith, e, bit_at-lt old from) in
-    let fits : 2 ^ to < 2 ^ 64 = omega (arith, is_to, little) in
-    record {
-      from_inside = from_inside;
-      to_inside = to_inside;
-      fits = or_lt 64 (bit_and old (bit_not w64 (bit_or s t))) (v * 2 ^ to % 2 ^ 64) (and_fits old (bit_not w64 (bit_or s t)) (omega arith)) (omega arith);
-      of = λ i low.
-          has_or (bit_and old (bit_not w64 (bit_or s t))) (v * 2 ^ to % 2 ^ 64) i
-          ∙ ap₂ (λ x y. x || y)
-          (has_and old (bit_not w64 (bit_or s t)) i
-          ∙ ap (λ x. has old i && x)
-          (has_not (bit_or s t) i both low
-          ∙ ap not (has_or s t i ∙ ap₂ (λ x y. x || y) (ap (λ n. has n i) is_from ∙ has_single from i) (ap (λ n. has n i) is_to ∙ has_single to i))))
-          (moved_bit v to i bit fits ∙ ap (λ n. (n == 1) && (i == to)) e)
-          ∙ carried_bit (has old i) (i == from) (i == to) (has old from);
-    }
-
-pub chosen_else : (word rest : ℕ) (value : Bool) → Misses word rest → value ≡ false → Chosen word rest value
-chosen_else word rest value h e = record { of = λ i low. h.of i low ∙ ap (λ v. is_it v (has word i)) (sym e) }
-
 -- What the bits say of a cell.
 
 -- a piece of the kind is there, by the three bits
@@ -134,23 +83,104 @@ kind_in Pawn straight diagonal near = (near && not straight) && not diagonal
 pub is_occupied : (a b c d : Bool) → ((a || b) || c) ≡ is_some (coded a b c d)
 is_occupied a b c d = grind arith
 
-pub kind_there : (k : Kind) (a b c d : Bool) → is_code a b c d ≡ true → kind_in k a b c ≡ has_kind k (coded a b c d)
-kind_there k a b c d h = grind arith
+kind_there : (k : Kind) (cell : Option Piece) → kind_in k (straight_of cell) (diagonal_of cell) (is_near cell) ≡ has_kind k cell
+kind_there k cell = grind arith
 
-pub colour_there : (k : Colour) (a b c d : Bool) → (((a || b) || c) && is_it (is_black k) d) ≡ has_colour k (coded a b c d)
-colour_there k a b c d = grind arith
+pub white_is : (cell : Option Piece) → (is_some cell && not (has_colour Black cell)) ≡ has_colour White cell
+white_is cell = grind arith
 
-pub piece_there : (c : Colour) (k : Kind) (x y z d : Bool) → (has_kind k (coded x y z d) && is_it (is_black c) d) ≡ has_piece c k (coded x y z d)
-piece_there c k x y z d = grind arith
+pub piece_is : (c : Colour) (k : Kind) (cell : Option Piece) → (has_kind k cell && has_colour c cell) ≡ has_piece c k cell
+piece_is c k cell = grind arith
+
+-- The bits of a word of a list.
+
+pub has_word : {X : Type 0} (test : X → Bool) (xs : List X) (i : ℕ) (d : X) → i < length xs → has (word test xs) i ≡ test (get_or xs i d)
+unfolding has word
+has_word test [] i d low = absurd (omega arith)
+has_word test (x ∷ xs) zero d low = first (test x) (word test xs)
+  where
+    first : (b : Bool) (n : ℕ) → (bit_at ((if b then 1 else 0) + 2 * n) 0 == 1) ≡ b
+    first b n = grind (arith, bit_at_lowest)
+has_word test (x ∷ xs) (suc i) d low = next (test x) (word test xs) ∙ has_word test xs i d (omega arith)
+  where
+    next : (b : Bool) (n : ℕ) → (bit_at ((if b then 1 else 0) + 2 * n) (suc i) == 1) ≡ (bit_at n i == 1)
+    next b n = grind (arith, bit_at-suc)
+
+word_fits : (test : Option Piece → Bool) (xs : List (Option Piece)) → word test xs < 2 ^ length xs
+unfolding word
+word_fits test [] = omega arith
+word_fits test (x ∷ xs) = (let rest : word test xs < 2 ^ length xs = word_fits test xs in grind (arith, pow-suc))
+
+same_bit : (m n i : ℕ) → has m i ≡ has n i → bit_at m i ≡ bit_at n i
+unfolding has
+same_bit m n i h = grind (arith, bit_at-lt)
 
 -- What the words of a board say of its squares.
+
+cell_at : (w : Inside) (i : ℕ) → i < 64 → get_or (cells w) i None ≡ cell_in w i
+unfolding cells
+cell_at w i low = get_or-map-range_with_len (cell_in w) 0 64 i i None low (omega arith)
+
+cells_long : (w : Inside) → length (cells w) ≡ 64
+unfolding cells
+cells_long w = length-map-range_with_len (cell_in w) 0 64
+
+-- the bits of a cell
+pub record BitsOf (w : Inside) (i : ℕ) (cell : Option Piece) : Type 0 where
+  pub straight : has w.straight i ≡ straight_of cell
+  pub diagonal : has w.diagonal i ≡ diagonal_of cell
+  pub near : has w.near i ≡ is_near cell
+  pub black : has w.black i ≡ has_colour Black cell
+
+word_at : (w : Inside) (test : Option Piece → Bool) (i : ℕ) → i < 64 → has (word test (cells w)) i ≡ test (cell_in w i)
+word_at w test i low = has_word test (cells w) i None (omega (arith, cells_long w)) ∙ ap test (cell_at w i low)
+
+cell_bits : (w : Inside) (i : ℕ) → i < 64 → AreWords w → BitsOf w i (cell_in w i)
+cell_bits w i low h =
+    record {
+      straight = ap (λ (v : Inside). has v.straight i) (sym h) ∙ word_at w straight_of i low;
+      diagonal = ap (λ (v : Inside). has v.diagonal i) (sym h) ∙ word_at w diagonal_of i low;
+      near = ap (λ (v : Inside). has v.near i) (sym h) ∙ word_at w is_near i low;
+      black = ap (λ (v : Inside). has v.black i) (sym h) ∙ word_at w (has_colour Black) i low;
+    }
+
+word_again : (test : Option Piece → Bool) (w : Inside) (n : ℕ) → n < 2 ^ 64 → ((i : ℕ) → i < 64 → has n i ≡ test (cell_in w i)) → word test (cells w) ≡ n
+word_again test w n fits same =
+    same_from_bits_below 64 (word test (cells w)) n
+    (omega (arith, word_fits test (cells w), ap (λ k. 2 ^ k) (cells_long w))) fits
+    (λ i low. same_bit (word test (cells w)) n i (word_at w test i low ∙ sym (same i low)))
+
+words_again : (w : Inside) → w.straight < 2 ^ 64 → w.diagonal < 2 ^ 64 → w.near < 2 ^ 64 → w.black < 2 ^ 64 → ((i : ℕ) → i < 64 → BitsOf w i (cell_in w i)) → AreWords w
+words_again w s d n b h =
+    ap₂ (λ x y. record { straight = x; diagonal = y; near = word is_near (cells w); black = word (has_colour Black) (cells w) })
+    (word_again straight_of w w.straight s (λ i low. (h i low).straight))
+    (word_again diagonal_of w w.diagonal d (λ i low. (h i low).diagonal))
+    ∙ ap₂ (λ x y. record { straight = w.straight; diagonal = w.diagonal; near = x; black = y })
+    (word_again is_near w w.near n (λ i low. (h i low).near))
+    (word_again (has_colour Black) w w.black b (λ i low. (h i low).black))
 
 pub cell_there : (w : Inside) (b : List (Option Piece)) (i : ℕ) → cells w ≡ b → i < 64 → cell_in w i ≡ get_or b i None
 cell_there w b i is low = sym (cell_at w i low) ∙ ap (λ (c : List (Option Piece)). get_or c i None) is
 
+pub bits_there : (w : Inside) (b : List (Option Piece)) (i : ℕ) → cells w ≡ b → i < 64 → AreWords w → BitsOf w i (get_or b i None)
+bits_there w b i is low h = subst (BitsOf w i) (cell_there w b i is low) (cell_bits w i low h)
+
+pub square_there : (w : Inside) (b : List (Option Piece)) (i : ℕ) → cells w ≡ b → i < 64 → cell_in w i ≡ at b (square_at i)
+square_there w b i is low = cell_there w b i is low ∙ ap (λ k. get_or b k None) (sym (cell_of-square_at i))
+
 pub marks : (w : Inside) (b : List (Option Piece)) (word : ℕ) (test : Option Piece → Bool) → cells w ≡ b
-    → ((i : ℕ) → i < 64 → has word i ≡ test (cell_in w i)) → Marks word test b
-marks w b word test is h = record { of = λ i low. h i low ∙ ap test (cell_there w b i is low) }
+    → ((i : ℕ) → i < 64 → has word i ≡ test (cell_in w i)) → Places word (λ s. test (at b s))
+marks w b word test is h = record { of = λ i low. h i low ∙ ap test (square_there w b i is low) }
+
+pub black_places : (w : Inside) (b : List (Option Piece)) → cells w ≡ b → AreWords w → Places w.black (λ s. has_colour Black (at b s))
+black_places w b is h = marks w b w.black (has_colour Black) is (λ i low. (cell_bits w i low h).black)
+
+pub kind_places : (w : Inside) (b : List (Option Piece)) (k : Kind) (set : ℕ) → cells w ≡ b → AreWords w
+    → ((i : ℕ) → i < 64 → has set i ≡ kind_in k (has w.straight i) (has w.diagonal i) (has w.near i)) → Places set (λ s. has_kind k (at b s))
+kind_places w b k set is h e = marks w b set (has_kind k) is (λ i low. e i low ∙ by_bits i (cell_bits w i low h))
+  where
+    by_bits : (i : ℕ) → BitsOf w i (cell_in w i) → kind_in k (has w.straight i) (has w.diagonal i) (has w.near i) ≡ has_kind k (cell_in w i)
+    by_bits i bits = ap₂ (λ x y. kind_in k x y (has w.near i)) bits.straight bits.diagonal ∙ (ap (kind_in k _ _) bits.near ∙ kind_there k (cell_in w i))
 
 -- two boards with the same squares
 pub same_cells : (w : Inside) (b : List (Option Piece)) → length b ≡ 64 → ((i : ℕ) → i < 64 → cell_in w i ≡ get_or b i None) → cells w ≡ b
@@ -164,7 +194,7 @@ long_there w b is = ap (λ (c : List (Option Piece)). length c) (sym is) ∙ cel
 -- a square is set, in each word
 module _ (old new : Inside) (k : ℕ) (x : Option Piece) (one two four black : Bool)
     (straight : Sets old.straight new.straight k one) (diagonal : Sets old.diagonal new.diagonal k two) (near : Sets old.near new.near k four) (blacks : Sets old.black new.black k black)
-    (a : one ≡ straight_of x) (b : two ≡ diagonal_of x) (c : four ≡ near_of x) (d : black ≡ black_of x) where
+    (a : one ≡ straight_of x) (b : two ≡ diagonal_of x) (c : four ≡ is_near x) (d : black ≡ has_colour Black x) where
   bits_put : (i : ℕ) → i < 64 → (v : Bool) → (i == k) ≡ v → cell_in new i ≡ (if v then x else cell_in old i)
   bits_put i low v e = grind arith
 
@@ -176,21 +206,24 @@ module _ (old new : Inside) (k : ℕ) (x : Option Piece) (one two four black : B
       by_place : (i : ℕ) → i < 64 → ((i ≡ k) × ((i == k) ≡ true)) ⊎ ((i ≢ k) × ((i == k) ≡ false)) → cell_in new i ≡ get_or (set before k x) i None
       by_place i low h = grind (arith, bits_put, get_or-set_at, long_there, cell_there, get_or-set_other)
 
--- what one square holds is carried to another, in each word
-module _ (old new : Inside) (j k : ℕ)
-    (straight : Carries old.straight new.straight j k) (diagonal : Carries old.diagonal new.diagonal j k) (near : Carries old.near new.near j k) (blacks : Carries old.black new.black j k) where
-  bits_carried : (i : ℕ) → i < 64 → cell_in new i ≡ (if i == k then cell_in old j else (if i == j then None else cell_in old i))
-  bits_carried i low = grind arith
-
-  pub cells_carried : (before : List (Option Piece)) → j < 64 → cells old ≡ before → cells new ≡ set (set before j None) k (get_or before j None)
-  cells_carried before inside is =
-      same_cells new (set (set before j None) k (get_or before j None))
-      (length-set (set before j None) k (get_or before j None) ∙ (length-set before j None ∙ long))
-      (λ i low. bits_carried i low ∙ by_places i low (same_or_apart i k) (same_or_apart i j))
+  pub words_put : AreWords old → AreWords new
+  words_put h = words_again new straight.fits diagonal.fits near.fits blacks.fits (λ i low. by_place i low (i == k) refl)
     where
-      long : length before ≡ 64
-      long = long_there old before is
-
-      by_places : (i : ℕ) → i < 64 → ((i ≡ k) × ((i == k) ≡ true)) ⊎ ((i ≢ k) × ((i == k) ≡ false)) → ((i ≡ j) × ((i == j) ≡ true)) ⊎ ((i ≢ j) × ((i == j) ≡ false))
-          → (if i == k then cell_in old j else (if i == j then None else cell_in old i)) ≡ get_or (set (set before j None) k (get_or before j None)) i None
-      by_places i low h v = grind (arith, cell_there, get_or-set_at, set, get_or, length-set, long, get_or-set_other)
+      by_place : (i : ℕ) → i < 64 → (v : Bool) → (i == k) ≡ v → BitsOf new i (cell_in new i)
+      by_place i low true e =
+          subst (BitsOf new i) (sym (bits_put i low true e))
+          (record {
+            straight = straight.of i low ∙ (ap (λ v. if v then one else has old.straight i) e ∙ a);
+            diagonal = diagonal.of i low ∙ (ap (λ v. if v then two else has old.diagonal i) e ∙ b);
+            near = near.of i low ∙ (ap (λ v. if v then four else has old.near i) e ∙ c);
+            black = blacks.of i low ∙ (ap (λ v. if v then black else has old.black i) e ∙ d);
+          })
+      by_place i low false e =
+          let kept : BitsOf old i (cell_in old i) = cell_bits old i low h in
+          subst (BitsOf new i) (sym (bits_put i low false e))
+          (record {
+            straight = straight.of i low ∙ (ap (λ v. if v then one else has old.straight i) e ∙ kept.straight);
+            diagonal = diagonal.of i low ∙ (ap (λ v. if v then two else has old.diagonal i) e ∙ kept.diagonal);
+            near = near.of i low ∙ (ap (λ v. if v then four else has old.near i) e ∙ kept.near);
+            black = blacks.of i low ∙ (ap (λ v. if v then black else has old.black i) e ∙ kept.black);
+          })

@@ -1,23 +1,7 @@
 -- The candidates of one kind are different squares, and at most eight.
-use Rattle.std.proofs.Common.{◌≡◌, ℕ, ◌<◌, ◌≤◌, Bool, true, false, ◌&&◌, eqb, List, map, length, Decides, ◌⊎◌, inl, inr, refl, sym, ap, subst, arith}
-use Rattle.std.specs.Prelude.{None, Some, filter, AllPairs, ◌≢◌, if◌then◌else◌, nat_le, nat_lt}
-use Rattle.std.specs.List.{list_all, IsDistinct}
-use Rattle.std.specs.Cmp.{IsEquivalence}
-use Rattle.std.proofs.lemmas.Bool.Decides.{nat_tests}
-use Rattle.std.proofs.lemmas.Cmp.{nat_eq_equiv}
-use Rattle.std.proofs.lemmas.Map.Made.{IsDistinct-from_count, AllPairs-from_IsDistinct}
-use Rattle.chess_rules.specs.declared.piece.Kind.{Kind}
-use Rattle.chess_rules.specs.declared.piece.Kind.TheVariants.{King, Queen, Rook, Bishop, Knight, Pawn}
-use Rattle.chess_rules.specs.declared.position.Parts.{Parts}
-use Rattle.chess_rules.specs.Square.{Square, squares, same_square, is_jump}
-use Rattle.chess_rules.specs.Board.{cell_of}
-use Rattle.chess_rules.specs.Attacks.{is_clear}
-use Rattle.chess_rules.specs.Step.{own}
-use Rattle.chess_rules.specs.Candidate.{sees, is_candidate, candidates}
-use Rattle.chess_rules.specs.Reach.{is_aligned, is_in_view}
-use Rattle.chess_rules.specs.Laws.{FewCandidates}
+use Rattle.chess_rules.proofs.Words.{Kind, King, Queen, Rook, Bishop, Knight, Pawn, Parts, Square, squares, same_square, is_jump, cell_of, is_clear, own, sees, is_candidate, candidates, is_aligned, FewCandidates, ◌≡◌, ℕ, ◌<◌, ◌≤◌, Bool, true, false, ◌&&◌, eqb, List, map, length, Decides, ◌⊎◌, inl, inr, refl, sym, ap, subst, arith, None, Some, filter, AllPairs, ◌≢◌, if◌then◌else◌, nat_le, nat_lt, list_all, IsDistinct, IsEquivalence, leb-true, nat_tests, nat_eq_equiv, IsDistinct-from_count, AllPairs-from_IsDistinct}
 use Rattle.chess_rules.proofs.sets.AllSquares.{second_true, each_square}
-use Rattle.chess_rules.proofs.lines.AttackToReach.{squares_same}
+use Rattle.chess_rules.proofs.lines.AttackToReach.{is_in_view, squares_same}
 use Rattle.chess_rules.proofs.lines.InView.{few_in_view}
 use Rattle.chess_rules.proofs.trying.FoundLists.{keep, filter_as_map, distinct_found, kept_more}
 
@@ -68,9 +52,6 @@ sees_by_way p k s t h = grind arith
 pub kind_cases : (k : Kind) → (is_rider k ≡ true) ⊎ (k ≡ Knight)
 kind_cases k = grind arith
 
-pub sees_unless : (k : Kind) → (k ≡ Knight → ⊥) → is_rider k ≡ true
-sees_unless k h = grind arith
-
 -- They are few.
 
 pub rider_in_view : (p : Parts) (k : Kind) (t s : Square) → is_rider k ≡ true → is_candidate p k t s ≡ true → is_in_view p.board t s ≡ true
@@ -81,10 +62,7 @@ unfolding squares
 jumps_are_few = refl
 
 pub few_jumps : (t : Square) → t.file < 8 → t.rank < 8 → length (filter (λ s. is_jump s t) squares) ≤ 8
-few_jumps t file rank = at_most (length (filter (λ s. is_jump s t) squares)) (each_square (λ t. nat_le (length (filter (λ s. is_jump s t) squares)) 8) t jumps_are_few file rank)
-  where
-    at_most : (n : ℕ) → nat_le n 8 ≡ true → n ≤ 8
-    at_most n h = grind arith
+few_jumps t file rank = leb-true _ _ (each_square (λ t. nat_le (length (filter (λ s. is_jump s t) squares)) 8) t jumps_are_few file rank)
 
 pub few_candidates : FewCandidates
 few_candidates p k t inside =

@@ -1,6 +1,5 @@
 -- What is found by a test or a filter: no element twice, and how many.
-use Rattle.std.proofs.Common.{◌≡◌, ℕ, ◌+◌, ◌≤◌, Bool, true, false, cond, eqb, ◌&&◌, ◌||◌, List, [], ◌∷◌, map, length, Option, None, Some, refl, ◌∙◌, ap, arith}
-use Rattle.std.specs.List.{list_any, list_all, filter, filter_map, cons_option, AllByRecursion, IsDistinct}
+use Rattle.chess_rules.proofs.Words.{◌≡◌, ℕ, ◌+◌, ◌≤◌, Bool, true, false, cond, eqb, ◌&&◌, ◌||◌, List, [], ◌∷◌, map, length, Option, None, Some, refl, ◌∙◌, ap, arith, list_any, list_all, filter, filter_map, cons_option, AllByRecursion, IsDistinct}
 use Rattle.chess_rules.proofs.sets.AllSquares.{first_true, second_true}
 
 -- What is found passes a test.

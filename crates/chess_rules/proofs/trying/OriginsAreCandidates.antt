@@ -1,20 +1,5 @@
 -- The origin of each legal move is a candidate.
-use Rattle.std.proofs.Common.{◌≡◌, ℕ, ◌+◌, ◌/◌, ◌<◌, true, not, ◌&&◌, ◌||◌, inl, inr, refl, sym, ap₂, subst, arith}
-use Rattle.std.specs.Prelude.{◌==◌, is_none}
-use Rattle.std.proofs.lemmas.Bool.Decides.{nat_tests}
-use Rattle.std.proofs.lemmas.Bool.{or_cases, or_left, or_right, and_from}
-use Rattle.chess_rules.specs.declared.piece.Colour.{Colour}
-use Rattle.chess_rules.specs.declared.piece.Kind.{Kind}
-use Rattle.chess_rules.specs.declared.piece.Kind.TheVariants.{Pawn}
-use Rattle.chess_rules.specs.declared.position.Move.{Move}
-use Rattle.chess_rules.specs.declared.position.Parts.{Parts}
-use Rattle.chess_rules.specs.Square.{Square, square, gap, inside, same_square, strictly_between, between_on_rank}
-use Rattle.chess_rules.specs.Board.{Board, at, is_empty, has_colour}
-use Rattle.chess_rules.specs.Attacks.{is_clear, is_ahead, kind_attacks, attacks}
-use Rattle.chess_rules.specs.Step.{own, home, home_rank, pawn_rank, double_rank, is_advance, is_double_step, is_pawn_step, promotion_fits, is_target, crossed, short_right, long_right, short_wing, long_wing, Wing}
-use Rattle.chess_rules.specs.Candidate.{sees}
-use Rattle.chess_rules.specs.Reach.{is_aligned}
-use Rattle.chess_rules.specs.Laws.{CandidatesComplete}
+use Rattle.chess_rules.proofs.Words.{Colour, Kind, Pawn, Move, Parts, Square, square, gap, inside, same_square, strictly_between, between_on_rank, Board, at, is_empty, has_colour, is_clear, is_ahead, kind_attacks, attacks, own, home, home_rank, pawn_rank, double_rank, is_advance, is_double_step, is_pawn_step, promotion_fits, is_target, crossed, short_right, long_right, short_wing, long_wing, Wing, sees, is_aligned, CandidatesComplete, ◌≡◌, ℕ, ◌+◌, ◌/◌, ◌<◌, true, not, ◌&&◌, ◌||◌, inl, inr, refl, sym, ap₂, subst, arith, ◌==◌, is_none, nat_tests, or_cases, or_left, or_right, and_from}
 use Rattle.chess_rules.proofs.sets.AllSquares.{first_true, second_true, each_square, equal_from, equal_tests, not_true}
 use Rattle.chess_rules.proofs.lines.AttackToReach.{near, ahead_gap, attack_seen, clear_if}
 use Rattle.chess_rules.proofs.moves.StepsKeepBoard.{attacks_as, double_ranks, Castles, castles_means}

@@ -1,31 +1,14 @@
 -- How many pairs there are: the king's single steps and the others, target by target, and at most
 -- sixteen for each.
-use Rattle.std.proofs.Common.{◌≡◌, ℕ, zero, suc, ◌+◌, ◌*◌, ◌<◌, ◌≤◌, Bool, true, false, not, cond, ◌&&◌, ◌||◌, List, [], ◌∷◌, map, length, inl, inr, refl, sym, ◌∙◌, ap, subst, arith}
-use Rattle.std.specs.Prelude.{Option, is_some, filter}
-use Rattle.std.specs.List.{list_any, sum_by, range_with_len, IsDistinct}
-use Rattle.std.proofs.lemmas.List.Folds.{fold-map}
-use Rattle.std.proofs.lemmas.List.Sums.{sum_by-cons, sum_by-le-sum_by}
-use Rattle.std.proofs.lemmas.Map.Made.{length-from_same_keys}
-use Rattle.chess_rules.specs.declared.piece.Kind.{Kind}
-use Rattle.chess_rules.specs.declared.piece.Kind.TheVariants.{King, Queen, Rook, Bishop, Knight, Pawn}
-use Rattle.chess_rules.specs.declared.piece.Piece.{Piece}
-use Rattle.chess_rules.specs.declared.position.Parts.{Parts}
-use Rattle.chess_rules.specs.Square.{Square, squares, same_square, is_adjacent, is_jump}
-use Rattle.chess_rules.specs.Board.{at, same_kind, has_colour, has_piece}
-use Rattle.chess_rules.specs.Attacks.{is_clear}
-use Rattle.chess_rules.specs.Step.{own}
-use Rattle.chess_rules.specs.Candidate.{sees, is_candidate, candidates, kinds, pair_count}
-use Rattle.chess_rules.specs.Reach.{is_aligned, is_in_view, king_square, square_at}
-use Rattle.chess_rules.specs.Pairs.{is_king_step, is_untried, count_untried, count_king_steps, count_others}
+use Rattle.chess_rules.proofs.Words.{Kind, King, Queen, Rook, Bishop, Knight, Pawn, Piece, Parts, Square, squares, same_square, is_adjacent, is_jump, at, same_kind, has_colour, has_piece, is_clear, own, sees, is_candidate, candidates, kinds, pair_count, is_aligned, king_square, square_at, is_king_step, is_untried, count_untried, count_king_steps, ◌≡◌, ℕ, zero, suc, ◌+◌, ◌*◌, ◌<◌, ◌≤◌, Bool, true, false, not, cond, ◌&&◌, ◌||◌, List, [], ◌∷◌, map, length, inl, inr, refl, sym, ◌∙◌, ap, subst, arith, Option, is_some, filter, list_any, sum_by, range_with_len, IsDistinct, fold-map, sum_by-cons, sum_by-le-sum_by, length-from_same_keys, or_cases, or_left, and_from}
 use Rattle.chess_rules.proofs.sets.AllSquares.{first_true, second_true, same_tests, Passes, some_square, any_square}
 use Rattle.chess_rules.proofs.positions.OneKing.{StandsAt, king_stands, king_only_there}
 use Rattle.chess_rules.proofs.positions.RulesOfPosition.{Sound}
 use Rattle.chess_rules.proofs.moves.CellsAfterPut.{OnBoard}
-use Rattle.chess_rules.proofs.lines.AttackToReach.{attack_seen}
+use Rattle.chess_rules.proofs.lines.AttackToReach.{attack_seen, is_in_view}
 use Rattle.chess_rules.proofs.trying.FoundLists.{list_any-filter}
 use Rattle.chess_rules.proofs.lines.InView.{few_in_view}
 use Rattle.chess_rules.proofs.trying.CandidatesAreFew.{square_laws, candidates_apart, few_jumps}
-use Rattle.std.proofs.lemmas.Bool.{or_cases, or_left, and_from}
 
 -- Sums.
 
@@ -221,8 +204,8 @@ pair_count_is : (p : Parts) → pair_count p ≡ sum_by (λ i. of_target p (squa
 unfolding pair_count
 pair_count_is p = ap (sum_by (of_target p)) squares_are ∙ fold-map (λ n t. n + of_target p t) square_at 0 indexes
 
-pub pair_count_parts : (p : Parts) → Sound p → count_king_steps p + count_others p ≡ pair_count p
-unfolding count_king_steps count_others pair_count
+pub pair_count_parts : (p : Parts) → Sound p → count_king_steps p + sum_by (count_untried p) squares ≡ pair_count p
+unfolding count_king_steps pair_count
 pair_count_parts p sound =
     sym (sum_same (of_target p) (λ t. bit (is_king_step p t) + count_untried p t) squares (λ t. target_parts p t sound)
     ∙ (sum_both (λ t. bit (is_king_step p t)) (count_untried p) squares

@@ -1,29 +1,12 @@
 -- Whether a pair is legal does not depend on what a pawn becomes: the piece that arrives is no king
 -- and is there, whichever it is.
-use Rattle.std.proofs.Common.{◌≡◌, ℕ, ◌<◌, Bool, true, false, not, ◌&&◌, ◌||◌, inl, inr, refl, sym, ◌∙◌, ap, ap₂, subst, arith, length}
-use Rattle.std.specs.Prelude.{Option, None, Some, is_none, is_some, option_map, ◌==◌, if◌then◌else◌}
-use Rattle.std.specs.List.{list_any, list_all}
-use Rattle.chess_rules.specs.declared.piece.Colour.{Colour}
-use Rattle.chess_rules.specs.declared.piece.Kind.TheVariants.{King, Rook, Pawn}
-use Rattle.chess_rules.specs.declared.piece.Piece.{Piece}
-use Rattle.chess_rules.specs.declared.piece.Promotion.{Promotion}
+use Rattle.chess_rules.proofs.Words.{Colour, King, Rook, Pawn, Piece, Promotion, Move, Parts, Square, squares, on_board, strictly_between, Board, at, put, some_piece, is_empty, other, has_colour, has_piece, is_clear, cell_attacks, attacks, is_attacked, king_attacked, is_position, own, home, last_rank, is_on_board, is_pawn_way, promotion_fits, is_target, short_right, long_right, short_wing, long_wing, captured_pawn, kind_of, carried, en_passant_board, castled, board_after, after, legal, is_legal, if_safe, one_move, is_legal_pair, PromotionsAlike, ◌≡◌, ℕ, ◌<◌, Bool, true, false, not, ◌&&◌, ◌||◌, inl, inr, refl, sym, ◌∙◌, ap, ap₂, subst, arith, length, Option, None, Some, is_none, is_some, option_map, ◌==◌, if◌then◌else◌, list_any, list_all, not-true}
 use Rattle.chess_rules.specs.declared.piece.Promotion.TheVariants as promotions
-use Rattle.chess_rules.specs.declared.position.Move.{Move}
-use Rattle.chess_rules.specs.declared.position.Parts.{Parts}
-use Rattle.chess_rules.specs.Square.{Square, squares, on_board, strictly_between}
-use Rattle.chess_rules.specs.Board.{Board, at, put, some_piece, is_empty, other, has_colour, has_piece}
-use Rattle.chess_rules.specs.Attacks.{is_clear, cell_attacks, attacks, is_attacked, king_attacked}
-use Rattle.chess_rules.specs.Position.{is_position}
-use Rattle.chess_rules.specs.Step.{own, home, last_rank, is_on_board, is_pawn_way, promotion_fits, is_target, short_right, long_right, short_wing, long_wing, captured_pawn, kind_of, carried, en_passant_board, castled, board_after, after}
-use Rattle.chess_rules.specs.Legal.{legal, is_legal, if_safe}
-use Rattle.chess_rules.specs.Pairs.{one_move, is_legal_pair}
-use Rattle.chess_rules.specs.Laws.{PromotionsAlike}
 use Rattle.chess_rules.proofs.sets.AllSquares.{first_true, second_true, same_tests, Passes, some_square, any_square, each_square, all_squares}
 use Rattle.chess_rules.proofs.moves.CellsAfterPut.{OnBoard, at_put, length-put}
 use Rattle.chess_rules.proofs.moves.StepsKeepBoard.{other-other, castles_means, home_below}
 use Rattle.chess_rules.proofs.moves.LegalToPosition.{on_board_means, way_of, Legal, legal_means}
 use Rattle.chess_rules.proofs.trying.FoundLists.{passes}
-use Rattle.std.proofs.lemmas.Bool.{not-true}
 
 -- Two boards that differ in pieces of one colour alone, none of them a king, attack that colour's
 -- king alike.

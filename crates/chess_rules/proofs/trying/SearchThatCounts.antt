@@ -1,59 +1,47 @@
 -- A search that counts, step by step.
-use Rattle.std.proofs.Common.{◌≡◌, ℕ, ◌+◌, ◌<◌, ◌≤◌, Bool, true, false, ◌||◌, ◌∷◌, length, sym, ◌∙◌, ap, arith}
-use Rattle.std.specs.List.{list_any, sum_by}
-use Rattle.std.proofs.lemmas.List.Sums.{sum_by-cons}
-use Rattle.chess_rules.specs.Square.{Square}
-use Rattle.chess_rules.specs.Words.{members, HasNone}
-use Rattle.chess_rules.specs.Pairs.{Counts}
+use Rattle.chess_rules.proofs.Words.{Square, members, HasNone, Counts, ◌≡◌, ℕ, ◌+◌, ◌<◌, ◌≤◌, Bool, true, false, ◌||◌, List, ◌∷◌, length, sym, ◌∙◌, ap, arith, list_any, sum_by, sum_by-cons}
 
 pub counts_exactly : (found : Bool) (old new whole : ℕ) → (found ≡ true → 0 < whole) → new ≡ old + whole → Counts found old new whole
 counts_exactly found old new whole one h = grind arith
 
--- two searches, one after the other
-pub counts_then : (found : Bool) (old now new first second : ℕ) → now ≡ old + first → Counts found now new second → Counts found old new (first + second)
-counts_then found old now new first second h w = grind arith
+-- The squares of a list, one by one, while a set has those that are left.
 
-pub counts_first : (found : Bool) (old new first second : ℕ) → found ≡ true → Counts found old new first → Counts found old new (first + second)
-counts_first found old new first second h w = grind arith
-
--- The members of a set, one by one.
-
-module _ (test : Square → Bool) (set : ℕ) where
+module _ (test : Square → Bool) (whole : List Square) where
   -- no member so far passed, each was counted, and these are left
   pub record LeftOf (left old now : ℕ) : Type 0 where
     pub rises : old ≤ now
-    pub counted : now + length (members left) ≡ old + length (members set)
-    pub same : list_any test (members left) ≡ list_any test (members set)
+    pub counted : now + length (members left) ≡ old + length whole
+    pub same : list_any test (members left) ≡ list_any test whole
 
   module _ (left rest old now : ℕ) (s : Square) (next : members left ≡ s ∷ members rest) (w : LeftOf left old now) where
-    pub left_fits : (limit : ℕ) → old + length (members set) < limit → now + 1 < limit
+    pub left_fits : (limit : ℕ) → old + length whole < limit → now + 1 < limit
     left_fits limit room = omega (arith, room, w.counted, ap length next)
 
     pub fewer_left : (later : ℕ) → test s ≡ false → later ≡ now + 1 → LeftOf rest old later
     fewer_left later misses one = grind arith
 
-    pub left_hit : (later : ℕ) → test s ≡ true → later ≡ now + 1 → (true ≡ list_any test (members set)) × Counts true old later (length (members set))
+    pub left_hit : (later : ℕ) → test s ≡ true → later ≡ now + 1 → (true ≡ list_any test whole) × Counts true old later (length whole)
     left_hit later passes one = grind arith
 
-  pub none_left : (left old now : ℕ) → LeftOf left old now → HasNone left → (false ≡ list_any test (members set)) × Counts false old now (length (members set))
+  pub none_left : (left old now : ℕ) → LeftOf left old now → HasNone left → (false ≡ list_any test whole) × Counts false old now (length whole)
   none_left left old now w none = (
     ap (list_any test) (sym none.none) ∙ w.same,
-    counts_exactly false old now (length (members set)) (λ found. cc) (omega (arith, w.counted, ap length none.none)),
+    counts_exactly false old now (length whole) (λ found. cc) (omega (arith, w.counted, ap length none.none)),
   )
 
 -- The same, where a member costs some pairs.
 
-module _ (test : Square → Bool) (cost : Square → ℕ) (set : ℕ) where
+module _ (test : Square → Bool) (cost : Square → ℕ) (whole : List Square) where
   pub record TargetsLeft (left old now : ℕ) : Type 0 where
     pub rises : old ≤ now
-    pub counted : now + sum_by cost (members left) ≡ old + sum_by cost (members set)
-    pub same : list_any test (members left) ≡ list_any test (members set)
+    pub counted : now + sum_by cost (members left) ≡ old + sum_by cost whole
+    pub same : list_any test (members left) ≡ list_any test whole
 
   module _ (left rest old now : ℕ) (s : Square) (next : members left ≡ s ∷ members rest) (w : TargetsLeft left old now) where
     next_counted : sum_by cost (members left) ≡ cost s + sum_by cost (members rest)
     next_counted = ap (sum_by cost) next ∙ sum_by-cons cost s (members rest)
 
-    pub target_fits : (limit : ℕ) → old + sum_by cost (members set) < limit → now + cost s < limit
+    pub target_fits : (limit : ℕ) → old + sum_by cost whole < limit → now + cost s < limit
     target_fits limit room = omega (arith, room, w.counted, next_counted)
 
     pub fewer_targets : (hit : Bool) (later : ℕ) → hit ≡ test s → hit ≡ false → Counts hit now later (cost s) → TargetsLeft rest old later
@@ -64,7 +52,7 @@ module _ (test : Square → Bool) (cost : Square → ℕ) (set : ℕ) where
           same = ap (λ v. v || list_any test (members rest)) (sym misses ∙ tested) ∙ (ap (list_any test) (sym next) ∙ w.same);
         }
 
-    pub target_hit : (hit : Bool) (later : ℕ) → hit ≡ test s → hit ≡ true → Counts hit now later (cost s) → (true ≡ list_any test (members set)) × Counts true old later (sum_by cost (members set))
+    pub target_hit : (hit : Bool) (later : ℕ) → hit ≡ test s → hit ≡ true → Counts hit now later (cost s) → (true ≡ list_any test whole) × Counts true old later (sum_by cost whole)
     target_hit hit later tested passes more = (
       ap (λ v. v || list_any test (members rest)) (sym passes ∙ tested) ∙ (ap (list_any test) (sym next) ∙ w.same),
       record {
@@ -75,9 +63,9 @@ module _ (test : Square → Bool) (cost : Square → ℕ) (set : ℕ) where
       },
     )
 
-  pub no_target : (left old now : ℕ) → TargetsLeft left old now → HasNone left → (false ≡ list_any test (members set)) × Counts false old now (sum_by cost (members set))
+  pub no_target : (left old now : ℕ) → TargetsLeft left old now → HasNone left → (false ≡ list_any test whole) × Counts false old now (sum_by cost whole)
   no_target left old now w none = (
     ap (list_any test) (sym none.none) ∙ w.same,
-    counts_exactly false old now (sum_by cost (members set)) (λ found. cc)
+    counts_exactly false old now (sum_by cost whole) (λ found. cc)
         (let e : sum_by cost (members left) ≡ 0 = ap (sum_by cost) none.none in omega (arith, w.counted, e)),
   )

@@ -1,29 +1,15 @@
 -- The sets whose members are tried have the pairs of the definitions.
-use Rattle.std.proofs.Common.{◌≡◌, ℕ, ◌+◌, ◌<◌, Bool, true, not, cond, ◌&&◌, ◌||◌, List, [], ◌∷◌, refl, sym, ◌∙◌, ap, arith}
-use Rattle.std.specs.Prelude.{filter}
-use Rattle.std.specs.List.{list_any, sum_by}
-use Rattle.std.proofs.lemmas.List.Sums.{sum_by-cons}
-use Rattle.chess_rules.specs.declared.piece.Colour.{Colour}
-use Rattle.chess_rules.specs.declared.piece.Kind.TheVariants.{King, Knight}
-use Rattle.chess_rules.specs.declared.position.Parts.{Parts}
-use Rattle.chess_rules.specs.Square.{Square, squares, is_adjacent}
-use Rattle.chess_rules.specs.Board.{Board, at, cell_of, has_colour}
-use Rattle.chess_rules.specs.Step.{own}
-use Rattle.chess_rules.specs.Attacks.{is_clear}
-use Rattle.chess_rules.specs.Reach.{is_aligned, king_square}
-use Rattle.chess_rules.specs.Words.{has, members, Marks, Meets, Misses, Places}
-use Rattle.chess_rules.specs.Pairs.{is_king_step, is_without_tried_king, is_untried_aligned}
+use Rattle.chess_rules.proofs.Words.{Colour, King, Knight, Parts, Square, squares, is_adjacent, Board, at, cell_of, has_colour, own, is_clear, is_aligned, king_square, Bits, has, members, Places, is_king_step, is_untried_aligned, ◌≡◌, ℕ, ◌+◌, ◌<◌, Bool, true, not, cond, ◌&&◌, ◌||◌, List, [], ◌∷◌, refl, sym, ◌∙◌, ap, arith, filter, list_any, sum_by, sum_by-cons, nat_tests}
 use Rattle.chess_rules.proofs.sets.SetsToSquares.{members_are}
 use Rattle.chess_rules.proofs.positions.OneKing.{cell_of-square_at}
-use Rattle.std.proofs.lemmas.Bool.Decides.{nat_tests}
 
 -- the pieces of the side to move
-pub colour_places : (p : Parts) (d : Colour) (b : Board) (w : ℕ) → d ≡ p.side → b ≡ p.board → Marks w (has_colour d) b → Places w (λ s. has_colour p.side (at p.board s))
+pub colour_places : (p : Parts) (d : Colour) (b : Board) (w : ℕ) → d ≡ p.side → b ≡ p.board → Places w (λ s. has_colour d (at b s)) → Places w (λ s. has_colour p.side (at p.board s))
 colour_places p d b w side board h = grind arith
 
 -- The king's steps that are tried first.
 
-pub steps_are : (p : Parts) (k : Square) (near owns rest steps : ℕ) → k ≡ king_square p.side p.board → Misses owns rest → Meets near rest steps
+pub steps_are : (p : Parts) (k : Square) (near owns rest steps : ℕ) → k ≡ king_square p.side p.board → Bits rest (λ i. not (has owns i)) → Bits steps (λ i. has near i && has rest i)
     → Places near (λ s. is_adjacent s k) → Places owns (λ s. has_colour p.side (at p.board s)) → Places steps (is_king_step p)
 steps_are p k near owns rest steps king misses meets h g = grind arith
 
@@ -32,13 +18,13 @@ step_tried p t w place r h is file rank e = grind (arith, nat_tests)
 
 -- The pieces that are still to be tried for a target.
 
-pub king_left_out : (p : Parts) (t : Square) (pieces kings rest left : ℕ) → is_king_step p t ≡ true → Misses kings rest → Meets pieces rest left
-    → Places kings (own p King) → Places left (is_without_tried_king p pieces t)
+pub king_left_out : (p : Parts) (t : Square) (pieces kings rest left : ℕ) → is_king_step p t ≡ true → Bits rest (λ i. not (has kings i)) → Bits left (λ i. has pieces i && has rest i)
+    → Places kings (own p King) → Places left (λ s. has pieces (cell_of s) && not (is_king_step p t && own p King s))
 king_left_out p t pieces kings rest left step misses meets h = grind (arith, cell_of-square_at)
 
 pub aligned_left : (p : Parts) (t : Square) (b : Board) (owns knights rest others lines pieces left clear : ℕ) → b ≡ p.board
-    → Misses knights rest → Meets owns rest others → Meets others lines pieces → Places owns (λ s. has_colour p.side (at p.board s)) → Places knights (own p Knight) → Places lines (λ s. is_aligned s t)
-    → Places left (is_without_tried_king p pieces t)
+    → Bits rest (λ i. not (has knights i)) → Bits others (λ i. has owns i && has rest i) → Bits pieces (λ i. has others i && has lines i) → Places owns (λ s. has_colour p.side (at p.board s)) → Places knights (own p Knight) → Places lines (λ s. is_aligned s t)
+    → Places left (λ s. has pieces (cell_of s) && not (is_king_step p t && own p King s))
     → Places clear (λ s. has left (cell_of s) && is_clear b s t)
     → Places clear (is_untried_aligned p t)
 aligned_left p t b owns knights rest others lines pieces left clear board misses meets both of_owns of_knights of_lines of_left of_clear = grind (arith, cell_of-square_at)
@@ -67,14 +53,14 @@ sum_parts cost kept (x ∷ xs) = by_test (kept x) (filter kept xs) (filter (λ s
         → sum_by cost (cond v (x ∷ a) a) + sum_by cost (cond (not v) (x ∷ b) b) ≡ cost x + sum_by cost xs
     by_test v a b e = grind (arith, sum_by-cons)
 
-others : (w r : ℕ) → Misses w r → members r ≡ filter (λ s. not (has w (cell_of s))) squares
+others : (w r : ℕ) → Bits r (λ i. not (has w i)) → members r ≡ filter (λ s. not (has w (cell_of s))) squares
 others w r rest = members_are r (λ s. not (has w (cell_of s))) (λ i low. rest.of i low ∙ ap (λ j. not (has w j)) (sym (cell_of-square_at i)))
 
-pub any_both : (test : Square → Bool) (w r : ℕ) → Misses w r → (list_any test (members w) || list_any test (members r)) ≡ list_any test squares
+pub any_both : (test : Square → Bool) (w r : ℕ) → Bits r (λ i. not (has w i)) → (list_any test (members w) || list_any test (members r)) ≡ list_any test squares
 unfolding members
 any_both test w r rest =
     ap (λ xs. list_any test (members w) || list_any test xs) (others w r rest) ∙ any_parts test (λ s. has w (cell_of s)) squares
 
-pub sum_both_sets : (cost : Square → ℕ) (w r : ℕ) → Misses w r → sum_by cost (members w) + sum_by cost (members r) ≡ sum_by cost squares
+pub sum_both_sets : (cost : Square → ℕ) (w r : ℕ) → Bits r (λ i. not (has w i)) → sum_by cost (members w) + sum_by cost (members r) ≡ sum_by cost squares
 unfolding members
 sum_both_sets cost w r rest = grind (arith, others, sum_parts)

@@ -1,5 +1,4 @@
-use Rattle.std.proofs.Common.{length, ap, arith}
-use Rattle.chess_rules.specs.Attacks.{is_clear}
+use Rattle.chess_rules.proofs.Words.{is_clear, length, ap, arith}
 use Rattle.chess_rules.proofs.lines.ClearWays.{none_left}
 use Rattle.chess_rules.proofs.attack.clear_among.Goals as goal
 

@@ -1,6 +1,4 @@
-use Rattle.std.proofs.Common.{length}
-use Rattle.chess_rules.specs.Attacks.{is_clear}
-use Rattle.chess_rules.specs.Words.{members}
+use Rattle.chess_rules.proofs.Words.{is_clear, members, length}
 use Rattle.chess_rules.proofs.lines.ClearWays.{Keeps}
 use Rattle.chess_rules.proofs.attack.clear_among.Given as goal
 

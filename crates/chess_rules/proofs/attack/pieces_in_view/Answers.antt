@@ -1,4 +1,4 @@
-use Rattle.chess_rules.specs.Reach.{is_steep}
+use Rattle.chess_rules.proofs.Words.{is_steep}
 use Rattle.chess_rules.proofs.lines.InView.{line_of_set, on_falling, on_file, on_rank, on_rising, view_places}
 use Rattle.chess_rules.proofs.lines.LinesThrough.{falling_line, file_line, rank_line, rising_line}
 use Rattle.chess_rules.proofs.sets.SetsToSquares.{places_and, places_not}
@@ -9,14 +9,14 @@ nearest-requires c =
     let t = c.args.target in
     let tf = c.recall_invariant.ensures.file in
     line_of_set (on_file t) t _ tf c.recall_invariant.ensures.rank (file_line t tf)
-    (places_and _ _ _ _ _ c.bitand.ensures c.lines-lines.ensures c.steep-steep.ensures)
+    (places_and _ _ _ _ _ c.bitand.ensures c.rank_and_file-rank_and_file.ensures c.steep-steep.ensures)
 
 pub nearest-requires-2 : goal.nearest-requires-2
 nearest-requires-2 c =
     let t = c.args.target in
     let tf = c.recall_invariant.ensures.file in
     line_of_set (on_rank t) t _ tf c.recall_invariant.ensures.rank (rank_line t tf)
-    (places_and _ _ _ _ _ c.bitand-2.ensures c.lines-lines.ensures (places_not _ _ _ c.not.ensures c.steep-steep.ensures))
+    (places_and _ _ _ _ _ c.bitand-2.ensures c.rank_and_file-rank_and_file.ensures (places_not _ _ _ c.not.ensures c.steep-steep.ensures))
 
 pub nearest-requires-3 : goal.nearest-requires-3
 nearest-requires-3 c =
@@ -37,8 +37,8 @@ returns c =
     let t = c.args.target in
     view_places c.args.board.now t
     _ _ _ _ c.nearest.result c.nearest-2.result c.nearest-3.result c.nearest-4.result c.bitor.result c.bitor-2.result c.bitor-3.result c.bitor.ensures c.bitor-2.ensures c.bitor-3.ensures c.recall_invariant.ensures.file c.recall_invariant.ensures.rank
-    (places_and _ _ _ _ _ c.bitand.ensures c.lines-lines.ensures c.steep-steep.ensures)
-    (places_and _ _ _ _ _ c.bitand-2.ensures c.lines-lines.ensures (places_not _ _ (λ s. is_steep s t) c.not.ensures c.steep-steep.ensures))
+    (places_and _ _ _ _ _ c.bitand.ensures c.rank_and_file-rank_and_file.ensures c.steep-steep.ensures)
+    (places_and _ _ _ _ _ c.bitand-2.ensures c.rank_and_file-rank_and_file.ensures (places_not _ _ (λ s. is_steep s t) c.not.ensures c.steep-steep.ensures))
     (places_and _ _ _ _ _ c.bitand-3.ensures c.diagonals-diagonals.ensures c.steep-steep.ensures)
     (places_and _ _ _ _ _ c.bitand-4.ensures c.diagonals-diagonals.ensures (places_not _ _ (λ s. is_steep s t) c.not-2.ensures c.steep-steep.ensures))
     c.nearest.ensures c.nearest-2.ensures c.nearest-3.ensures c.nearest-4.ensures

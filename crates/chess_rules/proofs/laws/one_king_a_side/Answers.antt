@@ -1,8 +1,4 @@
-use Rattle.std.proofs.Common.{arith, true, ◌≡◌}
-use Rattle.chess_rules.specs.declared.piece.Colour.{Colour}
-use Rattle.chess_rules.specs.declared.piece.Kind.TheVariants.{King}
-use Rattle.chess_rules.specs.Square.{Square, on_board}
-use Rattle.chess_rules.specs.Board.{Board, at, has_piece}
+use Rattle.chess_rules.proofs.Words.{Colour, King, Square, on_board, Board, at, has_piece, arith, true, ◌≡◌}
 use Rattle.chess_rules.proofs.positions.OneKing.{StandsAt, king_only_there}
 use Rattle.chess_rules.proofs.positions.RulesOfPosition.{Sound, sound_from_position}
 use Rattle.chess_rules.proofs.laws.one_king_a_side.Goals as goal

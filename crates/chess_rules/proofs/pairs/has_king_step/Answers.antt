@@ -1,24 +1,39 @@
-use Rattle.std.proofs.Common.{arith, ◌≡◌, ◌+◌, ◌<◌, ◌^◌, length, sym, ap, subst}
-use Rattle.std.specs.Prelude.{filter}
-use Rattle.chess_rules.specs.Square.{squares}
-use Rattle.chess_rules.specs.Pairs as spec
-use Rattle.chess_rules.specs.Pairs.{has_king_step, count_king_steps}
-use Rattle.chess_rules.specs.Words.{members}
+use Rattle.chess_rules.proofs.Words.{king_square, is_legal_pair, is_king_step, has_king_step, count_king_steps, ◌+◌, length, ap, arith, list_any}
 use Rattle.chess_rules.proofs.sets.SetsToSquares.{members_are}
+use Rattle.chess_rules.proofs.trying.SearchThatCounts.{left_fits, fewer_left, left_hit, none_left}
 use Rattle.chess_rules.proofs.pairs.has_king_step.Goals as goal
-use Rattle.chess_rules.proofs.pairs.has_king_step.Goals.{After-king_steps}
 
-targets : (c : After-king_steps) → members c.king_steps.result ≡ filter (spec.is_king_step c.args.position.now) squares
-targets c = members_are c.king_steps.result (spec.is_king_step c.args.position.now) c.king_steps.ensures.of
+pub loop-target-init : goal.loop-target-init
+loop-target-init c =
+    let targets = members_are c.king_targets-left.result (is_king_step c.args.position.now) c.king_targets-left.ensures.of in
+    record {
+      rises = omega arith;
+      counted = ap (λ xs. c.args.probes.now + length xs) targets;
+      same = ap (list_any (is_legal_pair c.args.position.now (king_square c.args.position.now.side c.args.position.now.board))) targets;
+    }
 
-pub has_legal_target-requires : goal.has_legal_target-requires
+pub is_legal_pair-requires : goal.is_legal_pair-requires
 unfolding count_king_steps
-has_legal_target-requires c = subst (λ n. c.args.probes.now + n < 2 ^ 32) (sym (ap length (targets c.before))) c.requires
+is_legal_pair-requires c = grind (arith, left_fits)
+
+pub returns-then-is_legal_pair-clause-found : goal.returns-then-is_legal_pair-clause-found
+unfolding has_king_step
+returns-then-is_legal_pair-clause-found c = grind (arith, left_hit)
+
+pub returns-then-is_legal_pair-clause-count : goal.returns-then-is_legal_pair-clause-count
+unfolding count_king_steps
+returns-then-is_legal_pair-clause-count c = grind (arith, left_hit)
+
+pub loop-target-smaller : goal.loop-target-smaller
+loop-target-smaller c = omega (arith, ap length c.in-Some.ensures.next)
+
+pub loop-target-preserved : goal.loop-target-preserved
+loop-target-preserved c = grind (arith, fewer_left)
 
 pub returns-clause-found : goal.returns-clause-found
 unfolding has_king_step
-returns-clause-found c = grind (arith, targets)
+returns-clause-found c = grind (arith, none_left)
 
 pub returns-clause-count : goal.returns-clause-count
 unfolding count_king_steps
-returns-clause-count c = grind (arith, length, targets)
+returns-clause-count c = grind (arith, none_left)

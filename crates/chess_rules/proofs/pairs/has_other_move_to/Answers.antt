@@ -1,11 +1,5 @@
-use Rattle.std.proofs.Common.{◌≡◌, ℕ, Bool, ◌+◌, ◌<◌, ◌^◌, length, sym, ◌∙◌, ap, subst, arith}
-use Rattle.std.specs.Prelude.{filter}
-use Rattle.std.specs.List.{list_any}
-use Rattle.chess_rules.specs.declared.position.Parts.{Parts}
-use Rattle.chess_rules.specs.Square.{Square, squares}
+use Rattle.chess_rules.proofs.Words.{Parts, Square, squares, Counts, has_untried_move, count_untried, is_untried, is_legal_pair, Places, members, ◌≡◌, ℕ, Bool, ◌+◌, ◌<◌, ◌^◌, length, sym, ◌∙◌, ap, subst, arith, filter, list_any}
 use Rattle.chess_rules.specs.Pairs as spec
-use Rattle.chess_rules.specs.Pairs.{Counts, has_untried_move, count_untried, is_untried, is_legal_pair}
-use Rattle.chess_rules.specs.Words.{Places, members}
 use Rattle.chess_rules.proofs.sets.SetsToSquares.{members_are}
 use Rattle.chess_rules.proofs.trying.SearchThatCounts.{target_fits, fewer_targets, target_hit, no_target}
 use Rattle.chess_rules.proofs.pairs.has_other_move_to.Goals as goal
@@ -29,34 +23,34 @@ module _ (p : Parts) (t : Square) (w : ℕ) (origins : Places w (is_untried p t)
 pub loop-target-init : goal.loop-target-init
 loop-target-init c = grind arith
 
-pub has_legal_origin-requires : goal.has_legal_origin-requires
-has_legal_origin-requires c =
+pub has_move_from-requires : goal.has_move_from-requires
+has_move_from-requires c =
     subst (λ n. c.loop-target.probes + n < 2 ^ 32) (sym (many c.args.position.now c.in-Some.target c.untried.result c.untried.ensures))
-    (target_fits (has_untried_move c.args.position.now) (count_untried c.args.position.now) c.args.targets c.loop-target.left c.take_lowest.new.self c.args.probes.now c.loop-target.probes c.in-Some.target
+    (target_fits (has_untried_move c.args.position.now) (count_untried c.args.position.now) (members c.args.targets) c.loop-target.left c.take_lowest.new.self c.args.probes.now c.loop-target.probes c.in-Some.target
     c.in-Some.ensures.next c.loop-target.invariant (2 ^ 32) c.requires)
 
-pub returns-then-has_legal_origin-clause-found : goal.returns-then-has_legal_origin-clause-found
-returns-then-has_legal_origin-clause-found c =
-    (target_hit (has_untried_move c.args.position.now) (count_untried c.args.position.now) c.args.targets c.loop-target.left c.take_lowest.new.self c.args.probes.now c.loop-target.probes c.in-Some.target
-    c.in-Some.ensures.next c.loop-target.invariant c.has_legal_origin.result c.has_legal_origin.new.probes (found c.args.position.now c.in-Some.target c.untried.result c.untried.ensures c.has_legal_origin.result c.has_legal_origin.ensures.found) c.if-has_legal_origin.true (counted c.args.position.now c.in-Some.target c.untried.result c.untried.ensures c.has_legal_origin.result _ _ c.has_legal_origin.ensures.count)).0
+pub returns-then-has_move_from-clause-found : goal.returns-then-has_move_from-clause-found
+returns-then-has_move_from-clause-found c =
+    (target_hit (has_untried_move c.args.position.now) (count_untried c.args.position.now) (members c.args.targets) c.loop-target.left c.take_lowest.new.self c.args.probes.now c.loop-target.probes c.in-Some.target
+    c.in-Some.ensures.next c.loop-target.invariant c.has_move_from.result c.has_move_from.new.probes (found c.args.position.now c.in-Some.target c.untried.result c.untried.ensures c.has_move_from.result c.has_move_from.ensures.found) c.if-has_move_from.true (counted c.args.position.now c.in-Some.target c.untried.result c.untried.ensures c.has_move_from.result _ _ c.has_move_from.ensures.count)).0
 
-pub returns-then-has_legal_origin-clause-count : goal.returns-then-has_legal_origin-clause-count
-returns-then-has_legal_origin-clause-count c =
-    (target_hit (has_untried_move c.args.position.now) (count_untried c.args.position.now) c.args.targets c.loop-target.left c.take_lowest.new.self c.args.probes.now c.loop-target.probes c.in-Some.target
-    c.in-Some.ensures.next c.loop-target.invariant c.has_legal_origin.result c.has_legal_origin.new.probes (found c.args.position.now c.in-Some.target c.untried.result c.untried.ensures c.has_legal_origin.result c.has_legal_origin.ensures.found) c.if-has_legal_origin.true (counted c.args.position.now c.in-Some.target c.untried.result c.untried.ensures c.has_legal_origin.result _ _ c.has_legal_origin.ensures.count)).1
+pub returns-then-has_move_from-clause-count : goal.returns-then-has_move_from-clause-count
+returns-then-has_move_from-clause-count c =
+    (target_hit (has_untried_move c.args.position.now) (count_untried c.args.position.now) (members c.args.targets) c.loop-target.left c.take_lowest.new.self c.args.probes.now c.loop-target.probes c.in-Some.target
+    c.in-Some.ensures.next c.loop-target.invariant c.has_move_from.result c.has_move_from.new.probes (found c.args.position.now c.in-Some.target c.untried.result c.untried.ensures c.has_move_from.result c.has_move_from.ensures.found) c.if-has_move_from.true (counted c.args.position.now c.in-Some.target c.untried.result c.untried.ensures c.has_move_from.result _ _ c.has_move_from.ensures.count)).1
 
 pub loop-target-smaller : goal.loop-target-smaller
 loop-target-smaller c = omega (arith, ap length c.in-Some.ensures.next)
 
 pub loop-target-preserved : goal.loop-target-preserved
 loop-target-preserved c =
-    fewer_targets (spec.has_untried_move c.args.position.now) (spec.count_untried c.args.position.now) c.args.targets c.loop-target.left c.take_lowest.new.self c.args.probes.now c.loop-target.probes c.in-Some.target
-    c.in-Some.ensures.next c.loop-target.invariant c.has_legal_origin.result c.has_legal_origin.new.probes (found c.args.position.now c.in-Some.target c.untried.result c.untried.ensures c.has_legal_origin.result c.has_legal_origin.ensures.found) c.if-has_legal_origin.false (counted c.args.position.now c.in-Some.target c.untried.result c.untried.ensures c.has_legal_origin.result _ _ c.has_legal_origin.ensures.count)
+    fewer_targets (spec.has_untried_move c.args.position.now) (spec.count_untried c.args.position.now) (members c.args.targets) c.loop-target.left c.take_lowest.new.self c.args.probes.now c.loop-target.probes c.in-Some.target
+    c.in-Some.ensures.next c.loop-target.invariant c.has_move_from.result c.has_move_from.new.probes (found c.args.position.now c.in-Some.target c.untried.result c.untried.ensures c.has_move_from.result c.has_move_from.ensures.found) c.if-has_move_from.false (counted c.args.position.now c.in-Some.target c.untried.result c.untried.ensures c.has_move_from.result _ _ c.has_move_from.ensures.count)
 
 pub returns-clause-found : goal.returns-clause-found
 returns-clause-found c =
-    (no_target (spec.has_untried_move c.args.position.now) (spec.count_untried c.args.position.now) c.args.targets c.loop-target.left c.args.probes.now c.loop-target.probes c.loop-target.invariant c.in_default.ensures).0
+    (no_target (spec.has_untried_move c.args.position.now) (spec.count_untried c.args.position.now) (members c.args.targets) c.loop-target.left c.args.probes.now c.loop-target.probes c.loop-target.invariant c.in_default.ensures).0
 
 pub returns-clause-count : goal.returns-clause-count
 returns-clause-count c =
-    (no_target (spec.has_untried_move c.args.position.now) (spec.count_untried c.args.position.now) c.args.targets c.loop-target.left c.args.probes.now c.loop-target.probes c.loop-target.invariant c.in_default.ensures).1
+    (no_target (spec.has_untried_move c.args.position.now) (spec.count_untried c.args.position.now) (members c.args.targets) c.loop-target.left c.args.probes.now c.loop-target.probes c.loop-target.invariant c.in_default.ensures).1

@@ -1,11 +1,4 @@
-use Rattle.std.proofs.Common.{◌≡◌, Bool, true, false, refl, ◌∙◌, arith}
-use Rattle.std.specs.Prelude.{Option, None, Some, is_some, option_map, if◌then◌else◌}
-use Rattle.std.proofs.lemmas.Bool.{false≢true}
-use Rattle.std.proofs.lemmas.Bool.Decides.{nat_tests}
-use Rattle.chess_rules.specs.declared.position.Move.{Move}
-use Rattle.chess_rules.specs.declared.position.Parts.{Parts}
-use Rattle.chess_rules.specs.Board.{Board}
-use Rattle.chess_rules.specs.Step.{after, board_after, is_on_board}
+use Rattle.chess_rules.proofs.Words.{Move, Parts, Board, after, board_after, is_on_board, ◌≡◌, Bool, true, false, refl, ◌∙◌, arith, Option, None, Some, is_some, option_map, if◌then◌else◌, false≢true, nat_tests}
 use Rattle.chess_rules.proofs.step.is_step.Goals as goal
 
 -- on the board, a step is what makes a board

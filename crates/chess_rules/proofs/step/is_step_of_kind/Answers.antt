@@ -1,21 +1,35 @@
-use Rattle.std.proofs.Common.{◌∙◌, sym, ap}
-use Rattle.chess_rules.specs.Step.{castles, short_wing, long_wing}
-use Rattle.chess_rules.specs.declared.step.StepKind.TheVariants.{Plain, EnPassant, ShortCastling, LongCastling}
-use Rattle.chess_rules.proofs.moves.KindsOfSteps.{obeys_if_step}
+use Rattle.chess_rules.proofs.Words.{Pawn, reaches, promotion_fits, castles, short_wing, long_wing, Plain, ShortCastling, LongCastling, ◌≡◌, ◌&&◌, ◌∙◌, sym, ap, arith}
+use Rattle.chess_rules.proofs.moves.KindsOfSteps.{obeys_if_step, passing_rules}
 use Rattle.chess_rules.proofs.step.is_step_of_kind.Goals as goal
+use Rattle.chess_rules.proofs.step.is_step_of_kind.Goals.{then-promotion_fits, else-promotion_fits}
 
 pub returns-in-Plain : goal.returns-in-Plain
-returns-in-Plain c = c.is_plain_step.ensures ∙ obeys_if_step c.args.position.now c.args.mv.now Plain (sym c.in-Plain.is ∙ c.requires)
+returns-in-Plain c = c.is_plain_step.ensures ∙ obeys_if_step c.args.position.now c.args.mv.now Plain (sym c.in-Plain.is ∙ c.requires.kind)
 
-pub returns-in-EnPassant : goal.returns-in-EnPassant
-returns-in-EnPassant c = c.is_en_passant.ensures ∙ obeys_if_step c.args.position.now c.args.mv.now EnPassant (sym c.in-EnPassant.is ∙ c.requires)
+pub returns-then-has : goal.returns-then-has
+returns-then-has c =
+    let p = c.args.position.now in
+    let m = c.args.mv.now in
+    let rules = passing_rules p m (sym c.in-EnPassant.is ∙ c.requires.kind) in
+    let value : c.if-promotion_fits.value ≡ (promotion_fits p m && reaches Pawn p.side m.from m.to) =
+    elim c.if-promotion_fits.branch [ then-promotion_fits w ↦ grind arith | else-promotion_fits w ↦ grind arith ] in
+    grind arith
+
+pub returns-else-has : goal.returns-else-has
+returns-else-has c =
+    let p = c.args.position.now in
+    let m = c.args.mv.now in
+    let rules = passing_rules p m (sym c.in-EnPassant.is ∙ c.requires.kind) in
+    let value : c.if-promotion_fits.value ≡ (promotion_fits p m && reaches Pawn p.side m.from m.to) =
+    elim c.if-promotion_fits.branch [ then-promotion_fits w ↦ grind arith | else-promotion_fits w ↦ grind arith ] in
+    grind arith
 
 pub returns-in-ShortCastling : goal.returns-in-ShortCastling
 returns-in-ShortCastling c =
-    c.castles.ensures ∙ (ap (λ right. castles c.args.position.now c.args.mv.now right short_wing) c.short_right.ensures
-    ∙ obeys_if_step c.args.position.now c.args.mv.now ShortCastling (sym c.in-ShortCastling.is ∙ c.requires))
+    c.castles.ensures ∙ (ap (λ right. castles c.args.position.now c.args.mv.now right short_wing) c.own_rights.ensures.short
+    ∙ obeys_if_step c.args.position.now c.args.mv.now ShortCastling (sym c.in-ShortCastling.is ∙ c.requires.kind))
 
 pub returns-in-LongCastling : goal.returns-in-LongCastling
 returns-in-LongCastling c =
-    c.castles-in-LongCastling.ensures ∙ (ap (λ right. castles c.args.position.now c.args.mv.now right long_wing) c.long_right.ensures
-    ∙ obeys_if_step c.args.position.now c.args.mv.now LongCastling (sym c.in-LongCastling.is ∙ c.requires))
+    c.castles-in-LongCastling.ensures ∙ (ap (λ right. castles c.args.position.now c.args.mv.now right long_wing) c.own_rights-in-LongCastling.ensures.long
+    ∙ obeys_if_step c.args.position.now c.args.mv.now LongCastling (sym c.in-LongCastling.is ∙ c.requires.kind))

@@ -1,8 +1,5 @@
-use Rattle.std.proofs.Common.{◌≡◌, ◌<◌, Bool, refl, ◌∙◌, ap₂, arith}
 use Rattle.chess_rules.specs.declared.board.Board.TheInside.{Inside}
-use Rattle.chess_rules.specs.Square.{Square}
-use Rattle.chess_rules.specs.Board.{Board, at, cell_of}
-use Rattle.chess_rules.specs.Words.{has, cells, coded}
+use Rattle.chess_rules.proofs.Words.{Square, Board, at, cell_of, has, cells, coded, ◌≡◌, ◌<◌, Bool, refl, ◌∙◌, ap₂, arith}
 use Rattle.chess_rules.proofs.sets.WordsToCells.{cell_there}
 use Rattle.chess_rules.proofs.board.Board.at.Goals as goal
 

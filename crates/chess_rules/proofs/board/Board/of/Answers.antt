@@ -1,6 +1,4 @@
-use Rattle.std.proofs.Common.{◌≡◌, length, length-set, get_or, set, take, arith}
-use Rattle.std.specs.Prelude.{None}
-use Rattle.std.proofs.lemmas.List.{take_all, take_more, take_more_set}
+use Rattle.chess_rules.proofs.Words.{◌≡◌, length, length-set, get_or, set, take, arith, None, take_all, take_more, take_more_set}
 use Rattle.chess_rules.proofs.board.Board.of.Goals as goal
 use Rattle.chess_rules.proofs.board.Board.of.Goals.{After-put}
 

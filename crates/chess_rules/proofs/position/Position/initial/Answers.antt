@@ -1,7 +1,4 @@
-use Rattle.std.proofs.Common.{arith, ◌≡◌, true, false, refl}
-use Rattle.chess_rules.specs.Square.{squares}
-use Rattle.chess_rules.specs.Position.{is_position, initial}
-use Rattle.chess_rules.specs.Legal.{is_check}
+use Rattle.chess_rules.proofs.Words.{squares, is_position, initial, is_check, arith, ◌≡◌, true, false, refl}
 use Rattle.chess_rules.proofs.position.Position.initial.Goals as goal
 
 is_first_position : is_position initial ≡ true

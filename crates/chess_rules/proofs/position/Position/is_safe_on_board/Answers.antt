@@ -1,15 +1,13 @@
-use Rattle.std.proofs.Common.{◌∙◌, ap}
-use Rattle.chess_rules.specs.Attacks.{king_attacked}
-use Rattle.chess_rules.proofs.positions.RulesOfPosition.{stored_position}
-use Rattle.chess_rules.proofs.moves.LegalToPosition.{legal_unless_attacked, one_king_after}
+use Rattle.chess_rules.proofs.Words.{other, is_attacked, king_square, ◌≡◌, ◌∙◌, ap, ap₂, subst, IfSome}
+use Rattle.chess_rules.proofs.positions.RulesOfPosition.{stored}
+use Rattle.chess_rules.proofs.moves.LegalToPosition.{legal_unless_attacked}
 use Rattle.chess_rules.proofs.position.Position.is_safe_on_board.Goals as goal
-
-pub is_king_attacked-requires : goal.is_king_attacked-requires
-is_king_attacked-requires c =
-    one_king_after c.args.self.now c.args.mv.now c.board_after.result c.self.inside.side
-    (stored_position c.self.inside c.args.self.now c.self.invariant c.self.view_is) c.requires.on_board c.board_after.ensures
 
 pub returns : goal.returns
 returns c =
-    legal_unless_attacked c.args.self.now c.args.mv.now c.board_after.result c.is_king_attacked.result c.requires.on_board c.board_after.ensures
-    (c.is_king_attacked.ensures ∙ ap (λ p. king_attacked c.board_after.result p.side) c.self.view_is)
+    let p = c.args.self.now in
+    let s = stored c.self.inside p c.self.invariant c.self.view_is in
+    legal_unless_attacked p c.args.mv.now c.board_after-board.result c.is_attacked.result s.position c.requires.kind.on_board c.board_after-board.ensures
+    (c.is_attacked.ensures
+    ∙ ap₂ (λ d k. is_attacked c.board_after-board.result d k) (c.other.ensures ∙ ap other s.side)
+    (subst (λ o. IfSome o (λ b. c.king_after.result ≡ king_square p.side b)) c.board_after-board.ensures c.king_after.ensures))

@@ -1,7 +1,4 @@
-use Rattle.std.proofs.Common.{◌∙◌, ap, ap₂}
-use Rattle.std.specs.Prelude.{◌==◌}
-use Rattle.std.proofs.lemmas.Nat.Bits.{shr_and_one}
-use Rattle.chess_rules.specs.Words.{has}
+use Rattle.chess_rules.proofs.Words.{has, ◌∙◌, ap, ap₂, ◌==◌, shr_and_one}
 use Rattle.chess_rules.proofs.squares.Squares.has.Goals as goal
 
 pub returns-clause-value : goal.returns-clause-value

@@ -1,5 +1,4 @@
-use Rattle.std.proofs.Common.{◌<◌, ◌^◌, sym, ◌∙◌, subst, arith}
-use Rattle.chess_rules.specs.Words.{IsFirst}
+use Rattle.chess_rules.proofs.Words.{IsFirst, ◌<◌, ◌^◌, sym, ◌∙◌, subst, arith}
 use Rattle.chess_rules.proofs.sets.SetsToSquares.{no_member, first_place}
 use Rattle.chess_rules.proofs.squares.Squares.lowest.Goals as goal
 

@@ -1,7 +1,7 @@
-use Rattle.std.proofs.Common.{length, ap, arith}
 use Rattle.chess_rules.specs.Pairs as spec
+use Rattle.chess_rules.proofs.Words.{members, length, ap, arith}
 use Rattle.chess_rules.proofs.trying.SearchThatCounts.{left_fits, fewer_left, left_hit, none_left}
-use Rattle.chess_rules.proofs.pairs.has_legal_origin.Goals as goal
+use Rattle.chess_rules.proofs.pairs.has_move_from.Goals as goal
 
 pub loop-from-init : goal.loop-from-init
 loop-from-init c = grind arith
@@ -23,8 +23,8 @@ loop-from-preserved c = grind (arith, fewer_left)
 
 pub returns-clause-found : goal.returns-clause-found
 returns-clause-found c =
-    (none_left (λ s. spec.is_legal_pair c.args.position.now s c.args.target) c.args.origins c.loop-from.left c.args.probes.now c.loop-from.probes c.loop-from.invariant c.in_default.ensures).0
+    (none_left (λ s. spec.is_legal_pair c.args.position.now s c.args.target) (members c.args.origins) c.loop-from.left c.args.probes.now c.loop-from.probes c.loop-from.invariant c.in_default.ensures).0
 
 pub returns-clause-count : goal.returns-clause-count
 returns-clause-count c =
-    (none_left (λ s. spec.is_legal_pair c.args.position.now s c.args.target) c.args.origins c.loop-from.left c.args.probes.now c.loop-from.probes c.loop-from.invariant c.in_default.ensures).1
+    (none_left (λ s. spec.is_legal_pair c.args.position.now s c.args.target) (members c.args.origins) c.loop-from.left c.args.probes.now c.loop-from.probes c.loop-from.invariant c.in_default.ensures).1

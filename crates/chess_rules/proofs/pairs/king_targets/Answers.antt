@@ -1,5 +1,5 @@
 use Rattle.chess_rules.proofs.trying.SetsToPairs.{colour_places, steps_are}
-use Rattle.chess_rules.proofs.pairs.king_steps.Goals as goal
+use Rattle.chess_rules.proofs.pairs.king_targets.Goals as goal
 use Rattle.std.proofs.Common.{arith}
 
 pub returns : goal.returns
