@@ -1,13 +1,13 @@
 //! Positions as text: Forsyth-Edwards notation. (PGN 16.1)
 
-ghost use Rattle.std.specs.Prelude.{◌≡◌, ◌≤◌, ◌+◌, ◌++◌, ◌∷◌, length, decimal};
+ghost use Rattle.std.specs.Prelude.{◌≡◌, ◌≤◌, ◌+◌, ◌++◌, ◌∷◌, [], length, decimal};
 ghost use Rattle.std.specs.List.{before_first, after_first, position_or_len};
 ghost use Rattle.chess_text.specs.Fen.{is_space, read, parts_read, fen_text};
 
 use crate::field::{
-    read_number, read_rights, read_side, read_target, rights_text, side_letter, target_text,
+    push_target, read_number, read_rights, read_side, read_target, rights_text, side_letter,
 };
-use crate::placement::{board_text, read_placement};
+use crate::placement::{push_board, read_placement};
 use arrayvec::ArrayVec;
 use chess_rules::{Parts, Position};
 use itoa::Buffer;
@@ -138,24 +138,25 @@ pub fn write_fen(position: &Position) -> ArrayVec<u8, 93>
     ensures text { result.items ≡ fen_text position.now }
     ensures short { length result.items ≤ 93 }
 {
-    let mut text = text_without_full(position);
+    let mut text = ArrayVec::new();
+    push_all_but_full(&mut text, position);
     push_field(&mut text, Buffer::new().format(position.full()).as_bytes());
     text
 }
 
-// The canonical text of the position without its last field.
-fn text_without_full(position: &Position) -> ArrayVec<u8, 93>
-    ensures text { result.items ++ 32 ∷ decimal position.now.full ≡ fen_text position.now }
-    ensures short { length result.items ≤ 87 }
+// Adds all fields but the last to an empty text.
+fn push_all_but_full(text: &mut ArrayVec<u8, 93>, position: &Position)
+    requires { text.old.items ≡ [] }
+    ensures text { text.new.items ++ 32 ∷ decimal position.now.full ≡ fen_text position.now }
+    ensures short { length text.new.items ≤ 87 }
 {
-    let mut buffer = Buffer::new();
-    let mut text = ArrayVec::new();
-    push_part(&mut text, board_text(position).as_slice());
-    push_field(&mut text, &[side_letter(position.side())]);
-    push_field(&mut text, rights_text(position.rights()).as_slice());
-    push_field(&mut text, target_text(position.target()).as_slice());
-    push_field(&mut text, buffer.format(position.half()).as_bytes());
-    text
+    push_board(text, position);
+    text.push(b' ');
+    text.push(side_letter(position.side()));
+    push_field(text, rights_text(position.rights()).as_slice());
+    text.push(b' ');
+    push_target(text, position.target());
+    push_field(text, Buffer::new().format(position.half()).as_bytes());
 }
 
 // Adds a space and the field.
@@ -164,13 +165,5 @@ fn push_field(text: &mut ArrayVec<u8, 93>, field: &[u8])
     ensures { text.new.items ≡ text.old.items ++ 32 ∷ field.now }
 {
     text.push(b' ');
-    push_part(text, field);
-}
-
-// Adds the part.
-fn push_part(text: &mut ArrayVec<u8, 93>, part: &[u8])
-    requires { length text.old.items + length part.now ≤ 93 }
-    ensures { text.new.items ≡ text.old.items ++ part.now }
-{
-    let _ = text.try_extend_from_slice(part);
+    let _ = text.try_extend_from_slice(field);
 }

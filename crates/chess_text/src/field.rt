@@ -1,7 +1,7 @@
 //! Side, castling rights, en passant target and numbers, as fields of a FEN. (PGN 16.1.3.2 to
 //! 16.1.3.6)
 
-ghost use Rattle.std.specs.Prelude.{◌≡◌, ◌∷◌, []};
+ghost use Rattle.std.specs.Prelude.{◌≡◌, ◌≤◌, ◌+◌, ◌++◌, ◌∷◌, [], length};
 ghost use Rattle.chess_text.specs.Field as spec;
 
 use arrayvec::ArrayVec;
@@ -81,11 +81,11 @@ pub(crate) fn read_target(text: &[u8]) -> Option<Option<Square>>
     }
 }
 
-// The target's square, or a dash. (PGN 16.1.3.4)
-pub(crate) fn target_text(target: Option<Square>) -> ArrayVec<u8, 2>
-    ensures { result.items ≡ spec.target_text target }
+// Adds the target's square, or a dash. (PGN 16.1.3.4)
+pub(crate) fn push_target(text: &mut ArrayVec<u8, 93>, target: Option<Square>)
+    requires { length text.old.items + 2 ≤ 93 }
+    ensures { text.new.items ≡ text.old.items ++ spec.target_text target }
 {
-    let mut text = ArrayVec::new();
     match target {
         None => text.push(b'-'),
         Some(square) => {
@@ -93,7 +93,6 @@ pub(crate) fn target_text(target: Option<Square>) -> ArrayVec<u8, 2>
             text.push(b'1' + square.rank());
         }
     }
-    text
 }
 
 // Reads a number of 1 to 5 digits. (PGN 16.1.3.5, 16.1.3.6)

@@ -1,9 +1,9 @@
 //! The board as the first field of a FEN. (PGN 16.1.3.1)
 
-ghost use Rattle.std.specs.Prelude.{◌≡◌, ◌<◌, ◌≤◌, ◌+◌, ◌++◌, ◌∷◌, [], ◌&&◌, nat_le, drop, length, if◌then◌else◌, Some, None};
-ghost use Rattle.chess_text.specs.Placement.{ranks, is_rank, cells_of, cells_at, is_item, placement_of, placement_text, rank_text as text_of_rank, run_text, row};
+ghost use Rattle.std.specs.Prelude.{◌≡◌, ◌<◌, ◌≤◌, ◌+◌, ◌-◌, ◌++◌, ◌∷◌, [], ◌&&◌, nat_le, drop, length, if◌then◌else◌, Some, None};
+ghost use Rattle.chess_text.specs.Placement.{ranks, is_rank, cells_of, cells_at, is_item, placement_of, placement_text, rank_text, run_text, row};
 ghost use Rattle.std.specs.Bool.{OnTrue};
-ghost use Rattle.chess_rules.specs.Board.{at};
+ghost use Rattle.chess_rules.specs.Board.{Board, at};
 ghost use Rattle.chess_rules.specs.Square.{square};
 ghost use Rattle.chess_text.specs.Placement as spec;
 ghost use Rattle.chess_text.specs.Ranks.{ranks_before};
@@ -83,46 +83,60 @@ fn is_run(byte: u8) -> bool
     matches!(byte, b'1'..=b'8')
 }
 
-// The canonical text of the board.
-pub(crate) fn board_text(position: &Position) -> ArrayVec<u8, 71>
-    ensures text { result.items ≡ placement_text position.now.board }
-    ensures short { length result.items ≤ 71 }
+// Adds the canonical text of the board to an empty text.
+pub(crate) fn push_board(text: &mut ArrayVec<u8, 93>, position: &Position)
+    requires { text.old.items ≡ [] }
+    ensures text { text.new.items ≡ placement_text position.now.board }
+    ensures short { length text.new.items ≤ 71 }
 {
-    let mut text = ArrayVec::new();
-    let _ = text.try_extend_from_slice(rank_text(position, 7).as_slice());
+    push_rank(text, position, 7);
     for below in 0..7 {
         text.push(b'/');
-        let _ = text.try_extend_from_slice(rank_text(position, 6 - below).as_slice());
+        push_rank(text, position, 6 - below);
     }
-    text
 }
 
-// The canonical text of a rank.
-fn rank_text(position: &Position, rank: u8) -> ArrayVec<u8, 8>
-    requires { rank < 8 }
-    ensures text { result.items ≡ text_of_rank 0 (row position.now.board rank) }
-    ensures short { length result.items ≤ 8 }
+// Adds the canonical text of a rank.
+//
+// It is inlined, so that the compiler unrolls its loop, and reads the board once for all ranks.
+#[inline(always)]
+fn push_rank(text: &mut ArrayVec<u8, 93>, position: &Position, rank: u8)
+    requires rank { rank < 8 }
+    requires room { length text.old.items + 8 ≤ 93 }
+    ensures { text.new.items ≡ text.old.items ++ rank_text 0 (row position.now.board rank) }
 {
-    let mut text = ArrayVec::new();
-    let mut run = 0u8;
+    let mut written = 0u8;
     for file in 0..8 {
-        match cell(position, file, rank) {
-            None => run += 1,
-            Some(piece) => {
-                push_run(&mut text, run);
-                text.push(piece_letter(piece));
-                run = 0;
-            }
+        written = push_square(text, written, file, cell(position, file, rank));
+    }
+    push_run(text, 8 - written);
+}
+
+// Adds a square of a rank, of which so many squares are written. Those between are empty. Returns
+// how many are written now.
+fn push_square(text: &mut ArrayVec<u8, 93>, written: u8, file: u8, content: Option<Piece>) -> u8
+    requires file { file < 8 }
+    requires before { written ≤ file }
+    requires room { length text.old.items + file < 93 + written }
+    ensures text { (cells : Board) → text.new.items ++ rank_text (file + 1 - result) cells
+        ≡ text.old.items ++ rank_text (file - written) (content ∷ cells) }
+    ensures before { result ≤ file + 1 }
+    ensures room { length text.new.items + written ≤ length text.old.items + result }
+{
+    match content {
+        None => written,
+        Some(piece) => {
+            push_run(text, file - written);
+            text.push(piece_letter(piece));
+            file + 1
         }
     }
-    push_run(&mut text, run);
-    text
 }
 
 // Adds the digit of a run of empty squares.
-fn push_run(text: &mut ArrayVec<u8, 8>, run: u8)
-    requires room { length text.old.items + length (run_text run) ≤ 8 }
+fn push_run(text: &mut ArrayVec<u8, 93>, run: u8)
     requires run { run ≤ 8 }
+    requires room { length text.old.items + run ≤ 93 }
     ensures { text.new.items ≡ text.old.items ++ run_text run }
 {
     if run > 0 {
@@ -130,11 +144,15 @@ fn push_run(text: &mut ArrayVec<u8, 8>, run: u8)
     }
 }
 
-// The content of the square.
+// The content of the square. Most squares are empty, and `is_empty` is quicker than `at`.
 fn cell(position: &Position, file: u8, rank: u8) -> Option<Piece>
     requires file { file < 8 }
     requires rank { rank < 8 }
     ensures { result ≡ at position.now.board (square file rank) }
 {
-    position.at(Square::new(file, rank)?)
+    let square = Square::new(file, rank)?;
+    if position.is_empty(square) {
+        return None;
+    }
+    position.at(square)
 }

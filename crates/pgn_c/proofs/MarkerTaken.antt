@@ -15,7 +15,7 @@ use Rattle.pgn_game.specs.GamesRestart.{games_read}
 use Rattle.pgn_game.specs.MissingResults.{IsReadAlike, MissingResults, rejects_marker}
 use Rattle.pgn_c.specs.declared.game_result.PgnGame.{PgnGame}
 use Rattle.pgn_c.specs.Results.{IsFilled}
-use Rattle.pgn_c.specs.NextGame as next
+use Rattle.pgn_c.specs.NextGame as next_game
 use Rattle.pgn_c.specs.NextGame.{ConvertsNext, IsGame, NextOf, TakesMarker, game_result, profile_counting, profile_taking, status_for, text_from}
 
 module _ (law : MissingResults) (mode : Mode) (marker : Marker) where
@@ -56,14 +56,14 @@ module _ (law : MissingResults) (mode : Mode) (marker : Marker) where
 
   by_next : (s piece before after : List ℕ) (found : PgnGame) (written : List ℕ) (result : PgnGame) → NextOf (profile_counting mode marker) s piece found (Some []) (Some written) → found.status ≡ 0
       → IsFilled before after written → result ≡ record found { written = length written } → TakesMarker mode s before after result
-  by_next s piece before after found written result (next.game is) ok filled same = of_game s before after found written result is filled same
-  by_next s piece before after found written result (next.no_game is) ok filled same = absurd (let e = ap (λ (r : PgnGame). r.status) is.is_result in cc)
-  by_next s piece before after found written result (next.rejected is) ok filled same =
+  by_next s piece before after found written result (next_game.game is) ok filled same = of_game s before after found written result is filled same
+  by_next s piece before after found written result (next_game.no_game is) ok filled same = absurd (let e = ap (λ (r : PgnGame). r.status) is.is_result in cc)
+  by_next s piece before after found written result (next_game.rejected is) ok filled same =
       absurd (is_fault 1 is.fault.reason (λ e. cc) (sym (ap (λ (r : PgnGame). r.status) is.is_result) ∙ ok))
-  by_next s piece before after found written result (next.needs_more is) ok filled same =
+  by_next s piece before after found written result (next_game.needs_more is) ok filled same =
       absurd (is_fault 5 is.fault.reason (λ e. cc) (sym (ap (λ (r : PgnGame). r.status) is.is_result) ∙ ok))
-  by_next s piece before after found written result (next.full is) ok filled same = absurd (let e = ap (λ (r : PgnGame). r.status) is.is_result in cc)
-  by_next s piece before after found written result (next.too_long is) ok filled same = absurd (let e = ap (λ (r : PgnGame). r.status) is.is_result in cc)
+  by_next s piece before after found written result (next_game.full is) ok filled same = absurd (let e = ap (λ (r : PgnGame). r.status) is.is_result in cc)
+  by_next s piece before after found written result (next_game.too_long is) ok filled same = absurd (let e = ap (λ (r : PgnGame). r.status) is.is_result in cc)
 
   pub takes_marker : (text : List ℕ) (from : ℕ) (before after : List ℕ) (result : PgnGame) → ConvertsNext (profile_counting mode marker) text from before after result
       → result.status ≡ 0 → TakesMarker mode (text_from text from) before after result

@@ -28,7 +28,7 @@ use Rattle.pgn_game.specs.ConverterCalls.{Converter, FinishedGame, finished_game
 use Rattle.pgn_game.specs.GamesRestart.{games_read, FinishesGame}
 use Rattle.pgn_game.specs.GameEnds.{EndsByMarker, GamesEndByMarker, TextsEndBehindMarker, TextsEndBetweenGames}
 use Rattle.pgn_c.specs.declared.game_result.PgnGame.{PgnGame}
-use Rattle.pgn_c.specs.NextGame as next
+use Rattle.pgn_c.specs.NextGame as next_game
 use Rattle.pgn_c.specs.NextGame.{AreKnown, NextOf, fault_result, game_result, nothing, profile_counting, status_for}
 
 -- ---- a marker
@@ -39,34 +39,26 @@ record Marks (k : Kind) (at end : ℕ) (text : List ℕ) : Type 0 where
   is_marker : text ≡ marker_text marker
   place : end - length (marker_text marker) ≡ at
 
-of_score : (at end : ℕ) (s text : List ℕ) → (b : Bool) → is_score s ≡ b → marker_of (tokens.symbol s) ≡ Some text → end ≡ at + length s → Marks (tokens.symbol s) at end text
-of_score at end s text b is marker ends = by_tests (bytes_eq s (codes "1-0")) (bytes_eq s (codes "0-1")) (bytes_eq s (codes "1/2-1/2")) refl refl refl
+of_score : (at end : ℕ) (s text : List ℕ) → marker_of (tokens.symbol s) ≡ Some text → end ≡ at + length s → Marks (tokens.symbol s) at end text
+of_score at end s text marker ends = by_tests _ _ _ refl refl refl
   where
-    here : (m : Marker) → s ≡ marker_text m → Marks (tokens.symbol s) at end text
-    here m same =
-        record {
-          marker = m;
-          is_marker = marks m same marker;
-          place = omega (arith, ends, ap (length {A = ℕ}) same);
-        }
-      where
-        marks : (m : Marker) → s ≡ marker_text m → marker_of (tokens.symbol s) ≡ Some text → text ≡ marker_text m
-        marks WhiteWins same marker = let e : Some (codes "1-0") ≡ Some text = sym (ap (λ l. marker_of (tokens.symbol l)) same) ∙ marker in cc
-        marks BlackWins same marker = let e : Some (codes "0-1") ≡ Some text = sym (ap (λ l. marker_of (tokens.symbol l)) same) ∙ marker in cc
-        marks Draw same marker = let e : Some (codes "1/2-1/2") ≡ Some text = sym (ap (λ l. marker_of (tokens.symbol l)) same) ∙ marker in cc
-        marks Unknown same marker = let e : None ≡ Some text = sym (ap (λ l. marker_of (tokens.symbol l)) same) ∙ marker in absurd (cc)
+    here : (m : Marker) → s ≡ marker_text m → is_score s ≡ true → Marks (tokens.symbol s) at end text
+    here m same score =
+        let e : Some s ≡ Some text = ap (λ (b : Bool). elim b [ true ↦ Some s | false ↦ None ]) (sym score) ∙ marker in
+        record { marker = m; is_marker = cc; place = omega (arith, ends, ap (length {A = ℕ}) same) }
 
-    by_tests : (x y z : Bool) → bytes_eq s (codes "1-0") ≡ x → bytes_eq s (codes "0-1") ≡ y → bytes_eq s (codes "1/2-1/2") ≡ z → Marks (tokens.symbol s) at end text
-    by_tests true y z p q r = here WhiteWins ((bytes_eq-Decides s (codes "1-0")).0 p)
-    by_tests false true z p q r = here BlackWins ((bytes_eq-Decides s (codes "0-1")).0 q)
-    by_tests false false true p q r = here Draw ((bytes_eq-Decides s (codes "1/2-1/2")).0 r)
+    by_tests : (x y z : Bool) → bytes_eq s (marker_text WhiteWins) ≡ x → bytes_eq s (marker_text BlackWins) ≡ y
+        → bytes_eq s (marker_text Draw) ≡ z → Marks (tokens.symbol s) at end text
+    by_tests true y z p q r = here WhiteWins ((bytes_eq-Decides s _).0 p) (cc)
+    by_tests false true z p q r = here BlackWins ((bytes_eq-Decides s _).0 q) (cc)
+    by_tests false false true p q r = here Draw ((bytes_eq-Decides s _).0 r) (cc)
     by_tests false false false p q r =
-        let score : is_score s ≡ false = cc (p, q, r) in
+        let score : is_score s ≡ false = cc in
         let e : None ≡ Some text = ap (λ (b : Bool). elim b [ true ↦ Some s | false ↦ None ]) (sym score) ∙ marker in absurd (cc)
 
 marks : (k : Kind) (at end : ℕ) (text : List ℕ) → marker_of k ≡ Some text → EndsAt k at end → Marks k at end text
 marks tokens.asterisk at end text marker ends = record { marker = Unknown; is_marker = (let e : Some (codes "*") ≡ Some text = marker in cc); place = omega (arith, ends) }
-marks (tokens.symbol s) at end text marker ends = of_score at end s text (is_score s) refl marker ends
+marks (tokens.symbol s) at end text marker ends = of_score at end s text marker ends
 marks _ at end text marker ends = absurd (cc)
 
 -- ---- a write that fails
@@ -153,7 +145,7 @@ module _ (mode : Mode) (missing : Marker) (u piece : List ℕ) (before : Option 
         let parts : s ≡ front ++ drop used piece =
         ap (λ l. u ++ l) (sym (take-append-drop used piece)) ∙ sym (append_assoc u (take used piece) (drop used piece)) in
         let size : length front ≡ n = omega (arith, length-append u (take used piece), length-take-le used piece within, count) in
-        next.game (record {
+        next_game.game (record {
           tokens = fed.tokens;
           at = fed.marker;
           marker = mark.marker;
@@ -203,7 +195,7 @@ module _ (mode : Mode) (missing : Marker) (u piece : List ℕ) (before : Option 
         by_stops : (g : Fault) (stops : Stops p [] to.fed.tokens before after g) → result ≡ fault_result (status_for 1 g.reason) g (position_at_stop stops) → games_before stops ≡ []
             → NextOf p s piece result before after
         by_stops g (refused _ fault gains) is none =
-            next.rejected (record {
+            next_game.rejected (record {
               fault = g;
               tokens = to.fed.tokens;
               known = known;
@@ -213,7 +205,7 @@ module _ (mode : Mode) (missing : Marker) (u piece : List ℕ) (before : Option 
               is_result = is;
             })
         by_stops _ (unwritten at writing) is none =
-            next.full (record {
+            next_game.full (record {
               at = at;
               tokens = to.fed.tokens;
               first = let all = known [] in (all.0, ap tokens_of (sym (append-nil s)) ∙ all.1);
@@ -222,7 +214,7 @@ module _ (mode : Mode) (missing : Marker) (u piece : List ℕ) (before : Option 
               is_result = is;
             })
     fault_fed new _ (too_long front rest cut place some (now, fed, same)) kept answer =
-        next.too_long (record {
+        next_game.too_long (record {
           bytes = u ++ front;
           rest = rest;
           cut = ap (λ l. u ++ l) cut ∙ sym (append_assoc u front rest);
@@ -270,7 +262,7 @@ module _ (mode : Mode) (missing : Marker) (u piece : List ℕ) (before : Option 
           answer game mark.marker just (value_is new game (marker_text mark.marker) fin.has_read.profile just (ends_by.result ∙ ap Some mark.is_marker))
           ∙ ap (λ at. game_result game mark.marker at n) mark.place in
           let end : result.end ≡ n = ap (λ (r : PgnGame). r.end) is in
-          next.game (record {
+          next_game.game (record {
             tokens = fed.tokens;
             at = last.marker;
             marker = mark.marker;
@@ -289,7 +281,7 @@ module _ (mode : Mode) (missing : Marker) (u piece : List ℕ) (before : Option 
       pub none_at_end : (new : Converter) → Finishes p s fed.tokens new false middle after → result ≡ nothing 4 → NextOf p s piece result before after
       none_at_end new fin is =
           let none : games_read p (tokens_of s) ≡ [] = by_games (games_read p (tokens_of s)) refl in
-          next.no_game (record {
+          next_game.no_game (record {
             passes = fin.has_read.passes;
             no_game = none;
             wrote = subst (Appends before after) (whole_of fin.has_read.passes ∙ ap (text_of p) none) (all_due fin.gains);
@@ -310,7 +302,7 @@ module _ (mode : Mode) (missing : Marker) (u piece : List ℕ) (before : Option 
           by_stops : (g : Fault) (stops : Stops p fed.tokens (tokens_of s) middle after g) → result ≡ fault_result (status_for 5 g.reason) g (position_at_stop stops) → games_before stops ≡ []
               → NextOf p s piece result before after
           by_stops g (refused _ fault gains) is none =
-              next.needs_more (record {
+              next_game.needs_more (record {
                 fault = g;
                 tokens = fed.tokens;
                 known = known;
@@ -323,7 +315,7 @@ module _ (mode : Mode) (missing : Marker) (u piece : List ℕ) (before : Option 
                 is_result = is;
               })
           by_stops _ (unwritten at writing) is none =
-              next.full (record {
+              next_game.full (record {
                 at = at;
                 tokens = tokens_of s;
                 first = ([], sym (append-nil (tokens_of s)));

@@ -42,7 +42,7 @@ pub struct PgnGame {
     pub plies: u64,
     /// Where the reason begins in the message.
     pub reason_at: usize,
-    /// The marker: 1 is `1-0`, 2 is `0-1`, 3 is `1/2-1/2`, 4 is `*`; 0 if there is no game.
+    /// The marker: 1 White wins, 2 Black wins, 3 a draw, 4 not known; 0 if there is no game.
     pub marker: u32,
     /// The fault as a line, and zeros behind it; zeros alone where there is none.
     pub message: [u8; 104],
@@ -54,6 +54,7 @@ pub struct PgnGame {
 /// The result for the game just finished, whose marker ends at this place.
 ///
 /// The bytes written are not counted yet.
+#[inline(always)]
 pub fn finished_game(converter: &Converter<TAGS, LEVELS>, end: usize) -> PgnGame
     ensures status { result.status ≡ 0 }
     ensures game { (game : Game) (marker : Marker)
@@ -72,7 +73,7 @@ pub fn finished_game(converter: &Converter<TAGS, LEVELS>, end: usize) -> PgnGame
         plies: converter.plies(),
         reason_at: 0,
         marker: number_of(marker),
-        message: padded(b""),
+        message: [0; 104],
         fen: fen_of(converter.position()),
     }
 }
@@ -80,6 +81,7 @@ pub fn finished_game(converter: &Converter<TAGS, LEVELS>, end: usize) -> PgnGame
 /// The result for a fault, which has this status unless the buffer is full.
 ///
 /// The bytes written are not counted yet.
+#[inline(always)]
 pub fn refused_game(converter: &Converter<TAGS, LEVELS>, fault: Fault, status: u32) -> PgnGame
     ensures { result ≡ fault_result (spec.status_for status fault.reason) fault
         (refused_position converter.now) }
@@ -113,8 +115,8 @@ pub fn no_game(status: u32) -> PgnGame
         plies: 0,
         reason_at: 0,
         marker: 0,
-        message: padded(b""),
-        fen: padded(b""),
+        message: [0; 104],
+        fen: [0; 96],
     }
 }
 
@@ -152,11 +154,12 @@ fn number_of(marker: Marker) -> u32
 }
 
 // The FEN of a position, and zeros behind it.
+#[inline(always)]
 fn fen_of(position: Option<&Position>) -> [u8; 96]
     ensures { result ≡ fen_bytes (option_copied position.entry) }
 {
     match position {
         Some(position) => padded(write_fen(position).as_slice()),
-        None => padded(b""),
+        None => [0; 96],
     }
 }

@@ -34,10 +34,9 @@ use crate::explanation::{explain, no_explanation};
 pub use crate::fen::PgnText;
 use crate::fen::{bad_text, put_fen};
 pub use crate::game_result::PgnGame;
-use crate::game_result::no_game;
 use crate::next_game::next_game;
 pub use crate::pgn_result::PgnResult;
-use crate::pgn_result::{NO_MODE, fault_result, no_mode, totals_result};
+use crate::pgn_result::{fault_result, no_mode, totals_result};
 pub use crate::san::PgnMove;
 use crate::san::{name_move, no_position};
 pub use crate::tag::PgnTag;
@@ -82,10 +81,9 @@ pub extern "C" fn pgn_check(text: &[u8]) -> PgnResult
 pub extern "C" fn pgn_convert(text: &[u8], buffer: &mut [u8], mode: u32) -> PgnResult
     ensures { ConvertsIn (mode_of mode) text.now buffer.old buffer.new result }
 {
-    match mode {
-        0 => convert_into(text, buffer, Mode::Full),
-        1 => convert_into(text, buffer, Mode::Reduced),
-        _ => no_mode(),
+    match mode_with_number(mode) {
+        Some(mode) => convert_into(text, buffer, mode),
+        None => no_mode(),
     }
 }
 
@@ -152,11 +150,7 @@ pub extern "C" fn pgn_next_game(
 ) -> PgnGame
     ensures { NextGameIn (mode_of mode) missing_result text.now from buffer.old buffer.new result }
 {
-    match mode {
-        0 => next_game(text, from, Mode::Full, missing_result, buffer),
-        1 => next_game(text, from, Mode::Reduced, missing_result, buffer),
-        _ => no_game(NO_MODE),
-    }
+    next_game(text, from, mode_with_number(mode), missing_result, buffer)
 }
 
 /// Finds the tag pair on the line of an export text that begins at a place (PGN 8.1).
@@ -188,6 +182,17 @@ pub extern "C" fn pgn_explain(fen: &[u8], text: &[u8]) -> PgnExplanation
     match read_fen(fen) {
         Ok(position) => explain(&position, text),
         Err(fault) => no_explanation(26, fault.field),
+    }
+}
+
+// The mode with this number in C, if there is one.
+fn mode_with_number(number: u32) -> Option<Mode>
+    ensures { result ≡ mode_of number }
+{
+    match number {
+        0 => Some(Mode::Full),
+        1 => Some(Mode::Reduced),
+        _ => None,
     }
 }
 

@@ -1,10 +1,9 @@
 //! The next game of a text.
-ghost use Rattle.std.specs.Prelude.{◌≡◌, ◌≢◌, ◌<◌, ◌≤◌, ◌^◌, ◌⊎◌, ◌↔◌, IsTrue, length, drop};
+ghost use Rattle.std.specs.Prelude.{◌≡◌, ◌≢◌, ◌≤◌, ◌^◌, ◌↔◌, IsTrue, length, drop};
 ghost use Rattle.pgn_layout.specs.Device.{one_more};
-ghost use Rattle.pgn_game.specs.declared.marker.Marker.TheVariants.{Unknown};
 ghost use Rattle.pgn_game.specs.declared.marker.Marker.{Marker as CodeMarker};
-ghost use Rattle.pgn_c.specs.NextGame.{ChecksNext, ConvertsNext, IsOtherResult, NextOf, ReadsNext};
-ghost use Rattle.pgn_c.specs.NextGame.{nothing, profile_counting, text_from};
+ghost use Rattle.pgn_c.specs.NextGame.{ChecksNext, ConvertsNext, IsOtherResult, NextGameIn, NextOf, ReadsNext};
+ghost use Rattle.pgn_c.specs.NextGame.{profile_counting, text_from};
 ghost use Rattle.pgn_lexer.specs.TokensOf.{has_mark};
 ghost use Rattle.pgn_c.specs.NextGame as spec;
 
@@ -22,21 +21,19 @@ use std::marker::{Brand, PhantomData};
 const LAST_PLACE: u64 = 1 << 62;
 
 /// Converts the next game in this format into the front of a buffer.
+#[inline(always)]
 pub fn next_game(
     text: &[u8],
     from: usize,
-    mode: Mode,
+    mode: Option<Mode>,
     missing_result: u32,
     buffer: &mut [u8],
 ) -> PgnGame
-    ensures no_mode { 1 < missing_result → (buffer.new ≡ buffer.old) × (result ≡ nothing 3) }
-    ensures bad_place { missing_result ≤ 1 → (length text.now < from) ⊎ (2 ^ 62 < from)
-        → (buffer.new ≡ buffer.old) × (result ≡ nothing 6) }
-    ensures counts_as_unknown { missing_result ≡ 0 → from ≤ length text.now → from ≤ 2 ^ 62
-        → ConvertsNext (profile_counting mode Unknown) text.now from buffer.old buffer.new result }
-    ensures takes_the_marker { missing_result ≡ 1 → from ≤ length text.now → from ≤ 2 ^ 62
-        → ChecksNext mode text.now from buffer.old buffer.new result }
+    ensures { NextGameIn mode missing_result text.now from buffer.old buffer.new result }
 {
+    let Some(mode) = mode else {
+        return no_game(NO_MODE);
+    };
     if missing_result > 1 {
         return no_game(NO_MODE);
     }
@@ -51,6 +48,7 @@ pub fn next_game(
 
 // Converts the next game, in which a missing Result takes the marker. Only a game without a fault
 // is written.
+#[inline(never)]
 fn check_next(text: &[u8], from: usize, mode: Mode, buffer: &mut [u8]) -> PgnGame
     requires within { from ≤ length text.now }
     requires place { from ≤ 2 ^ 62 }
@@ -118,6 +116,7 @@ fn has_other_result(found: &PgnGame) -> bool
 }
 
 // Converts the next game into the front of a buffer. A missing Result counts as this marker.
+#[inline(always)]
 fn convert_next(text: &[u8], from: usize, mode: Mode, missing: Marker, buffer: &mut [u8]) -> PgnGame
     requires within { from ≤ length text.now }
     requires place { from ≤ 2 ^ 62 }
@@ -129,6 +128,7 @@ fn convert_next(text: &[u8], from: usize, mode: Mode, missing: Marker, buffer: &
 }
 
 // Converts the next game into the buffer, whose bytes `K` has.
+#[inline(always)]
 fn fill_next<'a, K: Before>(
     text: &[u8],
     from: usize,
@@ -159,6 +159,7 @@ fn fill_next<'a, K: Before>(
 }
 
 // Converts the next game to a sink. The bytes written are not counted yet.
+#[inline(always)]
 fn read_next<W: Sink>(text: &[u8], from: usize, mode: Mode, missing: Marker, out: &mut W) -> PgnGame
     requires within { from ≤ length text.now }
     requires place { from ≤ 2 ^ 62 }

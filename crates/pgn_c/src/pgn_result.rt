@@ -50,7 +50,7 @@ pub fn totals_result(totals: Totals, written: usize) -> PgnResult
         games: totals.games,
         plies: totals.plies,
         reason_at: 0,
-        message: padded(b""),
+        message: [0; 104],
     }
 }
 
@@ -82,7 +82,7 @@ pub fn no_mode() -> PgnResult
         games: 0,
         plies: 0,
         reason_at: 0,
-        message: padded(b""),
+        message: [0; 104],
     }
 }
 

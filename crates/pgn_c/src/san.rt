@@ -71,7 +71,7 @@ fn no_move(fault: u32, field: u32) -> PgnMove
         status: FAULT,
         fault,
         field,
-        san: padded(b""),
-        fen: padded(b""),
+        san: [0; 8],
+        fen: [0; 96],
     }
 }

@@ -3,7 +3,7 @@ ghost use Rattle.std.specs.Prelude.{◌≡◌, ◌+◌, ◌≤◌, IfSome, Match
 ghost use Rattle.pgn_game.specs.FaultTable.{in_name};
 ghost use Rattle.pgn_layout.specs.TagLine.{needs_escape};
 ghost use Rattle.pgn_c.specs.TagAt.{TagResult, no_tag as no_tag_result};
-ghost use Rattle.pgn_c.specs.TagScan as scan;
+ghost use Rattle.pgn_c.specs.TagScan as tag_scan;
 
 use crate::pgn_result::{FAULT, OK};
 
@@ -53,7 +53,7 @@ pub struct PairLengths {
 
 // The lengths of the tag pair on whose line the text begins.
 fn first_pair(text: &[u8]) -> Option<PairLengths>
-    ensures pair { result ≡ scan.first_pair text.now }
+    ensures pair { result ≡ tag_scan.first_pair text.now }
     ensures within { IfSome result (λ pair. pair.name + pair.value + 6 ≤ length text.now) }
 {
     match text_behind(text, b"[") {
@@ -64,7 +64,7 @@ fn first_pair(text: &[u8]) -> Option<PairLengths>
 
 // The lengths of the pair, if the text has what is behind its bracket.
 fn pair_behind_bracket(text: &[u8]) -> Option<PairLengths>
-    ensures { result ≡ scan.pair_behind_name (scan.name_length text.now) text.now }
+    ensures { result ≡ tag_scan.pair_behind_name (tag_scan.name_length text.now) text.now }
 {
     let name = name_length(text);
     if name < 1 || 255 < name {
@@ -78,7 +78,7 @@ fn pair_behind_bracket(text: &[u8]) -> Option<PairLengths>
 
 // The lengths of the pair, if the text has what is behind the first quote.
 fn pair_behind_quote(name: usize, text: &[u8]) -> Option<PairLengths>
-    ensures { result ≡ scan.pair_behind_value name text.now (scan.value_length text.now) }
+    ensures { result ≡ tag_scan.pair_behind_value name text.now (tag_scan.value_length text.now) }
 {
     match value_length(text) {
         None => None,
@@ -91,15 +91,15 @@ fn pair_behind_quote(name: usize, text: &[u8]) -> Option<PairLengths>
 
 // The text behind these bytes, if it begins with them.
 fn text_behind<'a>(text: &'a [u8], front: &[u8]) -> Option<&'a [u8]>
-    ensures { MatchOption result (scan.text_behind front.now text.now ≡ None)
-        (λ rest. scan.text_behind front.now text.now ≡ Some rest.now) }
+    ensures { MatchOption result (tag_scan.text_behind front.now text.now ≡ None)
+        (λ rest. tag_scan.text_behind front.now text.now ≡ Some rest.now) }
 {
     text.strip_prefix(front)
 }
 
 // How many bytes at the front can be in a name.
 fn name_length(text: &[u8]) -> usize
-    ensures value { result ≡ scan.name_length text.now }
+    ensures value { result ≡ tag_scan.name_length text.now }
     ensures within { result ≤ length text.now }
 {
     for (index, byte) in text.iter().enumerate() {
@@ -120,7 +120,7 @@ fn is_name_byte(byte: u8) -> bool
 // How many bytes of a value are before its quote. Each backslash has to be before a quote or a
 // backslash (PGN 7).
 fn value_length(text: &[u8]) -> Option<usize>
-    ensures value { result ≡ scan.value_length text.now }
+    ensures value { result ≡ tag_scan.value_length text.now }
     ensures within { IfSome result (λ value. value ≤ length text.now) }
 {
     let mut is_behind_backslash = false;

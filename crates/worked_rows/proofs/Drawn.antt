@@ -1,5 +1,6 @@
 -- Boards and moves written as texts, for the worked positions.
-use Rattle.std.specs.Prelude.{ℕ, ◌+◌, ◌-◌, List, [], ◌∷◌, ◌++◌, Option, None, Some, map, flat_map, replicate, find, option_map, ◌==◌, nat_le, unwrap_or, ◌&&◌, if◌then◌else◌}
+use Prim.Native.String.{String}
+use Rattle.std.specs.Prelude.{ℕ, codes, ◌+◌, ◌-◌, List, [], ◌∷◌, ◌++◌, Option, None, Some, map, flat_map, replicate, find, option_map, ◌==◌, nat_le, unwrap_or, ◌&&◌, if◌then◌else◌}
 use Rattle.std.specs.List.{list_any}
 use Rattle.chess_rules.specs.declared.piece.Colour.{Colour}
 use Rattle.chess_rules.specs.declared.piece.Colour.TheVariants.{White, Black}
@@ -41,11 +42,8 @@ drawn_from [] rank above = rank ++ above
 drawn_from (c ∷ s) rank above =
     drawn_from s (if c == 47 then [] else rank ++ cells c) (if c == 47 then rank ++ above else above)
 
-abbrev pub drawn : List ℕ → Board
-drawn s = drawn_from s [] []
-
 -- the rights whose letters stand there, as in KQkq
-abbrev pub rights : List ℕ → Rights
+abbrev rights : List ℕ → Rights
 rights s =
     record {
       white_short = list_any (λ c. c == 75) s;
@@ -55,17 +53,20 @@ rights s =
     }
 
 -- the fields of PGN 16.1.3 in their order
-abbrev pub position : List ℕ → Colour → List ℕ → Option Square → ℕ → ℕ → Parts
+abbrev pub position : String → Colour → String → Option Square → ℕ → ℕ → Parts
 position s c r target half full =
-    record { board = drawn s; side = c; rights = rights r; target = target; half = half; full = full }
+    record { board = drawn_from (codes s) [] []; side = c; rights = rights (codes r); target = target; half = half; full = full }
 
 -- a square by its letter and digit
-abbrev pub sq : List ℕ → Square
-sq (f ∷ r ∷ []) = square (f - 97) (r - 49)
-sq _ = square 9 9
+abbrev square_at : List ℕ → Square
+square_at (f ∷ r ∷ []) = square (f - 97) (r - 49)
+square_at _ = square 9 9
 
-abbrev pub promoting : List ℕ → List ℕ → Option Promotion → Move
+abbrev pub sq : String → Square
+sq s = square_at (codes s)
+
+abbrev pub promoting : String → String → Option Promotion → Move
 promoting s t q = record { from = sq s; to = sq t; promotion = q }
 
-abbrev pub move : List ℕ → List ℕ → Move
+abbrev pub move : String → String → Move
 move s t = promoting s t None

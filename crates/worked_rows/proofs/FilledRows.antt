@@ -1,16 +1,17 @@
 -- Worked rows of games with their defaults filled in (PGN 3.2.4, 8.1.1, 9.7), of texts that are
 -- written again as they are, and of what goes wrong where a premise of the laws is missing.
+use Prim.Native.String.{String}
 use Rattle.std.proofs.Common.{◌≡◌, ℕ, List, [], ◌∷◌, ◌++◌, length, refl, arith}
-use Rattle.std.specs.Prelude.{codes, replicate, None}
+use Rattle.std.specs.Prelude.{codes, replicate}
 use Rattle.std.specs.Fmt.{digits}
-use Rattle.chess_rules.specs.Square.{square, squares}
+use Rattle.chess_rules.specs.Square.{squares}
 use Rattle.chess_text.specs.MoveOfForm.{agreeing}
 use Rattle.pgn_lexer.specs.Tokens as tokens
 use Rattle.pgn_lexer.specs.TokensOf.{tokens_of}
-use Rattle.pgn_lexer.specs.declared.token.LexReason.TheVariants as lexical
+use Rattle.pgn_lexer.specs.declared.token.LexReason.TheVariants as lex_reasons
 use Rattle.pgn_game.specs.declared.mode.Mode.TheVariants.{Full, Reduced}
 use Rattle.pgn_game.specs.declared.reason.Reason.TheVariants.{Lexical, NotAMove, TooManyTags}
-use Rattle.pgn_game.specs.Profile.{Profile, counts_as, takes_the_marker}
+use Rattle.pgn_game.specs.Profile.{Profile, counts_as}
 use Rattle.pgn_game.specs.declared.reason.Fault.{Fault}
 use Rattle.pgn_game.specs.Progress.{Counted, Verdict, refused, totals, output, verdict}
 use Rattle.pgn_game.specs.Chess.{first_position, position_of, move_of, text_of_move, play}
@@ -23,83 +24,72 @@ use Rattle.pgn_game.specs.Pairs.{Pair}
 use Rattle.pgn_game.specs.Spells.{Spells, no_pair, no_game, next_game, no_more, new_level}
 use Rattle.pgn_game.specs.TagSection.{roster}
 use Rattle.pgn_game.specs.Text.{text_of}
+use Rattle.worked_rows.proofs.LegalRows.{moves, e4, e5}
 use Rattle.worked_rows.proofs.MoveRows.{played}
-use Rattle.worked_rows.proofs.WorkedRows.{plain, reduced, Gives, counted, fault, unknown, head}
+use Rattle.worked_rows.proofs.WorkedRows.{plain, reduced, checked, Gives, BytesGive, counted, fault, unknown, head}
 
-abbrev pair : List ℕ → List ℕ → Pair
-pair name value = record { name = name; value = value }
+abbrev pair : String → String → Pair
+pair name value = record { name = codes name; value = codes value }
 
-abbrev game : List Pair → List Item → List ℕ → Game
-game pairs items marker = record { pairs = pairs; items = items; marker = marker }
+abbrev game : List Pair → List Item → String → Game
+game pairs items marker = record { pairs = pairs; items = items; marker = codes marker }
 
 abbrev fen : Pair
-fen = pair (codes "FEN") (codes "4k3/8/8/8/8/8/8/4K3 w - - 0 1")
-
-abbrev checked : Profile
-checked = record { tags = 64; depth = 32; mode = Full; missing_result = takes_the_marker }
+fen = pair "FEN" "4k3/8/8/8/8/8/8/4K3 w - - 0 1"
 
 -- The pairs of a game that has none, in the order of their names.
-no_pairs : filled Full (game [] [] (codes "*"))
+no_pairs : filled Full (game [] [] "*")
     ≡ game
-    (pair (codes "Black") (codes "?") ∷ pair (codes "Date") (codes "????.??.??")
-    ∷ pair (codes "Event") (codes "?") ∷ pair (codes "Result") (codes "*")
-    ∷ pair (codes "Round") (codes "?") ∷ pair (codes "Site") (codes "?")
-    ∷ pair (codes "White") (codes "?") ∷ []) [] (codes "*")
+    (pair "Black" "?" ∷ pair "Date" "????.??.??"
+    ∷ pair "Event" "?" ∷ pair "Result" "*"
+    ∷ pair "Round" "?" ∷ pair "Site" "?"
+    ∷ pair "White" "?" ∷ []) [] "*"
 unfolding roster
 no_pairs = refl
 
 -- A missing Result is the marker.
-marker_is_result : filled Full (game (pair (codes "White") (codes "A") ∷ []) [] (codes "1-0"))
+marker_is_result : filled Full (game (pair "White" "A" ∷ []) [] "1-0")
     ≡ game
-    (pair (codes "Black") (codes "?") ∷ pair (codes "Date") (codes "????.??.??")
-    ∷ pair (codes "Event") (codes "?") ∷ pair (codes "Result") (codes "1-0")
-    ∷ pair (codes "Round") (codes "?") ∷ pair (codes "Site") (codes "?")
-    ∷ pair (codes "White") (codes "A") ∷ []) [] (codes "1-0")
+    (pair "Black" "?" ∷ pair "Date" "????.??.??"
+    ∷ pair "Event" "?" ∷ pair "Result" "1-0"
+    ∷ pair "Round" "?" ∷ pair "Site" "?"
+    ∷ pair "White" "A" ∷ []) [] "1-0"
 unfolding roster
 marker_is_result = refl
 
 -- Beside a FEN there is SetUp 1, whatever the SetUp was.
 abbrev with_fen : List Pair
 with_fen =
-    pair (codes "Black") (codes "?") ∷ pair (codes "Date") (codes "????.??.??")
-    ∷ pair (codes "Event") (codes "?") ∷ fen ∷ pair (codes "Result") (codes "*")
-    ∷ pair (codes "Round") (codes "?") ∷ pair (codes "SetUp") (codes "1")
-    ∷ pair (codes "Site") (codes "?") ∷ pair (codes "White") (codes "?") ∷ []
+    pair "Black" "?" ∷ pair "Date" "????.??.??"
+    ∷ pair "Event" "?" ∷ fen ∷ pair "Result" "*"
+    ∷ pair "Round" "?" ∷ pair "SetUp" "1"
+    ∷ pair "Site" "?" ∷ pair "White" "?" ∷ []
 
-set_up_is_added : (filled Full (game (fen ∷ []) [] (codes "*"))).pairs ≡ with_fen
+set_up_is_added : (filled Full (game (fen ∷ []) [] "*")).pairs ≡ with_fen
 unfolding roster
 set_up_is_added = refl
 
 set_up_is_mended :
-    (filled Full (game (fen ∷ pair (codes "SetUp") (codes "0") ∷ []) [] (codes "*"))).pairs
+    (filled Full (game (fen ∷ pair "SetUp" "0" ∷ []) [] "*")).pairs
     ≡ with_fen
 unfolding roster
 set_up_is_mended = refl
 
 -- Without a FEN it stays as it is.
-set_up_alone : (filled Full (game (pair (codes "SetUp") (codes "0") ∷ []) [] (codes "*"))).pairs
-    ≡ pair (codes "Black") (codes "?") ∷ pair (codes "Date") (codes "????.??.??")
-    ∷ pair (codes "Event") (codes "?") ∷ pair (codes "Result") (codes "*")
-    ∷ pair (codes "Round") (codes "?") ∷ pair (codes "SetUp") (codes "0")
-    ∷ pair (codes "Site") (codes "?") ∷ pair (codes "White") (codes "?") ∷ []
+set_up_alone : (filled Full (game (pair "SetUp" "0" ∷ []) [] "*")).pairs
+    ≡ pair "Black" "?" ∷ pair "Date" "????.??.??"
+    ∷ pair "Event" "?" ∷ pair "Result" "*"
+    ∷ pair "Round" "?" ∷ pair "SetUp" "0"
+    ∷ pair "Site" "?" ∷ pair "White" "?" ∷ []
 unfolding roster
 set_up_alone = refl
 
 -- The game `1. e4 $1 {good} (1. d4) e5`: in the reduced format the roster and two moves are left.
-abbrev e4 : Item
-e4 = games.move (record { from = square 4 1; to = square 4 3; promotion = None })
-
-abbrev d4 : Item
-d4 = games.move (record { from = square 3 1; to = square 3 3; promotion = None })
-
-abbrev e5 : Item
-e5 = games.move (record { from = square 4 6; to = square 4 4; promotion = None })
-
 abbrev annotated : Game
 annotated =
-    game (pair (codes "ECO") (codes "C20") ∷ [])
+    game (pair "ECO" "C20" ∷ [])
     (e4 ∷ games.glyph 1 ∷ games.comment_open ∷ games.word (codes "good") ∷ games.comment_close
-    ∷ games.open_variation ∷ d4 ∷ games.close_variation ∷ e5 ∷ []) (codes "*")
+    ∷ games.open_variation ∷ moves 3 1 3 3 ∷ games.close_variation ∷ e5 ∷ []) "*"
 
 all_items : (filled Full annotated).items ≡ annotated.items
 all_items = refl
@@ -107,13 +97,13 @@ all_items = refl
 main_line : (filled Reduced annotated).items ≡ e4 ∷ e5 ∷ []
 main_line = refl
 
-roster_alone : (filled Reduced annotated).pairs ≡ (filled Full (game [] [] (codes "*"))).pairs
+roster_alone : (filled Reduced annotated).pairs ≡ (filled Full (game [] [] "*")).pairs
 unfolding roster
 roster_alone = refl
 
 -- Texts that are written again as they are.
 abbrev IsKept : Profile → Verdict → List ℕ → Type 0
-IsKept p v text = Gives p text v text
+IsKept p v text = BytesGive p text v text
 
 kept_marker : IsKept plain (counted 1) (head ++ codes "*\n\n")
 unfolding refusal roster
@@ -150,17 +140,17 @@ seven_pairs = record { tags = 7; depth = 0; mode = Full; missing_result = counts
 abbrev eighth_line : List ℕ
 eighth_line = unknown ++ codes "[Result \"*\"]\n[A \"1\"]\n\n*\n\n"
 
-no_room : Gives seven_pairs (codes "[A \"1\"] *") (counted 1) eighth_line
+no_room : Gives seven_pairs "[A \"1\"] *" (counted 1) eighth_line
 unfolding refusal roster
 no_room = (refl, refl)
 
-too_many : Gives seven_pairs eighth_line (fault 92 TooManyTags) []
+too_many : BytesGive seven_pairs eighth_line (fault 92 TooManyTags) []
 unfolding refusal roster
 too_many = (refl, refl)
 
 -- So are games that no text spells: with a name that begins with _, and a word outside comments.
 abbrev odd_name : Game
-odd_name = game (pair (codes "_a") (codes "1") ∷ []) [] (codes "*")
+odd_name = game (pair "_a" "1" ∷ []) [] "*"
 
 odd_name_text :
     text_of plain (odd_name ∷ []) ≡ unknown ++ codes "[Result \"*\"]\n[_a \"1\"]\n\n*\n\n"
@@ -168,18 +158,18 @@ unfolding roster
 odd_name_text = refl
 
 odd_name_refused :
-    Gives plain (text_of plain (odd_name ∷ [])) (fault 93 (Lexical lexical.StrayByte)) []
+    BytesGive plain (text_of plain (odd_name ∷ [])) (fault 93 (Lexical lex_reasons.StrayByte)) []
 unfolding refusal roster
 odd_name_refused = (refl, refl)
 
 abbrev bare_word : Game
-bare_word = game [] (games.word (codes "a") ∷ []) (codes "*")
+bare_word = game [] (games.word (codes "a") ∷ []) "*"
 
 bare_word_text : text_of plain (bare_word ∷ []) ≡ head ++ codes "a *\n\n"
 unfolding roster
 bare_word_text = refl
 
-bare_word_refused : Gives plain (text_of plain (bare_word ∷ [])) (fault 93 NotAMove) []
+bare_word_refused : BytesGive plain (text_of plain (bare_word ∷ [])) (fault 93 NotAMove) []
 unfolding refusal roster move_of
 bare_word_refused = (refl, refl)
 
@@ -201,11 +191,11 @@ bare_word_not_kept c = not_kept plain (text_of plain (bare_word ∷ [])) _ c bar
 abbrev six_pairs : Profile
 six_pairs = record { tags = 6; depth = 0; mode = Reduced; missing_result = counts_as (codes "*") }
 
-six_are_few : Gives six_pairs (codes "*") (counted 1) (head ++ codes "*\n\n")
+six_are_few : Gives six_pairs "*" (counted 1) (head ++ codes "*\n\n")
 unfolding refusal roster
 six_are_few = (refl, refl)
 
-seventh_line : Gives six_pairs (head ++ codes "*\n\n") (fault 79 TooManyTags) []
+seventh_line : BytesGive six_pairs (head ++ codes "*\n\n") (fault 79 TooManyTags) []
 unfolding refusal roster
 seventh_line = (refl, refl)
 
@@ -213,21 +203,21 @@ seventh_line = (refl, refl)
 abbrev eight_pairs : Profile
 eight_pairs = record { tags = 8; depth = 0; mode = Full; missing_result = counts_as (codes "*") }
 
-nine_lines : length (exported_pairs Full (game (fen ∷ []) [] (codes "*"))) ≡ 9
+nine_lines : length (exported_pairs Full (game (fen ∷ []) [] "*")) ≡ 9
 unfolding roster
 nine_lines = refl
 
-no_room_for_nine : TagSectionFits eight_pairs (game (fen ∷ []) [] (codes "*")) → ⊥
+no_room_for_nine : TagSectionFits eight_pairs (game (fen ∷ []) [] "*") → ⊥
 no_room_for_nine h = let nine = nine_lines in absurd (omega arith)
 
 -- Games that have the same text: a default may be written out; in the reduced format the other
 -- pairs, glyphs, comments and variations make no difference.
-default_written_out : filled Full (game [] [] (codes "*"))
-    ≡ filled Full (game (pair (codes "White") (codes "?") ∷ []) [] (codes "*"))
+default_written_out : filled Full (game [] [] "*")
+    ≡ filled Full (game (pair "White" "?" ∷ []) [] "*")
 unfolding roster
 default_written_out = refl
 
-same_in_reduced : filled Reduced annotated ≡ filled Reduced (game [] (e4 ∷ e5 ∷ []) (codes "*"))
+same_in_reduced : filled Reduced annotated ≡ filled Reduced (game [] (e4 ∷ e5 ∷ []) "*")
 unfolding roster
 same_in_reduced = refl
 
@@ -235,9 +225,9 @@ same_output : output plain (codes "[White \"?\"] *") ≡ output plain (codes "*"
 unfolding refusal roster
 same_output = refl
 
-marker_alone : Spells plain (tokens_of (codes "*")) (game [] [] (codes "*") ∷ [])
+marker_alone : Spells plain (tokens_of (codes "*")) (game [] [] "*" ∷ [])
 marker_alone =
-    next_game (tokens.asterisk ∷ []) (tokens.end ∷ []) (game [] [] (codes "*")) []
+    next_game (tokens.asterisk ∷ []) (tokens.end ∷ []) (game [] [] "*") []
     (record {
       before = [];
       tags = [];
@@ -258,18 +248,18 @@ marker_alone =
     (no_game [] refl)
 
 -- The laws on one game, that of `*`.
-alone : AreExportable plain (game [] [] (codes "*") ∷ [])
+alone : AreExportable plain (game [] [] "*" ∷ [])
 unfolding roster
 alone = record { source = codes "*"; spelled = marker_alone; room = (omega arith, tt) }
 
 spells_by_law : TextSpells → Spells plain (tokens_of (head ++ codes "*\n\n"))
-    (filled Full (game [] [] (codes "*")) ∷ [])
+    (filled Full (game [] [] "*") ∷ [])
 unfolding roster
-spells_by_law law = law plain (game [] [] (codes "*") ∷ []) alone
+spells_by_law law = law plain (game [] [] "*" ∷ []) alone
 
 kept_by_law : FixedPoint → IsKept plain (counted 1) (head ++ codes "*\n\n")
 unfolding roster
-kept_by_law law = let h = law plain (game [] [] (codes "*") ∷ []) alone in (h.1, h.0)
+kept_by_law law = let h = law plain (game [] [] "*" ∷ []) alone in (h.1, h.0)
 
 read_well : IsExportable plain (codes "*")
 unfolding refusal roster
@@ -279,5 +269,5 @@ twice_by_law : ExportingTwice → output plain (output plain (codes "*")) ≡ he
 unfolding refusal roster
 twice_by_law law = (law plain (codes "*") read_well).0
 
-room_by_law : FewPairsHaveRoom → TagSectionFits eight_pairs (game [] [] (codes "*"))
-room_by_law law = law eight_pairs (game [] [] (codes "*")) (omega arith)
+room_by_law : FewPairsHaveRoom → TagSectionFits eight_pairs (game [] [] "*")
+room_by_law law = law eight_pairs (game [] [] "*") (omega arith)

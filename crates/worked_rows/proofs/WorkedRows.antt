@@ -1,8 +1,9 @@
 -- Worked rows: what is written for an input, and how it ends.
+use Prim.Native.String.{String}
 use Rattle.std.proofs.Common.{◌≡◌, ℕ, List, [], ◌∷◌, ◌++◌, refl}
 use Rattle.std.specs.Prelude.{codes, replicate, map}
 use Rattle.pgn_lexer.specs.Tokens as tokens
-use Rattle.pgn_lexer.specs.declared.token.LexReason.TheVariants as lexical
+use Rattle.pgn_lexer.specs.declared.token.LexReason.TheVariants as lex_reasons
 use Rattle.pgn_game.specs.declared.mode.Mode.TheVariants.{Full, Reduced}
 use Rattle.pgn_game.specs.declared.reason.Reason.{Reason}
 use Rattle.pgn_game.specs.declared.reason.Reason.TheVariants.{Lexical, ExpectedName, BadTagName, DuplicateTag, TooManyTags, ExpectedValue, BadResult, TagLineTooLong, ExpectedBracket, ReducedFen, NotAMove, NoMoveBefore, ResultDiffers, UnexpectedEnd}
@@ -32,12 +33,15 @@ reduced_full = record { tags = 2; depth = 32; mode = Reduced; missing_result = c
 abbrev no_pairs : Profile
 no_pairs = record { tags = 0; depth = 32; mode = Full; missing_result = counts_as (codes "*") }
 
-abbrev checked : Profile
+abbrev pub checked : Profile
 checked = record { tags = 64; depth = 32; mode = Full; missing_result = takes_the_marker }
 
 -- a verdict and what is written
-abbrev pub Gives : Profile → List ℕ → Verdict → List ℕ → Type 0
-Gives p s v text = (verdict p s ≡ v) × (output p s ≡ text)
+abbrev pub BytesGive : Profile → List ℕ → Verdict → List ℕ → Type 0
+BytesGive p s v text = (verdict p s ≡ v) × (output p s ≡ text)
+
+abbrev pub Gives : Profile → String → Verdict → List ℕ → Type 0
+Gives p s v text = BytesGive p (codes s) v text
 
 -- what a row with moves opens
 unfoldable pub of_moves : ℕ
@@ -57,197 +61,79 @@ unknown = codes "[Event \"?\"]\n[Site \"?\"]\n[Date \"????.??.??\"]\n[Round \"?\
 abbrev pub head : List ℕ
 head = unknown ++ codes "[Result \"*\"]\n\n"
 
-empty_input : Gives plain [] (counted 0) []
+tags_and_markers : Unit {0}
 unfolding refusal roster
-empty_input = (refl, refl)
+tags_and_markers =
+    let empty_input : Gives plain "" (counted 0) [] = (refl, refl) in
+    let marker_alone : Gives plain "*" (counted 1) (head ++ codes "*\n\n") = (refl, refl) in
+    let marker_differs : Gives plain "1-0" (fault 0 ResultDiffers) [] = (refl, refl) in
+    let marker_is_taken : Gives checked "1-0" (counted 1) (unknown ++ codes "[Result \"1-0\"]\n\n1-0\n\n") = (refl, refl) in
+    let two_games : Gives plain "[Result \"1-0\"] 1-0 *" (counted 2) (unknown ++ codes "[Result \"1-0\"]\n\n1-0\n\n" ++ head ++ codes "*\n\n") =
+    (refl, refl) in
+    -- the roster is not sorted, the other names are; a quote and a backslash are escaped
+    let tag_order : Gives plain "[b \"2\"][Site \"x\\\"y\\\\z\\q\"][A \"1\"] *" (counted 1)
+    (codes "[Event \"?\"]\n[Site \"x\\\"y\\\\z\\\\q\"]\n[Date \"????.??.??\"]\n[Round \"?\"]\n[White \"?\"]\n[Black \"?\"]\n[Result \"*\"]\n[A \"1\"]\n[b \"2\"]\n\n*\n\n") = (refl, refl) in
+    let reduced_to_the_roster : Gives reduced "[ECO \"C20\"][White \"A\"] *" (counted 1)
+    (codes "[Event \"?\"]\n[Site \"?\"]\n[Date \"????.??.??\"]\n[Round \"?\"]\n[White \"A\"]\n[Black \"?\"]\n[Result \"*\"]\n\n*\n\n") =
+    (refl, refl) in
+    let tag_limit : Gives two_pairs "[A \"1\"][B \"2\"][C \"3\"] *" (fault 14 TooManyTags) [] = (refl, refl) in
+    let longest_value : BytesGive plain (codes "[Event \"" ++ replicate 244 118 ++ codes "\"] *") (counted 1)
+    (codes "[Event \"" ++ replicate 244 118 ++ codes "\"]\n[Site \"?\"]\n[Date \"????.??.??\"]\n[Round \"?\"]\n[White \"?\"]\n[Black \"?\"]\n[Result \"*\"]\n\n*\n\n") = (refl, refl) in
+    let value_too_long : BytesGive plain (codes "[Event \"" ++ replicate 245 118 ++ codes "\"] *") (fault 7 TagLineTooLong) [] = (refl, refl) in
+    let name_too_long : BytesGive plain (91 ∷ (replicate 250 97 ++ codes " \"\"] *")) (fault 1 TagLineTooLong) [] = (refl, refl) in
+    let escapes_count : BytesGive plain (codes "[A \"" ++ replicate 124 92 ++ replicate 125 120 ++ codes "\"] *") (fault 3 TagLineTooLong) [] =
+    (refl, refl) in
+    let dropped_comments : Gives plain "{a}[A {b} \"1\"{c}] *{d}" (counted 1) (unknown ++ codes "[Result \"*\"]\n[A \"1\"]\n\n*\n\n") =
+    (refl, refl) in
+    let name_expected : Gives plain "[\"A\"]" (fault 1 ExpectedName) [] = (refl, refl) in
+    let name_expected_at_end : Gives plain "[" (fault 1 ExpectedName) [] = (refl, refl) in
+    let bad_name : Gives plain "[A-B \"x\"]" (fault 1 BadTagName) [] = (refl, refl) in
+    let twice : Gives plain "[A \"1\"][A \"2\"]" (fault 8 DuplicateTag) [] = (refl, refl) in
+    let value_expected : Gives plain "[A]" (fault 2 ExpectedValue) [] = (refl, refl) in
+    let bad_result : Gives plain "[Result \"1\"]" (fault 8 BadResult) [] = (refl, refl) in
+    let bracket_expected : Gives plain "[A \"1\" x]" (fault 7 ExpectedBracket) [] = (refl, refl) in
+    let fen_in_reduced_mode : Gives reduced "[FEN \"x\"]" (fault 1 ReducedFen) [] = (refl, refl) in
+    tt
 
-marker_alone : Gives plain (codes "*") (counted 1) (head ++ codes "*\n\n")
-unfolding refusal roster
-marker_alone = (refl, refl)
-
-marker_differs : Gives plain (codes "1-0") (fault 0 ResultDiffers) []
-unfolding refusal roster
-marker_differs = (refl, refl)
-
-marker_is_taken : Gives checked (codes "1-0") (counted 1) (unknown ++ codes "[Result \"1-0\"]\n\n1-0\n\n")
-unfolding refusal roster
-marker_is_taken = (refl, refl)
-
-two_games : Gives plain (codes "[Result \"1-0\"] 1-0 *") (counted 2) (unknown ++ codes "[Result \"1-0\"]\n\n1-0\n\n" ++ head ++ codes "*\n\n")
-unfolding refusal roster
-two_games = (refl, refl)
-
--- the roster is not sorted, the other names are; a quote and a backslash are escaped
-tag_order : Gives plain (codes "[b \"2\"][Site \"x\\\"y\\\\z\\q\"][A \"1\"] *") (counted 1)
-    (codes "[Event \"?\"]\n[Site \"x\\\"y\\\\z\\\\q\"]\n[Date \"????.??.??\"]\n[Round \"?\"]\n[White \"?\"]\n[Black \"?\"]\n[Result \"*\"]\n[A \"1\"]\n[b \"2\"]\n\n*\n\n")
-unfolding refusal roster
-tag_order = (refl, refl)
-
-reduced_to_the_roster : Gives reduced (codes "[ECO \"C20\"][White \"A\"] *") (counted 1)
-    (codes "[Event \"?\"]\n[Site \"?\"]\n[Date \"????.??.??\"]\n[Round \"?\"]\n[White \"A\"]\n[Black \"?\"]\n[Result \"*\"]\n\n*\n\n")
-unfolding refusal roster
-reduced_to_the_roster = (refl, refl)
-
-tag_limit : Gives two_pairs (codes "[A \"1\"][B \"2\"][C \"3\"] *") (fault 14 TooManyTags) []
-unfolding refusal roster
-tag_limit = (refl, refl)
-
-longest_value : Gives plain (codes "[Event \"" ++ replicate 244 118 ++ codes "\"] *") (counted 1)
-    (codes "[Event \"" ++ replicate 244 118 ++ codes "\"]\n[Site \"?\"]\n[Date \"????.??.??\"]\n[Round \"?\"]\n[White \"?\"]\n[Black \"?\"]\n[Result \"*\"]\n\n*\n\n")
-unfolding refusal roster
-longest_value = (refl, refl)
-
-value_too_long : Gives plain (codes "[Event \"" ++ replicate 245 118 ++ codes "\"] *") (fault 7 TagLineTooLong) []
-unfolding refusal roster
-value_too_long = (refl, refl)
-
-name_too_long : Gives plain (91 ∷ (replicate 250 97 ++ codes " \"\"] *")) (fault 1 TagLineTooLong) []
-unfolding refusal roster
-name_too_long = (refl, refl)
-
-escapes_count : Gives plain (codes "[A \"" ++ replicate 124 92 ++ replicate 125 120 ++ codes "\"] *") (fault 3 TagLineTooLong) []
-unfolding refusal roster
-escapes_count = (refl, refl)
-
-dropped_comments : Gives plain (codes "{a}[A {b} \"1\"{c}] *{d}") (counted 1) (unknown ++ codes "[Result \"*\"]\n[A \"1\"]\n\n*\n\n")
-unfolding refusal roster
-dropped_comments = (refl, refl)
-
-name_expected : Gives plain (codes "[\"A\"]") (fault 1 ExpectedName) []
-unfolding refusal roster
-name_expected = (refl, refl)
-
-name_expected_at_end : Gives plain (codes "[") (fault 1 ExpectedName) []
-unfolding refusal roster
-name_expected_at_end = (refl, refl)
-
-bad_name : Gives plain (codes "[A-B \"x\"]") (fault 1 BadTagName) []
-unfolding refusal roster
-bad_name = (refl, refl)
-
-twice : Gives plain (codes "[A \"1\"][A \"2\"]") (fault 8 DuplicateTag) []
-unfolding refusal roster
-twice = (refl, refl)
-
-value_expected : Gives plain (codes "[A]") (fault 2 ExpectedValue) []
-unfolding refusal roster
-value_expected = (refl, refl)
-
-bad_result : Gives plain (codes "[Result \"1\"]") (fault 8 BadResult) []
-unfolding refusal roster
-bad_result = (refl, refl)
-
-bracket_expected : Gives plain (codes "[A \"1\" x]") (fault 7 ExpectedBracket) []
-unfolding refusal roster
-bracket_expected = (refl, refl)
-
-fen_in_reduced_mode : Gives reduced (codes "[FEN \"x\"]") (fault 1 ReducedFen) []
-unfolding refusal roster
-fen_in_reduced_mode = (refl, refl)
-
-no_move : Gives plain (codes "e9 *") (fault 0 NotAMove) []
+no_move : Gives plain "e9 *" (fault 0 NotAMove) []
 unfolding refusal roster move_of
 no_move = (refl, refl)
 
-result_differs : Gives plain (codes "[Result \"1-0\"] 0-1") (fault 15 ResultDiffers) []
+more_tags_and_markers : Unit {0}
 unfolding refusal roster
-result_differs = (refl, refl)
-
-second_game_differs : Gives plain (codes "* 1-0") (fault 2 ResultDiffers) (head ++ codes "*\n\n")
-unfolding refusal roster
-second_game_differs = (refl, refl)
-
-ends_after_tags : Gives plain (codes "[A \"1\"]") (fault 7 UnexpectedEnd) []
-unfolding refusal roster
-ends_after_tags = (refl, refl)
-
-string_not_closed : Gives plain (codes "[A \"x\n") (fault 3 (Lexical lexical.UnclosedString)) []
-unfolding refusal roster
-string_not_closed = (refl, refl)
-
-games_before_a_stray_byte : Gives plain (codes "* &") (fault 2 (Lexical lexical.StrayByte)) (head ++ codes "*\n\n")
-unfolding refusal roster
-games_before_a_stray_byte = (refl, refl)
-
-value_expected_at_end : Gives plain (codes "[A") (fault 2 ExpectedValue) ([])
-unfolding refusal roster
-value_expected_at_end = (refl, refl)
-
-bracket_expected_at_end : Gives plain (codes "[A \"1\"") (fault 6 ExpectedBracket) ([])
-unfolding refusal roster
-bracket_expected_at_end = (refl, refl)
-
-name_expected_after_pair : Gives plain (codes "[A \"1\"] [") (fault 9 ExpectedName) ([])
-unfolding refusal roster
-name_expected_after_pair = (refl, refl)
-
-pairs_do_not_carry_over : Gives plain (codes "[A \"1\"] * [A \"1\"] *") (counted 2) (unknown ++ codes "[Result \"*\"]\n[A \"1\"]\n\n*\n\n" ++ unknown ++ codes "[Result \"*\"]\n[A \"1\"]\n\n*\n\n")
-unfolding refusal roster
-pairs_do_not_carry_over = (refl, refl)
-
-result_does_not_carry_over : Gives plain (codes "[Result \"1-0\"] 1-0 1-0") (fault 19 ResultDiffers) (unknown ++ codes "[Result \"1-0\"]\n\n1-0\n\n")
-unfolding refusal roster
-result_does_not_carry_over = (refl, refl)
-
-draw : Gives plain (codes "[Result \"1/2-1/2\"] 1/2-1/2") (counted 1) (unknown ++ codes "[Result \"1/2-1/2\"]\n\n1/2-1/2\n\n")
-unfolding refusal roster
-draw = (refl, refl)
-
-loss : Gives plain (codes "[Result \"0-1\"] 0-1") (counted 1) (unknown ++ codes "[Result \"0-1\"]\n\n0-1\n\n")
-unfolding refusal roster
-loss = (refl, refl)
-
-escapes_fit : Gives plain (codes "[A \"" ++ replicate 124 92 ++ replicate 124 120 ++ codes "\"] *") (counted 1) (unknown ++ codes "[Result \"*\"]\n[A \"" ++ replicate 124 92 ++ replicate 124 120 ++ codes "\"]\n\n*\n\n")
-unfolding refusal roster
-escapes_fit = (refl, refl)
-
-bad_and_too_long : Gives plain (91 ∷ (replicate 249 97 ++ codes "- \"\"] *")) (fault 1 BadTagName) ([])
-unfolding refusal roster
-bad_and_too_long = (refl, refl)
-
-bad_result_and_too_long : Gives plain (codes "[Result \"" ++ replicate 245 120 ++ codes "\"]") (fault 8 BadResult) ([])
-unfolding refusal roster
-bad_result_and_too_long = (refl, refl)
-
-stray_byte_in_a_pair : Gives plain (codes "[&") (fault 1 (Lexical lexical.StrayByte)) ([])
-unfolding refusal roster
-stray_byte_in_a_pair = (refl, refl)
-
-full_before_fen : Gives reduced_full (codes "[A \"1\"][B \"2\"][FEN \"x\"]") (fault 14 TooManyTags) ([])
-unfolding refusal roster
-full_before_fen = (refl, refl)
-
-no_pairs_allowed : Gives no_pairs (codes "[A \"1\"] *") (fault 0 TooManyTags) ([])
-unfolding refusal roster
-no_pairs_allowed = (refl, refl)
-
-empty_value : Gives plain (codes "[Event \"\"] *") (counted 1) (codes "[Event \"\"]\n[Site \"?\"]\n[Date \"????.??.??\"]\n[Round \"?\"]\n[White \"?\"]\n[Black \"?\"]\n[Result \"*\"]\n\n*\n\n")
-unfolding refusal roster
-empty_value = (refl, refl)
-
-a_prefix_first : Gives plain (codes "[AB \"1\"][A \"2\"][a \"3\"] *") (counted 1) (unknown ++ codes "[Result \"*\"]\n[A \"2\"]\n[AB \"1\"]\n[a \"3\"]\n\n*\n\n")
-unfolding refusal roster
-a_prefix_first = (refl, refl)
-
-lone_bracket : Gives plain (codes "] *") (fault 0 NotAMove) ([])
-unfolding refusal roster
-lone_bracket = (refl, refl)
-
-lone_string : Gives plain (codes "\"x\" *") (fault 0 NotAMove) ([])
-unfolding refusal roster
-lone_string = (refl, refl)
-
-comment_after_tags : Gives plain (codes "[A \"1\"]{a} *") (counted 1) (unknown ++ codes "[Result \"*\"]\n[A \"1\"]\n\n{ a } *\n\n")
-unfolding refusal roster
-comment_after_tags = (refl, refl)
-
-parenthesis : Gives plain (codes "(e4) *") (fault 0 NoMoveBefore) ([])
-unfolding refusal roster
-parenthesis = (refl, refl)
-
-result_differs_from_a_pair : Gives checked (codes "[Result \"1-0\"] 0-1") (fault 15 ResultDiffers) ([])
-unfolding refusal roster
-result_differs_from_a_pair = (refl, refl)
+more_tags_and_markers =
+    let result_differs : Gives plain "[Result \"1-0\"] 0-1" (fault 15 ResultDiffers) [] = (refl, refl) in
+    let second_game_differs : Gives plain "* 1-0" (fault 2 ResultDiffers) (head ++ codes "*\n\n") = (refl, refl) in
+    let ends_after_tags : Gives plain "[A \"1\"]" (fault 7 UnexpectedEnd) [] = (refl, refl) in
+    let string_not_closed : Gives plain "[A \"x\n" (fault 3 (Lexical lex_reasons.UnclosedString)) [] = (refl, refl) in
+    let games_before_a_stray_byte : Gives plain "* &" (fault 2 (Lexical lex_reasons.StrayByte)) (head ++ codes "*\n\n") = (refl, refl) in
+    let value_expected_at_end : Gives plain "[A" (fault 2 ExpectedValue) [] = (refl, refl) in
+    let bracket_expected_at_end : Gives plain "[A \"1\"" (fault 6 ExpectedBracket) [] = (refl, refl) in
+    let name_expected_after_pair : Gives plain "[A \"1\"] [" (fault 9 ExpectedName) [] = (refl, refl) in
+    let pairs_do_not_carry_over : Gives plain "[A \"1\"] * [A \"1\"] *" (counted 2)
+    (unknown ++ codes "[Result \"*\"]\n[A \"1\"]\n\n*\n\n" ++ unknown ++ codes "[Result \"*\"]\n[A \"1\"]\n\n*\n\n") = (refl, refl) in
+    let result_does_not_carry_over : Gives plain "[Result \"1-0\"] 1-0 1-0" (fault 19 ResultDiffers)
+    (unknown ++ codes "[Result \"1-0\"]\n\n1-0\n\n") = (refl, refl) in
+    let draw : Gives plain "[Result \"1/2-1/2\"] 1/2-1/2" (counted 1) (unknown ++ codes "[Result \"1/2-1/2\"]\n\n1/2-1/2\n\n") = (refl, refl) in
+    let loss : Gives plain "[Result \"0-1\"] 0-1" (counted 1) (unknown ++ codes "[Result \"0-1\"]\n\n0-1\n\n") = (refl, refl) in
+    let escapes_fit : BytesGive plain (codes "[A \"" ++ replicate 124 92 ++ replicate 124 120 ++ codes "\"] *") (counted 1)
+    (unknown ++ codes "[Result \"*\"]\n[A \"" ++ replicate 124 92 ++ replicate 124 120 ++ codes "\"]\n\n*\n\n") = (refl, refl) in
+    let bad_and_too_long : BytesGive plain (91 ∷ (replicate 249 97 ++ codes "- \"\"] *")) (fault 1 BadTagName) [] = (refl, refl) in
+    let bad_result_and_too_long : BytesGive plain (codes "[Result \"" ++ replicate 245 120 ++ codes "\"]") (fault 8 BadResult) [] = (refl, refl) in
+    let stray_byte_in_a_pair : Gives plain "[&" (fault 1 (Lexical lex_reasons.StrayByte)) [] = (refl, refl) in
+    let full_before_fen : Gives reduced_full "[A \"1\"][B \"2\"][FEN \"x\"]" (fault 14 TooManyTags) [] = (refl, refl) in
+    let no_pairs_allowed : Gives no_pairs "[A \"1\"] *" (fault 0 TooManyTags) [] = (refl, refl) in
+    let empty_value : Gives plain "[Event \"\"] *" (counted 1)
+    (codes "[Event \"\"]\n[Site \"?\"]\n[Date \"????.??.??\"]\n[Round \"?\"]\n[White \"?\"]\n[Black \"?\"]\n[Result \"*\"]\n\n*\n\n") =
+    (refl, refl) in
+    let a_prefix_first : Gives plain "[AB \"1\"][A \"2\"][a \"3\"] *" (counted 1)
+    (unknown ++ codes "[Result \"*\"]\n[A \"2\"]\n[AB \"1\"]\n[a \"3\"]\n\n*\n\n") = (refl, refl) in
+    let lone_bracket : Gives plain "] *" (fault 0 NotAMove) [] = (refl, refl) in
+    let lone_string : Gives plain "\"x\" *" (fault 0 NotAMove) [] = (refl, refl) in
+    let comment_after_tags : Gives plain "[A \"1\"]{a} *" (counted 1) (unknown ++ codes "[Result \"*\"]\n[A \"1\"]\n\n{ a } *\n\n") = (refl, refl) in
+    let parenthesis : Gives plain "(e4) *" (fault 0 NoMoveBefore) [] = (refl, refl) in
+    let result_differs_from_a_pair : Gives checked "[Result \"1-0\"] 0-1" (fault 15 ResultDiffers) [] = (refl, refl) in
+    tt
 
 -- the rows of the table stand in the order of their numbers
 in_order : map (λ r. number_of r.reason) (rows plain no_part tokens.end) ≡ 20 ∷ 21 ∷ 22 ∷ 23 ∷ 24 ∷ 25 ∷ 26 ∷ 27 ∷ 27 ∷ 28 ∷ 30 ∷ 31 ∷ 32 ∷ 33

@@ -2,7 +2,7 @@
 use Rattle.chess_text.proofs.Words.{◌≡◌, ℕ, ◌+◌, ◌-◌, ◌<◌, ◌⊎◌, inl, inr, Bool, true, false, ◌&&◌, ◌||◌, nat_lt, ◌==◌, List, [], ◌∷◌, ◌++◌, length, take, append-nil, length-append, refl, sym, ◌∙◌, ap, ap₂, subst, arith, Option, None, Some, bytes_eq, codes, false≢true, nat_tests, take_more, take_all, bytes_eq-Decides, Kind, King, Queen, Rook, Bishop, Knight, Pawn, Promotion, Square, on_board, Form, Castle, Man, file_letter, rank_digit, square_text, SpellsPieceMove, SpellsBare, Spells, is_among, letter_texts, hint_text, capture_texts, promotion_letter, promotion_texts, castle_texts, is_mark, below_eight, is_form, last_byte, front, front_if, before_marks, file_of, rank_of, promotion_of, promotion_at_end, before_sign, before_promotion, target_at_end, before_capture, before_target, rank_at_end, before_rank, file_at_end, before_file, kind_of_text, piece_move_if, piece_move_before, piece_move_at, piece_move_of, castle_of, bare_form, form_of, false_from_ne_true}
 use Rattle.std.proofs.Math.Seq.{get_or-append_seam, take-append_seam}
 use Rattle.std.proofs.lemmas.List.{append_assoc}
-use Rattle.chess_rules.specs.declared.piece.Promotion.TheVariants as become
+use Rattle.chess_rules.specs.declared.piece.Promotion.TheVariants as promotions
 use Rattle.chess_text.proofs.forms.BeforeMarks.{before_marks-append, before_marks-last}
 use Rattle.chess_text.proofs.positions.FieldsOfText.{first_of_two, second_of_two}
 
@@ -178,10 +178,10 @@ digit_no_zero : (n : ℕ) → nat_lt n 8 ≡ true → (49 + n == 48) ≡ false
 digit_no_zero n h = grind (arith, nat_tests)
 
 promotion_back : (q : Promotion) → promotion_of (promotion_letter q) ≡ Some q
-promotion_back become.Queen = refl
-promotion_back become.Rook = refl
-promotion_back become.Bishop = refl
-promotion_back become.Knight = refl
+promotion_back promotions.Queen = refl
+promotion_back promotions.Rook = refl
+promotion_back promotions.Bishop = refl
+promotion_back promotions.Knight = refl
 
 -- the last byte of the text of a piece's move is no mark, and ends no castling
 record Ends (c : ℕ) : Type 0 where
@@ -190,10 +190,10 @@ record Ends (c : ℕ) : Type 0 where
   no_zero : (c == 48) ≡ false
 
 letter_ends : (q : Promotion) → Ends (promotion_letter q)
-letter_ends become.Queen = record { no_mark = refl; no_letter = refl; no_zero = refl }
-letter_ends become.Rook = record { no_mark = refl; no_letter = refl; no_zero = refl }
-letter_ends become.Bishop = record { no_mark = refl; no_letter = refl; no_zero = refl }
-letter_ends become.Knight = record { no_mark = refl; no_letter = refl; no_zero = refl }
+letter_ends promotions.Queen = record { no_mark = refl; no_letter = refl; no_zero = refl }
+letter_ends promotions.Rook = record { no_mark = refl; no_letter = refl; no_zero = refl }
+letter_ends promotions.Bishop = record { no_mark = refl; no_letter = refl; no_zero = refl }
+letter_ends promotions.Knight = record { no_mark = refl; no_letter = refl; no_zero = refl }
 
 record PromotionRead (s t : List ℕ) (promotion : Option Promotion) : Type 0 where
   told : promotion_at_end t ≡ promotion

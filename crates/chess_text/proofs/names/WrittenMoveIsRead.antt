@@ -1,6 +1,6 @@
 -- The text of a legal move is a symbol, and is read as the move.
 use Rattle.chess_text.proofs.Words.{◌≡◌, ℕ, ◌+◌, ◌<◌, ◌≤◌, Bool, true, false, inl, inr, ◌&&◌, ◌||◌, List, [], ◌∷◌, ◌++◌, length, refl, sym, ap, subst, ◌∙◌, arith, length-append, Option, None, Some, is_some, option_map, codes, bytes_eq, nat_le, nat_lt, ◌==◌, if◌then◌else◌, list_all, list_any, false≢true, and_parts, and_from, or_cases, le-leb, lt-leb, leb-true, ltb-true, bytes_eq-Decides, Kind, King, Queen, Rook, Bishop, Knight, Pawn, Piece, Promotion, Move, Parts, OneKing, legal, Square, on_board, move_of_form, is_digit, letter, file_letter, rank_digit, square_text, disambiguation_by, rivals, on_file, on_rank, capture_if, capture_text, pawn_capture, promotion_text, castling_text, king_text, disambiguated_text, kind_text, piece_text, mark, san, is_letter, is_move_byte, begins_with_letter, is_marker, IsMoveSymbol, WrittenMoveIsSymbol, WrittenMoveIsRead, and_right, and_left, or_left, or_right, or_from}
-use Rattle.chess_rules.specs.declared.piece.Promotion.TheVariants as become
+use Rattle.chess_rules.specs.declared.piece.Promotion.TheVariants as promotions
 use Rattle.chess_text.proofs.forms.AgreeingAreFound.{the_one_move_is_read}
 use Rattle.chess_text.proofs.forms.CastlingMoves.{stepped}
 use Rattle.chess_text.proofs.forms.SpellingToForm.{form_read}
@@ -103,10 +103,10 @@ capture_bytes false = record { all = refl; fits = omega arith }
 
 promotion_bytes : (q : Option Promotion) → Bytes 2 (promotion_text q)
 promotion_bytes None = record { all = refl; fits = omega arith }
-promotion_bytes (Some become.Queen) = record { all = refl; fits = omega arith }
-promotion_bytes (Some become.Rook) = record { all = refl; fits = omega arith }
-promotion_bytes (Some become.Bishop) = record { all = refl; fits = omega arith }
-promotion_bytes (Some become.Knight) = record { all = refl; fits = omega arith }
+promotion_bytes (Some promotions.Queen) = record { all = refl; fits = omega arith }
+promotion_bytes (Some promotions.Rook) = record { all = refl; fits = omega arith }
+promotion_bytes (Some promotions.Bishop) = record { all = refl; fits = omega arith }
+promotion_bytes (Some promotions.Knight) = record { all = refl; fits = omega arith }
 
 mark_bytes : (o : Option Parts) → Bytes 1 (mark o)
 mark_bytes None = record { all = refl; fits = omega arith }
@@ -230,16 +230,9 @@ other_text s t e other = by_test _ refl
 
 no_marker : (s : List ℕ) → begins_with_letter s ≡ true → is_marker s ≡ false
 no_marker s e =
-    let win = other_text s (codes "1-0") e refl in
-    let loss = other_text s (codes "0-1") e refl in
-    let draw = other_text s (codes "1/2-1/2") e refl in
-    let unknown = other_text s _ e refl in
-    or_from
-    _
-    _
-    (or_from _
-    _
-    (or_from _ _ win loss) draw) unknown
+    or_from _ _
+    (or_from _ _ (or_from _ _ (other_text s _ e refl) (other_text s _ e refl)) (other_text s _ e refl))
+    (other_text s _ e refl)
 
 -- with the mark
 begins_append : (s t : List ℕ) → begins_with_letter s ≡ true → begins_with_letter (s ++ t) ≡ true

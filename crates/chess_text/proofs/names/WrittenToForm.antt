@@ -1,6 +1,6 @@
 -- The form that the text of a legal move spells.
 use Rattle.chess_text.proofs.Words.{◌≡◌, ℕ, inl, inr, Bool, true, false, not, ◌&&◌, ◌||◌, List, [], ◌∷◌, ◌++◌, append-nil, refl, sym, ◌∙◌, ap, ap₂, subst, ◌==◌, Option, None, Some, is_none, codes, if◌then◌else◌, list_all, list_any, false≢true, and_parts, and_from, or_cases, eq-eqb, Kind, King, Queen, Rook, Bishop, Knight, Pawn, Piece, Promotion, Move, Parts, Square, on_board, same_square, at, has_colour, same_kind, attacks, own, is_piece_step, is_pawn_step, is_en_passant, castles_short, castles_long, short_right, long_right, short_wing, long_wing, legal, is_legal, Form, Castle, Man, letter, file_letter, rank_digit, square_text, SpellsBare, Spells, is_among, letter_texts, hint_text, capture_texts, promotion_texts, is_mark, below_eight, is_form, hints_fit, same_promotion, is_castling, describes, agrees, is_capture, capture_if, capture_text, pawn_capture, promotion_text, castling_text, king_text, disambiguated_text, kind_text, mark, san, disambiguation_by, rivals, on_file, on_rank, has_rivals, false_from_ne_true}
-use Rattle.chess_rules.specs.declared.piece.Promotion.TheVariants as become
+use Rattle.chess_rules.specs.declared.piece.Promotion.TheVariants as promotions
 use Rattle.chess_text.proofs.forms.CastlingMoves.{stepped, castling_goes_far}
 use Rattle.chess_text.proofs.forms.CastlingForms.{castles_ends}
 use Rattle.chess_text.proofs.forms.PieceForms.{same_square-refl, same_promotion-refl}
@@ -78,10 +78,10 @@ king_spelled p m = by_wing _ _
 
 promotion_written : (q : Option Promotion) → is_among (promotion_text q) (promotion_texts q) ≡ true
 promotion_written None = refl
-promotion_written (Some become.Queen) = refl
-promotion_written (Some become.Rook) = refl
-promotion_written (Some become.Bishop) = refl
-promotion_written (Some become.Knight) = refl
+promotion_written (Some promotions.Queen) = refl
+promotion_written (Some promotions.Rook) = refl
+promotion_written (Some promotions.Bishop) = refl
+promotion_written (Some promotions.Knight) = refl
 
 pawn_spelled : (takes : Bool) (m : Move) → SpellsBare (pawn_capture takes m ++ square_text m.to ++ promotion_text m.promotion) (pawn_form_by takes m)
 pawn_spelled true m = record { letters = []; capture = codes "x"; promoted = promotion_text _; joined = refl; letters_fit = refl; capture_fits = refl; promoted_fits = promotion_written m.promotion }

@@ -27,20 +27,33 @@ length-placement_text b =
     let row_low = length-rank_text 0 (row b 7) in
     omega (arith, ap (λ t. length t) (ends b), length-append (rank_text 0 (row b 7)) (lower b 7), row_low, length-lower b 7)
 
-pub next_rank : (b : Board) (text rank : List ℕ) (i : ℕ) → WrittenTo b text i → i < 7 → rank ≡ rank_text 0 (row b (6 - i)) → length rank ≤ 8
-    → WrittenTo b ((text ++ 47 ∷ []) ++ rank) (i + 1)
-next_rank b text rank i so_far h e low =
+pub first_rank : (b : Board) (text new : List ℕ) → text ≡ [] → new ≡ text ++ rank_text 0 (row b 7) → WrittenTo b new 0
+first_rank b text new e f =
+    let row_low = length-rank_text 0 (row b 7) in
+    let same : new ≡ rank_text 0 (row b 7) = cc in
+    record { whole = cc (ends b); short = omega (arith, ap (λ t. length t) same, row_low) }
+
+pub next_rank : (b : Board) (text slash new : List ℕ) (i : ℕ) → WrittenTo b text i → i < 7 → slash ≡ text ++ 47 ∷ []
+    → new ≡ slash ++ rank_text 0 (row b (6 - i)) → WrittenTo b new (i + 1)
+next_rank b text slash new i so_far h e f =
+    let rank : List ℕ = rank_text 0 (row b (6 - i)) in
+    let one_less : 7 - i ≡ suc (6 - i) = omega (arith, h) in
+    let same : 6 - i ≡ 7 - (i + 1) = omega (arith, h) in
     record {
       whole =
-          append_assoc _ rank _ ∙ append_assoc text _ _
-          ∙ ap (λ t. text ++ t) (sym (down e)) ∙ so_far.whole;
-      short = omega (arith, so_far.short, low, length-append (text ++ 47 ∷ []) rank, length-append text (47 ∷ []));
+          ap (λ t. t ++ lower b (7 - (i + 1))) (f ∙ ap (λ t. t ++ rank) e)
+          ∙ append_assoc (text ++ 47 ∷ []) rank _ ∙ append_assoc text (47 ∷ []) _
+          ∙ ap (λ t. text ++ t) (sym (ap (λ n. lower b n) one_less ∙ ap (λ n. 47 ∷ (rank ++ lower b n)) same)) ∙ so_far.whole;
+      short = omega (
+        arith,
+        so_far.short,
+        ap (λ t. length t) f,
+        ap (λ t. length t) e,
+        length-append slash rank,
+        length-append text (47 ∷ []),
+        length-rank_text 0 (row b (6 - i)),
+      );
     }
-  where
-    down : rank ≡ rank_text 0 (row b (6 - i)) → lower b (7 - i) ≡ 47 ∷ (rank ++ lower b (7 - (i + 1)))
-    down e =
-        let one_less : 7 - i ≡ suc (6 - i) = omega (arith, h) in let same : 6 - i ≡ 7 - (i + 1) = omega (arith, h) in
-        cc
 
 pub last_rank_written : (b : Board) (text : List ℕ) (i : ℕ) → WrittenTo b text i → 7 ≤ i → text ≡ placement_text b
 last_rank_written b text i so_far h =

@@ -1,15 +1,10 @@
 -- What the bytes of a rank stand for.
-use Rattle.chess_text.proofs.Words.{◌≡◌, ℕ, ◌+◌, ◌-◌, ◌<◌, ◌≤◌, Bool, true, false, ◌&&◌, ◌==◌, nat_le, List, [], ◌∷◌, ◌++◌, length, get_or, take, drop, replicate, refl, sym, ◌∙◌, ap, arith, length-append, Option, None, Some, Result, Ok, Err, is_ok, if◌then◌else◌, OnOk, false≢true, nat_tests, list_all, take-replicate, take-append-drop, take_more, flat_map-append, list_all_at, Piece, is_run, is_item, cells_at, cells_of, is_rank, and_right}
+use Rattle.chess_text.proofs.Words.{◌≡◌, ℕ, ◌+◌, ◌-◌, ◌<◌, ◌≤◌, Bool, true, false, ◌&&◌, ◌==◌, nat_le, List, [], ◌∷◌, ◌++◌, length, get_or, take, drop, replicate, refl, sym, ◌∙◌, ap, arith, length-append, Option, None, Some, Result, Ok, Err, is_ok, if◌then◌else◌, OnOk, nat_tests, list_all, take-replicate, take-append-drop, take_more, flat_map-append, list_all_at, Piece, is_run, is_item, cells_at, cells_of, is_rank, and_right}
 use Rattle.std.specs.Bool.{OnTrue}
 
 pub on_true_from_ok : {T E P Q : Type 0} (r : Result T E) (b : Bool) → b ≡ is_ok r → OnOk r P → (P → Q) → OnTrue b Q
 on_true_from_ok (Ok x) b e p f = rw e (f p)
 on_true_from_ok (Err x) b e p f = rw e tt
-
--- a call that has the room it needs
-pub when_ok : {T E P : Type 0} (r : Result T E) → is_ok r ≡ true → OnOk r P → P
-when_ok (Ok x) h p = p
-when_ok (Err x) h p = absurd (false≢true h)
 
 low : (c : ℕ) → is_run c ≡ true → c - 48 ≤ 8
 low c h = grind (arith, nat_tests)

@@ -1,6 +1,6 @@
 -- The forms of worked texts.
 use Rattle.chess_text.proofs.Words.{◌≡◌, ℕ, true, false, Option, None, Some, refl, codes, Kind, King, Queen, Rook, Bishop, Knight, Pawn, Promotion, Square, square, Form, Castle, Man, Spells, is_form, form_of}
-use Rattle.chess_rules.specs.declared.piece.Promotion.TheVariants as become
+use Rattle.chess_rules.specs.declared.piece.Promotion.TheVariants as promotions
 
 -- to a square, with no promotion
 abbrev to : Kind → Option ℕ → Option ℕ → Square → Option Form
@@ -18,19 +18,19 @@ pawn_by_letter = refl
 knight : form_of (codes "Ng1f3") ≡ to Knight (Some 6) (Some 0) (square 5 2)
 knight = refl
 
-promotion : form_of (codes "exd8=Q+") ≡ becoming (Some 4) (square 3 7) become.Queen
+promotion : form_of (codes "exd8=Q+") ≡ becoming (Some 4) (square 3 7) promotions.Queen
 promotion = refl
 
-bare_promotion : form_of (codes "ed8Q") ≡ becoming (Some 4) (square 3 7) become.Queen
+bare_promotion : form_of (codes "ed8Q") ≡ becoming (Some 4) (square 3 7) promotions.Queen
 bare_promotion = refl
 
-to_rook : form_of (codes "a1=R") ≡ becoming None (square 0 0) become.Rook
+to_rook : form_of (codes "a1=R") ≡ becoming None (square 0 0) promotions.Rook
 to_rook = refl
 
-to_bishop : form_of (codes "h1B") ≡ becoming None (square 7 0) become.Bishop
+to_bishop : form_of (codes "h1B") ≡ becoming None (square 7 0) promotions.Bishop
 to_bishop = refl
 
-to_knight : form_of (codes "Pgxh8=N#") ≡ becoming (Some 6) (square 7 7) become.Knight
+to_knight : form_of (codes "Pgxh8=N#") ≡ becoming (Some 6) (square 7 7) promotions.Knight
 to_knight = refl
 
 many_marks : form_of (codes "R1xa3##+") ≡ to Rook None (Some 0) (square 0 2)
@@ -51,7 +51,7 @@ file_hint = refl
 pawn_of_file_b : form_of (codes "bc3") ≡ to Pawn (Some 1) None (square 2 2)
 pawn_of_file_b = refl
 
-rook_ends_promotion : form_of (codes "Rd1R") ≡ Some (Man Rook None None (square 3 0) (Some become.Rook))
+rook_ends_promotion : form_of (codes "Rd1R") ≡ Some (Man Rook None None (square 3 0) (Some promotions.Rook))
 rook_ends_promotion = refl
 
 king : form_of (codes "Kg1") ≡ to King None None (square 6 0)

@@ -1,6 +1,6 @@
 -- Worked rows of the texts of moves as symbols (PGN 7, 8.2.3), and of reading them back.
-use Rattle.chess_text.proofs.Words.{◌≡◌, ℕ, ◌≤◌, Bool, true, false, List, [], Option, None, Some, Result, Ok, Err, refl, sym, subst, ◌∙◌, ap, arith, codes, is_some, option_map, IsTrue, false≢true, Move, Parts, Square, squares, is_position, legal, Played, SanFault, NoMove, Ambiguous, form_of, agreeing, move_of_form, san, begins_with_letter, IsMoveSymbol, WrittenMoveIsSymbol, WrittenMoveIsRead}
-use Rattle.chess_rules.specs.declared.piece.Promotion.TheVariants as become
+use Rattle.chess_text.proofs.Words.{◌≡◌, ℕ, ◌≤◌, Bool, true, false, List, [], Option, None, Some, Result, Ok, Err, refl, sym, subst, ◌∙◌, ap, arith, codes, is_some, option_map, IsTrue, false≢true, Move, Parts, Square, squares, is_position, legal, Played, SanFault, NoMove, Ambiguous, form_of, agreeing, move_of_form, san, begins_with_letter, is_marker, IsMoveSymbol, WrittenMoveIsSymbol, WrittenMoveIsRead}
+use Rattle.chess_rules.specs.declared.piece.Promotion.TheVariants as promotions
 use Rattle.chess_text.proofs.rows.MovesOfPieces.{san_is_tried}
 use Rattle.chess_text.proofs.rows.TextLawRows.{knights, queens, rooks, promoting, kings, g1e2, c3e2, h4e1}
 use Rattle.chess_text.proofs.rows.SanRows.{named, becoming, go}
@@ -23,7 +23,7 @@ castling_by_law law = law rooks (go (codes "e1") (codes "c1")) refl
 promotion_by_law : WrittenMoveIsSymbol → IsMoveSymbol (codes "axb8=N")
 unfolding squares
 promotion_by_law law =
-    law promoting (becoming (codes "a7") (codes "b8") (Some become.Knight)) refl
+    law promoting (becoming (codes "a7") (codes "b8") (Some promotions.Knight)) refl
 
 check_by_law : WrittenMoveIsSymbol → IsMoveSymbol (codes "Q1h2+")
 unfolding squares
@@ -48,14 +48,11 @@ castling_with_zeros law = of_no_move law _ (λ h. false≢true h.begins)
 number : WrittenMoveIsSymbol → IsOfNoMove (codes "12")
 number law = of_no_move law _ (λ h. false≢true (sym h.no_number))
 
+marker : WrittenMoveIsSymbol → (s : List ℕ) → IsTrue (is_marker s) → IsOfNoMove s
+marker law s is = of_no_move law s (λ h. false≢true (sym h.no_marker ∙ is))
+
 win : WrittenMoveIsSymbol → IsOfNoMove (codes "1-0")
-win law = of_no_move law _ (λ h. false≢true (sym h.no_marker))
-
-draw : WrittenMoveIsSymbol → IsOfNoMove (codes "1/2-1/2")
-draw law = of_no_move law _ (λ h. false≢true (sym h.no_marker))
-
-unknown : WrittenMoveIsSymbol → IsOfNoMove (codes "*")
-unknown law = of_no_move law _ (λ h. false≢true (sym h.no_marker))
+win law = marker law _ refl
 
 with_suffix : WrittenMoveIsSymbol → IsOfNoMove (codes "e4!")
 with_suffix law = of_no_move law _ (λ h. false≢true h.bytes)
@@ -94,12 +91,12 @@ unfolding squares
 knight_read_by_law law q next = law knights q g1e2 refl next
 
 promotion_read_by_law : WrittenMoveIsRead → (q : Parts)
-    → legal promoting (becoming (codes "a7") (codes "b8") (Some become.Knight)) ≡ Some q
+    → legal promoting (becoming (codes "a7") (codes "b8") (Some promotions.Knight)) ≡ Some q
     → as_read promoting (codes "axb8=N")
-    ≡ played (becoming (codes "a7") (codes "b8") (Some become.Knight)) q
+    ≡ played (becoming (codes "a7") (codes "b8") (Some promotions.Knight)) q
 unfolding squares
 promotion_read_by_law law q next =
-    law promoting q (becoming (codes "a7") (codes "b8") (Some become.Knight)) refl next
+    law promoting q (becoming (codes "a7") (codes "b8") (Some promotions.Knight)) refl next
 
 -- computed: the origin of what is read
 abbrev origin : Result Played SanFault → Square

@@ -1,6 +1,6 @@
 -- What forms are read as, computed on worked positions.
 use Rattle.chess_text.proofs.Words.{◌≡◌, ℕ, true, false, List, Result, Ok, Err, Option, None, Some, refl, codes, King, Queen, Knight, Pawn, Parts, Square, square, squares, FenFault, Form, Castle, Man, Played, SanFault, NoMove, Ambiguous, read, agreeing, form_pairs, move_of_form}
-use Rattle.chess_rules.specs.declared.piece.Promotion.TheVariants as become
+use Rattle.chess_rules.specs.declared.piece.Promotion.TheVariants as promotions
 
 -- the origin of what is read, the fault, or a text that is no position
 data Answer : Type 0 where
@@ -88,7 +88,7 @@ king_one_file : answer (read rooks) (Man King None None (square 5 0) None) ≡ f
 unfolding squares answer answer_of agreeing
 king_one_file = refl
 
-promotion : answer (read bare) (Man Pawn None None (square 0 7) (Some become.Queen)) ≡ from (square 0 6)
+promotion : answer (read bare) (Man Pawn None None (square 0 7) (Some promotions.Queen)) ≡ from (square 0 6)
 unfolding squares answer answer_of agreeing
 promotion = refl
 

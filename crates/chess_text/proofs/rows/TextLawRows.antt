@@ -2,7 +2,7 @@
 -- A row that takes a law applies it exactly as it is stated. The rows beside it compute what the
 -- law says there, or show that this is false where one premise is missing.
 use Rattle.chess_text.proofs.Words.{◌≡◌, ◌≢◌, ℕ, ◌<◌, ◌≤◌, true, false, List, [], ◌∷◌, ◌++◌, Option, None, Some, Result, Ok, Err, length, refl, sym, ◌∙◌, ap, subst, arith, codes, slice_index_or, digits, false≢true, Kind, King, Queen, Rook, Knight, Pawn, Move, Parts, squares, is_position, initial, own, is_legal, legal, FenFault, Form, Man, Fen, parts_read, fen_text, Spells, form_of, agrees, rivals, disambiguation, has_rivals, san, CanonicalIsShortest, Names, SingleReading, ShorterIsAmbiguous, disambiguations, text_with, same_Some}
-use Rattle.chess_rules.specs.declared.piece.Promotion.TheVariants as become
+use Rattle.chess_rules.specs.declared.piece.Promotion.TheVariants as promotions
 use Rattle.chess_text.proofs.forms.SpellingToForm.{form_read}
 use Rattle.chess_text.proofs.rows.MovesOfPieces.{mark_is_tried}
 use Rattle.chess_text.proofs.rows.SanRows.{named, becoming, go}
@@ -71,10 +71,10 @@ unfolding squares
 applied_to_castling law = law rooks (go (codes "e1") (codes "c1")) refl refl
 
 applied_to_a_promotion : SingleReading
-    → Names promoting (codes "axb8=N") (becoming (codes "a7") (codes "b8") (Some become.Knight))
-    × NamesAlone promoting (codes "axb8=N") (becoming (codes "a7") (codes "b8") (Some become.Knight))
+    → Names promoting (codes "axb8=N") (becoming (codes "a7") (codes "b8") (Some promotions.Knight))
+    × NamesAlone promoting (codes "axb8=N") (becoming (codes "a7") (codes "b8") (Some promotions.Knight))
 unfolding squares
-applied_to_a_promotion law = law promoting (becoming (codes "a7") (codes "b8") (Some become.Knight)) refl refl
+applied_to_a_promotion law = law promoting (becoming (codes "a7") (codes "b8") (Some promotions.Knight)) refl refl
 
 knight_spelled : Spells (codes "Ne2") (to_square Knight None None (codes "e2"))
 knight_spelled =
@@ -298,7 +298,7 @@ abbrev pawns : Parts
 pawns = drawn (codes "3r4/2P1P2k/8/8/8/8/8/K7 w - - 0 1")
 
 abbrev c7d8 : Move
-c7d8 = becoming (codes "c7") (codes "d8") (Some become.Queen)
+c7d8 = becoming (codes "c7") (codes "d8") (Some promotions.Queen)
 
 no_rivals_of_pawns : has_rivals Pawn ≡ false
 no_rivals_of_pawns = refl

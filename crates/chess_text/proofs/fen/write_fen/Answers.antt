@@ -10,7 +10,7 @@ pub push_field-requires : goal.push_field-requires
 push_field-requires c =
     omega (
       arith,
-      c.text_without_full-text.ensures.short,
+      c.push_all_but_full.ensures.short,
       short_number c.as_bytes.result.now c.full.result (c.as_bytes.ensures.value ∙ c.format.ensures.text) c.full.ensures.limit,
     )
 
@@ -18,8 +18,8 @@ pub returns-clause-short : goal.returns-clause-short
 returns-clause-short c =
     omega (
       arith,
-      c.text_without_full-text.ensures.short,
+      c.push_all_but_full.ensures.short,
       ap (λ (t : List ℕ). length t) c.push_field.ensures,
-      length-append c.text_without_full-text.result.items (32 ∷ c.as_bytes.result.now),
+      length-append c.push_all_but_full.new.text.items (32 ∷ c.as_bytes.result.now),
       short_number c.as_bytes.result.now c.full.result (c.as_bytes.ensures.value ∙ c.format.ensures.text) c.full.ensures.limit,
     )

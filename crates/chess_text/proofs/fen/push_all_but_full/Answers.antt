@@ -1,0 +1,22 @@
+use Rattle.chess_text.proofs.Words.{◌≡◌, List, ℕ, [], ◌∷◌, ◌++◌, append_assoc, sym, ◌∙◌, ap, arith, decimal, side_text, rights_text, target_text}
+use Rattle.chess_text.proofs.positions.SixFieldsJoined.{five_written, six_written, length-five}
+use Rattle.chess_text.proofs.fen.push_all_but_full.Goals as goal
+
+-- a field behind a space
+behind_space : (before space after field : List ℕ) → space ≡ before ++ 32 ∷ [] → after ≡ space ++ field
+    → after ≡ before ++ 32 ∷ field
+behind_space before space after field e f = f ∙ ap (λ t. t ++ field) e ∙ append_assoc before (32 ∷ []) field
+
+pub returns : goal.returns
+returns c =
+    let p = c.args.position.now in
+    let behind = λ (t u : List ℕ). t ++ 32 ∷ u in
+    let five =
+    five_written p c.push_board.new.text.items c.push-2.new.self.items c.push_field.new.text.items c.push_target.new.text.items _
+    c.push_board.ensures.text
+    (behind_space _ _ _ _ c.push.ensures.items
+    (c.push-2.ensures.items ∙ ap (λ t. c.push.new.self.items ++ t) (sym c.side_letter.ensures ∙ ap side_text c.side.ensures)))
+    (c.push_field.ensures ∙ ap (behind _) (c.as_slice.ensures.value ∙ c.rights_text.ensures ∙ ap rights_text c.rights.ensures))
+    (behind_space _ _ _ _ c.push-3.ensures.items (c.push_target.ensures ∙ ap (λ t. c.push-3.new.self.items ++ target_text t) c.target.ensures))
+    (c.push_field-2.ensures ∙ ap (behind _) (c.as_bytes.ensures.value ∙ c.format.ensures.text ∙ ap decimal c.half.ensures.value)) in
+    record { text = six_written p _ five; short = length-five p _ five (omega (arith, c.half.ensures.value, c.half.ensures.limit)) }
