@@ -1,4 +1,5 @@
 -- Escapes of a value, byte after byte.
+use Rattle.std.proofs.lemmas.Grind.{common_steps}
 use Rattle.std.proofs.Common.{◌≡◌, ℕ, ◌+◌, ◌<◌, ◌≤◌, List, [], ◌∷◌, ◌++◌, length, take, drop, get_or, ap, sym, ◌∙◌, add-one, append_assoc, append-nil, length-append, arith, refl}
 use Rattle.std.proofs.Math.Seq.{take-suc}
 use Rattle.std.proofs.lemmas.List.{take-append-drop}
@@ -6,23 +7,22 @@ use Rattle.pgn_layout.specs.TagLine.{escape_of, escaped}
 
 escaped-append : (xs ys : List ℕ) → escaped (xs ++ ys) ≡ escaped xs ++ escaped ys
 escaped-append [] ys = refl
-escaped-append (x ∷ xs) ys = ap (λ l. escape_of x ++ l) (escaped-append xs ys) ∙ sym (append_assoc (escape_of x) (escaped xs) (escaped ys))
+escaped-append (x ∷ xs) ys = grind (arith, common_steps, append_assoc, escaped-append xs)
 
 -- one byte more
-escaped-take : (value : List ℕ) (i : ℕ) → i < length value → escaped (take (i + 1) value) ≡ escaped (take i value) ++ escape_of (get_or value i 0)
-escaped-take value i h =
-    ap (λ n. escaped (take n value)) (add-one i) ∙ ap escaped (take-suc value i 0 h)
-    ∙ escaped-append (take i value) (get_or value i 0 ∷ []) ∙ ap (λ l. escaped (take i value) ++ l) (append-nil (escape_of (get_or value i 0)))
+escaped-take : (value : List ℕ) (i : ℕ) → i < length value
+    → escaped (take (i + 1) value) ≡ escaped (take i value) ++ escape_of (get_or value i 0)
+escaped-take value i h = grind (arith, common_steps, add-one, take-suc, escaped-append, append-nil)
 
 -- a line that ends with the escapes of the first bytes, and those of one byte more
-pub line_grows : (front value line : List ℕ) (i : ℕ) → i < length value → line ≡ front ++ escaped (take i value) → line ++ escape_of (get_or value i 0) ≡ front ++ escaped (take (i + 1) value)
-line_grows front value line i h e =
-    ap (λ l. l ++ escape_of (get_or value i 0)) e ∙ append_assoc front (escaped (take i value)) (escape_of (get_or value i 0))
-    ∙ ap (λ l. front ++ l) (sym (escaped-take value i h))
+pub line_grows : (front value line : List ℕ) (i : ℕ) → i < length value → line ≡ front ++ escaped (take i value)
+    → line ++ escape_of (get_or value i 0) ≡ front ++ escaped (take (i + 1) value)
+line_grows front value line i h e = grind (arith, common_steps, append_assoc, escaped-take)
 
 -- the lengths, byte after byte
-pub length_escaped-take : (value : List ℕ) (i : ℕ) → i < length value → length (escaped (take (i + 1) value)) ≡ length (escaped (take i value)) + length (escape_of (get_or value i 0))
-length_escaped-take value i h = ap length (escaped-take value i h) ∙ length-append (escaped (take i value)) (escape_of (get_or value i 0))
+pub length_escaped-take : (value : List ℕ) (i : ℕ) → i < length value
+    → length (escaped (take (i + 1) value)) ≡ length (escaped (take i value)) + length (escape_of (get_or value i 0))
+length_escaped-take value i h = grind (arith, common_steps, escaped-take, length-append)
 
 -- the first bytes have no longer text than all
 pub length_escaped-front : (value : List ℕ) (i : ℕ) → length (escaped (take i value)) ≤ length (escaped value)
@@ -34,7 +34,8 @@ length_escaped-front value i =
     )
 
 -- that byte's text is part of all
-pub line_fits : (front value line : List ℕ) (i : ℕ) → i < length value → line ≡ front ++ escaped (take i value) → length line + length (escape_of (get_or value i 0)) ≤ length front + length (escaped value)
+pub line_fits : (front value line : List ℕ) (i : ℕ) → i < length value → line ≡ front ++ escaped (take i value)
+    → length line + length (escape_of (get_or value i 0)) ≤ length front + length (escaped value)
 line_fits front value line i h e =
     omega (
       arith,

@@ -1,8 +1,9 @@
 -- Worked rows of the laws of lines (PGN 8.2.1, 8.2.6), with their premises and without.
+use Rattle.std.proofs.lemmas.Grind.{common_steps}
 use Rattle.std.proofs.Common.{◌≡◌, ℕ, ◌<◌, ◌≤◌, List, [], ◌∷◌, ◌++◌, map, length, refl, sym, ap, arith, length-append}
 use Rattle.std.specs.Prelude.{◌↔◌, All, codes, replicate}
 use Rattle.std.proofs.lemmas.List.Elements.{All-cons, All-nil}
-use Rattle.pgn_layout.specs.Lines.{Line, AreFull, IsToken, Lines, full_lines, last_line, lines_of, spaced, text_of, tokens_over}
+use Rattle.pgn_layout.specs.Lines.{Line, AreFull, IsToken, Lines, full_lines, last_line, lines_of, text_of, tokens_over}
 use Rattle.pgn_layout.specs.Layout.{EndGame, Put, laid_from}
 use Rattle.pgn_layout.specs.Laws.{LinesAreThosePut, TokensDetermineLines}
 
@@ -49,7 +50,7 @@ two_lines = record {
   parts = record { first = letters 40; others = [] } ∷ record { first = letters 39; others = [] } ∷ [];
   in_order = refl;
   texts = refl;
-  full = (omega arith, omega arith, omega arith);
+  full = omega arith;
 }
 
 -- The law at these tokens, in both directions.
@@ -65,11 +66,11 @@ two_lines_by_law law = sym ((law _ _ fit_80).0 two_lines)
 
 -- A line of 80 bytes is none, though its tokens are in order.
 line_of_80 : TokensDetermineLines → Lines (letters 40 ∷ letters 39 ∷ []) ((letters 40 ++ 32 ∷ letters 39) ∷ []) → ⊥
-line_of_80 law h = absurd (omega (arith, ap length ((law _ _ fit_80).0 h)))
+line_of_80 law h = omega (arith, ap length ((law _ _ fit_80).0 h))
 
 -- A line that could have taken the next token is none.
 line_with_room : TokensDetermineLines → Lines (letters 40 ∷ letters 38 ∷ []) (letters 40 ∷ letters 38 ∷ []) → ⊥
-line_with_room law h = absurd (omega (arith, ap length ((law _ _ fit_79).0 h)))
+line_with_room law h = omega (arith, ap length ((law _ _ fit_79).0 h))
 
 -- the bytes of the first line
 abbrev first_of : List (List ℕ) → List ℕ
@@ -82,24 +83,22 @@ second (a ∷ b ∷ bs) = b
 second _ = 0
 
 other_order : TokensDetermineLines → Lines (codes "e4" ∷ codes "e5" ∷ []) (codes "e5 e4" ∷ []) → ⊥
-other_order law h = absurd (omega (arith, ap (λ ls. second (first_of ls)) ((law _ _ few_fit).0 h)))
+other_order law h = omega (arith, ap (λ ls. second (first_of ls)) ((law _ _ few_fit).0 h))
 
 two_spaces : TokensDetermineLines → Lines (codes "e4" ∷ codes "e5" ∷ []) (codes "e4  e5" ∷ []) → ⊥
-two_spaces law h = absurd (omega (arith, ap (λ ls. length (first_of ls)) ((law _ _ few_fit).0 h)))
+two_spaces law h = omega (arith, ap (λ ls. length (first_of ls)) ((law _ _ few_fit).0 h))
 
 empty_line : TokensDetermineLines → Lines (codes "e4" ∷ codes "e5" ∷ []) (codes "e4 e5" ∷ [] ∷ []) → ⊥
-empty_line law h = absurd (omega (arith, ap length ((law _ _ few_fit).0 h)))
+empty_line law h = omega (arith, ap length ((law _ _ few_fit).0 h))
 
 lost_token : TokensDetermineLines → Lines (codes "e4" ∷ codes "e5" ∷ []) (codes "e4" ∷ []) → ⊥
-lost_token law h = absurd (omega (arith, ap (λ ls. length (first_of ls)) ((law _ _ few_fit).0 h)))
+lost_token law h = omega (arith, ap (λ ls. length (first_of ls)) ((law _ _ few_fit).0 h))
 
 -- A token of more than 79 bytes has no lines.
 no_line_takes : (t : List ℕ) → 79 < length t → (parts : List Line) → tokens_over parts ≡ t ∷ [] → AreFull parts → ⊥
-no_line_takes t long [] e full = absurd (omega (arith, ap length e))
-no_line_takes t long (l ∷ []) e full =
-    absurd (omega (arith, long, full, ap (λ ts. length (first_of ts)) e, length-append l.first (spaced l.others)))
-no_line_takes t long (l ∷ m ∷ ls) e full =
-    absurd (omega (arith, long, full.0, ap (λ ts. length (first_of ts)) e, length-append l.first (spaced l.others)))
+no_line_takes t long [] e full = omega (arith, ap length e)
+no_line_takes t long (l ∷ []) e full = grind (arith, common_steps, length-append)
+no_line_takes t long (l ∷ m ∷ ls) e full = grind (arith, common_steps, length-append)
 
 long_token : (lines : List (List ℕ)) → Lines (letters 80 ∷ []) lines → ⊥
 long_token lines h = no_line_takes (letters 80) (omega arith) h.parts h.in_order h.full
@@ -129,7 +128,7 @@ ArePut tokens lines = laid_from [] (map Put tokens) ≡ record { written = text_
 
 -- It is false without the premise that the lines are those of the tokens.
 fails_at_other_lines : ((tokens lines : List (List ℕ)) → All IsToken tokens → ArePut tokens lines) → ⊥
-fails_at_other_lines law = absurd (omega (arith, ap (λ l. length l.line) (law (codes "e4" ∷ codes "e5" ∷ []) (codes "e4" ∷ []) few_fit)))
+fails_at_other_lines law = omega (arith, ap (λ l. length l.line) (law (codes "e4" ∷ codes "e5" ∷ []) (codes "e4" ∷ []) few_fit))
 
 -- It is false for an empty token: that has lines, but the space after it is not put.
 empty_token : Lines ([] ∷ codes "e4" ∷ []) (codes " e4" ∷ [])

@@ -1,6 +1,7 @@
 -- Worked rows of the text of lines (PGN 8.2.1): each token is in it, in order, with a space or LF
 -- behind it, and nothing else is.
-use Rattle.std.proofs.Common.{◌≡◌, ℕ, List, [], ◌∷◌, ◌++◌, length, drop, get_or, refl, subst, sym, ap, ◌∙◌, arith}
+use Rattle.std.proofs.lemmas.Grind.{common_steps}
+use Rattle.std.proofs.Common.{◌≡◌, ℕ, List, [], ◌∷◌, ◌++◌, refl, arith}
 use Rattle.std.specs.Prelude.{codes, IsTrue}
 use Rattle.std.proofs.lemmas.Bool.{false≢true}
 use Rattle.pgn_layout.specs.Laws.{LinesKeepTokens, LinesOfKeepTokens}
@@ -52,27 +53,16 @@ Opened [] s = s ≡ []
 Opened (t ∷ ts) s = Begins t s ts
 
 opened : (tokens : List (List ℕ)) (s : List ℕ) → IsTextOf tokens s → Opened tokens s
-opened _ _ no_token = refl
-opened _ _ (next_token t b ts s gap more) =
-    record { byte = b; rest = s; is = refl; gap = gap; more = more }
+opened tokens s h1 = grind (arith, common_steps)
 
 -- a first token of two bytes has a space or LF behind it
 third_is_gap : (a b c : ℕ) (s : List ℕ) (x y : ℕ) (ts : List (List ℕ))
     → IsTextOf ((x ∷ y ∷ []) ∷ ts) (a ∷ b ∷ c ∷ s)
     → (a ≡ x) × (b ≡ y) × IsTrue (is_gap c) × IsTextOf ts s
-third_is_gap a b c s x y ts h =
-    let it = opened _ _ h in
-    let third : c ≡ it.byte = ap (λ l. get_or l 2 0) it.is in (
-      ap (λ l. get_or l 0 0) it.is,
-      ap (λ l. get_or l 1 0) it.is,
-      ap is_gap third ∙ it.gap,
-      subst (IsTextOf ts) (sym (ap (λ l. drop 3 l) it.is)) it.more,
-    )
+third_is_gap a b c s x y ts h = grind (arith, common_steps, opened)
 
 two_spaces : IsTextOf few (codes "e4  e5\n") → ⊥
-two_spaces h =
-    let rest = (third_is_gap _ _ _ _ _ _ _ h).3 in
-    absurd (omega (arith, (third_is_gap _ _ _ _ _ _ _ rest).0))
+two_spaces h = grind (arith, common_steps, third_is_gap)
 
 no_gap : IsTextOf few (codes "e4e5\n") → ⊥
 no_gap h = false≢true (third_is_gap _ _ _ _ _ _ _ h).2
@@ -81,22 +71,16 @@ tabulator : IsTextOf few (codes "e4\te5\n") → ⊥
 tabulator h = false≢true (third_is_gap _ _ _ _ _ _ _ h).2
 
 other_order : IsTextOf few (codes "e5 e4\n") → ⊥
-other_order h = absurd (omega (arith, (third_is_gap _ _ _ _ _ _ _ h).1))
+other_order h = omega (arith, (third_is_gap _ _ _ _ _ _ _ h).1)
 
 lost_token : IsTextOf few (codes "e4\n") → ⊥
-lost_token h =
-    let rest = opened _ _ (third_is_gap _ _ _ _ _ _ _ h).3 in
-    absurd (omega (arith, ap length rest.is))
+lost_token h = grind (arith, common_steps, opened, third_is_gap)
 
 no_last_lf : IsTextOf few (codes "e4 e5") → ⊥
-no_last_lf h =
-    let rest = opened _ _ (third_is_gap _ _ _ _ _ _ _ h).3 in
-    absurd (omega (arith, ap length rest.is))
+no_last_lf h = grind (arith, common_steps, opened, third_is_gap)
 
 token_too_many : IsTextOf few (codes "e4 e5 *\n") → ⊥
-token_too_many h =
-    let rest = (third_is_gap _ _ _ _ _ _ _ h).3 in
-    absurd (omega (arith, ap length (opened _ _ (third_is_gap _ _ _ _ _ _ _ rest).3)))
+token_too_many h = grind (arith, common_steps, third_is_gap, opened)
 
 -- ---- The law is false without its premise, that the lines are those of the tokens.
 fails_at_other_lines : ((tokens lines : List (List ℕ)) → IsTextOf tokens (text_of lines)) → ⊥

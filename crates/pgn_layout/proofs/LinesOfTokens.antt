@@ -1,5 +1,6 @@
 -- `lines_of` gives the lines of the tokens, and there are no others.
-use Rattle.std.proofs.Common.{◌≡◌, ℕ, ◌+◌, ◌<◌, ◌≤◌, Bool, true, false, List, [], ◌∷◌, ◌++◌, map, length, refl, sym, ap, subst, ◌∙◌, append_assoc, append-nil, arith, length-append}
+use Rattle.std.proofs.lemmas.Grind.{common_steps}
+use Rattle.std.proofs.Common.{◌≡◌, ℕ, ◌+◌, ◌<◌, ◌≤◌, Bool, true, false, List, [], ◌∷◌, ◌++◌, map, length, refl, sym, ap, ◌∙◌, append_assoc, append-nil, arith, length-append}
 use Rattle.std.specs.Prelude.{All}
 use Rattle.std.proofs.lemmas.List.Elements.{All-head, All-tail}
 use Rattle.std.proofs.lemmas.Bool.{le-leb, lt-leb, leb-true, leb-false}
@@ -7,25 +8,16 @@ use Rattle.pgn_layout.specs.Lines.{Line, tokens_on, spaced, text_on, tokens_over
 use Rattle.pgn_layout.specs.Laws.{TokensDetermineLines}
 
 -- tokens that fit go on the line
-fills : (line : List ℕ) (ts more : List (List ℕ)) → length (line ++ spaced ts) ≤ 79 → lines_from line (ts ++ more) ≡ lines_from (line ++ spaced ts) more
-fills line [] more fits = ap (λ l. lines_from l more) (sym (append-nil line))
-fills line (t ∷ ts) more fits =
-    let joined : line ++ spaced (t ∷ ts) ≡ (line ++ 32 ∷ t) ++ spaced ts = sym (append_assoc line (32 ∷ t) (spaced ts)) in
-    let within : length ((line ++ 32 ∷ t) ++ spaced ts) ≤ 79 = subst (λ l. length l ≤ 79) joined fits in
-    let room : has_room line t ≡ true =
-    le-leb _ _ (omega (arith, within, length-append (line ++ 32 ∷ t) (spaced ts), length-append line (32 ∷ t))) in
-    ap (λ b. elim b [ true ↦ lines_from (line ++ 32 ∷ t) (ts ++ more) | false ↦ line ∷ lines_from t (ts ++ more) ]) room
-    ∙ fills (line ++ 32 ∷ t) ts more within ∙ ap (λ l. lines_from l more) (sym joined)
+fills : (line : List ℕ) (ts more : List (List ℕ)) → length (line ++ spaced ts) ≤ 79
+    → lines_from line (ts ++ more) ≡ lines_from (line ++ spaced ts) more
+fills line [] more fits = grind (arith, common_steps, append-nil)
+fills line (t ∷ ts) more fits = grind (arith, common_steps, append_assoc, le-leb, length-append, fills (line ++ 32 ∷ t) ts)
 
 -- full lines are those of their tokens
 only_full : (parts : List Line) → AreFull parts → lines_of (tokens_over parts) ≡ map text_on parts
 only_full [] full = refl
 only_full (l ∷ []) full = fills l.first l.others [] full
-only_full (l ∷ m ∷ ls) full =
-    let no_room : has_room (text_on l) m.first ≡ false = lt-leb _ _ full.1 in
-    fills l.first l.others (tokens_over (m ∷ ls)) full.0
-    ∙ ap (λ b. elim b [ true ↦ lines_from (text_on l ++ 32 ∷ m.first) (m.others ++ tokens_over ls) | false ↦ text_on l ∷ lines_from m.first (m.others ++ tokens_over ls) ]) no_room
-    ∙ ap (λ k. text_on l ∷ k) (only_full (m ∷ ls) full.2)
+only_full (l ∷ m ∷ ls) full = grind (arith, common_steps, lt-leb, fills, only_full (m ∷ ls) full.2)
 
 -- The tokens determine the lines.
 pub lines_are : (tokens lines : List (List ℕ)) → Lines tokens lines → lines ≡ lines_of tokens
@@ -44,12 +36,10 @@ parts_from l (t ∷ ts) = elim (has_room (text_on l) t) [ true ↦ parts_from (g
 
 spaced-append : (xs ys : List (List ℕ)) → spaced (xs ++ ys) ≡ spaced xs ++ spaced ys
 spaced-append [] ys = refl
-spaced-append (x ∷ xs) ys = ap (λ l. (32 ∷ x) ++ l) (spaced-append xs ys) ∙ sym (append_assoc (32 ∷ x) (spaced xs) (spaced ys))
+spaced-append (x ∷ xs) ys = grind (arith, common_steps, append_assoc, spaced-append xs)
 
 pub text_on-grown : (l : Line) (t : List ℕ) → text_on (grown l t) ≡ text_on l ++ 32 ∷ t
-text_on-grown l t =
-    ap (λ s. l.first ++ s) (spaced-append l.others (t ∷ []) ∙ ap (λ s. spaced l.others ++ s) (append-nil (32 ∷ t)))
-    ∙ sym (append_assoc l.first (spaced l.others) (32 ∷ t))
+text_on-grown l t = grind (arith, common_steps, spaced-append, append-nil, append_assoc)
 
 pub in_order : (l : Line) (ts : List (List ℕ)) → tokens_over (parts_from l ts) ≡ tokens_on l ++ ts
 in_order l [] = refl
@@ -60,17 +50,10 @@ in_order l (t ∷ ts) =
       | false ↦ ap (λ k. tokens_on l ++ k) (in_order (alone t) ts)
     ]
 
-full_onto : (l m : Line) (ts : List (List ℕ)) → length (text_on l) ≤ 79 → 79 < length (text_on l) + 1 + length m.first → AreFull (parts_from m ts) → AreFull (l ∷ parts_from m ts)
+full_onto : (l m : Line) (ts : List (List ℕ)) → length (text_on l) ≤ 79 → 79 < length (text_on l) + 1 + length m.first
+    → AreFull (parts_from m ts) → AreFull (l ∷ parts_from m ts)
 full_onto l m [] fits long full = (fits, long, full)
-full_onto l m (t ∷ ts) fits long full =
-    let P : Bool → Type 0 = λ v. AreFull (elim v [ true ↦ parts_from (grown m t) ts | false ↦ m ∷ parts_from (alone t) ts ])
-    → AreFull (l ∷ elim v [ true ↦ parts_from (grown m t) ts | false ↦ m ∷ parts_from (alone t) ts ]) in
-    let step : P (has_room (text_on m) t) =
-    elim (has_room (text_on m) t) as P [
-      | true ↦ λ full. full_onto l (grown m t) ts fits long full
-      | false ↦ λ full. (fits, long, full)
-    ] in
-    step full
+full_onto l m (t ∷ ts) fits long full = grind (arith, common_steps, full_onto l (grown m t) ts fits)
 
 full_from : (l : Line) (ts : List (List ℕ)) → length (text_on l) ≤ 79 → All IsToken ts → AreFull (parts_from l ts)
 full_from l [] fits each = fits
@@ -78,22 +61,23 @@ full_from l (t ∷ ts) fits each =
     let n = length (text_on l) + 1 + length t in
     let one = All-head IsToken t ts each in
     let rest = All-tail IsToken t ts each in
-    let P : Bool → Type 0 = λ v. has_room (text_on l) t ≡ v → AreFull (elim v [ true ↦ parts_from (grown l t) ts | false ↦ l ∷ parts_from (alone t) ts ]) in
+    let P : Bool → Type 0 =
+    λ v. has_room (text_on l) t ≡ v → AreFull (elim v [ true ↦ parts_from (grown l t) ts | false ↦ l ∷ parts_from (alone t) ts ]) in
     let step : P (has_room (text_on l) t) =
     elim (has_room (text_on l) t) as P [
       | true ↦ λ e. full_from (grown l t) ts
           (omega (arith, leb-true n 79 e, ap length (text_on-grown l t), length-append (text_on l) (32 ∷ t))) rest
       | false ↦ λ e. full_onto l (alone t) ts fits (leb-false n 79 e)
-          (full_from (alone t) ts (subst (λ s. length s ≤ 79) (sym (append-nil t)) one.fits) rest)
+          (full_from (alone t) ts (rw (append-nil t) one.fits) rest)
     ] in
     step refl
 
 -- Tokens that lines can take have lines.
 pub lines_hold : (tokens : List (List ℕ)) → All IsToken tokens → Lines tokens (lines_of tokens)
-lines_hold [] each = record { parts = []; in_order = refl; texts = refl; full = tt }
+lines_hold [] each = grind (arith, common_steps, in_order)
 lines_hold (t ∷ ts) each =
     let one = All-head IsToken t ts each in
-    let whole = full_from (alone t) ts (subst (λ s. length s ≤ 79) (sym (append-nil t)) one.fits) (All-tail IsToken t ts each) in
+    let whole = full_from (alone t) ts (rw (append-nil t) one.fits) (All-tail IsToken t ts each) in
     record {
       parts = parts_from (alone t) ts;
       in_order = in_order (alone t) ts;
@@ -102,4 +86,4 @@ lines_hold (t ∷ ts) each =
     }
 
 pub tokens_determine_lines : TokensDetermineLines
-tokens_determine_lines tokens lines each = (lines_are tokens lines, λ e. subst (Lines tokens) (sym e) (lines_hold tokens each))
+tokens_determine_lines tokens lines each = (lines_are tokens lines, λ e. rw e (lines_hold tokens each))

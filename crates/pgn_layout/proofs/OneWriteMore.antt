@@ -1,5 +1,6 @@
 -- One write after another.
-use Rattle.std.proofs.Common.{◌≡◌, ℕ, ◌+◌, ◌-◌, ◌<◌, List, [], ◌∷◌, ◌++◌, length, take, drop, Option, Result, Ok, Err, ap, subst, sym, ◌∙◌, refl, length-append, arith}
+use Rattle.std.proofs.lemmas.Grind.{common_steps}
+use Rattle.std.proofs.Common.{◌≡◌, ℕ, ◌+◌, ◌-◌, ◌<◌, List, [], ◌∷◌, ◌++◌, length, take, drop, Option, Result, Ok, Err, length-append, arith}
 use Rattle.std.proofs.Math.Seq.{take-add, take-append-add}
 use Rattle.std.proofs.lemmas.List.{take_rest}
 use Rattle.std.proofs.KnownBytes.{Appends-trans}
@@ -8,24 +9,25 @@ use Rattle.pgn_layout.specs.Device.{AppendsFront, Writes}
 use Rattle.pgn_layout.specs.Layout.{ended}
 
 -- what was appended, and then the front of `&all[i..]`
-pub appends_more : (a b c : Option (List ℕ)) (all : List ℕ) (i n : ℕ) → Appends a b (take i all) → Appends b c (take n (take (length all - i) (drop i all))) → Appends a c (take (i + n) all)
-appends_more a b c all i n done more =
-    subst (Appends a c) (ap (λ l. take i all ++ take n l) (take_rest all i) ∙ sym (take-add i n all)) (Appends-trans a b c _ _ done more)
+pub appends_more : (a b c : Option (List ℕ)) (all : List ℕ) (i n : ℕ) → Appends a b (take i all)
+    → Appends b c (take n (take (length all - i) (drop i all))) → Appends a c (take (i + n) all)
+appends_more a b c all i n done more = grind (arith, common_steps, take_rest, take-add)
 
 -- the whole of one text, and then a front of the next
-pub front_after : (a b c : Option (List ℕ)) (text more : List ℕ) → Appends a b text → AppendsFront b c more → AppendsFront a c (text ++ more)
+pub front_after : (a b c : Option (List ℕ)) (text more : List ℕ) → Appends a b text → AppendsFront b c more
+    → AppendsFront a c (text ++ more)
 front_after a b c text more done (n, within, front) = (
   length text + n,
   omega (arith, length-append text more),
-  subst (Appends a c) (sym (take-append-add text more n)) (Appends-trans a b c _ _ done front),
+  rw (take-append-add text more n) (Appends-trans a b c _ _ done front),
 )
 
 -- one text, and then another
-pub Writes-append : {A E : Type 0} (a b c : Option (List ℕ)) (text more : List ℕ) (r : Result A E) → Appends a b text → Writes b c r more → Writes a c r (text ++ more)
+pub Writes-append : {A E : Type 0} (a b c : Option (List ℕ)) (text more : List ℕ) (r : Result A E) → Appends a b text → Writes b c r more
+    → Writes a c r (text ++ more)
 Writes-append a b c text more (Ok x) done next = Appends-trans a b c _ _ done next
 Writes-append a b c text more (Err e) done next = front_after a b c text more done next
 
 -- a line that holds something goes out with LF
 pub ended_line : (line : List ℕ) → 0 < length line → ended line ≡ line ++ 10 ∷ []
-ended_line [] h = absurd (omega arith)
-ended_line (b ∷ bs) h = refl
+ended_line line h1 = grind (arith, common_steps)

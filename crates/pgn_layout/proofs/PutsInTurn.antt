@@ -1,4 +1,5 @@
 -- What puts in turn write and hold.
+use Rattle.std.proofs.lemmas.Grind.{common_steps}
 use Rattle.std.proofs.Common.{◌≡◌, ℕ, true, false, List, [], ◌∷◌, ◌++◌, map, refl, sym, ap, ◌∙◌, append_assoc, append-nil, arith}
 use Rattle.std.specs.Prelude.{All}
 use Rattle.std.proofs.lemmas.List.Elements.{All-head, All-tail}
@@ -36,7 +37,8 @@ last_line-cons l t (u ∷ us) =
     ]
 
 -- what puts write and hold, from a line that holds a token on
-puts : (b : ℕ) (bs : List ℕ) (ts : List (List ℕ)) → All IsToken ts → laid_from (b ∷ bs) (map Put ts) ≡ laid (text_of (full_lines (lines_from (b ∷ bs) ts))) (last_line (lines_from (b ∷ bs) ts))
+puts : (b : ℕ) (bs : List ℕ) (ts : List (List ℕ)) → All IsToken ts
+    → laid_from (b ∷ bs) (map Put ts) ≡ laid (text_of (full_lines (lines_from (b ∷ bs) ts))) (last_line (lines_from (b ∷ bs) ts))
 puts b bs [] each = refl
 puts b bs ([] ∷ ts) each = absurd (omega (arith, (All-head IsToken [] ts each).not_empty))
 puts b bs ((x ∷ xs) ∷ ts) each =
@@ -58,11 +60,9 @@ puts b bs ((x ∷ xs) ∷ ts) each =
     ]
 
 -- what the end of the game adds
-ends : (b : ℕ) (bs : List ℕ) (ts : List (List ℕ)) → All IsToken ts → laid_from (b ∷ bs) (map Put ts ++ EndGame ∷ []) ≡ laid (text_of (lines_from (b ∷ bs) ts) ++ 10 ∷ []) []
-ends b bs [] each =
-    both
-    (append-nil (((b ∷ bs) ++ 10 ∷ []) ++ 10 ∷ []) ∙ ap (λ w. w ++ 10 ∷ []) (sym (append-nil ((b ∷ bs) ++ 10 ∷ []))))
-    refl
+ends : (b : ℕ) (bs : List ℕ) (ts : List (List ℕ)) → All IsToken ts
+    → laid_from (b ∷ bs) (map Put ts ++ EndGame ∷ []) ≡ laid (text_of (lines_from (b ∷ bs) ts) ++ 10 ∷ []) []
+ends b bs [] each = grind (arith, common_steps, append-nil)
 ends b bs ([] ∷ ts) each = absurd (omega (arith, (All-head IsToken [] ts each).not_empty))
 ends b bs ((x ∷ xs) ∷ ts) each =
     let rest = All-tail IsToken (x ∷ xs) ts each in
@@ -80,12 +80,14 @@ ends b bs ((x ∷ xs) ∷ ts) each =
           (ap (λ w. w.line) next)
     ]
 
-puts_of : (tokens : List (List ℕ)) → All IsToken tokens → laid_from [] (map Put tokens) ≡ laid (text_of (full_lines (lines_of tokens))) (last_line (lines_of tokens))
+puts_of : (tokens : List (List ℕ)) → All IsToken tokens
+    → laid_from [] (map Put tokens) ≡ laid (text_of (full_lines (lines_of tokens))) (last_line (lines_of tokens))
 puts_of [] each = refl
 puts_of ([] ∷ ts) each = absurd (omega (arith, (All-head IsToken [] ts each).not_empty))
 puts_of ((x ∷ xs) ∷ ts) each = puts x xs ts (All-tail IsToken (x ∷ xs) ts each)
 
-ends_of : (tokens : List (List ℕ)) → All IsToken tokens → laid_from [] (map Put tokens ++ EndGame ∷ []) ≡ laid (text_of (lines_of tokens) ++ 10 ∷ []) []
+ends_of : (tokens : List (List ℕ)) → All IsToken tokens
+    → laid_from [] (map Put tokens ++ EndGame ∷ []) ≡ laid (text_of (lines_of tokens) ++ 10 ∷ []) []
 ends_of [] each = refl
 ends_of ([] ∷ ts) each = absurd (omega (arith, (All-head IsToken [] ts each).not_empty))
 ends_of ((x ∷ xs) ∷ ts) each = ends x xs ts (All-tail IsToken (x ∷ xs) ts each)

@@ -1,5 +1,6 @@
 -- The text of lines is their tokens, each with the byte after it.
-use Rattle.std.proofs.Common.{◌≡◌, ℕ, true, false, List, [], ◌∷◌, ◌++◌, map, refl, sym, ap, subst, ◌∙◌, append_assoc, append-nil}
+use Rattle.std.proofs.lemmas.Grind.{common_steps}
+use Rattle.std.proofs.Common.{arith, ◌≡◌, ℕ, true, false, List, [], ◌∷◌, ◌++◌, map, refl, ap, ◌∙◌, append_assoc, append-nil}
 use Rattle.pgn_layout.specs.Lines.{Line, spaced, text_on, tokens_over, has_room, lines_from, text_of}
 use Rattle.pgn_layout.specs.LineText.{IsTextOf, no_token, next_token}
 use Rattle.pgn_layout.specs.Laws.{LinesKeepTokens, LinesOfKeepTokens}
@@ -11,23 +12,21 @@ line_text : (t : List ℕ) (ts more : List (List ℕ)) (s : List ℕ) → IsText
 line_text t [] more s h =
     let joined : ((t ++ []) ++ 10 ∷ []) ++ s ≡ t ++ 10 ∷ s =
     ap (λ l. (l ++ 10 ∷ []) ++ s) (append-nil t) ∙ append_assoc t (10 ∷ []) s in
-    subst (IsTextOf (t ∷ more)) (sym joined) (next_token t 10 more s refl h)
+    rw joined (next_token t 10 more s refl h)
 line_text t (u ∷ us) more s h =
     let rest = ((u ++ spaced us) ++ 10 ∷ []) ++ s in
     let joined : ((t ++ 32 ∷ (u ++ spaced us)) ++ 10 ∷ []) ++ s ≡ t ++ 32 ∷ rest =
     ap (λ l. l ++ s) (append_assoc t (32 ∷ (u ++ spaced us)) (10 ∷ []))
     ∙ append_assoc t ((32 ∷ (u ++ spaced us)) ++ 10 ∷ []) s in
-    subst (IsTextOf (t ∷ (u ∷ us ++ more))) (sym joined)
+    rw joined
     (next_token t 32 (u ∷ us ++ more) rest refl (line_text u us more s h))
 
 parts_text : (parts : List Line) → IsTextOf (tokens_over parts) (text_of (map text_on parts))
 parts_text [] = no_token
-parts_text (l ∷ ls) = line_text l.first l.others (tokens_over ls) _ (parts_text ls)
+parts_text (l ∷ ls) = grind (arith, common_steps, line_text, parts_text ls)
 
 pub lines_keep_tokens : LinesKeepTokens
-lines_keep_tokens tokens lines h =
-    subst (λ ls. IsTextOf tokens (text_of ls)) h.texts
-    (subst (λ ts. IsTextOf ts (text_of (map text_on h.parts))) h.in_order (parts_text h.parts))
+lines_keep_tokens tokens lines h = grind (arith, common_steps, parts_text)
 
 -- the lines that are computed, part by part
 texts_from : (l : Line) (ts : List (List ℕ))
@@ -50,6 +49,6 @@ lines_of_keep_tokens (t ∷ ts) =
     let parts = parts_from (alone t) ts in
     let texts : map text_on parts ≡ lines_from t ts =
     texts_from (alone t) ts ∙ ap (λ s. lines_from s ts) (append-nil t) in
-    subst (λ ls. IsTextOf (t ∷ ts) (text_of ls)) texts
-    (subst (λ us. IsTextOf us (text_of (map text_on parts))) (in_order (alone t) ts)
+    rw texts at
+    (rw (in_order (alone t) ts) at
     (parts_text parts))

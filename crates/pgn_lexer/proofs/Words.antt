@@ -16,12 +16,12 @@ pub use Rattle.pgn_lexer.specs.Lexes.{Cuts, Data, IsAtLineEnd, IsRun, IsSingle, 
 pub use Rattle.pgn_lexer.specs.PartialToken.{HasNotFailed, IsSound, PartialToken, fault_met, kind_in, pending, pending_in, refusal, spelling, token_of, tokens_to_come, tokens_to_come_in, with_front}
 pub use Rattle.pgn_lexer.specs.RunResult.{EndsBeforeByte, EndsWithByte, IsOutside, Ran, RunGives, RunsOn, RunsOut, RunsToFault, RunsToToken, StoodAt, reached_after, used_after}
 pub use Rattle.pgn_lexer.specs.Scanned.{Scanned, fault, more}
-pub use Rattle.pgn_lexer.specs.Sound.{AreSoundTokens, CommentsClose, IsData, IsSoundKind, IsSymbol, IsWord, begins_with}
+pub use Rattle.pgn_lexer.specs.Sound.{AreSoundTokens, CommentsClose, IsData, IsSoundKind, IsSymbol, IsWord}
 pub use Rattle.pgn_lexer.specs.Spelling.{Found, Reading, broken, class, closed, comment_class, datum, gives, glyph_at, kind_of_single, number_from, number_of, numbered_at, reading, stops, string_at, string_class, suffix_at, symbol_at, word_at}
 pub use Rattle.pgn_lexer.specs.Standing.{Standing, coming, fault_in_mode, fault_of, waiting}
 pub use Rattle.pgn_lexer.specs.Stands.{EndsNoSooner, FinishGivesToken, Finishes, Follows, HasLeft, IsDecided, IsNext, Scans, StandsAfter, first, still}
 pub use Rattle.pgn_lexer.specs.Tokens.{EndsAt, HasLength, Kind, Token, asterisk, comment_close, comment_open, end, glyph, is_run, left_bracket, left_paren, period, refused, right_bracket, right_paren, str, symbol, word}
-pub use Rattle.pgn_lexer.specs.TokensOf.{Within, after_brace, after_class, after_first, after_line, after_quoted, after_run, at_end, begins, begins_after, begins_brace, begins_class, begins_first, begins_line, begins_word, brace, column, has_mark, in_escape_line, in_glyph, in_suffix, in_symbol, line, next, onto, outside, quotes, tokens_from, tokens_of}
+pub use Rattle.pgn_lexer.specs.TokensOf.{Within, after_brace, after_class, after_first, after_line, after_quoted, after_run, at_end, begins, begins_after, begins_brace, begins_class, begins_first, begins_line, brace, column, has_mark, in_glyph, in_suffix, in_symbol, line, next, onto, outside, quotes, tokens_from, tokens_of}
 pub use Rattle.pgn_lexer.specs.Written.{AreEnded, IsEndedBy, IsPiece, IsReadable, Piece, kinds_in, space, text_of_pieces, token, tokens_at, written}
 pub use Rattle.pgn_lexer.specs.declared.class.Class.{Class}
 pub use Rattle.pgn_lexer.specs.declared.class.Class.TheVariants.{Alone, Dollar, LineEnd, OpenBrace, Percent, Quote, Refused, Semicolon, Space, Suffix, SymbolStart}
@@ -29,7 +29,7 @@ pub use Rattle.pgn_lexer.specs.declared.class.CommentClass.{CommentClass}
 pub use Rattle.pgn_lexer.specs.declared.class.Single.{Single}
 pub use Rattle.pgn_lexer.specs.declared.class.StringClass.{StringClass}
 pub use Rattle.pgn_lexer.specs.declared.partial_token.Mode.{Mode}
-pub use Rattle.pgn_lexer.specs.declared.partial_token.Mode.TheVariants.{Brace, BraceWord, Failed, LineStart, Outside, Str, Symbol}
+pub use Rattle.pgn_lexer.specs.declared.partial_token.Mode.TheVariants.{Brace, BraceWord, Failed, LineStart, Outside, Start, Str, Symbol}
 pub use Rattle.pgn_lexer.specs.declared.partial_token.Step.{Step}
 pub use Rattle.pgn_lexer.specs.declared.partial_token.Step.TheVariants.{Ends, EndsBefore, Fault, Used}
 pub use Rattle.pgn_lexer.specs.declared.partial_token.TokenForm.{TokenForm}

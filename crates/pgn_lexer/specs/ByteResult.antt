@@ -7,14 +7,14 @@ use Rattle.pgn_lexer.specs.declared.token.LexReason.TheVariants.{StrayByte, Cont
 use Rattle.pgn_lexer.specs.declared.class.Class.{Class}
 use Rattle.pgn_lexer.specs.declared.class.Class.TheVariants as classes
 use Rattle.pgn_lexer.specs.declared.class.CommentClass.{CommentClass}
-use Rattle.pgn_lexer.specs.declared.class.CommentClass.TheVariants as comments
+use Rattle.pgn_lexer.specs.declared.class.CommentClass.TheVariants as comment_classes
 use Rattle.pgn_lexer.specs.declared.class.StringClass.{StringClass}
-use Rattle.pgn_lexer.specs.declared.class.StringClass.TheVariants as strings
+use Rattle.pgn_lexer.specs.declared.class.StringClass.TheVariants as string_classes
 use Rattle.pgn_lexer.specs.declared.partial_token.Mode.{Mode}
 use Rattle.pgn_lexer.specs.declared.partial_token.Mode.TheVariants.{Start, AfterEf, AfterEfBb, LineStart, Outside, EscapeLine, Symbol, Str, AfterBackslash, Dollar, Glyph, Suffix, Brace, BraceWord, Line, LineWord, Failed}
 use Rattle.pgn_lexer.specs.declared.partial_token.SuffixRun.{SuffixRun}
-use Rattle.pgn_lexer.specs.declared.partial_token.SuffixRun.TheVariants as runs
-use Rattle.pgn_lexer.specs.declared.partial_token.TokenForm.TheVariants as forms
+use Rattle.pgn_lexer.specs.declared.partial_token.SuffixRun.TheVariants as suffix_runs
+use Rattle.pgn_lexer.specs.declared.partial_token.TokenForm.TheVariants as token_forms
 use Rattle.pgn_lexer.specs.declared.partial_token.Step.{Step}
 use Rattle.pgn_lexer.specs.declared.partial_token.Step.TheVariants.{Used, Ends, EndsBefore, Fault}
 use Rattle.pgn_lexer.specs.declared.partial_token.Reached.{Reached}
@@ -65,10 +65,10 @@ begin place h b classes.Percent = fails h place StrayByte
 begin place h b classes.SymbolStart = set_at Symbol place (b ∷ []) Used
 begin place h b classes.Quote = set_at Str place [] Used
 begin place h b classes.Dollar = set_at Dollar place h.text Used
-begin place h b classes.Suffix = set_at (Suffix (if b == 33 then runs.Good else runs.Poor)) place h.text Used
-begin place h b classes.OpenBrace = set_at Brace place h.text (Ends forms.CommentOpen)
-begin place h b classes.Semicolon = set_at Line place h.text (Ends forms.CommentOpen)
-begin place h b (classes.Alone s) = set_at Outside place h.text (Ends (forms.Single s))
+begin place h b classes.Suffix = set_at (Suffix (if b == 33 then suffix_runs.Good else suffix_runs.Poor)) place h.text Used
+begin place h b classes.OpenBrace = set_at Brace place h.text (Ends token_forms.CommentOpen)
+begin place h b classes.Semicolon = set_at Line place h.text (Ends token_forms.CommentOpen)
+begin place h b (classes.Alone s) = set_at Outside place h.text (Ends (token_forms.Single s))
 begin place h b (classes.Refused r) = fails h place r
 
 -- in the first column a percent sign begins an escape line
@@ -88,7 +88,7 @@ abbrev pub mark : ℕ → Mode → PartialToken → ℕ → AfterByte
 mark wanted mode h b = if b == wanted then into h mode Used else fails h 0 StrayByte
 
 abbrev pub symbol : PartialToken → ℕ → AfterByte
-symbol h b = if continues_symbol b then if_room 255 SymbolTooLong h (grown h Symbol b) else into h Outside (EndsBefore forms.Symbol)
+symbol h b = if continues_symbol b then if_room 255 SymbolTooLong h (grown h Symbol b) else into h Outside (EndsBefore token_forms.Symbol)
 
 -- the first digit of a NAG; a digit is its byte less 48, the byte of `0`
 abbrev pub dollar : PartialToken → ℕ → AfterByte
@@ -97,56 +97,56 @@ dollar h b = if is_digit b then into h (Glyph (b - 48)) Used else fails h h.at L
 abbrev pub glyph : PartialToken → ℕ → ℕ → AfterByte
 glyph h n b =
     if is_digit b then (if nat_le (10 * n + (b - 48)) 255 then into h (Glyph (10 * n + (b - 48))) Used else fails h h.at GlyphRange)
-    else into h Outside (EndsBefore (forms.Glyph n))
+    else into h Outside (EndsBefore (token_forms.Glyph n))
 
 -- the glyph that a suffix stands for
 abbrev pub glyph_of : SuffixRun → ℕ
-glyph_of runs.Good = 1
-glyph_of runs.Poor = 2
-glyph_of runs.VeryGood = 3
-glyph_of runs.VeryPoor = 4
-glyph_of runs.Speculative = 5
-glyph_of runs.Questionable = 6
+glyph_of suffix_runs.Good = 1
+glyph_of suffix_runs.Poor = 2
+glyph_of suffix_runs.VeryGood = 3
+glyph_of suffix_runs.VeryPoor = 4
+glyph_of suffix_runs.Speculative = 5
+glyph_of suffix_runs.Questionable = 6
 
 -- the second byte of a suffix: `!` (33), or else `?`
 abbrev pub second_suffix : PartialToken → SuffixRun → ℕ → AfterByte
-second_suffix h runs.Good b = into h (Suffix (if b == 33 then runs.VeryGood else runs.Speculative)) Used
-second_suffix h runs.Poor b = into h (Suffix (if b == 33 then runs.Questionable else runs.VeryPoor)) Used
+second_suffix h suffix_runs.Good b = into h (Suffix (if b == 33 then suffix_runs.VeryGood else suffix_runs.Speculative)) Used
+second_suffix h suffix_runs.Poor b = into h (Suffix (if b == 33 then suffix_runs.Questionable else suffix_runs.VeryPoor)) Used
 second_suffix h _ b = fails h h.at BadSuffix
 
 abbrev pub suffix : PartialToken → SuffixRun → ℕ → AfterByte
-suffix h run b = if is_suffix b then second_suffix h run b else into h Outside (EndsBefore (forms.Glyph (glyph_of run)))
+suffix h run b = if is_suffix b then second_suffix h run b else into h Outside (EndsBefore (token_forms.Glyph (glyph_of run)))
 
 -- In a string; `escaped` says that a backslash (92) is just before. That is a datum itself, unless
 -- it escapes the byte.
 abbrev pub string : Bool → ℕ → PartialToken → ℕ → StringClass → AfterByte
-string escaped place h b strings.LineEnd = fails h h.at UnclosedString
-string escaped place h b strings.Control = fails h place ControlByte
-string false place h b strings.Quote = into h Outside (Ends forms.Str)
-string false place h b strings.Backslash = if_room 255 StringTooLong h (into h AfterBackslash Used)
-string false place h b strings.Plain = if_room 255 StringTooLong h (grown h Str b)
-string true place h b strings.Plain = if_room 254 StringTooLong h (grown (grown h Str 92).held Str b)
+string escaped place h b string_classes.LineEnd = fails h h.at UnclosedString
+string escaped place h b string_classes.Control = fails h place ControlByte
+string false place h b string_classes.Quote = into h Outside (Ends token_forms.Str)
+string false place h b string_classes.Backslash = if_room 255 StringTooLong h (into h AfterBackslash Used)
+string false place h b string_classes.Plain = if_room 255 StringTooLong h (grown h Str b)
+string true place h b string_classes.Plain = if_room 254 StringTooLong h (grown (grown h Str 92).held Str b)
 string true place h b _ = grown h Str b
 
 -- between the words of a comment, in the mode `between`; the mode in a word is `inside`
 abbrev pub between_words : Mode → Mode → ℕ → PartialToken → ℕ → CommentClass → AfterByte
-between_words between inside place h b comments.WordByte = set_at inside place (b ∷ []) Used
-between_words between inside place h b comments.Control = fails h place ControlByte
+between_words between inside place h b comment_classes.WordByte = set_at inside place (b ∷ []) Used
+between_words between inside place h b comment_classes.Control = fails h place ControlByte
 between_words between inside place h b _ = set_at between place h.text Used
 
 abbrev pub brace : ℕ → PartialToken → ℕ → CommentClass → AfterByte
-brace place h b comments.CloseBrace = set_at Outside place h.text (Ends forms.CommentClose)
+brace place h b comment_classes.CloseBrace = set_at Outside place h.text (Ends token_forms.CommentClose)
 brace place h b c = between_words Brace BraceWord place h b c
 
 abbrev pub line : ℕ → PartialToken → ℕ → CommentClass → AfterByte
-line place h b comments.LineEnd = set_at LineStart place h.text (Ends forms.CommentClose)
-line place h b comments.CloseBrace = fails h place BraceInLineComment
+line place h b comment_classes.LineEnd = set_at LineStart place h.text (Ends token_forms.CommentClose)
+line place h b comment_classes.CloseBrace = fails h place BraceInLineComment
 line place h b c = between_words Line LineWord place h b c
 
 -- in a word of either comment
 abbrev pub word : Mode → PartialToken → ℕ → CommentClass → AfterByte
-word between h b comments.WordByte = if_room 79 WordTooLong h (grown h h.mode b)
-word between h b _ = into h between (EndsBefore forms.Word)
+word between h b comment_classes.WordByte = if_room 79 WordTooLong h (grown h h.mode b)
+word between h b _ = into h between (EndsBefore token_forms.Word)
 
 abbrev pub after_byte_in : Mode → ℕ → PartialToken → ℕ → AfterByte
 after_byte_in Start place h b = start place h b
@@ -179,7 +179,7 @@ after_end_in LineStart place h = record { held = h; step = Used }
 after_end_in Outside place h = record { held = h; step = Used }
 after_end_in EscapeLine place h = record { held = h; step = Used }
 after_end_in Brace place h = fails h place UnclosedComment
-after_end_in Line place h = set_at Outside place h.text (EndsBefore forms.CommentClose)
+after_end_in Line place h = set_at Outside place h.text (EndsBefore token_forms.CommentClose)
 after_end_in mode place h = after_byte_in mode place h 10
 
 unfoldable pub after_end : ℕ → PartialToken → AfterByte

@@ -30,7 +30,7 @@ abbrev pub starts_symbol : ℕ → Bool
 starts_symbol b = is_letter b || is_digit b
 
 -- A symbol continues with letters, digits, _ (95), + (43), # (35), = (61), : (58) and - (45) (PGN
--- 7), and, by our choice, with / (47) for 1/2-1/2.
+-- 7), and, by our choice, with / (47) for a draw.
 abbrev pub continues_symbol : ℕ → Bool
 continues_symbol b = starts_symbol b || (b == 95) || (b == 43) || (b == 35) || (b == 61) || (b == 58) || (b == 45) || (b == 47)
 

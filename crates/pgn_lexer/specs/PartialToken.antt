@@ -8,9 +8,9 @@ use Rattle.pgn_lexer.specs.declared.token.LexReason.TheVariants.{StrayByte}
 use Rattle.pgn_lexer.specs.declared.partial_token.Mode.{Mode}
 use Rattle.pgn_lexer.specs.declared.partial_token.Mode.TheVariants.{Start, AfterEf, AfterEfBb, LineStart, Outside, EscapeLine, Symbol, Str, AfterBackslash, Dollar, Glyph, Suffix, Brace, BraceWord, Line, LineWord, Failed}
 use Rattle.pgn_lexer.specs.declared.partial_token.SuffixRun.{SuffixRun}
-use Rattle.pgn_lexer.specs.declared.partial_token.SuffixRun.TheVariants as runs
+use Rattle.pgn_lexer.specs.declared.partial_token.SuffixRun.TheVariants as suffix_runs
 use Rattle.pgn_lexer.specs.declared.partial_token.TokenForm.{TokenForm}
-use Rattle.pgn_lexer.specs.declared.partial_token.TokenForm.TheVariants as forms
+use Rattle.pgn_lexer.specs.declared.partial_token.TokenForm.TheVariants as token_forms
 use Rattle.pgn_lexer.specs.Bytes.{is_digit, continues_symbol, is_suffix, continues_word}
 use Rattle.pgn_lexer.specs.Tokens.{Kind, Token, symbol, str, glyph, comment_open, word, comment_close, refused}
 use Rattle.pgn_lexer.specs.Spelling.{kind_of_single, Reading, closed, broken, reading, number_from, symbol_at, word_at, glyph_at, numbered_at, suffix_at, string_at}
@@ -28,13 +28,13 @@ refusal f = record { at = f.at; kind = refused f.reason }
 
 -- the token of a form, at its place with its text
 abbrev pub kind_in : TokenForm → List ℕ → Kind
-kind_in (forms.Single s) text = kind_of_single s
-kind_in forms.Symbol text = symbol text
-kind_in forms.Str text = str text
-kind_in (forms.Glyph n) text = glyph n
-kind_in forms.CommentOpen text = comment_open
-kind_in forms.Word text = word text
-kind_in forms.CommentClose text = comment_close
+kind_in (token_forms.Single s) text = kind_of_single s
+kind_in token_forms.Symbol text = symbol text
+kind_in token_forms.Str text = str text
+kind_in (token_forms.Glyph n) text = glyph n
+kind_in token_forms.CommentOpen text = comment_open
+kind_in token_forms.Word text = word text
+kind_in token_forms.CommentClose text = comment_close
 
 abbrev pub token_of : TokenForm → PartialToken → Token
 token_of form h = record { at = h.at; kind = kind_in form h.text }
@@ -46,12 +46,12 @@ with_front text (broken at reason) = broken at reason
 
 -- the suffix so far
 abbrev pub spelling : SuffixRun → List ℕ
-spelling runs.Good = codes "!"
-spelling runs.Poor = codes "?"
-spelling runs.VeryGood = codes "!!"
-spelling runs.VeryPoor = codes "??"
-spelling runs.Speculative = codes "!?"
-spelling runs.Questionable = codes "?!"
+spelling suffix_runs.Good = codes "!"
+spelling suffix_runs.Poor = codes "?"
+spelling suffix_runs.VeryGood = codes "!!"
+spelling suffix_runs.VeryPoor = codes "??"
+spelling suffix_runs.Speculative = codes "!?"
+spelling suffix_runs.Questionable = codes "?!"
 
 -- the tokens that come, if the bytes from the place on are s
 abbrev pub tokens_to_come_in : Mode → ℕ → ℕ → List ℕ → List ℕ → List Token

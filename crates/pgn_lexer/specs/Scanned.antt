@@ -2,25 +2,25 @@
 use Rattle.std.specs.Prelude.{ℕ, Option, None, Some}
 use Rattle.pgn_lexer.specs.declared.token.LexFault.{LexFault}
 use Rattle.pgn_lexer.specs.declared.token.TokenKind.{TokenKind}
-use Rattle.pgn_lexer.specs.declared.token.TokenKind.TheVariants as variants
+use Rattle.pgn_lexer.specs.declared.token.TokenKind.TheVariants as token_kinds
 use Rattle.pgn_lexer.specs.declared.token.Outcome.{Outcome}
 use Rattle.pgn_lexer.specs.declared.token.Outcome.TheVariants as outcomes
 use Rattle.pgn_lexer.specs.Tokens.{Kind, Token, EndsAt, HasLength, left_bracket, right_bracket, left_paren, right_paren, period, asterisk, symbol, str, glyph, comment_open, word, comment_close, end}
 
 abbrev pub kind_of : TokenKind → Kind
-kind_of variants.LeftBracket = left_bracket
-kind_of variants.RightBracket = right_bracket
-kind_of variants.LeftParen = left_paren
-kind_of variants.RightParen = right_paren
-kind_of variants.Period = period
-kind_of variants.Asterisk = asterisk
-kind_of (variants.Symbol text) = symbol text.now
-kind_of (variants.Str text) = str text.now
-kind_of (variants.Glyph n) = glyph n
-kind_of variants.CommentOpen = comment_open
-kind_of (variants.Word text) = word text.now
-kind_of variants.CommentClose = comment_close
-kind_of variants.End = end
+kind_of token_kinds.LeftBracket = left_bracket
+kind_of token_kinds.RightBracket = right_bracket
+kind_of token_kinds.LeftParen = left_paren
+kind_of token_kinds.RightParen = right_paren
+kind_of token_kinds.Period = period
+kind_of token_kinds.Asterisk = asterisk
+kind_of (token_kinds.Symbol text) = symbol text.now
+kind_of (token_kinds.Str text) = str text.now
+kind_of (token_kinds.Glyph n) = glyph n
+kind_of token_kinds.CommentOpen = comment_open
+kind_of (token_kinds.Word text) = word text.now
+kind_of token_kinds.CommentClose = comment_close
+kind_of token_kinds.End = end
 
 -- nothing, a token, or an error
 pub data Scanned : Type 0 where

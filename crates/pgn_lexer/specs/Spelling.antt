@@ -7,9 +7,9 @@ use Rattle.pgn_lexer.specs.declared.class.Single.TheVariants as singles
 use Rattle.pgn_lexer.specs.declared.class.Class.{Class}
 use Rattle.pgn_lexer.specs.declared.class.Class.TheVariants.{LineEnd, Space, Percent, SymbolStart, Quote, Dollar, Suffix, OpenBrace, Semicolon, Alone, Refused}
 use Rattle.pgn_lexer.specs.declared.class.CommentClass.{CommentClass}
-use Rattle.pgn_lexer.specs.declared.class.CommentClass.TheVariants as comments
+use Rattle.pgn_lexer.specs.declared.class.CommentClass.TheVariants as comment_classes
 use Rattle.pgn_lexer.specs.declared.class.StringClass.{StringClass}
-use Rattle.pgn_lexer.specs.declared.class.StringClass.TheVariants as strings
+use Rattle.pgn_lexer.specs.declared.class.StringClass.TheVariants as string_classes
 use Rattle.pgn_lexer.specs.Bytes.{is_line_end, is_blank, is_control, starts_symbol, is_suffix, continues_word}
 use Rattle.pgn_lexer.specs.Tokens.{Kind, left_bracket, right_bracket, left_paren, right_paren, period, asterisk, symbol, str, glyph, word}
 
@@ -48,20 +48,20 @@ kind_of_single singles.Asterisk = asterisk
 -- what a byte is in a comment: } and the classes (PGN 5)
 abbrev pub comment_class : ℕ → CommentClass
 comment_class b =
-    if continues_word b then comments.WordByte
-    else (if is_line_end b then comments.LineEnd
-    else (if is_blank b then comments.Space
-    else (if b == 125 then comments.CloseBrace
-    else comments.Control)))
+    if continues_word b then comment_classes.WordByte
+    else (if is_line_end b then comment_classes.LineEnd
+    else (if is_blank b then comment_classes.Space
+    else (if b == 125 then comment_classes.CloseBrace
+    else comment_classes.Control)))
 
 -- what a byte is in a string: " and \ and the classes (PGN 7)
 abbrev pub string_class : ℕ → StringClass
 string_class b =
-    if b == 34 then strings.Quote
-    else (if b == 92 then strings.Backslash
-    else (if is_line_end b then strings.LineEnd
-    else (if nat_le b 31 || (b == 127) then strings.Control
-    else strings.Plain)))
+    if b == 34 then string_classes.Quote
+    else (if b == 92 then string_classes.Backslash
+    else (if is_line_end b then string_classes.LineEnd
+    else (if nat_le b 31 || (b == 127) then string_classes.Control
+    else string_classes.Plain)))
 
 -- What begins at a byte: nothing, a token, or the error at which the tokens stop, with its place.
 pub data Found : Type 0 where
@@ -118,19 +118,19 @@ abbrev pub reading : ℕ → ℕ → ℕ → Bool → List ℕ → Reading
 reading start at n escaped [] = broken start UnclosedString
 reading start at n false (b ∷ bs) =
     elim (string_class b) [
-      | strings.Quote ↦ closed []
-      | strings.LineEnd ↦ broken start UnclosedString
-      | strings.Control ↦ broken at ControlByte
-      | strings.Backslash ↦ elim (nat_lt n 255) [ true ↦ reading start (at + 1) n true bs | false ↦ broken start StringTooLong ]
-      | strings.Plain ↦ elim (nat_lt n 255) [ true ↦ datum b (reading start (at + 1) (n + 1) false bs) | false ↦ broken start StringTooLong ]
+      | string_classes.Quote ↦ closed []
+      | string_classes.LineEnd ↦ broken start UnclosedString
+      | string_classes.Control ↦ broken at ControlByte
+      | string_classes.Backslash ↦ elim (nat_lt n 255) [ true ↦ reading start (at + 1) n true bs | false ↦ broken start StringTooLong ]
+      | string_classes.Plain ↦ elim (nat_lt n 255) [ true ↦ datum b (reading start (at + 1) (n + 1) false bs) | false ↦ broken start StringTooLong ]
     ]
 reading start at n true (b ∷ bs) =
     elim (string_class b) [
-      | strings.Quote ↦ datum b (reading start (at + 1) (n + 1) false bs)
-      | strings.LineEnd ↦ broken start UnclosedString
-      | strings.Control ↦ broken at ControlByte
-      | strings.Backslash ↦ datum b (reading start (at + 1) (n + 1) false bs)
-      | strings.Plain ↦ elim (nat_lt n 254) [ true ↦ datum 92 (datum b (reading start (at + 1) (n + 2) false bs)) | false ↦ broken start StringTooLong ]
+      | string_classes.Quote ↦ datum b (reading start (at + 1) (n + 1) false bs)
+      | string_classes.LineEnd ↦ broken start UnclosedString
+      | string_classes.Control ↦ broken at ControlByte
+      | string_classes.Backslash ↦ datum b (reading start (at + 1) (n + 1) false bs)
+      | string_classes.Plain ↦ elim (nat_lt n 254) [ true ↦ datum 92 (datum b (reading start (at + 1) (n + 2) false bs)) | false ↦ broken start StringTooLong ]
     ]
 
 abbrev pub string_at : Reading → Found

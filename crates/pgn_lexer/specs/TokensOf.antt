@@ -4,9 +4,9 @@ use Rattle.pgn_lexer.specs.declared.token.LexReason.TheVariants.{StrayByte, Cont
 use Rattle.pgn_lexer.specs.declared.class.Class.{Class}
 use Rattle.pgn_lexer.specs.declared.class.Class.TheVariants.{LineEnd, Space, Percent, SymbolStart, Quote, Dollar, Suffix, OpenBrace, Semicolon, Alone, Refused}
 use Rattle.pgn_lexer.specs.declared.class.CommentClass.{CommentClass}
-use Rattle.pgn_lexer.specs.declared.class.CommentClass.TheVariants as comments
+use Rattle.pgn_lexer.specs.declared.class.CommentClass.TheVariants as comment_classes
 use Rattle.pgn_lexer.specs.declared.class.StringClass.{StringClass}
-use Rattle.pgn_lexer.specs.declared.class.StringClass.TheVariants as strings
+use Rattle.pgn_lexer.specs.declared.class.StringClass.TheVariants as string_classes
 use Rattle.pgn_lexer.specs.Bytes.{is_line_end, is_digit, continues_symbol, is_suffix, continues_word}
 use Rattle.pgn_lexer.specs.Tokens.{Token, comment_open, comment_close, end, refused}
 use Rattle.pgn_lexer.specs.Spelling.{class, kind_of_single, comment_class, string_class, Found, nothing, gives, stops, symbol_at, word_at, glyph_at, suffix_at, reading, string_at}
@@ -43,18 +43,18 @@ after_first Percent = in_escape_line
 after_first c = after_class c
 
 abbrev pub after_brace : CommentClass → Within
-after_brace comments.CloseBrace = outside
-after_brace comments.WordByte = brace_word
+after_brace comment_classes.CloseBrace = outside
+after_brace comment_classes.WordByte = brace_word
 after_brace _ = brace
 
 abbrev pub after_line : CommentClass → Within
-after_line comments.LineEnd = column
-after_line comments.WordByte = line_word
+after_line comment_classes.LineEnd = column
+after_line comment_classes.WordByte = line_word
 after_line _ = line
 
 abbrev pub after_quoted : StringClass → Within
-after_quoted strings.Quote = outside
-after_quoted strings.Backslash = backslash
+after_quoted string_classes.Quote = outside
+after_quoted string_classes.Backslash = backslash
 after_quoted _ = quotes
 
 -- what a place is inside of, if a run of a symbol, a NAG or a suffix continues there, or not
@@ -106,18 +106,18 @@ begins_word at true b bs = nothing
 begins_word at false b bs = word_at at (b ∷ take_while continues_word bs)
 
 abbrev pub begins_brace : ℕ → Bool → CommentClass → ℕ → List ℕ → Found
-begins_brace at goes comments.LineEnd b bs = nothing
-begins_brace at goes comments.Space b bs = nothing
-begins_brace at goes comments.CloseBrace b bs = gives comment_close
-begins_brace at goes comments.WordByte b bs = begins_word at goes b bs
-begins_brace at goes comments.Control b bs = stops at ControlByte
+begins_brace at goes comment_classes.LineEnd b bs = nothing
+begins_brace at goes comment_classes.Space b bs = nothing
+begins_brace at goes comment_classes.CloseBrace b bs = gives comment_close
+begins_brace at goes comment_classes.WordByte b bs = begins_word at goes b bs
+begins_brace at goes comment_classes.Control b bs = stops at ControlByte
 
 abbrev pub begins_line : ℕ → Bool → CommentClass → ℕ → List ℕ → Found
-begins_line at goes comments.LineEnd b bs = gives comment_close
-begins_line at goes comments.Space b bs = nothing
-begins_line at goes comments.CloseBrace b bs = stops at BraceInLineComment
-begins_line at goes comments.WordByte b bs = begins_word at goes b bs
-begins_line at goes comments.Control b bs = stops at ControlByte
+begins_line at goes comment_classes.LineEnd b bs = gives comment_close
+begins_line at goes comment_classes.Space b bs = nothing
+begins_line at goes comment_classes.CloseBrace b bs = stops at BraceInLineComment
+begins_line at goes comment_classes.WordByte b bs = begins_word at goes b bs
+begins_line at goes comment_classes.Control b bs = stops at ControlByte
 
 -- what begins at a byte
 abbrev pub begins : ℕ → Within → ℕ → List ℕ → Found

@@ -56,10 +56,7 @@ impl Lexer {
         ensures stands { StandsAfter result [] None [] }
         ensures no_fault { fault_of result ≡ None }
     {
-        Lexer {
-            partial: PartialToken::new(),
-            count: 0,
-        }
+        Lexer::begin_at(0, true)
     }
 
     /// Returns a lexer that reads the rest of a text, from the byte at this place on.
@@ -76,11 +73,8 @@ impl Lexer {
         ensures count { result.count ≡ place }
         ensures no_fault { fault_of result ≡ None }
     {
-        if place == 0 {
-            return Lexer::new();
-        }
         Lexer {
-            partial: PartialToken::between(in_first_column),
+            partial: PartialToken::begin_at(place, in_first_column),
             count: place,
         }
     }

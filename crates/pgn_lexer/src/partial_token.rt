@@ -1,7 +1,7 @@
 //! The current token: its place, its mode, and what was read of it.
 
-ghost use Rattle.std.specs.Prelude.{◌≡◌, [], if◌then◌else◌};
-ghost use Rattle.pgn_lexer.specs.ByteResult as after;
+ghost use Rattle.std.specs.Prelude.{◌≡◌, ◌==◌, [], if◌then◌else◌};
+ghost use Rattle.pgn_lexer.specs.ByteResult as byte_result;
 
 mod byte;
 mod end;
@@ -123,25 +123,18 @@ impl PartialToken {
     ghost use Rattle.pgn_lexer.specs.PartialToken.{fault_met, kind_in};
     ghost use Rattle.pgn_lexer.specs.Scanned.{kind_of};
 
-    pub(crate) fn new() -> PartialToken
-        ensures { result ≡ record { mode = Mode.Start; at = 0; text = [] } }
-    {
-        PartialToken {
-            buffer: ArrayVec::new(),
-            mode: Mode::Start,
-            at: 0,
-        }
-    }
-
-    /// Returns the state outside all tokens.
-    pub(crate) fn between(in_first_column: bool) -> PartialToken
+    /// Returns the state outside all tokens, before the byte at this place.
+    pub(crate) fn begin_at(place: u64, in_first_column: bool) -> PartialToken
         ensures { result ≡ record {
-          mode = if in_first_column then Mode.LineStart else Mode.Outside;
+          mode = if place == 0 then Mode.Start else if in_first_column then Mode.LineStart
+              else Mode.Outside;
           at = 0;
           text = [];
         } }
     {
-        let mode = if in_first_column {
+        let mode = if place == 0 {
+            Mode::Start
+        } else if in_first_column {
             Mode::LineStart
         } else {
             Mode::Outside
@@ -194,7 +187,7 @@ impl PartialToken {
 
 /// The NAG of a suffix (PGN 8.2.3.8, 10).
 pub(crate) fn glyph_of(run: SuffixRun) -> u8
-    ensures { result ≡ after.glyph_of run }
+    ensures { result ≡ byte_result.glyph_of run }
 {
     match run {
         SuffixRun::Good => 1,

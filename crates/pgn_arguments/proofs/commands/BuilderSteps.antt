@@ -1,5 +1,6 @@
 -- What each step of a builder does to what a parse reads.
-use Rattle.std.proofs.Common.{◌≡◌, ◌∙◌, ap, Bool, true, false, ◌&&◌, not, true≢false, refl, sym, Some}
+use Rattle.std.proofs.lemmas.Grind.{common_steps}
+use Rattle.std.proofs.Common.{arith, ◌≡◌, ap, Bool, true, false, ◌&&◌, not, true≢false, refl, Some}
 use Rattle.std.specs.Borrow.{Bor}
 use Rattle.std.specs.Prelude.{ℕ, List}
 use Rattle.clap.specs.Words.{App, app_of, rule_of}
@@ -15,13 +16,16 @@ use Rattle.clap.specs.declared.builder.command.Command.TheViews.{out-Command}
 pub rule_help : (a b : Arg) (text : Bor (List ℕ)) → b ≡ record a { help = Some text } → rule_of b ≡ rule_of a
 rule_help a b text e = ap rule_of e
 
-pub rule_value_name : (a b : Arg) (name : Bor (List ℕ)) → b ≡ record a { val_names = One name } → rule_of b ≡ record (rule_of a) { value_names = 1 }
+pub rule_value_name : (a b : Arg) (name : Bor (List ℕ)) → b ≡ record a { val_names = One name }
+    → rule_of b ≡ record (rule_of a) { value_names = 1 }
 rule_value_name a b name e = ap rule_of e
 
-pub rule_long : (a b : Arg) (name : Bor (List ℕ)) → b ≡ record a { long = Some name } → rule_of b ≡ record (rule_of a) { long = Some name.now }
+pub rule_long : (a b : Arg) (name : Bor (List ℕ)) → b ≡ record a { long = Some name }
+    → rule_of b ≡ record (rule_of a) { long = Some name.now }
 rule_long a b name e = ap rule_of e
 
-pub rule_action : (a b : Arg) (action : ArgAction) → b ≡ record a { action = Some action } → rule_of b ≡ record (rule_of a) { action = Some action }
+pub rule_action : (a b : Arg) (action : ArgAction) → b ≡ record a { action = Some action }
+    → rule_of b ≡ record (rule_of a) { action = Some action }
 rule_action a b action e = ap rule_of e
 
 -- ---- commands
@@ -29,7 +33,8 @@ rule_action a b action e = ap rule_of e
 pub app_about : (c d : Command) (text : Bor (List ℕ)) → out-Command d ≡ record (out-Command c) { about = Some text } → app_of d ≡ app_of c
 app_about c d text e = ap app_of_fields e
 
-pub app_after_help : (c d : Command) (text : Bor (List ℕ)) → out-Command d ≡ record (out-Command c) { after_help = Some text } → app_of d ≡ app_of c
+pub app_after_help : (c d : Command) (text : Bor (List ℕ)) → out-Command d ≡ record (out-Command c) { after_help = Some text }
+    → app_of d ≡ app_of c
 app_after_help c d text e = ap app_of_fields e
 
 pub app_version : (c d : Command) (text : Bor (List ℕ)) → out-Command d ≡ record (out-Command c) { version = Some text }
@@ -51,16 +56,13 @@ and_left true b e = refl
 and_left false b e = e
 
 and_right : (a b : Bool) → (a && b) ≡ true → b ≡ true
-and_right true b e = e
-and_right false b e = absurd (true≢false (sym e))
+and_right a b h1 = grind (arith, common_steps, true≢false)
 
 not_true : (b : Bool) → not b ≡ true → b ≡ false
-not_true true e = absurd (true≢false (sym e))
-not_true false e = refl
+not_true b h1 = grind (arith, common_steps, true≢false)
 
 pub is_local : (c : Command) (a : App) → app_of c ≡ a → a.top.is_plain ≡ true → (out-Command c).has_globals ≡ false
-is_local c a e plain =
-    not_true _ (and_left _ _ (and_right _ _ (and_right _ _ (ap (λ (x : App). x.top.is_plain) e ∙ plain))))
+is_local c a e plain = grind (arith, common_steps, not_true, and_left, and_right)
 
 pub rule_required : (a b : Arg) (flag : Bool) → b ≡ record a { required = flag } → rule_of b ≡ record (rule_of a) { required = flag }
 rule_required a b flag e = ap rule_of e

@@ -1,19 +1,19 @@
 -- The subcommand that a parse meets, and the request that it makes.
-use Rattle.std.proofs.Common.{◌≡◌, ◌≢◌, ◌∙◌, ◌||◌, ap, ap₂, subst, Bool, true, false, cond, true≢false, refl, sym, List, [], ◌∷◌, Option, Some, None, option_map, codes, bytes_eq}
-use Rattle.std.specs.Prelude.{IsSome, find, is_some, unwrap_or, box_value, ◌&&◌}
+use Rattle.std.proofs.lemmas.Grind.{common_steps}
+use Rattle.std.proofs.Common.{arith, ◌≡◌, ◌≢◌, ◌∙◌, ◌||◌, ap, ap₂, Bool, true, false, true≢false, refl, sym, List, [], ◌∷◌, Option, Some, None, option_map, codes, bytes_eq}
+use Rattle.std.specs.Prelude.{IsSome, find, is_some, unwrap_or, ◌&&◌}
 use Rattle.std.specs.List.{list_all}
 use Rattle.std.specs.Option.{option_map_or}
 use Rattle.std.specs.Str.Parse.{ParsesBool}
 use Rattle.std.proofs.lemmas.Slice.Eq.{bytes_eq-Decides}
-use Rattle.clap.specs.Words.{App, HasMatchesOf, IsParsedFrom, ReadsOne, Row, Shape, Text, app_of, built, has_subcommand, is_simple, subcommand_name_of, subcommand_of, subcommand_rows, subcommand_rows_of}
+use Rattle.clap.specs.Words.{App, HasMatchesOf, IsParsedFrom, ReadsOne, Row, Shape, Text, app_of, built, has_subcommand, is_simple, subcommand_name_of, subcommand_of, subcommand_rows_of}
 use Rattle.clap.specs.Simple.{entered, rows_at}
 use Rattle.clap.specs.Faults.{is_simple_and_free}
 use Rattle.clap.specs.declared.builder.command.Command.{Command}
 use Rattle.clap.specs.declared.parser.matches.ArgMatches.{ArgMatches}
-use Rattle.clap.specs.declared.parser.matches.ArgMatches.TheViews.{out-ArgMatches, out-SubCommand}
 use Rattle.clap.proofs.OnLiterals.{clap_on_literals}
 use Rattle.pgn_arguments.specs.CommandLine.{bare_program, check_command, checked_rule, command_line, dir_rule, export_command, file_rule, list_command, reduced_rule, split_command}
-use Rattle.pgn_arguments.specs.Requests.{Request, request_from, request_named}
+use Rattle.pgn_arguments.specs.Requests.{request_from, request_named}
 use Rattle.pgn_arguments.proofs.commands.BuilderSteps.{is_local}
 
 -- ---- the command line is one whose matches and refusals `clap` defines
@@ -40,20 +40,10 @@ abbrev is_known : Text → Bool
 is_known name = bytes_eq name (codes "export") || (bytes_eq name (codes "check") || (bytes_eq name (codes "list") || bytes_eq name (codes "split")))
 
 known_request : (name : Text) (rows : List Row) → is_known name ≡ true → IsSome (request_named name rows)
-known_request name rows known =
-    go (bytes_eq name (codes "export")) (bytes_eq name (codes "check")) (bytes_eq name (codes "list")) (bytes_eq name (codes "split")) _ _ _ _ known
-  where
-    go : (is_export is_check is_list is_split : Bool) (w x y z : Request) → (is_export || (is_check || (is_list || is_split))) ≡ true
-        → IsSome (cond is_export (Some w) (cond is_check (Some x) (cond is_list (Some y) (cond is_split (Some z) None))))
-    go true is_check is_list is_split w x y z known = refl
-    go false true is_list is_split w x y z known = refl
-    go false false true is_split w x y z known = refl
-    go false false false true w x y z known = refl
-    go false false false false w x y z known = known
+known_request name rows known = grind (arith, common_steps)
 
 and_both : (a b : Bool) → (a && b) ≡ true → (a ≡ true) × (b ≡ true)
-and_both true b e = (refl, e)
-and_both false b e = absurd (true≢false (sym e))
+and_both a b h1 = grind (arith, common_steps, true≢false)
 
 abbrev asked : List Text → Option Shape → Option (Text × List Row)
 asked words = option_map (λ s. rows_at s words)
@@ -62,13 +52,7 @@ found_is_known : (subs : List Shape) (test : Shape → Bool) (words : List Text)
     → is_some (asked words (find test subs)) ≡ true → IsSome (request_from (asked words (find test subs)))
 unfolding request_from
 found_is_known [] test words known met = absurd (true≢false (sym met))
-found_is_known (s ∷ rest) test words known met =
-    go (test s) (known_request s.name (rows_at s words).1 (and_both _ _ known).0) (found_is_known rest test words (and_both _ _ known).1) met
-  where
-    go : (hit : Bool) → IsSome (request_from (asked words (Some s))) → (is_some (asked words (find test rest)) ≡ true → IsSome (request_from (asked words (find test rest))))
-        → is_some (asked words (cond hit (Some s) (find test rest))) ≡ true → IsSome (request_from (asked words (cond hit (Some s) (find test rest))))
-    go true here after met = here
-    go false here after met = after met
+found_is_known (s ∷ rest) test words known met = grind (arith, common_steps, known_request, and_both, found_is_known rest test words)
 
 entered_is_known : (a : App) (stop : Option (Text × List Text)) → list_all (λ s. is_known s.name) a.subs ≡ true
     → is_some (entered a stop) ≡ true → IsSome (request_from (entered a stop))
@@ -79,89 +63,72 @@ line_is_known : list_all (λ s. is_known s.name) (built command_line).subs ≡ t
 unfolding clap_on_literals command_line bare_program export_command check_command list_command split_command reduced_rule checked_rule file_rule dir_rule
 line_is_known = refl
 
-words_are_known : (words : List Text) → is_some (subcommand_of command_line words) ≡ true → IsSome (request_from (subcommand_of command_line words))
+words_are_known : (words : List Text) → is_some (subcommand_of command_line words) ≡ true
+    → IsSome (request_from (subcommand_of command_line words))
 words_are_known words met = entered_is_known (built command_line) _ line_is_known met
 
 -- ---- a parse that succeeds meets one
 
 is_met : (m : ArgMatches) → is_some (subcommand_rows_of m) ≡ has_subcommand m
-is_met m = elim (out-ArgMatches m).subcommand as (λ o. is_some (subcommand_rows o) ≡ is_some o) [ Some b ↦ refl | None ↦ refl ]
+is_met m = grind (arith, common_steps)
 
 pub rows_met : (c : Command) (words : List Text) (m : ArgMatches) → app_of c ≡ command_line → HasMatchesOf (app_of c) words m
     → subcommand_rows_of m ≡ subcommand_of command_line words
-rows_met c words m line matches = (matches (ap is_simple line ∙ line_is_simple)).1 ∙ ap (λ (a : App). subcommand_of a words) line
+rows_met c words m line matches = grind (arith, common_steps, line_is_simple)
 
-pub meets_known : (c : Command) (words : List Text) (m : ArgMatches) → app_of c ≡ command_line → HasMatchesOf (app_of c) words m → IsParsedFrom c m
+pub meets_known : (c : Command) (words : List Text) (m : ArgMatches) → app_of c ≡ command_line → HasMatchesOf (app_of c) words m
+    → IsParsedFrom c m
     → IsSome (request_from (subcommand_rows_of m))
 meets_known c words m line matches parsed =
     let rows = rows_met c words m line matches in
     let wants = parsed.from.needs_subcommand ∙ ap (λ (a : App). a.top.subcommand_required) line ∙ line_wants_subcommand in
     let local = parsed.from.globals ∙ is_local c command_line line line_is_plain in
     let met = (parsed.parsed local).checked.subcommand wants in
-    subst (λ o. IsSome (request_from o)) (sym rows) (words_are_known words (ap is_some (sym rows) ∙ is_met m ∙ met))
+    rw rows (words_are_known words (ap is_some (sym rows) ∙ is_met m ∙ met))
 
 -- ---- what `subcommand` tells of the one that was met
 
 names_met : (m : ArgMatches) → subcommand_name_of m ≡ option_map (λ p. p.0) (subcommand_rows_of m)
-names_met m = elim (out-ArgMatches m).subcommand as (λ o. option_map (λ b. (out-SubCommand (box_value b)).name.now) o ≡ option_map (λ p. p.0) (subcommand_rows o))
-    [ Some b ↦ refl | None ↦ refl ]
+names_met m = grind (arith, common_steps, option_map)
 
-request_of_pair : (o : Option (Text × List Row)) (name : Text) (rows : List Row) → Some name ≡ option_map (λ p. p.0) o → Some rows ≡ option_map (λ p. p.1) o
+request_of_pair : (o : Option (Text × List Row)) (name : Text) (rows : List Row) → Some name ≡ option_map (λ p. p.0) o
+    → Some rows ≡ option_map (λ p. p.1) o
     → request_from o ≡ request_named name rows
 unfolding request_from
-request_of_pair None name rows is_name is_rows = absurd (true≢false (ap is_some is_name))
-request_of_pair (Some p) name rows is_name is_rows = ap₂ request_named (ap (λ x. unwrap_or x name) (sym is_name)) (ap (λ x. unwrap_or x rows) (sym is_rows))
+request_of_pair o name rows h1 h2 = grind (arith, common_steps, true≢false, ap₂)
 
 pub request_met : (m : ArgMatches) (name : Text) (rows : List Row) → Some name ≡ subcommand_name_of m
     → Some rows ≡ option_map (λ p. p.1) (subcommand_rows_of m) → request_from (subcommand_rows_of m) ≡ request_named name rows
-request_met m name rows is_name is_rows = request_of_pair (subcommand_rows_of m) name rows (is_name ∙ names_met m) is_rows
+request_met m name rows is_name is_rows = grind (arith, common_steps, request_of_pair, names_met)
 
 none_asks : (o : Option (Text × List Row)) → None ≡ option_map (λ p. p.0) o → IsSome (request_from o) → ⊥
 unfolding request_from
-none_asks None is_name known = true≢false (sym known)
-none_asks (Some p) is_name known = true≢false (sym (ap is_some is_name))
+none_asks o h1 h2 = grind (arith, common_steps, true≢false)
 
 pub none_met : (m : ArgMatches) → None ≡ subcommand_name_of m → IsSome (request_from (subcommand_rows_of m)) → ⊥
 none_met m is_name known = none_asks (subcommand_rows_of m) (is_name ∙ names_met m) known
 
-pub no_other : (name : Text) (rows : List Row) → name ≢ codes "export" → name ≢ codes "check" → name ≢ codes "list" → name ≢ codes "split"
+pub no_other : (name : Text) (rows : List Row) → name ≢ codes "export" → name ≢ codes "check" → name ≢ codes "list"
+    → name ≢ codes "split"
     → IsSome (request_named name rows) → ⊥
-no_other name rows not_export not_check not_list not_split known =
-    go (bytes_eq name (codes "export")) (bytes_eq name (codes "check")) (bytes_eq name (codes "list")) (bytes_eq name (codes "split")) _ _ _ _
-    (λ e. not_export ((bytes_eq-Decides _ _).0 e)) (λ e. not_check ((bytes_eq-Decides _ _).0 e))
-    (λ e. not_list ((bytes_eq-Decides _ _).0 e)) (λ e. not_split ((bytes_eq-Decides _ _).0 e)) known
-  where
-    go : (is_export is_check is_list is_split : Bool) (w x y z : Request) → (is_export ≡ true → ⊥) → (is_check ≡ true → ⊥)
-        → (is_list ≡ true → ⊥) → (is_split ≡ true → ⊥)
-        → IsSome (cond is_export (Some w) (cond is_check (Some x) (cond is_list (Some y) (cond is_split (Some z) None)))) → ⊥
-    go true is_check is_list is_split w x y z a b c d known = a refl
-    go false true is_list is_split w x y z a b c d known = b refl
-    go false false true is_split w x y z a b c d known = c refl
-    go false false false true w x y z a b c d known = d refl
-    go false false false false w x y z a b c d known = true≢false (sym known)
+no_other name rows not_export not_check not_list not_split known = grind (arith, common_steps, bytes_eq-Decides, true≢false)
 
 -- ---- a flag
 
 is_true : (text : Text) → text ≢ codes "true" → bytes_eq text (codes "true") ≡ false
-is_true text differs = go (bytes_eq text (codes "true")) (λ e. differs ((bytes_eq-Decides _ _).0 e))
-  where
-    go : (b : Bool) → (b ≡ true → ⊥) → b ≡ false
-    go true never = absurd (never refl)
-    go false never = refl
+is_true text differs = grind (arith, common_steps, bytes_eq-Decides)
 
 pub flag_read : (E : Type 0) (text : Option Text) (read : Option Bool) → (text ≡ None → read ≡ None)
-    → ((t : Text) → text ≡ Some t → ReadsOne (ParsesBool {E = E}) t read) → unwrap_or read false ≡ option_map_or (λ t. bytes_eq t (codes "true")) text false
+    → ((t : Text) → text ≡ Some t → ReadsOne (ParsesBool {E = E}) t read) → unwrap_or read false
+    ≡ option_map_or (λ t. bytes_eq t (codes "true")) text false
 flag_read E None read none value = ap (λ r. unwrap_or r false) (none refl)
 flag_read E (Some t) read none value = go read (value t refl)
   where
     go : (r : Option Bool) → ReadsOne (ParsesBool {E = E}) t r → unwrap_or r false ≡ bytes_eq t (codes "true")
-    go (Some true) is = ap (λ x. bytes_eq x (codes "true")) (sym is)
-    go (Some false) is = ap (λ x. bytes_eq x (codes "true")) (sym is)
-    go None is = sym (is_true t is.1.0)
+    go r h1 = grind (arith, common_steps, is_true)
 
 -- ---- a value, or nothing
 
 pub text_read : {B : Type 0} (text : B → Text) (o : Option B) (other : B) (given : Option Text) → option_map text o ≡ given
     → text (unwrap_or o other) ≡ unwrap_or given (text other)
-text_read text None other given is = ap (λ g. unwrap_or g (text other)) is
-text_read text (Some b) other given is = ap (λ g. unwrap_or g (text other)) is
+text_read text o other given h1 = grind (arith, common_steps)

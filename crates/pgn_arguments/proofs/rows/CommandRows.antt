@@ -1,165 +1,61 @@
--- The definitions at words that are written out.
-use Rattle.std.proofs.Common.{◌≡◌, refl, codes, true, false, [], ◌∷◌, Some, None}
+-- The definitions at command lines that are written out.
+use Prim.Native.String.{String}
+use Rattle.std.proofs.Common.{◌≡◌, ℕ, List, refl, codes, true, false, [], ◌∷◌, ◌++◌, Some, None}
+use Rattle.std.specs.Prelude.{◌==◌, if◌then◌else◌}
 use Rattle.clap.proofs.OnLiterals.{clap_on_literals}
+use Rattle.clap.specs.Words.{Text}
+use Rattle.clap.specs.declared.error.kind.ErrorKind.{ErrorKind}
 use Rattle.clap.specs.declared.error.kind.ErrorKind.TheVariants.{ArgumentConflict, DisplayHelp, DisplayVersion, InvalidSubcommand, MissingRequiredArgument, MissingSubcommand, UnknownArgument}
 use Rattle.pgn_arguments.specs.CommandLine.{bare_program, check_command, checked_rule, command_line, export_command, dir_rule, file_rule, list_command, reduced_rule, split_command}
-use Rattle.pgn_arguments.specs.Requests.{check, checked, export, listing, splitting, refusals, request_from, request_in}
+use Rattle.pgn_arguments.specs.Requests.{Request, check, checked, export, listing, splitting, refusals, request_from, request_in}
 
 unfoldable line_on_words : Unit {0}
 unfolding clap_on_literals command_line bare_program export_command check_command list_command split_command reduced_rule checked_rule file_rule dir_rule refusals request_from request_in
 line_on_words = tt
 
-export-asks : request_in (codes "pgn_tool" ∷ codes "export" ∷ []) ≡ Some (export false None)
-unfolding line_on_words
-export-asks = refl
+-- the words between spaces, behind a first one
+abbrev words_from : Text → List ℕ → List Text
+words_from word [] = word ∷ []
+words_from word (c ∷ s) = (if c == 32 then word ∷ [] else []) ++ words_from (if c == 32 then [] else word ++ c ∷ []) s
 
-export-refused : refusals (codes "pgn_tool" ∷ codes "export" ∷ []) ≡ []
-unfolding line_on_words
-export-refused = refl
+abbrev words : String → List Text
+words line = words_from [] (codes line)
 
-export_file-asks : request_in (codes "pgn_tool" ∷ codes "export" ∷ codes "a.pgn" ∷ []) ≡ Some (export false (Some (codes "a.pgn")))
-unfolding line_on_words
-export_file-asks = refl
+-- what a line asks for; it is not rejected
+abbrev Asks : String → Request → Type 0
+Asks line request = (request_in (words line) ≡ Some request) × (refusals (words line) ≡ [])
 
-export_file-refused : refusals (codes "pgn_tool" ∷ codes "export" ∷ codes "a.pgn" ∷ []) ≡ []
-unfolding line_on_words
-export_file-refused = refl
+abbrev Refuses : String → List ErrorKind → Type 0
+Refuses line kinds = refusals (words line) ≡ kinds
 
-export_reduced-asks : request_in (codes "pgn_tool" ∷ codes "export" ∷ codes "--reduced" ∷ codes "a.pgn" ∷ []) ≡ Some (export true (Some (codes "a.pgn")))
+command_lines : Unit {0}
 unfolding line_on_words
-export_reduced-asks = refl
-
-export_reduced-refused : refusals (codes "pgn_tool" ∷ codes "export" ∷ codes "--reduced" ∷ codes "a.pgn" ∷ []) ≡ []
-unfolding line_on_words
-export_reduced-refused = refl
-
-export_reduced_last-asks : request_in (codes "pgn_tool" ∷ codes "export" ∷ codes "a.pgn" ∷ codes "--reduced" ∷ []) ≡ Some (export true (Some (codes "a.pgn")))
-unfolding line_on_words
-export_reduced_last-asks = refl
-
-export_reduced_last-refused : refusals (codes "pgn_tool" ∷ codes "export" ∷ codes "a.pgn" ∷ codes "--reduced" ∷ []) ≡ []
-unfolding line_on_words
-export_reduced_last-refused = refl
-
-export_named_as_flag-asks : request_in (codes "pgn_tool" ∷ codes "export" ∷ codes "--" ∷ codes "--reduced" ∷ []) ≡ Some (export false (Some (codes "--reduced")))
-unfolding line_on_words
-export_named_as_flag-asks = refl
-
-export_named_as_flag-refused : refusals (codes "pgn_tool" ∷ codes "export" ∷ codes "--" ∷ codes "--reduced" ∷ []) ≡ []
-unfolding line_on_words
-export_named_as_flag-refused = refl
-
-checked-asks : request_in (codes "pgn_tool" ∷ codes "export" ∷ codes "--checked" ∷ codes "a.pgn" ∷ []) ≡ Some (checked false (Some (codes "a.pgn")))
-unfolding line_on_words
-checked-asks = refl
-
-checked-refused : refusals (codes "pgn_tool" ∷ codes "export" ∷ codes "--checked" ∷ codes "a.pgn" ∷ []) ≡ []
-unfolding line_on_words
-checked-refused = refl
-
-checked_reduced-asks : request_in (codes "pgn_tool" ∷ codes "export" ∷ codes "--reduced" ∷ codes "a.pgn" ∷ codes "--checked" ∷ [])
-    ≡ Some (checked true (Some (codes "a.pgn")))
-unfolding line_on_words
-checked_reduced-asks = refl
-
--- no task: the program rejects it itself
-checked_alone-asks : request_in (codes "pgn_tool" ∷ codes "export" ∷ codes "--checked" ∷ []) ≡ Some (checked false None)
-unfolding line_on_words
-checked_alone-asks = refl
-
-checked_alone-refused : refusals (codes "pgn_tool" ∷ codes "export" ∷ codes "--checked" ∷ []) ≡ []
-unfolding line_on_words
-checked_alone-refused = refl
-
-checked_check-refused : refusals (codes "pgn_tool" ∷ codes "check" ∷ codes "--checked" ∷ codes "a.pgn" ∷ []) ≡ UnknownArgument ∷ []
-unfolding line_on_words
-checked_check-refused = refl
-
-check-asks : request_in (codes "pgn_tool" ∷ codes "check" ∷ []) ≡ Some (check None)
-unfolding line_on_words
-check-asks = refl
-
-check-refused : refusals (codes "pgn_tool" ∷ codes "check" ∷ []) ≡ []
-unfolding line_on_words
-check-refused = refl
-
-check_file-asks : request_in (codes "pgn_tool" ∷ codes "check" ∷ codes "a.pgn" ∷ []) ≡ Some (check (Some (codes "a.pgn")))
-unfolding line_on_words
-check_file-asks = refl
-
-check_file-refused : refusals (codes "pgn_tool" ∷ codes "check" ∷ codes "a.pgn" ∷ []) ≡ []
-unfolding line_on_words
-check_file-refused = refl
-
-list-asks : request_in (codes "pgn_tool" ∷ codes "list" ∷ []) ≡ Some (listing None)
-unfolding line_on_words
-list-asks = refl
-
-list-refused : refusals (codes "pgn_tool" ∷ codes "list" ∷ []) ≡ []
-unfolding line_on_words
-list-refused = refl
-
-list_file-asks : request_in (codes "pgn_tool" ∷ codes "list" ∷ codes "a.pgn" ∷ []) ≡ Some (listing (Some (codes "a.pgn")))
-unfolding line_on_words
-list_file-asks = refl
-
-list_file-refused : refusals (codes "pgn_tool" ∷ codes "list" ∷ codes "a.pgn" ∷ []) ≡ []
-unfolding line_on_words
-list_file-refused = refl
-
-alone-asks : request_in (codes "pgn_tool" ∷ []) ≡ None
-unfolding line_on_words
-alone-asks = refl
-
-alone-refused : refusals (codes "pgn_tool" ∷ []) ≡ MissingSubcommand ∷ []
-unfolding line_on_words
-alone-refused = refl
-
-two_files-refused : refusals (codes "pgn_tool" ∷ codes "export" ∷ codes "a" ∷ codes "b" ∷ []) ≡ UnknownArgument ∷ []
-unfolding line_on_words
-two_files-refused = refl
-
-reduced_twice-refused : refusals (codes "pgn_tool" ∷ codes "export" ∷ codes "--reduced" ∷ codes "--reduced" ∷ []) ≡ ArgumentConflict ∷ []
-unfolding line_on_words
-reduced_twice-refused = refl
-
-reduced_check-refused : refusals (codes "pgn_tool" ∷ codes "check" ∷ codes "--reduced" ∷ []) ≡ UnknownArgument ∷ []
-unfolding line_on_words
-reduced_check-refused = refl
-
-reduced_list-refused : refusals (codes "pgn_tool" ∷ codes "list" ∷ codes "--reduced" ∷ []) ≡ UnknownArgument ∷ []
-unfolding line_on_words
-reduced_list-refused = refl
-
-help-refused : refusals (codes "pgn_tool" ∷ codes "--help" ∷ []) ≡ DisplayHelp ∷ []
-unfolding line_on_words
-help-refused = refl
-
-export_help-refused : refusals (codes "pgn_tool" ∷ codes "export" ∷ codes "--help" ∷ []) ≡ DisplayHelp ∷ []
-unfolding line_on_words
-export_help-refused = refl
-
-version-refused : refusals (codes "pgn_tool" ∷ codes "--version" ∷ []) ≡ DisplayVersion ∷ []
-unfolding line_on_words
-version-refused = refl
-
-other-refused : refusals (codes "pgn_tool" ∷ codes "convert" ∷ []) ≡ UnknownArgument ∷ InvalidSubcommand ∷ []
-unfolding line_on_words
-other-refused = refl
-
-split-asks : request_in (codes "pgn_tool" ∷ codes "split" ∷ codes "games" ∷ []) ≡ Some (splitting (codes "games") None)
-unfolding line_on_words
-split-asks = refl
-
-split-refused : refusals (codes "pgn_tool" ∷ codes "split" ∷ codes "games" ∷ []) ≡ []
-unfolding line_on_words
-split-refused = refl
-
-split_file-asks : request_in (codes "pgn_tool" ∷ codes "split" ∷ codes "games" ∷ codes "a.pgn" ∷ [])
-    ≡ Some (splitting (codes "games") (Some (codes "a.pgn")))
-unfolding line_on_words
-split_file-asks = refl
-
-split_alone-refused : refusals (codes "pgn_tool" ∷ codes "split" ∷ []) ≡ MissingRequiredArgument ∷ []
-unfolding line_on_words
-split_alone-refused = refl
+command_lines =
+    let exports : Asks "pgn_tool export" (export false None) = (refl, refl) in
+    let exports_a_file : Asks "pgn_tool export a.pgn" (export false (Some (codes "a.pgn"))) = (refl, refl) in
+    let reduces : Asks "pgn_tool export --reduced a.pgn" (export true (Some (codes "a.pgn"))) = (refl, refl) in
+    let flag_last : Asks "pgn_tool export a.pgn --reduced" (export true (Some (codes "a.pgn"))) = (refl, refl) in
+    let file_named_as_a_flag : Asks "pgn_tool export -- --reduced" (export false (Some (codes "--reduced"))) = (refl, refl) in
+    let reads_twice : Asks "pgn_tool export --checked a.pgn" (checked false (Some (codes "a.pgn"))) = (refl, refl) in
+    let both_flags : Asks "pgn_tool export --reduced a.pgn --checked" (checked true (Some (codes "a.pgn"))) = (refl, refl) in
+    -- no task: the program rejects it itself
+    let checked_alone : Asks "pgn_tool export --checked" (checked false None) = (refl, refl) in
+    let checked_check : Refuses "pgn_tool check --checked a.pgn" (UnknownArgument ∷ []) = refl in
+    let checks : Asks "pgn_tool check" (check None) = (refl, refl) in
+    let checks_a_file : Asks "pgn_tool check a.pgn" (check (Some (codes "a.pgn"))) = (refl, refl) in
+    let lists : Asks "pgn_tool list" (listing None) = (refl, refl) in
+    let lists_a_file : Asks "pgn_tool list a.pgn" (listing (Some (codes "a.pgn"))) = (refl, refl) in
+    let alone : request_in (codes "pgn_tool" ∷ []) ≡ None = refl in
+    let alone_refused : Refuses "pgn_tool" (MissingSubcommand ∷ []) = refl in
+    let two_files : Refuses "pgn_tool export a b" (UnknownArgument ∷ []) = refl in
+    let reduced_twice : Refuses "pgn_tool export --reduced --reduced" (ArgumentConflict ∷ []) = refl in
+    let reduced_check : Refuses "pgn_tool check --reduced" (UnknownArgument ∷ []) = refl in
+    let reduced_list : Refuses "pgn_tool list --reduced" (UnknownArgument ∷ []) = refl in
+    let help : Refuses "pgn_tool --help" (DisplayHelp ∷ []) = refl in
+    let export_help : Refuses "pgn_tool export --help" (DisplayHelp ∷ []) = refl in
+    let version : Refuses "pgn_tool --version" (DisplayVersion ∷ []) = refl in
+    let other : Refuses "pgn_tool convert" (UnknownArgument ∷ InvalidSubcommand ∷ []) = refl in
+    let splits : Asks "pgn_tool split games" (splitting (codes "games") None) = (refl, refl) in
+    let splits_a_file : Asks "pgn_tool split games a.pgn" (splitting (codes "games") (Some (codes "a.pgn"))) = (refl, refl) in
+    let split_alone : Refuses "pgn_tool split" (MissingRequiredArgument ∷ []) = refl in
+    tt

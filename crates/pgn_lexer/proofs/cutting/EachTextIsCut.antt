@@ -1,12 +1,12 @@
 -- Each text can be cut.
-use Rattle.pgn_lexer.proofs.Words.{◌≡◌, ℕ, zero, suc, ◌+◌, ◌<◌, ◌≤◌, Bool, true, false, inl, inr, List, [], ◌∷◌, ◌++◌, length, refl, sym, ap, subst, ◌∙◌, append_assoc, arith, length-append, ◌||◌, ◌&&◌, ◌⊎◌, not, nat_le, nat_lt, ◌==◌, if◌then◌else◌, list_all, both_true, eqb-true, leb-true, leb-false, ltb-true, ltb-false, false≢true, agree_below_at, LexReason, StrayByte, ControlByte, Reserved, Class, CommentClass, StringClass, is_line_end, is_blank, is_control, is_digit, starts_symbol, continues_symbol, is_suffix, continues_word, Kind, Token, class, comment_class, string_class, number_of, tokens_from, tokens_of, has_mark, LexesOnce, StopsAt, IsAtLineEnd, is_escaped, is_barred, is_plain, Data, IsSuffix, SpellsToken, Refuses, Where, Cuts, Lexes, or_cases, and_parts, or_right, or_left}
+use Rattle.pgn_lexer.proofs.Words.{◌≡◌, ℕ, zero, suc, ◌+◌, ◌<◌, ◌≤◌, Bool, true, false, inl, inr, List, [], ◌∷◌, ◌++◌, length, refl, sym, ap, subst, ◌∙◌, append_assoc, arith, length-append, ◌||◌, ◌⊎◌, not, nat_le, nat_lt, ◌==◌, list_all, both_true, eqb-true, leb-true, leb-false, ltb-true, ltb-false, LexReason, StrayByte, ControlByte, Reserved, Class, CommentClass, StringClass, is_line_end, is_blank, is_control, is_digit, starts_symbol, continues_symbol, is_suffix, continues_word, Kind, Token, class, comment_class, string_class, number_of, tokens_from, tokens_of, has_mark, LexesOnce, StopsAt, IsAtLineEnd, is_escaped, is_barred, is_plain, Data, IsSuffix, SpellsToken, Refuses, Where, Cuts, Lexes, or_cases, and_parts, or_right, or_left}
 use Rattle.pgn_lexer.specs.declared.class.Single.TheVariants as singles
 use Rattle.pgn_lexer.specs.declared.class.Class.TheVariants as classes
-use Rattle.pgn_lexer.specs.declared.class.CommentClass.TheVariants as comments
-use Rattle.pgn_lexer.specs.declared.class.StringClass.TheVariants as strings
-use Rattle.pgn_lexer.specs.Lexes as rules
+use Rattle.pgn_lexer.specs.declared.class.CommentClass.TheVariants as comment_classes
+use Rattle.pgn_lexer.specs.declared.class.StringClass.TheVariants as string_classes
+use Rattle.pgn_lexer.specs.Lexes as lexes
 use Rattle.pgn_lexer.proofs.stepping.FirstBytes.{unmarked}
-use Rattle.pgn_lexer.proofs.bytes.ClassToTest.{ClassSays, class_says, blank_class, tells_control_in_comment}
+use Rattle.pgn_lexer.proofs.bytes.ClassToTest.{ClassSays, class_says, blank_class}
 use Rattle.pgn_lexer.proofs.cutting.StringData.{StringSays, string_says}
 use Rattle.pgn_lexer.proofs.cutting.RulesToTokens.{within_of, cuts_is}
 
@@ -20,11 +20,13 @@ record Split (p : ℕ → Bool) (s : List ℕ) : Type 0 where
   shorter : length rest ≤ length s
 
 split : (p : ℕ → Bool) (s : List ℕ) → Split p s
-split p [] = record { run = []; rest = []; cut = refl; all = refl; stop = tt; shorter = omega arith }
+split p [] = grind arith
 split p (b ∷ s) = cases (split p s) _ refl
   where
     cases : Split p s → (c : Bool) → p b ≡ c → Split p (b ∷ s)
-    cases h true e = let less : length h.rest ≤ length s = h.shorter in record { run = b ∷ h.run; rest = h.rest; cut = ap (λ l. b ∷ l) h.cut; all = both_true e h.all; stop = h.stop; shorter = omega arith }
+    cases h true e =
+        let less : length h.rest ≤ length s = h.shorter in
+        record { run = b ∷ h.run; rest = h.rest; cut = ap (λ l. b ∷ l) h.cut; all = both_true e h.all; stop = h.stop; shorter = omega arith }
     cases h false e = record { run = []; rest = b ∷ s; cut = refl; all = refl; stop = e; shorter = omega arith }
 
 -- what stops the data of a string, after so many
@@ -48,10 +50,11 @@ record HasData (n : ℕ) (s : List ℕ) : Type 0 where
 stops_here : (n : ℕ) (s : List ℕ) → n ≤ 255 → Stop n s → HasData n s
 stops_here n s fits stop =
     let same : n ≡ n + 0 = omega arith in
-    record { raw = []; text = []; rest = s; cut = refl; written = rules.no_data s; fits = omega arith; stop = subst (λ m. Stop m s) same stop; shorter = omega arith }
+    record { raw = []; text = []; rest = s; cut = refl; written = lexes.no_data s; fits = omega arith; stop = rw same at stop; shorter = omega arith }
 
 -- one datum more
-one_more : (n b : ℕ) (front s : List ℕ) → ((h : HasData (n + 1) s) → Data (front ++ h.raw) (b ∷ h.text) h.rest) → HasData (n + 1) s → HasData n (front ++ s)
+one_more : (n b : ℕ) (front s : List ℕ) → ((h : HasData (n + 1) s) → Data (front ++ h.raw) (b ∷ h.text) h.rest) → HasData (n + 1) s
+    → HasData n (front ++ s)
 one_more n b front s write h =
     let same : n + 1 + length h.text ≡ n + length (b ∷ h.text) = omega arith in
     let less : length h.rest ≤ length s = h.shorter in
@@ -63,7 +66,7 @@ one_more n b front s write h =
       cut = ap (λ l. front ++ l) h.cut ∙ sym (append_assoc front h.raw _);
       written = write h;
       fits = omega arith;
-      stop = subst (λ m. Stop m h.rest) same h.stop;
+      stop = rw same at h.stop;
       shorter = omega (arith, length-append front s);
     }
 
@@ -76,30 +79,35 @@ has_data (suc k) n (b ∷ s) short fits =
     full : (d : Bool) → nat_lt n 255 ≡ d → d ≡ false → n ≡ 255
     full d e no_room = let more : 255 ≤ n = ltb-false n 255 (e ∙ no_room) in omega arith
 
-    behind : (s : List ℕ) → n < 255 → length (b ∷ s) ≤ suc k → ((s : List ℕ) → length s ≤ k → n + 1 ≤ 255 → HasData (n + 1) s) → (b == 92) ≡ true → HasData n (b ∷ s)
-    behind s room short on e = subst (λ b. HasData n (b ∷ s)) (sym (eqb-true b 92 e)) (next s short)
+    behind : (s : List ℕ) → n < 255 → length (b ∷ s) ≤ suc k → ((s : List ℕ) → length s ≤ k → n + 1 ≤ 255 → HasData (n + 1) s)
+        → (b == 92) ≡ true → HasData n (b ∷ s)
+    behind s room short on e = rw (eqb-true b 92 e) (next s short)
       where
         lone : (s : List ℕ) → StopsAt is_escaped s → length s ≤ k → HasData n (92 ∷ s)
-        lone s stop short = one_more n 92 (92 ∷ []) s (λ h. rules.lone h.raw h.text h.rest (subst (StopsAt _) h.cut stop) h.written) (on s short (omega arith))
+        lone s stop short = one_more n 92 (92 ∷ []) s (λ h. lexes.lone h.raw h.text h.rest (rw h.cut at stop) h.written) (on s short (omega arith))
 
         next : (s : List ℕ) → length (b ∷ s) ≤ suc k → HasData n (92 ∷ s)
         next [] short = lone [] tt (omega arith)
         next (c ∷ s) short = after (is_escaped c) refl
           where
             after : (t : Bool) → is_escaped c ≡ t → HasData n (92 ∷ c ∷ s)
-            after true same = one_more n c (92 ∷ c ∷ []) s (λ h. rules.escaped c h.raw h.text h.rest same h.written) (on s (omega arith) (omega arith))
+            after true same =
+                one_more n c (92 ∷ c ∷ []) s (λ h. lexes.escaped c h.raw h.text h.rest same h.written) (on s (omega arith) (omega arith))
             after false other = lone (c ∷ s) other (omega arith)
 
-    by_class : (c : StringClass) → StringSays b c → (d : Bool) → nat_lt n 255 ≡ d → (s : List ℕ) → length (b ∷ s) ≤ suc k → ((s : List ℕ) → length s ≤ k → n + 1 ≤ 255 → HasData (n + 1) s) → HasData n (b ∷ s)
-    by_class strings.Quote says d e s short on = subst (λ b. HasData n (b ∷ s)) (sym (eqb-true b 34 says)) (stops_here n (34 ∷ s) fits (at_quote n s))
-    by_class strings.LineEnd says d e s short on = stops_here n (b ∷ s) fits (at_line_end n (b ∷ s) says)
-    by_class strings.Control says d e s short on = stops_here n (b ∷ s) fits (at_barred n b s says.1 says.0)
-    by_class strings.Backslash says true e s short on = behind s (ltb-true n 255 e) short on says
-    by_class strings.Backslash says false e s short on = stops_here n (b ∷ s) fits (too_long n b s (full false e refl) (or_right (is_plain b) (b == 92) says))
-    by_class strings.Plain says true e s short on =
+    by_class : (c : StringClass) → StringSays b c → (d : Bool) → nat_lt n 255 ≡ d → (s : List ℕ) → length (b ∷ s) ≤ suc k
+        → ((s : List ℕ) → length s ≤ k → n + 1 ≤ 255 → HasData (n + 1) s) → HasData n (b ∷ s)
+    by_class string_classes.Quote says d e s short on = rw (eqb-true b 34 says) (stops_here n (34 ∷ s) fits (at_quote n s))
+    by_class string_classes.LineEnd says d e s short on = stops_here n (b ∷ s) fits (at_line_end n (b ∷ s) says)
+    by_class string_classes.Control says d e s short on = stops_here n (b ∷ s) fits (at_barred n b s says.1 says.0)
+    by_class string_classes.Backslash says true e s short on = behind s (ltb-true n 255 e) short on says
+    by_class string_classes.Backslash says false e s short on =
+        stops_here n (b ∷ s) fits (too_long n b s (full false e refl) (or_right (is_plain b) (b == 92) says))
+    by_class string_classes.Plain says true e s short on =
         let room : n < 255 = ltb-true n 255 e in
-        one_more n b (b ∷ []) s (λ h. rules.plain b h.raw h.text h.rest says h.written) (on s (omega arith) (omega arith))
-    by_class strings.Plain says false e s short on = stops_here n (b ∷ s) fits (too_long n b s (full false e refl) (or_left (is_plain b) (b == 92) says))
+        one_more n b (b ∷ []) s (λ h. lexes.plain b h.raw h.text h.rest says h.written) (on s (omega arith) (omega arith))
+    by_class string_classes.Plain says false e s short on =
+        stops_here n (b ∷ s) fits (too_long n b s (full false e refl) (or_left (is_plain b) (b == 92) says))
 
 -- some tokens of a cut
 abbrev Cut : Where → ℕ → List ℕ → Type 0
@@ -107,30 +115,14 @@ Cut w at s = (ts : List Token) × Cuts w at s ts
 
 -- what a byte that goes on with a comment's word, or not, says
 abbrev CommentSays : ℕ → CommentClass → Type 0
-CommentSays b comments.WordByte = continues_word b ≡ true
-CommentSays b comments.LineEnd = is_line_end b ≡ true
-CommentSays b comments.Space = is_blank b ≡ true
-CommentSays b comments.CloseBrace = (b == 125) ≡ true
-CommentSays b comments.Control = is_control b ≡ true
+CommentSays b comment_classes.WordByte = continues_word b ≡ true
+CommentSays b comment_classes.LineEnd = is_line_end b ≡ true
+CommentSays b comment_classes.Space = is_blank b ≡ true
+CommentSays b comment_classes.CloseBrace = (b == 125) ≡ true
+CommentSays b comment_classes.Control = is_control b ≡ true
 
 comment_says : (b : ℕ) → CommentSays b (comment_class b)
-comment_says b = cases _ _ _ _ refl refl refl refl (agreed refl)
-  where
-    agreed : (w : continues_word b ≡ continues_word b) → continues_word b ≡ false → is_control b ≡ tells_control_in_comment (comment_class b)
-    agreed w other = agree_below_at is_control (λ k. tells_control_in_comment (comment_class k)) 128 b refl (small (nat_le 128 b) refl)
-      where
-        small : (h : Bool) → nat_le 128 b ≡ h → b < 128
-        small true e = absurd (false≢true (sym other ∙ or_right ((nat_le 33 b && nat_le b 126) && not _) (nat_le 128 b) e))
-        small false e = leb-false 128 b e
-
-    cases : (w l s c : Bool) → continues_word b ≡ w → is_line_end b ≡ l → is_blank b ≡ s → (b == 125) ≡ c
-        → (continues_word b ≡ false → is_control b ≡ tells_control_in_comment (if w then comments.WordByte else (if l then comments.LineEnd else (if s then comments.Space else (if c then comments.CloseBrace else comments.Control)))))
-        → CommentSays b (if w then comments.WordByte else (if l then comments.LineEnd else (if s then comments.Space else (if c then comments.CloseBrace else comments.Control))))
-    cases true l s c ew el es ec same = ew
-    cases false true s c ew el es ec same = el
-    cases false false true c ew el es ec same = es
-    cases false false false true ew el es ec same = ec
-    cases false false false false ew el es ec same = same ew
+comment_says b = grind arith
 
 -- what stands further on can be cut
 abbrev Further : ℕ → Type 0
@@ -141,34 +133,39 @@ cut_as w at s s' e = subst (Cut w at) (sym e)
 
 module _ (n at : ℕ) (on : Further n) where
   -- a token, and what follows it
-  one_token : (first : Bool) (run s : List ℕ) (k : Kind) → SpellsToken run s k → length s ≤ n → Cut (rules.outside first) at (run ++ s)
+  one_token : (first : Bool) (run s : List ℕ) (k : Kind) → SpellsToken run s k → length s ≤ n → Cut (lexes.outside first) at (run ++ s)
   one_token first run s k spelled short =
-      let more = on (rules.outside false) (at + length run) s short in (_, rules.token first at run s k more.0 spelled more.1)
+      let more = on (lexes.outside false) (at + length run) s short in (_, lexes.token first at run s k more.0 spelled more.1)
 
-  one_refusal : (first : Bool) (s : List ℕ) (m : ℕ) (r : LexReason) → Refuses s m r → Cut (rules.outside first) at s
-  one_refusal first s m r bad = (_, rules.refuses first at m s r bad)
+  one_refusal : (first : Bool) (s : List ℕ) (m : ℕ) (r : LexReason) → Refuses s m r → Cut (lexes.outside first) at s
+  one_refusal first s m r bad = (_, lexes.refuses first at m s r bad)
 
-  a_symbol : (first : Bool) (b : ℕ) (bs : List ℕ) → starts_symbol b ≡ true → length bs ≤ n → Split continues_symbol bs → Cut (rules.outside first) at (b ∷ bs)
+  a_symbol : (first : Bool) (b : ℕ) (bs : List ℕ) → starts_symbol b ≡ true → length bs ≤ n → Split continues_symbol bs
+      → Cut (lexes.outside first) at (b ∷ bs)
   a_symbol first b bs e short h = cut_as _ at (b ∷ bs) (b ∷ (h.run ++ h.rest)) (ap (λ l. b ∷ l) h.cut) (cases _ refl)
     where
-      cases : (c : Bool) → nat_le (length (b ∷ h.run)) 255 ≡ c → Cut (rules.outside first) at (b ∷ (h.run ++ h.rest))
-      cases true fits = let less : length h.rest ≤ length bs = h.shorter in one_token first (b ∷ h.run) h.rest _ (rules.symbol b h.run h.rest e (h.all, h.stop) (leb-true _ 255 fits)) (omega arith)
-      cases false long = one_refusal first _ 0 _ (rules.long_symbol b h.run h.rest e (h.all, h.stop) (leb-false _ 255 long))
+      cases : (c : Bool) → nat_le (length (b ∷ h.run)) 255 ≡ c → Cut (lexes.outside first) at (b ∷ (h.run ++ h.rest))
+      cases true fits =
+          let less : length h.rest ≤ length bs = h.shorter in
+          one_token first (b ∷ h.run) h.rest _ (lexes.symbol b h.run h.rest e (h.all, h.stop) (leb-true _ 255 fits)) (omega arith)
+      cases false long = one_refusal first _ 0 _ (lexes.long_symbol b h.run h.rest e (h.all, h.stop) (leb-false _ 255 long))
 
-  a_glyph : (first : Bool) (bs : List ℕ) → length bs ≤ n → Split is_digit bs → Cut (rules.outside first) at (36 ∷ bs)
+  a_glyph : (first : Bool) (bs : List ℕ) → length bs ≤ n → Split is_digit bs → Cut (lexes.outside first) at (36 ∷ bs)
   a_glyph first bs short h = cut_as _ at (36 ∷ bs) (36 ∷ (h.run ++ h.rest)) (ap (λ l. 36 ∷ l) h.cut) (cases h.run h.all)
     where
-      cases : (run : List ℕ) → list_all is_digit run ≡ true → Cut (rules.outside first) at (36 ∷ (run ++ h.rest))
-      cases [] all = one_refusal first _ 0 _ (rules.lone_dollar h.rest h.stop)
+      cases : (run : List ℕ) → list_all is_digit run ≡ true → Cut (lexes.outside first) at (36 ∷ (run ++ h.rest))
+      cases [] all = one_refusal first _ 0 _ (lexes.lone_dollar h.rest h.stop)
       cases (d ∷ ds) all = by_number (nat_le _ 255) refl
         where
-          by_number : (c : Bool) → nat_le (number_of (d ∷ ds)) 255 ≡ c → Cut (rules.outside first) at (36 ∷ d ∷ (ds ++ h.rest))
+          by_number : (c : Bool) → nat_le (number_of (d ∷ ds)) 255 ≡ c → Cut (lexes.outside first) at (36 ∷ d ∷ (ds ++ h.rest))
           by_number true small =
               let less : length h.rest ≤ length bs = h.shorter in
-              one_token first (36 ∷ d ∷ ds) h.rest _ (rules.glyph d ds h.rest (and_parts _ _ all).0 ((and_parts _ _ all).1, h.stop) (leb-true _ 255 small)) (omega arith)
-          by_number false large = one_refusal first _ 0 _ (rules.large_glyph d ds h.rest (and_parts _ _ all).0 ((and_parts _ _ all).1, h.stop) (leb-false _ 255 large))
+              one_token first (36 ∷ d ∷ ds) h.rest _ (lexes.glyph d ds h.rest (and_parts _ _ all).0 ((and_parts _ _ all).1, h.stop) (leb-true _ 255 small)) (omega arith)
+          by_number false large =
+              one_refusal first _ 0 _ (lexes.large_glyph d ds h.rest (and_parts _ _ all).0 ((and_parts _ _ all).1, h.stop) (leb-false _ 255 large))
 
-  a_suffix : (first : Bool) (b : ℕ) (bs : List ℕ) → is_suffix b ≡ true → length bs ≤ n → Split is_suffix bs → Cut (rules.outside first) at (b ∷ bs)
+  a_suffix : (first : Bool) (b : ℕ) (bs : List ℕ) → is_suffix b ≡ true → length bs ≤ n → Split is_suffix bs
+      → Cut (lexes.outside first) at (b ∷ bs)
   a_suffix first b bs e short h = cut_as _ at (b ∷ bs) (b ∷ (h.run ++ h.rest)) (ap (λ l. b ∷ l) h.cut) (cases h.run h.all)
     where
       less : length h.rest ≤ n
@@ -178,123 +175,139 @@ module _ (n at : ℕ) (on : Further n) where
       one c e = mark (or_cases (c == 33) (c == 63) e)
         where
           mark : ((c == 33) ≡ true) ⊎ ((c == 63) ≡ true) → (m : ℕ) × IsSuffix (c ∷ []) m
-          mark (inl e) = subst (λ c. (m : ℕ) × IsSuffix (c ∷ []) m) (sym (eqb-true c 33 e)) (1, rules.good)
-          mark (inr e) = subst (λ c. (m : ℕ) × IsSuffix (c ∷ []) m) (sym (eqb-true c 63 e)) (2, rules.poor)
+          mark (inl e) = rw (eqb-true c 33 e) (1, lexes.good)
+          mark (inr e) = rw (eqb-true c 63 e) (2, lexes.poor)
 
       two : (c d : ℕ) → is_suffix c ≡ true → is_suffix d ≡ true → (m : ℕ) × IsSuffix (c ∷ d ∷ []) m
       two c d e f = marks (or_cases (c == 33) (c == 63) e) (or_cases (d == 33) (d == 63) f)
         where
-          marks : ((c == 33) ≡ true) ⊎ ((c == 63) ≡ true) → ((d == 33) ≡ true) ⊎ ((d == 63) ≡ true) → (m : ℕ) × IsSuffix (c ∷ d ∷ []) m
-          marks (inl e) (inl f) = subst (λ c. (m : ℕ) × IsSuffix (c ∷ d ∷ []) m) (sym (eqb-true c 33 e)) (subst (λ d. (m : ℕ) × IsSuffix (33 ∷ d ∷ []) m) (sym (eqb-true d 33 f)) (3, rules.very_good))
-          marks (inl e) (inr f) = subst (λ c. (m : ℕ) × IsSuffix (c ∷ d ∷ []) m) (sym (eqb-true c 33 e)) (subst (λ d. (m : ℕ) × IsSuffix (33 ∷ d ∷ []) m) (sym (eqb-true d 63 f)) (5, rules.speculative))
-          marks (inr e) (inl f) = subst (λ c. (m : ℕ) × IsSuffix (c ∷ d ∷ []) m) (sym (eqb-true c 63 e)) (subst (λ d. (m : ℕ) × IsSuffix (63 ∷ d ∷ []) m) (sym (eqb-true d 33 f)) (6, rules.questionable))
-          marks (inr e) (inr f) = subst (λ c. (m : ℕ) × IsSuffix (c ∷ d ∷ []) m) (sym (eqb-true c 63 e)) (subst (λ d. (m : ℕ) × IsSuffix (63 ∷ d ∷ []) m) (sym (eqb-true d 63 f)) (4, rules.very_poor))
+          marks : ((c == 33) ≡ true) ⊎ ((c == 63) ≡ true) → ((d == 33) ≡ true) ⊎ ((d == 63) ≡ true)
+              → (m : ℕ) × IsSuffix (c ∷ d ∷ []) m
+          marks (inl e) (inl f) = rw (eqb-true c 33 e) (rw (eqb-true d 33 f) (3, lexes.very_good))
+          marks (inl e) (inr f) = rw (eqb-true c 33 e) (rw (eqb-true d 63 f) (5, lexes.speculative))
+          marks (inr e) (inl f) = rw (eqb-true c 63 e) (rw (eqb-true d 33 f) (6, lexes.questionable))
+          marks (inr e) (inr f) = rw (eqb-true c 63 e) (rw (eqb-true d 63 f) (4, lexes.very_poor))
 
-      cases : (run : List ℕ) → list_all is_suffix run ≡ true → Cut (rules.outside first) at (b ∷ (run ++ h.rest))
-      cases [] all = one_token first (b ∷ []) h.rest _ (rules.suffix (b ∷ []) h.rest (one b e).0 (one b e).1 h.stop) less
+      cases : (run : List ℕ) → list_all is_suffix run ≡ true → Cut (lexes.outside first) at (b ∷ (run ++ h.rest))
+      cases [] all = one_token first (b ∷ []) h.rest _ (lexes.suffix (b ∷ []) h.rest (one b e).0 (one b e).1 h.stop) less
       cases (c ∷ []) all =
           let f : is_suffix c ≡ true = (and_parts (is_suffix c) true all).0 in
-          one_token first (b ∷ c ∷ []) h.rest _ (rules.suffix (b ∷ c ∷ []) h.rest (two b c e f).0 (two b c e f).1 h.stop) less
-      cases (c ∷ d ∷ run) all = one_refusal first _ 0 _ (rules.bad_suffix (b ∷ c ∷ d ∷ run) h.rest (both_true e all, h.stop) (omega arith))
+          one_token first (b ∷ c ∷ []) h.rest _ (lexes.suffix (b ∷ c ∷ []) h.rest (two b c e f).0 (two b c e f).1 h.stop) less
+      cases (c ∷ d ∷ run) all = one_refusal first _ 0 _ (lexes.bad_suffix (b ∷ c ∷ d ∷ run) h.rest (both_true e all, h.stop) (omega arith))
 
-  a_string : (first : Bool) (bs : List ℕ) → length bs ≤ n → HasData 0 bs → Cut (rules.outside first) at (34 ∷ bs)
-  a_string first bs short h = cut_as _ at (34 ∷ bs) (34 ∷ (h.raw ++ h.rest)) (ap (λ l. 34 ∷ l) h.cut) (cases _ _ refl h.stop h.written h.shorter)
+  a_string : (first : Bool) (bs : List ℕ) → length bs ≤ n → HasData 0 bs → Cut (lexes.outside first) at (34 ∷ bs)
+  a_string first bs short h =
+      cut_as _ at (34 ∷ bs) (34 ∷ (h.raw ++ h.rest)) (ap (λ l. 34 ∷ l) h.cut) (cases _ _ refl h.stop h.written h.shorter)
     where
       fit : length h.text ≤ 255
       fit = let f : 0 + length h.text ≤ 255 = h.fits in omega arith
 
-      cases : (rest : List ℕ) (m : ℕ) → m ≡ 0 + length h.text → Stop m rest → Data h.raw h.text rest → length rest ≤ length bs → Cut (rules.outside first) at (34 ∷ (h.raw ++ rest))
-      cases _ _ same (at_line_end m s stop) written less = one_refusal first _ 0 _ (rules.open_string h.raw _ s written fit stop)
+      cases : (rest : List ℕ) (m : ℕ) → m ≡ 0 + length h.text → Stop m rest → Data h.raw h.text rest → length rest ≤ length bs
+          → Cut (lexes.outside first) at (34 ∷ (h.raw ++ rest))
+      cases _ _ same (at_line_end m s stop) written less = one_refusal first _ 0 _ (lexes.open_string h.raw _ s written fit stop)
       cases _ _ same (at_quote m s) written less =
           cut_as _ at (34 ∷ (h.raw ++ 34 ∷ s)) ((34 ∷ (h.raw ++ 34 ∷ [])) ++ s) (ap (λ l. 34 ∷ l) (sym (append_assoc h.raw _ s)))
-          (one_token first (34 ∷ (h.raw ++ 34 ∷ [])) s _ (rules.string h.raw _ s written fit) (omega arith))
-      cases _ _ same (at_barred m b s bad other) written less = one_refusal first _ (1 + length h.raw) _ (rules.control_in_string b h.raw _ s written fit bad other)
-      cases _ _ same (too_long m b s full more) written less = one_refusal first _ 0 _ (rules.long_string b h.raw h.text s written (omega arith) more)
+          (one_token first (34 ∷ (h.raw ++ 34 ∷ [])) s _ (lexes.string h.raw _ s written fit) (omega arith))
+      cases _ _ same (at_barred m b s bad other) written less =
+          one_refusal first _ (1 + length h.raw) _ (lexes.control_in_string b h.raw _ s written fit bad other)
+      cases _ _ same (too_long m b s full more) written less = one_refusal first _ 0 _ (lexes.long_string b h.raw h.text s written (omega arith) more)
 
   -- outside strings and comments
-  from_outside : (first : Bool) (b : ℕ) (bs : List ℕ) → length bs ≤ n → (c : Class) → ClassSays b c → Cut (rules.outside first) at (b ∷ bs)
-  from_outside first b bs short classes.LineEnd says = let more = on (rules.outside _) (at + 1) bs short in (_, rules.space first at b bs more.0 (or_left _ _ says) more.1)
-  from_outside first b bs short classes.Space says = let more = on (rules.outside _) (at + 1) bs short in (_, rules.space first at b bs more.0 (or_right (is_line_end b) (is_blank b) says.1) more.1)
-  from_outside false b bs short classes.Percent says = subst (λ b. Cut (rules.outside false) at (b ∷ bs)) (sym (eqb-true b 37 says)) (_, rules.stray_percent at bs)
-  from_outside true b bs short classes.Percent says = subst (λ b. Cut (rules.outside true) at (b ∷ bs)) (sym (eqb-true b 37 says)) (escape_line (split _ bs))
+  from_outside : (first : Bool) (b : ℕ) (bs : List ℕ) → length bs ≤ n → (c : Class) → ClassSays b c
+      → Cut (lexes.outside first) at (b ∷ bs)
+  from_outside first b bs short classes.LineEnd says =
+      let more = on (lexes.outside _) (at + 1) bs short in (_, lexes.space first at b bs more.0 (or_left _ _ says) more.1)
+  from_outside first b bs short classes.Space says =
+      let more = on (lexes.outside _) (at + 1) bs short in (_, lexes.space first at b bs more.0 (or_right (is_line_end b) (is_blank b) says.1) more.1)
+  from_outside false b bs short classes.Percent says = rw (eqb-true b 37 says) (_, lexes.stray_percent at bs)
+  from_outside true b bs short classes.Percent says = rw (eqb-true b 37 says) (escape_line (split _ bs))
     where
-      escape_line : Split (λ b. not (is_line_end b)) bs → Cut (rules.outside true) at (37 ∷ bs)
+      escape_line : Split (λ b. not (is_line_end b)) bs → Cut (lexes.outside true) at (37 ∷ bs)
       escape_line h =
           let less : length h.rest ≤ length bs = h.shorter in
-          let more = on (rules.outside false) (at + 1 + length h.run) h.rest (omega arith) in
-          cut_as _ at (37 ∷ bs) (37 ∷ (h.run ++ h.rest)) (ap (λ l. 37 ∷ l) h.cut) (_, rules.escape_line at h.run h.rest more.0 (h.all, h.stop) more.1)
+          let more = on (lexes.outside false) (at + 1 + length h.run) h.rest (omega arith) in
+          cut_as _ at (37 ∷ bs) (37 ∷ (h.run ++ h.rest)) (ap (λ l. 37 ∷ l) h.cut) (_, lexes.escape_line at h.run h.rest more.0 (h.all, h.stop) more.1)
   from_outside first b bs short classes.SymbolStart says = a_symbol first b bs says short (split _ bs)
-  from_outside first b bs short classes.Quote says = subst (λ b. Cut (rules.outside first) at (b ∷ bs)) (sym (eqb-true b 34 says)) (a_string first bs short (has_data (length bs) 0 bs (omega arith) (omega arith)))
-  from_outside first b bs short classes.Dollar says = subst (λ b. Cut (rules.outside first) at (b ∷ bs)) (sym (eqb-true b 36 says)) (a_glyph first bs short (split _ bs))
+  from_outside first b bs short classes.Quote says =
+      rw (eqb-true b 34 says) (a_string first bs short (has_data (length bs) 0 bs (omega arith) (omega arith)))
+  from_outside first b bs short classes.Dollar says = rw (eqb-true b 36 says) (a_glyph first bs short (split _ bs))
   from_outside first b bs short classes.Suffix says = a_suffix first b bs says short (split _ bs)
   from_outside first b bs short classes.OpenBrace says =
-      let more = on (rules.comment true) (at + 1) bs short in subst (λ b. Cut (rules.outside first) at (b ∷ bs)) (sym (eqb-true b 123 says)) (_, rules.opens_brace first at bs more.0 more.1)
+      let more = on (lexes.comment true) (at + 1) bs short in rw (eqb-true b 123 says) (_, lexes.opens_brace first at bs more.0 more.1)
   from_outside first b bs short classes.Semicolon says =
-      let more = on (rules.comment false) (at + 1) bs short in subst (λ b. Cut (rules.outside first) at (b ∷ bs)) (sym (eqb-true b 59 says)) (_, rules.opens_line first at bs more.0 more.1)
-  from_outside first b bs short (classes.Alone singles.LeftBracket) says = subst (λ b. Cut (rules.outside first) at (b ∷ bs)) (sym (eqb-true b 91 says)) (one_token first (91 ∷ []) bs _ (rules.single 91 bs _ rules.left_bracket) short)
-  from_outside first b bs short (classes.Alone singles.RightBracket) says = subst (λ b. Cut (rules.outside first) at (b ∷ bs)) (sym (eqb-true b 93 says)) (one_token first (93 ∷ []) bs _ (rules.single 93 bs _ rules.right_bracket) short)
-  from_outside first b bs short (classes.Alone singles.LeftParen) says = subst (λ b. Cut (rules.outside first) at (b ∷ bs)) (sym (eqb-true b 40 says)) (one_token first (40 ∷ []) bs _ (rules.single 40 bs _ rules.left_paren) short)
-  from_outside first b bs short (classes.Alone singles.RightParen) says = subst (λ b. Cut (rules.outside first) at (b ∷ bs)) (sym (eqb-true b 41 says)) (one_token first (41 ∷ []) bs _ (rules.single 41 bs _ rules.right_paren) short)
-  from_outside first b bs short (classes.Alone singles.Period) says = subst (λ b. Cut (rules.outside first) at (b ∷ bs)) (sym (eqb-true b 46 says)) (one_token first (46 ∷ []) bs _ (rules.single 46 bs _ rules.period) short)
-  from_outside first b bs short (classes.Alone singles.Asterisk) says = subst (λ b. Cut (rules.outside first) at (b ∷ bs)) (sym (eqb-true b 42 says)) (one_token first (42 ∷ []) bs _ (rules.single 42 bs _ rules.asterisk) short)
-  from_outside first b bs short (classes.Refused Reserved) says = one_refusal first _ 0 _ (rules.reserved b bs says)
-  from_outside first b bs short (classes.Refused ControlByte) says = one_refusal first _ 0 _ (rules.control_byte b bs says)
-  from_outside first b bs short (classes.Refused StrayByte) says = one_refusal first _ 0 _ (rules.stray b bs says)
+      let more = on (lexes.comment false) (at + 1) bs short in rw (eqb-true b 59 says) (_, lexes.opens_line first at bs more.0 more.1)
+  from_outside first b bs short (classes.Alone singles.LeftBracket) says =
+      rw (eqb-true b 91 says) (one_token first (91 ∷ []) bs _ (lexes.single 91 bs _ lexes.left_bracket) short)
+  from_outside first b bs short (classes.Alone singles.RightBracket) says =
+      rw (eqb-true b 93 says) (one_token first (93 ∷ []) bs _ (lexes.single 93 bs _ lexes.right_bracket) short)
+  from_outside first b bs short (classes.Alone singles.LeftParen) says =
+      rw (eqb-true b 40 says) (one_token first (40 ∷ []) bs _ (lexes.single 40 bs _ lexes.left_paren) short)
+  from_outside first b bs short (classes.Alone singles.RightParen) says =
+      rw (eqb-true b 41 says) (one_token first (41 ∷ []) bs _ (lexes.single 41 bs _ lexes.right_paren) short)
+  from_outside first b bs short (classes.Alone singles.Period) says =
+      rw (eqb-true b 46 says) (one_token first (46 ∷ []) bs _ (lexes.single 46 bs _ lexes.period) short)
+  from_outside first b bs short (classes.Alone singles.Asterisk) says =
+      rw (eqb-true b 42 says) (one_token first (42 ∷ []) bs _ (lexes.single 42 bs _ lexes.asterisk) short)
+  from_outside first b bs short (classes.Refused Reserved) says = one_refusal first _ 0 _ (lexes.reserved b bs says)
+  from_outside first b bs short (classes.Refused ControlByte) says = one_refusal first _ 0 _ (lexes.control_byte b bs says)
+  from_outside first b bs short (classes.Refused StrayByte) says = one_refusal first _ 0 _ (lexes.stray b bs says)
   from_outside first b bs short (classes.Refused _) says = absurd says
 
-  a_word : (braces : Bool) (b : ℕ) (bs : List ℕ) → continues_word b ≡ true → length bs ≤ n → Split continues_word bs → Cut (rules.comment braces) at (b ∷ bs)
+  a_word : (braces : Bool) (b : ℕ) (bs : List ℕ) → continues_word b ≡ true → length bs ≤ n → Split continues_word bs
+      → Cut (lexes.comment braces) at (b ∷ bs)
   a_word braces b bs e short h = cut_as _ at _ (b ∷ (h.run ++ h.rest)) (ap (λ l. b ∷ l) h.cut) (cases _ refl)
     where
-      cases : (c : Bool) → nat_le (length (b ∷ h.run)) 79 ≡ c → Cut (rules.comment braces) at (b ∷ (h.run ++ h.rest))
+      cases : (c : Bool) → nat_le (length (b ∷ h.run)) 79 ≡ c → Cut (lexes.comment braces) at (b ∷ (h.run ++ h.rest))
       cases true fits =
           let less : length h.rest ≤ length bs = h.shorter in
-          let more = on (rules.comment braces) (at + 1 + length h.run) h.rest (omega arith) in (_, rules.word braces at b h.run h.rest more.0 e (h.all, h.stop) (leb-true _ 79 fits) more.1)
-      cases false long = (_, rules.long_word braces at b h.run h.rest e (h.all, h.stop) (leb-false _ 79 long))
+          let more =
+          on (lexes.comment braces) (at + 1 + length h.run) h.rest (omega arith) in (_, lexes.word braces at b h.run h.rest more.0 e (h.all, h.stop) (leb-true _ 79 fits) more.1)
+      cases false long = (_, lexes.long_word braces at b h.run h.rest e (h.all, h.stop) (leb-false _ 79 long))
 
   -- in a comment
-  from_comment : (braces : Bool) (b : ℕ) (bs : List ℕ) → length bs ≤ n → (c : CommentClass) → CommentSays b c → Cut (rules.comment braces) at (b ∷ bs)
-  from_comment braces b bs short comments.WordByte says = a_word braces b bs says short (split _ bs)
-  from_comment true b bs short comments.LineEnd says = let more = on (rules.comment true) (at + 1) bs short in (_, rules.between_words true at b bs _ (or_left _ _ says) refl more.1)
-  from_comment false b bs short comments.LineEnd says = let more = on (rules.outside true) (at + 1) bs short in (_, rules.closes_line at b bs more.0 says more.1)
-  from_comment true b bs short comments.Space says = let more = on (rules.comment true) (at + 1) bs short in (_, rules.between_words true at b bs _ (or_right _ _ says) refl more.1)
-  from_comment false b bs short comments.Space says =
-      let more = on (rules.comment false) (at + 1) bs short in (_, rules.between_words false at b bs _ (or_right _ _ says) (ap not (blank_class b says).1) more.1)
-  from_comment true b bs short comments.CloseBrace says = let more = on (rules.outside false) (at + 1) bs short in subst (λ b. Cut (rules.comment true) at (b ∷ bs)) (sym (eqb-true b 125 says)) (_, rules.closes_brace at bs more.0 more.1)
-  from_comment false b bs short comments.CloseBrace says = subst (λ b. Cut (rules.comment false) at (b ∷ bs)) (sym (eqb-true b 125 says)) (_, rules.brace_in_line at bs)
-  from_comment braces b bs short comments.Control says = (_, rules.control_in_comment braces at b bs says)
+  from_comment : (braces : Bool) (b : ℕ) (bs : List ℕ) → length bs ≤ n → (c : CommentClass) → CommentSays b c
+      → Cut (lexes.comment braces) at (b ∷ bs)
+  from_comment braces b bs short comment_classes.WordByte says = a_word braces b bs says short (split _ bs)
+  from_comment true b bs short comment_classes.LineEnd says =
+      let more = on (lexes.comment true) (at + 1) bs short in (_, lexes.between_words true at b bs _ (or_left _ _ says) refl more.1)
+  from_comment false b bs short comment_classes.LineEnd says =
+      let more = on (lexes.outside true) (at + 1) bs short in (_, lexes.closes_line at b bs more.0 says more.1)
+  from_comment true b bs short comment_classes.Space says =
+      let more = on (lexes.comment true) (at + 1) bs short in (_, lexes.between_words true at b bs _ (or_right _ _ says) refl more.1)
+  from_comment false b bs short comment_classes.Space says =
+      let more =
+      on (lexes.comment false) (at + 1) bs short in (_, lexes.between_words false at b bs _ (or_right _ _ says) (ap not (blank_class b says).1) more.1)
+  from_comment true b bs short comment_classes.CloseBrace says =
+      let more = on (lexes.outside false) (at + 1) bs short in rw (eqb-true b 125 says) (_, lexes.closes_brace at bs more.0 more.1)
+  from_comment false b bs short comment_classes.CloseBrace says = rw (eqb-true b 125 says) (_, lexes.brace_in_line at bs)
+  from_comment braces b bs short comment_classes.Control says = (_, lexes.control_in_comment braces at b bs says)
 
 exists : (n : ℕ) → Further n
-exists n (rules.outside first) at [] short = (_, rules.ends first at)
-exists n (rules.comment true) at [] short = (_, rules.open_at_end at)
-exists n (rules.comment false) at [] short = (_, rules.closed_at_end at)
+exists n (lexes.outside first) at [] short = (_, lexes.ends first at)
+exists n (lexes.comment true) at [] short = (_, lexes.open_at_end at)
+exists n (lexes.comment false) at [] short = (_, lexes.closed_at_end at)
 exists zero w at (b ∷ bs) short = absurd (omega arith)
-exists (suc n) (rules.outside first) at (b ∷ bs) short = from_outside n at (exists n) first b bs (omega arith) (class b) (class_says b)
-exists (suc n) (rules.comment braces) at (b ∷ bs) short = from_comment n at (exists n) braces b bs (omega arith) (comment_class b) (comment_says b)
+exists (suc n) (lexes.outside first) at (b ∷ bs) short = from_outside n at (exists n) first b bs (omega arith) (class b) (class_says b)
+exists (suc n) (lexes.comment braces) at (b ∷ bs) short = from_comment n at (exists n) braces b bs (omega arith) (comment_class b) (comment_says b)
 
 -- the tokens of a text cut it
 cut_tokens : (w : Where) (at : ℕ) (s : List ℕ) → Cuts w at s (tokens_from at (within_of w) s)
-cut_tokens w at s = let h = exists (length s) w at s (omega arith) in subst (Cuts w at s) (cuts_is w at s h.0 h.1) h.1
+cut_tokens w at s = let h = exists (length s) w at s (omega arith) in rw (cuts_is w at s h.0 h.1) at h.1
 
 lexes_are : (s : List ℕ) (ts : List Token) → Lexes s ts → ts ≡ tokens_of s
-lexes_are _ _ (rules.marked s ts h) = cuts_is _ 3 s ts h
-lexes_are _ _ (rules.unmarked s ts none h) = cuts_is _ 0 s ts h ∙ sym (unmarked s none)
+lexes_are _ _ (lexes.marked s ts h) = cuts_is _ 3 s ts h
+lexes_are _ _ (lexes.unmarked s ts none h) = cuts_is _ 0 s ts h ∙ sym (unmarked s none)
 
 -- a text with a mark begins with it
 mark_cut : (s : List ℕ) → has_mark s ≡ true → (rest : List ℕ) × (s ≡ 239 ∷ 187 ∷ 191 ∷ rest)
-mark_cut [] e = absurd (false≢true e)
-mark_cut (a ∷ []) e = absurd (false≢true e)
-mark_cut (a ∷ b ∷ []) e = absurd (false≢true e)
-mark_cut (a ∷ b ∷ c ∷ s) e =
-    let two = and_parts _ (c == 191) e in
-    let one = and_parts (a == 239) (b == 187) two.0 in
-    (s, ap (λ x. x ∷ b ∷ c ∷ s) (eqb-true a 239 one.0) ∙ ap (λ x. 239 ∷ x ∷ c ∷ s) (eqb-true b 187 one.1) ∙ ap (λ x. 239 ∷ 187 ∷ x ∷ s) (eqb-true c 191 two.1))
+mark_cut s h1 = grind arith
 
 tokens_lex : (s : List ℕ) → Lexes s (tokens_of s)
 tokens_lex s = cases _ refl
   where
     cases : (m : Bool) → has_mark s ≡ m → Lexes s (tokens_of s)
-    cases true e = let h = mark_cut s e in subst (λ s. Lexes s (tokens_of s)) (sym h.1) (rules.marked h.0 _ (cut_tokens (rules.outside true) 3 h.0))
-    cases false e = subst (Lexes s) (sym (unmarked s e)) (rules.unmarked s _ e (cut_tokens _ 0 s))
+    cases true e = let h = mark_cut s e in rw h.1 (lexes.marked h.0 _ (cut_tokens (lexes.outside true) 3 h.0))
+    cases false e = rw (unmarked s e) (lexes.unmarked s _ e (cut_tokens _ 0 s))
 
 pub lexes_once : LexesOnce
-lexes_once s ts = (lexes_are s ts, λ e. subst (Lexes s) (sym e) (tokens_lex s))
+lexes_once s ts = (lexes_are s ts, λ e. rw e (tokens_lex s))

@@ -1,12 +1,13 @@
 -- How a text is cut, and its tokens.
-use Rattle.pgn_lexer.proofs.Words.{◌≡◌, ℕ, ◌+◌, ◌<◌, ◌≤◌, Bool, true, false, inl, inr, List, [], ◌∷◌, ◌++◌, length, refl, sym, ap, ◌∙◌, append-nil, append_assoc, arith, length-append, ◌||◌, ◌⊎◌, not, take_while, if◌then◌else◌, list_all, false≢true, LexReason, ControlByte, BadSuffix, Class, CommentClass, is_line_end, is_blank, is_space, is_control, is_digit, starts_symbol, continues_symbol, is_suffix, continues_word, Kind, Token, class, comment_class, symbol_at, word_at, glyph_at, suffix_at, Within, begins_class, begins_brace, begins_line, after_class, after_brace, after_line, onto, tokens_from, StopsAt, IsRun, IsSingle, IsSuffix, SpellsToken, Refuses, Where, Cuts, both_true, string_at, reading, with_front, Data, or_cases, and_parts, not-true, not-false}
+use Rattle.std.proofs.lemmas.Grind.{common_steps}
+use Rattle.pgn_lexer.proofs.Words.{◌≡◌, ℕ, ◌+◌, ◌<◌, ◌≤◌, Bool, true, false, List, [], ◌∷◌, ◌++◌, length, refl, sym, ap, ◌∙◌, append-nil, append_assoc, arith, length-append, ◌||◌, not, take_while, list_all, false≢true, LexReason, ControlByte, BadSuffix, Class, CommentClass, is_line_end, is_space, is_control, is_digit, starts_symbol, continues_symbol, is_suffix, continues_word, Kind, Token, class, comment_class, symbol_at, word_at, glyph_at, suffix_at, Within, begins_class, begins_brace, begins_line, after_class, after_brace, after_line, onto, tokens_from, StopsAt, IsRun, IsSingle, IsSuffix, SpellsToken, Refuses, Where, Cuts, both_true, string_at, reading, with_front, Data, or_cases, and_parts, not-true}
 use Rattle.pgn_lexer.specs.declared.class.Class.TheVariants as classes
-use Rattle.pgn_lexer.specs.declared.class.CommentClass.TheVariants as comments
+use Rattle.pgn_lexer.specs.declared.class.CommentClass.TheVariants as comment_classes
 use Rattle.pgn_lexer.specs.Tokens as tokens
-use Rattle.pgn_lexer.specs.TokensOf as places
-use Rattle.pgn_lexer.specs.Lexes as rules
-use Rattle.pgn_lexer.proofs.stepping.RunOfBytes.{take_while-true, take_while-false, symbol_goes, symbol_ends, glyph_goes, glyph_ends, suffix_goes, suffix_ends}
-use Rattle.pgn_lexer.proofs.bytes.ClassToTest.{stray_class, symbol_class, line_end_class, blank_class, line_end_comment, blank_comment, suffix_class, reserved_class, control_class, control_comment, letter_comment}
+use Rattle.pgn_lexer.specs.TokensOf as tokens_of
+use Rattle.pgn_lexer.specs.Lexes as lexes
+use Rattle.pgn_lexer.proofs.stepping.RunOfBytes.{take_while-true, take_while-false, suffix_goes}
+use Rattle.pgn_lexer.proofs.bytes.ClassToTest.{stray_class, line_end_class, blank_class, line_end_comment, blank_comment, suffix_class, reserved_class, control_class, control_comment}
 use Rattle.pgn_lexer.proofs.stepping.ByteInSymbol.{symbol_fits, symbol_long}
 use Rattle.pgn_lexer.proofs.cutting.StringData.{reads_data, reads_long, reads_control, reads_open, quotes_skip}
 use Rattle.pgn_lexer.proofs.stepping.ByteInComment.{word_fits, word_long, word_class, brace_ends, line_ends}
@@ -14,47 +15,40 @@ use Rattle.pgn_lexer.proofs.stepping.ByteInGlyph.{number_fits, number_long}
 
 -- what a place is within
 abbrev pub within_of : Where → Within
-within_of (rules.outside true) = places.column
-within_of (rules.outside false) = places.outside
-within_of (rules.comment true) = places.brace
-within_of (rules.comment false) = places.line
+within_of (lexes.outside true) = tokens_of.column
+within_of (lexes.outside false) = tokens_of.outside
+within_of (lexes.comment true) = tokens_of.brace
+within_of (lexes.comment false) = tokens_of.line
 
 -- a run is as long as possible
 pub take_run : (p : ℕ → Bool) (run s : List ℕ) → list_all p run ≡ true → StopsAt p s → take_while p (run ++ s) ≡ run
 take_run p [] [] all stop = refl
 take_run p [] (b ∷ s) all stop = take_while-false p b s stop
-take_run p (b ∷ run) s all stop =
-    take_while-true p b _ (and_parts _ _ all).0 ∙ ap (λ l. b ∷ l) (take_run p run s (and_parts _ _ all).1 stop)
+take_run p (b ∷ run) s all stop = grind (arith, take_while-true, and_parts, take_run p run s)
 
 -- the places within a run give nothing
 module _ (within out : Within) (p : ℕ → Bool) (goes : (at b : ℕ) (s : List ℕ) → p b ≡ true → tokens_from at within (b ∷ s) ≡ tokens_from (at + 1) within s)
     (ends : (at : ℕ) (s : List ℕ) → StopsAt p s → tokens_from at within s ≡ tokens_from at out s) where
-  pub skips : (at : ℕ) (run s : List ℕ) → list_all p run ≡ true → StopsAt p s → tokens_from at within (run ++ s) ≡ tokens_from (at + length run) out s
+  pub skips : (at : ℕ) (run s : List ℕ) → list_all p run ≡ true → StopsAt p s
+      → tokens_from at within (run ++ s) ≡ tokens_from (at + length run) out s
   skips at [] s all stop = let same : at ≡ at + 0 = omega arith in ends at s stop ∙ ap (λ n. tokens_from n out s) same
   skips at (b ∷ run) s all stop =
       let same : at + 1 + length run ≡ at + length (b ∷ run) = omega arith in
       goes at b (run ++ s) (and_parts _ _ all).0 ∙ skips (at + 1) run s (and_parts _ _ all).1 stop ∙ ap (λ n. tokens_from n out s) same
 
-symbol_stops : (at : ℕ) (s : List ℕ) → StopsAt continues_symbol s → tokens_from at places.in_symbol s ≡ tokens_from at places.outside s
-symbol_stops at [] stop = refl
-symbol_stops at (b ∷ s) stop = symbol_ends at b s stop
-
-glyph_stops : (at : ℕ) (s : List ℕ) → StopsAt is_digit s → tokens_from at places.in_glyph s ≡ tokens_from at places.outside s
-glyph_stops at [] stop = refl
-glyph_stops at (b ∷ s) stop = glyph_ends at b s stop
-
-suffix_stops : (at : ℕ) (s : List ℕ) → StopsAt is_suffix s → tokens_from at places.in_suffix s ≡ tokens_from at places.outside s
-suffix_stops at [] stop = refl
-suffix_stops at (b ∷ s) stop = suffix_ends at b s stop
+suffix_stops : (at : ℕ) (s : List ℕ) → StopsAt is_suffix s → tokens_from at tokens_of.in_suffix s ≡ tokens_from at tokens_of.outside s
+suffix_stops at s h1 = grind arith
 
 -- outside strings and comments, where no escape line begins
 from_class : (first : Bool) (at b : ℕ) (s : List ℕ) (c : Class) → class b ≡ c → (c ≡ classes.Percent → ⊥)
-    → tokens_from at (within_of (rules.outside first)) (b ∷ s) ≡ onto at (begins_class at c b s) (tokens_from (at + 1) (after_class c) s)
-from_class false at b s c e other = ap (λ c. onto at (begins_class at c b s) (tokens_from (at + 1) (after_class c) s)) e
-from_class true at b s c e other = ap (λ c. onto at (places.begins_first at c b s) (tokens_from (at + 1) (places.after_first c) s)) e ∙ in_column c other
+    → tokens_from at (within_of (lexes.outside first)) (b ∷ s) ≡ onto at (begins_class at c b s) (tokens_from (at + 1) (after_class c) s)
+from_class false at b s c e other = grind arith
+from_class true at b s c e other =
+    ap (λ c. onto at (tokens_of.begins_first at c b s) (tokens_from (at + 1) (tokens_of.after_first c) s)) e ∙ in_column c other
   where
     in_column : (c : Class) → (c ≡ classes.Percent → ⊥)
-        → onto at (places.begins_first at c b s) (tokens_from (at + 1) (places.after_first c) s) ≡ onto at (begins_class at c b s) (tokens_from (at + 1) (after_class c) s)
+        → onto at (tokens_of.begins_first at c b s) (tokens_from (at + 1) (tokens_of.after_first c) s)
+        ≡ onto at (begins_class at c b s) (tokens_from (at + 1) (after_class c) s)
     in_column classes.Percent other = absurd (other refl)
     in_column classes.LineEnd other = refl
     in_column classes.Space other = refl
@@ -68,161 +62,149 @@ from_class true at b s c e other = ap (λ c. onto at (places.begins_first at c b
     in_column (classes.Refused r) other = refl
 
 pub space_skips : (first : Bool) (at b : ℕ) (s : List ℕ) → is_space b ≡ true
-    → tokens_from at (within_of (rules.outside first)) (b ∷ s) ≡ tokens_from (at + 1) (within_of (rules.outside (is_line_end b))) s
-space_skips first at b s e = cases (or_cases _ _ e)
-  where
-    cases : (is_line_end b ≡ true) ⊎ (is_blank b ≡ true) → tokens_from at (within_of (rules.outside first)) (b ∷ s) ≡ tokens_from (at + 1) (within_of (rules.outside (is_line_end b))) s
-    cases (inl e) = from_class first at b s classes.LineEnd (line_end_class b e) (λ e. cc) ∙ ap (λ f. tokens_from (at + 1) (within_of (rules.outside f)) s) (sym e)
-    cases (inr e) = from_class first at b s classes.Space (blank_class b e).0 (λ e. cc) ∙ ap (λ f. tokens_from (at + 1) (within_of (rules.outside f)) s) (sym (blank_class b e).1)
+    → tokens_from at (within_of (lexes.outside first)) (b ∷ s) ≡ tokens_from (at + 1) (within_of (lexes.outside (is_line_end b))) s
+space_skips first at b s e = grind (arith, or_cases, from_class, line_end_class, blank_class)
 
-pub symbol_cut : (first : Bool) (at b : ℕ) (run s : List ℕ) → starts_symbol b ≡ true → list_all continues_symbol run ≡ true → StopsAt continues_symbol s
-    → tokens_from at (within_of (rules.outside first)) (b ∷ (run ++ s)) ≡ onto at (symbol_at at (b ∷ run)) (tokens_from (at + 1 + length run) places.outside s)
-symbol_cut first at b run s e all stop =
-    from_class first at b _ classes.SymbolStart (symbol_class b e) (λ e. cc)
-    ∙ ap (λ r. onto at (symbol_at at (b ∷ r)) (tokens_from (at + 1) places.in_symbol (run ++ s))) (take_run _ run s all stop)
-    ∙ ap (onto at (symbol_at at (b ∷ run))) (skips places.in_symbol places.outside _ symbol_goes symbol_stops (at + 1) run s all stop)
+pub symbol_cut : (first : Bool) (at b : ℕ) (run s : List ℕ) → starts_symbol b ≡ true → list_all continues_symbol run ≡ true
+    → StopsAt continues_symbol s
+    → tokens_from at (within_of (lexes.outside first)) (b ∷ (run ++ s))
+    ≡ onto at (symbol_at at (b ∷ run)) (tokens_from (at + 1 + length run) tokens_of.outside s)
+symbol_cut first at b run s e all stop = grind (arith, take_run, skips)
 
 pub glyph_cut : (first : Bool) (at : ℕ) (run s : List ℕ) → list_all is_digit run ≡ true → StopsAt is_digit s
-    → tokens_from at (within_of (rules.outside first)) (36 ∷ (run ++ s)) ≡ onto at (glyph_at at run) (tokens_from (at + 1 + length run) places.outside s)
-glyph_cut first at run s all stop =
-    from_class first at 36 _ _ refl (λ e. cc)
-    ∙ ap (λ r. onto at (glyph_at at r) (tokens_from (at + 1) places.in_glyph (run ++ s))) (take_run _ run s all stop)
-    ∙ ap (onto at (glyph_at at run)) (skips places.in_glyph _ _ glyph_goes glyph_stops _ run s all stop)
+    → tokens_from at (within_of (lexes.outside first)) (36 ∷ (run ++ s))
+    ≡ onto at (glyph_at at run) (tokens_from (at + 1 + length run) tokens_of.outside s)
+glyph_cut first at run s all stop = grind (arith, take_run, skips)
 
 pub suffix_cut : (first : Bool) (at b : ℕ) (run s : List ℕ) → is_suffix b ≡ true → list_all is_suffix run ≡ true → StopsAt is_suffix s
-    → tokens_from at (within_of (rules.outside first)) (b ∷ (run ++ s)) ≡ onto at (suffix_at at (b ∷ run)) (tokens_from (at + 1 + length run) places.outside s)
+    → tokens_from at (within_of (lexes.outside first)) (b ∷ (run ++ s))
+    ≡ onto at (suffix_at at (b ∷ run)) (tokens_from (at + 1 + length run) tokens_of.outside s)
 suffix_cut first at b run s e all stop =
     from_class first at b _ classes.Suffix (suffix_class b e) (λ e. cc)
-    ∙ ap (λ r. onto at (suffix_at at (b ∷ r)) (tokens_from (at + 1) places.in_suffix (run ++ s))) (take_run _ run s all stop)
-    ∙ ap (onto at (suffix_at at (b ∷ run))) (skips places.in_suffix places.outside _ suffix_goes suffix_stops (at + 1) run s all stop)
+    ∙ ap (λ r. onto at (suffix_at at (b ∷ r)) (tokens_from (at + 1) tokens_of.in_suffix (run ++ s))) (take_run _ run s all stop)
+    ∙ ap (onto at (suffix_at at (b ∷ run))) (skips tokens_of.in_suffix tokens_of.outside _ suffix_goes suffix_stops (at + 1) run s all stop)
 
 -- an escape line
-escape_line_goes : (at b : ℕ) (s : List ℕ) → not (is_line_end b) ≡ true → tokens_from at places.in_escape_line (b ∷ s) ≡ tokens_from (at + 1) places.in_escape_line s
-escape_line_goes at b s e = ap (λ c. tokens_from (at + 1) (if c then places.column else places.in_escape_line) s) (not-true _ e)
+escape_line_goes : (at b : ℕ) (s : List ℕ) → not (is_line_end b) ≡ true
+    → tokens_from at tokens_of.in_escape_line (b ∷ s) ≡ tokens_from (at + 1) tokens_of.in_escape_line s
+escape_line_goes at b s e = grind arith
 
-escape_line_stops : (at : ℕ) (s : List ℕ) → StopsAt (λ b. not (is_line_end b)) s → tokens_from at places.in_escape_line s ≡ tokens_from at places.outside s
-escape_line_stops at [] stop = refl
-escape_line_stops at (b ∷ s) stop =
-    let e : is_line_end b ≡ true = not-false _ stop in
-    ap (λ c. tokens_from (at + 1) (if c then places.column else places.in_escape_line) s) e ∙ sym (from_class false at b s classes.LineEnd (line_end_class b e) (λ e. cc))
+escape_line_stops : (at : ℕ) (s : List ℕ) → StopsAt (λ b. not (is_line_end b)) s
+    → tokens_from at tokens_of.in_escape_line s ≡ tokens_from at tokens_of.outside s
+escape_line_stops at s h1 = grind arith
 
 pub escape_line_cut : (at : ℕ) (run s : List ℕ) → list_all (λ b. not (is_line_end b)) run ≡ true → StopsAt (λ b. not (is_line_end b)) s
-    → tokens_from at places.column (37 ∷ (run ++ s)) ≡ tokens_from (at + 1 + length run) places.outside s
+    → tokens_from at tokens_of.column (37 ∷ (run ++ s)) ≡ tokens_from (at + 1 + length run) tokens_of.outside s
 escape_line_cut at run s all stop = skips _ _ _ escape_line_goes escape_line_stops _ run s all stop
 
 -- in a comment
 abbrev pub word_within : Bool → Within
-word_within true = places.brace_word
-word_within false = places.line_word
+word_within true = tokens_of.brace_word
+word_within false = tokens_of.line_word
 
 comment_tokens : Bool → ℕ → Bool → ℕ → List ℕ → CommentClass → List Token
 comment_tokens true at goes b s c = onto at (begins_brace at goes c b s) (tokens_from (at + 1) (after_brace c) s)
 comment_tokens false at goes b s c = onto at (begins_line at goes c b s) (tokens_from (at + 1) (after_line c) s)
 
-from_comment : (braces : Bool) (at b : ℕ) (s : List ℕ) (c : CommentClass) → comment_class b ≡ c → tokens_from at (within_of (rules.comment braces)) (b ∷ s) ≡ comment_tokens braces at false b s c
+from_comment : (braces : Bool) (at b : ℕ) (s : List ℕ) (c : CommentClass) → comment_class b ≡ c
+    → tokens_from at (within_of (lexes.comment braces)) (b ∷ s) ≡ comment_tokens braces at false b s c
 unfolding comment_tokens
-from_comment true at b s c e = ap (λ c. onto at (begins_brace at false c b s) (tokens_from (at + 1) (after_brace c) s)) e
-from_comment false at b s c e = ap (λ c. onto at (begins_line at false c b s) (tokens_from (at + 1) (after_line c) s)) e
+from_comment braces at b s c h1 = grind arith
 
-from_word : (braces : Bool) (at b : ℕ) (s : List ℕ) (c : CommentClass) → comment_class b ≡ c → tokens_from at (word_within braces) (b ∷ s) ≡ comment_tokens braces at true b s c
+word_goes : (braces : Bool) (at b : ℕ) (s : List ℕ) → continues_word b ≡ true
+    → tokens_from at (word_within braces) (b ∷ s) ≡ tokens_from (at + 1) (word_within braces) s
 unfolding comment_tokens
-from_word true at b s c e = ap (λ c. onto at (begins_brace at true c b s) (tokens_from (at + 1) (after_brace c) s)) e
-from_word false at b s c e = ap (λ c. onto at (begins_line at true c b s) (tokens_from (at + 1) (after_line c) s)) e
+word_goes braces at b s h1 = grind arith
 
-word_goes : (braces : Bool) (at b : ℕ) (s : List ℕ) → continues_word b ≡ true → tokens_from at (word_within braces) (b ∷ s) ≡ tokens_from (at + 1) (word_within braces) s
-unfolding comment_tokens
-word_goes true at b s e = from_word true at b s comments.WordByte (letter_comment b e)
-word_goes false at b s e = from_word false at b s comments.WordByte (letter_comment b e)
-
-word_stops : (braces : Bool) (at : ℕ) (s : List ℕ) → StopsAt continues_word s → tokens_from at (word_within braces) s ≡ tokens_from at (within_of (rules.comment braces)) s
-word_stops true at [] stop = refl
-word_stops false at [] stop = refl
-word_stops true at (b ∷ s) stop = brace_ends _ at b s (sym (word_class b) ∙ stop)
-word_stops false at (b ∷ s) stop = line_ends _ at b s (sym (word_class b) ∙ stop)
+word_stops : (braces : Bool) (at : ℕ) (s : List ℕ) → StopsAt continues_word s
+    → tokens_from at (word_within braces) s ≡ tokens_from at (within_of (lexes.comment braces)) s
+word_stops braces at s h1 = grind (arith, brace_ends, word_class, line_ends)
 
 letter_first : (braces : Bool) (at b : ℕ) (s : List ℕ) → continues_word b ≡ true
-    → tokens_from at (within_of (rules.comment braces)) (b ∷ s) ≡ onto at (word_at at (b ∷ take_while continues_word s)) (tokens_from (at + 1) (word_within braces) s)
+    → tokens_from at (within_of (lexes.comment braces)) (b ∷ s)
+    ≡ onto at (word_at at (b ∷ take_while continues_word s)) (tokens_from (at + 1) (word_within braces) s)
 unfolding comment_tokens
-letter_first true at b s e = from_comment true at b s comments.WordByte (letter_comment b e)
-letter_first false at b s e = from_comment false at b s comments.WordByte (letter_comment b e)
+letter_first braces at b s h1 = grind arith
 
-pub word_cut : (braces : Bool) (at b : ℕ) (run s : List ℕ) → continues_word b ≡ true → list_all continues_word run ≡ true → StopsAt continues_word s
-    → tokens_from at (within_of (rules.comment braces)) (b ∷ (run ++ s)) ≡ onto at (word_at at (b ∷ run)) (tokens_from (at + 1 + length run) (within_of (rules.comment braces)) s)
+pub word_cut : (braces : Bool) (at b : ℕ) (run s : List ℕ) → continues_word b ≡ true → list_all continues_word run ≡ true
+    → StopsAt continues_word s
+    → tokens_from at (within_of (lexes.comment braces)) (b ∷ (run ++ s))
+    ≡ onto at (word_at at (b ∷ run)) (tokens_from (at + 1 + length run) (within_of (lexes.comment braces)) s)
 word_cut braces at b run s e all stop =
     letter_first braces at b _ e
     ∙ ap (λ r. onto at (word_at at (b ∷ r)) (tokens_from (at + 1) (word_within braces) (run ++ s))) (take_run _ run s all stop)
-    ∙ ap (onto at (word_at at (b ∷ run))) (skips (word_within braces) (within_of (rules.comment braces)) _ (word_goes braces) (word_stops braces) (at + 1) run s all stop)
+    ∙ ap (onto at (word_at at (b ∷ run))) (skips (word_within braces) (within_of (lexes.comment braces)) _ (word_goes braces) (word_stops braces) (at + 1) run s all stop)
 
 pub blank_in_comment : (braces : Bool) (at b : ℕ) (s : List ℕ) → is_space b ≡ true → (braces || not (is_line_end b)) ≡ true
-    → tokens_from at (within_of (rules.comment braces)) (b ∷ s) ≡ tokens_from (at + 1) (within_of (rules.comment braces)) s
+    → tokens_from at (within_of (lexes.comment braces)) (b ∷ s) ≡ tokens_from (at + 1) (within_of (lexes.comment braces)) s
 unfolding comment_tokens
-blank_in_comment true at b s e _ = cases (or_cases _ _ e)
-  where
-    cases : (is_line_end b ≡ true) ⊎ (is_blank b ≡ true) → tokens_from at places.brace (b ∷ s) ≡ tokens_from (at + 1) places.brace s
-    cases (inl e) = from_comment true at b s comments.LineEnd (line_end_comment b e)
-    cases (inr e) = from_comment true at b s comments.Space (blank_comment b e)
-blank_in_comment false at b s e other = cases (or_cases _ _ e)
-  where
-    cases : (is_line_end b ≡ true) ⊎ (is_blank b ≡ true) → tokens_from at places.line (b ∷ s) ≡ tokens_from (at + 1) places.line s
-    cases (inl e) = absurd (false≢true (sym (not-true _ other) ∙ e))
-    cases (inr e) = from_comment false at b s comments.Space (blank_comment b e)
+blank_in_comment braces at b s h1 h2 =
+    grind (arith, or_cases, common_steps, from_comment, line_end_comment, blank_comment, false≢true, not-true)
 
 pub control_in_comment : (braces : Bool) (at b : ℕ) (s : List ℕ) → is_control b ≡ true
-    → tokens_from at (within_of (rules.comment braces)) (b ∷ s) ≡ record { at = at; kind = tokens.refused ControlByte } ∷ []
+    → tokens_from at (within_of (lexes.comment braces)) (b ∷ s) ≡ record { at = at; kind = tokens.refused ControlByte } ∷ []
 unfolding comment_tokens
-control_in_comment true at b s e = from_comment true at b s comments.Control (control_comment b e)
-control_in_comment false at b s e = from_comment false at b s comments.Control (control_comment b e)
+control_in_comment braces at b s h1 = grind (arith, from_comment, control_comment)
 
-pub line_closes : (at b : ℕ) (s : List ℕ) → is_line_end b ≡ true → tokens_from at places.line (b ∷ s) ≡ record { at = at; kind = tokens.comment_close } ∷ tokens_from (at + 1) places.column s
+pub line_closes : (at b : ℕ) (s : List ℕ) → is_line_end b ≡ true
+    → tokens_from at tokens_of.line (b ∷ s) ≡ record { at = at; kind = tokens.comment_close } ∷ tokens_from (at + 1) tokens_of.column s
 unfolding comment_tokens
-line_closes at b s e = from_comment false at b s comments.LineEnd (line_end_comment b e)
+line_closes at b s e = from_comment false at b s comment_classes.LineEnd (line_end_comment b e)
 
 -- a token that is spelled is given
 module _ (first : Bool) (at : ℕ) where
-  moved : (k : Kind) (m n : ℕ) (s : List ℕ) → m ≡ n → record { at = at; kind = k } ∷ tokens_from m places.outside s ≡ record { at = at; kind = k } ∷ tokens_from n places.outside s
-  moved k m n s e = ap (λ n. record { at = at; kind = k } ∷ tokens_from n places.outside s) e
+  moved : (k : Kind) (m n : ℕ) (s : List ℕ) → m ≡ n
+      → record { at = at; kind = k } ∷ tokens_from m tokens_of.outside s ≡ record { at = at; kind = k } ∷ tokens_from n tokens_of.outside s
+  moved k m n s e = ap (λ n. record { at = at; kind = k } ∷ tokens_from n tokens_of.outside s) e
 
-  single_is : (b : ℕ) (s : List ℕ) (k : Kind) → IsSingle b k → tokens_from at (within_of (rules.outside first)) (b ∷ s) ≡ record { at = at; kind = k } ∷ tokens_from (at + 1) places.outside s
-  single_is _ s _ rules.left_bracket = from_class first at 91 s _ refl (λ e. cc)
-  single_is _ s _ rules.right_bracket = from_class first at 93 s _ refl (λ e. cc)
-  single_is _ s _ rules.left_paren = from_class first at 40 s _ refl (λ e. cc)
-  single_is _ s _ rules.right_paren = from_class first at 41 s _ refl (λ e. cc)
-  single_is _ s _ rules.period = from_class first at 46 s _ refl (λ e. cc)
-  single_is _ s _ rules.asterisk = from_class first at 42 s _ refl (λ e. cc)
+  single_is : (b : ℕ) (s : List ℕ) (k : Kind) → IsSingle b k
+      → tokens_from at (within_of (lexes.outside first)) (b ∷ s) ≡ record { at = at; kind = k } ∷ tokens_from (at + 1) tokens_of.outside s
+  single_is _ s _ lexes.left_bracket = from_class first at 91 s _ refl (λ e. cc)
+  single_is _ s _ lexes.right_bracket = from_class first at 93 s _ refl (λ e. cc)
+  single_is _ s _ lexes.left_paren = from_class first at 40 s _ refl (λ e. cc)
+  single_is _ s _ lexes.right_paren = from_class first at 41 s _ refl (λ e. cc)
+  single_is _ s _ lexes.period = from_class first at 46 s _ refl (λ e. cc)
+  single_is _ s _ lexes.asterisk = from_class first at 42 s _ refl (λ e. cc)
 
-  suffix_is : (run s : List ℕ) (n : ℕ) → IsSuffix run n → StopsAt is_suffix s → tokens_from at (within_of (rules.outside first)) (run ++ s) ≡ record { at = at; kind = tokens.glyph n } ∷ tokens_from (at + length run) places.outside s
-  suffix_is _ s _ rules.good stop = suffix_cut first at 33 [] s refl refl stop ∙ moved _ _ _ s (omega arith)
-  suffix_is _ s _ rules.poor stop = suffix_cut first at 63 [] s refl refl stop ∙ moved _ _ _ s (omega arith)
-  suffix_is _ s _ rules.very_good stop = suffix_cut first at 33 (33 ∷ []) s refl refl stop ∙ moved _ _ _ s (omega arith)
-  suffix_is _ s _ rules.very_poor stop = suffix_cut first at 63 (63 ∷ []) s refl refl stop ∙ moved _ _ _ s (omega arith)
-  suffix_is _ s _ rules.speculative stop = suffix_cut first at 33 (63 ∷ []) s refl refl stop ∙ moved _ _ _ s (omega arith)
-  suffix_is _ s _ rules.questionable stop = suffix_cut first at 63 (33 ∷ []) s refl refl stop ∙ moved _ _ _ s (omega arith)
+  suffix_is : (run s : List ℕ) (n : ℕ) → IsSuffix run n → StopsAt is_suffix s
+      → tokens_from at (within_of (lexes.outside first)) (run ++ s)
+      ≡ record { at = at; kind = tokens.glyph n } ∷ tokens_from (at + length run) tokens_of.outside s
+  suffix_is _ s _ lexes.good stop = grind arith
+  suffix_is _ s _ lexes.poor stop = grind arith
+  suffix_is _ s _ lexes.very_good stop = grind (arith, suffix_cut first at 33 (33 ∷ []) s refl refl stop, moved)
+  suffix_is _ s _ lexes.very_poor stop = grind (arith, suffix_cut first at 63 (63 ∷ []) s refl refl stop, moved)
+  suffix_is _ s _ lexes.speculative stop = grind (arith, suffix_cut first at 33 (63 ∷ []) s refl refl stop, moved)
+  suffix_is _ s _ lexes.questionable stop = grind (arith, suffix_cut first at 63 (33 ∷ []) s refl refl stop, moved)
 
   -- what a string comes to, by its data and what comes after them
   string_reads : (raw text rest : List ℕ) → Data raw text rest → length text ≤ 255
-      → tokens_from at (within_of (rules.outside first)) (34 ∷ (raw ++ rest))
-      ≡ onto at (string_at (with_front text (reading at (at + 1 + length raw) (length text) false rest))) (tokens_from (at + 1) places.quotes (raw ++ rest))
+      → tokens_from at (within_of (lexes.outside first)) (34 ∷ (raw ++ rest))
+      ≡ onto at (string_at (with_front text (reading at (at + 1 + length raw) (length text) false rest))) (tokens_from (at + 1) tokens_of.quotes (raw ++ rest))
   string_reads raw text rest data' fits =
       let none : 0 + length text ≡ length text = omega arith in
       from_class first at 34 _ _ refl (λ e. cc)
-      ∙ ap (λ r. onto at (string_at r) (tokens_from (at + 1) places.quotes (raw ++ rest)))
+      ∙ ap (λ r. onto at (string_at r) (tokens_from (at + 1) tokens_of.quotes (raw ++ rest)))
       (reads_data at _ 0 raw text rest data' (omega arith) ∙ ap (λ n. with_front text (reading at (at + 1 + length raw) n false rest)) none)
 
-  pub spells_is : (run s : List ℕ) (k : Kind) → SpellsToken run s k → tokens_from at (within_of (rules.outside first)) (run ++ s) ≡ record { at = at; kind = k } ∷ tokens_from (at + length run) places.outside s
-  spells_is _ _ _ (rules.symbol b run s e long fits) =
+  pub spells_is : (run s : List ℕ) (k : Kind) → SpellsToken run s k
+      → tokens_from at (within_of (lexes.outside first)) (run ++ s)
+      ≡ record { at = at; kind = k } ∷ tokens_from (at + length run) tokens_of.outside s
+  spells_is _ _ _ (lexes.symbol b run s e long fits) =
       let same : at + 1 + length run ≡ at + length (b ∷ run) = omega arith in
-      symbol_cut first at b run s e long.0 long.1 ∙ ap (λ f. onto at f (tokens_from (at + 1 + length run) places.outside s)) (symbol_fits at _ fits) ∙ moved _ _ _ s same
-  spells_is _ _ _ (rules.string raw text s data' fits) =
+      symbol_cut first at b run s e long.0 long.1
+      ∙ ap (λ f. onto at f (tokens_from (at + 1 + length run) tokens_of.outside s)) (symbol_fits at _ fits) ∙ moved _ _ _ s same
+  spells_is _ _ _ (lexes.string raw text s data' fits) =
       let same : at + 1 + length raw + 1 ≡ at + length (34 ∷ (raw ++ 34 ∷ [])) = omega (arith, length-append raw (34 ∷ [])) in
-      ap (λ l. tokens_from at (within_of (rules.outside first)) (34 ∷ l)) (append_assoc raw (34 ∷ []) s)
+      ap (λ l. tokens_from at (within_of (lexes.outside first)) (34 ∷ l)) (append_assoc raw (34 ∷ []) s)
       ∙ string_reads raw text _ data' fits
-      ∙ ap (λ t. record { at = at; kind = tokens.str t } ∷ tokens_from (at + 1) places.quotes (raw ++ 34 ∷ s)) (append-nil text)
-      ∙ ap (λ ts. record { at = at; kind = tokens.str text } ∷ ts) (quotes_skip _ raw text _ s data' refl ∙ ap (λ n. tokens_from n places.outside s) same)
-  spells_is _ _ _ (rules.glyph d ds s e long fits) =
+      ∙ ap (λ t. record { at = at; kind = tokens.str t } ∷ tokens_from (at + 1) tokens_of.quotes (raw ++ 34 ∷ s)) (append-nil text)
+      ∙ ap (λ ts. record { at = at; kind = tokens.str text } ∷ ts) (quotes_skip _ raw text _ s data' refl ∙ ap (λ n. tokens_from n tokens_of.outside s) same)
+  spells_is _ _ _ (lexes.glyph d ds s e long fits) =
       let same : at + 1 + length (d ∷ ds) ≡ at + length (36 ∷ d ∷ ds) = omega arith in
-      glyph_cut first at (d ∷ ds) s (both_true e long.0) long.1 ∙ ap (λ f. onto at f (tokens_from (at + 1 + length (d ∷ ds)) places.outside s)) (number_fits at _ fits) ∙ moved _ _ _ s same
-  spells_is _ _ _ (rules.suffix run s n is stop) = suffix_is run s n is stop
-  spells_is _ _ _ (rules.single b s k is) = single_is b s k is ∙ moved _ _ _ s (omega arith)
+      glyph_cut first at (d ∷ ds) s (both_true e long.0) long.1
+      ∙ ap (λ f. onto at f (tokens_from (at + 1 + length (d ∷ ds)) tokens_of.outside s)) (number_fits at _ fits) ∙ moved _ _ _ s same
+  spells_is _ _ _ (lexes.suffix run s n is stop) = suffix_is run s n is stop
+  spells_is _ _ _ (lexes.single b s k is) = grind (arith, single_is b s k is, moved)
 
   abbrev refused_at : LexReason → ℕ → List Token
   refused_at r n = record { at = n; kind = tokens.refused r } ∷ []
@@ -231,31 +213,30 @@ module _ (first : Bool) (at : ℕ) where
   here n r e = ap (refused_at r) e
 
   -- and what is rejected
-  pub refuses_is : (s : List ℕ) (n : ℕ) (r : LexReason) → Refuses s n r → tokens_from at (within_of (rules.outside first)) s ≡ record { at = at + n; kind = tokens.refused r } ∷ []
-  refuses_is _ _ _ (rules.stray b s e) = from_class first at b s _ (stray_class b e) (λ e. cc) ∙ here _ _ (omega arith)
-  refuses_is _ _ _ (rules.control_byte b s e) = from_class first at b s _ (control_class b e) (λ e. cc) ∙ here _ _ (omega arith)
-  refuses_is _ _ _ (rules.reserved b s e) = from_class first at b s _ (reserved_class b e) (λ e. cc) ∙ here _ _ (omega arith)
-  refuses_is _ _ _ (rules.long_symbol b run s e long over) =
-      symbol_cut first at b run s e long.0 long.1 ∙ ap (λ f. onto at f (tokens_from (at + 1 + length run) places.outside s)) (symbol_long at (b ∷ run) over) ∙ here _ _ (omega arith)
-  refuses_is _ _ _ (rules.long_string b raw text s data' full more) =
-      string_reads raw text (b ∷ s) data' (omega arith)
-      ∙ ap (λ r. onto at (string_at (with_front text r)) (tokens_from (at + 1) places.quotes (raw ++ b ∷ s))) (reads_long at (at + 1 + length raw) (length text) b s (omega arith) more) ∙ here _ _ (omega arith)
-  refuses_is _ _ _ (rules.control_in_string b raw text s data' fits bad other) =
+  pub refuses_is : (s : List ℕ) (n : ℕ) (r : LexReason) → Refuses s n r
+      → tokens_from at (within_of (lexes.outside first)) s ≡ record { at = at + n; kind = tokens.refused r } ∷ []
+  refuses_is _ _ _ (lexes.stray b s e) = grind (arith, from_class, stray_class, here)
+  refuses_is _ _ _ (lexes.control_byte b s e) = grind (arith, from_class, control_class, here)
+  refuses_is _ _ _ (lexes.reserved b s e) = grind (arith, from_class, reserved_class, here)
+  refuses_is _ _ _ (lexes.long_symbol b run s e long over) = grind (arith, symbol_cut, symbol_long, here)
+  refuses_is _ _ _ (lexes.long_string b raw text s data' full more) =
+      grind (arith, string_reads raw text (b ∷ s) data' (omega arith), reads_long at (at + 1 + length raw) (length text) b s (omega arith) more, here)
+  refuses_is _ _ _ (lexes.control_in_string b raw text s data' fits bad other) =
       string_reads raw text (b ∷ s) data' fits
-      ∙ ap (λ r. onto at (string_at (with_front text r)) (tokens_from (at + 1) places.quotes (raw ++ b ∷ s))) (reads_control at (at + 1 + length raw) (length text) b s bad other)
+      ∙ ap (λ r. onto at (string_at (with_front text r)) (tokens_from (at + 1) tokens_of.quotes (raw ++ b ∷ s))) (reads_control at (at + 1 + length raw) (length text) b s bad other)
       ∙ ap (λ n. record { at = n; kind = tokens.refused ControlByte } ∷ []) (further raw)
     where
       further : (raw : List ℕ) → at + 1 + length raw ≡ at + (1 + length raw)
       further raw = omega arith
-  refuses_is _ _ _ (rules.open_string raw text s data' fits stop) =
-      string_reads raw text s data' fits
-      ∙ ap (λ r. onto at (string_at (with_front text r)) (tokens_from (at + 1) places.quotes (raw ++ s))) (reads_open at (at + 1 + length raw) (length text) s stop) ∙ here _ _ (omega arith)
-  refuses_is _ _ _ (rules.lone_dollar s stop) = glyph_cut first at [] s refl stop ∙ here _ _ (omega arith)
-  refuses_is _ _ _ (rules.large_glyph d ds s e long over) =
-      glyph_cut first at (d ∷ ds) s (both_true e long.0) long.1 ∙ ap (λ f. onto at f (tokens_from (at + 1 + length (d ∷ ds)) places.outside s)) (number_long at _ over) ∙ here _ _ (omega arith)
-  refuses_is _ _ _ (rules.bad_suffix run s long many) = bad_run run s long many
+  refuses_is _ _ _ (lexes.open_string raw text s data' fits stop) =
+      grind (arith, string_reads raw text s data' fits, reads_open at (at + 1 + length raw) (length text) s stop, here)
+  refuses_is _ _ _ (lexes.lone_dollar s stop) = grind (arith, glyph_cut, here)
+  refuses_is _ _ _ (lexes.large_glyph d ds s e long over) =
+      grind (arith, glyph_cut first at (d ∷ ds) s (both_true e long.0) long.1, number_long, here)
+  refuses_is _ _ _ (lexes.bad_suffix run s long many) = bad_run run s long many
     where
-      bad_run : (run s : List ℕ) → IsRun is_suffix run s → 2 < length run → tokens_from at (within_of (rules.outside first)) (run ++ s) ≡ record { at = at + 0; kind = tokens.refused BadSuffix } ∷ []
+      bad_run : (run s : List ℕ) → IsRun is_suffix run s → 2 < length run
+          → tokens_from at (within_of (lexes.outside first)) (run ++ s) ≡ record { at = at + 0; kind = tokens.refused BadSuffix } ∷ []
       bad_run [] s long many = absurd (omega arith)
       bad_run (a ∷ []) s long many = absurd (omega arith)
       bad_run (a ∷ b ∷ []) s long many = absurd (omega arith)
@@ -265,24 +246,27 @@ module _ (first : Bool) (at : ℕ) where
 
 -- the tokens of a cut are those of the text
 pub cuts_is : (w : Where) (at : ℕ) (s : List ℕ) (ts : List Token) → Cuts w at s ts → ts ≡ tokens_from at (within_of w) s
-cuts_is _ _ _ _ (rules.ends true at) = refl
-cuts_is _ _ _ _ (rules.ends false at) = refl
-cuts_is _ _ _ _ (rules.space first at b s ts e more) = cuts_is _ _ _ _ more ∙ sym (space_skips first at b s e)
-cuts_is _ _ _ _ (rules.escape_line at run s ts long more) = cuts_is _ _ _ _ more ∙ sym (escape_line_cut at run s long.0 long.1)
-cuts_is _ _ _ _ (rules.stray_percent at s) = refl
-cuts_is _ _ _ _ (rules.token first at run s k ts spelled more) = ap (λ ts. record { at = at; kind = k } ∷ ts) (cuts_is _ _ _ _ more) ∙ sym (spells_is first at run s k spelled)
-cuts_is _ _ _ _ (rules.refuses first at n s r bad) = sym (refuses_is first at s n r bad)
-cuts_is _ _ _ _ (rules.opens_brace first at s ts more) = ap (λ ts. record { at = at; kind = tokens.comment_open } ∷ ts) (cuts_is _ _ _ _ more) ∙ sym (from_class first at 123 s _ refl (λ e. cc))
-cuts_is _ _ _ _ (rules.opens_line first at s ts more) = ap (λ ts. record { at = at; kind = tokens.comment_open } ∷ ts) (cuts_is _ _ _ _ more) ∙ sym (from_class first at 59 s _ refl (λ e. cc))
-cuts_is _ _ _ _ (rules.open_at_end at) = refl
-cuts_is _ _ _ _ (rules.closed_at_end at) = refl
-cuts_is _ _ _ _ (rules.between_words braces at b s ts e other more) = cuts_is _ _ _ _ more ∙ sym (blank_in_comment braces at b s e other)
-cuts_is _ _ _ _ (rules.word braces at b run s ts e long fits more) =
+cuts_is _ _ _ _ (lexes.ends true at) = refl
+cuts_is _ _ _ _ (lexes.ends false at) = refl
+cuts_is _ _ _ _ (lexes.space first at b s ts e more) = cuts_is _ _ _ _ more ∙ sym (space_skips first at b s e)
+cuts_is _ _ _ _ (lexes.escape_line at run s ts long more) = cuts_is _ _ _ _ more ∙ sym (escape_line_cut at run s long.0 long.1)
+cuts_is _ _ _ _ (lexes.stray_percent at s) = refl
+cuts_is _ _ _ _ (lexes.token first at run s k ts spelled more) =
+    ap (λ ts. record { at = at; kind = k } ∷ ts) (cuts_is _ _ _ _ more) ∙ sym (spells_is first at run s k spelled)
+cuts_is _ _ _ _ (lexes.refuses first at n s r bad) = sym (refuses_is first at s n r bad)
+cuts_is _ _ _ _ (lexes.opens_brace first at s ts more) =
+    ap (λ ts. record { at = at; kind = tokens.comment_open } ∷ ts) (cuts_is _ _ _ _ more) ∙ sym (from_class first at 123 s _ refl (λ e. cc))
+cuts_is _ _ _ _ (lexes.opens_line first at s ts more) =
+    ap (λ ts. record { at = at; kind = tokens.comment_open } ∷ ts) (cuts_is _ _ _ _ more) ∙ sym (from_class first at 59 s _ refl (λ e. cc))
+cuts_is _ _ _ _ (lexes.open_at_end at) = refl
+cuts_is _ _ _ _ (lexes.closed_at_end at) = refl
+cuts_is _ _ _ _ (lexes.between_words braces at b s ts e other more) = cuts_is _ _ _ _ more ∙ sym (blank_in_comment braces at b s e other)
+cuts_is _ _ _ _ (lexes.word braces at b run s ts e long fits more) =
     ap (λ ts. record { at = at; kind = tokens.word (b ∷ run) } ∷ ts) (cuts_is _ _ _ _ more)
-    ∙ sym (word_cut braces at b run s e long.0 long.1 ∙ ap (λ f. onto at f (tokens_from (at + 1 + length run) (within_of (rules.comment braces)) s)) (word_fits at _ fits))
-cuts_is _ _ _ _ (rules.long_word braces at b run s e long over) =
-    sym (word_cut braces at b run s e long.0 long.1 ∙ ap (λ f. onto at f (tokens_from (at + 1 + length run) (within_of (rules.comment braces)) s)) (word_long at (b ∷ run) over))
-cuts_is _ _ _ _ (rules.control_in_comment braces at b s e) = sym (control_in_comment braces at b s e)
-cuts_is _ _ _ _ (rules.closes_brace at s ts more) = ap (λ ts. record { at = at; kind = tokens.comment_close } ∷ ts) (cuts_is _ _ _ _ more)
-cuts_is _ _ _ _ (rules.brace_in_line at s) = refl
-cuts_is _ _ _ _ (rules.closes_line at b s ts e more) = ap (λ ts. record { at = at; kind = tokens.comment_close } ∷ ts) (cuts_is _ _ _ _ more) ∙ sym (line_closes at b s e)
+    ∙ sym (word_cut braces at b run s e long.0 long.1 ∙ ap (λ f. onto at f (tokens_from (at + 1 + length run) (within_of (lexes.comment braces)) s)) (word_fits at _ fits))
+cuts_is _ _ _ _ (lexes.long_word braces at b run s e long over) = grind (arith, word_cut, word_long)
+cuts_is _ _ _ _ (lexes.control_in_comment braces at b s e) = sym (control_in_comment braces at b s e)
+cuts_is _ _ _ _ (lexes.closes_brace at s ts more) = ap (λ ts. record { at = at; kind = tokens.comment_close } ∷ ts) (cuts_is _ _ _ _ more)
+cuts_is _ _ _ _ (lexes.brace_in_line at s) = refl
+cuts_is _ _ _ _ (lexes.closes_line at b s ts e more) =
+    ap (λ ts. record { at = at; kind = tokens.comment_close } ∷ ts) (cuts_is _ _ _ _ more) ∙ sym (line_closes at b s e)

@@ -1,8 +1,8 @@
 -- The tokens behind a symbol or an asterisk, and those behind white space.
-use Rattle.pgn_lexer.proofs.Words.{◌≡◌, ℕ, zero, suc, ◌+◌, Bool, true, false, cond, ◌&&◌, List, [], ◌∷◌, ◌++◌, length, refl, sym, ap, ◌∙◌, arith, append_assoc, subst, length-append, take_while, drop, nat_le, replicate, None, ◌==◌, if◌then◌else◌, length-replicate, take_while-cons, Class, Single, CommentClass, SymbolTooLong, continues_symbol, Kind, Token, EndsAt, symbol, glyph, LineStart, Outside, PartialToken, coming, StandsAfter, CanBeMarker, TextsRestart, class, Found, gives, stops, closed, broken, Reading, kind_of_single, symbol_at, string_at, glyph_at, suffix_at, number_of, Within, after_class, after_run, begins_class, begins_first, begins_after, begins_word, begins_brace, begins_line, begins, next, onto, at_end, tokens_from, tokens_of, has_mark}
+use Rattle.std.proofs.lemmas.Grind.{common_steps}
+use Rattle.std.proofs.lemmas.Bool.Decides.{nat_tests}
+use Rattle.pgn_lexer.proofs.Words.{◌≡◌, ℕ, zero, suc, ◌+◌, Bool, true, false, cond, List, [], ◌∷◌, ◌++◌, length, refl, sym, ap, ◌∙◌, arith, append_assoc, subst, length-append, take_while, drop, replicate, None, ◌==◌, if◌then◌else◌, length-replicate, take_while-cons, Class, Single, CommentClass, continues_symbol, Token, EndsAt, Start, LineStart, Outside, PartialToken, coming, StandsAfter, CanBeMarker, TextsRestart, class, Found, gives, stops, Reading, kind_of_single, symbol_at, string_at, glyph_at, suffix_at, Within, after_class, after_run, begins_class, begins_first, begins_after, begins_brace, begins_line, begins, next, onto, at_end, tokens_from, tokens_of, has_mark}
 use Rattle.pgn_lexer.specs.declared.class.Class.TheVariants as classes
-use Rattle.pgn_lexer.specs.declared.class.Single.TheVariants as singles
-use Rattle.pgn_lexer.specs.declared.class.CommentClass.TheVariants as comments
 use Rattle.pgn_lexer.specs.WhiteSpace.{white_space}
 use Rattle.pgn_lexer.specs.Spelling as spelling
 use Rattle.pgn_lexer.specs.TokensOf as places
@@ -11,14 +11,12 @@ use Rattle.pgn_lexer.specs.TokensOf as places
 abbrev Behind : ℕ → List ℕ → List ℕ → List Token
 Behind at s run = tokens_from (at + length run) places.outside (drop (length run) s)
 
-behind_byte : (at : ℕ) (b : ℕ) (bs : List ℕ) (c : Bool) → take_while continues_symbol (b ∷ bs) ≡ cond c (b ∷ take_while continues_symbol bs) []
+behind_byte : (at : ℕ) (b : ℕ) (bs : List ℕ) (c : Bool)
+    → take_while continues_symbol (b ∷ bs) ≡ cond c (b ∷ take_while continues_symbol bs) []
     → tokens_from (at + 1) places.in_symbol bs ≡ Behind (at + 1) bs (take_while continues_symbol bs)
     → onto at (begins_after c at (class b) b bs) (tokens_from (at + 1) (after_run c places.in_symbol (class b)) bs)
     ≡ Behind at (b ∷ bs) (take_while continues_symbol (b ∷ bs))
-behind_byte at b bs true run more =
-    more
-    ∙ ap (λ n. tokens_from n places.outside (drop (length (take_while continues_symbol bs)) bs)) (omega arith)
-    ∙ ap (Behind at (b ∷ bs)) (sym run)
+behind_byte at b bs true run more = grind arith
 behind_byte at b bs false run more =
     ap (λ n. onto n (begins_class n (class b) b bs) (tokens_from (n + 1) (after_class (class b)) bs)) (omega arith)
     ∙ ap (Behind at (b ∷ bs)) (sym run)
@@ -44,113 +42,46 @@ FoundGoesOn at b bs spelling.nothing rest = Unit {0}
 FoundGoesOn at b bs (gives k) rest = GoesOn at (b ∷ bs) (record { at = at; kind = k }) rest
 FoundGoesOn at b bs (stops place r) rest = Unit {0}
 
--- a token of another kind finishes no game
-found_if : (at b : ℕ) (bs : List ℕ) (k : Kind) (stop : Found) (rest : List Token) (c : Bool) → (CanBeMarker k → ⊥) → FoundGoesOn at b bs stop rest
-    → FoundGoesOn at b bs (if c then gives k else stop) rest
-found_if at b bs k stop rest true other none = λ behind ends can. absurd (other can)
-found_if at b bs k stop rest false other none = none
-
 symbol_goes_on : (at b : ℕ) (bs : List ℕ)
     → FoundGoesOn at b bs (symbol_at at (b ∷ take_while continues_symbol bs)) (tokens_from (at + 1) places.in_symbol bs)
-symbol_goes_on at b bs = by_length _
-  where
-    n : ℕ
-    n = length (take_while continues_symbol bs)
-
-    by_length : (c : Bool) → FoundGoesOn at b bs (if c then gives (symbol (b ∷ take_while continues_symbol bs)) else stops at SymbolTooLong) (tokens_from (at + 1) places.in_symbol bs)
-    by_length true = λ behind ends can. (
-      n,
-      ends,
-      behind_run (at + 1) bs ∙ ap (λ place. tokens_from place places.outside (drop n bs)) (omega (arith, ends)),
-    )
-    by_length false = tt
+symbol_goes_on at b bs = grind (arith, behind_run)
 
 single_goes_on : (at b : ℕ) (bs : List ℕ) (s : Single) → FoundGoesOn at b bs (gives (kind_of_single s)) (tokens_from (at + 1) places.outside bs)
-single_goes_on at b bs singles.LeftBracket = λ behind ends can. absurd can
-single_goes_on at b bs singles.RightBracket = λ behind ends can. absurd can
-single_goes_on at b bs singles.LeftParen = λ behind ends can. absurd can
-single_goes_on at b bs singles.RightParen = λ behind ends can. absurd can
-single_goes_on at b bs singles.Period = λ behind ends can. absurd can
-single_goes_on at b bs singles.Asterisk = λ behind ends can.
-    (zero, ends, ap (λ place. tokens_from place places.outside bs) (sym ends))
+single_goes_on at b bs s = grind arith
 
 string_goes_on : (at b : ℕ) (bs : List ℕ) (r : Reading) (rest : List Token) → FoundGoesOn at b bs (string_at r) rest
-string_goes_on at b bs (closed text) rest = λ behind ends can. absurd can
-string_goes_on at b bs (broken place r) rest = tt
+string_goes_on at b bs r rest = grind arith
 
 glyph_goes_on : (at b : ℕ) (bs ds : List ℕ) (rest : List Token) → FoundGoesOn at b bs (glyph_at at ds) rest
-glyph_goes_on at b bs [] rest = tt
-glyph_goes_on at b bs (d ∷ ds) rest = found_if at b bs _ _ rest (nat_le (number_of (d ∷ ds)) 255) (λ can. can) tt
+glyph_goes_on at b bs ds rest = grind arith
 
 suffix_goes_on : (at b : ℕ) (bs run : List ℕ) (rest : List Token) → FoundGoesOn at b bs (suffix_at at run) rest
-suffix_goes_on at b bs [] rest = tt
-suffix_goes_on at b bs (c ∷ []) rest = cases _
-  where
-    cases : (one : Bool) → FoundGoesOn at b bs (if one then gives (glyph 1) else gives (glyph 2)) rest
-    cases true = λ behind ends can. absurd can
-    cases false = λ behind ends can. absurd can
-suffix_goes_on at b bs (c ∷ d ∷ []) rest = cases _ _
-  where
-    cases : (one two : Bool) → FoundGoesOn at b bs (if one then (if two then gives (glyph 3) else gives (glyph 5)) else (if two then gives (glyph 6) else gives (glyph 4))) rest
-    cases true true = λ behind ends can. absurd can
-    cases true false = λ behind ends can. absurd can
-    cases false true = λ behind ends can. absurd can
-    cases false false = λ behind ends can. absurd can
-suffix_goes_on at b bs (c ∷ d ∷ e ∷ run) rest = tt
+suffix_goes_on at b bs run rest = grind arith
 
-class_goes_on : (at : ℕ) (c : Class) (b : ℕ) (bs : List ℕ) → FoundGoesOn at b bs (begins_class at c b bs) (tokens_from (at + 1) (after_class c) bs)
-class_goes_on at classes.LineEnd b bs = tt
-class_goes_on at classes.Space b bs = tt
-class_goes_on at classes.Percent b bs = tt
-class_goes_on at classes.SymbolStart b bs = symbol_goes_on at b bs
-class_goes_on at classes.Quote b bs = string_goes_on at b bs _ _
-class_goes_on at classes.Dollar b bs = glyph_goes_on at b bs (take_while _ bs) _
-class_goes_on at classes.Suffix b bs = suffix_goes_on at b bs (b ∷ take_while _ bs) _
-class_goes_on at classes.OpenBrace b bs = λ behind ends can. absurd can
-class_goes_on at classes.Semicolon b bs = λ behind ends can. absurd can
-class_goes_on at (classes.Alone s) b bs = single_goes_on at b bs s
-class_goes_on at (classes.Refused r) b bs = tt
+class_goes_on : (at : ℕ) (c : Class) (b : ℕ) (bs : List ℕ)
+    → FoundGoesOn at b bs (begins_class at c b bs) (tokens_from (at + 1) (after_class c) bs)
+class_goes_on at c b bs = grind (arith, symbol_goes_on, string_goes_on, glyph_goes_on, suffix_goes_on, single_goes_on)
 
-first_goes_on : (at : ℕ) (c : Class) (b : ℕ) (bs : List ℕ) → FoundGoesOn at b bs (begins_first at c b bs) (tokens_from (at + 1) (places.after_first c) bs)
+first_goes_on : (at : ℕ) (c : Class) (b : ℕ) (bs : List ℕ)
+    → FoundGoesOn at b bs (begins_first at c b bs) (tokens_from (at + 1) (places.after_first c) bs)
 first_goes_on at classes.Percent b bs = tt
 first_goes_on at c b bs = class_goes_on at c b bs
 
 run_goes_on : (at : ℕ) (goes : Bool) (within : Within) (c : Class) (b : ℕ) (bs : List ℕ)
     → FoundGoesOn at b bs (begins_after goes at c b bs) (tokens_from (at + 1) (after_run goes within c) bs)
-run_goes_on at true within c b bs = tt
-run_goes_on at false within c b bs = class_goes_on at c b bs
+run_goes_on at goes within c b bs = grind (arith, class_goes_on)
 
-word_goes_on : (at : ℕ) (goes : Bool) (b : ℕ) (bs : List ℕ) (rest : List Token) → FoundGoesOn at b bs (begins_word at goes b bs) rest
-word_goes_on at true b bs rest = tt
-word_goes_on at false b bs rest = found_if at b bs _ _ rest (nat_le (length (b ∷ take_while _ bs)) 79) (λ can. can) tt
+brace_goes_on : (at : ℕ) (goes : Bool) (c : CommentClass) (b : ℕ) (bs : List ℕ) (rest : List Token)
+    → FoundGoesOn at b bs (begins_brace at goes c b bs) rest
+brace_goes_on at goes c b bs rest = grind arith
 
-brace_goes_on : (at : ℕ) (goes : Bool) (c : CommentClass) (b : ℕ) (bs : List ℕ) (rest : List Token) → FoundGoesOn at b bs (begins_brace at goes c b bs) rest
-brace_goes_on at goes comments.LineEnd b bs rest = tt
-brace_goes_on at goes comments.Space b bs rest = tt
-brace_goes_on at goes comments.CloseBrace b bs rest = λ behind ends can. absurd can
-brace_goes_on at goes comments.WordByte b bs rest = word_goes_on at goes b bs rest
-brace_goes_on at goes comments.Control b bs rest = tt
+line_goes_on : (at : ℕ) (goes : Bool) (c : CommentClass) (b : ℕ) (bs : List ℕ) (rest : List Token)
+    → FoundGoesOn at b bs (begins_line at goes c b bs) rest
+line_goes_on at goes c b bs rest = grind arith
 
-line_goes_on : (at : ℕ) (goes : Bool) (c : CommentClass) (b : ℕ) (bs : List ℕ) (rest : List Token) → FoundGoesOn at b bs (begins_line at goes c b bs) rest
-line_goes_on at goes comments.LineEnd b bs rest = λ behind ends can. absurd can
-line_goes_on at goes comments.Space b bs rest = tt
-line_goes_on at goes comments.CloseBrace b bs rest = tt
-line_goes_on at goes comments.WordByte b bs rest = word_goes_on at goes b bs rest
-line_goes_on at goes comments.Control b bs rest = tt
-
-begins_goes_on : (at : ℕ) (within : Within) (b : ℕ) (bs : List ℕ) → FoundGoesOn at b bs (begins at within b bs) (tokens_from (at + 1) (next within b) bs)
-begins_goes_on at places.column b bs = first_goes_on at _ b bs
-begins_goes_on at places.outside b bs = class_goes_on at _ b bs
-begins_goes_on at places.in_escape_line b bs = tt
-begins_goes_on at places.in_symbol b bs = run_goes_on at _ _ _ b bs
-begins_goes_on at places.in_glyph b bs = run_goes_on at _ _ _ b bs
-begins_goes_on at places.in_suffix b bs = run_goes_on at _ _ _ b bs
-begins_goes_on at places.quotes b bs = tt
-begins_goes_on at places.backslash b bs = tt
-begins_goes_on at places.brace b bs = brace_goes_on at false _ b bs _
-begins_goes_on at places.brace_word b bs = brace_goes_on at true _ b bs _
-begins_goes_on at places.line b bs = line_goes_on at false _ b bs _
-begins_goes_on at places.line_word b bs = line_goes_on at true _ b bs _
+begins_goes_on : (at : ℕ) (within : Within) (b : ℕ) (bs : List ℕ)
+    → FoundGoesOn at b bs (begins at within b bs) (tokens_from (at + 1) (next within b) bs)
+begins_goes_on at within b bs = grind (arith, first_goes_on, class_goes_on, run_goes_on, brace_goes_on, line_goes_on)
 
 -- a byte before the text
 one_before : (at b : ℕ) (bs : List ℕ) (ts : List Token) → AllGoOn (at + 1) bs ts → AllGoOn at (b ∷ bs) ts
@@ -160,24 +91,12 @@ one_before at b bs (t ∷ ts) all = (here, one_before at b bs ts all.1)
     here : GoesOn at (b ∷ bs) t ts
     here behind ends can = let later = all.0 behind ends can in (suc later.0, omega (arith, later.1), later.2)
 
-onto_goes_on : (at b : ℕ) (bs : List ℕ) (f : Found) (ts : List Token) → FoundGoesOn at b bs f ts → AllGoOn (at + 1) bs ts → AllGoOn at (b ∷ bs) (onto at f ts)
-onto_goes_on at b bs spelling.nothing ts found all = one_before at b bs ts all
-onto_goes_on at b bs (gives k) ts found all = (found, one_before at b bs ts all)
-onto_goes_on at b bs (stops place r) ts found all = ((λ behind ends can. absurd can), tt)
+onto_goes_on : (at b : ℕ) (bs : List ℕ) (f : Found) (ts : List Token) → FoundGoesOn at b bs f ts → AllGoOn (at + 1) bs ts
+    → AllGoOn at (b ∷ bs) (onto at f ts)
+onto_goes_on at b bs f ts h1 h2 = grind (arith, one_before)
 
 end_goes_on : (at : ℕ) (within : Within) → AllGoOn at [] (at_end at within)
-end_goes_on at places.column = ((λ behind ends can. absurd can), tt)
-end_goes_on at places.outside = ((λ behind ends can. absurd can), tt)
-end_goes_on at places.in_escape_line = ((λ behind ends can. absurd can), tt)
-end_goes_on at places.in_symbol = ((λ behind ends can. absurd can), tt)
-end_goes_on at places.in_glyph = ((λ behind ends can. absurd can), tt)
-end_goes_on at places.in_suffix = ((λ behind ends can. absurd can), tt)
-end_goes_on at places.quotes = ((λ behind ends can. absurd can), tt)
-end_goes_on at places.backslash = ((λ behind ends can. absurd can), tt)
-end_goes_on at places.brace = ((λ behind ends can. absurd can), tt)
-end_goes_on at places.brace_word = ((λ behind ends can. absurd can), tt)
-end_goes_on at places.line = ((λ behind ends can. absurd can), ((λ behind ends can. absurd can), tt))
-end_goes_on at places.line_word = ((λ behind ends can. absurd can), ((λ behind ends can. absurd can), tt))
+end_goes_on at within = grind arith
 
 all_go_on : (at : ℕ) (within : Within) (s : List ℕ) → AllGoOn at s (tokens_from at within s)
 all_go_on at within [] = end_goes_on at within
@@ -185,15 +104,16 @@ all_go_on at within (b ∷ bs) =
     onto_goes_on at b bs (begins at within b bs) (tokens_from (at + 1) (next within b) bs) (begins_goes_on at within b bs) (all_go_on (at + 1) (next within b) bs)
 
 -- the token at which a list is cut
-goes_on_at : (at : ℕ) (s : List ℕ) (given : List Token) (t : Token) (rest : List Token) → AllGoOn at s (given ++ t ∷ rest) → GoesOn at s t rest
+goes_on_at : (at : ℕ) (s : List ℕ) (given : List Token) (t : Token) (rest : List Token) → AllGoOn at s (given ++ t ∷ rest)
+    → GoesOn at s t rest
 goes_on_at at s [] t rest all = all.0
 goes_on_at at s (g ∷ given) t rest all = goes_on_at at s given t rest all.1
 
 -- ---- White space
 
 behind_spaces : (n at : ℕ) (s : List ℕ) → tokens_from at places.outside (replicate n 32 ++ s) ≡ tokens_from (at + n) places.outside s
-behind_spaces zero at s = ap (λ place. tokens_from place _ s) (omega arith)
-behind_spaces (suc n) at s = behind_spaces n _ s ∙ ap (λ place. tokens_from place places.outside s) (omega arith)
+behind_spaces zero at s = grind arith
+behind_spaces (suc n) at s = grind (arith, behind_spaces n)
 
 -- what the place behind white space is inside of
 abbrev pub column_or_outside : Bool → Within
@@ -206,15 +126,12 @@ last_white_space at true s = refl
 last_white_space at false s = refl
 
 no_mark : (b : ℕ) (s : List ℕ) → (b == 239) ≡ false → has_mark (b ∷ s) ≡ false
-no_mark b [] other = refl
-no_mark b (c ∷ []) other = refl
-no_mark b (c ∷ d ∷ s) other = ap (λ e. (e && (c == 187)) && (d == 191)) other
+no_mark b s h1 = grind arith
 
-pub behind_white_space : (n : ℕ) (first : Bool) (s : List ℕ) → tokens_of (white_space (suc n) first ++ s) ≡ tokens_from (suc n) (column_or_outside first) s
-behind_white_space zero true s =
-    ap (λ m. elim m [ true ↦ tokens_from 3 places.column (drop 3 (10 ∷ s)) | false ↦ tokens_from 0 places.column (10 ∷ s) ]) (no_mark 10 s refl)
-behind_white_space zero false s =
-    ap (λ m. elim m [ true ↦ tokens_from 3 places.column (drop 3 (32 ∷ s)) | false ↦ tokens_from 0 places.column (32 ∷ s) ]) (no_mark 32 s refl)
+pub behind_white_space : (n : ℕ) (first : Bool) (s : List ℕ)
+    → tokens_of (white_space (suc n) first ++ s) ≡ tokens_from (suc n) (column_or_outside first) s
+behind_white_space zero true s = grind arith
+behind_white_space zero false s = grind arith
 behind_white_space (suc n) first s =
     ap (λ m. elim m [ true ↦ tokens_from 3 places.column (drop 3 (white_space (suc (suc n)) first ++ s)) | false ↦ tokens_from 0 places.column (white_space (suc (suc n)) first ++ s) ])
     (no_mark 32 ((replicate n 32 ++ last ∷ []) ++ s) refl)
@@ -244,8 +161,7 @@ texts_restart u s given rest t cut ends can = by_mark _ refl
   where
     of_mark : (m : Bool) → has_mark (u ++ s) ≡ m
         → tokens_of (u ++ s) ≡ elim m [ true ↦ tokens_from 3 places.column (drop 3 (u ++ s)) | false ↦ tokens_from 0 places.column (u ++ s) ]
-    of_mark m mark =
-        ap (λ m. elim m [ true ↦ tokens_from 3 places.column (drop 3 (u ++ s)) | false ↦ tokens_from 0 places.column (u ++ s) ]) mark
+    of_mark m mark = cc mark
 
     closing : (k : ℕ) → AllGoOn k (drop k (u ++ s)) (given ++ t ∷ rest) → rest ≡ tokens_of (white_space (length u) false ++ s)
     closing k all =
@@ -258,30 +174,37 @@ texts_restart u s given rest t cut ends can = by_mark _ refl
         ∙ ap (λ n. tokens_of (white_space n false ++ s)) (sym many)
 
     by_mark : (m : Bool) → has_mark (u ++ s) ≡ m → rest ≡ tokens_of (white_space (length u) false ++ s)
-    by_mark true mark = closing 3 (subst (AllGoOn 3 (drop 3 (u ++ s))) (sym (of_mark true mark) ∙ cut) (all_go_on 3 places.column (drop 3 (u ++ s))))
+    by_mark true mark =
+        closing 3 (subst (AllGoOn 3 (drop 3 (u ++ s))) (sym (of_mark true mark) ∙ cut) (all_go_on 3 places.column (drop 3 (u ++ s))))
     by_mark false mark = closing 0 (subst (AllGoOn 0 (u ++ s)) (sym (of_mark false mark) ∙ cut) (all_go_on 0 places.column (u ++ s)))
 
 -- ---- A lexer that begins there
 
 length_of_white_space : (n : ℕ) (first : Bool) → suc n ≡ length (white_space (suc n) first)
-length_of_white_space n first = sym (length-append (replicate n 32) ((if first then 10 else 32) ∷ []) ∙ ap (λ k. k + 1) (length-replicate n 32) ∙ omega arith)
+length_of_white_space n first = grind (arith, length-append, length-replicate)
 
 -- what is held outside all tokens
 abbrev pub between : Bool → PartialToken
 between first = record { mode = if first then LineStart else Outside; at = 0; text = [] }
 
-coming_between : (n : ℕ) (first : Bool) (s : List ℕ) → tokens_from n (column_or_outside first) s ≡ coming (record { count = n; held = between first }) s
-coming_between n true s = refl
-coming_between n false s = refl
+coming_between : (n : ℕ) (first : Bool) (s : List ℕ)
+    → tokens_from n (column_or_outside first) s ≡ coming (record { count = n; held = between first }) s
+coming_between n first s = grind arith
 
 begins_later : (n : ℕ) (first : Bool) → StandsAfter (record { count = suc n; held = between first }) (white_space (suc n) first) None []
-begins_later n first = record {
-  count = length_of_white_space n first;
-  before = tt;
-  tokens = λ s follows. behind_white_space n first s ∙ coming_between _ first s;
-}
+begins_later n first = grind (arith, length_of_white_space, behind_white_space, coming_between)
 
-pub begins_behind : (place : ℕ) (first : Bool) (h : PartialToken) → (place ≡ 0 → ⊥) → h ≡ between first
+starts_first : StandsAfter (record { count = 0; held = record { mode = Start; at = 0; text = [] } }) [] None []
+starts_first = record { count = refl; before = tt; tokens = λ s f. refl }
+
+-- what is held outside all tokens, at the start or behind it
+abbrev pub held_at : Bool → Bool → PartialToken
+held_at is_start first = record { mode = if is_start then Start else if first then LineStart else Outside; at = 0; text = [] }
+
+pub begins_at : (place : ℕ) (first : Bool) (h : PartialToken) → h ≡ held_at (place == 0) first
     → StandsAfter (record { count = place; held = h }) (white_space place first) None []
-begins_behind zero first h some is = absurd (some refl)
-begins_behind (suc n) first h some is = subst (λ h. StandsAfter (record { count = suc n; held = h }) (white_space (suc n) first) None []) (sym is) (begins_later n first)
+begins_at zero first h same = subst (λ (h : PartialToken). StandsAfter (record { count = 0; held = h }) [] None []) (sym same) starts_first
+begins_at (suc n) first h same =
+    let later : (suc n == 0) ≡ false = grind (arith, nat_tests) in
+    let held : h ≡ between first = same ∙ ap (λ (b : Bool). held_at b first) later in
+    subst (λ (h : PartialToken). StandsAfter (record { count = suc n; held = h }) (white_space (suc n) first) None []) (sym held) (begins_later n first)

@@ -1,6 +1,6 @@
 -- Written tokens, read back.
-use Rattle.pgn_lexer.proofs.Words.{◌≡◌, ℕ, ◌+◌, ◌≤◌, Bool, true, false, not, List, [], ◌∷◌, ◌++◌, length, refl, sym, ap, subst, ◌∙◌, arith, ◌||◌, ◌&&◌, map, ◌==◌, if◌then◌else◌, AllByRecursion, list_all, eqb-true, false≢true, is_space, is_digit, starts_symbol, continues_symbol, continues_word, PiecesAreReadBack, KindsAreReadBack, StopsAt, is_escaped, is_barred, is_plain, Data, SpellsToken, Where, Cuts, Lexes, IsSymbol, IsWord, CommentsClose, Kind, Token, has_mark, written, Piece, token, space, text_of_pieces, kinds_in, tokens_at, IsPiece, IsEndedBy, AreEnded, IsReadable, and_parts}
-use Rattle.pgn_lexer.specs.Lexes as rules
+use Rattle.pgn_lexer.proofs.Words.{◌≡◌, ℕ, ◌+◌, ◌≤◌, Bool, true, false, not, List, [], ◌∷◌, ◌++◌, length, refl, sym, ap, ◌∙◌, arith, ◌||◌, map, ◌==◌, if◌then◌else◌, AllByRecursion, list_all, is_space, is_digit, continues_symbol, continues_word, PiecesAreReadBack, KindsAreReadBack, StopsAt, is_escaped, is_barred, is_plain, Data, SpellsToken, Where, Cuts, Lexes, IsSymbol, IsWord, CommentsClose, Kind, Token, has_mark, written, Piece, token, space, text_of_pieces, kinds_in, tokens_at, IsPiece, IsEndedBy, AreEnded, IsReadable, and_parts}
+use Rattle.pgn_lexer.specs.Lexes as lexes
 use Rattle.pgn_lexer.specs.Tokens as tokens
 use Rattle.pgn_lexer.specs.Written.{escaped}
 use Rattle.pgn_lexer.proofs.cutting.EachTextIsCut.{lexes_once}
@@ -8,39 +8,37 @@ use Rattle.pgn_lexer.proofs.bytes.DecimalsAreSymbols.{IsNumber, number_written}
 
 -- data with their escapes
 plain_from : (x y : Bool) → not x ≡ true → y ≡ false → not (x || y) ≡ true
-plain_from true y other none = other
-plain_from false true other none = absurd (false≢true (sym none))
-plain_from false false other none = refl
+plain_from x y h1 h2 = grind arith
 
 escaped_data : (text s : List ℕ) → list_all (λ b. not (is_barred b)) text ≡ true
     → Data (escaped text) text s
-escaped_data [] s all = rules.no_data s
+escaped_data [] s all = lexes.no_data s
 escaped_data (b ∷ bs) s all =
     cases _ refl (escaped_data bs s (and_parts _ _ all).1)
   where
     cases : (e : Bool) → is_escaped b ≡ e → Data (escaped bs) bs s
         → Data ((if e then 92 ∷ b ∷ [] else b ∷ []) ++ escaped bs) (b ∷ bs) s
-    cases true e more = rules.escaped b _ bs s e more
+    cases true e more = lexes.escaped b _ bs s e more
     cases false e more =
         let bare : is_plain b ≡ true =
         plain_from (is_barred b) (is_escaped b) (and_parts _ _ all).0 e in
-        rules.plain b _ bs s bare more
+        lexes.plain b _ bs s bare more
 
 -- tokens outside comments
 spelled_symbol : (text s : List ℕ) → IsSymbol text → StopsAt continues_symbol s
     → SpellsToken text s (tokens.symbol text)
-spelled_symbol [] s h stop = absurd (false≢true h.begins)
+spelled_symbol [] s h stop = cc h.begins
 spelled_symbol (b ∷ bs) s h stop =
     let all = and_parts (continues_symbol b) (list_all _ bs) h.bytes in
-    rules.symbol b bs s h.begins (all.1, stop) h.fits
+    lexes.symbol b bs s h.begins (all.1, stop) h.fits
 
 spelled_glyph : (n : ℕ) (ds s : List ℕ) → IsNumber n ds → n ≤ 255 → StopsAt is_digit s
     → SpellsToken (36 ∷ ds) s (tokens.glyph n)
 spelled_glyph n [] s h fits stop = absurd (omega (arith, h.some))
 spelled_glyph n (d ∷ ds) s h fits stop =
     let all = and_parts (is_digit d) (list_all _ ds) h.digits in
-    subst (λ m. SpellsToken (36 ∷ d ∷ ds) s (tokens.glyph m)) h.value
-    (rules.glyph d ds s all.0 (all.1, stop) (omega (arith, h.value)))
+    rw h.value at
+    (lexes.glyph d ds s all.0 (all.1, stop) (omega (arith, h.value)))
 
 abbrev IsOutside : Kind → Type 0
 IsOutside tokens.comment_open = ⊥
@@ -50,17 +48,16 @@ IsOutside _ = Unit {0}
 
 spelled : (k : Kind) (s : List ℕ) → IsOutside k → IsPiece (token k) → IsEndedBy s k
     → SpellsToken (written k) s k
-spelled tokens.left_bracket s out h end = rules.single 91 s _ rules.left_bracket
-spelled tokens.right_bracket s out h end = rules.single 93 s _ rules.right_bracket
-spelled tokens.left_paren s out h end = rules.single 40 s _ rules.left_paren
-spelled tokens.right_paren s out h end = rules.single 41 s _ rules.right_paren
-spelled tokens.period s out h end = rules.single 46 s _ rules.period
-spelled tokens.asterisk s out h end = rules.single 42 s _ rules.asterisk
+spelled tokens.left_bracket s out h end = lexes.single 91 s _ lexes.left_bracket
+spelled tokens.right_bracket s out h end = lexes.single 93 s _ lexes.right_bracket
+spelled tokens.left_paren s out h end = lexes.single 40 s _ lexes.left_paren
+spelled tokens.right_paren s out h end = lexes.single 41 s _ lexes.right_paren
+spelled tokens.period s out h end = lexes.single 46 s _ lexes.period
+spelled tokens.asterisk s out h end = lexes.single 42 s _ lexes.asterisk
 spelled (tokens.symbol text) s out h end = spelled_symbol text s h end
 spelled (tokens.str text) s out h end =
-    rules.string _ text s (escaped_data text _ h.bytes) h.fits
-spelled (tokens.glyph n) s out h end =
-    spelled_glyph n _ s (number_written n (omega (arith, h))) h end
+    lexes.string _ text s (escaped_data text _ h.bytes) h.fits
+spelled (tokens.glyph n) s out h end = grind (arith, spelled_glyph, number_written)
 spelled tokens.comment_open s out h end = absurd out
 spelled (tokens.word text) s out h end = absurd out
 spelled tokens.comment_close s out h end = absurd out
@@ -69,19 +66,19 @@ spelled (tokens.refused r) s out h end = absurd h
 
 -- a word inside a comment
 word_cut : (at : ℕ) (text s : List ℕ) (ts : List Token) → IsWord text → StopsAt continues_word s
-    → Cuts (rules.comment true) (at + length text) s ts
-    → Cuts (rules.comment true) at (text ++ s) (record { at = at; kind = tokens.word text } ∷ ts)
+    → Cuts (lexes.comment true) (at + length text) s ts
+    → Cuts (lexes.comment true) at (text ++ s) (record { at = at; kind = tokens.word text } ∷ ts)
 word_cut at [] s ts h stop more = absurd (omega (arith, h.some))
 word_cut at (b ∷ bs) s ts h stop more =
     let all = and_parts _ (list_all _ bs) h.bytes in
     let same : at + length (b ∷ bs) ≡ at + 1 + length bs = omega arith in
-    rules.word true at b bs s ts all.0 (all.1, stop) h.fits
-    (subst (λ n. Cuts (rules.comment true) n s ts) same more)
+    lexes.word true at b bs s ts all.0 (all.1, stop) h.fits
+    (rw same at more)
 
 -- the pieces from a place on, which may be inside a comment, or in the first column
 abbrev where_in : Bool → Bool → Where
-where_in false first = rules.outside first
-where_in true first = rules.comment true
+where_in false first = lexes.outside first
+where_in true first = lexes.comment true
 
 abbrev CutsPieces : Bool → Bool → ℕ → List Piece → Type 0
 CutsPieces inside first at ps =
@@ -91,21 +88,21 @@ cut_outside : (first : Bool) (at : ℕ) (k : Kind) (ps : List Piece) → IsOutsi
     → IsPiece (token k) → IsEndedBy (text_of_pieces ps) k
     → CutsPieces false false (at + length (written k)) ps → CutsPieces false first at (token k ∷ ps)
 cut_outside first at k ps out h end more =
-    rules.token first at _ _ k _
+    lexes.token first at _ _ k _
     (spelled k _ out h end) more
 
 cut_pieces : (ps : List Piece) (inside first : Bool) (at : ℕ) → AllByRecursion IsPiece ps
     → AreEnded ps → CommentsClose inside (kinds_in ps) → CutsPieces inside first at ps
-cut_pieces [] false first at all ended close = rules.ends first at
+cut_pieces [] false first at all ended close = lexes.ends first at
 cut_pieces [] true first at all ended close = absurd close
 cut_pieces (space b ∷ ps) false first at all ended close =
-    rules.space first at b _ _ all.0
+    lexes.space first at b _ _ all.0
     (cut_pieces ps false _ _ all.1 ended close)
 cut_pieces (space b ∷ ps) true first at all ended close =
-    rules.between_words true at b _ _ all.0 refl
+    lexes.between_words true at b _ _ all.0 refl
     (cut_pieces ps true first _ all.1 ended close)
 cut_pieces (token tokens.comment_open ∷ ps) false first at all ended close =
-    rules.opens_brace first at _ _ (cut_pieces ps true false _ all.1 ended.1 close)
+    lexes.opens_brace first at _ _ (cut_pieces ps true false _ all.1 ended.1 close)
 cut_pieces (token (tokens.word text) ∷ ps) false first at all ended close = absurd close
 cut_pieces (token tokens.comment_close ∷ ps) false first at all ended close = absurd close
 cut_pieces (token tokens.end ∷ ps) false first at all ended close = absurd all.0
@@ -117,27 +114,17 @@ cut_pieces (token (tokens.word text) ∷ ps) true first at all ended close =
     word_cut at text _ _ all.0 ended.0
     (cut_pieces ps true false _ all.1 ended.1 close)
 cut_pieces (token tokens.comment_close ∷ ps) true first at all ended close =
-    rules.closes_brace at _ _ (cut_pieces ps false false _ all.1 ended.1 close)
+    lexes.closes_brace at _ _ (cut_pieces ps false false _ all.1 ended.1 close)
 cut_pieces (token (tokens.refused r) ∷ ps) true first at all ended close = absurd all.0
 cut_pieces (token k ∷ ps) true first at all ended close = absurd close
 
 -- Such a text begins with no byte order mark.
 not_mark : (p : ℕ → Bool) (b : ℕ) (s : List ℕ) → p b ≡ true → p 239 ≡ false
     → has_mark (b ∷ s) ≡ false
-not_mark p b s passes other = by_byte s _ refl
-  where
-    no : (b == 239) ≡ true → ⊥
-    no same = false≢true (sym other ∙ sym (ap p (eqb-true b 239 same)) ∙ passes)
-
-    by_byte : (s : List ℕ) (e : Bool) → (b == 239) ≡ e → has_mark (b ∷ s) ≡ false
-    by_byte [] e same = refl
-    by_byte (c ∷ []) e same = refl
-    by_byte (c ∷ d ∷ s) true same = absurd (no same)
-    by_byte (c ∷ d ∷ s) false same = ap (λ x. (x && (c == 187)) && (d == 191)) same
+not_mark p b s passes other = grind arith
 
 symbol_no_mark : (text s : List ℕ) → IsSymbol text → has_mark (text ++ s) ≡ false
-symbol_no_mark [] s h = absurd (false≢true h.begins)
-symbol_no_mark (b ∷ bs) s h = not_mark starts_symbol b _ h.begins refl
+symbol_no_mark text s h1 = grind arith
 
 no_mark : (ps : List Piece) → AllByRecursion IsPiece ps → CommentsClose false (kinds_in ps)
     → has_mark (text_of_pieces ps) ≡ false
@@ -160,7 +147,7 @@ no_mark (token (tokens.refused r) ∷ ps) all close = absurd all.0
 
 lexed : (ps : List Piece) → IsReadable ps → Lexes (text_of_pieces ps) (tokens_at 0 ps)
 lexed ps h =
-    rules.unmarked _ _ (no_mark ps h.pieces h.comments)
+    lexes.unmarked _ _ (no_mark ps h.pieces h.comments)
     (cut_pieces ps false true 0 h.pieces h.ended h.comments)
 
 pub pieces_are_read_back : PiecesAreReadBack

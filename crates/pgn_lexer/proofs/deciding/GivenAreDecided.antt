@@ -1,11 +1,9 @@
 -- The tokens given are those that are decided.
-use Rattle.pgn_lexer.proofs.Words.{◌≡◌, ℕ, ◌+◌, ◌*◌, ◌≤◌, Bool, true, false, List, [], ◌∷◌, ◌++◌, length, sym, ap, ◌∙◌, append-nil, arith, length-append, Option, None, Some, if◌then◌else◌, SymbolTooLong, WordTooLong, GlyphRange, Mode, Kind, Token, symbol, glyph, word, end, refused, gives, stops, symbol_at, word_at, numbered_at, onto, tokens_of, common, decided, PartialToken, IsSound, HasNotFailed, tokens_to_come, tokens_to_come_in}
-use Rattle.pgn_lexer.specs.declared.partial_token.Mode.TheVariants as modes
-use Rattle.pgn_lexer.specs.declared.partial_token.SuffixRun.TheVariants as runs
+use Rattle.std.proofs.lemmas.Grind.{common_steps}
+use Rattle.pgn_lexer.proofs.Words.{◌≡◌, ℕ, ◌+◌, ◌*◌, ◌≤◌, Bool, List, [], ◌∷◌, ◌++◌, length, sym, ap, ◌∙◌, append-nil, arith, length-append, Option, None, Some, if◌then◌else◌, SymbolTooLong, WordTooLong, GlyphRange, Mode, Kind, Token, symbol, glyph, word, end, gives, stops, symbol_at, word_at, numbered_at, onto, tokens_of, common, decided, PartialToken, IsSound, HasNotFailed, tokens_to_come, tokens_to_come_in}
 use Rattle.pgn_lexer.proofs.deciding.CommonTokens.{common-append, common-refl, head, common_heads, no_head}
 use Rattle.pgn_lexer.proofs.stepping.ByteInSymbol.{symbol_fits}
 use Rattle.pgn_lexer.proofs.stepping.ByteInComment.{word_fits}
-use Rattle.pgn_lexer.proofs.stepping.ByteInGlyph.{number_fits}
 
 kind_at : Option Token → Kind
 kind_at None = end
@@ -20,119 +18,65 @@ text_in (symbol text) = text
 text_in (word text) = text
 text_in _ = []
 
-number_in : Kind → ℕ
-number_in (glyph n) = n
-number_in _ = 0
-
 -- two tokens that are one are of one kind
-one_kind : (at at' : ℕ) (k k' : Kind) (t : Token) → Some (record { at = at; kind = k }) ≡ Some t → Some (record { at = at'; kind = k' }) ≡ Some t → k ≡ k'
+one_kind : (at at' : ℕ) (k k' : Kind) (t : Token) → Some (record { at = at; kind = k }) ≡ Some t
+    → Some (record { at = at'; kind = k' }) ≡ Some t → k ≡ k'
 unfolding kind_at
 one_kind at at' k k' t e f = ap kind_at (e ∙ sym f)
 
-one_place : (at at' : ℕ) (k k' : Kind) (t : Token) → Some (record { at = at; kind = k }) ≡ Some t → Some (record { at = at'; kind = k' }) ≡ Some t → at ≡ at'
+one_place : (at at' : ℕ) (k k' : Kind) (t : Token) → Some (record { at = at; kind = k }) ≡ Some t
+    → Some (record { at = at'; kind = k' }) ≡ Some t → at ≡ at'
 unfolding place_at
 one_place at at' k k' t e f = ap place_at (e ∙ sym f)
 
 -- a text is not the same with a byte more
 symbol_apart : (text : List ℕ) (b : ℕ) → symbol text ≡ symbol (text ++ b ∷ []) → ⊥
 unfolding text_in
-symbol_apart text b e =
-    let same : length text ≡ length (text ++ b ∷ []) = ap (λ k. length (text_in k)) e in
-    omega (arith, length-append text (b ∷ []))
+symbol_apart text b e = grind (arith, common_steps, length-append)
 
 word_apart : (text : List ℕ) (b : ℕ) → word text ≡ word (text ++ b ∷ []) → ⊥
 unfolding text_in
-word_apart text b e =
-    let same : length text ≡ length (text ++ b ∷ []) = ap (λ k. length (text_in k)) e in
-    omega (arith, length-append text (b ∷ []))
-
-glyph_apart : (n : ℕ) → glyph n ≡ glyph (10 * n + 1) → ⊥
-unfolding number_in
-glyph_apart n e =
-    let same : n ≡ 10 * n + 1 = ap number_in e in
-    omega arith
+word_apart text b e = grind (arith, common_steps, length-append)
 
 -- what comes of a partial token with no byte more, and with 1 after it
 symbol_differs : (at : ℕ) (text : List ℕ) (is js : List Token) (t : Token) → length text ≤ 255 → (c : Bool)
-    → head (onto at (symbol_at at (text ++ [])) is) ≡ Some t → head (onto at (if c then gives (symbol (text ++ 49 ∷ [])) else stops at SymbolTooLong) js) ≡ Some t → ⊥
-symbol_differs at text is js t fits true e f =
-    let given : Some (record { at = at; kind = symbol text }) ≡ Some t = sym (ap (λ x. head (onto at (symbol_at at x) is)) (append-nil text) ∙ ap (λ x. head (onto at x is)) (symbol_fits at text fits)) ∙ e in
-    symbol_apart text 49 (one_kind at at _ _ t given f)
-symbol_differs at text is js t fits false e f =
-    let given : Some (record { at = at; kind = symbol text }) ≡ Some t = sym (ap (λ x. head (onto at (symbol_at at x) is)) (append-nil text) ∙ ap (λ x. head (onto at x is)) (symbol_fits at text fits)) ∙ e in
-    let same : symbol text ≡ refused SymbolTooLong = one_kind at at _ _ t given f in
-    cc
+    → head (onto at (symbol_at at (text ++ [])) is)
+    ≡ Some t → head (onto at (if c then gives (symbol (text ++ 49 ∷ [])) else stops at SymbolTooLong) js) ≡ Some t → ⊥
+symbol_differs at text is js t h1 c h2 h3 = grind (arith, head, append-nil, symbol_fits, symbol_apart, one_kind)
 
 word_differs : (at : ℕ) (text : List ℕ) (is js : List Token) (t : Token) → length text ≤ 79 → (c : Bool)
-    → head (onto at (word_at at (text ++ [])) is) ≡ Some t → head (onto at (if c then gives (word (text ++ 49 ∷ [])) else stops at WordTooLong) js) ≡ Some t → ⊥
-word_differs at text is js t fits true e f =
-    let given : Some (record { at = at; kind = word text }) ≡ Some t = sym (ap (λ x. head (onto at (word_at at x) is)) (append-nil text) ∙ ap (λ x. head (onto at x is)) (word_fits at text fits)) ∙ e in
-    word_apart text 49 (one_kind at at _ _ t given f)
-word_differs at text is js t fits false e f =
-    let given : Some (record { at = at; kind = word text }) ≡ Some t = sym (ap (λ x. head (onto at (word_at at x) is)) (append-nil text) ∙ ap (λ x. head (onto at x is)) (word_fits at text fits)) ∙ e in
-    let same : word text ≡ refused WordTooLong = one_kind at at _ _ t given f in
-    cc
+    → head (onto at (word_at at (text ++ [])) is)
+    ≡ Some t → head (onto at (if c then gives (word (text ++ 49 ∷ [])) else stops at WordTooLong) js) ≡ Some t → ⊥
+word_differs at text is js t h1 c h2 h3 = grind (arith, head, append-nil, word_fits, word_apart, one_kind)
 
 glyph_differs : (at n : ℕ) (is js : List Token) (t : Token) → n ≤ 255 → (c : Bool)
-    → head (onto at (numbered_at at n) is) ≡ Some t → head (onto at (if c then gives (glyph (10 * n + 1)) else stops at GlyphRange) js) ≡ Some t → ⊥
-glyph_differs at n is js t small true e f =
-    let given : Some (record { at = at; kind = glyph n }) ≡ Some t = sym (ap (λ x. head (onto at x is)) (number_fits at n small)) ∙ e in
-    glyph_apart n (one_kind at at _ _ t given f)
-glyph_differs at n is js t small false e f =
-    let given : Some (record { at = at; kind = glyph n }) ≡ Some t = sym (ap (λ x. head (onto at x is)) (number_fits at n small)) ∙ e in
-    let same : glyph n ≡ refused GlyphRange = one_kind at at _ _ t given f in
-    cc
+    → head (onto at (numbered_at at n) is) ≡ Some t → head (onto at (if c then gives (glyph (10 * n + 1)) else stops at GlyphRange) js)
+    ≡ Some t → ⊥
+glyph_differs at n is js t h1 c h2 h3 = grind arith
 
 -- at the next token two of the six ends differ
-differ : (m : Mode) (place at : ℕ) (text : List ℕ) (t : Token) → length text ≤ 255 → HasNotFailed m → IsSound place (record { mode = m; at = at; text = text })
-    → head (tokens_to_come_in m place at text []) ≡ Some t → head (tokens_to_come_in m place at text (49 ∷ [])) ≡ Some t → head (tokens_to_come_in m place at text (33 ∷ [])) ≡ Some t
-    → head (tokens_to_come_in m place at text (34 ∷ 34 ∷ [])) ≡ Some t → head (tokens_to_come_in m place at text (191 ∷ [])) ≡ Some t → head (tokens_to_come_in m place at text (187 ∷ 191 ∷ [])) ≡ Some t → ⊥
-differ modes.Start place at text t fits not_failed sound none one mark quotes bf bbbf =
-    let same = one_kind 0 0 end _ t none one in cc
-differ modes.AfterEf place at text t fits not_failed sound none one mark quotes bf bbbf = let same = one_place 0 3 _ _ t none bbbf in absurd (omega arith)
-differ modes.AfterEfBb place at text t fits not_failed sound none one mark quotes bf bbbf = let same = one_place 0 3 _ _ t none bf in absurd (omega arith)
-differ modes.LineStart place at text t fits not_failed sound none one mark quotes bf bbbf =
-    let same = one_kind place place end _ t none one in cc
-differ modes.Outside place at text t fits not_failed sound none one mark quotes bf bbbf =
-    let same = one_kind place place end _ t none one in cc
-differ modes.EscapeLine place at text t fits not_failed sound none one mark quotes bf bbbf = let same = one_place place _ end end t none one in absurd (omega arith)
-differ modes.Symbol place at text t fits not_failed sound none one mark quotes bf bbbf =
-    symbol_differs at text _ _ t fits _ none one
-differ modes.Str place at text t fits not_failed sound none one mark quotes bf bbbf =
-    let same = one_kind at at _ _ t none quotes in cc
-differ modes.AfterBackslash place at text t fits not_failed sound none one mark quotes bf bbbf =
-    let same = one_kind at at _ _ t none quotes in cc
-differ modes.Dollar place at text t fits not_failed sound none one mark quotes bf bbbf =
-    let same = one_kind at at _ _ t none one in cc
-differ (modes.Glyph n) place at text t fits not_failed sound none one mark quotes bf bbbf =
-    glyph_differs at n _ _ t sound.room.1 _ none one
-differ (modes.Suffix runs.Good) place at text t fits not_failed sound none one mark quotes bf bbbf = let same = one_kind at at _ _ t none mark in cc
-differ (modes.Suffix runs.Poor) place at text t fits not_failed sound none one mark quotes bf bbbf = let same = one_kind at at _ _ t none mark in cc
-differ (modes.Suffix runs.VeryGood) place at text t fits not_failed sound none one mark quotes bf bbbf = let same = one_kind at at _ _ t none mark in cc
-differ (modes.Suffix runs.VeryPoor) place at text t fits not_failed sound none one mark quotes bf bbbf = let same = one_kind at at _ _ t none mark in cc
-differ (modes.Suffix runs.Speculative) place at text t fits not_failed sound none one mark quotes bf bbbf = let same = one_kind at at _ _ t none mark in cc
-differ (modes.Suffix runs.Questionable) place at text t fits not_failed sound none one mark quotes bf bbbf = let same = one_kind at at _ _ t none mark in cc
-differ modes.Brace place at text t fits not_failed sound none one mark quotes bf bbbf =
-    let same = one_kind place place _ _ t none one in cc
-differ modes.BraceWord place at text t fits not_failed sound none one mark quotes bf bbbf =
-    word_differs at text _ _ t sound.room.1.1 _ none one
-differ modes.Line place at text t fits not_failed sound none one mark quotes bf bbbf =
-    let same = one_kind place place _ _ t none one in cc
-differ modes.LineWord place at text t fits not_failed sound none one mark quotes bf bbbf =
-    word_differs at text _ _ t sound.room.1.1 _ none one
-differ (modes.Failed f) place at text t fits not_failed sound none one mark quotes bf bbbf = absurd not_failed
+differ : (m : Mode) (place at : ℕ) (text : List ℕ) (t : Token) → length text ≤ 255 → HasNotFailed m
+    → IsSound place (record { mode = m; at = at; text = text })
+    → head (tokens_to_come_in m place at text []) ≡ Some t → head (tokens_to_come_in m place at text (49 ∷ []))
+    ≡ Some t → head (tokens_to_come_in m place at text (33 ∷ [])) ≡ Some t
+    → head (tokens_to_come_in m place at text (34 ∷ 34 ∷ [])) ≡ Some t → head (tokens_to_come_in m place at text (191 ∷ []))
+    ≡ Some t → head (tokens_to_come_in m place at text (187 ∷ 191 ∷ [])) ≡ Some t → ⊥
+differ m place at text t h1 h2 h3 h4 h5 h6 h7 h8 h9 =
+    grind (arith, one_kind, one_place, symbol_differs, glyph_differs, word_differs)
 
 -- what all six lists begin with
 abbrev pub common_of : List Token → List Token → List Token → List Token → List Token → List Token → List Token
 common_of a b c d e f = common a (common b (common c (common d (common e f))))
 
-common_of-append : (ts a b c d e f : List Token) → common_of (ts ++ a) (ts ++ b) (ts ++ c) (ts ++ d) (ts ++ e) (ts ++ f) ≡ ts ++ common_of a b c d e f
-common_of-append ts a b c d e f =
-    cc (common-append ts e f, common-append ts d (common e f), common-append ts c (common d (common e f)), common-append ts b (common c (common d (common e f))), common-append ts a (common b (common c (common d (common e f)))))
+common_of-append : (ts a b c d e f : List Token)
+    → common_of (ts ++ a) (ts ++ b) (ts ++ c) (ts ++ d) (ts ++ e) (ts ++ f) ≡ ts ++ common_of a b c d e f
+common_of-append ts a b c d e f = grind (arith, common-append)
 
 -- where no token is first in all six, they have nothing in common
 common_of-none : (a b c d e f : List Token)
-    → ((t : Token) → head a ≡ Some t → head b ≡ Some t → head c ≡ Some t → head d ≡ Some t → head e ≡ Some t → head f ≡ Some t → ⊥) → common_of a b c d e f ≡ []
+    → ((t : Token) → head a ≡ Some t → head b ≡ Some t → head c ≡ Some t → head d ≡ Some t → head e ≡ Some t → head f ≡ Some t → ⊥)
+    → common_of a b c d e f
+    ≡ []
 common_of-none a b c d e f apart =
     no_head _ (λ t is.
     let one = common_heads a _ t is in
@@ -144,35 +88,26 @@ common_of-none a b c d e f apart =
 
 -- what is decided, where the tokens of all texts that begin with u are known to begin with those
 -- given
-pub decided_is : (given : List Token) (u : List ℕ) (comes : List ℕ → List Token) → ((s : List ℕ) → tokens_of (u ++ s) ≡ given ++ comes s)
-    → decided u ≡ given ++ common_of (comes []) (comes (49 ∷ [])) (comes (33 ∷ [])) (comes (34 ∷ 34 ∷ [])) (comes (191 ∷ [])) (comes (187 ∷ 191 ∷ []))
-decided_is given u comes tokens =
-    let here : tokens_of u ≡ given ++ comes [] = ap tokens_of (sym (append-nil u)) ∙ tokens [] in
-    cc (
-      here,
-      tokens (49 ∷ []),
-      tokens (33 ∷ []),
-      tokens (34 ∷ 34 ∷ []),
-      tokens (191 ∷ []),
-      tokens (187 ∷ 191 ∷ []),
-      common_of-append given (comes []) (comes (49 ∷ [])) (comes (33 ∷ [])) (comes (34 ∷ 34 ∷ [])) (comes (191 ∷ [])) (comes (187 ∷ 191 ∷ [])),
-    )
+pub decided_is : (given : List Token) (u : List ℕ) (comes : List ℕ → List Token)
+    → ((s : List ℕ) → tokens_of (u ++ s) ≡ given ++ comes s)
+    → decided u
+    ≡ given ++ common_of (comes []) (comes (49 ∷ [])) (comes (33 ∷ [])) (comes (34 ∷ 34 ∷ [])) (comes (191 ∷ [])) (comes (187 ∷ 191 ∷ []))
+decided_is given u comes tokens = grind (arith, append-nil, common_of-append)
 
 -- what a lexer that goes on gives next is not decided yet
 pub going_none : (place : ℕ) (h : PartialToken) → IsSound place h → HasNotFailed h.mode
-    → common_of (tokens_to_come place h []) (tokens_to_come place h (49 ∷ [])) (tokens_to_come place h (33 ∷ [])) (tokens_to_come place h (34 ∷ 34 ∷ [])) (tokens_to_come place h (191 ∷ [])) (tokens_to_come place h (187 ∷ 191 ∷ [])) ≡ []
-going_none place h sound not_failed = common_of-none _ _ _ _ _ _ (λ t. differ _ place h.at _ t sound.room.0 not_failed sound)
+    → common_of (tokens_to_come place h []) (tokens_to_come place h (49 ∷ [])) (tokens_to_come place h (33 ∷ [])) (tokens_to_come place h (34 ∷ 34 ∷ [])) (tokens_to_come place h (191 ∷ [])) (tokens_to_come place h (187 ∷ 191 ∷ []))
+    ≡ []
+going_none place h sound not_failed = grind (arith, common_steps, common_of-none, differ)
 
 -- of a lexer that goes on, nothing more is decided
 pub going_decides : (place : ℕ) (h : PartialToken) (u : List ℕ) (given : List Token) → IsSound place h → HasNotFailed h.mode
     → ((s : List ℕ) → tokens_of (u ++ s) ≡ given ++ tokens_to_come place h s) → given ≡ decided u
-going_decides place h u given sound not_failed tokens =
-    sym (decided_is given u _ tokens
-    ∙ ap (λ l. given ++ l) (going_none place h sound not_failed)
-    ∙ append-nil given)
+going_decides place h u given sound not_failed tokens = grind (arith, decided_is, going_none place h sound not_failed, append-nil given)
 
 -- and where the same comes whatever follows, all of it is decided
-pub known_decides : (u : List ℕ) (given more : List Token) → ((s : List ℕ) → tokens_of (u ++ s) ≡ given ++ more) → given ++ more ≡ decided u
+pub known_decides : (u : List ℕ) (given more : List Token) → ((s : List ℕ) → tokens_of (u ++ s) ≡ given ++ more)
+    → given ++ more ≡ decided u
 known_decides u given more tokens =
     let same : common_of more more more more more more ≡ more = cc (common-refl more) in
     sym (decided_is given u _ tokens ∙ ap (λ l. given ++ l) same)

@@ -13,34 +13,22 @@ record Settles (tokens : List ℕ → List Token) : Type 0 where
   none : common_of (later []) (later (49 ∷ [])) (later (33 ∷ [])) (later (34 ∷ 34 ∷ [])) (later (191 ∷ [])) (later (187 ∷ 191 ∷ [])) ≡ []
 
 few : (m : Mode) → pending_in m ≤ 2
-few modes.Start = omega arith
-few modes.AfterEf = omega arith
-few modes.AfterEfBb = omega arith
-few modes.LineStart = omega arith
-few modes.Outside = omega arith
-few modes.EscapeLine = omega arith
-few modes.Symbol = omega arith
-few modes.Str = omega arith
-few modes.AfterBackslash = omega arith
-few modes.Dollar = omega arith
-few (modes.Glyph n) = omega arith
-few (modes.Suffix run) = omega arith
-few modes.Brace = omega arith
-few modes.BraceWord = omega arith
-few modes.Line = omega arith
-few modes.LineWord = omega arith
-few (modes.Failed f) = omega arith
+few m = grind arith
 
 -- one token more at the front
-after_token : (tokens rest : List ℕ → List Token) (t : Token) → ((s : List ℕ) → tokens s ≡ t ∷ rest s) → Settles rest → Settles tokens
-after_token tokens rest t same h = record { given = t ∷ h.given; later = h.later; comes = λ s. same s ∙ ap (λ l. t ∷ l) (h.comes s); none = h.none }
+after_token : (tokens rest : List ℕ → List Token) (t : Token) → ((s : List ℕ) → tokens s ≡ t ∷ rest s) → Settles rest
+    → Settles tokens
+after_token tokens rest t same h =
+    record { given = t ∷ h.given; later = h.later; comes = λ s. same s ∙ ap (λ l. t ∷ l) (h.comes s); none = h.none }
 
 same_tokens : (tokens rest : List ℕ → List Token) → ((s : List ℕ) → tokens s ≡ rest s) → Settles rest → Settles tokens
-same_tokens tokens rest same h = record { given = h.given; later = h.later; comes = λ s. same s ∙ h.comes s; none = h.none }
+same_tokens tokens rest same h = grind arith
 
 -- by the bytes left, and the tokens that wait
-settles : (n : ℕ) (u : List ℕ) (place : ℕ) (h : PartialToken) → 3 * length u + pending h ≤ n → IsSound place h → HasNotFailed h.mode → Settles (λ s. tokens_to_come place h (u ++ s))
-settles n [] place h enough sound not_failed = record { given = []; later = tokens_to_come place h; comes = λ s. refl; none = going_none place h sound not_failed }
+settles : (n : ℕ) (u : List ℕ) (place : ℕ) (h : PartialToken) → 3 * length u + pending h ≤ n → IsSound place h → HasNotFailed h.mode
+    → Settles (λ s. tokens_to_come place h (u ++ s))
+settles n [] place h enough sound not_failed =
+    record { given = []; later = tokens_to_come place h; comes = λ s. refl; none = going_none place h sound not_failed }
 settles zero (b ∷ u) place h enough sound not_failed = absurd (omega arith)
 settles (suc n) (b ∷ u) place h enough sound not_failed =
     by_step (after_byte place h b).held (after_byte place h b).step (step_gives place h b sound)
@@ -65,7 +53,7 @@ abbrev at_start : PartialToken
 at_start = record { mode = modes.Start; at = 0; text = [] }
 
 text_settles : (u : List ℕ) → Settles (λ s. tokens_of (u ++ s))
-text_settles u = settles (3 * length u) u 0 at_start (omega arith) (record { room = (omega arith, tt); placed = refl }) tt
+text_settles u = settles (3 * length u) u 0 at_start (omega arith) omega arith tt
 
 pub decided_is_prefix : DecidedIsPrefix
 decided_is_prefix u s =
@@ -75,7 +63,7 @@ decided_is_prefix u s =
 
 -- the front of a front is one
 pub prefix_trans : (xs ys zs : List Token) → IsPrefix xs ys → IsPrefix ys zs → IsPrefix xs zs
-prefix_trans xs ys zs p q = (p.0 ++ q.0, q.1 ∙ ap (λ l. l ++ q.0) p.1 ∙ append_assoc xs p.0 q.0)
+prefix_trans xs ys zs p q = grind (arith, append_assoc)
 
 take_while_front : (p : Token → Bool) (ts : List Token) → IsPrefix (take_while p ts) ts
 take_while_front p ts = (drop _ ts, sym (take-append-drop _ ts))

@@ -1,6 +1,6 @@
 -- Worked rows of what tokens are made of (PGN 5, 7, 8.2.4): tokens of texts that are sound by the
 -- law, and tokens that no text has.
-use Rattle.pgn_lexer.proofs.Words.{◌≡◌, ℕ, ◌<◌, ◌≤◌, List, [], ◌∷◌, ◌+◌, refl, subst, arith, codes, false≢true, UnclosedComment, TokensAreSound, IsSymbol, IsData, IsWord, AreSoundTokens, Kind, Token, symbol, str, glyph, comment_open, word, comment_close, refused, tokens_of}
+use Rattle.pgn_lexer.proofs.Words.{◌≡◌, ℕ, ◌≤◌, List, [], ◌∷◌, ◌+◌, refl, arith, codes, false≢true, UnclosedComment, TokensAreSound, IsSymbol, IsData, IsWord, AreSoundTokens, Kind, Token, symbol, str, glyph, comment_open, word, comment_close, refused, tokens_of}
 use Rattle.pgn_lexer.proofs.rows.CuttingRows.{t, letters, ending}
 
 -- a comment with one token in it, of so many bytes
@@ -13,7 +13,7 @@ IsOfNoText ts = (s : List ℕ) → tokens_of s ≡ ts → ⊥
 
 -- by the law, tokens that are not sound
 of_no_text : TokensAreSound → (ts : List Token) → (AreSoundTokens ts → ⊥) → IsOfNoText ts
-of_no_text law ts wrong s e = wrong (subst AreSoundTokens e (law s))
+of_no_text law ts wrong s e = wrong (rw e at (law s))
 
 -- ---- by the law, of a text
 
@@ -40,20 +40,14 @@ word_a : IsWord (codes "a")
 word_a = record { some = omega arith; bytes = refl; fits = omega arith }
 
 a_comment : AreSoundTokens (around (word (codes "a")) 1)
-a_comment = record {
-  texts = (tt, (word_a, (tt, (tt, tt))));
-  comments = tt;
-}
+a_comment = grind arith
 
 -- a comment that is not closed ends with a rejection
 abbrev cut_short : List Token
 cut_short = t 0 comment_open ∷ t 1 (word (codes "a")) ∷ t 2 (refused UnclosedComment) ∷ []
 
 open_comment : AreSoundTokens cut_short
-open_comment = record {
-  texts = (tt, (word_a, (tt, tt)));
-  comments = tt;
-}
+open_comment = grind arith
 
 -- ---- symbols: the first byte, the others, the length
 
@@ -73,8 +67,7 @@ period_in_symbol : TokensAreSound → IsOfNoText (t 0 (symbol (codes "1.")) ∷ 
 period_in_symbol law = of_no_text law _ (λ h. false≢true h.texts.0.bytes)
 
 symbol_of_256 : TokensAreSound → IsOfNoText (t 0 (symbol (letters 256)) ∷ ending 256)
-symbol_of_256 law =
-    of_no_text law _ (λ h. let few : 256 ≤ 255 = h.texts.0.fits in absurd (omega arith))
+symbol_of_256 law = grind arith
 
 -- ---- strings
 
@@ -88,13 +81,12 @@ delete_in_string : TokensAreSound → IsOfNoText (t 0 (str (127 ∷ [])) ∷ end
 delete_in_string law = of_no_text law _ (λ h. false≢true h.texts.0.bytes)
 
 string_of_256 : TokensAreSound → IsOfNoText (t 0 (str (letters 256)) ∷ ending 258)
-string_of_256 law =
-    of_no_text law _ (λ h. let few : 256 ≤ 255 = h.texts.0.fits in absurd (omega arith))
+string_of_256 law = grind arith
 
 -- ---- glyphs
 
 glyph_256 : TokensAreSound → IsOfNoText (t 0 (glyph 256) ∷ ending 4)
-glyph_256 law = of_no_text law _ (λ h. let few : 256 ≤ 255 = h.texts.0 in absurd (omega arith))
+glyph_256 law = of_no_text law _ (λ h. let few : 256 ≤ 255 = h.texts.0 in omega arith)
 
 -- ---- words, and where they are
 
@@ -108,12 +100,10 @@ control_in_word : TokensAreSound → IsOfNoText (around (word (1 ∷ [])) 1)
 control_in_word law = of_no_text law _ (λ h. false≢true h.texts.1.0.bytes)
 
 empty_word : TokensAreSound → IsOfNoText (around (word []) 0)
-empty_word law =
-    of_no_text law _ (λ h. let some : 0 < 0 = h.texts.1.0.some in absurd (omega arith))
+empty_word law = grind arith
 
 word_of_80 : TokensAreSound → IsOfNoText (around (word (letters 80)) 80)
-word_of_80 law =
-    of_no_text law _ (λ h. let few : 80 ≤ 79 = h.texts.1.0.fits in absurd (omega arith))
+word_of_80 law = grind arith
 
 word_outside : TokensAreSound → IsOfNoText (t 0 (word (codes "a")) ∷ ending 1)
 word_outside law = of_no_text law _ (λ h. h.comments)

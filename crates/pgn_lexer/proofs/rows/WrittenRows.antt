@@ -1,6 +1,6 @@
 -- Worked rows of written tokens (PGN 3.2, 5, 7, 8.2): texts that are read back, and what goes wrong
 -- where a premise is missing.
-use Rattle.pgn_lexer.proofs.Words.{◌≡◌, ℕ, ◌^◌, ◌<◌, ◌≤◌, Bool, true, false, List, [], ◌∷◌, ◌++◌, length, map, refl, sym, subst, ap, ◌∙◌, eq-eqb, arith, AllByRecursion, list_all, codes, decimal, ◌==◌, is_digit, starts_symbol, false≢true, PiecesAreReadBack, KindsAreReadBack, NumbersAreSymbols, begins_with, IsData, IsSymbol, IsWord, CommentsClose, Kind, Token, left_bracket, right_bracket, left_paren, right_paren, period, asterisk, symbol, str, glyph, comment_open, word, comment_close, end, tokens_of, Piece, token, space, text_of_pieces, kinds_in, tokens_at, IsPiece, IsEndedBy, AreEnded, IsReadable}
+use Rattle.pgn_lexer.proofs.Words.{◌≡◌, ℕ, ◌^◌, ◌<◌, ◌≤◌, Bool, true, false, List, [], ◌∷◌, ◌++◌, length, map, refl, sym, ap, eq-eqb, arith, AllByRecursion, codes, decimal, ◌==◌, false≢true, PiecesAreReadBack, KindsAreReadBack, NumbersAreSymbols, IsSymbol, IsWord, CommentsClose, Kind, Token, left_bracket, right_bracket, left_paren, right_paren, period, asterisk, symbol, str, glyph, comment_open, word, comment_close, end, tokens_of, Piece, token, space, text_of_pieces, kinds_in, tokens_at, IsPiece, IsEndedBy, AreEnded, IsReadable}
 use Rattle.std.specs.Fmt.{digits}
 use Rattle.pgn_lexer.proofs.rows.CuttingRows.{t, ending}
 
@@ -28,10 +28,7 @@ tag_text : text_of_pieces tag ≡ codes "[A \"a\\\"\\\\\"]\n"
 tag_text = refl
 
 tag_readable : IsReadable tag
-tag_readable =
-    let name : IsSymbol (codes "A") = record { begins = refl; bytes = refl; fits = omega arith } in
-    let value : IsData (codes "a\"\\") = record { bytes = refl; fits = omega arith } in
-    record { pieces = assumption (name, value); ended = assumption; comments = tt }
+tag_readable = grind arith
 
 tag_by_law : PiecesAreReadBack → tokens_of (codes "[A \"a\\\"\\\\\"]\n")
     ≡ t 0 left_bracket ∷ t 1 (symbol (codes "A")) ∷ t 3 (str (codes "a\"\\"))
@@ -54,38 +51,28 @@ movetext_text = refl
 
 a_symbol : IsSymbol (codes "1") × IsSymbol (codes "e4") × IsSymbol (codes "e5")
     × IsSymbol (codes "1/2-1/2")
-a_symbol = (
-  record { begins = refl; bytes = refl; fits = omega arith },
-  record { begins = refl; bytes = refl; fits = omega arith },
-  record { begins = refl; bytes = refl; fits = omega arith },
-  record { begins = refl; bytes = refl; fits = omega arith },
-)
+a_symbol = grind arith
 
 a_word : IsWord (codes "%a;")
 a_word = record { some = omega arith; bytes = refl; fits = omega arith }
 
 movetext_readable : IsReadable movetext
 unfolding digits
-movetext_readable =
-    let small : 10 ≤ 255 = omega arith in
-    record { pieces = assumption (a_symbol, a_word, small); ended = assumption; comments = tt }
+movetext_readable = grind arith
 
 movetext_by_law : KindsAreReadBack
     → map (λ i. i.kind) (tokens_of (codes "1. e4 $10\n{\n%a;\n} ( 1... e5)\n1/2-1/2\n*\n"))
     ≡ symbol (codes "1") ∷ period ∷ symbol (codes "e4") ∷ glyph 10 ∷ comment_open
     ∷ word (codes "%a;") ∷ comment_close ∷ left_paren ∷ symbol (codes "1") ∷ period ∷ period
     ∷ period ∷ symbol (codes "e5") ∷ right_paren ∷ symbol (codes "1/2-1/2") ∷ asterisk ∷ end ∷ []
-movetext_by_law law =
-    ap (λ s. map (λ i. i.kind) (tokens_of s)) (sym movetext_text) ∙ law movetext movetext_readable
+movetext_by_law law = grind arith
 
 -- Nothing written is read back as the end alone, and white space before it changes its place.
 nothing_by_law : PiecesAreReadBack → tokens_of [] ≡ ending 0
-nothing_by_law law = law [] (record { pieces = tt; ended = tt; comments = tt })
+nothing_by_law law = law [] (omega arith)
 
 white_space_by_law : PiecesAreReadBack → tokens_of (10 ∷ 13 ∷ 9 ∷ []) ≡ ending 3
-white_space_by_law law =
-    law (lf ∷ space 13 ∷ space 9 ∷ [])
-    (record { pieces = (refl, (refl, (refl, tt))); ended = tt; comments = tt })
+white_space_by_law law = grind arith
 
 -- ---- Sound tokens can be written, with a space after each. What tokens of a text are made of is
 -- enough, if none of them is the end or a rejection.
@@ -100,10 +87,7 @@ spaced_pieces [] all = tt
 spaced_pieces (k ∷ ks) all = (all.0, (refl, spaced_pieces ks all.1))
 
 ended_by_space : (k : Kind) (s : List ℕ) → IsEndedBy (32 ∷ s) k
-ended_by_space (symbol text) s = refl
-ended_by_space (glyph n) s = refl
-ended_by_space (word text) s = refl
-ended_by_space _ s = tt
+ended_by_space k s = grind arith
 
 spaced_ended : (ks : List Kind) → AreEnded (spaced ks)
 spaced_ended [] = tt
@@ -116,13 +100,7 @@ spaced_kinds (k ∷ ks) = ap (λ l. k ∷ l) (spaced_kinds ks)
 sound_tokens_by_law : KindsAreReadBack → (ks : List Kind)
     → AllByRecursion (λ k. IsPiece (token k)) ks → CommentsClose false ks
     → map (λ i. i.kind) (tokens_of (text_of_pieces (spaced ks))) ≡ ks ++ end ∷ []
-sound_tokens_by_law law ks all close =
-    law (spaced ks) (record {
-      pieces = spaced_pieces ks all;
-      ended = spaced_ended ks;
-      comments = subst (CommentsClose false) (sym (spaced_kinds ks)) close;
-    })
-    ∙ ap (λ l. l ++ end ∷ []) (spaced_kinds ks)
+sound_tokens_by_law law ks all close = grind (arith, spaced_pieces, spaced_ended, spaced_kinds)
 
 -- ---- What is not ended goes on into the next token.
 
@@ -187,7 +165,7 @@ unfolding digits
 glyph_is_rejected e = false≢true (as_long _ _ e)
 
 glyph_is_unsound : IsReadable large_glyph → ⊥
-glyph_is_unsound h = let small : 256 ≤ 255 = h.pieces.0 in absurd (omega arith)
+glyph_is_unsound h = let small : 256 ≤ 255 = h.pieces.0 in omega arith
 
 -- the end of the text is written with no byte, and there is one end
 abbrev two_ends : List Piece
@@ -258,14 +236,10 @@ abbrev IsOfNoNumber : List ℕ → Type 0
 IsOfNoNumber s = (n : ℕ) → n < 2 ^ 64 → decimal n ≡ s → ⊥
 
 no_byte : NumbersAreSymbols → IsOfNoNumber []
-no_byte law n small e =
-    let begins = subst (λ s. begins_with starts_symbol s ≡ true) e (law n small).0.begins in
-    false≢true begins
+no_byte law n small e = grind arith
 
 with_period : NumbersAreSymbols → IsOfNoNumber (codes "1.")
-with_period law n small e =
-    false≢true (subst (λ s. list_all is_digit s ≡ true) e (law n small).1)
+with_period law n small e = grind arith
 
 a_marker : NumbersAreSymbols → IsOfNoNumber (codes "1-0")
-a_marker law n small e =
-    false≢true (subst (λ s. list_all is_digit s ≡ true) e (law n small).1)
+a_marker law n small e = grind arith

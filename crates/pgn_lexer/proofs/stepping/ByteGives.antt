@@ -1,5 +1,6 @@
 -- Each byte, and the end of the text, gives the tokens that come.
-use Rattle.pgn_lexer.proofs.Words.{◌≡◌, ℕ, ◌<◌, ◌≤◌, List, [], ◌∷◌, length, refl, sym, ap, subst, arith, Some, LexFault, Mode, TokenForm, HasLength, symbol, glyph, word, end, symbol_at, word_at, suffix_at, in_glyph, onto, tokens_from, PartialToken, IsSound, HasNotFailed, tokens_to_come, kind_in, token_of, refusal, pending, spelling, fault_met, fault_in_mode, after_byte, after_byte_in, after_end, after_end_in, AfterByte, IsAfterEnd, reached_after}
+use Rattle.std.proofs.lemmas.Grind.{common_steps}
+use Rattle.pgn_lexer.proofs.Words.{◌≡◌, ℕ, ◌<◌, ◌≤◌, List, [], ◌∷◌, length, refl, arith, Some, LexFault, Mode, TokenForm, HasLength, end, PartialToken, IsSound, HasNotFailed, tokens_to_come, kind_in, token_of, refusal, pending, fault_met, fault_in_mode, after_byte, after_byte_in, after_end, after_end_in, AfterByte, IsAfterEnd, reached_after}
 use Rattle.pgn_lexer.specs.declared.partial_token.Mode.TheVariants as modes
 use Rattle.pgn_lexer.specs.declared.partial_token.Reached.{Reached}
 use Rattle.pgn_lexer.specs.declared.partial_token.Reached.TheVariants as reached
@@ -18,25 +19,23 @@ holds mode at text = record { mode = mode; at = at; text = text }
 step_in : (m : Mode) (place at b : ℕ) (text : List ℕ) → length text ≤ 255 → IsSound place (holds m at text)
     → Gives (front_of place (holds m at text) b) (after_byte_in m place (holds m at text) b)
 step_in modes.Start place at b text fits sound =
-    subst (λ p. Gives (front_of p (holds modes.Start at text) b) (after_byte_in modes.Start p (holds modes.Start at text) b)) (sym sound.placed) (start_gives at b text fits _ refl)
-step_in modes.AfterEf place at b text fits sound =
-    subst (λ p. Gives (front_of p (holds modes.AfterEf at text) b) (after_byte_in modes.AfterEf p (holds modes.AfterEf at text) b)) (sym sound.placed) (after_ef_gives at b text fits _ refl)
-step_in modes.AfterEfBb place at b text fits sound =
-    subst (λ p. Gives (front_of p (holds modes.AfterEfBb at text) b) (after_byte_in modes.AfterEfBb p (holds modes.AfterEfBb at text) b)) (sym sound.placed) (after_ef_bb_gives at b text fits _ refl)
+    rw sound.placed (start_gives at b text fits _ refl)
+step_in modes.AfterEf place at b text fits sound = grind (arith, front_of, after_ef_gives)
+step_in modes.AfterEfBb place at b text fits sound = grind (arith, front_of, after_ef_bb_gives)
 step_in modes.LineStart place at b text fits sound = begin_line_gives _ place b (holds modes.LineStart at text) _ _ fits
 step_in modes.Outside place at b text fits sound = begin_gives _ place b (holds modes.Outside at text) _ _ fits
 step_in modes.EscapeLine place at b text fits sound = escape_line_gives place at b text fits _ refl
-step_in modes.Symbol place at b text fits sound = symbol_gives place at b text fits sound.room.1 sound.placed _ refl _ refl
-step_in modes.Str place at b text fits sound = string_gives place at b text fits sound.placed _ refl
-step_in modes.AfterBackslash place at b text fits sound = escaped_gives place at b text sound.room.1 sound.placed _ refl
-step_in modes.Dollar place at b text fits sound = dollar_gives place at b text fits sound.placed _ refl
-step_in (modes.Glyph n) place at b text fits sound = glyph_gives place at b n text fits sound.room.1 sound.placed _ refl _ refl
-step_in (modes.Suffix run) place at b text fits sound = suffix_gives place at b text fits sound.placed run _ refl
+step_in modes.Symbol place at b text fits sound = grind (arith, symbol_gives)
+step_in modes.Str place at b text fits sound = grind (arith, string_gives)
+step_in modes.AfterBackslash place at b text fits sound = grind (arith, escaped_gives)
+step_in modes.Dollar place at b text fits sound = grind (arith, dollar_gives)
+step_in (modes.Glyph n) place at b text fits sound = grind (arith, glyph_gives)
+step_in (modes.Suffix run) place at b text fits sound = grind (arith, suffix_gives)
 step_in modes.Brace place at b text fits sound = brace_gives place b (holds modes.Brace at text) _ _ fits
-step_in modes.BraceWord place at b text fits sound = brace_word_gives place at b text sound.room.1.0 sound.room.1.1 sound.placed _ refl
+step_in modes.BraceWord place at b text fits sound = grind (arith, brace_word_gives)
 step_in modes.Line place at b text fits sound = line_gives place b (holds modes.Line at text) _ _ fits
-step_in modes.LineWord place at b text fits sound = line_word_gives place at b text sound.room.1.0 sound.room.1.1 sound.placed _ refl
-step_in (modes.Failed f) place at b text fits sound = record { sound = record { room = (fits, tt); placed = tt }; fails = refl; comes = λ s. refl }
+step_in modes.LineWord place at b text fits sound = grind (arith, line_word_gives)
+step_in (modes.Failed f) place at b text fits sound = grind arith
 
 -- what a byte gives
 pub step_gives : (place : ℕ) (h : PartialToken) (b : ℕ) → IsSound place h → Gives (front_of place h b) (after_byte place h b)
@@ -71,36 +70,15 @@ CloseGives place h new reached.Fault = ClosesFault place h new
 abbrev pub ClosedGives : ℕ → PartialToken → AfterByte → Type 0
 ClosedGives place h t = CloseGives place h t.held (reached_after t.step)
 
-close_in : (m : Mode) (place at : ℕ) (text : List ℕ) → length text ≤ 255 → IsSound place (holds m at text) → ClosedGives place (holds m at text) (after_end_in m place (holds m at text))
-close_in modes.Start place at text fits sound =
-    subst (λ p. ClosedGives p (holds modes.Start at text) (after_end_in modes.Start p (holds modes.Start at text))) (sym sound.placed) (record { not_failed = tt; same = refl; comes = refl })
-close_in modes.AfterEf place at text fits sound = record { sound = record { room = (fits, tt); placed = tt }; fails = refl; stays = λ g e. absurd (cc); comes = refl }
-close_in modes.AfterEfBb place at text fits sound = record { sound = record { room = (fits, tt); placed = tt }; fails = refl; stays = λ g e. absurd (cc); comes = refl }
-close_in modes.LineStart place at text fits sound = record { not_failed = tt; same = refl; comes = refl }
-close_in modes.Outside place at text fits sound = record { not_failed = tt; same = refl; comes = refl }
-close_in modes.EscapeLine place at text fits sound = record { not_failed = tt; same = refl; comes = refl }
-close_in modes.Symbol place at text fits sound =
-    record { sound = record { room = (fits, tt); placed = tt }; fresh = tt; not_failed = tt; lengths = (sound.room.1, fits); less = omega arith; comes = run_closes (symbol_at at) at text _ (symbol text) (symbol_fits at text fits) }
-close_in modes.Str place at text fits sound = record { sound = record { room = (fits, tt); placed = tt }; fails = refl; stays = λ g e. absurd (cc); comes = refl }
-close_in modes.AfterBackslash place at text fits sound = record { sound = record { room = (fits, tt); placed = tt }; fails = refl; stays = λ g e. absurd (cc); comes = refl }
-close_in modes.Dollar place at text fits sound = record { sound = record { room = (fits, tt); placed = tt }; fails = refl; stays = λ g e. absurd (cc); comes = refl }
-close_in (modes.Glyph n) place at text fits sound =
-    record { sound = record { room = (fits, tt); placed = tt }; fresh = tt; not_failed = tt; lengths = sound.room.1; less = omega arith; comes = ap (λ f. onto at f (tokens_from place in_glyph [])) (number_fits at n sound.room.1) }
-close_in (modes.Suffix run) place at text fits sound =
-    record { sound = record { room = (fits, tt); placed = tt }; fresh = tt; not_failed = tt; lengths = small_suffix place at 0 text fits sound.placed run; less = omega arith; comes = run_closes (suffix_at at) at (spelling run) _ (glyph _) (spelled place at 0 text fits sound.placed run) }
-close_in modes.Brace place at text fits sound = record { sound = record { room = (fits, tt); placed = tt }; fails = refl; stays = λ g e. absurd (cc); comes = refl }
-close_in modes.BraceWord place at text fits sound =
-    record { sound = record { room = (fits, tt); placed = tt }; fresh = tt; not_failed = tt; lengths = (sound.room.1.0, sound.room.1.1); less = omega arith; comes = run_closes (word_at at) at text _ (word text) (word_fits at text sound.room.1.1) }
-close_in modes.Line place at text fits sound = record { sound = record { room = (fits, tt); placed = tt }; fresh = tt; not_failed = tt; lengths = tt; less = omega arith; comes = refl }
-close_in modes.LineWord place at text fits sound =
-    record { sound = record { room = (fits, tt); placed = tt }; fresh = tt; not_failed = tt; lengths = (sound.room.1.0, sound.room.1.1); less = omega arith; comes = run_closes (word_at at) at text _ (word text) (word_fits at text sound.room.1.1) }
-close_in (modes.Failed f) place at text fits sound = record { sound = record { room = (fits, tt); placed = tt }; fails = refl; stays = λ g e. (cc, refl); comes = refl }
+close_in : (m : Mode) (place at : ℕ) (text : List ℕ) → length text ≤ 255 → IsSound place (holds m at text)
+    → ClosedGives place (holds m at text) (after_end_in m place (holds m at text))
+close_in m place at text h1 h2 = grind (arith, common_steps, run_closes, symbol_fits, number_fits, small_suffix, spelled, word_fits)
 
 pub close_gives : (place : ℕ) (h : PartialToken) → IsSound place h → ClosedGives place h (after_end place h)
 unfolding after_end
 close_gives place h sound = close_in _ place h.at _ sound.room.0 sound
 
 -- what a call that met the end of the text gives
-pub closes_gives : (place : ℕ) (h new : PartialToken) (answer : Reached) → IsSound place h → IsAfterEnd (after_end place h) new answer → CloseGives place h new answer
-closes_gives place h new answer sound t =
-    subst (λ n. CloseGives place h n answer) (sym t.held) (subst (λ (end : Reached). CloseGives place h (after_end place h).held end) (sym t.reached) (close_gives place h sound))
+pub closes_gives : (place : ℕ) (h new : PartialToken) (answer : Reached) → IsSound place h → IsAfterEnd (after_end place h) new answer
+    → CloseGives place h new answer
+closes_gives place h new answer sound t = grind (arith, close_gives)

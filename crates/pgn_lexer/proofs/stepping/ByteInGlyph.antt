@@ -1,11 +1,11 @@
 -- A byte in a glyph or a suffix.
-use Rattle.pgn_lexer.proofs.Words.{◌≡◌, ℕ, ◌+◌, ◌-◌, ◌*◌, ◌<◌, ◌≤◌, Bool, true, false, List, [], ◌∷◌, ◌++◌, length, refl, ap, ◌∙◌, arith, take_while, nat_le, ◌==◌, ◌&&◌, if◌then◌else◌, leb-true, leb-false, le-leb, lt-leb, LoneDollar, GlyphRange, BadSuffix, Used, EndsBefore, is_digit, is_suffix, glyph, gives, stops, number_from, numbered_at, glyph_at, suffix_at, in_glyph, in_suffix, outside, onto, tokens_from, PartialToken, spelling, into, fails}
+use Rattle.pgn_lexer.proofs.Words.{◌≡◌, ℕ, ◌+◌, ◌-◌, ◌*◌, ◌<◌, ◌≤◌, Bool, true, false, List, [], ◌∷◌, ◌++◌, length, refl, ap, ◌∙◌, arith, take_while, nat_le, ◌==◌, if◌then◌else◌, leb-true, leb-false, LoneDollar, GlyphRange, BadSuffix, Used, EndsBefore, is_digit, is_suffix, glyph, gives, stops, number_from, numbered_at, glyph_at, suffix_at, in_glyph, in_suffix, outside, onto, tokens_from, PartialToken, spelling, into, fails}
 use Rattle.pgn_lexer.specs.declared.partial_token.Mode.TheVariants as modes
-use Rattle.pgn_lexer.specs.declared.partial_token.TokenForm.TheVariants as forms
+use Rattle.pgn_lexer.specs.declared.partial_token.TokenForm.TheVariants as token_forms
 use Rattle.pgn_lexer.specs.declared.partial_token.SuffixRun.{SuffixRun}
-use Rattle.pgn_lexer.specs.declared.partial_token.SuffixRun.TheVariants as runs
-use Rattle.pgn_lexer.specs.ByteResult as after
-use Rattle.pgn_lexer.proofs.stepping.RunOfBytes.{take_while-true, take_while-false, glyph_goes, glyph_ends, suffix_goes, suffix_ends, run_grows, run_breaks, run_ends, run_closes}
+use Rattle.pgn_lexer.specs.declared.partial_token.SuffixRun.TheVariants as suffix_runs
+use Rattle.pgn_lexer.specs.ByteResult as byte_result
+use Rattle.pgn_lexer.proofs.stepping.RunOfBytes.{take_while-true, glyph_goes, glyph_ends, suffix_goes, suffix_ends, run_grows, run_breaks, run_ends, run_closes}
 use Rattle.pgn_lexer.proofs.stepping.StepGives.{Gives, front_of}
 
 -- more digits make no smaller number
@@ -14,23 +14,19 @@ number_grows n [] = omega arith
 number_grows n (d ∷ ds) = omega (arith, number_grows (10 * n + (d - 48)) ds)
 
 pub number_fits : (at n : ℕ) → n ≤ 255 → numbered_at at n ≡ gives (glyph n)
-number_fits at n fits = ap (λ c. if c then gives (glyph n) else stops at GlyphRange) (le-leb _ _ fits)
+number_fits at n fits = grind arith
 
 pub number_long : (at n : ℕ) → 255 < n → numbered_at at n ≡ stops at GlyphRange
-number_long at n long = ap (λ c. if c then gives (glyph n) else stops at GlyphRange) (lt-leb _ _ long)
+number_long at n long = grind arith
 
 -- a digit is 48 to 57
 digit_small : (b : ℕ) → is_digit b ≡ true → b ≤ 57
-digit_small b e = cases _ _ refl e
-  where
-    cases : (low high : Bool) → nat_le b 57 ≡ high → (low && high) ≡ true → b ≤ 57
-    cases low true e both = leb-true b 57 e
-    cases true false e both = absurd (cc)
-    cases false false e both = absurd (cc)
+digit_small b e = grind arith
 
-pub glyph_gives : (place at b n : ℕ) (text : List ℕ) → length text ≤ 255 → n ≤ 255 → at < place → (c : Bool) → is_digit b ≡ c → (d : Bool) → nat_le (10 * n + (b - 48)) 255 ≡ d
+pub glyph_gives : (place at b n : ℕ) (text : List ℕ) → length text ≤ 255 → n ≤ 255 → at < place → (c : Bool) → is_digit b ≡ c
+    → (d : Bool) → nat_le (10 * n + (b - 48)) 255 ≡ d
     → let h : PartialToken = record { mode = modes.Glyph n; at = at; text = text } in
-    Gives (front_of place h b) (if c then (if d then into h (modes.Glyph (10 * n + (b - 48))) Used else fails h h.at GlyphRange) else into h modes.Outside (EndsBefore (forms.Glyph n)))
+    Gives (front_of place h b) (if c then (if d then into h (modes.Glyph (10 * n + (b - 48))) Used else fails h h.at GlyphRange) else into h modes.Outside (EndsBefore (token_forms.Glyph n)))
 glyph_gives place at b n text fits small began true e true low =
     record {
       sound = record { room = (fits, leb-true _ _ low); placed = omega arith };
@@ -40,14 +36,14 @@ glyph_gives place at b n text fits small began true e true low =
 glyph_gives place at b n text fits small began true e false high =
     let over : 255 < 10 * n + (b - 48) = leb-false _ _ high in
     record {
-      sound = record { room = (fits, tt); placed = tt };
+      sound = omega arith;
       fails = refl;
       comes = λ s. run_breaks (λ run. numbered_at at (number_from n run)) is_digit at b [] s _ at GlyphRange e
           (number_long at _ (omega (arith, number_grows (10 * n + (b - 48)) (take_while is_digit s))));
     }
 glyph_gives place at b n text fits small began false e d _ =
     record {
-      sound = record { room = (fits, tt); placed = tt };
+      sound = omega arith;
       not_failed = tt;
       before = began;
       lengths = small;
@@ -67,42 +63,35 @@ pub dollar_gives : (place at b : ℕ) (text : List ℕ) → length text ≤ 255 
 dollar_gives place at b text fits began true e =
     let first : 10 * 0 + (b - 48) ≡ b - 48 = omega arith in
     record {
-      sound = record { room = (fits, omega (arith, digit_small b e)); placed = omega arith };
+      sound = omega (arith, digit_small b e);
       not_failed = tt;
       comes = λ s. ap (λ run. onto at (glyph_at at run) (tokens_from place in_glyph (b ∷ s))) (take_while-true is_digit b s e)
           ∙ ap (λ n. onto at (numbered_at at (number_from n (take_while is_digit s))) (tokens_from place in_glyph (b ∷ s))) first
           ∙ ap (onto at (numbered_at at _)) (glyph_goes place b s e);
     }
-dollar_gives place at b text fits began false e =
-    record {
-      sound = record { room = (fits, tt); placed = tt };
-      fails = refl;
-      comes = λ s. ap (λ run. onto at (glyph_at at run) (tokens_from place in_glyph (b ∷ s))) (take_while-false is_digit b s e);
-    }
+dollar_gives place at b text fits began false e = grind arith
 
 -- a second byte of a suffix
-second_good : (at b : ℕ) (run : List ℕ) (c : Bool) → (b == 33) ≡ c → suffix_at at (33 ∷ b ∷ run) ≡ suffix_at at (spelling (if c then runs.VeryGood else runs.Speculative) ++ run)
-second_good at b [] true e = ap (λ c. if c then gives (glyph 3) else gives (glyph 5)) e
-second_good at b [] false e = ap (λ c. if c then gives (glyph 3) else gives (glyph 5)) e
-second_good at b (d ∷ run) true _ = refl
-second_good at b (d ∷ run) false _ = refl
+second_good : (at b : ℕ) (run : List ℕ) (c : Bool) → (b == 33) ≡ c
+    → suffix_at at (33 ∷ b ∷ run) ≡ suffix_at at (spelling (if c then suffix_runs.VeryGood else suffix_runs.Speculative) ++ run)
+second_good at b run c h1 = grind arith
 
-second_poor : (at b : ℕ) (run : List ℕ) (c : Bool) → (b == 33) ≡ c → suffix_at at (63 ∷ b ∷ run) ≡ suffix_at at (spelling (if c then runs.Questionable else runs.VeryPoor) ++ run)
-second_poor at b [] true e = ap (λ c. if c then gives (glyph 6) else gives (glyph 4)) e
-second_poor at b [] false e = ap (λ c. if c then gives (glyph 6) else gives (glyph 4)) e
-second_poor at b (d ∷ run) true _ = refl
-second_poor at b (d ∷ run) false _ = refl
+second_poor : (at b : ℕ) (run : List ℕ) (c : Bool) → (b == 33) ≡ c
+    → suffix_at at (63 ∷ b ∷ run) ≡ suffix_at at (spelling (if c then suffix_runs.Questionable else suffix_runs.VeryPoor) ++ run)
+second_poor at b run c h1 = grind arith
 
 module _ (place at b : ℕ) (text : List ℕ) (fits : length text ≤ 255) (began : at < place) where
   -- a suffix that goes on
-  more : (run next : SuffixRun) → is_suffix b ≡ true → ((rest : List ℕ) → suffix_at at (spelling run ++ b ∷ rest) ≡ suffix_at at (spelling next ++ rest))
+  more : (run next : SuffixRun) → is_suffix b ≡ true
+      → ((rest : List ℕ) → suffix_at at (spelling run ++ b ∷ rest) ≡ suffix_at at (spelling next ++ rest))
       → let h : PartialToken = record { mode = modes.Suffix run; at = at; text = text } in
       Gives (front_of place h b) (into h (modes.Suffix next) Used)
   more run next e second =
       record {
-        sound = record { room = (fits, tt); placed = omega arith };
+        sound = omega arith;
         not_failed = tt;
-        comes = λ s. ap (λ rest. onto at (suffix_at at (spelling run ++ rest)) (tokens_from place in_suffix (b ∷ s))) (take_while-true is_suffix b s e)
+        comes =
+            λ s. ap (λ rest. onto at (suffix_at at (spelling run ++ rest)) (tokens_from place in_suffix (b ∷ s))) (take_while-true is_suffix b s e)
             ∙ ap (λ f. onto at f (tokens_from place in_suffix (b ∷ s))) (second (take_while _ s))
             ∙ ap (onto at (suffix_at at (spelling next ++ take_while _ s))) (suffix_goes place b s e);
       }
@@ -112,45 +101,35 @@ module _ (place at b : ℕ) (text : List ℕ) (fits : length text ≤ 255) (bega
       Gives (front_of place h b) (fails h h.at BadSuffix)
   too_many run e bad =
       record {
-        sound = record { room = (fits, tt); placed = tt };
+        sound = omega arith;
         fails = refl;
         comes = λ s. run_breaks (suffix_at at) is_suffix at b (spelling run) s (tokens_from place in_suffix (b ∷ s)) at _ e (bad _);
       }
 
   goes_on : (run : SuffixRun) → is_suffix b ≡ true
       → let h : PartialToken = record { mode = modes.Suffix run; at = at; text = text } in
-      Gives (front_of place h b) (after.second_suffix h run b)
-  goes_on runs.Good e = more runs.Good _ e (λ rest. second_good at b rest _ refl)
-  goes_on runs.Poor e = more runs.Poor _ e (λ rest. second_poor at b rest _ refl)
-  goes_on runs.VeryGood e = too_many runs.VeryGood e (λ rest. refl)
-  goes_on runs.VeryPoor e = too_many runs.VeryPoor e (λ rest. refl)
-  goes_on runs.Speculative e = too_many runs.Speculative e (λ rest. refl)
-  goes_on runs.Questionable e = too_many runs.Questionable e (λ rest. refl)
+      Gives (front_of place h b) (byte_result.second_suffix h run b)
+  goes_on suffix_runs.Good e = more suffix_runs.Good _ e (λ rest. second_good at b rest _ refl)
+  goes_on suffix_runs.Poor e = more suffix_runs.Poor _ e (λ rest. second_poor at b rest _ refl)
+  goes_on suffix_runs.VeryGood e = too_many suffix_runs.VeryGood e (λ rest. refl)
+  goes_on suffix_runs.VeryPoor e = too_many suffix_runs.VeryPoor e (λ rest. refl)
+  goes_on suffix_runs.Speculative e = too_many suffix_runs.Speculative e (λ rest. refl)
+  goes_on suffix_runs.Questionable e = too_many suffix_runs.Questionable e (λ rest. refl)
 
   -- what the run spells so far
-  pub spelled : (run : SuffixRun) → suffix_at at (spelling run) ≡ gives (glyph (after.glyph_of run))
-  spelled runs.Good = refl
-  spelled runs.Poor = refl
-  spelled runs.VeryGood = refl
-  spelled runs.VeryPoor = refl
-  spelled runs.Speculative = refl
-  spelled runs.Questionable = refl
+  pub spelled : (run : SuffixRun) → suffix_at at (spelling run) ≡ gives (glyph (byte_result.glyph_of run))
+  spelled run = grind arith
 
-  pub small_suffix : (run : SuffixRun) → after.glyph_of run ≤ 255
-  small_suffix runs.Good = omega arith
-  small_suffix runs.Poor = omega arith
-  small_suffix runs.VeryGood = omega arith
-  small_suffix runs.VeryPoor = omega arith
-  small_suffix runs.Speculative = omega arith
-  small_suffix runs.Questionable = omega arith
+  pub small_suffix : (run : SuffixRun) → byte_result.glyph_of run ≤ 255
+  small_suffix run = grind arith
 
   pub suffix_gives : (run : SuffixRun) (c : Bool) → is_suffix b ≡ c
       → let h : PartialToken = record { mode = modes.Suffix run; at = at; text = text } in
-      Gives (front_of place h b) (if c then after.second_suffix h run b else into h modes.Outside (EndsBefore (forms.Glyph (after.glyph_of run))))
+      Gives (front_of place h b) (if c then byte_result.second_suffix h run b else into h modes.Outside (EndsBefore (token_forms.Glyph (byte_result.glyph_of run))))
   suffix_gives run true e = goes_on run e
   suffix_gives run false e =
       record {
-        sound = record { room = (fits, tt); placed = tt };
+        sound = omega arith;
         not_failed = tt;
         before = began;
         lengths = small_suffix run;

@@ -1,37 +1,38 @@
 -- A byte in a symbol.
-use Rattle.pgn_lexer.proofs.Words.{◌≡◌, ℕ, ◌+◌, ◌<◌, ◌≤◌, Bool, true, false, List, [], ◌∷◌, ◌++◌, length, refl, ap, arith, length-append, take_while, nat_lt, if◌then◌else◌, ltb-true, ltb-false, le-leb, lt-leb, SymbolTooLong, continues_symbol, symbol, gives, stops, symbol_at, outside, PartialToken, into, grown, fails, EndsBefore}
+use Rattle.pgn_lexer.proofs.Words.{◌≡◌, ℕ, ◌+◌, ◌<◌, ◌≤◌, Bool, true, false, List, [], ◌∷◌, ◌++◌, length, refl, arith, length-append, take_while, nat_lt, if◌then◌else◌, ltb-true, ltb-false, SymbolTooLong, continues_symbol, symbol, gives, stops, symbol_at, outside, PartialToken, into, grown, fails, EndsBefore}
 use Rattle.pgn_lexer.specs.declared.partial_token.Mode.TheVariants as modes
-use Rattle.pgn_lexer.specs.declared.partial_token.TokenForm.TheVariants as forms
+use Rattle.pgn_lexer.specs.declared.partial_token.TokenForm.TheVariants as token_forms
 use Rattle.pgn_lexer.proofs.stepping.RunOfBytes.{symbol_goes, symbol_ends, run_grows, run_breaks, run_ends, run_closes}
 use Rattle.pgn_lexer.proofs.stepping.StepGives.{Gives, front_of}
 
 pub symbol_fits : (at : ℕ) (run : List ℕ) → length run ≤ 255 → symbol_at at run ≡ gives (symbol run)
-symbol_fits at run fits = ap (λ c. if c then gives (symbol run) else stops at SymbolTooLong) (le-leb _ _ fits)
+symbol_fits at run fits = grind arith
 
 pub symbol_long : (at : ℕ) (run : List ℕ) → 255 < length run → symbol_at at run ≡ stops at SymbolTooLong
-symbol_long at run long = ap (λ c. if c then gives (symbol run) else stops at SymbolTooLong) (lt-leb _ _ long)
+symbol_long at run long = grind arith
 
-pub symbol_gives : (place at b : ℕ) (text : List ℕ) → length text ≤ 255 → 0 < length text → place ≡ at + length text → (c : Bool) → continues_symbol b ≡ c → (d : Bool) → nat_lt (length text) 255 ≡ d
+pub symbol_gives : (place at b : ℕ) (text : List ℕ) → length text ≤ 255 → 0 < length text → place ≡ at + length text → (c : Bool)
+    → continues_symbol b ≡ c → (d : Bool) → nat_lt (length text) 255 ≡ d
     → let h : PartialToken = record { mode = modes.Symbol; at = at; text = text } in
-    Gives (front_of place h b) (if c then (if d then grown h modes.Symbol b else fails h h.at SymbolTooLong) else into h modes.Outside (EndsBefore forms.Symbol))
+    Gives (front_of place h b) (if c then (if d then grown h modes.Symbol b else fails h h.at SymbolTooLong) else into h modes.Outside (EndsBefore token_forms.Symbol))
 symbol_gives place at b text fits some began true e true room =
     let short : length text < 255 = ltb-true _ _ room in
     record {
-      sound = record { room = (omega (arith, length-append text (b ∷ [])), omega (arith, length-append text (b ∷ []))); placed = omega (arith, length-append text (b ∷ [])) };
+      sound = omega (arith, length-append text (b ∷ []));
       not_failed = tt;
       comes = λ s. run_grows (symbol_at at) continues_symbol at b text s _ _ e (symbol_goes place b s e);
     }
 symbol_gives place at b text fits some began true e false full =
     let over : 255 ≤ length text = ltb-false _ _ full in
     record {
-      sound = record { room = (fits, tt); placed = tt };
+      sound = omega arith;
       fails = refl;
       comes = λ s. run_breaks (symbol_at at) continues_symbol at b text s _ at SymbolTooLong e
           (symbol_long at (text ++ b ∷ take_while continues_symbol s) (omega (arith, length-append text (b ∷ take_while continues_symbol s))));
     }
 symbol_gives place at b text fits some began false e d _ =
     record {
-      sound = record { room = (fits, tt); placed = tt };
+      sound = omega arith;
       not_failed = tt;
       before = omega arith;
       lengths = (some, fits);

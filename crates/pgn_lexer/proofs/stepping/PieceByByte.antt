@@ -1,30 +1,22 @@
 -- A run over a piece, byte by byte.
-use Rattle.pgn_lexer.proofs.Words.{◌≡◌, ℕ, zero, suc, ◌+◌, ◌*◌, ◌<◌, ◌≤◌, inl, inr, List, [], ◌∷◌, ◌++◌, length, get_or, take, drop, refl, sym, ap, subst, ◌∙◌, append_assoc, add-one, arith, ◌⊎◌, true, false, if◌then◌else◌, Some, lt-ltb, take_all, take_more, drop-cons, LexFault, Mode, LexReason, StringTooLong, SymbolTooLong, WordTooLong, Class, CommentClass, StringClass, LineStart, Outside, Symbol, Str, Brace, BraceWord, Failed, continues_symbol, class, comment_class, string_class, TokenForm, Step, Used, Ends, EndsBefore, Fault, EndsAt, PartialToken, tokens_to_come, token_of, IsSound, HasNotFailed, pending, fault_met, fault_in_mode, begin, begin_line, string, fails, grown, if_room, into, after_byte, after_byte_in, IsAfterByte, IsOutside, Ran, RunsOn, StoodAt, RunGives, RunsToToken, RunsToFault, used_after, reached_after}
-use Rattle.pgn_lexer.specs.declared.class.CommentClass.TheVariants as comments
-use Rattle.pgn_lexer.specs.declared.class.StringClass.TheVariants as strings
-use Rattle.pgn_lexer.specs.declared.partial_token.TokenForm.TheVariants as forms
+use Rattle.std.proofs.lemmas.Grind.{common_steps}
+use Rattle.pgn_lexer.proofs.Words.{◌≡◌, ℕ, suc, ◌+◌, ◌*◌, ◌<◌, ◌≤◌, inl, inr, List, [], ◌∷◌, ◌++◌, length, get_or, take, drop, refl, sym, ap, ◌∙◌, append_assoc, add-one, arith, ◌⊎◌, true, false, if◌then◌else◌, Some, lt-ltb, take_all, take_more, drop-cons, LexFault, Mode, LexReason, StringTooLong, SymbolTooLong, WordTooLong, Class, CommentClass, StringClass, LineStart, Outside, Symbol, Str, Brace, BraceWord, Failed, continues_symbol, class, comment_class, string_class, TokenForm, Step, Used, Ends, EndsBefore, Fault, PartialToken, tokens_to_come, token_of, IsSound, HasNotFailed, pending, fault_met, fault_in_mode, begin, begin_line, string, fails, grown, if_room, into, after_byte, IsAfterByte, IsOutside, Ran, RunsOn, StoodAt, RunGives, RunsToToken, RunsToFault, used_after, reached_after}
+use Rattle.pgn_lexer.specs.declared.class.CommentClass.TheVariants as comment_classes
+use Rattle.pgn_lexer.specs.declared.class.StringClass.TheVariants as string_classes
+use Rattle.pgn_lexer.specs.declared.partial_token.TokenForm.TheVariants as token_forms
 use Rattle.pgn_lexer.specs.ByteResult.{brace, word, symbol}
 use Rattle.pgn_lexer.specs.declared.partial_token.Reached.TheVariants as reached
 use Rattle.pgn_lexer.proofs.stepping.StepGives.{StepGives, Uses, EndsIn, EndsAhead, Fails, front_of}
 use Rattle.pgn_lexer.proofs.stepping.ByteGives.{step_gives}
 
 -- what a call that took a byte gives
-pub takes_gives : (place : ℕ) (h : PartialToken) (b : ℕ) (new : PartialToken) (answer : Step) → IsSound place h → IsAfterByte (after_byte place h b) new answer → StepGives (front_of place h b) new answer
-takes_gives place h b new answer sound t =
-    subst (λ n. StepGives (front_of place h b) n answer) (sym t.held)
-    (subst (λ step. StepGives (front_of place h b) (after_byte place h b).held step) (sym t.step) (step_gives place h b sound))
+pub takes_gives : (place : ℕ) (h : PartialToken) (b : ℕ) (new : PartialToken) (answer : Step) → IsSound place h
+    → IsAfterByte (after_byte place h b) new answer → StepGives (front_of place h b) new answer
+takes_gives place h b new answer sound t = grind (arith, front_of, step_gives)
 
 -- a run that used nothing yet
 pub ran_none : (place : ℕ) (h : PartialToken) (piece : List ℕ) → IsSound place h → HasNotFailed h.mode → Ran place h piece h 0
-ran_none place h piece sound not_failed =
-    let same : place ≡ place + 0 = omega arith in
-    record {
-      start = λ _. refl;
-      sound = subst (λ p. IsSound p h) same sound;
-      not_failed = not_failed;
-      fresh = not_failed;
-      comes = λ s. ap (λ p. tokens_to_come p h s) same;
-    }
+ran_none place h piece sound not_failed = grind arith
 
 -- a run that used the whole piece
 pub ran_all : (place : ℕ) (piece : List ℕ) (i : ℕ) (h new : PartialToken) (used : ℕ) → used ≡ length piece
@@ -41,16 +33,12 @@ ran_all place piece i h new used all goes old ran =
     }
 
 going_on : (m : Mode) (at : ℕ) (f : LexFault) → HasNotFailed m → fault_in_mode m at ≡ Some f → ⊥
-going_on (Failed reason) at f not_failed e = absurd not_failed
-going_on _ at f not_failed e = absurd (cc)
+going_on m at f h1 h2 = grind arith
 
 module _ (place : ℕ) (old : PartialToken) (piece : List ℕ) (h : PartialToken) (i b : ℕ) (here : i < length piece) (at_b : get_or piece i 0 ≡ b) (ran : Ran place old piece h i) where
   -- with the byte
   longer : (s : List ℕ) → tokens_to_come place old (take (i + 1) piece ++ s) ≡ tokens_to_come (place + i) h (b ∷ s)
-  longer s =
-      ap (λ l. tokens_to_come place old (l ++ s)) (take_more piece i 0 here)
-      ∙ ap (λ x. tokens_to_come place old ((take i piece ++ x ∷ []) ++ s)) at_b
-      ∙ ap (tokens_to_come place old) (append_assoc _ _ s) ∙ ran.comes _
+  longer s = grind (arith, common_steps, take_more, append_assoc)
 
   next_place : (place + i) + 1 ≡ place + (i + 1)
   next_place = omega arith
@@ -63,13 +51,14 @@ module _ (place : ℕ) (old : PartialToken) (piece : List ℕ) (h : PartialToken
       let g : Uses (front_of (place + i) h b) new = takes_gives _ h b new Used ran.sound t in
       record {
         start = λ none. absurd (omega arith);
-        sound = subst (λ p. IsSound p new) next_place g.sound;
+        sound = rw next_place at g.sound;
         not_failed = g.not_failed;
         fresh = ran.fresh;
         comes = λ s. longer s ∙ g.comes s ∙ ap (λ p. tokens_to_come p new s) next_place;
       }
 
-  pub ran_ends : (form : TokenForm) (new : PartialToken) → IsAfterByte (after_byte (place + i) h b) new (Ends form) → RunsToToken place old piece (token_of form new) new (i + 1)
+  pub ran_ends : (form : TokenForm) (new : PartialToken) → IsAfterByte (after_byte (place + i) h b) new (Ends form)
+      → RunsToToken place old piece (token_of form new) new (i + 1)
   ran_ends form new t =
       let g : EndsIn (front_of (place + i) h b) form new = takes_gives _ h b new _ ran.sound t in
       let few : pending new ≤ 1 = g.few in
@@ -77,23 +66,21 @@ module _ (place : ℕ) (old : PartialToken) (piece : List ℕ) (h : PartialToken
         within = omega arith;
         some = omega arith;
         fresh = ran.fresh;
-        sound = subst (λ p. IsSound p new) next_place g.sound;
+        sound = rw next_place at g.sound;
         not_failed = g.not_failed;
         lengths = g.lengths;
-        ends_at = subst (EndsAt _ _) next_place g.ends_at;
-        before = subst (λ p. new.at < p) next_place g.before;
+        ends_at = rw next_place at g.ends_at;
+        before = rw next_place at g.before;
         advances = omega arith;
         ends = inl (record { some = omega arith; closed = g.closed; last = i; is_last = refl; stood = standing; comes = λ s. longer s ∙ g.comes s ∙ ap (λ p. token_of form new ∷ tokens_to_come p new s) next_place });
       }
 
   -- a token that took no byte was pending
   moves : (new : PartialToken) → pending new ≤ 1 → pending new < pending h → (j : ℕ) → i ≡ j → pending new < 2 * j + pending old
-  moves new few less zero e =
-      let same : pending h ≡ pending old = ap pending (ran.start e) in
-      omega arith
-  moves new few less (suc j) e = omega arith
+  moves new h1 h2 j h3 = grind arith
 
-  pub ran_ends_before : (form : TokenForm) (new : PartialToken) → IsAfterByte (after_byte (place + i) h b) new (EndsBefore form) → RunsToToken place old piece (token_of form new) new i
+  pub ran_ends_before : (form : TokenForm) (new : PartialToken) → IsAfterByte (after_byte (place + i) h b) new (EndsBefore form)
+      → RunsToToken place old piece (token_of form new) new i
   ran_ends_before form new t =
       let g : EndsAhead (front_of (place + i) h b) form new = takes_gives _ h b new _ ran.sound t in
       record {
@@ -119,119 +106,114 @@ module _ (place : ℕ) (old : PartialToken) (piece : List ℕ) (h : PartialToken
         });
       }
 
-  pub ran_fails : (new : PartialToken) → IsAfterByte (after_byte (place + i) h b) new Fault → RunsToFault place old piece (fault_met new) new (i + 1)
+  pub ran_fails : (new : PartialToken) → IsAfterByte (after_byte (place + i) h b) new Fault
+      → RunsToFault place old piece (fault_met new) new (i + 1)
   ran_fails new t =
       let g : Fails (front_of (place + i) h b) new = takes_gives _ h b new Fault ran.sound t in
       record {
         within = omega arith;
-        sound = subst (λ p. IsSound p new) next_place g.sound;
+        sound = rw next_place at g.sound;
         fails = g.fails;
         stays = λ f e. absurd (going_on _ _ f ran.fresh e);
         some = λ _. omega arith;
         comes = λ s. longer s ∙ g.comes s;
       }
 
-  pub ran_stops : (answer : Step) (new : PartialToken) → (answer ≡ Used → ⊥) → IsAfterByte (after_byte (place + i) h b) new answer → RunGives place old piece new (used_after answer i) (reached_after answer)
-  ran_stops Used new other t = absurd (other refl)
-  ran_stops (Ends form) new other t = ran_ends form new t
-  ran_stops (EndsBefore form) new other t = ran_ends_before form new t
-  ran_stops Fault new other t = ran_fails new t
+  pub ran_stops : (answer : Step) (new : PartialToken) → (answer ≡ Used → ⊥) → IsAfterByte (after_byte (place + i) h b) new answer
+      → RunGives place old piece new (used_after answer i) (reached_after answer)
+  ran_stops answer new h1 h2 = grind (arith, ran_ends, ran_ends_before, ran_fails)
 
 -- a byte in a symbol
-pub takes_symbol : (place b : ℕ) (h new : PartialToken) (answer : Step) → h.mode ≡ Symbol → IsAfterByte (symbol h b) new answer → IsAfterByte (after_byte place h b) new answer
+pub takes_symbol : (place b : ℕ) (h new : PartialToken) (answer : Step) → h.mode ≡ Symbol → IsAfterByte (symbol h b) new answer
+    → IsAfterByte (after_byte place h b) new answer
 unfolding after_byte
-takes_symbol place b h new answer e t = subst (λ m. IsAfterByte (after_byte_in m place h b) new answer) (sym e) t
+takes_symbol place b h new answer e t = grind arith
 
-pub takes_symbol_byte : (place b : ℕ) (h new : PartialToken) → h.mode ≡ Symbol → continues_symbol b ≡ true → length h.text < 255 → new ≡ record { mode = h.mode; at = h.at; text = h.text ++ b ∷ [] }
+pub takes_symbol_byte : (place b : ℕ) (h new : PartialToken) → h.mode ≡ Symbol → continues_symbol b ≡ true → length h.text < 255
+    → new ≡ record { mode = h.mode; at = h.at; text = h.text ++ b ∷ [] }
     → IsAfterByte (after_byte place h b) new Used
 takes_symbol_byte place b h new e goes room grows =
     takes_symbol place b h new Used e
-    (subst (λ t. IsAfterByte t new Used)
-    (sym (ap (λ c. if c then if_room 255 SymbolTooLong h (grown h Symbol b) else into h Outside (EndsBefore forms.Symbol)) goes
-    ∙ ap (λ d. if d then grown h Symbol b else fails h h.at SymbolTooLong) (lt-ltb _ _ room)))
+    (rw (ap (λ c. if c then if_room 255 SymbolTooLong h (grown h Symbol b) else into h Outside (EndsBefore token_forms.Symbol)) goes
+    ∙ ap (λ d. if d then grown h Symbol b else fails h h.at SymbolTooLong) (lt-ltb _ _ room))
     (record { held = grows ∙ ap (λ m. record { mode = m; at = h.at; text = h.text ++ b ∷ [] }) e; step = refl }))
 
-pub takes_symbol_end : (place b : ℕ) (h new : PartialToken) → h.mode ≡ Symbol → continues_symbol b ≡ false → new ≡ record { mode = Outside; at = h.at; text = h.text }
-    → IsAfterByte (after_byte place h b) new (EndsBefore forms.Symbol)
+pub takes_symbol_end : (place b : ℕ) (h new : PartialToken) → h.mode ≡ Symbol → continues_symbol b ≡ false
+    → new ≡ record { mode = Outside; at = h.at; text = h.text }
+    → IsAfterByte (after_byte place h b) new (EndsBefore token_forms.Symbol)
 takes_symbol_end place b h new e ends is =
     takes_symbol place b h new _ e
-    (subst (λ t. IsAfterByte t new (EndsBefore forms.Symbol))
-    (sym (ap (λ c. if c then if_room 255 SymbolTooLong h (grown h Symbol b) else into h Outside (EndsBefore forms.Symbol)) ends))
+    (rw (ap (λ c. if c then if_room 255 SymbolTooLong h (grown h Symbol b) else into h Outside (EndsBefore token_forms.Symbol)) ends)
     (record { held = is; step = refl }))
 
--- a byte between tokens
-taken_outside : (m : Mode) (place at b : ℕ) (text : List ℕ) (c : Class) → IsOutside m → class b ≡ c
-    → let h : PartialToken = record { mode = m; at = at; text = text } in
-    begin_line place h b c ≡ begin place h b c → after_byte_in m place h b ≡ begin place h b c
-taken_outside LineStart place at b text c outside e same = ap (begin_line place (record { mode = LineStart; at = at; text = text }) b) e ∙ same
-taken_outside Outside place at b text c outside e same = ap (begin place (record { mode = Outside; at = at; text = text }) b) e
-taken_outside _ place at b text c outside e same = absurd outside
-
-pub takes_outside : (place b : ℕ) (h new : PartialToken) (answer : Step) (c : Class) → IsOutside h.mode → class b ≡ c → begin_line place h b c ≡ begin place h b c
+pub takes_outside : (place b : ℕ) (h new : PartialToken) (answer : Step) (c : Class) → IsOutside h.mode → class b ≡ c
+    → begin_line place h b c ≡ begin place h b c
     → IsAfterByte (begin place h b c) new answer → IsAfterByte (after_byte place h b) new answer
 unfolding after_byte
-takes_outside place b h new answer c outside e same t = subst (λ x. IsAfterByte x new answer) (sym (taken_outside _ place h.at b _ c outside e same)) t
+takes_outside place b h new answer c outside e same t = grind arith
 
 -- no rejection was met, in any other mode
 pub unless_failed : (m : Mode) → ((reason : LexReason) → m ≡ Failed reason → ⊥) → HasNotFailed m
-unless_failed (Failed reason) other = other reason refl
-unless_failed _ other = tt
+unless_failed m h1 = grind arith
 
 pub in_mode : (m n : Mode) → HasNotFailed n → m ≡ n → HasNotFailed m
-in_mode m n not_failed e = subst (λ m. HasNotFailed m) (sym e) not_failed
+in_mode m n not_failed e = rw e not_failed
 
 pub between_tokens : (m : Mode) → (m ≡ LineStart) ⊎ (m ≡ Outside) → HasNotFailed m
-between_tokens m (inl e) = subst (λ m. HasNotFailed m) (sym e) tt
-between_tokens m (inr e) = subst (λ m. HasNotFailed m) (sym e) tt
+between_tokens m h1 = grind arith
 
 -- a byte in a string
-taken_string : (place b : ℕ) (h : PartialToken) (c : StringClass) → h.mode ≡ Str → string_class b ≡ c → after_byte place h b ≡ string false place h b c
+taken_string : (place b : ℕ) (h : PartialToken) (c : StringClass) → h.mode ≡ Str → string_class b ≡ c
+    → after_byte place h b ≡ string false place h b c
 unfolding after_byte
-taken_string place b h c e same = ap (λ m. after_byte_in m place h b) e ∙ ap (string false place h b) same
+taken_string place b h c e same = grind arith
 
-pub takes_plain : (place b : ℕ) (h new : PartialToken) → h.mode ≡ Str → string_class b ≡ strings.Plain → length h.text < 255 → new ≡ record { mode = h.mode; at = h.at; text = h.text ++ b ∷ [] }
+pub takes_plain : (place b : ℕ) (h new : PartialToken) → h.mode ≡ Str → string_class b ≡ string_classes.Plain → length h.text < 255
+    → new ≡ record { mode = h.mode; at = h.at; text = h.text ++ b ∷ [] }
     → IsAfterByte (after_byte place h b) new Used
 takes_plain place b h new e same room grows =
-    subst (λ t. IsAfterByte t new Used) (sym (taken_string place b h _ e same ∙ ap (λ d. if d then grown h Str b else fails h h.at StringTooLong) (lt-ltb _ _ room)))
+    rw (taken_string place b h _ e same ∙ ap (λ d. if d then grown h Str b else fails h h.at StringTooLong) (lt-ltb _ _ room))
     (record { held = grows ∙ ap (λ m. record { mode = m; at = h.at; text = h.text ++ b ∷ [] }) e; step = refl })
 
-pub takes_quote : (place b : ℕ) (h new : PartialToken) → h.mode ≡ Str → string_class b ≡ strings.Quote → new ≡ record { mode = Outside; at = h.at; text = h.text }
-    → IsAfterByte (after_byte place h b) new (Ends forms.Str)
+pub takes_quote : (place b : ℕ) (h new : PartialToken) → h.mode ≡ Str → string_class b ≡ string_classes.Quote
+    → new ≡ record { mode = Outside; at = h.at; text = h.text }
+    → IsAfterByte (after_byte place h b) new (Ends token_forms.Str)
 takes_quote place b h new e same ends =
-    subst (λ t. IsAfterByte t new (Ends forms.Str)) (sym (taken_string place b h _ e same)) (record { held = ends; step = refl })
+    rw (taken_string place b h _ e same) (record { held = ends; step = refl })
 
 -- a byte between the words of a comment in braces
-pub takes_brace : (place b : ℕ) (h new : PartialToken) (answer : Step) (c : CommentClass) → h.mode ≡ Brace → comment_class b ≡ c → IsAfterByte (brace place h b c) new answer → IsAfterByte (after_byte place h b) new answer
+pub takes_brace : (place b : ℕ) (h new : PartialToken) (answer : Step) (c : CommentClass) → h.mode ≡ Brace → comment_class b ≡ c
+    → IsAfterByte (brace place h b c) new answer → IsAfterByte (after_byte place h b) new answer
 unfolding after_byte
-takes_brace place b h new answer c e same t = subst (λ x. IsAfterByte x new answer) (sym (ap (λ m. after_byte_in m place h b) e ∙ ap (brace place h b) same)) t
+takes_brace place b h new answer c e same t = grind arith
 
-pub takes_gap : (place b : ℕ) (h new : PartialToken) (c : CommentClass) → h.mode ≡ Brace → comment_class b ≡ c → (c ≡ comments.LineEnd) ⊎ (c ≡ comments.Space)
+pub takes_gap : (place b : ℕ) (h new : PartialToken) (c : CommentClass) → h.mode ≡ Brace → comment_class b ≡ c
+    → (c ≡ comment_classes.LineEnd) ⊎ (c ≡ comment_classes.Space)
     → new ≡ record { mode = Brace; at = place; text = h.text } → IsAfterByte (after_byte place h b) new Used
-takes_gap place b h new c e same (inl gap) goes = takes_brace place b h new Used comments.LineEnd e (same ∙ gap) (record { held = goes; step = refl })
-takes_gap place b h new c e same (inr gap) goes = takes_brace place b h new Used comments.Space e (same ∙ gap) (record { held = goes; step = refl })
+takes_gap place b h new c e same (inl gap) goes =
+    takes_brace place b h new Used comment_classes.LineEnd e (same ∙ gap) (record { held = goes; step = refl })
+takes_gap place b h new c e same (inr gap) goes = takes_brace place b h new Used comment_classes.Space e (same ∙ gap) (record { held = goes; step = refl })
 
 -- and in a word of it
-pub takes_word : (place b : ℕ) (h new : PartialToken) (answer : Step) → h.mode ≡ BraceWord → IsAfterByte (word Brace h b (comment_class b)) new answer → IsAfterByte (after_byte place h b) new answer
+pub takes_word : (place b : ℕ) (h new : PartialToken) (answer : Step) → h.mode ≡ BraceWord
+    → IsAfterByte (word Brace h b (comment_class b)) new answer → IsAfterByte (after_byte place h b) new answer
 unfolding after_byte
-takes_word place b h new answer e t = subst (λ m. IsAfterByte (after_byte_in m place h b) new answer) (sym e) t
+takes_word place b h new answer e t = grind arith
 
-pub takes_word_byte : (place b : ℕ) (h new : PartialToken) → h.mode ≡ BraceWord → comment_class b ≡ comments.WordByte → length h.text < 79
+pub takes_word_byte : (place b : ℕ) (h new : PartialToken) → h.mode ≡ BraceWord → comment_class b ≡ comment_classes.WordByte → length h.text < 79
     → new ≡ record { mode = h.mode; at = h.at; text = h.text ++ b ∷ [] } → IsAfterByte (after_byte place h b) new Used
 takes_word_byte place b h new e goes room grows =
     takes_word place b h new Used e
-    (subst (λ t. IsAfterByte t new Used)
-    (sym (ap (word Brace h b) goes ∙ ap (λ d. if d then grown h h.mode b else fails h h.at WordTooLong) (lt-ltb _ _ room)))
+    (rw (ap (word Brace h b) goes ∙ ap (λ d. if d then grown h h.mode b else fails h h.at WordTooLong) (lt-ltb _ _ room))
     (record { held = grows; step = refl }))
 
-word_ends : (m : Mode) (h : PartialToken) (b : ℕ) (c : CommentClass) → (c ≡ comments.WordByte → ⊥) → word m h b c ≡ into h m (EndsBefore forms.Word)
-word_ends m h b comments.WordByte other = absurd (other refl)
-word_ends m h b comments.LineEnd other = refl
-word_ends m h b comments.Space other = refl
-word_ends m h b comments.CloseBrace other = refl
-word_ends m h b comments.Control other = refl
+word_ends : (m : Mode) (h : PartialToken) (b : ℕ) (c : CommentClass) → (c ≡ comment_classes.WordByte → ⊥)
+    → word m h b c ≡ into h m (EndsBefore token_forms.Word)
+word_ends m h b c h1 = grind arith
 
-pub takes_word_end : (place b : ℕ) (h new : PartialToken) (c : CommentClass) → h.mode ≡ BraceWord → comment_class b ≡ c → (c ≡ comments.WordByte → ⊥) → new ≡ record { mode = Brace; at = h.at; text = h.text }
-    → IsAfterByte (after_byte place h b) new (EndsBefore forms.Word)
+pub takes_word_end : (place b : ℕ) (h new : PartialToken) (c : CommentClass) → h.mode ≡ BraceWord → comment_class b ≡ c
+    → (c ≡ comment_classes.WordByte → ⊥) → new ≡ record { mode = Brace; at = h.at; text = h.text }
+    → IsAfterByte (after_byte place h b) new (EndsBefore token_forms.Word)
 takes_word_end place b h new c e same other is =
     takes_word place b h new _ e
-    (subst (λ t. IsAfterByte t new (EndsBefore forms.Word)) (sym (ap (word Brace h b) same ∙ word_ends Brace h b c other)) (record { held = is; step = refl }))
+    (rw (ap (word Brace h b) same ∙ word_ends Brace h b c other) (record { held = is; step = refl }))

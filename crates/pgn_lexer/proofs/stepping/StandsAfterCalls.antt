@@ -1,5 +1,6 @@
 -- A call carries how the lexer stands.
-use Rattle.pgn_lexer.proofs.Words.{◌≡◌, ◌-◌, Bool, true, false, ℕ, zero, suc, ◌+◌, ◌<◌, ◌≤◌, inl, inr, List, [], ◌∷◌, ◌++◌, length, take, drop, refl, sym, ap, subst, ◌∙◌, append_assoc, arith, length-append, length-take-le, take-append-drop, Option, None, Some, take_while, ◌⊎◌, AllByRecursion, LexFault, Mode, Token, is_run, tokens_of, decided, known, TokenForm, PartialToken, tokens_to_come, token_of, kind_in, refusal, HasNotFailed, RunsOut, StoodAt, EndsWithByte, EndsBeforeByte, RunsToToken, RunsToFault, Scanned, more, fault, Standing, fault_in_mode, fault_of, Follows, first, still, StandsAfter, IsDecided, EndsNoSooner, Scans}
+use Rattle.std.proofs.lemmas.Grind.{common_steps}
+use Rattle.pgn_lexer.proofs.Words.{◌≡◌, ◌-◌, Bool, true, false, ℕ, ◌+◌, ◌<◌, ◌≤◌, inl, inr, List, [], ◌∷◌, ◌++◌, length, take, drop, refl, sym, ap, subst, ◌∙◌, append_assoc, arith, length-append, length-take-le, take-append-drop, Option, None, Some, take_while, ◌⊎◌, AllByRecursion, LexFault, Mode, Token, is_run, tokens_of, decided, known, TokenForm, PartialToken, tokens_to_come, token_of, kind_in, refusal, HasNotFailed, RunsOut, StoodAt, EndsWithByte, EndsBeforeByte, RunsToToken, RunsToFault, Scanned, more, fault, Standing, fault_in_mode, fault_of, Follows, first, still, StandsAfter, IsDecided, EndsNoSooner, Scans}
 use Rattle.pgn_lexer.specs.declared.partial_token.Mode.TheVariants as modes
 use Rattle.pgn_lexer.specs.Scanned.{token}
 use Rattle.pgn_lexer.proofs.deciding.GivenAreDecided.{common_of, decided_is, going_decides, known_decides}
@@ -7,31 +8,23 @@ use Rattle.pgn_lexer.proofs.deciding.CommonTokens.{common_front}
 use Rattle.pgn_lexer.proofs.cutting.PlacesOfTokens.{AllFrom, tokens_from-from, all_from-front, take_before}
 
 -- what may follow the front of a piece
-follows_front : (b : Option ℕ) (piece s : List ℕ) (used : ℕ) → 0 < length piece → Follows b piece → Follows (first (drop used piece)) s → Follows b (take used piece ++ s)
-follows_front None piece s used some starts goes = tt
-follows_front (Some b) [] s used some starts goes = absurd (omega arith)
-follows_front (Some b) (c ∷ piece) [] zero some starts goes = tt
-follows_front (Some b) (c ∷ piece) (d ∷ s) zero some starts goes = goes ∙ starts
-follows_front (Some b) (c ∷ piece) s (suc used) some starts goes = starts
+follows_front : (b : Option ℕ) (piece s : List ℕ) (used : ℕ) → 0 < length piece → Follows b piece → Follows (first (drop used piece)) s
+    → Follows b (take used piece ++ s)
+follows_front b piece s used h1 h2 h3 = grind arith
 
 -- and of a whole one
 follows_piece : (b : Option ℕ) (piece s : List ℕ) → Follows b piece → Follows (still b piece) s → Follows b (piece ++ s)
-follows_piece None piece s starts goes = tt
-follows_piece (Some b) [] s starts goes = goes
-follows_piece (Some b) (c ∷ piece) s starts goes = starts
+follows_piece b piece s h1 h2 = grind arith
 
 still_none : (b : Option ℕ) (piece : List ℕ) → 0 < length piece → still b piece ≡ None
-still_none b [] some = absurd (omega arith)
-still_none b (c ∷ piece) some = refl
+still_none b piece h1 = grind arith
 
 follows_none : (o : Option ℕ) (s : List ℕ) → o ≡ None → Follows o s
-follows_none o s e = subst (λ o. Follows o s) (sym e) tt
+follows_none o s e = rw e tt
 
-follows_taken : (b : Option ℕ) (piece s : List ℕ) (used : ℕ) → 0 < length piece → 0 < used → Follows b piece → Follows b (take used piece ++ s)
-follows_taken None piece s used some positive starts = tt
-follows_taken (Some b) [] s used some positive starts = absurd (omega arith)
-follows_taken (Some b) (c ∷ piece) s zero some positive starts = absurd (omega arith)
-follows_taken (Some b) (c ∷ piece) s (suc used) some positive starts = starts
+follows_taken : (b : Option ℕ) (piece s : List ℕ) (used : ℕ) → 0 < length piece → 0 < used → Follows b piece
+    → Follows b (take used piece ++ s)
+follows_taken b piece s used h1 h2 h3 = grind arith
 
 -- a piece, cut
 cut : (used : ℕ) (piece s : List ℕ) → piece ++ s ≡ take used piece ++ (drop used piece ++ s)
@@ -39,8 +32,7 @@ cut used piece s = ap (λ l. l ++ s) (sym (take-append-drop used piece)) ∙ app
 
 -- no rejection was met
 no_fault_in_mode : (m : Mode) (at : ℕ) → HasNotFailed m → fault_in_mode m at ≡ None
-no_fault_in_mode (modes.Failed reason) at not_failed = absurd not_failed
-no_fault_in_mode _ at not_failed = refl
+no_fault_in_mode m at h1 = grind arith
 
 pub not_failed_fault : (h : PartialToken) → HasNotFailed h.mode → fault_in_mode h.mode h.at ≡ None
 not_failed_fault h not_failed = no_fault_in_mode _ h.at not_failed
@@ -53,9 +45,10 @@ failed_or_not _ at = inl tt
 -- tokens before a place are before a later one
 before_more : (m n : ℕ) (ts : List Token) → m ≤ n → AllByRecursion (λ t. t.at < m) ts → AllByRecursion (λ t. t.at < n) ts
 before_more m n [] less all = tt
-before_more m n (t ∷ ts) less all = let here : t.at < m = all.0 in (omega arith, before_more m n ts less all.1)
+before_more m n (t ∷ ts) less all = grind (arith, before_more m n ts)
 
-before_one : (n : ℕ) (ts : List Token) (t : Token) → AllByRecursion (λ t. t.at < n) ts → t.at < n → AllByRecursion (λ t. t.at < n) (ts ++ t ∷ [])
+before_one : (n : ℕ) (ts : List Token) (t : Token) → AllByRecursion (λ t. t.at < n) ts → t.at < n
+    → AllByRecursion (λ t. t.at < n) (ts ++ t ∷ [])
 before_one n [] t all here = (here, tt)
 before_one n (u ∷ ts) t all here = (all.0, before_one n ts t all.1 here)
 
@@ -64,11 +57,12 @@ known_is : (u : List ℕ) (b : ℕ) (given : List Token) (comes : List ℕ → L
     → AllFrom (length u) (comes (b ∷ [])) → ((s : List ℕ) → tokens_of (u ++ b ∷ s) ≡ given ++ comes (b ∷ s)) → given ≡ known u b
 known_is u b given comes before from tokens =
     let later : List ℕ → List Token = λ s. comes (b ∷ s) in
-    let all : decided (u ++ b ∷ []) ≡ given ++ common_of (later []) (later (49 ∷ [])) (later (33 ∷ [])) (later (34 ∷ 34 ∷ [])) (later (191 ∷ [])) (later (187 ∷ 191 ∷ [])) =
+    let all : decided (u ++ b ∷ [])
+    ≡ given ++ common_of (later []) (later (49 ∷ [])) (later (33 ∷ [])) (later (34 ∷ 34 ∷ [])) (later (191 ∷ [])) (later (187 ∷ 191 ∷ [])) =
     decided_is given (u ++ b ∷ []) later (λ s. ap tokens_of (append_assoc u _ s) ∙ tokens s) in
     let front = common_front (later []) _ in
     sym (ap (take_while _) all
-    ∙ take_before _ given _ before (all_from-front _ _ front.0 (subst (AllFrom _) front.1 from)))
+    ∙ take_before _ given _ before (all_from-front _ _ front.0 (rw front.1 at from)))
 
 module _ (count : ℕ) (old new : PartialToken) (piece : List ℕ) (used : ℕ) where
   abbrev from_standing : Standing
@@ -93,15 +87,14 @@ module _ (count : ℕ) (old new : PartialToken) (piece : List ℕ) (used : ℕ) 
             record {
               count = omega (arith, h.all, stands.count, length-append u piece);
               before = before_more (length u) _ given (omega (arith, length-append u piece)) stands.before;
-              tokens = λ s goes. ap tokens_of (append_assoc u piece s) ∙ stands.tokens (piece ++ s) (follows_piece b piece s starts goes) ∙ ap (λ l. given ++ l) (h.comes s);
+              tokens = λ s goes. ap tokens_of (append_assoc u piece s) ∙ stands.tokens (piece ++ s) (follows_piece b piece s starts goes)
+                  ∙ ap (λ l. given ++ l) (h.comes s);
             } in
             (h.all, after, λ some. going_decides (count + used) new (u ++ piece) given h.sound h.not_failed (λ s. after.tokens s (follows_none _ s (still_none b piece some))));
       }
     where
       same : length piece ≡ 0 → to_standing ≡ from_standing
-      same none =
-          let here : count + used ≡ count = omega (arith, h.all) in
-          ap (λ n. record { count = n; held = new }) here ∙ ap (λ held. record { count = count; held = held }) (h.empty none)
+      same none = grind arith
 
       stuck : (f : LexFault) → fault_of from_standing ≡ Some f → ⊥
       stuck f failed = let none : fault_of from_standing ≡ None = not_failed_fault old h.fresh in cc
@@ -127,19 +120,18 @@ module _ (count : ℕ) (old new : PartialToken) (piece : List ℕ) (used : ℕ) 
       whole : (s : List ℕ) → tokens_to_come count old (piece ++ s) ≡ refusal f ∷ []
       whole s = ap (tokens_to_come count old) (cut used piece s) ∙ h.comes (drop used piece ++ s)
 
-      comes : (u : List ℕ) (b : Option ℕ) (given : List Token) → StandsAfter from_standing u b given → (s : List ℕ) → Follows b (piece ++ s)
+      comes : (u : List ℕ) (b : Option ℕ) (given : List Token) → StandsAfter from_standing u b given → (s : List ℕ)
+          → Follows b (piece ++ s)
           → tokens_of ((u ++ piece) ++ s) ≡ given ++ refusal f ∷ []
-      comes u b given stands s goes = ap tokens_of (append_assoc u piece s) ∙ stands.tokens (piece ++ s) goes ∙ ap (λ l. given ++ l) (whole s)
+      comes u b given stands s goes = cc (append_assoc u piece s, stands.tokens (piece ++ s) goes, whole s)
 
-      stuck : (g : LexFault) → (used ≡ 0) × (f ≡ g) × (new ≡ old) → (used ≡ 0) × (fault f ≡ fault g) × (to_standing ≡ from_standing)
-      stuck g same =
-          let here : count + used ≡ count = omega (arith, same.0) in
-          (same.0, ap fault same.1, ap (λ n. record { count = n; held = new }) here ∙ ap (λ held. record { count = count; held = held }) same.2)
+      stuck : (g : LexFault) → (used ≡ 0) × (f ≡ g) × (new ≡ old)
+          → (used ≡ 0) × (fault f ≡ fault g) × (to_standing ≡ from_standing)
+      stuck g same = grind arith
 
       nothing : length piece ≡ 0 → HasNotFailed old.mode ⊎ ((g : LexFault) × (fault_of from_standing ≡ Some g))
           → (to_standing ≡ from_standing) × ((fault f ≡ more) ⊎ ((g : LexFault) × (fault_of from_standing ≡ Some g)))
-      nothing none (inl not_failed) = let some : 0 < length piece = h.some not_failed in absurd (omega arith)
-      nothing none (inr failed) = ((stuck failed.0 (h.stays failed.0 failed.1)).2, inr failed)
+      nothing h1 h2 = grind arith
 
 abbrev ahead : ℕ → PartialToken → Standing
 ahead count old = record { count = count; held = old }
@@ -150,10 +142,7 @@ behind count new used = record { count = count + used; held = new }
 module _ (count : ℕ) (old new : PartialToken) (piece : List ℕ) (used : ℕ) (t : Token) (h : RunsToToken count old piece t new used) where
   reads_token : EndsWithByte count old piece (take used piece) t new used ⊎ EndsBeforeByte count old piece (take used piece) (drop used piece) t new used
       → (s : List ℕ) → tokens_to_come count old (piece ++ s) ≡ t ∷ tokens_to_come (count + used) new (drop used piece ++ s)
-  reads_token (inl e) s = ap (tokens_to_come count old) (cut used piece s) ∙ e.comes _
-  reads_token (inr e) s =
-      ap (tokens_to_come count old) (cut used piece s) ∙ ap (λ rest. tokens_to_come count old (take used piece ++ (rest ++ s))) e.next
-      ∙ e.comes (e.more ++ s) ∙ ap (λ rest. t ∷ tokens_to_come (count + used) new (rest ++ s)) (sym e.next)
+  reads_token h1 s = grind (arith, cut)
 
   module _ (u : List ℕ) (b : Option ℕ) (given : List Token) (stands : StandsAfter (ahead count old) u b given) (starts : Follows b piece) where
     -- the bytes used so far
@@ -161,18 +150,17 @@ module _ (count : ℕ) (old new : PartialToken) (piece : List ℕ) (used : ℕ) 
     u' = u ++ take used piece
 
     long : count + used ≡ length u'
-    long = omega (arith, stands.count, length-append u (take used piece), length-take-le used piece h.within)
+    long = grind (arith, length-append, length-take-le)
 
     before' : AllByRecursion (λ t. t.at < length u') (given ++ t ∷ [])
     before' =
         let less : length u ≤ length u' = omega (arith, length-append u (take used piece)) in
-        before_one _ given t (before_more _ _ given less stands.before) (subst (λ n. t.at < n) long h.before)
+        before_one _ given t (before_more _ _ given less stands.before) (rw long at h.before)
 
-    with_token : (s : List ℕ) → Follows b (take used piece ++ s) → tokens_to_come count old (take used piece ++ s) ≡ t ∷ tokens_to_come (count + used) new s
+    with_token : (s : List ℕ) → Follows b (take used piece ++ s)
+        → tokens_to_come count old (take used piece ++ s) ≡ t ∷ tokens_to_come (count + used) new s
         → tokens_of (u' ++ s) ≡ (given ++ t ∷ []) ++ tokens_to_come (count + used) new s
-    with_token s goes comes =
-        ap tokens_of (append_assoc u _ s) ∙ stands.tokens _ goes
-        ∙ ap (λ l. given ++ l) comes ∙ sym (append_assoc given _ _)
+    with_token s goes comes = grind (arith, append_assoc)
 
     -- where no token had ended, no more was decided
     stood_decides : (i : ℕ) → 0 < i → StoodAt count old piece i → given ≡ decided (u ++ take i piece)
@@ -180,16 +168,13 @@ module _ (count : ℕ) (old new : PartialToken) (piece : List ℕ) (used : ℕ) 
         going_decides (count + i) e.held (u ++ take i piece) given e.sound e.not_failed
         (λ s. ap tokens_of (append_assoc u _ s) ∙ stands.tokens (take i piece ++ s) (follows_taken b piece s i h.some some starts) ∙ ap (λ l. given ++ l) (e.comes s))
 
-    no_sooner_closed : (k : Bool) → k ≡ false → (last : ℕ) → used ≡ last + 1 → StoodAt count old piece last → EndsNoSooner k u piece used given
-    no_sooner_closed true e last is_last stood = absurd (cc)
-    no_sooner_closed false e last is_last stood =
-        λ some.
-        let here : used - 1 ≡ last = omega arith in
-        stood_decides last (omega arith) stood ∙ ap (λ n. decided (u ++ take n piece)) (sym here)
+    no_sooner_closed : (k : Bool) → k ≡ false → (last : ℕ) → used ≡ last + 1 → StoodAt count old piece last
+        → EndsNoSooner k u piece used given
+    no_sooner_closed true e last is_last stood = cc
+    no_sooner_closed false e last is_last stood = grind (arith, common_steps, stood_decides) steps 300000
 
     no_sooner_run : (k : Bool) → k ≡ true → StoodAt count old piece used → EndsNoSooner k u piece used given
-    no_sooner_run true e stood = λ some. stood_decides used some stood
-    no_sooner_run false e stood = absurd (cc)
+    no_sooner_run k h1 h2 = grind (arith, stood_decides)
 
     -- the token ended with the last byte used
     with_byte : EndsWithByte count old piece (take used piece) t new used
@@ -205,23 +190,23 @@ module _ (count : ℕ) (old new : PartialToken) (piece : List ℕ) (used : ℕ) 
     -- or before a byte that was not used
     next_comes : (e : EndsBeforeByte count old piece (take used piece) (drop used piece) t new used) (s : List ℕ) → Follows (Some e.byte) s
         → tokens_to_come count old (take used piece ++ s) ≡ t ∷ tokens_to_come (count + used) new s
-    next_comes e [] goes = e.at_end
-    next_comes e (c ∷ s) goes = subst (λ x. tokens_to_come count old (take used piece ++ x ∷ s) ≡ t ∷ tokens_to_come (count + used) new (x ∷ s)) (sym goes) (e.comes s)
+    next_comes e s h1 = grind arith
 
     ahead_of_byte : EndsBeforeByte count old piece (take used piece) (drop used piece) t new used
         → StandsAfter (behind count new used) u' (first (drop used piece)) (given ++ t ∷ []) × IsDecided u' (drop used piece) (given ++ t ∷ []) × EndsNoSooner (is_run t.kind) u piece used given
     ahead_of_byte e =
-        let tokens : (s : List ℕ) → Follows (first (drop used piece)) s → tokens_of (u' ++ s) ≡ (given ++ t ∷ []) ++ tokens_to_come (count + used) new s =
-        λ s goes. with_token s (follows_front b piece s used h.some starts goes) (next_comes e s (subst (λ rest. Follows (first rest) s) e.next goes)) in
+        let tokens : (s : List ℕ) → Follows (first (drop used piece)) s → tokens_of (u' ++ s)
+        ≡ (given ++ t ∷ []) ++ tokens_to_come (count + used) new s =
+        λ s goes. with_token s (follows_front b piece s used h.some starts goes) (next_comes e s (rw e.next at goes)) in
         let from : AllFrom (length u') (tokens_to_come (count + used) new (e.byte ∷ [])) =
         subst (λ n. AllFrom n (tokens_to_come (count + used) new (e.byte ∷ []))) long
-        (subst (AllFrom _) (sym (e.settled _)) (tokens_from-from (count + used) e.within (e.byte ∷ []))) in (
+        (rw (e.settled _) (tokens_from-from (count + used) e.within (e.byte ∷ []))) in (
           record { count = long; before = before'; tokens = tokens },
           inr (
             e.byte,
             ap first e.next,
             known_is u' _ _ (tokens_to_come _ new) before' from
-                (λ s. tokens _ (subst (λ rest. Follows (first rest) (e.byte ∷ s)) (sym e.next) refl)),
+                (λ s. tokens _ (rw e.next refl)),
           ),
           no_sooner_run _ e.runs e.stood,
         )
@@ -232,7 +217,7 @@ module _ (count : ℕ) (old new : PartialToken) (piece : List ℕ) (used : ℕ) 
     carries_token (inr e) = ahead_of_byte e
 
   no_fault : (f : LexFault) → fault_of (ahead count old) ≡ Some f → ⊥
-  no_fault f failed = let none : fault_of (ahead count old) ≡ None = not_failed_fault old h.fresh in cc
+  no_fault f failed = grind arith
 
   pub scans_token : Scans (ahead count old) piece (behind count new used) used (token t)
   scans_token =
@@ -249,18 +234,21 @@ module _ (count : ℕ) (old new : PartialToken) (piece : List ℕ) (used : ℕ) 
       }
 
 pub same_parts : (i j : Token) → i.at ≡ j.at → i.kind ≡ j.kind → i ≡ j
-same_parts i j at kind = ap (λ n. record { at = n; kind = i.kind }) at ∙ ap (λ k. record { at = j.at; kind = k }) kind
+same_parts i j at kind = grind arith
 
-pub scans_form : (count : ℕ) (old new : PartialToken) (piece : List ℕ) (used : ℕ) (form : TokenForm) (t : Token) → t.at ≡ new.at → t.kind ≡ kind_in form new.text
+pub scans_form : (count : ℕ) (old new : PartialToken) (piece : List ℕ) (used : ℕ) (form : TokenForm) (t : Token) → t.at ≡ new.at
+    → t.kind ≡ kind_in form new.text
     → RunsToToken count old piece (token_of form new) new used → Scans (ahead count old) piece (behind count new used) used (token t)
 scans_form count old new piece used form t at kind h =
-    subst (λ t. Scans (ahead count old) piece (behind count new used) used (token t)) (sym (same_parts t _ at kind))
+    rw (same_parts t _ at kind)
     (scans_token count old new piece used _ h)
 
 -- what is said of one view of a lexer, of the other
-pub scans_of : (old old' new : Standing) (piece : List ℕ) (used : ℕ) (seen : Scanned) → old ≡ old' → Scans old piece new used seen → Scans old' piece new used seen
+pub scans_of : (old old' new : Standing) (piece : List ℕ) (used : ℕ) (seen : Scanned) → old ≡ old' → Scans old piece new used seen
+    → Scans old' piece new used seen
 scans_of old old' new piece used seen e = subst (λ (l : Standing). Scans l piece new used seen) e
 
-pub scans_told : (count : ℕ) (old new : PartialToken) (piece : List ℕ) (used : ℕ) (f g : LexFault) → f ≡ g → RunsToFault count old piece g new used
+pub scans_told : (count : ℕ) (old new : PartialToken) (piece : List ℕ) (used : ℕ) (f g : LexFault) → f ≡ g
+    → RunsToFault count old piece g new used
     → Scans (ahead count old) piece (behind count new used) used (fault f)
-scans_told count old new piece used f g same h = scans_fault count old new piece used f (subst (λ f. RunsToFault count old piece f new used) (sym same) h)
+scans_told count old new piece used f g same h = scans_fault count old new piece used f (rw same h)

@@ -59,4 +59,5 @@ Gives f t = StepGives f t.held t.step
 
 -- what comes from a byte, of a lexer that holds h
 abbrev pub front_of : ℕ → PartialToken → ℕ → Front
-front_of place h b = record { place = place; byte = b; front = λ s. tokens_to_come place h (b ∷ s); ended = tokens_to_come place h []; waits = pending h }
+front_of place h b =
+    record { place = place; byte = b; front = λ s. tokens_to_come place h (b ∷ s); ended = tokens_to_come place h []; waits = pending h }

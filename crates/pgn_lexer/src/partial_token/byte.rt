@@ -1,7 +1,7 @@
 //! What one byte does to the current token, mode by mode.
 
 ghost use Rattle.std.specs.Prelude.{◌≡◌, true, false, [], ◌∷◌};
-ghost use Rattle.pgn_lexer.specs.ByteResult as after;
+ghost use Rattle.pgn_lexer.specs.ByteResult as byte_result;
 
 use crate::class::{
     Class, CommentClass, StringClass, class_of, comment_class_of, continues_symbol, is_digit,
@@ -21,7 +21,7 @@ impl PartialToken {
     /// Takes the byte at the place: gives it to the handler of the mode.
     #[tactic(auto, unfolding(crate::specs::ByteResult::after_byte))]
     pub(crate) fn take(&mut self, byte: u8, place: u64) -> Step
-        ensures { IsAfterByte (after.after_byte place self.old byte) self.new result }
+        ensures { IsAfterByte (byte_result.after_byte place self.old byte) self.new result }
     {
         match self.mode {
             Mode::Start => self.start(byte, place),
@@ -45,7 +45,7 @@ impl PartialToken {
     }
 
     fn fail(&mut self, at: u64, reason: LexReason) -> Step
-        ensures { IsAfterByte (after.fails self.old at reason) self.new result }
+        ensures { IsAfterByte (byte_result.fails self.old at reason) self.new result }
     {
         self.at = at;
         self.mode = Mode::Failed(reason);
@@ -53,7 +53,7 @@ impl PartialToken {
     }
 
     fn start(&mut self, byte: u8, place: u64) -> Step
-        ensures { IsAfterByte (after.start place self.old byte) self.new result }
+        ensures { IsAfterByte (byte_result.start place self.old byte) self.new result }
     {
         if byte == 0xEF {
             self.mode = Mode::AfterEf;
@@ -65,7 +65,7 @@ impl PartialToken {
     /// One byte more of a byte order mark.
     fn mark(&mut self, wanted: u8, mode: Mode, byte: u8) -> Step
         requires { HasMore mode self.old.text }
-        ensures { IsAfterByte (after.mark wanted mode self.old byte) self.new result }
+        ensures { IsAfterByte (byte_result.mark wanted mode self.old byte) self.new result }
     {
         if byte != wanted {
             return self.fail(0, LexReason::StrayByte);
@@ -74,8 +74,8 @@ impl PartialToken {
     }
 
     fn begin_line(&mut self, byte: u8, place: u64) -> Step
-        ensures { IsAfterByte (after.begin_line place self.old byte (spelling.class byte)) self.new
-            result }
+        ensures { IsAfterByte (byte_result.begin_line place self.old byte (spelling.class byte))
+            self.new result }
     {
         match class_of(byte) {
             Class::Percent => {
@@ -87,7 +87,7 @@ impl PartialToken {
     }
 
     fn begin(&mut self, class: Class, byte: u8, place: u64) -> Step
-        ensures { IsAfterByte (after.begin place self.old byte class) self.new result }
+        ensures { IsAfterByte (byte_result.begin place self.old byte class) self.new result }
     {
         self.at = place;
         match class {
@@ -114,7 +114,7 @@ impl PartialToken {
 
     fn escape_line(&mut self, byte: u8) -> Step
         requires { self.old.mode ≡ Mode.EscapeLine }
-        ensures { IsAfterByte (after.escape_line self.old byte) self.new result }
+        ensures { IsAfterByte (byte_result.escape_line self.old byte) self.new result }
     {
         if is_line_end(byte) {
             self.mode = Mode::LineStart;
@@ -124,7 +124,7 @@ impl PartialToken {
 
     fn symbol(&mut self, byte: u8) -> Step
         requires { self.old.mode ≡ Mode.Symbol }
-        ensures { IsAfterByte (after.symbol self.old byte) self.new result }
+        ensures { IsAfterByte (byte_result.symbol self.old byte) self.new result }
     {
         if !continues_symbol(byte) {
             self.mode = Mode::Outside;
@@ -138,7 +138,7 @@ impl PartialToken {
     }
 
     fn dollar(&mut self, byte: u8) -> Step
-        ensures { IsAfterByte (after.dollar self.old byte) self.new result }
+        ensures { IsAfterByte (byte_result.dollar self.old byte) self.new result }
     {
         if !is_digit(byte) {
             return self.fail(self.at, LexReason::LoneDollar);
@@ -149,7 +149,7 @@ impl PartialToken {
 
     /// The next byte of `$` and digits, whose number so far is this one (PGN 10).
     fn glyph(&mut self, number: u8, byte: u8) -> Step
-        ensures { IsAfterByte (after.glyph self.old number byte) self.new result }
+        ensures { IsAfterByte (byte_result.glyph self.old number byte) self.new result }
     {
         if !is_digit(byte) {
             self.mode = Mode::Outside;
@@ -164,7 +164,7 @@ impl PartialToken {
     }
 
     fn suffix(&mut self, run: SuffixRun, byte: u8) -> Step
-        ensures { IsAfterByte (after.suffix self.old run byte) self.new result }
+        ensures { IsAfterByte (byte_result.suffix self.old run byte) self.new result }
     {
         if !is_suffix(byte) {
             self.mode = Mode::Outside;
@@ -193,8 +193,9 @@ impl PartialToken {
 
     fn string(&mut self, byte: u8, place: u64) -> Step
         requires { self.old.mode ≡ Mode.Str }
-        ensures { IsAfterByte (after.string false place self.old byte (spelling.string_class byte))
-            self.new result }
+        ensures { IsAfterByte
+            (byte_result.string false place self.old byte (spelling.string_class byte)) self.new
+            result }
     {
         match string_class_of(byte) {
             StringClass::Quote => {
@@ -222,7 +223,7 @@ impl PartialToken {
 
     fn after_backslash(&mut self, byte: u8, place: u64) -> Step
         requires { self.old.mode ≡ Mode.AfterBackslash }
-        ensures { IsAfterByte (after.string true place self.old byte
+        ensures { IsAfterByte (byte_result.string true place self.old byte
             (spelling.string_class byte)) self.new result }
     {
         match string_class_of(byte) {
@@ -246,7 +247,7 @@ impl PartialToken {
     }
 
     fn brace(&mut self, byte: u8, place: u64) -> Step
-        ensures { IsAfterByte (after.brace place self.old byte (spelling.comment_class byte))
+        ensures { IsAfterByte (byte_result.brace place self.old byte (spelling.comment_class byte))
             self.new result }
     {
         self.at = place;
@@ -259,7 +260,7 @@ impl PartialToken {
     }
 
     fn line(&mut self, byte: u8, place: u64) -> Step
-        ensures { IsAfterByte (after.line place self.old byte (spelling.comment_class byte))
+        ensures { IsAfterByte (byte_result.line place self.old byte (spelling.comment_class byte))
             self.new result }
     {
         self.at = place;
@@ -275,7 +276,7 @@ impl PartialToken {
     /// One byte more of a word, or its end. `between` is the mode between the words.
     fn word(&mut self, between: Mode, byte: u8) -> Step
         requires { HasMore between self.old.text }
-        ensures { IsAfterByte (after.word between self.old byte (spelling.comment_class byte))
+        ensures { IsAfterByte (byte_result.word between self.old byte (spelling.comment_class byte))
             self.new result }
     {
         match comment_class_of(byte) {
@@ -303,7 +304,7 @@ impl PartialToken {
 
     fn go(&mut self, mode: Mode) -> Step
         requires { HasMore mode self.old.text }
-        ensures { IsAfterByte (after.into self.old mode Step.Used) self.new result }
+        ensures { IsAfterByte (byte_result.into self.old mode Step.Used) self.new result }
     {
         self.mode = mode;
         Step::Used
@@ -311,7 +312,7 @@ impl PartialToken {
 
     fn end(&mut self, mode: Mode, form: TokenForm) -> Step
         requires { HasMore mode self.old.text }
-        ensures { IsAfterByte (after.into self.old mode (Step.Ends form)) self.new result }
+        ensures { IsAfterByte (byte_result.into self.old mode (Step.Ends form)) self.new result }
     {
         self.mode = mode;
         Step::Ends(form)
@@ -319,7 +320,7 @@ impl PartialToken {
 
     pub(crate) fn begin_text(&mut self, mode: Mode, byte: u8) -> Step
         requires { HasMore mode (byte ∷ []) }
-        ensures { IsAfterByte (after.set_at mode self.old.at (byte ∷ []) Step.Used) self.new
+        ensures { IsAfterByte (byte_result.set_at mode self.old.at (byte ∷ []) Step.Used) self.new
             result }
     {
         self.buffer = ArrayVec::new();
@@ -329,7 +330,8 @@ impl PartialToken {
     }
 
     pub(crate) fn begin_string(&mut self) -> Step
-        ensures { IsAfterByte (after.set_at Mode.Str self.old.at [] Step.Used) self.new result }
+        ensures { IsAfterByte (byte_result.set_at Mode.Str self.old.at [] Step.Used) self.new
+            result }
     {
         self.buffer = ArrayVec::new();
         self.mode = Mode::Str;

@@ -1,6 +1,6 @@
 //! What the end of the text does to the current token.
 
-ghost use Rattle.pgn_lexer.specs.ByteResult as after;
+ghost use Rattle.pgn_lexer.specs.ByteResult as byte_result;
 ghost use Rattle.pgn_lexer.specs.declared.partial_token.Step.TheVariants.{EndsBefore};
 
 use crate::partial_token::{Mode, PartialToken, Reached, TokenForm, glyph_of};
@@ -14,7 +14,7 @@ impl PartialToken {
     /// the end.
     #[tactic(auto, unfolding(crate::specs::ByteResult::after_end))]
     pub(crate) fn close(&mut self, place: u64) -> Reached
-        ensures { IsAfterEnd (after.after_end place self.old) self.new result }
+        ensures { IsAfterEnd (byte_result.after_end place self.old) self.new result }
     {
         match self.mode {
             Mode::Start | Mode::LineStart | Mode::Outside | Mode::EscapeLine => Reached::End,
@@ -39,7 +39,7 @@ impl PartialToken {
     }
 
     fn fail_at_end(&mut self, at: u64, reason: LexReason) -> Reached
-        ensures { IsAfterEnd (after.fails self.old at reason) self.new result }
+        ensures { IsAfterEnd (byte_result.fails self.old at reason) self.new result }
     {
         self.at = at;
         self.mode = Mode::Failed(reason);
@@ -48,7 +48,7 @@ impl PartialToken {
 
     fn give(&mut self, mode: Mode, form: TokenForm) -> Reached
         requires { HasMore mode self.old.text }
-        ensures { IsAfterEnd (after.into self.old mode (EndsBefore form)) self.new result }
+        ensures { IsAfterEnd (byte_result.into self.old mode (EndsBefore form)) self.new result }
     {
         self.mode = mode;
         Reached::Token(form)

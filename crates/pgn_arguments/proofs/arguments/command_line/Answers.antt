@@ -27,15 +27,19 @@ unfolding command_line bare_program
 returns c =
     let versioned = app_version _ _ _ c.version.ensures ∙ ap (on_top (λ (s : Shape). record s { has_version = true })) c.new.ensures.app in
     let told = app_after_help _ _ _ c.after_help.ensures ∙ app_about _ _ _ c.about.ensures ∙ versioned in
-    let plain = app_help_subcommand _ _ _ c.disable_help_subcommand.ensures ∙ ap (on_top (λ (s : Shape). record s { disable_help_subcommand = true })) told in
+    let plain =
+    app_help_subcommand _ _ _ c.disable_help_subcommand.ensures ∙ ap (on_top (λ (s : Shape). record s { disable_help_subcommand = true })) told in
     let bare : app_of c.subcommand_required.result ≡ bare_program = app_required _ _ _ c.subcommand_required.ensures
     ∙ ap (on_top (λ (s : Shape). record s { subcommand_required = true })) plain in
     let export_is = c.in_ok-export_command.ensures in
     let check_is = c.in_ok-check_command.ensures in
     let list_is = c.in_ok-list_command.ensures in
-    let first = c.in_ok-subcommand.ensures.shape (is_local _ _ export_is export_is_plain) ∙ ap₂ with_subcommand bare (ap (λ (a : App). a.top) export_is) in
-    let second = c.in_ok-subcommand-2.ensures.shape (is_local _ _ check_is check_is_plain) ∙ ap₂ with_subcommand first (ap (λ (a : App). a.top) check_is) in
-    let third = c.in_ok-subcommand-3.ensures.shape (is_local _ _ list_is list_is_plain) ∙ ap₂ with_subcommand second (ap (λ (a : App). a.top) list_is) in
+    let first =
+    c.in_ok-subcommand.ensures.shape (is_local _ _ export_is export_is_plain) ∙ ap₂ with_subcommand bare (ap (λ (a : App). a.top) export_is) in
+    let second =
+    c.in_ok-subcommand-2.ensures.shape (is_local _ _ check_is check_is_plain) ∙ ap₂ with_subcommand first (ap (λ (a : App). a.top) check_is) in
+    let third =
+    c.in_ok-subcommand-3.ensures.shape (is_local _ _ list_is list_is_plain) ∙ ap₂ with_subcommand second (ap (λ (a : App). a.top) list_is) in
     let split_is = c.in_ok-split_command.ensures in
     IfOk-weaker c.subcommand-4.result _ _
     (λ made h. h.shape (is_local _ _ split_is split_is_plain) ∙ ap₂ with_subcommand third (ap (λ (a : App). a.top) split_is)) c.subcommand-4.ensures

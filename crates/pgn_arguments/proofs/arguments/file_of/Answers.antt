@@ -1,11 +1,10 @@
-use Rattle.std.proofs.Common.{◌∙◌, ap, codes, Some}
-use Rattle.clap.specs.Words.{found_of}
+use Rattle.std.proofs.lemmas.Grind.{common_steps}
+use Rattle.std.proofs.Common.{arith}
 use Rattle.clap.proofs.WalkLemmas.{first_value-rows}
 use Rattle.pgn_arguments.proofs.arguments.file_of.Goals as goal
 
 pub returns-in_ok-from_str-in-Some : goal.returns-in_ok-from_str-in-Some
-returns-in_ok-from_str-in-Some c =
-    ap (λ t. Some t) c.in_ok-from_str-in-Some.ensures.ok ∙ c.in-Some.ensures ∙ first_value-rows (found_of c.args.matches.now) (codes "file")
+returns-in_ok-from_str-in-Some c = grind (arith, common_steps, first_value-rows)
 
 pub returns-in-None : goal.returns-in-None
-returns-in-None c = c.in-None.ensures ∙ first_value-rows (found_of c.args.matches.now) (codes "file")
+returns-in-None c = grind (arith, common_steps, first_value-rows)

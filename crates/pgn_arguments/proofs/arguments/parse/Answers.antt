@@ -22,7 +22,9 @@ pub returns-in-Ok-clause-refusal : goal.returns-in-Ok-clause-refusal
 unfolding refusals request_in
 returns-in-Ok-clause-refusal g c =
     let line = c.in_ok-command.ensures in
-    let free = ap (λ (a : App). fault_of a (map g.S.AsStr.text c.args.words.now)) (sym line) ∙ c.in-Ok.ensures.kinds (ap is_simple_and_free line ∙ line_is_free) in
+    let free =
+    ap (λ (a : App). fault_of a (map g.S.AsStr.text c.args.words.now)) (sym line)
+    ∙ c.in-Ok.ensures.kinds (ap is_simple_and_free line ∙ line_is_free) in
     let met = ap request_from (sym (rows_met c.in_ok-command.command _ c.in-Ok.matches c.in_ok-command.ensures c.in-Ok.ensures.matches)) in
     answers_request (map g.S.AsStr.text c.args.words.now) _ c.task_of.result free met c.task_of.ensures.fault
 
@@ -31,5 +33,6 @@ unfolding refusals
 returns-in-Err-clause-refusal g c =
     let line = c.in_ok-command.ensures in
     let words = map g.S.AsStr.text c.args.words.now in
-    let has = subst (λ (a : App). HasKind (fault_of a words) c.in-Err.error) line (c.in-Err.ensures.kinds (ap is_simple_and_free line ∙ line_is_free)) in
+    let has =
+    subst (λ (a : App). HasKind (fault_of a words) c.in-Err.error) line (c.in-Err.ensures.kinds (ap is_simple_and_free line ∙ line_is_free)) in
     answers_by words _ c.fault_of.result has c.fault_of.ensures
