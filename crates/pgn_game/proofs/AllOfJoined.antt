@@ -1,6 +1,5 @@
 -- A fact on each element of lists that are joined.
-use Rattle.std.proofs.Common.{List, [], ◌∷◌, ◌++◌}
-use Rattle.std.specs.List.{AllByRecursion}
+use Rattle.pgn_game.proofs.Words.{List, [], ◌∷◌, ◌++◌, AllByRecursion}
 
 pub all_front : {A : Type 0} (P : A → Type 0) (xs ys : List A) → AllByRecursion P (xs ++ ys) → AllByRecursion P xs
 all_front P [] ys h = tt

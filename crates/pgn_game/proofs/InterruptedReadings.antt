@@ -1,18 +1,10 @@
 -- Two readings of one text, of which one stops early or a write fails: what is written is a prefix.
-use Rattle.std.proofs.Common.{◌≡◌, ℕ, List, [], ◌∷◌, ◌++◌, take, drop, ◌⊎◌, inl, inr, Option, None, Some, refl, sym, ap, subst, ◌∙◌, append_assoc, append-nil}
-use Rattle.std.proofs.lemmas.List.{take-append-drop}
-use Rattle.pgn_lexer.specs.TokensOf.{tokens_of}
-use Rattle.pgn_lexer.specs.Decided.{decided}
-use Rattle.pgn_lexer.specs.Laws.{DecidedIsPrefix, TokensRise}
-use Rattle.pgn_game.proofs.Words.{Token, Reason, Profile, Missing, takes_the_marker, Game}
-use Rattle.pgn_game.specs.FaultTable.{refusal}
-use Rattle.pgn_game.specs.Text.{game_text, text_of, torn, torn_for}
-use Rattle.pgn_game.specs.Progress.{Next, going, whole, next, Progress, no_progress, progress_with, progress_after, Read, read, read_from, written, due}
-use Rattle.pgn_game.specs.Due.{text_next}
-use Rattle.pgn_game.specs.Laws.{IsPrefix}
-use Rattle.pgn_game.specs.Checked.{Mark, mark_at, marks_from, Comparison, compared_from, compared, with_mark, written_by}
+use Rattle.pgn_game.proofs.Words.{◌≡◌, ℕ, List, [], ◌∷◌, ◌++◌, take, drop, ◌⊎◌, inl, inr, None, refl, sym, ap, subst, ◌∙◌, append_assoc, append-nil, take-append-drop, tokens_of, TokensRise, Token, Profile, Missing, takes_the_marker, game_text, torn, torn_for, Next, going, whole, next, Progress, no_progress, progress_with, progress_after, Read, read, read_from, IsPrefix, rules, Mark, mark_at, marks_from, Comparison, compared_from, compared, written_by, with_mark, decided, text_next}
+use Rattle.pgn_lexer.specs.Laws.{DecidedIsPrefix}
+use Rattle.pgn_game.specs.Text.{text_of}
+use Rattle.pgn_game.specs.Progress.{written, due}
 use Rattle.pgn_game.specs.EqualReadings.{AreWritten, AreWrittenWithin, InterruptedReadings}
-use Rattle.pgn_game.proofs.tokens.OneMoreToken.{after_test, read_from-test, goes_on, also, grows_from, due_grows, text_of-snoc}
+use Rattle.pgn_game.proofs.tokens.OneMoreToken.{by_token, goes_on, also, grows_from, due_grows, text_of-snoc}
 use Rattle.pgn_game.proofs.tokens.NextGrows.{behind, next_grows}
 use Rattle.pgn_game.proofs.EqualReadings.{Ends, ends, rest_ends, after_marks, marks_test, SeesGames, same_token, rejected_token, compared_same, written_same}
 use Rattle.pgn_game.proofs.twice.MarkerCounts.{same_game_text}
@@ -65,16 +57,12 @@ module _ (p : Profile) (takes : p.missing_result ≡ takes_the_marker) where
 
   torn_ahead : (b : Progress) (ts : List Token) (m : Mark) (ms : List Mark) → marks_from p b ts ≡ m ∷ ms → Ahead b m (read_from p b ts)
   torn_ahead b [] m ms is = absurd (cc)
-  torn_ahead b (t ∷ ts) m ms is = by_refusal (refusal p b.part t.kind) refl (torn_ahead (progress_after b t) ts m ms)
-    where
-      by_refusal : (o : Option Reason) → refusal p b.part t.kind ≡ o
-          → (marks_from p (progress_after b t) ts ≡ m ∷ ms → Ahead (progress_after b t) m (read_from p (progress_after b t) ts)) → Ahead b m (read_from p b (t ∷ ts))
-      by_refusal (Some reason) rejects further =
-          let none : marks_from p b (t ∷ ts) ≡ [] = marks_test p b t ts ∙ ap (after_marks p b t ts) rejects in
-          absurd (cc)
-      by_refusal None free further =
-          subst (Ahead b m) (sym (goes_on p b t ts free))
-          (torn_at_mark b t ts m ms (next b.part t.kind) refl (sym (marks_test p b t ts ∙ ap (after_marks p b t ts) free) ∙ is) further)
+  torn_ahead b (t ∷ ts) m ms is =
+      by_token p b t ts (Ahead b m)
+      (λ reason rejects. let none : marks_from p b (t ∷ ts) ≡ [] = marks_test p b t ts ∙ ap (after_marks p b t ts) rejects in absurd (cc))
+      (λ free.
+      torn_at_mark b t ts m ms (next b.part t.kind) refl (sym (marks_test p b t ts ∙ ap (after_marks p b t ts) free) ∙ is)
+      (torn_ahead (progress_after b t) ts m ms))
 
   -- What is written of one text where `second` stops behind a front of its tokens: `low` is what
   -- one reading has written by then, and `high` what it writes in all.
@@ -84,17 +72,10 @@ module _ (p : Profile) (takes : p.missing_result ≡ takes_the_marker) where
     most : IsPrefix (written_by p f) (written p high)
 
   sees_within : (low high : Progress) → SeesGames (Within low high)
-  sees_within low high b c alike so =
-      let text : text_of p c.games ++ [] ≡ text_of p b.games ++ [] = ap (λ (games : List Game). text_of p games ++ []) alike in
-      record {
-        fault = refl;
-        least = subst (IsPrefix (text_of p low.games)) text so.least;
-        most = subst (λ (l : List ℕ). IsPrefix l (written p high)) text so.most;
-      }
+  sees_within low high = search rules
 
   none_written : (b high : Progress) → IsPrefix (text_of p b.games) (written p high) → Within b high (record { progress = b; marks_left = []; fault = None })
-  none_written b high grown =
-      record { fault = refl; least = ([], refl); most = subst (λ (l : List ℕ). IsPrefix l (written p high)) (sym (append-nil (text_of p b.games))) grown }
+  none_written b high grown = search (rules, append-nil)
 
   waits : (b : Progress) (more : List Token) (ms : List Mark) → marks_from p b more ≡ ms → Within b (read_from p b more).progress (record { progress = b; marks_left = ms; fault = None })
   waits b more [] is = none_written b (read_from p b more).progress (games_grow b more)
@@ -107,27 +88,17 @@ module _ (p : Profile) (takes : p.missing_result ≡ takes_the_marker) where
   compared_within : (b : Progress) (us more : List Token) → Ends (us ++ more)
       → Within (read_from p b us).progress (read_from p b (us ++ more)).progress (compared_from p (marks_from p b (us ++ more)) b us)
   compared_within b [] more last = waits b more (marks_from p b more) refl
-  compared_within b (t ∷ us) more last = by_refusal (refusal p b.part t.kind) refl (compared_within (progress_after b t) us more (rest_ends t (us ++ more) last))
-    where
-      by_refusal : (o : Option Reason) → refusal p b.part t.kind ≡ o
-          → Within (read_from p (progress_after b t) us).progress (read_from p (progress_after b t) (us ++ more)).progress
-          (compared_from p (marks_from p (progress_after b t) (us ++ more)) (progress_after b t) us)
-          → ForToken b t us more (read_from p b (t ∷ us)) (read_from p b (t ∷ us ++ more))
-      by_refusal (Some reason) is so =
-          let stops : (vs : List Token) → read_from p b (t ∷ vs) ≡ after_test p b t vs (Some reason) = λ vs. read_from-test p b t vs ∙ ap (after_test p b t vs) is in
-          subst (λ (r : Read). ForToken b t us more r (read_from p b (t ∷ us ++ more))) (sym (stops us))
-          (subst (ForToken b t us more (after_test p b t us (Some reason))) (sym (stops (us ++ more)))
-          (subst (Within b b) (sym (rejected_token p b t (us ++ more) us reason is)) (none_written b b (games_grow b []))))
-      by_refusal None is so =
-          subst (λ (r : Read). ForToken b t us more r (read_from p b (t ∷ us ++ more))) (sym (goes_on p b t us is))
-          (subst (ForToken b t us more (read_from p (progress_after b t) us)) (sym (goes_on p b t (us ++ more) is))
-          (same_token (Within (read_from p (progress_after b t) us).progress (read_from p (progress_after b t) (us ++ more)).progress) (sees_within _ _) p b t (us ++ more) us last is so))
+  compared_within b (t ∷ us) more last =
+      by_token p b t us (λ r. ForToken b t us more r (read_from p b (t ∷ us ++ more)))
+      (λ reason is. subst (Within b _) (sym (rejected_token p b t (us ++ more) us reason is)) (none_written b _ (games_grow b (t ∷ us ++ more))))
+      (λ is.
+      subst (ForToken b t us more (read_from p (progress_after b t) us)) (sym (goes_on p b t (us ++ more) is))
+      (same_token (Within (read_from p (progress_after b t) us).progress (read_from p (progress_after b t) (us ++ more)).progress) (sees_within _ _) p b t (us ++ more) us last is
+      (compared_within (progress_after b t) us more (rest_ends t (us ++ more) last))))
 
   -- `first` stops behind the tokens us
   pub first_stops : (us more : List Token) → Ends (us ++ more) → AreWritten p (compared p us (us ++ more)) (due p us)
-  first_stops us more last =
-      let so = compared_same p no_progress us more (front_ends us more last) in
-      record { fault = so.fault; no_mark_left = so.marks_left; written = written_same p (compared p us (us ++ more)) (read p us).progress takes so }
+  first_stops us more last = search (rules, compared_same, written_same, front_ends)
 
   -- `second` stops there
   pub second_stops : (us more : List Token) → Ends (us ++ more) → AreWrittenWithin p (compared p (us ++ more) us) (due p us) (due p (us ++ more))

@@ -1,7 +1,9 @@
 mod AllOfJoined
 mod EqualReadings
 mod InterruptedReadings
+mod MarkerTexts
 mod ReaderFitsInMemory
+mod ReaderLemmas
 mod ReaderPartsFitInMemory
 mod Words
 mod exporting

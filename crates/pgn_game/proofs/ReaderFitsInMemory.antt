@@ -36,3 +36,7 @@ games_fit_converter T L fits = second _ _ _ _ (first _ _ _ _ fits)
 
 pub pass_fits_reader : (T L : RattleType) → FitsInMemory (pass_row T L) → FitsInMemory (reader_row T L)
 pass_fits_reader T L fits = second _ _ _ _ (first _ _ _ _ fits)
+
+-- and another reading
+pub pass_alike : (T L : RattleType) → FitsInMemory (pass_row T L) → FitsInMemory (pass_row T L)
+pass_alike T L fits = fits

@@ -237,7 +237,7 @@ Keeps old new (Ok taken) = KeepsGoing old new
 Keeps old new (Err f) = Unit {0}
 
 -- Which device counts a failure: the source, exactly if a read failed; the sink, exactly if a write
--- failed. The counts are 0 of a device that is not there.
+-- failed.
 abbrev pub CountsStep : {A : Type 0} → Result A Fault → ℕ → ℕ → ℕ → ℕ → Type 0
 CountsStep (Ok x) source_old source_new sink_old sink_new = (source_new ≡ source_old) × (sink_new ≡ sink_old)
 CountsStep (Err f) source_old source_new sink_old sink_new = CountsDevices f.reason source_old source_new sink_old sink_new

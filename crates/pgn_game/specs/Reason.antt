@@ -1,24 +1,24 @@
 -- **Definition**: the reasons with their numbers and words, and the line of a fault.
 use Rattle.std.specs.Prelude.{ℕ, List, [], ◌++◌, codes, decimal}
 use Rattle.pgn_lexer.specs.declared.token.LexReason.{LexReason}
-use Rattle.pgn_lexer.specs.declared.token.LexReason.TheVariants as lexical
+use Rattle.pgn_lexer.specs.declared.token.LexReason.TheVariants as lex_reasons
 use Rattle.pgn_game.specs.declared.reason.Reason.{Reason}
 use Rattle.pgn_game.specs.declared.reason.Reason.TheVariants.{Lexical, ExpectedName, BadTagName, DuplicateTag, TooManyTags, ExpectedValue, BadResult, BadFen, TagLineTooLong, ExpectedBracket, SetUpWithoutFen, ReducedFen, TagInMovetext, NotAMove, IllegalMove, AmbiguousMove, MoveLimit, NoMoveBefore, TooDeep, UnmatchedClose, MarkerInVariation, ResultDiffers, UnexpectedEnd, ReadFault, WriteFault, InputTooLong, Changed}
 use Rattle.pgn_game.specs.declared.reason.Fault.{Fault}
 
 abbrev pub lexical_number_of : LexReason → ℕ
-lexical_number_of lexical.StrayByte = 1
-lexical_number_of lexical.ControlByte = 2
-lexical_number_of lexical.Reserved = 3
-lexical_number_of lexical.SymbolTooLong = 4
-lexical_number_of lexical.StringTooLong = 5
-lexical_number_of lexical.WordTooLong = 6
-lexical_number_of lexical.LoneDollar = 7
-lexical_number_of lexical.GlyphRange = 8
-lexical_number_of lexical.BadSuffix = 9
-lexical_number_of lexical.BraceInLineComment = 10
-lexical_number_of lexical.UnclosedString = 11
-lexical_number_of lexical.UnclosedComment = 12
+lexical_number_of lex_reasons.StrayByte = 1
+lexical_number_of lex_reasons.ControlByte = 2
+lexical_number_of lex_reasons.Reserved = 3
+lexical_number_of lex_reasons.SymbolTooLong = 4
+lexical_number_of lex_reasons.StringTooLong = 5
+lexical_number_of lex_reasons.WordTooLong = 6
+lexical_number_of lex_reasons.LoneDollar = 7
+lexical_number_of lex_reasons.GlyphRange = 8
+lexical_number_of lex_reasons.BadSuffix = 9
+lexical_number_of lex_reasons.BraceInLineComment = 10
+lexical_number_of lex_reasons.UnclosedString = 11
+lexical_number_of lex_reasons.UnclosedComment = 12
 
 -- the number of each reason
 abbrev pub number_of : Reason → ℕ
@@ -51,18 +51,18 @@ number_of InputTooLong = 52
 number_of Changed = 53
 
 abbrev pub lexical_words_of : LexReason → List ℕ
-lexical_words_of lexical.StrayByte = codes "stray byte"
-lexical_words_of lexical.ControlByte = codes "control byte"
-lexical_words_of lexical.Reserved = codes "reserved character"
-lexical_words_of lexical.SymbolTooLong = codes "symbol is too long"
-lexical_words_of lexical.StringTooLong = codes "string is too long"
-lexical_words_of lexical.WordTooLong = codes "comment word is too long"
-lexical_words_of lexical.LoneDollar = codes "dollar sign without a number"
-lexical_words_of lexical.GlyphRange = codes "glyph is above 255"
-lexical_words_of lexical.BadSuffix = codes "unknown move suffix"
-lexical_words_of lexical.BraceInLineComment = codes "closing brace in a line comment"
-lexical_words_of lexical.UnclosedString = codes "string is not closed"
-lexical_words_of lexical.UnclosedComment = codes "comment is not closed"
+lexical_words_of lex_reasons.StrayByte = codes "stray byte"
+lexical_words_of lex_reasons.ControlByte = codes "control byte"
+lexical_words_of lex_reasons.Reserved = codes "reserved character"
+lexical_words_of lex_reasons.SymbolTooLong = codes "symbol is too long"
+lexical_words_of lex_reasons.StringTooLong = codes "string is too long"
+lexical_words_of lex_reasons.WordTooLong = codes "comment word is too long"
+lexical_words_of lex_reasons.LoneDollar = codes "dollar sign without a number"
+lexical_words_of lex_reasons.GlyphRange = codes "glyph is above 255"
+lexical_words_of lex_reasons.BadSuffix = codes "unknown move suffix"
+lexical_words_of lex_reasons.BraceInLineComment = codes "closing brace in a line comment"
+lexical_words_of lex_reasons.UnclosedString = codes "string is not closed"
+lexical_words_of lex_reasons.UnclosedComment = codes "comment is not closed"
 
 -- the words of each reason
 abbrev pub words_of : Reason → List ℕ

@@ -233,40 +233,48 @@ impl<const T: usize, const L: usize> Pass<T, L> {
         ensures counted { CountsStep result (R.failures source.old) (R.failures source.new)
             (W.failures out.old) (W.failures out.new) }
     {
-        if self.has_ended {
-            match self.lexer.finish() {
-                // Never: `finish` gives a token or a fault.
-                Outcome::NeedMore => return Ok(Taken::More),
-                Outcome::Token(token) => {
-                    return take_token(
-                        token.kind,
-                        token.at,
-                        told,
-                        &mut self.reader,
-                        &mut self.games,
-                        out,
-                    );
-                }
-                Outcome::Fault(fault) => return Err(lexical(fault)),
-            }
-        }
         if self.buffer.unused().is_empty() {
+            if self.has_ended {
+                match self.lexer.finish() {
+                    // Never: `finish` gives a token or a fault.
+                    Outcome::NeedMore => return Ok(Taken::More),
+                    Outcome::Token(token) => {
+                        return take_token(
+                            token.kind,
+                            token.at,
+                            told,
+                            &mut self.reader,
+                            &mut self.games,
+                            out,
+                        );
+                    }
+                    Outcome::Fault(fault) => return Err(lexical(fault)),
+                }
+            }
             self.fill(source)?;
             return Ok(Taken::More);
         }
         tokens_rise();
         let scan = self.lexer.next(self.buffer.unused());
-        self.buffer.skip(scan.used);
+        let used = scan.used;
         match scan.outcome {
-            Outcome::NeedMore => Ok(Taken::More),
-            Outcome::Token(token) => take_token(
-                token.kind,
-                token.at,
-                told,
-                &mut self.reader,
-                &mut self.games,
-                out,
-            ),
+            Outcome::NeedMore => {
+                self.buffer.clear();
+                Ok(Taken::More)
+            }
+            // Its bytes are skipped last: the compiler then chooses by kind and stage at once.
+            Outcome::Token(token) => {
+                let taken = take_token(
+                    token.kind,
+                    token.at,
+                    told,
+                    &mut self.reader,
+                    &mut self.games,
+                    out,
+                );
+                self.buffer.skip(used);
+                taken
+            }
             Outcome::Fault(fault) => Err(lexical(fault)),
         }
     }
@@ -278,7 +286,8 @@ impl<const T: usize, const L: usize> Pass<T, L> {
         requires empty { (self.old.has_ended ≡ false) × (self.old.unused ≡ []) }
         ensures fills { Fills (R.left source.old) (R.left source.new) self.old self.new result }
         ensures keeps { OnOk result (KeepsGoing self.old self.new) }
-        ensures counted { CountsStep result (R.failures source.old) (R.failures source.new) 0 0 }
+        ensures counted { (n : ℕ)
+            → CountsStep result (R.failures source.old) (R.failures source.new) n n }
     {
         let at = self.lexer.count();
         let room = MAX_INPUT_LENGTH - at;
@@ -326,7 +335,7 @@ fn take_token<const T: usize, const L: usize, W: Sink>(
         ≤ reader.old.earlier_plies + reader.old.text.plies + 1 }
     ensures games { IfOk result (λ taken. games.new ≡ games_with taken games.old) }
     ensures end { IfOk result (TellsEnd (kind_of kind.entry)) }
-    ensures counted { CountsStep result 0 0 (W.failures out.old) (W.failures out.new) }
+    ensures counted { (n : ℕ) → CountsStep result n n (W.failures out.old) (W.failures out.new) }
 {
     if marks_differ(told, kind, at) {
         return Err(differs(at));
@@ -365,7 +374,10 @@ fn differs(at: u64) -> Fault
 fn marks_differ(told: Option<Mark>, kind: TokenKind<'_>, at: u64) -> bool
     ensures { result ≡ do_marks_differ told (marker_of (kind_of kind.entry)) at }
 {
-    let (Some(told), Some(marker)) = (told, Marker::of(kind)) else {
+    let Some(told) = told else {
+        return false;
+    };
+    let Some(marker) = Marker::of(kind) else {
         return false;
     };
     marker.text() != told.marker.text() || at != told.at

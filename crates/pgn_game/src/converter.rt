@@ -8,7 +8,7 @@ ghost use Rattle.pgn_game.specs.declared.reason.Reason.TheVariants.{InputTooLong
 ghost use Rattle.pgn_game.specs.ConverterSteps.{FeedsFront, Steps, StepsAtEnd};
 ghost use Rattle.pgn_game.specs.ConverterSteps.{StepAdvances, StepAtEndAdvances, outcome_at, games_after};
 ghost use Rattle.pgn_game.specs.ConverterSteps.{fault_of_step};
-ghost use Rattle.pgn_game.specs.ConverterSteps as steps;
+ghost use Rattle.pgn_game.specs.ConverterSteps as converter_steps;
 ghost use Rattle.pgn_game.specs.ConverterCalls.{Stands, Feeds, KeepsGames, FeedsAll, Ends};
 ghost use Rattle.pgn_game.specs.ConverterCalls.{Again, KeepsFault, CountsFault, Advances, profile_of};
 ghost use Rattle.pgn_game.specs.ConverterCalls.{used_of, finished_game_value};
@@ -447,7 +447,7 @@ impl<const T: usize, const L: usize> Converter<T, L> {
         ensures games { self.new.games ≡ games_after result.outcome self.old.games }
         ensures probes { self.old.reading.most_probes ≤ self.new.reading.most_probes }
         ensures just_finished { is_some self.new.just_finished
-            ≡ steps.finished_game result.outcome }
+            ≡ converter_steps.finished_game result.outcome }
         ensures finished { self.new.is_finished ≡ self.old.is_finished }
         ensures counted { CountsFault result.outcome
             (device W.taken W.failures out.old out.new) }
@@ -485,7 +485,7 @@ impl<const T: usize, const L: usize> Converter<T, L> {
         ensures games { self.new.games ≡ games_after result self.old.games }
         ensures probes { self.old.reading.most_probes ≤ self.new.reading.most_probes }
         ensures none_just_finished { self.new.just_finished ≡ None }
-        ensures finished { self.new.is_finished ≡ steps.is_ended result }
+        ensures finished { self.new.is_finished ≡ converter_steps.is_ended result }
         ensures counted { CountsFault result (device W.taken W.failures out.old out.new) }
     {
         match self.lexer.finish() {
@@ -573,7 +573,7 @@ pub fn lexical(fault: LexFault) -> Fault
 
 // Whether the step finished a game.
 fn finished_game(outcome: Result<Option<Accepted>, Fault>) -> bool
-    ensures { result ≡ steps.finished_game outcome }
+    ensures { result ≡ converter_steps.finished_game outcome }
 {
     match outcome {
         Ok(Some(Accepted::Finished)) => true,
@@ -583,7 +583,7 @@ fn finished_game(outcome: Result<Option<Accepted>, Fault>) -> bool
 
 // Whether the step read the end of the input.
 fn is_ended(outcome: Result<Option<Accepted>, Fault>) -> bool
-    ensures { result ≡ steps.is_ended outcome }
+    ensures { result ≡ converter_steps.is_ended outcome }
 {
     match outcome {
         Ok(None) => true,
@@ -596,7 +596,7 @@ fn none_at_end(
     is_end: bool,
     outcome: Result<Option<Accepted>, Fault>,
 ) -> Result<Option<Accepted>, Fault>
-    ensures { result ≡ steps.none_at_end is_end outcome }
+    ensures { result ≡ converter_steps.none_at_end is_end outcome }
 {
     match outcome {
         Ok(_) => {

@@ -1,7 +1,7 @@
 //! Laws of the definitions that the contracts cite. The functions do nothing.
 ghost use Rattle.pgn_game.specs.Laws as laws;
-ghost use Rattle.pgn_game.specs.GamesJoined as joined;
-ghost use Rattle.pgn_game.specs.GameEnds as ends;
+ghost use Rattle.pgn_game.specs.GamesJoined as games_joined;
+ghost use Rattle.pgn_game.specs.GameEnds as game_ends;
 ghost use Rattle.pgn_game.specs.GamesRestart as restart;
 ghost use Rattle.pgn_game.specs.MovesAreLegal as legality;
 ghost use Rattle.pgn_game.specs.FixedPoint as fixed;
@@ -44,21 +44,21 @@ pub fn games_restart()
 /// and what is written is its output. After an error the output and the error are those of
 /// `convert`. Each call has to get the source and the sink as the call before left them.
 pub fn games_join()
-    ensures { joined.GamesJoin }
+    ensures { games_joined.GamesJoin }
 {}
 
 /// The token that finishes a game is its marker, and the Result of its tag section is that marker.
 ///
 /// Behind it the output is that of whole games.
 pub fn games_end_by_marker()
-    ensures { ends.GamesEndByMarker }
+    ensures { game_ends.GamesEndByMarker }
 {}
 
 /// A game that the end of a text finishes ends there: its marker is the last token.
 ///
 /// The end finishes one game at most.
 pub fn texts_end_behind_marker()
-    ensures { ends.TextsEndBehindMarker }
+    ensures { game_ends.TextsEndBehindMarker }
 {
     symbols_stand_in_text();
     games_end_by_marker();
@@ -66,7 +66,7 @@ pub fn texts_end_behind_marker()
 
 /// The output of a text without a fault is that of whole games.
 pub fn texts_end_between_games()
-    ensures { ends.TextsEndBetweenGames }
+    ensures { game_ends.TextsEndBetweenGames }
 {
     tokens_rise();
 }

@@ -1,33 +1,20 @@
 -- The name of a file gives its number back, and a log by names is one by numbers.
-use Rattle.pgn_tool.proofs.Words.{◌≡◌, ℕ, ◌-◌, ◌^◌, ◌<◌, suc, zero, List, [], ◌∷◌, ◌++◌, length, take, drop, Option, None, Some, Result, refl, ap, ◌∙◌, length-append, arith, codes, decimal, map-append, SystemFault, added}
+use Rattle.pgn_tool.proofs.Words.{◌≡◌, ℕ, ◌-◌, ◌^◌, ◌<◌, suc, zero, List, [], ◌∷◌, ◌++◌, length, take, Option, None, Some, Result, refl, ap, ◌∙◌, length-append, arith, codes, decimal, map-append, SystemFault, added}
 use Rattle.std.specs.Str.Parse.{digits_value}
 use Rattle.std.proofs.lemmas.Fmt.{digits_value-decimal}
 use Rattle.std.proofs.lemmas.Str.Parse.{numerals_by_value, tells_digits}
-use lib.Seq.{take-append_seam}
+use lib.Seq.{take-append_seam, drop-nil}
 use Rattle.pgn_tool.specs.FileName.{file_name, zeros_before}
 use Rattle.pgn_tool.specs.FileSystem.{NameStep, making, number_of, numbered, step_at, step_of}
 
--- each byte is a zero
-AreZeros : List ℕ → Type 0
-AreZeros [] = Unit {0}
-AreZeros (byte ∷ bytes) = (byte ≡ 48) × AreZeros bytes
-
-zeros_add_nothing : (zeros digits : List ℕ) → AreZeros zeros
-    → digits_value 10 (zeros ++ digits) ≡ digits_value 10 digits
-unfolding AreZeros
-zeros_add_nothing [] digits none = refl
-zeros_add_nothing (byte ∷ zeros) digits (is, more) =
-    ap (λ b. digits_value 10 ((b ∷ zeros) ++ digits)) is ∙ zeros_add_nothing zeros digits more
-
-rest_are_zeros : (count : ℕ) (zeros : List ℕ) → AreZeros zeros → AreZeros (drop count zeros)
-unfolding AreZeros
-rest_are_zeros zero zeros are = are
-rest_are_zeros (suc count) [] are = are
-rest_are_zeros (suc count) (byte ∷ zeros) (is, more) = rest_are_zeros count zeros more
-
-before_are_zeros : (digits : ℕ) → AreZeros (zeros_before digits)
-unfolding AreZeros
-before_are_zeros digits = rest_are_zeros digits (codes "000000") (refl, (refl, (refl, (refl, (refl, (refl, tt))))))
+zeros_add_nothing : (count : ℕ) (digits : List ℕ) → digits_value 10 (zeros_before count ++ digits) ≡ digits_value 10 digits
+zeros_add_nothing zero digits = refl
+zeros_add_nothing (suc zero) digits = refl
+zeros_add_nothing (suc (suc zero)) digits = refl
+zeros_add_nothing (suc (suc (suc zero))) digits = refl
+zeros_add_nothing (suc (suc (suc (suc zero)))) digits = refl
+zeros_add_nothing (suc (suc (suc (suc (suc zero))))) digits = refl
+zeros_add_nothing (suc (suc (suc (suc (suc (suc count)))))) digits = ap (λ l. digits_value 10 (l ++ digits)) (drop-nil count)
 
 without_ending : (name ending : List ℕ) → length ending ≡ 4
     → take (length (name ++ ending) - 4) (name ++ ending) ≡ name
@@ -39,7 +26,7 @@ number_of-name : (number : ℕ) → number < 2 ^ 64 → number_of (file_name num
 number_of-name number fits =
     let zeros = zeros_before (length (decimal number)) in
     ap (digits_value 10) (without_ending (zeros ++ decimal number) (codes ".pgn") refl)
-    ∙ zeros_add_nothing zeros (decimal number) (before_are_zeros (length (decimal number)))
+    ∙ zeros_add_nothing (length (decimal number)) (decimal number)
     ∙ digits_value-decimal (numerals_by_value _ tells_digits) number fits
 
 numbered-added : (log : Option (List NameStep)) (step : NameStep)

@@ -1,6 +1,6 @@
 -- The words that proofs of this crate name, under one path.
-pub use Rattle.std.proofs.Common.{Bool, IfSome, List, None, Option, Result, Some, [], ap, append-nil, append_assoc, arith, decimal, drop, false, inl, inr, is_some, length, length-append, length-take, map, refl, rules, subst, suc, sym, take, true, true≢false, unwrap_or, vec_capacity, vec_len, zero, ℕ, ◌++◌, ◌+◌, ◌-◌, ◌<◌, ◌^◌, ◌∙◌, ◌∷◌, ◌≡◌, ◌≤◌, ◌⊎◌}
-pub use Rattle.std.proofs.KnownBytes.{Appends-nil, Appends-trans, Consumes-nil, Consumes-trans}
+pub use Rattle.std.proofs.Common.{Bool, IfSome, List, None, Option, Result, Some, [], ap, append-nil, append_assoc, arith, decimal, false, inl, inr, is_some, length, length-append, length-take, map, refl, rules, subst, suc, sym, take, true, true≢false, unwrap_or, vec_capacity, vec_len, zero, ℕ, ◌++◌, ◌+◌, ◌-◌, ◌<◌, ◌^◌, ◌∙◌, ◌∷◌, ◌≡◌, ◌≤◌, ◌⊎◌}
+pub use Rattle.std.proofs.KnownBytes.{Appends-kept, Appends-nil, Appends-trans, Consumes-nil, Consumes-trans, Consumes-whole}
 pub use Rattle.std.proofs.Math.Seq.{take-append-add, take-append_seam, take-length}
 pub use Rattle.std.proofs.lemmas.Bool.{false≢true}
 pub use Rattle.std.proofs.lemmas.List.{append_cancel_left, length-map, map-append, take-append-le}
@@ -8,19 +8,20 @@ pub use Rattle.std.proofs.lemmas.Result.{err_from_is_err_and}
 unfoldable pub use Rattle.std.specs.Fmt.{digits}
 pub use Rattle.std.specs.Global.{Global}
 pub use Rattle.std.specs.Io.KnownBytes.{Appends, Consumes, IsAtEnd, Keeps, WriteAppends, append_known}
-pub use Rattle.std.specs.Prelude.{Err, IfOk, Ok, OnOk, String, Vec, codes, if◌then◌else◌, is_ok, option_map, string_bytes, sum}
-pub use Rattle.pgn_arguments.specs.declared.arguments.Task.TheVariants.{Check, Checked, Export, Split}
-pub use Rattle.pgn_game.specs.CheckedConversion.{AreConverted, AreTotalled, CountsThree, Decides, FirstStops, HasTaken, IsTokenPrefix, MatchesAllMarks, OneFails, SecondStops, TwoReadingsConvert, TwoReadingsFail, WriteStops, first_too_long, first_unread, second_too_long, second_unread, unwritten}
+pub use Rattle.std.specs.Prelude.{Err, IfOk, Ok, OnOk, String, codes, if◌then◌else◌, is_ok, option_map, string_bytes}
+pub use Rattle.pgn_arguments.specs.declared.arguments.Task.TheVariants.{Export, Split}
+pub use Rattle.pgn_game.specs.CheckedConversion.{AreConverted, CountsThree, Decides, FirstStops, HasTaken, IsTokenPrefix, OneFails, SecondStops, TwoReadingsConvert, TwoReadingsFail, WriteStops, first_too_long, first_unread, second_too_long, second_unread, unwritten}
 pub use Rattle.pgn_game.specs.Conversion.{AfterConversion, CountsDevices, Fails, IsConverted}
-pub use Rattle.pgn_game.specs.ConverterCalls.{Converter, FinishedGame, HasRead, StopsWriting, finished_game_of, finished_game_plies, finished_game_position, finished_game_value, profile_of}
+pub use Rattle.pgn_game.specs.ConverterCalls.{FinishedGame, HasRead, StopsWriting, profile_of}
 pub use Rattle.pgn_game.specs.EqualReadings.{EqualReadings, InterruptedReadings}
 pub use Rattle.pgn_game.specs.FaultTable.{Row, first_holding, result_for, rows}
 unfoldable pub use Rattle.pgn_game.specs.FaultTable.{refusal}
 pub use Rattle.pgn_game.specs.Game.{Game, Part}
 pub use Rattle.pgn_game.specs.GamesCalls.{Games, HaveRead, NextGame, NextStops, NoGame, ReadsNoGame, at_end, most_left, within}
-pub use Rattle.pgn_game.specs.Levels.{plies_of, start_of}
+pub use Rattle.pgn_game.specs.Levels.{start_of}
 pub use Rattle.pgn_game.specs.Profile.{Profile, known_result, takes_the_marker}
-pub use Rattle.pgn_game.specs.Progress.{Next, Progress, Read, Verdict, due, going, next, no_progress, output, progress_after, progress_with, read, read_from, refused, totals, verdict, verdict_of, whole}
+pub use Rattle.pgn_game.specs.Progress.{Next, Progress, Read, Verdict, due, going, next, no_progress, output, progress_after, progress_with, read, read_from, refused, totals, verdict, verdict_of, whole, Counted}
+pub use Rattle.pgn_game.specs.Reason.{line_of}
 pub use Rattle.pgn_game.specs.TagSection.{exported, tag_section}
 unfoldable pub use Rattle.pgn_game.specs.TagSection.{roster}
 pub use Rattle.pgn_game.specs.Text.{game_text, text_of, tokens_out, torn}
@@ -34,17 +35,16 @@ pub use Rattle.pgn_layout.specs.Device.{AppendsFront, Counts, Device, IsStill, W
 pub use Rattle.pgn_lexer.specs.Decided.{decided}
 pub use Rattle.pgn_lexer.specs.Tokens.{Kind, Token}
 pub use Rattle.pgn_lexer.specs.TokensOf.{tokens_of}
-pub use Rattle.pgn_tool.specs.CheckedRun.{AnswersSame, AnswersTwice, BlamesTwice, EndsTwice, Gives, RunsTwice, WritesFront, checked_mode, profile_twice}
-pub use Rattle.pgn_tool.specs.Files.{FileStep, IsBegun, IsNew, added, bytes_in, closed, failures_in, file_steps, has_bytes, is_text, made, number_after, refusal_step, whole_files}
-pub use Rattle.pgn_tool.specs.ListLines.{CountsList, CountsReadFault, IsListed, ListResult, ListStops, ListsNoMore, game_line, line_just_finished, lines_from, list_profile, list_text, listed_value, six_fields, too_long, unread}
+pub use Rattle.pgn_tool.specs.CheckedRun.{AnswersSame, AnswersTwice, BlamesTwice, EndsTwice, Gives, RunsTwice, profile_twice}
+pub use Rattle.pgn_tool.specs.Files.{FileStep, IsBegun, IsNew, added, bytes_in, closed, failures_in, file_steps, has_bytes, is_text, made, number_after, refusal_step, taken_by, whole_files}
+pub use Rattle.pgn_tool.specs.ListLines.{CountsReadFault, IsListed, ListResult, ListStops, ListsNoMore, game_line, line_just_finished, lines_from, lines_of, list_profile, list_text, listed_value, six_fields, too_long, unread}
 unfoldable pub use Rattle.pgn_tool.specs.ListLines.{finished_game_line}
-pub use Rattle.pgn_tool.specs.ListState.{ListedSoFar}
-pub use Rattle.pgn_tool.specs.Machine.{Holding, IsOpened, Machine, Opens, Reading, holds, missing, reading}
-pub use Rattle.pgn_tool.specs.Program.{Carries, EndsUnopened, IsMissing, Ran, RunsAgain, RunsAnswer, RunsOpened, RunsStream, RunsToOutput, RunsWords, StartsFrom, by_fault, by_task, file_source, makes_files, opened, opened_again, source_of, streams, unbuffered, unopened, unopened_again}
-pub use Rattle.pgn_tool.specs.SplitFiles.{CountsSource, CountsSplit, EndsSplit, GameSplit, IsOwn, LastFile, SplitFiles, reported, settled}
+pub use Rattle.pgn_tool.specs.Machine.{Holding, IsOpened, Machine, Reading, holds, missing, reading}
+pub use Rattle.pgn_tool.specs.Program.{Carries, EndsUnopened, IsMissing, RunsAnswer, RunsOpened, RunsToOutput, RunsWords, StartsFrom, by_fault, by_task, file_source, makes_files, opened, opened_again, source_of, streams, unbuffered, unopened, unopened_again}
+pub use Rattle.pgn_tool.specs.SplitFiles.{CountsSource, CountsSplit, EndsSplit, GameSplit, IsOwn, LastFile, RunsSplit, SplitFiles, reported, settled}
 pub use Rattle.pgn_tool.specs.SplitGames.{CutFile, CutsFile, IsSplit, IsSplitWhole, Logs, LogsCut, SplitResult, SplitStops, SplitsNoMore, StopsAt, files_of, texts_in, torn_file, torn_text}
-pub use Rattle.pgn_tool.specs.SplitState.{SplitSoFar}
-pub use Rattle.pgn_tool.specs.TaskRun.{Answers, Blames, Concludes, Ends, EndsList, FlushCounts, HasFailed, HasFront, IsCalm, IsSmooth, IsUntouched, Job, Runs, Tells, TellsVerdict, Works, checking, counting_line, counting_of, exporting, job_of, line, listing, mode_for, profile_for, status_of, text_for}
+pub use Rattle.pgn_tool.specs.BetweenGames.{ListedSoFar, SplitSoFar}
+pub use Rattle.pgn_tool.specs.TaskRun.{Answers, Blames, Concludes, Ends, EndsList, FlushCounts, HasFailed, HasFront, IsCalm, IsSmooth, IsUntouched, Job, Runs, Tells, TellsVerdict, Works, checking, counting_line, exporting, line, listing, profile_for, status_of, text_for}
 pub use Rattle.pgn_tool.specs.declared.game_sink.GameFile.{GameFile}
 pub use Rattle.pgn_tool.specs.declared.game_sink.GameFile.TheVariants.{NotMade, Open}
 pub use Rattle.pgn_tool.specs.declared.list.Stopped.{Stopped}

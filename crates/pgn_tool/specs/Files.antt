@@ -2,7 +2,7 @@
 use Rattle.std.specs.Prelude.{◌≡◌, ℕ, Bool, true, false, List, [], ◌∷◌, ◌++◌, Option, None, Some, Result, Ok, Err}
 use Rattle.pgn_layout.specs.Device.{Device, one_more}
 use Rattle.pgn_tool.specs.declared.files.CreateFault.{CreateFault}
-use Rattle.pgn_tool.specs.declared.files.CreateFault.TheVariants as creating
+use Rattle.pgn_tool.specs.declared.files.CreateFault.TheVariants as create_faults
 use Rattle.pgn_tool.specs.declared.game_sink.GameFile.{GameFile}
 use Rattle.pgn_tool.specs.declared.game_sink.GameFile.TheVariants.{NotMade, Open, Refused}
 
@@ -18,8 +18,8 @@ pub data FileStep : Type 0 where
 
 -- a file that was not made
 abbrev pub refusal_step : ℕ → CreateFault → FileStep
-refusal_step n creating.Refused = refused n
-refusal_step n creating.NoMemory = without_memory n
+refusal_step n create_faults.Refused = refused n
+refusal_step n create_faults.NoMemory = without_memory n
 
 -- what making file n resulted in
 abbrev pub creation_step : {A : Type 0} → ℕ → Result A CreateFault → FileStep

@@ -1,6 +1,5 @@
 -- **Bookkeeping**: the list of this crate's files of definitions.
 pub mod ListLines
-pub mod ListState
 pub mod TaskRun
 pub mod CheckedRun
 pub mod Replies
@@ -12,4 +11,4 @@ pub mod FileSystem
 pub mod Standard
 pub mod Program
 pub mod SplitGames
-pub mod SplitState
+pub mod BetweenGames

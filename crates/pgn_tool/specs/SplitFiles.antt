@@ -6,9 +6,9 @@ use Rattle.pgn_game.specs.declared.reason.Reason.TheVariants.{ReadFault, WriteFa
 use Rattle.pgn_game.specs.declared.reason.Fault.{Fault}
 use Rattle.pgn_game.specs.Reason.{line_of}
 use Rattle.pgn_game.specs.GamesCalls.{Games, CountsNext, ReadsNext}
-use Rattle.pgn_tool.specs.declared.files.CreateFault.TheVariants as creating
+use Rattle.pgn_tool.specs.declared.files.CreateFault.TheVariants as create_faults
 use Rattle.pgn_tool.specs.declared.game_sink.GameFile.{GameFile}
-use Rattle.pgn_tool.specs.declared.game_sink.GameFile.TheVariants as game_file
+use Rattle.pgn_tool.specs.declared.game_sink.GameFile.TheVariants as game_files
 use Rattle.pgn_tool.specs.declared.split.Unsplit.{Unsplit}
 use Rattle.pgn_tool.specs.declared.split.Unsplit.TheVariants.{Refused, NoMemory}
 use Rattle.pgn_tool.specs.TaskRun.{IsUntouched, Tells, line}
@@ -19,7 +19,7 @@ use Rattle.pgn_tool.specs.Files.{FileStep, IsBegun, added, closed, file_sink, fi
 
 -- why a game is not split: want of memory comes before the write fault that it causes
 abbrev pub reported : {A : Type 0} → GameFile A → Fault → Unsplit
-reported (game_file.Refused creating.NoMemory failed) fault = NoMemory
+reported (game_files.Refused create_faults.NoMemory failed) fault = NoMemory
 reported file fault = Refused fault
 
 abbrev pub settled : {A B : Type 0} → GameFile A → Result B Fault → Result B Unsplit

@@ -1,6 +1,6 @@
 //! Whole runs of the program on a machine in memory, which reports its bytes and its files to the
 //! prover: so the clauses about bytes say something of them.
-ghost use Rattle.std.specs.Prelude.{◌≡◌, ℕ, ◌-◌, ◌^◌, ◌<◌, ◌≤◌, List, [], ◌∷◌, ◌++◌, Some, length, string_bytes};
+ghost use Rattle.std.specs.Prelude.{◌≡◌, ℕ, ◌-◌, ◌^◌, ◌<◌, ◌≤◌, List, [], ◌∷◌, ◌++◌, Some, IfOk, length, string_bytes};
 ghost use Rattle.std.specs.Io.KnownBytes.{Appends};
 ghost use Rattle.pgn_game.specs.declared.mode.Mode.TheVariants.{Full};
 ghost use Rattle.pgn_game.specs.ConverterCalls.{profile_of};
@@ -147,6 +147,16 @@ impl<A: Abort + Copy + Drop> FileSystem for Memory<A> {
     }
 }
 
+/// A machine in memory.
+#[derive(Drop)]
+struct Machine<A: Abort + Copy + Drop> {
+    input: StandardInput<Memory<A>, VecDeque<u8>>,
+    second: StandardInput<Memory<A>, VecDeque<u8>>,
+    out: StandardOutput<Vec<u8>>,
+    folder: Folder<Memory<A>>,
+    err: Outlet<Vec<u8>>,
+}
+
 /// What a run left.
 #[derive(Drop)]
 struct Ran {
@@ -161,35 +171,67 @@ fn run_words<A: Abort + Copy + Drop>(
     rt: A,
     alloc: Global,
     words: &[&str],
-    text: &'static [u8],
+    text: &[u8],
 ) -> Result<Ran, AllocError> {
+    let owned = owned_words(alloc, words)?;
+    let machine = machine_of(rt, alloc, text)?;
+    Ok(run_on(machine, alloc, owned))
+}
+
+fn owned_words(alloc: Global, words: &[&str]) -> Result<Vec<String>, AllocError> {
     let mut owned = Vec::new(alloc);
     for word in words {
         owned.push(String::from_str(alloc, word)?)?;
     }
-    let mut out = StandardOutput::new(alloc, Vec::new(alloc));
-    let mut folder = Folder {
-        system: memory_of(rt, alloc, text)?,
-    };
-    let mut err = Outlet::new(Vec::new(alloc));
+    Ok(owned)
+}
+
+fn run_on<A: Abort + Copy + Drop>(machine: Machine<A>, alloc: Global, words: Vec<String>) -> Ran {
+    let Machine {
+        mut input,
+        mut second,
+        mut out,
+        mut folder,
+        mut err,
+    } = machine;
     let status = run(
         alloc,
-        Ok(owned),
-        &mut StandardInput::new(memory_of(rt, alloc, text)?, VecDeque::new(alloc)),
-        &mut StandardInput::new(memory_of(rt, alloc, text)?, VecDeque::new(alloc)),
+        Ok(words),
+        &mut input,
+        &mut second,
         &mut out,
         &mut folder,
         &mut err,
     );
-    Ok(Ran {
+    Ran {
         status,
         out: out.outlet.into_inner(),
         steps: folder.system.steps,
         err: err.into_inner(),
+    }
+}
+
+/// A machine where `games.pgn` has this text and standard input is empty.
+fn machine_of<A: Abort + Copy + Drop>(
+    rt: A,
+    alloc: Global,
+    text: &[u8],
+) -> Result<Machine<A>, AllocError>
+    ensures fresh { IfOk result (λ machine. machine.out.outlet.failures ≡ 0) }
+{
+    let input = memory_of(rt, alloc, text)?;
+    let second = memory_of(rt, alloc, text)?;
+    let system = memory_of(rt, alloc, text)?;
+    Ok(Machine {
+        input: StandardInput::new(input, VecDeque::new(alloc)),
+        second: StandardInput::new(second, VecDeque::new(alloc)),
+        out: StandardOutput::new(alloc, Vec::new(alloc)),
+        folder: Folder { system },
+        err: Outlet::new(Vec::new(alloc)),
     })
 }
 
-/// A machine whose file `games.pgn` has this text.
+/// A file system whose file `games.pgn` has this text.
 fn memory_of<A: Abort + Copy + Drop>(
     rt: A,
     alloc: Global,
@@ -231,46 +273,65 @@ const TWO: &[u8] = b"* [White \"A\"] 1. e4 (1. d4) *";
 const SECOND: &[u8] =
     b"[Event \"?\"]\n[Site \"?\"]\n[Date \"????.??.??\"]\n[Round \"?\"]\n[White \"A\"]\n[Black \"?\"]\n[Result \"*\"]\n\n1. e4 ( 1. d4 ) *\n\n";
 
-const SECOND_REDUCED: &[u8] =
-    b"[Event \"?\"]\n[Site \"?\"]\n[Date \"????.??.??\"]\n[Round \"?\"]\n[White \"A\"]\n[Black \"?\"]\n[Result \"*\"]\n\n1. e4 *\n\n";
+/// The export text of `TWO`.
+const BOTH: &[u8] =
+    b"[Event \"?\"]\n[Site \"?\"]\n[Date \"????.??.??\"]\n[Round \"?\"]\n[White \"?\"]\n[Black \"?\"]\n[Result \"*\"]\n\n*\n\n[Event \"?\"]\n[Site \"?\"]\n[Date \"????.??.??\"]\n[Round \"?\"]\n[White \"A\"]\n[Black \"?\"]\n[Result \"*\"]\n\n1. e4 ( 1. d4 ) *\n\n";
+
+const BOTH_REDUCED: &[u8] =
+    b"[Event \"?\"]\n[Site \"?\"]\n[Date \"????.??.??\"]\n[Round \"?\"]\n[White \"?\"]\n[Black \"?\"]\n[Result \"*\"]\n\n*\n\n[Event \"?\"]\n[Site \"?\"]\n[Date \"????.??.??\"]\n[Round \"?\"]\n[White \"A\"]\n[Black \"?\"]\n[Result \"*\"]\n\n1. e4 *\n\n";
 
 const LINES: &[u8] =
     b"1\t?\t?\t*\t0\trnbqkbnr/pppppppp/8/8/8/8/PPPPPPPP/RNBQKBNR w KQkq - 0 1\n2\tA\t?\t*\t1\trnbqkbnr/pppppppp/8/8/4P3/8/PPPP1PPP/RNBQKBNR b KQkq e3 0 1\n";
 
-#[test]
-fn carries_out_each_task(rt: HostRuntime) -> Result<(), Fail> {
-    let exported = run_words(rt, rt.alloc(), &["p", "export", "games.pgn"], TWO)?;
-    assert!(rt; exported.status == 0 && exported.err.is_empty());
-    assert!(rt; exported.out.starts_with(UNKNOWN) && exported.out.ends_with(SECOND));
-    assert_eq!(rt; exported.out.len(), UNKNOWN.len() + SECOND.len());
-    let reduced = run_words(
-        rt,
-        rt.alloc(),
+/// Words, the text of `games.pgn`, and what the run of them writes to standard output.
+type Row = (&'static [&'static str], &'static [u8], &'static [u8]);
+
+const ROWS: &[Row] = &[
+    (&["p", "export", "games.pgn"], TWO, BOTH),
+    (
         &["p", "export", "--reduced", "games.pgn"],
         TWO,
-    )?;
-    assert!(rt; reduced.status == 0 && reduced.out.ends_with(SECOND_REDUCED));
-    assert_eq!(rt; reduced.out.len(), UNKNOWN.len() + SECOND_REDUCED.len());
-    let twice = run_words(
-        rt,
-        rt.alloc(),
-        &["p", "export", "--checked", "games.pgn"],
-        b"1-0",
-    )?;
-    assert!(rt; twice.is(0, WON, b""));
-    let checked = run_words(rt, rt.alloc(), &["p", "check", "games.pgn"], TWO)?;
-    assert!(rt; checked.is(0, b"games: 2, plies: 1\n", b""));
-    let listed = run_words(rt, rt.alloc(), &["p", "list", "games.pgn"], TWO)?;
-    assert!(rt; listed.is(0, LINES, b""));
-    let split = run_words(rt, rt.alloc(), &["p", "split", "one", "games.pgn"], TWO)?;
-    assert!(rt; split.is(0, b"", b""));
-    assert!(rt;
-        made(
-            split.steps.as_slice(),
-            "one",
-            &[("000001.pgn", UNKNOWN), ("000002.pgn", SECOND)]
-        )
-    );
+        BOTH_REDUCED,
+    ),
+    (&["p", "export", "--checked", "games.pgn"], b"1-0", WON),
+    (&["p", "check", "games.pgn"], TWO, b"games: 2, plies: 1\n"),
+    (&["p", "list", "games.pgn"], TWO, LINES),
+    (&["p", "split", "one", "games.pgn"], TWO, b""),
+];
+
+/// The files of `TWO`.
+const FILES: &[(&str, &[u8])] = &[("000001.pgn", UNKNOWN), ("000002.pgn", SECOND)];
+
+/// The texts, each behind a call of its own, so that no proof of a test sees all their bytes.
+fn rows() -> &'static [Row] {
+    ROWS
+}
+
+fn two() -> &'static [u8] {
+    TWO
+}
+
+fn both() -> &'static [u8] {
+    BOTH
+}
+
+fn files() -> &'static [(&'static str, &'static [u8])] {
+    FILES
+}
+
+#[test]
+fn carries_out_each_task(rt: HostRuntime) -> Result<(), Fail> {
+    for &(words, text, out) in rows() {
+        let ran = run_words(rt, rt.alloc(), words, text)?;
+        assert!(rt; ran.is(0, out, b""), "at {words:?}");
+    }
+    Ok(())
+}
+
+#[test]
+fn splits_into_files_of_a_folder(rt: HostRuntime) -> Result<(), Fail> {
+    let ran = run_words(rt, rt.alloc(), &["p", "split", "one", "games.pgn"], two())?;
+    assert!(rt; made(ran.steps.as_slice(), "one", files()));
     Ok(())
 }
 
@@ -303,25 +364,39 @@ fn split_text<F: GameFiles, E: Sink>(text: &'static [u8], files: &mut F, err: &m
     split_to(&mut Inlet::new(text), files, err)
 }
 
-#[test]
-fn meets_the_clauses_about_bytes(rt: HostRuntime) -> Result<(), Fail> {
-    let alloc = rt.alloc();
-    let mut out = StandardOutput::new(alloc, Vec::new(alloc));
-    let mut folder = Folder {
-        system: memory_of(rt, alloc, TWO)?,
-    };
-    let mut err = Outlet::new(Vec::new(alloc));
-    let status = export_named(
-        String::from_str(alloc, "games.pgn")?,
-        &mut StandardInput::new(memory_of(rt, alloc, TWO)?, VecDeque::new(alloc)),
-        &mut StandardInput::new(memory_of(rt, alloc, TWO)?, VecDeque::new(alloc)),
+/// An export and a split on a machine. The status is 0 if both have it.
+fn export_and_split<A: Abort + Copy + Drop>(machine: Machine<A>, name: String) -> Ran
+    requires { machine.out.outlet.failures < 2 ^ 64 - 1 }
+{
+    let Machine {
+        mut input,
+        mut second,
+        mut out,
+        mut folder,
+        mut err,
+    } = machine;
+    let exported = export_named(
+        name,
+        &mut input,
+        &mut second,
         &mut out,
         &mut folder,
         &mut err,
     );
-    let text = out.outlet.into_inner();
-    assert!(rt; status == 0 && text.starts_with(UNKNOWN) && text.ends_with(SECOND));
-    assert_eq!(rt; split_text(TWO, &mut folder, &mut err), 0);
-    assert_eq!(rt; folder.system.steps.len(), 4);
+    let split = split_text(two(), &mut folder, &mut err);
+    Ran {
+        status: exported | split,
+        out: out.outlet.into_inner(),
+        steps: folder.system.steps,
+        err: err.into_inner(),
+    }
+}
+
+#[test]
+fn meets_the_clauses_about_bytes(rt: HostRuntime) -> Result<(), Fail> {
+    let name = String::from_str(rt.alloc(), "games.pgn")?;
+    let machine = machine_of(rt, rt.alloc(), two())?;
+    let ran = export_and_split(machine, name);
+    assert!(rt; ran.is(0, both(), b"") && ran.steps.len() == 4);
     Ok(())
 }

@@ -305,13 +305,11 @@ fn leaves(alloc: Global, row: &Row, has_memory: bool) -> Result<bool, AllocError
 
 #[test]
 fn reads_the_file_or_standard_input(rt: HostRuntime) -> Result<(), Fail> {
-    for row in rows() {
-        let is_right = leaves(rt.alloc(), row, true)?;
-        assert!(rt; is_right, "at {:?}", row.0);
-    }
-    for row in shorts() {
-        let is_right = leaves(rt.alloc(), row, false)?;
-        assert!(rt; is_right, "at {:?}, without memory", row.0);
+    for (rows, has_memory) in [(rows(), true), (shorts(), false)] {
+        for row in rows {
+            let is_right = leaves(rt.alloc(), row, has_memory)?;
+            assert!(rt; is_right, "at {:?}, with memory: {has_memory}", row.0);
+        }
     }
     Ok(())
 }

@@ -24,6 +24,15 @@ const THREE: &[u8] = b"1.e4 e5 * * 1.e4 e5 *";
 /// The files of `THREE`.
 const FULL: &[&[u8]] = &[MOVES, UNKNOWN, MOVES];
 
+/// The texts, each behind a call of its own, so that no proof of a test sees all their bytes.
+fn three() -> &'static [u8] {
+    THREE
+}
+
+fn full() -> &'static [&'static [u8]] {
+    FULL
+}
+
 /// Files in memory. One of the calls that make a file fails.
 #[derive(Drop)]
 struct Shelf {
@@ -154,9 +163,13 @@ const ROWS: &[Row] = &[
     (THREE, 0, FULL, b""),
 ];
 
+fn rows() -> &'static [Row] {
+    ROWS
+}
+
 #[test]
 fn splits(rt: HostRuntime) {
-    for &(text, status, files, err) in ROWS {
+    for &(text, status, files, err) in rows() {
         let mut made = empty_shelf(rt.alloc());
         let ran = run(whole(text), &mut made);
         assert!(rt; ran.is(status, err) && made.has(files), "at {text:?}");
@@ -205,14 +218,14 @@ fn reports_each_file_that_is_not_made(rt: HostRuntime) {
             let mut made = empty_shelf(rt.alloc());
             made.refused_at = refused_at;
             made.refusal = refusal;
-            let ran = run(whole(THREE), &mut made);
+            let ran = run(whole(three()), &mut made);
             let is_told = match refusal {
                 _ if refused_at == 3 => ran.is(0, b""),
                 CreateFault::NoMemory => ran.is(3, b"out of memory\n"),
                 CreateFault::Refused => ran.is(1, unmade(refused_at)),
             };
             let is_right = is_told
-                && made.has(front(FULL, refused_at))
+                && made.has(front(full(), refused_at))
                 && made.creates == refused_at.saturating_add(1).min(3);
             assert!(rt; is_right, "{refusal:?} at {refused_at}");
         }
@@ -235,12 +248,12 @@ fn place(files: usize, taken: usize) -> &'static [u8] {
 // of its text. Nothing is tried again.
 fn stopped_at(ran: &Ran, made: &mut Shelf, fails_at: usize) -> bool {
     let earlier = made.pages.len().saturating_sub(1);
-    let (Some(last), Some(text)) = (made.pages.pop(), FULL.get(earlier)) else {
+    let (Some(last), Some(text)) = (made.pages.pop(), full().get(earlier)) else {
         return false;
     };
     let taken = last.taken.as_slice();
     ran.is(1, place(earlier, taken.len()))
-        && made.has(front(FULL, earlier))
+        && made.has(front(full(), earlier))
         && text.starts_with(taken)
         && taken.len() < text.len()
         && last.calls == fails_at.saturating_add(1)
@@ -254,9 +267,9 @@ fn reported_writes(alloc: Global, trouble: Trouble, most: usize) -> Option<usize
         made.fails_at = fails_at;
         made.trouble = trouble;
         made.most = most;
-        let ran = run(whole(THREE), &mut made);
+        let ran = run(whole(three()), &mut made);
         if made.writes <= fails_at {
-            let is_whole = ran.is(0, b"") && made.has(FULL);
+            let is_whole = ran.is(0, b"") && made.has(full());
             return if is_whole { Some(fails_at) } else { None };
         }
         if !stopped_at(&ran, &mut made, fails_at) {
@@ -286,8 +299,8 @@ fn reports_each_write_that_fails(rt: HostRuntime) {
 fn writes_a_byte_at_a_time(rt: HostRuntime) {
     let mut made = empty_shelf(rt.alloc());
     made.most = 1;
-    let ran = run(whole(THREE), &mut made);
-    assert!(rt; ran.is(0, b"") && made.has(FULL));
+    let ran = run(whole(three()), &mut made);
+    assert!(rt; ran.is(0, b"") && made.has(full()));
 }
 
 // The first texts.
@@ -306,11 +319,16 @@ fn whole_games(bytes: usize) -> usize {
     }
 }
 
+// Whether the page has a tag section alone.
+fn has_head(page: &Page) -> bool {
+    page.taken.as_slice() == HEAD
+}
+
 // Read a byte at a time: the marker at byte 8 is read before byte 9, that at 10 before 11, and
 // the tag section at 12 when the number before the period has ended.
 fn reports_read(alloc: Global, error: ErrorKind, fails_at: usize) -> bool {
     let failing = Reader {
-        text: THREE,
+        text: three(),
         calls: 0,
         fails_at,
         error,
@@ -319,15 +337,12 @@ fn reports_read(alloc: Global, error: ErrorKind, fails_at: usize) -> bool {
     let mut made = empty_shelf(alloc);
     let ran = run(failing, &mut made);
     if fails_at == 22 {
-        return ran.is(0, b"") && made.has(FULL);
+        return ran.is(0, b"") && made.has(full());
     }
     let is_torn = !matches!(fails_at, 2..9 | 14..21)
-        || made
-            .pages
-            .pop()
-            .is_some_and(|page| page.taken.as_slice() == HEAD);
+        || made.pages.pop().is_some_and(|page| has_head(&page));
     is_torn
-        && made.has(front(FULL, whole_games(fails_at)))
+        && made.has(front(full(), whole_games(fails_at)))
         && format!(in alloc; "byte {fails_at}: input cannot be read\n").is_ok_and(|line| ran.is(
             1,
             line.as_bytes(),

@@ -233,7 +233,7 @@ const ROWS: &[Row] = &[
     ),
 ];
 
-/// The rows, behind a call of its own, so that no proof of a loop sees all their bytes.
+/// The rows, each table behind a call of its own, so that no proof of a loop sees all their bytes.
 fn rows() -> &'static [Row] {
     ROWS
 }
@@ -373,12 +373,24 @@ const SILENT: &[Row] = &[
     (Job::Check, b"* 1-0", 1, b"", b""),
 ];
 
+fn unwritable() -> &'static [Row] {
+    UNWRITABLE
+}
+
+fn unflushed() -> &'static [Row] {
+    UNFLUSHED
+}
+
+fn silent() -> &'static [Row] {
+    SILENT
+}
+
 #[test]
 fn ends_at_the_first_device_that_fails(rt: HostRuntime) {
     for (rows, fails_at, flush_fails, err_at) in [
-        (UNWRITABLE, 0, false, usize::MAX),
-        (UNFLUSHED, usize::MAX, true, usize::MAX),
-        (SILENT, usize::MAX, false, 0),
+        (unwritable(), 0, false, usize::MAX),
+        (unflushed(), usize::MAX, true, usize::MAX),
+        (silent(), usize::MAX, false, 0),
     ] {
         for &(job, text, status, written, told) in rows {
             let mut out = memory(rt.alloc());
@@ -392,15 +404,19 @@ fn ends_at_the_first_device_that_fails(rt: HostRuntime) {
     }
 }
 
+fn first() -> &'static [u8] {
+    FIRST
+}
+
 #[test]
 fn flushes_behind_its_buffer(rt: HostRuntime) -> Result<(), Fail> {
+    let text = first();
     let mut out = StandardOutput::new(rt.alloc(), memory(rt.alloc()));
     out.reserve()?;
-    assert!(rt; write_all(&mut out, FIRST).is_ok());
-    assert_eq!(rt; out.buffer.len(), FIRST.len());
+    assert!(rt; write_all(&mut out, text).is_ok() && out.buffer.len() == text.len());
     assert!(rt; out.flush_all().is_ok() && out.buffer.is_empty());
     let page = out.outlet.into_inner();
-    assert!(rt; page.taken.as_slice() == FIRST && page.flushes == 1);
-    assert_eq!(rt; page.flushed, FIRST.len());
+    assert!(rt; page.taken.as_slice() == text && page.flushes == 1);
+    assert_eq!(rt; page.flushed, text.len());
     Ok(())
 }

@@ -1,6 +1,6 @@
 -- The export text of games that some text spells: it spells them with their defaults filled in, and
 -- these have the same text.
-use Rattle.pgn_game.proofs.Words.{◌≡◌, ℕ, false, List, [], ◌∷◌, ◌++◌, map, refl, sym, ap, subst, ◌∙◌, append_assoc, append-nil, Some, codes, All-append, All-map, AllByRecursion, LeavesPosition, TheOneMoveIsRead, ReadingIsSpelling, WrittenMoveIsSymbol, WrittenMoveIsRead, lines_of, text_of as text_of_lines, NumbersAreSymbols, KindsAreReadBack, TokensAreSound, IsSoundKind, CommentsClose, tokens_of, written, AreEnded, IsReadable, marker_of, exported_pairs, filled, TagSectionFits, AreExportable, TextSpells, Kind, Game, value_of, Profile, start_of, plies_of, Spells, by_name, IsResult, SpellsGame, SpellsGames, no_game, next_game, tag_lines, tokens_out, game_text}
+use Rattle.pgn_game.proofs.Words.{◌≡◌, ℕ, false, List, [], ◌∷◌, ◌++◌, map, refl, sym, ap, subst, ◌∙◌, append_assoc, append-nil, Some, codes, All-append, All-map, AllByRecursion, LeavesPosition, TheOneMoveIsRead, ReadingIsSpelling, WrittenMoveIsSymbol, WrittenMoveIsRead, lines_of, text_of as text_of_lines, NumbersAreSymbols, KindsAreReadBack, TokensAreSound, IsSoundKind, CommentsClose, tokens_of, written, AreEnded, IsReadable, marker_of, exported_pairs, filled, TagSectionFits, AreExportable, TextSpells, Kind, Game, value_of, Profile, start_of, plies_of, Spells, by_name, IsResult, SpellsGame, SpellsGames, no_game, next_game, tag_lines, tokens_out, game_text, arith, rules}
 use Rattle.pgn_layout.specs.Laws.{LinesOfKeepTokens}
 use Rattle.pgn_lexer.specs.Tokens as tokens
 use Rattle.pgn_game.specs.Text.{text_of}
@@ -28,7 +28,7 @@ abbrev game_tokens : Profile → Game → List (List ℕ)
 game_tokens p g = tokens_out p.mode (start_of g.pairs) g.items ++ g.marker ∷ []
 
 marker_shown : (k : Kind) (marker : List ℕ) → marker_of k ≡ Some marker → AllShown (k ∷ []) (marker ∷ [])
-marker_shown k marker is = subst (λ t. AllShown (k ∷ []) (t ∷ [])) (marker_written k marker is) (next_shown _ [] (written k) [] (single k) none_shown)
+marker_shown k marker is = rw (marker_written k marker is) at (next_shown _ [] (written k) [] (single k) none_shown)
 
 with_kinds : (ks ls : List Kind) (s : List ℕ) → ks ≡ ls → PiecesOf ks s → PiecesOf ls s
 with_kinds ks ls s e a = record { pieces = a.pieces; text = a.text; kinds = a.kinds ∙ e; sound = a.sound; ended = a.ended }
@@ -50,8 +50,7 @@ pub record ExportedGames (p : Profile) (gs : List Game) : Type 0 where
 
 module _ (one_read : TheOneMoveIsRead) (leaves : LeavesPosition) (is_symbol : WrittenMoveIsSymbol) (is_read : WrittenMoveIsRead) (numbers : NumbersAreSymbols) (reads_fen : ReadingIsSpelling) (lines_keep : LinesOfKeepTokens) where
   text_kept : (p : Profile) (g : Game) (h : SoundGame p g) → ExportedPairs p g → KeptText p.mode p (start_of g.pairs) h.text g.items
-  text_kept p g h e =
-      kept_text one_read leaves is_symbol is_read numbers _ p _ _ _ (start_is_position reads_fen p.mode g.pairs e.each) h.items h.sound_text
+  text_kept p g h e = search (rules, start_is_position, kept_text)
 
   game_pieces : (p : Profile) (g : Game) (h : SoundGame p g) → ExportedPairs p g → (k : KeptText p.mode p (start_of g.pairs) h.text g.items)
       → PiecesOf (tag_kinds (exported_pairs p.mode g) ++ (k.kinds ++ h.last ∷ [])) (game_text p g)
@@ -107,14 +106,7 @@ module _ (one_read : TheOneMoveIsRead) (leaves : LeavesPosition) (is_symbol : Wr
 
   game_again : (p : Profile) (g : Game) (h : SoundGame p g) → ExportedPairs p g → KeptText p.mode p (start_of g.pairs) h.text g.items
       → game_text p (filled p.mode g) ≡ game_text p g
-  game_again p g h e k =
-      let fs = by_name (exported_pairs p.mode g) in
-      let tags =
-      exported_result p.mode p.missing_result g.marker fs (result_meets p g h e)
-      ∙ exported_again p.mode g.marker g.pairs fs e.order (by_name_order p (exported_pairs p.mode g) e.keeps) e.same
-      ∙ sym (exported_result p.mode p.missing_result g.marker g.pairs h.result) in
-      let items = ap (λ first. tokens_out p.mode first (kept p.mode (start_of g.pairs) g.items)) (same_start p g e) ∙ k.again in
-      cc (tags, items)
+  game_again p g h e k = grind (arith, exported_result, exported_again, by_name_order, kept, result_meets, same_start)
 
   written_game : (p : Profile) (g : Game) → SoundGame p g → TagSectionFits p g → WrittenGame p g
   written_game p g h room =
@@ -172,10 +164,10 @@ module _ (one_read : TheOneMoveIsRead) (leaves : LeavesPosition) (is_symbol : Wr
         record {
           pieces = w.pieces.sound;
           ended = subst AreEnded (append-nil ps) (w.pieces.ended [] tt);
-          comments = subst (CommentsClose false) (sym w.pieces.kinds) w.closes;
+          comments = (rw w.pieces.kinds w.closes);
         } in
         let same = ap (λ s. kinds (tokens_of s)) (sym w.pieces.text) ∙ read_back ps readable ∙ ap (λ ks. ks ++ tokens.end ∷ []) w.pieces.kinds in
-        subst (λ ks. SpellsGames p ks (map (filled p.mode) gs)) (sym same) w.spells
+        rw same w.spells
 
     pub exported_games : (p : Profile) (gs : List Game) → AreExportable p gs → ExportedGames p gs
     exported_games p gs h =

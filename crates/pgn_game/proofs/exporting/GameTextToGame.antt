@@ -1,11 +1,12 @@
 -- The text of a game that sound tokens spelled: it spells the game with its defaults filled in, and
 -- that game has the same text.
-use Rattle.pgn_game.proofs.Words.{◌≡◌, ℕ, ◌≤◌, true, List, [], length, refl, sym, subst, arith, Option, None, Some, codes, not, unwrap_or, IsTrue, Ok, Result, AllByRecursion, list_all, is_position, FenFault, ReadingIsSpelling, starts_symbol, continues_symbol, begins_with, IsSymbol, IsData, Parts, Mode, Full, Reduced, Game, Pair, value_of, Profile, Missing, counts_as, takes_the_marker, first_position, position_of, is_result, result_for, exported_pairs, TagSectionFits, start_of, start_by, position_or_first, KeepsTags, IsPair, by_name, IsResult, roster, roster_pairs, exported}
+use Rattle.pgn_game.proofs.Words.{◌≡◌, ℕ, ◌≤◌, true, List, [], length, refl, sym, subst, arith, Option, None, Some, codes, not, unwrap_or, IsTrue, Ok, AllByRecursion, list_all, is_position, ReadingIsSpelling, starts_symbol, continues_symbol, begins_with, IsSymbol, IsData, Parts, Mode, Full, Reduced, Game, Pair, value_of, Profile, Missing, first_position, position_of, is_result, result_for, exported_pairs, TagSectionFits, start_of, KeepsTags, IsPair, by_name, IsResult, roster, roster_pairs, exported, Marker, WhiteWins, marker_text, rules}
 use Rattle.chess_rules.specs.Square.{squares}
 use Rattle.pgn_lexer.specs.Lexes.{is_barred}
+use Rattle.pgn_game.proofs.MarkerTexts.{result_marker}
 use Rattle.pgn_game.proofs.reading.PairsInTurn.{all-all}
 use Rattle.pgn_game.proofs.pairs.ExportedValues.{set_up, on_roster, all-exported}
-use Rattle.pgn_game.proofs.exporting.PairsExportedAgain.{by_marker, keeps_exported, by_name_values, by_name_order}
+use Rattle.pgn_game.proofs.exporting.PairsExportedAgain.{keeps_exported, by_name_values, by_name_order}
 use Rattle.pgn_game.proofs.pairs.NameOrder.{InOrder}
 use Rattle.pgn_game.proofs.pairs.ValuesByName.{found}
 use Rattle.pgn_game.proofs.exporting.PiecesToTokens.{IsSoundPair}
@@ -13,9 +14,7 @@ use Rattle.pgn_game.proofs.exporting.SpelledToSound.{SoundGame, marker_is_result
 
 -- The Result that is exported where it is missing.
 same_result : (missing : Missing) (o : Option (List ℕ)) (m : List ℕ) → IsResult missing o m → unwrap_or o (result_for missing m) ≡ unwrap_or o m
-same_result takes_the_marker o m is = refl
-same_result (counts_as text) (Some v) m is = refl
-same_result (counts_as text) None m is = sym is
+same_result missing o m is = grind arith
 
 roster_result : (r m : List ℕ) (ps : List Pair) → unwrap_or (value_of ps (codes "Result")) r ≡ unwrap_or (value_of ps (codes "Result")) m → roster_pairs r ps ≡ roster_pairs m ps
 unfolding roster
@@ -23,9 +22,7 @@ roster_result r m ps e = cc
 
 pub exported_result : (mode : Mode) (missing : Missing) (m : List ℕ) (ps : List Pair) → IsResult missing (value_of ps (codes "Result")) m
     → exported mode (result_for missing m) ps ≡ exported mode m ps
-exported_result Full missing m ps is =
-    cc (roster_result (result_for missing m) m ps (same_result missing (value_of ps (codes "Result")) m is))
-exported_result Reduced missing m ps is = roster_result _ m ps (same_result missing _ m is)
+exported_result mode missing m ps is = grind (arith, same_result, roster_result)
 
 pub given_result : (missing : Missing) (o : Option (List ℕ)) (m : List ℕ) → IsResult missing o m → m ≡ unwrap_or o m
 given_result missing (Some v) m is = is
@@ -38,10 +35,9 @@ symbol_of text begins bytes fits = record { begins = begins; bytes = bytes; fits
 data_of : (text : List ℕ) → IsTrue (list_all (λ b. not (is_barred b)) text) → length text ≤ 255 → IsData text
 data_of text bytes fits = record { bytes = bytes; fits = fits }
 
-marker_data : (m : List ℕ) → is_result m ≡ true → IsData m
-marker_data m is =
-    by_marker IsData m is (data_of _ refl (omega arith)) (data_of _ refl (omega arith)) (data_of _ refl (omega arith))
-    (data_of _ refl (omega arith))
+marker_data : (m : Marker) → IsData (marker_text m)
+marker_data WhiteWins = data_of _ refl (omega arith)
+marker_data _ = data_of _ refl (omega arith)
 
 unknown_pair : (name : List ℕ) → IsSymbol name → IsSoundPair (record { name = name; value = codes "?" })
 unknown_pair name is = record { name = is; value = data_of _ refl (omega arith) }
@@ -57,13 +53,10 @@ sound_roster m is =
     (unknown_pair _ (symbol_of _ refl refl (omega arith)))
     (unknown_pair _ (symbol_of _ refl refl (omega arith)))
     (unknown_pair _ (symbol_of _ refl refl (omega arith)))
-    (record { name = symbol_of _ refl refl (omega arith); value = marker_data m is })
+    (record { name = symbol_of _ refl refl (omega arith); value = let marker = result_marker m is in rw marker.1 (marker_data marker.0) })
 
 sound_exported : (mode : Mode) (m : List ℕ) (ps : List Pair) → is_result m ≡ true → AllByRecursion IsSoundPair ps → AllByRecursion IsSoundPair (exported mode m ps)
-sound_exported mode m ps is h =
-    let one : IsSoundPair set_up =
-    record { name = symbol_of _ refl refl (omega arith); value = data_of _ refl (omega arith) } in
-    all-exported _ mode m ps one (sound_roster m is) h
+sound_exported mode m ps is h = search (rules, set_up, all-exported, IsSoundPair, symbol_of, data_of, sound_roster)
 
 pub some_exported : (mode : Mode) (m : List ℕ) (ps : List Pair) → exported mode m ps ≡ [] → ⊥
 unfolding roster
@@ -81,13 +74,7 @@ module _ (reads_fen : ReadingIsSpelling) where
   fen_is_position text start e = ((reads_fen text start).1 e).position
 
   pub start_is_position : (mode : Mode) (ps : List Pair) → AllByRecursion (IsPair mode) ps → IsTrue (is_position (start_of ps))
-  start_is_position mode ps each = by_value (value_of ps (codes "FEN")) refl
-    where
-      by_value : (o : Option (List ℕ)) → value_of ps (codes "FEN") ≡ o → IsTrue (is_position (start_by o))
-      by_value None e = first_is_position
-      by_value (Some text) e =
-          let fen = (found (IsPair mode) ps (codes "FEN") text each e).fen refl in
-          subst (λ (r : Result Parts FenFault). IsTrue (is_position (position_or_first r))) (sym fen.2) (fen_is_position text fen.1 fen.2)
+  start_is_position mode ps each = grind (arith, found, first_is_position, fen_is_position)
 
 -- What is known of the pairs.
 pub record ExportedPairs (p : Profile) (g : Game) : Type 0 where
@@ -100,8 +87,8 @@ pub record ExportedPairs (p : Profile) (g : Game) : Type 0 where
 pub exported_of : (p : Profile) (g : Game) → SoundGame p g → TagSectionFits p g → ExportedPairs p g
 exported_of p g h room =
     let order = subst InOrder (sym h.sorted) (by_name_order p h.given h.keeps) in
-    let each = subst (AllByRecursion (IsPair _)) (sym h.sorted) (all-all (IsPair _) [] h.given tt h.keeps.each) in
-    let sound = subst (AllByRecursion _) (sym h.sorted) (all-all _ [] h.given tt h.sound_pairs) in
+    let each = (rw (← h.sorted) at (all-all (IsPair _) [] h.given tt h.keeps.each)) in
+    let sound = (rw (← h.sorted) at (all-all _ [] h.given tt h.sound_pairs)) in
     let is = marker_is_result h.last g.marker h.marker in
     let keeps = keeps_exported p g.marker g.pairs is order each room in
     record {

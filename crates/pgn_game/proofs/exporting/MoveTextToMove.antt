@@ -1,5 +1,5 @@
 -- The text of a move that a game has: a symbol that names the same move again, after its number.
-use Rattle.pgn_game.proofs.Words.{◌≡◌, ℕ, ◌<◌, ◌≤◌, ◌^◌, Bool, true, false, List, [], ◌∷◌, ◌++◌, length, refl, ap, arith, Option, None, Some, ◌||◌, not, ◌==◌, nat_le, decimal, bytes_eq, is_none, unwrap_or, IsTrue, IsFalse, Ok, if◌then◌else◌, AllByRecursion, list_all, false≢true, or_parts, and_parts, and_from, leb-true, Move, LeavesPosition, is_position, TheOneMoveIsRead, is_letter, is_move_byte, begins_with_letter, IsMoveSymbol, WrittenMoveIsSymbol, WrittenMoveIsRead, is_digit, starts_symbol, continues_symbol, NumbersAreSymbols, begins_with, IsSymbol, CommentsClose, move_of, text_of_move, play, is_number, is_score, Parts, Played, Kind, Item, Profile, Level, replayed, without_last, Names, SpellsText, token, number, period, number_before}
+use Rattle.pgn_game.proofs.Words.{◌≡◌, ℕ, ◌<◌, ◌≤◌, ◌^◌, Bool, true, false, List, [], ◌∷◌, ◌++◌, refl, ap, arith, None, Some, ◌||◌, not, ◌==◌, decimal, bytes_eq, is_none, unwrap_or, IsTrue, IsFalse, Ok, if◌then◌else◌, AllByRecursion, list_all, false≢true, or_parts, and_parts, and_from, leb-true, Move, LeavesPosition, is_position, TheOneMoveIsRead, is_letter, is_move_byte, begins_with_letter, IsMoveSymbol, WrittenMoveIsSymbol, WrittenMoveIsRead, is_digit, starts_symbol, continues_symbol, NumbersAreSymbols, begins_with, IsSymbol, CommentsClose, move_of, text_of_move, play, is_number, is_score, Parts, Played, Kind, Item, Profile, Level, replayed, without_last, Names, SpellsText, token, number, period, number_before, rules}
 use Rattle.chess_rules.specs.declared.position.PositionFault.TheVariants.{Kings, PawnOnEdge, KingCapturable, TargetRank, NumberRange}
 use Rattle.pgn_lexer.specs.Tokens as tokens
 use Rattle.pgn_game.proofs.putting.PlayedMovesAreLegal.{named_is_legal}
@@ -9,17 +9,10 @@ use Rattle.pgn_game.proofs.exporting.PiecesToTokens.{IsWritable, AllShown, next_
 last_test : (a b c d e : Bool)
     → is_none (if a then Some Kings else if b then Some PawnOnEdge else if c then Some KingCapturable else if d then Some TargetRank else if not e then Some NumberRange else None) ≡ true
     → e ≡ true
-last_test a b c d true h = refl
-last_test false false false false false h = absurd (false≢true h)
-last_test _ _ _ _ false h = absurd (false≢true h)
+last_test a b c d e h = grind (arith, false≢true)
 
 full_fits : (q : Parts) → IsTrue (is_position q) → q.full ≤ 99999
-full_fits q e =
-    let none = (and_parts (length q.board == 64) (is_none _) e).1 in
-    let numbers =
-    last_test _ _ _ _
-    _ none in
-    leb-true _ 99999 (and_parts (nat_le _ 99999) (nat_le _ 99999) numbers).1
+full_fits q e = grind (arith, and_parts, leb-true, last_test)
 
 -- All positions that the moves of a trail lead through are positions.
 abbrev pub ArePositions : Parts → List Move → Type 0
@@ -50,10 +43,10 @@ move_byte c = continues (is_letter c) (is_digit c) (c == 95) (c == 43) (c == 35)
 
 begins : (s : List ℕ) → IsTrue (begins_with_letter s) → IsTrue (begins_with starts_symbol s)
 begins [] e = absurd (false≢true e)
-begins (c ∷ s) e = ap (λ (b : Bool). b || is_digit c) e
+begins (c ∷ s) e = ap (λ b. b || is_digit c) e
 
 as_symbol : (s : List ℕ) → IsMoveSymbol s → IsSymbol s
-as_symbol s h = let fits = h.fits in record { begins = begins s h.begins; bytes = each_of is_move_byte _ s move_byte h.bytes; fits = omega arith }
+as_symbol s h = search (rules, each_of, move_byte, begins)
 
 no_score : (s : List ℕ) → IsMoveSymbol s → IsFalse (is_score s)
 no_score s h = (or_parts _ (bytes_eq s _) h.no_marker).0
@@ -65,17 +58,12 @@ module _ (one_read : TheOneMoveIsRead) (leaves : LeavesPosition) (is_symbol : Wr
   plays_on first trail s x names h =
       let at = replayed first trail in
       let is_legal = named_is_legal one_read at s x names.one in
-      let next : play at x.mv ≡ x.next = ap (λ o. unwrap_or o at) is_legal in
-      (rw next (leaves at x.next x.mv (last_position first trail h) is_legal), h)
+      (rw (ap (λ o. unwrap_or o at) is_legal) (leaves at x.next x.mv (last_position first trail h) is_legal), h)
 
   -- the text that is written for it
   pub move_symbol : (at : Parts) (s : List ℕ) (x : Played) → Names at s x → IsMoveSymbol (text_of_move at x.mv)
   unfolding text_of_move
-  move_symbol at s x names = is_symbol at x.mv (ap some_position (named_is_legal one_read at s x names.one))
-    where
-      some_position : Option Parts → Bool
-      some_position None = false
-      some_position (Some q) = true
+  move_symbol at s x names = search (rules, named_is_legal)
 
   pub writable_move : (at : Parts) (s : List ℕ) (x : Played) → Names at s x → IsWritable (tokens.symbol (text_of_move at x.mv))
   writable_move at s x names = as_symbol _ (move_symbol at s x names)
@@ -104,10 +92,7 @@ module _ (one_read : TheOneMoveIsRead) (leaves : LeavesPosition) (is_symbol : Wr
   number_kinds true true n = []
 
   pub number_shown : (b is_black : Bool) (n : ℕ) (ks : List Kind) (ts : List (List ℕ)) → AllShown ks ts → AllShown (number_kinds b is_black n ++ ks) (number_before b is_black n ++ ts)
-  number_shown b false n ks ts h = next_shown (tokens.symbol _ ∷ tokens.period ∷ []) ks _ ts (white n) h
-  number_shown false true n ks ts h =
-      next_shown (tokens.symbol _ ∷ tokens.period ∷ tokens.period ∷ tokens.period ∷ []) ks _ ts (black n) h
-  number_shown true true n ks ts h = h
+  number_shown b is_black n ks ts h = search (rules, next_shown, white, black)
 
   pub number_spells : (p : Profile) (first at : Parts) (deep : ℕ) (l : Level) (b is_black : Bool) (ks : List Kind) (items : List Item) → IsTrue (is_position at)
       → SpellsText p first deep l ks items → SpellsText p first deep l (number_kinds b is_black at.full ++ ks) items
@@ -121,9 +106,7 @@ module _ (one_read : TheOneMoveIsRead) (leaves : LeavesPosition) (is_symbol : Wr
   number_spells p first at deep l true true ks items h text = text
 
   pub number_writable : (at : Parts) (b is_black : Bool) → IsTrue (is_position at) → AllByRecursion IsWritable (number_kinds b is_black at.full)
-  number_writable at b false h = ((number_is_symbol at h).0, (tt, tt))
-  number_writable at false true h = ((number_is_symbol at h).0, (tt, (tt, (tt, tt))))
-  number_writable at true true h = tt
+  number_writable at b is_black h = search (rules, number_is_symbol)
 
   pub number_closes : (b is_black : Bool) (n : ℕ) (more : List Kind) → CommentsClose false more → CommentsClose false (number_kinds b is_black n ++ more)
   number_closes b false n more h = h

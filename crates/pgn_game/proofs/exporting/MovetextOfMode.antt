@@ -1,8 +1,8 @@
 -- The movetext that is written, of all items or of the moves outside variations: it spells the
 -- items that are kept, and these are written in the same way again.
-use Rattle.pgn_game.proofs.Words.{◌≡◌, ℕ, suc, ◌+◌, Bool, true, false, cond, List, [], ◌∷◌, ◌++◌, map, refl, sym, ap, subst, ◌∙◌, arith, ◌==◌, filter, fold, IsTrue, AllByRecursion, ne_eqb, filter-append, fold-append, LeavesPosition, is_position, TheOneMoveIsRead, WrittenMoveIsSymbol, WrittenMoveIsRead, NumbersAreSymbols, IsSoundKind, CommentsClose, Parts, Kind, Mode, Full, Reduced, Item, Profile, Level, Levels, levels_after, first_level, back_to, depth, here, main_moves, outermost, without_last, SpellsText, no_more, token, move, variation, new_level, level_after_move, Placed, placed_from, is_main_move, written_items, tokens_from, tokens_out}
+use Rattle.pgn_game.proofs.Words.{◌≡◌, ℕ, suc, ◌+◌, Bool, true, false, cond, List, [], ◌∷◌, ◌++◌, map, refl, ap, subst, ◌∙◌, arith, ◌==◌, filter, fold, IsTrue, AllByRecursion, ne_eqb, filter-append, fold-append, LeavesPosition, is_position, TheOneMoveIsRead, WrittenMoveIsSymbol, WrittenMoveIsRead, NumbersAreSymbols, IsSoundKind, CommentsClose, Parts, Kind, Mode, Full, Reduced, Item, Profile, Level, Levels, levels_after, first_level, depth, here, main_moves, outermost, without_last, SpellsText, no_more, token, move, variation, new_level, level_after_move, Placed, placed_from, is_main_move, written_items, tokens_from, tokens_out, rules}
 use Rattle.pgn_lexer.specs.Tokens as tokens
-use Rattle.pgn_game.specs.Game as games
+use Rattle.pgn_game.specs.Game as game
 use Rattle.pgn_game.proofs.AllOfJoined.{all_behind}
 use Rattle.pgn_game.proofs.exporting.PiecesToTokens.{IsWritable, AllShown}
 use Rattle.pgn_game.proofs.exporting.MovetextToItems.{level_in, aside, around_again, close_at, placed_variation, rewritten}
@@ -18,7 +18,7 @@ none_main p first _ _ _ _ (token deep l k ks item items stands rest) m around =
     (aside k item items first (level_in l _) stands).1 ∙ none_main p first deep l ks items rest m around
 none_main p first _ _ _ _ (move deep l s x ks items names rest) m around =
     let at = level_in l (m ∷ around) in
-    let this : Placed = record { position = here first at; depth = depth at; item = games.move x.mv } in
+    let this : Placed = record { position = here first at; depth = depth at; item = game.move x.mv } in
     let others = filter is_main_move (placed_from first (level_in _ _) items) in
     ap (λ v. cond v (this ∷ others) others) (inside _) ∙ none_main p first deep _ ks items rest m around
 none_main p first _ _ _ _ (variation deep l ks ls items more holds room inner rest) m around =
@@ -40,22 +40,13 @@ main_items first l items = map (λ i. i.item) (placed_main first l items)
 -- a variation leaves none
 main_variation : (p : Profile) (first : Parts) (deep : ℕ) (l : Level) (ks : List Kind) (items more : List Item)
     → SpellsText p first (deep + 1) (new_level (without_last l.trail)) ks items
-    → placed_main first l (games.open_variation ∷ (items ++ games.close_variation ∷ more)) ≡ placed_main first l more
-main_variation p first deep l ks items more inner =
-    let at = level_in (new_level (without_last l.trail)) (l ∷ []) in
-    let end = fold levels_after at items in
-    ap (filter is_main_move) (placed_variation p first deep l ks items more inner [])
-    ∙ filter-append is_main_move (placed_from first at items) (close_at first end ∷ placed_from first (level_in l []) more)
-    ∙ ap (λ xs. xs ++ placed_main first l more) (none_main p first _ _ ks items inner l [])
+    → placed_main first l (game.open_variation ∷ (items ++ game.close_variation ∷ more)) ≡ placed_main first l more
+main_variation p first deep l ks items more inner = grind (arith, filter-append, level_in, close_at, placed_variation, none_main)
 
 levels_variation : (p : Profile) (first : Parts) (deep : ℕ) (l : Level) (ks : List Kind) (items more : List Item)
     → SpellsText p first (deep + 1) (new_level (without_last l.trail)) ks items
-    → fold levels_after (level_in l []) (games.open_variation ∷ (items ++ games.close_variation ∷ more)) ≡ fold levels_after (level_in l []) more
-levels_variation p first deep l ks items more inner =
-    let at = level_in (new_level _) (l ∷ []) in
-    fold-append _ at items _
-    ∙ ap (λ (x : List Level). fold levels_after (back_to x (fold levels_after at items)) more)
-    (around_again p first _ _ ks items inner _)
+    → fold levels_after (level_in l []) (game.open_variation ∷ (items ++ game.close_variation ∷ more)) ≡ fold levels_after (level_in l []) more
+levels_variation p first deep l ks items more inner = grind (arith, fold-append, level_in, around_again)
 
 -- They are spelled by their symbols alone, lead to the same levels, and have the same places.
 record Main (p : Profile) (first : Parts) (deep : ℕ) (l : Level) (items : List Item) : Type 0 where
@@ -71,14 +62,7 @@ main_same : (p : Profile) (first : Parts) (deep : ℕ) (l : Level) (items more :
     → placed_main first l items ≡ placed_main first l more
     → fold levels_after (level_in l []) items ≡ fold levels_after (level_in l []) more → Main p first deep l more
     → Main p first deep l items
-main_same p first deep l items more e same r = record {
-  kinds = r.kinds;
-  spells = rw e r.spells;
-  sound = r.sound;
-  closes = r.closes;
-  placed = cc;
-  levels = cc;
-}
+main_same p first deep l items more e same r = search rules
 
 main : (p : Profile) (first : Parts) (deep : ℕ) (l : Level) (ks : List Kind) (items : List Item) → SpellsText p first deep l ks items → AllByRecursion IsSoundKind ks
     → Main p first deep l items
@@ -88,7 +72,7 @@ main p first _ _ _ _ (token deep l k ks item items stands rest) sound =
     main_same p first deep l (item ++ items) items same.1 same.0 (main p first deep l ks items rest sound.1)
 main p first _ _ _ _ (move deep l s x ks items names rest) sound =
     let r = main p first deep (level_after_move x.mv _) ks items rest sound.1 in
-    let this : Placed = record { position = here first (level_in l []); depth = 0; item = games.move x.mv } in
+    let this : Placed = record { position = here first (level_in l []); depth = 0; item = game.move x.mv } in
     record {
       kinds = tokens.symbol s ∷ r.kinds;
       spells = move deep l s x r.kinds (main_items first _ items) names r.spells;
@@ -98,7 +82,7 @@ main p first _ _ _ _ (move deep l s x ks items names rest) sound =
       levels = r.levels;
     }
 main p first _ _ _ _ (variation deep l ks ls items more holds room inner rest) sound =
-    main_same p first deep l (games.open_variation ∷ (items ++ games.close_variation ∷ more)) more
+    main_same p first deep l (game.open_variation ∷ (items ++ game.close_variation ∷ more)) more
     (main_variation p first deep l ks items more inner) (levels_variation p first deep l ks items more inner)
     (main p first deep l ls more rest (all_behind IsSoundKind ks (tokens.right_paren ∷ ls) sound.1).1)
 
@@ -138,7 +122,7 @@ module _ (one_read : TheOneMoveIsRead) (leaves : LeavesPosition) (is_symbol : Wr
       let same = all_kept first first_level items in
       record {
         kinds = r.kinds;
-        spells = subst (SpellsText p first 0 _ _) (sym same) r.spells;
+        spells = (rw same r.spells);
         shown = r.shown;
         writable = r.writable;
         closes = λ more then f h. r.closes false more then f;
@@ -155,7 +139,6 @@ module _ (one_read : TheOneMoveIsRead) (leaves : LeavesPosition) (is_symbol : Wr
         writable = r.writable;
         closes = λ more then f h k. r.closes false then then (λ d x. x) (m.closes then h);
         again =
-            ap (λ xs. tokens_from false (filter is_main_move xs)) m.placed
-            ∙ ap (tokens_from false) (filter_again (placed_from first _ items));
-        moves = ap (λ (ls : Levels). (outermost ls.present ls.around).trail) m.levels;
+            cc (m.placed, filter_again (placed_from first _ items));
+        moves = ap (λ ls. (outermost ls.present ls.around).trail) m.levels;
       }

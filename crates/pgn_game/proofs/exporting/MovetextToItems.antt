@@ -1,5 +1,5 @@
 -- The movetext that is written of a game spells the same items again.
-use Rattle.pgn_game.proofs.Words.{◌≡◌, ℕ, ◌+◌, ◌<◌, Bool, true, false, List, [], ◌∷◌, ◌++◌, refl, sym, ap, subst, ◌∙◌, append_assoc, codes, filter, fold, IsTrue, All-append, AllByRecursion, fold-append, LeavesPosition, TheOneMoveIsRead, WrittenMoveIsSymbol, WrittenMoveIsRead, NumbersAreSymbols, IsSoundKind, CommentsClose, written, text_of_move, is_black_to_move, is_comment, Parts, Kind, Played, Item, Profile, Level, Levels, levels_after, back_to, depth, here, without_last, replayed, StandsFor, Names, SpellsText, no_more, token, move, variation, number, period, glyph, comment_open, word, comment_close, new_level, level_after_move, Placed, placed_from, is_main_move, tokens_from, tokens_at}
+use Rattle.pgn_game.proofs.Words.{◌≡◌, ℕ, ◌+◌, ◌<◌, Bool, true, false, List, [], ◌∷◌, ◌++◌, refl, sym, ap, subst, ◌∙◌, append_assoc, codes, filter, fold, IsTrue, All-append, AllByRecursion, fold-append, LeavesPosition, TheOneMoveIsRead, WrittenMoveIsSymbol, WrittenMoveIsRead, NumbersAreSymbols, IsSoundKind, CommentsClose, written, text_of_move, is_black_to_move, is_comment, Parts, Kind, Played, Item, Profile, Level, Levels, levels_after, back_to, depth, here, without_last, replayed, StandsFor, Names, SpellsText, no_more, token, move, variation, number, period, glyph, comment_open, word, comment_close, new_level, level_after_move, Placed, placed_from, is_main_move, tokens_from, tokens_at, arith}
 use Rattle.pgn_lexer.specs.Tokens as tokens
 use Rattle.pgn_game.specs.Game as games
 use Rattle.pgn_game.proofs.AllOfJoined.{all_front, all_behind}
@@ -23,13 +23,12 @@ pub around_again : (p : Profile) (first : Parts) (deep : ℕ) (l : Level) (ks : 
     → (around : List Level) → (fold levels_after (level_in l around) items).around ≡ around
 around_again p first _ _ _ _ (no_more deep l) around = refl
 around_again p first _ _ _ _ (token deep l k ks item items stands rest) around =
-    ap (λ (x : Levels). x.around) (aside k item items first _ stands).0
-    ∙ around_again p first deep l ks items rest around
+    cc ((aside k item items first _ stands).0, around_again p first deep l ks items rest around)
 around_again p first _ _ _ _ (move deep l s x ks items names rest) around = around_again p first deep _ ks items rest around
 around_again p first _ _ _ _ (variation deep l ks ls items more holds room inner rest) around =
     let at = level_in (new_level _) (l ∷ around) in
-    ap (λ (x : Levels). x.around) (fold-append _ at items _)
-    ∙ ap (λ (x : List Level). (fold levels_after (back_to x (fold levels_after at items)) more).around)
+    ap (λ x. x.around) (fold-append _ at items _)
+    ∙ ap (λ x. (fold levels_after (back_to x (fold levels_after at items)) more).around)
     (around_again p first _ _ ks items inner _)
     ∙ around_again p first deep l ls more rest around
 
@@ -43,12 +42,7 @@ pub placed_variation : (p : Profile) (first : Parts) (deep : ℕ) (l : Level) (k
     → placed_from first (level_in (new_level (without_last l.trail)) (l ∷ around)) (items ++ games.close_variation ∷ more)
     ≡ placed_from first (level_in (new_level (without_last l.trail)) (l ∷ around)) items
     ++ (close_at first (fold levels_after (level_in (new_level (without_last l.trail)) (l ∷ around)) items) ∷ placed_from first (level_in l around) more)
-placed_variation p first deep l ks items more inner around =
-    let at = level_in _ _ in
-    let end = fold _ at items in
-    placed-append first at items _
-    ∙ ap (λ (x : List Level). placed_from first at items ++ (close_at first end ∷ placed_from first (back_to x end) more))
-    (around_again p first _ _ ks items inner _)
+placed_variation p first deep l ks items more inner around = grind (arith, placed-append, around_again)
 
 -- What is written in the place of tokens closes its comments if they do.
 abbrev pub InPlaceOf : List Kind → List Kind → Type 0
@@ -141,12 +135,7 @@ tokens_of_variation : (p : Profile) (first : Parts) (deep : ℕ) (l : Level) (ks
     → tokens_from b (placed_from first (level_in l around) (games.open_variation ∷ (items ++ games.close_variation ∷ more)))
     ≡ codes "(" ∷ (tokens_from false (placed_from first (level_in (new_level (without_last l.trail)) (l ∷ around)) items)
     ++ codes ")" ∷ tokens_from false (placed_from first (level_in l around) more))
-tokens_of_variation p first deep l ks items more inner around b =
-    let at = level_in (new_level (without_last l.trail)) (l ∷ around) in
-    let end = fold levels_after at items in
-    ap (λ xs. codes "(" ∷ xs)
-    (ap (tokens_from false) (placed_variation p first deep l ks items more inner around)
-    ∙ tokens_from-append false _ (close_at first end ∷ placed_from first _ more))
+tokens_of_variation p first deep l ks items more inner around b = grind (arith, tokens_from-append, placed_variation)
 
 module _ (one_read : TheOneMoveIsRead) (leaves : LeavesPosition) (is_symbol : WrittenMoveIsSymbol) (is_read : WrittenMoveIsRead) (numbers : NumbersAreSymbols) where
   -- A move, with its number.
@@ -164,10 +153,8 @@ module _ (one_read : TheOneMoveIsRead) (leaves : LeavesPosition) (is_symbol : Wr
             number_spells one_read leaves is_symbol is_read numbers p first at deep l b is_black (tokens.symbol text ∷ r.kinds) (games.move x.mv ∷ items) here
             (move deep l text x r.kinds items (names_again one_read leaves is_symbol is_read numbers at s x here names) r.spells);
         shown =
-            subst (AllShown (number_kinds one_read leaves is_symbol is_read numbers b _ _ ++ tokens.symbol text ∷ r.kinds))
-            (sym (append_assoc _ _ ts))
-            (number_shown one_read leaves is_symbol is_read numbers b is_black at.full (tokens.symbol text ∷ r.kinds) (text ∷ ts)
-            (next_shown _ _ text ts (single _) r.shown));
+            (rw (append_assoc _ _ ts) (number_shown one_read leaves is_symbol is_read numbers b is_black at.full (tokens.symbol text ∷ r.kinds) (text ∷ ts)
+            (next_shown _ _ text ts (single _) r.shown)));
         writable =
             All-append IsWritable (number_kinds one_read leaves is_symbol is_read numbers b is_black at.full)
             (tokens.symbol text ∷ r.kinds)
@@ -181,8 +168,7 @@ module _ (one_read : TheOneMoveIsRead) (leaves : LeavesPosition) (is_symbol : Wr
       closes r b is_black n text true more then f h = absurd h
       closes r b is_black n text false more then f h =
           let kinds = number_kinds one_read leaves is_symbol is_read numbers b is_black n in
-          subst (CommentsClose false) (sym (append_assoc kinds (tokens.symbol text ∷ r.kinds) then))
-          (number_closes one_read leaves is_symbol is_read numbers b is_black n (tokens.symbol text ∷ (r.kinds ++ then)) (r.closes false more then f h))
+          rw (append_assoc kinds (tokens.symbol text ∷ r.kinds) then) (number_closes one_read leaves is_symbol is_read numbers b is_black n (tokens.symbol text ∷ (r.kinds ++ then)) (r.closes false more then f h))
 
   -- All movetext.
   pub rewritten : (p : Profile) (first : Parts) (deep : ℕ) (l : Level) (ks : List Kind) (items : List Item) → SpellsText p first deep l ks items
@@ -213,10 +199,9 @@ module _ (one_read : TheOneMoveIsRead) (leaves : LeavesPosition) (is_symbol : Wr
       (rewritten p first deep _ ks items rest (plays_on one_read leaves is_symbol is_read numbers first _ s x names h) sound.1 around true)
   rewritten p first _ _ _ _ (variation deep l ks ls items more holds room inner rest) h sound around b =
       let sound_in = all_front IsSoundKind ks (tokens.right_paren ∷ ls) sound.1 in
-      let sound_behind = all_behind IsSoundKind ks (tokens.right_paren ∷ ls) sound.1 in
       subst
       (Rewritten p first deep l _ _)
       (sym (tokens_of_variation p first deep l ks items more inner around b))
       (variation_again p first deep l ks ls items more _ _ holds room
       (rewritten p first _ _ ks items inner (earlier_positions first _ h) sound_in _ false)
-      (rewritten p first deep l ls more rest h sound_behind.1 around false))
+      (rewritten p first deep l ls more rest h (all_behind IsSoundKind ks (tokens.right_paren ∷ ls) sound.1).1 around false))

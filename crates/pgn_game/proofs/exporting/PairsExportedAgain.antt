@@ -1,17 +1,14 @@
 -- Exported tag pairs are tag pairs of a game again, and exporting them again changes nothing.
-use Rattle.pgn_game.proofs.Words.{◌≡◌, ℕ, ◌+◌, ◌≤◌, Bool, true, false, cond, List, [], ◌∷◌, ◌++◌, length, map, drop, refl, sym, ap, subst, ◌∙◌, arith, Option, None, Some, inl, inr, ◌&&◌, ◌||◌, not, bytes_eq, is_some, unwrap_or, codes, IsTrue, IsFalse, AllByRecursion, list_all, false≢true, cases_Bool, or_cases, escaped, Mode, Full, Reduced, Profile, Pair, value_of, has_pair, roster, in_roster, roster_pairs, with_set_up, other_pairs, exported, in_name, is_score, is_result, start_of, IsPair, AreDistinct, KeepsTags, IsSetUp, by_name}
+use Rattle.pgn_game.proofs.Words.{◌≡◌, ℕ, ◌+◌, ◌≤◌, Bool, true, false, cond, List, [], ◌∷◌, ◌++◌, length, map, refl, sym, ap, ◌∙◌, arith, Option, None, Some, inl, inr, ◌&&◌, not, bytes_eq, is_some, unwrap_or, codes, IsTrue, IsFalse, AllByRecursion, list_all, false≢true, cases_Bool, escaped, Mode, Full, Reduced, Profile, Pair, value_of, has_pair, roster, in_roster, roster_pairs, with_set_up, other_pairs, exported, in_name, is_result, start_of, IsPair, AreDistinct, KeepsTags, IsSetUp, by_name, rules}
+use Rattle.pgn_game.proofs.MarkerTexts.{marker_room, result_marker}
 use Rattle.pgn_game.proofs.reading.PairsInTurn.{takes, value_of-all, order-all}
 use Rattle.pgn_game.proofs.pairs.ExportedValues.{with_default, without_set_up, set_up, set_up_if, set_up_gone, set_up_values, no_fen, no_set_up, other_value, exported_known, exported_other, exported_none, no_set_up_of, on_roster, all-exported}
 use Rattle.pgn_game.proofs.pairs.NameOrder.{InOrder, order-insert, order-filter, same_pairs, distinct_in_order}
-use Rattle.pgn_game.proofs.pairs.ValuesByName.{bytes_eq-true, bytes_eq-refl, pick, found}
+use Rattle.pgn_game.proofs.pairs.ValuesByName.{bytes_eq-refl, pick, found}
 
 -- The pairs that are exported beside the roster are in order.
 order_set_up : (ps : List Pair) → InOrder ps → InOrder (with_set_up ps)
-order_set_up ps h =
-    elim (has_pair ps (codes "FEN")) as (λ b. InOrder (set_up_if b ps)) [
-      | true ↦ order-insert set_up (without_set_up ps) (set_up_gone ps) (order-filter _ ps h)
-      | false ↦ h
-    ]
+order_set_up ps h = search (rules, without_set_up, set_up, set_up_if, set_up_gone, InOrder, order-insert, order-filter)
 
 order_others : (ps : List Pair) → InOrder ps → InOrder (other_pairs (with_set_up ps))
 order_others ps h = order-filter (λ p. not _) (with_set_up ps) (order_set_up ps h)
@@ -28,16 +25,7 @@ same_default fs ps (d ∷ ds) h =
 
 roster_again : (mode : Mode) (m : List ℕ) (ps fs : List Pair) → Same_values mode m ps fs → roster_pairs m fs ≡ roster_pairs m ps
 unfolding roster
-roster_again mode m ps fs same =
-    same_default fs ps (roster m) (on_roster (λ d. value_of fs d.name ≡ Some (unwrap_or (value_of ps d.name) d.value)) m
-    (value (codes "Event") (codes "?") refl) (value (codes "Site") (codes "?") refl)
-    (value (codes "Date") (codes "????.??.??") refl)
-    (value (codes "Round") (codes "?") refl) (value (codes "White") (codes "?") refl)
-    (value (codes "Black") (codes "?") refl)
-    (value (codes "Result") m refl))
-  where
-    value : (n d : List ℕ) → value_of (roster m) n ≡ Some d → value_of fs n ≡ Some (unwrap_or (value_of ps n) d)
-    value n d e = same n ∙ exported_known mode m ps n d e
+roster_again mode m ps fs same = grind (arith, exported_known, on_roster, same_default)
 
 pick_again : (b : Bool) (v : List ℕ) (o : Option (List ℕ)) → pick b v (pick b v o) ≡ pick b v o
 pick_again true v o = refl
@@ -83,8 +71,7 @@ unfolding roster
 result_of m = refl
 
 no_fen_in_reduced : (ps : List Pair) → AllByRecursion (IsPair Reduced) ps → (o : Option (List ℕ)) → value_of ps (codes "FEN") ≡ o → o ≡ None
-no_fen_in_reduced ps each None e = refl
-no_fen_in_reduced ps each (Some v) e = let full = ((found _ ps _ v each e).fen refl).0 in absurd (cc)
+no_fen_in_reduced ps each o e = grind (arith, found)
 
 pub start_again : (mode : Mode) (m : List ℕ) (ps fs : List Pair) → AllByRecursion (IsPair mode) ps → Same_values mode m ps fs → start_of fs ≡ start_of ps
 start_again Full m ps fs each same = cc (fen_again m ps fs same)
@@ -110,73 +97,33 @@ differ a b e f = false≢true (sym e ∙ bytes_eq-refl a b f)
 
 plain_pair : (mode : Mode) (n v : List ℕ) → IsTrue (list_all in_name n) → length n + length (escaped v) ≤ 249 → bytes_eq n (codes "Result") ≡ false → bytes_eq n (codes "FEN") ≡ false
     → IsPair mode (record { name = n; value = v })
-plain_pair mode n v name room no_result no_fen = record {
-  name = name;
-  room = room;
-  result = λ e. absurd (differ n _ no_result e);
-  fen = λ e. absurd (differ n _ no_fen e);
-}
-
-pub by_marker : (P : List ℕ → Type 0) (m : List ℕ) → is_result m ≡ true → P (codes "1-0") → P (codes "0-1") → P (codes "1/2-1/2") → P (codes "*") → P m
-by_marker P m e a b c d =
-    elim (or_cases (is_score m) (bytes_eq m _) e) [
-      | inl f ↦ elim (or_cases (bytes_eq m _ || bytes_eq m _) (bytes_eq m _) f) [
-        | inl g ↦ elim (or_cases (bytes_eq m _) (bytes_eq m _) g) [
-          | inl h ↦ subst P (sym (bytes_eq-true m _ h)) a
-          | inr h ↦ subst P (sym (bytes_eq-true m _ h)) b
-        ]
-        | inr g ↦ subst P (sym (bytes_eq-true m _ g)) c
-      ]
-      | inr f ↦ subst P (sym (bytes_eq-true m _ f)) d
-    ]
-
-marker_room : (m : List ℕ) → is_result m ≡ true → length (codes "Result") + length (escaped m) ≤ 249
-marker_room m e = by_marker (λ x. length (codes "Result") + length (escaped x) ≤ 249) m e (omega arith) (omega arith) (omega arith) (omega arith)
+plain_pair mode n v name room no_result h6 = search (rules, no_fen, differ)
 
 result_pair : (mode : Mode) (m : List ℕ) → is_result m ≡ true → IsPair mode (record { name = codes "Result"; value = m })
-result_pair mode m e = record { name = refl; room = marker_room m e; result = λ f. e; fen = λ f. absurd (differ _ _ refl f) }
+result_pair mode m e = search (rules, marker_room, result_marker, differ)
 
 each_of_roster : (mode : Mode) (m : List ℕ) → is_result m ≡ true → AllByRecursion (IsPair mode) (roster m)
-each_of_roster mode m e =
-    on_roster _ m (plain_pair mode _ _ refl (omega arith) refl refl)
-    (plain_pair mode _ _ refl (omega arith) refl refl)
-    (plain_pair mode _ _ refl (omega arith) refl refl)
-    (plain_pair mode _ _ refl (omega arith) refl refl)
-    (plain_pair mode _ _ refl (omega arith) refl refl)
-    (plain_pair mode _ _ refl (omega arith) refl refl) (result_pair mode m e)
+each_of_roster mode m e = search (rules, on_roster, plain_pair, result_pair)
 
 each_exported : (mode : Mode) (m : List ℕ) (ps : List Pair) → is_result m ≡ true → AllByRecursion (IsPair mode) ps → AllByRecursion (IsPair mode) (exported mode m ps)
-each_exported mode m ps e h =
-    all-exported _ mode m ps (plain_pair mode _ _ refl (omega arith) refl refl)
-    (each_of_roster mode m e) h
+each_exported mode m ps e h = search (rules, all-exported, plain_pair, each_of_roster)
 
 -- no name is exported twice
 roster_distinct : (m : List ℕ) (ps others : List Pair) → ((n : List ℕ) → in_roster n ≡ true → IsFalse (has_pair others n)) → AreDistinct others
     → AreDistinct (roster_pairs m ps ++ others)
 unfolding roster
-roster_distinct m ps others off h =
-    let rest : AreDistinct (drop 4 (roster_pairs m ps) ++ others) =
-    (off _ refl, (off _ refl, (off _ refl, h))) in
-    (off _ refl, (off _ refl, (off _ refl, (off _ refl, rest))))
+roster_distinct m ps others off h = search rules
 
 roster_alone : (m : List ℕ) (ps : List Pair) → AreDistinct (roster_pairs m ps)
 unfolding roster
 roster_alone m ps = (refl, (refl, (refl, (refl, (refl, (refl, (refl, tt)))))))
 
 distinct_exported : (mode : Mode) (m : List ℕ) (ps : List Pair) → InOrder ps → AreDistinct (exported mode m ps)
-distinct_exported Full m ps h =
-    roster_distinct m ps _
-    (λ n e. ap is_some (other_value ps n) ∙ ap (λ (b : Bool). is_some (cond (not b) (value_of (with_set_up ps) n) None)) e)
-    (distinct_in_order _ (order_others ps h))
-distinct_exported Reduced m ps h = roster_alone m ps
+distinct_exported mode m ps h = search (rules, other_value, distinct_in_order, order_others, roster_distinct, roster_alone)
 
 pub keeps_exported : (p : Profile) (m : List ℕ) (ps : List Pair) → is_result m ≡ true → InOrder ps → AllByRecursion (IsPair p.mode) ps → length (exported p.mode m ps) ≤ p.tags
     → KeepsTags p (exported p.mode m ps)
-keeps_exported p m ps e order each room = record {
-  count = room;
-  each = each_exported _ m ps e each;
-  distinct = distinct_exported _ m ps order;
-}
+keeps_exported p m ps e order each room = search (rules, each_exported, distinct_exported)
 
 -- pairs that are kept have their values and their order by name
 pub by_name_values : (p : Profile) (qs : List Pair) (n : List ℕ) → KeepsTags p qs → value_of (by_name qs) n ≡ value_of qs n

@@ -1,5 +1,5 @@
 -- Texts in pieces that a lexer reads back: tag lines, and the lines of movetext.
-use Rattle.pgn_game.proofs.Words.{◌≡◌, ℕ, Bool, true, false, List, [], ◌∷◌, ◌++◌, refl, sym, ap, subst, ◌∙◌, append_assoc, inl, inr, ◌==◌, codes, decimal, IsTrue, All-append, AllByRecursion, or_cases, eqb-true, tag_line, escaped, is_space, is_digit, continues_symbol, continues_word, IsSymbol, IsData, CommentsClose, Piece, text_of_pieces, kinds_in, IsPiece, IsEndedBy, AreEnded, Kind, Pair, tag_lines, SpellsPairs, no_pair, next_pair, pair}
+use Rattle.pgn_game.proofs.Words.{◌≡◌, ℕ, Bool, true, false, List, [], ◌∷◌, ◌++◌, refl, sym, ◌∙◌, append_assoc, codes, decimal, IsTrue, All-append, AllByRecursion, or_cases, eqb-true, tag_line, escaped, is_space, IsSymbol, IsData, CommentsClose, Piece, text_of_pieces, kinds_in, IsPiece, IsEndedBy, AreEnded, Kind, Pair, tag_lines, SpellsPairs, no_pair, next_pair, pair, arith, rules}
 use Rattle.pgn_layout.specs.LineText.{is_gap, IsTextOf, no_token, next_token}
 use Rattle.pgn_lexer.specs.Tokens as tokens
 use Rattle.pgn_lexer.specs.Written as written
@@ -49,30 +49,17 @@ pub line_feed : PiecesOf [] (10 ∷ [])
 line_feed = record { pieces = written.space 10 ∷ []; text = refl; kinds = refl; sound = (refl, tt); ended = λ more h. h }
 
 pub both_pieces : (ks ls : List Kind) (s t : List ℕ) → PiecesOf ks s → PiecesOf ls t → PiecesOf (ks ++ ls) (s ++ t)
-both_pieces ks ls s t a b = record {
-  pieces = a.pieces ++ b.pieces;
-  text = cc (text-append a.pieces b.pieces);
-  kinds = cc (kinds-append a.pieces b.pieces);
-  sound = All-append IsPiece a.pieces b.pieces a.sound b.sound;
-  ended = λ more h. subst AreEnded (sym (append_assoc a.pieces b.pieces more)) (a.ended (b.pieces ++ more) (b.ended more h));
-}
+both_pieces ks ls s t a b = search (rules, append_assoc, All-append, text-append, kinds-append)
 
 -- Movetext on lines.
 at_gap : (f : ℕ → Bool) (b : ℕ) (v : Bool) → f 32 ≡ v → f 10 ≡ v → is_gap b ≡ true → f b ≡ v
-at_gap f b v space line e =
-    elim (or_cases (b == 32) (b == 10) e) [
-      | inl g ↦ ap f (eqb-true b 32 g) ∙ space
-      | inr g ↦ ap f (eqb-true b 10 g) ∙ line
-    ]
+at_gap f b v space line e = grind (arith, or_cases, eqb-true)
 
 gap_is_space : (b : ℕ) → is_gap b ≡ true → IsTrue (is_space b)
 gap_is_space b e = at_gap is_space b true refl refl e
 
 gap_ends : (b : ℕ) (s : List ℕ) (k : Kind) → is_gap b ≡ true → IsEndedBy (b ∷ s) k
-gap_ends b s (tokens.symbol text) e = at_gap continues_symbol b false refl refl e
-gap_ends b s (tokens.glyph n) e = at_gap is_digit b false refl refl e
-gap_ends b s (tokens.word text) e = at_gap continues_word b false refl refl e
-gap_ends b s _ e = tt
+gap_ends b s k e = search (rules, at_gap)
 
 shown_pieces : (ks : List Kind) (t : List ℕ) (b : ℕ) → Shown ks t → AllByRecursion IsWritable ks → is_gap b ≡ true → PiecesOf ks (t ++ b ∷ [])
 shown_pieces _ _ b (single k) h gap = record {

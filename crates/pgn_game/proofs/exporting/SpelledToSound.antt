@@ -1,5 +1,5 @@
 -- What is known of a game that a text spells: its tokens are sound, and its comments close.
-use Rattle.pgn_game.proofs.Words.{◌≡◌, ℕ, Bool, true, false, List, [], ◌∷◌, ◌++◌, refl, ap, subst, append_assoc, Some, codes, AllByRecursion, list_all, All-append, false≢true, and_parts, IsSoundKind, CommentsClose, written, is_comment, is_result, marker_of, Parts, Kind, Item, Game, Pair, value_of, Profile, Level, start_of, AreDropped, SpellsPair, pair, SpellsPairs, no_pair, next_pair, KeepsTags, by_name, IsSetUp, SpellsText, no_more, token, move, variation, StandsFor, number, new_level, BeginsBare, IsResult, SpellsGame}
+use Rattle.pgn_game.proofs.Words.{◌≡◌, ℕ, Bool, true, false, List, [], ◌∷◌, ◌++◌, refl, ap, append_assoc, Some, codes, AllByRecursion, list_all, All-append, false≢true, and_parts, IsSoundKind, CommentsClose, written, is_comment, is_result, marker_of, Parts, Kind, Item, Game, Pair, value_of, Profile, Level, start_of, AreDropped, SpellsPair, pair, SpellsPairs, no_pair, next_pair, KeepsTags, by_name, IsSetUp, SpellsText, no_more, token, move, variation, StandsFor, number, new_level, BeginsBare, IsResult, SpellsGame, arith, rules}
 use Rattle.pgn_lexer.specs.Tokens as tokens
 use Rattle.pgn_game.proofs.AllOfJoined.{all_front, all_behind}
 use Rattle.pgn_game.proofs.refusals.RefusalsInMovetext.{score_of}
@@ -79,9 +79,7 @@ text_goes_on p first _ _ _ _ (variation deep l ks js items more holds room inner
 
 -- a marker is no comment
 marker_goes_on : (k : Kind) (marker : List ℕ) → marker_of k ≡ Some marker → GoesOn k × (is_comment k ≡ false)
-marker_goes_on tokens.asterisk marker is = (tt, refl)
-marker_goes_on (tokens.symbol s) marker is = (tt, refl)
-marker_goes_on _ marker is = absurd (cc)
+marker_goes_on k marker is = grind arith
 
 marker_plain : (k : Kind) (marker : List ℕ) (c : Bool) (ks : List Kind) → marker_of k ≡ Some marker
     → CommentsClose c (k ∷ ks)
@@ -90,9 +88,7 @@ marker_plain k marker c ks is h = let on = marker_goes_on k marker is in plain k
 
 pub marker_closed : (k : Kind) (marker : List ℕ) (ks : List Kind) → marker_of k ≡ Some marker → CommentsClose false ks
     → CommentsClose false (k ∷ ks)
-marker_closed tokens.asterisk marker ks is h = h
-marker_closed (tokens.symbol s) marker ks is h = h
-marker_closed _ marker ks is h = absurd (cc)
+marker_closed k marker ks is h = search rules
 
 pub marker_opens : (k : Kind) (marker : List ℕ) (c : Bool) (ks ls : List Kind) → marker_of k ≡ Some marker → CommentsClose c (k ∷ ks) → CommentsClose false ls → CommentsClose c (k ∷ ls)
 marker_opens k marker c ks ls is h more =
@@ -102,9 +98,7 @@ marker_opens k marker c ks ls is h more =
 bare_text : (ks : List Kind) (c : Bool) (k : Kind) (marker : List ℕ) (ls : List Kind) → AllByRecursion GoesOn ks
     → BeginsBare ks
     → marker_of k ≡ Some marker → CommentsClose c (ks ++ k ∷ ls) → CommentsClose false (ks ++ k ∷ ls)
-bare_text [] c k marker ls on bare is h = rw (marker_plain k marker c ls is h).0 at h
-bare_text (t ∷ ts) c k marker ls on bare is h =
-    rw (plain t c (ts ++ k ∷ ls) on.0 bare h).0 at h
+bare_text ks c k marker ls on bare is h = search (rules, plain, marker_plain)
 
 before_text : (tags text : List Kind) (given : List Pair) (c : Bool) (k : Kind) (marker : List ℕ) (ls : List Kind)
     → SpellsPairs tags given → (given ≡ [] → BeginsBare text) → AllByRecursion GoesOn text → marker_of k ≡ Some marker
@@ -116,10 +110,7 @@ before_text _ text _ c k marker ls (next_pair ks js q qs one rest) bare on is h 
 
 -- Pairs that sound tokens spell.
 sound_pair : (ks : List Kind) (q : Pair) → SpellsPair ks q → AllByRecursion IsSoundKind ks → IsSoundPair q
-sound_pair _ _ (pair xs ys zs name value d e f) sound =
-    let named = all_behind IsSoundKind xs (tokens.symbol name ∷ (ys ++ tokens.str value ∷ (zs ++ tokens.right_bracket ∷ []))) sound.1 in
-    let valued = all_behind IsSoundKind ys (tokens.str value ∷ (zs ++ tokens.right_bracket ∷ [])) named.1 in
-    record { name = named.0; value = valued.0 }
+sound_pair ks q h2 sound = search (rules, all_behind)
 
 sound_pairs : (ks : List Kind) (qs : List Pair) → SpellsPairs ks qs → AllByRecursion IsSoundKind ks → AllByRecursion IsSoundPair qs
 sound_pairs _ _ no_pair sound = tt
@@ -128,21 +119,13 @@ sound_pairs _ _ (next_pair ks js q qs one rest) sound =
 
 -- Markers.
 pub marker_is_result : (k : Kind) (marker : List ℕ) → marker_of k ≡ Some marker → is_result marker ≡ true
-marker_is_result tokens.asterisk marker is = let same : codes "*" ≡ marker = cc in cc
-marker_is_result (tokens.symbol s) marker is =
-    let score = score_of s marker _ refl is in
-    cc
-marker_is_result _ marker is = absurd (cc)
+marker_is_result k marker is = grind (arith, score_of)
 
 pub marker_written : (k : Kind) (marker : List ℕ) → marker_of k ≡ Some marker → written k ≡ marker
-marker_written tokens.asterisk marker is = let same : codes "*" ≡ marker = cc in same
-marker_written (tokens.symbol s) marker is = (score_of s marker _ refl is).1
-marker_written _ marker is = absurd (cc)
+marker_written k marker is = grind (arith, score_of)
 
 pub marker_writable : (k : Kind) (marker : List ℕ) → marker_of k ≡ Some marker → IsSoundKind k → IsWritable k
-marker_writable tokens.asterisk marker is sound = tt
-marker_writable (tokens.symbol s) marker is sound = sound
-marker_writable _ marker is sound = absurd (cc)
+marker_writable k marker is sound = search rules
 
 -- A game that is read of sound tokens.
 pub record SoundGame (p : Profile) (g : Game) : Type 0 where
@@ -164,11 +147,10 @@ pub record SoundGame (p : Profile) (g : Game) : Type 0 where
 pub sound_game : (p : Profile) (ks ls : List Kind) (g : Game) → SpellsGame p ks g → AllByRecursion IsSoundKind ks → CommentsClose false (ks ++ ls)
     → SoundGame p g × CommentsClose false ls
 sound_game p ks ls g h sound closes =
-    let sound_behind = all_behind IsSoundKind h.before (h.tags ++ (h.text ++ h.last ∷ [])) (subst (AllByRecursion IsSoundKind) h.tokens sound) in
+    let sound_behind = all_behind IsSoundKind h.before (h.tags ++ (h.text ++ h.last ∷ [])) (rw h.tokens at sound) in
     let sound_rest = all_behind IsSoundKind h.tags (h.text ++ h.last ∷ []) sound_behind in
-    let all = subst (CommentsClose false) (ap (λ xs. xs ++ ls) h.tokens) closes in
     let some = behind h.before false (h.tags ++ (h.text ++ h.last ∷ ls)) (dropped_go_on h.before h.dropped)
-    (simp append_assoc at all) in
+    (simp append_assoc at ((rw (ap (λ xs. xs ++ ls) h.tokens) at closes))) in
     let on = text_goes_on p (start_of g.pairs) 0 (new_level []) h.text g.items h.items in
     let text = before_text h.tags h.text h.given some.0 h.last g.marker ls h.pairs h.bare on h.marker some.1 in
     let end = behind h.text false (h.last ∷ ls) on text in (

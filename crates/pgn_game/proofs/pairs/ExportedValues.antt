@@ -1,11 +1,15 @@
 -- The value of a name in the pairs that are written, and a fact on each of them.
-use Rattle.pgn_game.proofs.Words.{◌≡◌, ℕ, ◌+◌, Bool, true, false, cond, List, [], ◌∷◌, drop, Option, None, Some, refl, ap, sym, ◌∙◌, add-one, bytes_eq, slice_get, unwrap_or, map, filter, not, is_some, ◌||◌, ◌&&◌, codes, drop-cons, All-append, all_kept_by, AllByRecursion, and_right, Mode, Full, Reduced, Pair, value_of, has_pair, insert_pair, roster, in_roster, roster_pairs, other_pairs, with_set_up, exported}
+use Rattle.pgn_game.proofs.Words.{◌≡◌, ℕ, ◌+◌, length, Bool, true, false, cond, List, [], ◌∷◌, drop, Option, None, Some, refl, ap, sym, ◌∙◌, add-one, bytes_eq, slice_get, unwrap_or, map, filter, not, is_some, ◌||◌, ◌&&◌, codes, drop-cons, All-append, all_kept_by, AllByRecursion, and_right, Mode, Full, Reduced, Pair, value_of, has_pair, insert_pair, roster, in_roster, roster_pairs, other_pairs, with_set_up, exported, arith, rules}
 use Rattle.pgn_game.proofs.putting.WritesInTurn.{within_at}
 use Rattle.pgn_game.proofs.pairs.ValuesByName.{bytes_eq-true, bytes_eq-sym, pick, value_of-cons, value_of-append, value_of-kept, value_of-put, has-cons, no_value, either_of, either_none, found, all-insert}
 
 -- the value with a default, of a pair of the roster
 abbrev pub with_default : List Pair → Pair → Pair
 with_default ps d = record { name = d.name; value = unwrap_or (value_of ps d.name) d.value }
+
+pub seven : (result : List ℕ) → length (roster result) ≡ 7
+unfolding roster
+seven result = refl
 
 -- a value, or what stands for it where there is one
 abbrev defaulted : Option (List ℕ) → Option (List ℕ) → Option (List ℕ)
@@ -78,11 +82,7 @@ with_one ps n =
 
 pub set_up_values : (ps : List Pair) (n : List ℕ)
     → value_of (with_set_up ps) n ≡ pick (has_pair ps (codes "FEN") && bytes_eq (codes "SetUp") n) (codes "1") (value_of ps n)
-set_up_values ps n =
-    elim (has_pair ps (codes "FEN")) as (λ b. value_of (set_up_if b ps) n ≡ pick (b && bytes_eq (codes "SetUp") n) (codes "1") (value_of ps n)) [
-      | true ↦ with_one ps n
-      | false ↦ refl
-    ]
+set_up_values ps n = grind (arith, pick, with_one)
 
 set_up_picked : (b c : Bool) (ps : List Pair) (name : List ℕ) → has_pair ps (codes "FEN") ≡ b
     → bytes_eq name (codes "SetUp") ≡ c
@@ -148,8 +148,7 @@ exported_by : (mode : Mode) (m : List ℕ) (ps : List Pair) (name : List ℕ) (u
 exported_by mode m ps name (Some u) e some =
     cc (exported_known mode m ps name u e, no_set_up ps name (other_than_set_up m name u _ e refl), either_unknown (value_of (with_set_up ps) name) u)
 exported_by Full m ps name None e some =
-    exported_other m ps name (in_roster-value m name ∙ ap is_some e)
-    ∙ sym (either_none _)
+    cc (exported_other m ps name (in_roster-value m name ∙ ap is_some e), either_none _)
 exported_by Reduced m ps name None e some = absurd (some refl refl)
 
 -- what a name has in the section: its value with SetUp, or what stands for it in the roster
@@ -179,17 +178,9 @@ all-default P ps (d ∷ ds) h k = (by_value _ refl, all-default P ps ds h k.1)
     by_value (Some v) e = found P ps _ v h e
 
 all-set_up : (P : Pair → Type 0) (ps : List Pair) → P set_up → AllByRecursion P ps → AllByRecursion P (with_set_up ps)
-all-set_up P ps one h =
-    elim (has_pair ps (codes "FEN")) as (λ b. AllByRecursion P (set_up_if b ps)) [
-      | true ↦
-          all-insert P set_up (without_set_up ps) one (all_kept_by _ P ps h)
-      | false ↦ h
-    ]
+all-set_up P ps one h = search (rules, all_kept_by, all-insert)
 
 pub all-exported : (P : Pair → Type 0) (mode : Mode) (m : List ℕ) (ps : List Pair) → P set_up
     → AllByRecursion P (roster m) → AllByRecursion P ps
     → AllByRecursion P (exported mode m ps)
-all-exported P Full m ps one each h =
-    All-append P (roster_pairs m ps) (other_pairs (with_set_up ps)) (all-default P ps _ h each)
-    (all_kept_by (λ p. not _) P (with_set_up ps) (all-set_up P ps one h))
-all-exported P Reduced m ps one each h = all-default P ps _ h each
+all-exported P mode m ps one each h = search (rules, All-append, all_kept_by, all-default, all-set_up)

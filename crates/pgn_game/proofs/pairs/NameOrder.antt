@@ -1,5 +1,5 @@
 -- The order of names is a strict order of all names; and pairs in this order.
-use Rattle.pgn_game.proofs.Words.{◌≡◌, ℕ, ◌<◌, ◌⊎◌, inl, inr, Bool, true, false, cond, List, [], ◌∷◌, refl, sym, ap, ◌∙◌, arith, None, Some, le-ltb, lt-ltb, eq-eqb, ◌||◌, ◌&&◌, ◌==◌, nat_lt, bytes_eq, filter, is_some, AllByRecursion, All-weaker, all_kept_by, none-some, same_Some, false≢true, or_cases, and_parts, ltb-true, eqb-true, cases_order, Pair, value_of, has_pair, comes_before, insert_pair, AreDistinct}
+use Rattle.pgn_game.proofs.Words.{◌≡◌, ℕ, ◌<◌, ◌⊎◌, inl, inr, Bool, true, false, cond, List, [], ◌∷◌, refl, sym, ap, ◌∙◌, arith, None, Some, le-ltb, lt-ltb, eq-eqb, ◌||◌, ◌&&◌, ◌==◌, nat_lt, bytes_eq, filter, is_some, AllByRecursion, All-weaker, all_kept_by, none-some, same_Some, false≢true, or_cases, and_parts, ltb-true, eqb-true, cases_order, Pair, value_of, has_pair, comes_before, insert_pair, AreDistinct, rules}
 use Rattle.pgn_game.proofs.pairs.ValuesByName.{bytes_eq-true, bytes_eq-refl, value_of-cons, not_among, all-insert}
 
 -- Names, byte after byte.
@@ -7,11 +7,7 @@ abbrev goes_first : ℕ → ℕ → Bool → Bool
 goes_first x y rest = nat_lt x y || ((x == y) && rest)
 
 first_cases : (x y : ℕ) (rest : Bool) → goes_first x y rest ≡ true → (x < y) ⊎ ((x ≡ y) × (rest ≡ true))
-first_cases x y rest e =
-    elim (or_cases (nat_lt x y) ((x == y) && rest) e) [
-      | inl f ↦ inl (ltb-true x y f)
-      | inr f ↦ let both = and_parts (x == y) rest f in inr (eqb-true x y both.0, both.1)
-    ]
+first_cases x y rest e = grind (arith, or_cases, and_parts, ltb-true, eqb-true)
 
 by_byte : (x y : ℕ) (rest : Bool) → x < y → goes_first x y rest ≡ true
 by_byte x y rest h = cc (lt-ltb x y h)
@@ -37,8 +33,8 @@ before-trans (x ∷ xs) (y ∷ ys) (z ∷ zs) e f =
   where
     by_cases : (comes_before xs ys ≡ true → comes_before ys zs ≡ true → comes_before xs zs ≡ true) → (x < y) ⊎ ((x ≡ y) × (comes_before xs ys ≡ true)) → (y < z) ⊎ ((y ≡ z) × (comes_before ys zs ≡ true)) → goes_first x z (comes_before xs zs) ≡ true
     by_cases rest (inl h) (inl k) = by_byte x z (comes_before xs zs) (omega arith)
-    by_cases rest (inl h) (inr k) = let e : y ≡ z = k.0 in by_byte x z (comes_before xs zs) (omega arith)
-    by_cases rest (inr h) (inl k) = let e : x ≡ y = h.0 in by_byte x z (comes_before xs zs) (omega arith)
+    by_cases rest (inl h) (inr k) = let e = k.0 in by_byte x z (comes_before xs zs) (omega arith)
+    by_cases rest (inr h) (inl k) = let e = h.0 in by_byte x z (comes_before xs zs) (omega arith)
     by_cases rest (inr h) (inr k) = by_rest x z (comes_before xs zs) (h.0 ∙ k.0) (rest h.1 k.1)
 
 -- any two names come one before the other, or are the same
@@ -46,9 +42,7 @@ abbrev Comparable : List ℕ → List ℕ → Type 0
 Comparable a b = (comes_before a b ≡ true) ⊎ ((a ≡ b) ⊎ (comes_before b a ≡ true))
 
 comparable-cons : (x y : ℕ) (xs ys : List ℕ) → x ≡ y → Comparable xs ys → Comparable (x ∷ xs) (y ∷ ys)
-comparable-cons x y xs ys e (inl h) = inl (by_rest x y _ e h)
-comparable-cons x y xs ys e (inr (inl h)) = inr (inl (ap (λ z. z ∷ xs) e ∙ ap (λ zs. y ∷ zs) h))
-comparable-cons x y xs ys e (inr (inr h)) = inr (inr (by_rest y x _ (sym e) h))
+comparable-cons x y xs ys e h5 = search (rules, by_rest)
 
 comparable : (a b : List ℕ) → Comparable a b
 comparable [] [] = inr (inl refl)
@@ -75,12 +69,7 @@ further_after name next qs e h =
     (λ q f. before-trans name next _ e f) qs h
 
 comes_later : (q r : List ℕ) → comes_before q r ≡ false → bytes_eq r q ≡ false → comes_before r q ≡ true
-comes_later q r e other =
-    elim (comparable q r) [
-      | inl h ↦ absurd (false≢true (sym e ∙ h))
-      | inr (inl h) ↦ absurd (false≢true (sym other ∙ bytes_eq-refl r q (sym h)))
-      | inr (inr h) ↦ h
-    ]
+comes_later q r e other = grind (arith, false≢true, bytes_eq-refl, comparable)
 
 pub order-insert : (q : Pair) (qs : List Pair) → has_pair qs q.name ≡ false → InOrder qs → InOrder (insert_pair q qs)
 order-insert q [] new h = (tt, tt)
@@ -97,9 +86,8 @@ order-insert q (r ∷ rs) new h =
 pub order-filter : (f : Pair → Bool) (qs : List Pair) → InOrder qs → InOrder (filter f qs)
 order-filter f [] h = tt
 order-filter f (q ∷ qs) h =
-    let after = all_kept_by f _ qs h.0 in
     let more = order-filter f qs h.1 in
-    elim (f q) as (λ b. InOrder (cond b (q ∷ filter f qs) (filter f qs))) [ true ↦ (after, more) | false ↦ more ]
+    elim (f q) as (λ b. InOrder (cond b (q ∷ filter f qs) (filter f qs))) [ true ↦ (all_kept_by f _ qs h.0, more) | false ↦ more ]
 
 -- a name before all others is none of them
 other_name : (name next : List ℕ) → comes_before name next ≡ true → (b : Bool) → bytes_eq next name ≡ b → b ≡ false
@@ -137,13 +125,12 @@ same_pairs (p ∷ ps) (q ∷ qs) h k e = by_order (same_pairs ps qs h.1 k.1) (co
     here : p.name ≡ q.name → p ≡ q
     here same =
         let value = same_Some p.value q.value (sym (value_first p ps) ∙ e p.name ∙ ap (value_of (q ∷ qs)) same ∙ value_first q qs) in
-        ap (λ n. record { name = n; value = p.value }) same ∙ ap (λ v. record { name = q.name; value = v }) value
+        (rw same (ap (λ v. record { name = q.name; value = v }) value))
 
     by_order : (((n : List ℕ) → value_of ps n ≡ value_of qs n) → ps ≡ qs) → Comparable p.name q.name → (p ∷ ps) ≡ (q ∷ qs)
     by_order rest (inl before) =
         absurd (none-some p.value (sym (e p.name ∙ absent p.name (q ∷ qs) (before, further_after p.name q.name qs before k.0)) ∙ value_first p ps))
     by_order rest (inr (inl same)) =
-        ap (λ x. x ∷ ps) (here same)
-        ∙ ap (λ xs. q ∷ xs) (rest (λ n. same_behind p q ps qs n h.0 k.0 same (e n)))
+        cc (here same, rest (λ n. same_behind p q ps qs n h.0 k.0 same (e n)))
     by_order rest (inr (inr before)) =
         absurd (none-some q.value (sym (sym (e q.name) ∙ absent q.name (p ∷ ps) (before, further_after q.name p.name ps before h.0)) ∙ value_first q qs))

@@ -1,5 +1,6 @@
 -- A tag section is its lines one by one.
-use Rattle.pgn_game.proofs.Words.{◌≡◌, ℕ, suc, ◌+◌, Bool, true, false, cond, List, [], ◌∷◌, ◌++◌, take, drop, refl, ap, sym, subst, ◌∙◌, append_assoc, arith, map, not, ◌||◌, unwrap_or, bytes_eq, codes, false≢true, or_right, tag_line, Mode, Full, Reduced, Pair, value_of, has_pair, comes_before, insert_pair, index_of, roster, in_roster, roster_pairs, other_pairs, with_set_up, tag_lines, tag_section, text_by, roster_line, other_line}
+use Rattle.std.proofs.Math.Bool.{or-false}
+use Rattle.pgn_game.proofs.Words.{◌≡◌, ℕ, ◌+◌, Bool, true, false, cond, List, [], ◌∷◌, ◌++◌, take, drop, refl, ap, sym, subst, ◌∙◌, append_assoc, arith, map, not, ◌||◌, unwrap_or, bytes_eq, codes, false≢true, or_right, tag_line, Mode, Full, Reduced, Pair, value_of, has_pair, comes_before, insert_pair, index_of, roster, in_roster, other_pairs, with_set_up, tag_lines, tag_section, text_by, roster_line, other_line}
 use Rattle.pgn_game.proofs.pairs.ExportedValues.{without_set_up, set_up, set_up_if}
 use Rattle.pgn_game.proofs.pairs.ValuesByName.{bytes_eq-true}
 
@@ -10,10 +11,6 @@ tag_lines-append (p ∷ ps) qs = ap (λ l. tag_line p.name p.value ++ l) (tag_li
 roster_lines : (ps ds : List Pair) → text_by (roster_line ps) ds ≡ tag_lines (map (λ d. record { name = d.name; value = unwrap_or (value_of ps d.name) d.value }) ds)
 roster_lines ps [] = refl
 roster_lines ps (d ∷ ds) = ap (λ l. roster_line ps d ++ l) (roster_lines ps ds)
-
-or_false : (b : Bool) → (b || false) ≡ b
-or_false true = refl
-or_false false = refl
 
 -- the line of a pair, unless it is left out
 abbrev line_unless : Bool → Pair → List ℕ
@@ -27,16 +24,13 @@ kept_line p ps false = refl
 plain_lines : (ps : List Pair) → text_by (other_line false) ps ≡ tag_lines (other_pairs ps)
 plain_lines [] = refl
 plain_lines (p ∷ ps) =
-    ap (λ b. line_unless b p ++ text_by (other_line false) ps) (or_false (in_roster p.name))
-    ∙ ap (λ l. line_unless (in_roster p.name) p ++ l) (plain_lines ps)
-    ∙ kept_line p (other_pairs ps) (in_roster p.name)
+    cc (or-false (in_roster p.name), plain_lines ps, kept_line p (other_pairs ps) (in_roster p.name))
 
 abbrev is_set_up : Pair → Bool
 is_set_up p = bytes_eq p.name (codes "SetUp")
 
 beside_line : (p : Pair) (ps : List Pair) (b : Bool) → line_unless (in_roster p.name || b) p ++ tag_lines (other_pairs ps) ≡ tag_lines (other_pairs (cond (not b) (p ∷ ps) ps))
-beside_line p ps true = ap (λ b. line_unless b p ++ tag_lines (other_pairs ps)) (or_right (in_roster p.name) true refl)
-beside_line p ps false = ap (λ b. line_unless b p ++ tag_lines (other_pairs ps)) (or_false (in_roster p.name)) ∙ kept_line p (other_pairs ps) (in_roster p.name)
+beside_line p ps b = grind (arith, or-false, or_right, kept_line)
 
 -- the lines of the pairs beside the SetUp of a FEN
 beside_lines : (ps : List Pair) → text_by (other_line true) ps ≡ tag_lines (other_pairs (without_set_up ps))
@@ -48,11 +42,7 @@ abbrev pub lines_about : ℕ → List Pair → List ℕ
 lines_about n ps = (text_by (other_line true) (take n ps) ++ tag_line (codes "SetUp") (codes "1")) ++ text_by (other_line true) (drop n ps)
 
 lines_about-next : (n : ℕ) (p : Pair) (ps : List Pair) → lines_about (1 + n) (p ∷ ps) ≡ other_line true p ++ lines_about n ps
-lines_about-next n p ps =
-    let next : 1 + n ≡ suc n = omega arith in
-    ap (λ k. lines_about k (p ∷ ps)) next
-    ∙ ap (λ l. l ++ text_by (other_line true) (drop n ps)) (append_assoc (other_line true p) (text_by (other_line true) (take n ps)) (tag_line (codes "SetUp") (codes "1")))
-    ∙ append_assoc (other_line true p) (text_by (other_line true) (take n ps) ++ tag_line (codes "SetUp") (codes "1")) (text_by (other_line true) (drop n ps))
+lines_about-next n p ps = grind (arith, append_assoc)
 
 abbrev kept : Bool → Pair → List Pair → List Pair
 kept b p ps = cond (not b) (p ∷ ps) ps
@@ -98,12 +88,7 @@ pub reduced_section : (result : List ℕ) (ps : List Pair) → text_by (roster_l
 reduced_section result ps = ap (λ l. l ++ 10 ∷ []) (roster_lines ps (roster result))
 
 pub full_section : (result : List ℕ) (ps : List Pair) → (text_by (roster_line ps) (roster result) ++ tag_lines (other_pairs (with_set_up ps))) ++ 10 ∷ [] ≡ tag_section Full result ps
-full_section result ps =
-    ap (λ l. l ++ 10 ∷ [])
-    (
-    ap (λ l. l ++ tag_lines (other_pairs (with_set_up ps))) (roster_lines ps (roster result))
-    ∙ sym (tag_lines-append (roster_pairs result ps) (other_pairs (with_set_up ps)))
-    )
+full_section result ps = grind (arith, tag_lines-append, roster_lines)
 
 -- the roster stands first in both modes
 pub roster_first : (result : List ℕ) (mode : Mode) (ps : List Pair) → (rest : List ℕ) × (tag_section mode result ps ≡ text_by (roster_line ps) (roster result) ++ rest)

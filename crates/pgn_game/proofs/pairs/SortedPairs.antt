@@ -1,5 +1,5 @@
 -- The order of names, and places in it.
-use Rattle.pgn_game.proofs.Words.{◌≡◌, ℕ, suc, ◌+◌, ◌-◌, ◌<◌, ◌≤◌, Bool, true, false, List, [], ◌∷◌, ◌++◌, length, refl, sym, ap, subst, ◌∙◌, arith, Option, None, Some, insert, IsTrue, IsSome, is_some, IfSome, IsSomeAnd, take, drop, set, get_or, refill, take-append_seam, take-suc, length-take-le, length-set, take_more_set, take-append-le, nat_tests, Pair, comes_before, insert_pair, TagPairs, FitsPairStore, index_of, last_name, but_last, pairs_seen}
+use Rattle.pgn_game.proofs.Words.{◌≡◌, ℕ, suc, ◌+◌, ◌-◌, ◌<◌, ◌≤◌, Bool, true, false, List, [], ◌∷◌, ◌++◌, length, refl, sym, ap, subst, ◌∙◌, arith, Option, None, Some, insert, IsTrue, IsSome, is_some, IfSome, IsSomeAnd, take, set, get_or, refill, take-append_seam, take-suc, length-take-le, length-set, take_more_set, take-append-le, nat_tests, Pair, comes_before, insert_pair, TagPairs, FitsPairStore, index_of, last_name, but_last, pairs_seen, rules}
 use Rattle.std.proofs.lemmas.List.{length-append}
 use Rattle.std.specs.Ordering.{nat_cmp, is_lt, is_some_and}
 use Rattle.std.specs.Cmp.Lexicographic.{slice_partial_cmp}
@@ -35,7 +35,7 @@ seen held begun = record { held = held; pending_name = begun }
 
 -- a pair that has begun
 pub pairs_seen-snoc : (ps : List Pair) (p : Pair) → pairs_seen (ps ++ p ∷ []) true ≡ seen ps (Some p.name)
-pairs_seen-snoc ps p = ap (λ h. seen h (last_name (ps ++ p ∷ []))) (but_last-snoc ps p) ∙ ap (seen ps) (last_name-snoc ps p)
+pairs_seen-snoc ps p = grind (arith, last_name-snoc, but_last-snoc)
 
 some_last : (p : Pair) (ps : List Pair) → last_name (p ∷ ps) ≡ None → ⊥
 some_last p [] e = cc
@@ -49,28 +49,20 @@ whole-held (p ∷ ps) true t e none some = absurd (some_last p ps (ap (λ s. s.p
 
 -- where no pair has begun, the first pairs stored are all that are held
 pub first-held : (most : ℕ) (ps : List Pair) (n : ℕ) (b : Bool) (t : TagPairs) → FitsPairStore most ps n b → pairs_seen (take n ps) b ≡ t → t.pending_name ≡ None → take n ps ≡ t.held
-first-held most ps n b t fits e none =
-    whole-held (take n ps) b t e none (λ h. omega (arith, fits.some h, length-take-le n ps fits.within))
+first-held most ps n b t fits e none = grind (arith, length-take-le, whole-held)
 
 pub held-count : (most : ℕ) (ps : List Pair) (n : ℕ) (b : Bool) (t : TagPairs) → FitsPairStore most ps n b → pairs_seen (take n ps) b ≡ t → t.pending_name ≡ None → length t.held ≡ n
 held-count most ps n b t fits e none = ap (length {A = Pair}) (sym (first-held most ps n b t fits e none)) ∙ length-take-le n ps fits.within
 
 -- the name that has begun is the last pair's
 pub named-last : (ps : List Pair) (b : Bool) (t : TagPairs) (P : List ℕ → Type 0) → pairs_seen ps b ≡ t → IsSomeAnd t.pending_name P → IsSomeAnd (last_name ps) P
-named-last ps true t P e h = let Q : TagPairs → Type 0 = λ u. IsSomeAnd u.pending_name P in subst Q (sym e) h
-named-last ps false t P e h = let Q : TagPairs → Type 0 = λ u. IsSomeAnd u.pending_name P in absurd (subst Q (sym e) h)
+named-last ps b t P e h = search rules
 
 -- the last pair gets its value and goes to its place
 pub finished-last : (front : List Pair) (p : Pair) (value : List ℕ) (ps more : List Pair) → ps ≡ front ++ p ∷ []
     → more ≡ insert_pair (record { name = p.name; value = value }) front
     → IfSome (last_name ps) (λ name. more ≡ insert_pair (record { name = name; value = value }) (but_last ps))
-finished-last front p value ps more e h =
-    let Q : Option (List ℕ) → List Pair → Type 0 = λ o held. IfSome o (λ name. more ≡ insert_pair (record { name = name; value = value }) held) in
-    let named : Q (Some p.name) (but_last (front ++ p ∷ [])) =
-    subst (λ held. Q (Some p.name) held) (sym (but_last-snoc front p)) h in
-    let last : Q (last_name (front ++ p ∷ [])) (but_last (front ++ p ∷ [])) =
-    subst (λ o. Q o (but_last (front ++ p ∷ []))) (sym (last_name-snoc front p)) named in
-    subst (λ qs. Q (last_name qs) (but_last qs)) (sym e) last
+finished-last front p value ps more e h = grind (arith, last_name-snoc, but_last-snoc)
 
 if_some-seen : (o : Option (List ℕ)) (more held : List Pair) (value : List ℕ)
     → IfSome o (λ name. more ≡ insert_pair (record { name = name; value = value }) held)
@@ -82,20 +74,14 @@ if_some-seen None more held value h = tt
 pub completed : (ps : List Pair) (b : Bool) (t : TagPairs) (value : List ℕ) (more : List Pair) → pairs_seen ps b ≡ t
     → IfSome (last_name ps) (λ name. more ≡ insert_pair (record { name = name; value = value }) (but_last ps))
     → IfSome t.pending_name (λ name. seen more None ≡ seen (insert_pair (record { name = name; value = value }) t.held) None)
-completed ps true t value more e h =
-    let Q : TagPairs → Type 0 = λ u. IfSome u.pending_name (λ name. seen more None ≡ seen (insert_pair (record { name = name; value = value }) u.held) None) in
-    subst Q e (if_some-seen (last_name ps) more (but_last ps) value h)
-completed ps false t value more e h =
-    let Q : TagPairs → Type 0 = λ u. IfSome u.pending_name (λ name. seen more None ≡ seen (insert_pair (record { name = name; value = value }) u.held) None) in
-    subst Q e tt
+completed ps b t value more e h = grind (arith, if_some-seen)
 
 -- the name that has begun is that of the last of the first pairs
 pub begun-last : (most : ℕ) (ps : List Pair) (n : ℕ) (b : Bool) (t : TagPairs) (p : Pair) → FitsPairStore most ps n b → pairs_seen (take n ps) b ≡ t
     → p ≡ get_or ps (n - 1) p → IsSome t.pending_name → t.pending_name ≡ Some p.name
 begun-last most ps n true t p fits e at begun =
     let more : n ≡ suc (n - 1) = omega (arith, fits.some refl) in
-    let split : take n ps ≡ take (n - 1) ps ++ p ∷ [] = ap (λ k. take k ps) more ∙ take-suc ps (n - 1) p (omega (arith, fits.some refl, fits.within))
-    ∙ ap (λ (q : Pair). take (n - 1) ps ++ q ∷ []) (sym at) in
+    let split : take n ps ≡ take (n - 1) ps ++ p ∷ [] = cc (more, take-suc ps (n - 1) p (omega (arith, fits.some refl, fits.within)), at) in
     ap (λ s. s.pending_name) (sym e) ∙ ap last_name split ∙ last_name-snoc (take (n - 1) ps) p
 begun-last most ps n false t p fits e at begun =
     let Q : TagPairs → Type 0 = λ u. IsSome u.pending_name in
@@ -104,8 +90,7 @@ begun-last most ps n false t p fits e at begun =
 
 -- a slice that is as long takes the place of all items
 pub refill-all : (items new : List Pair) → length new ≡ length items → refill (length items) items new ≡ new
-refill-all items new same =
-    ap (λ (n : ℕ). take n (new ++ drop (length new) items)) (sym same) ∙ take-append_seam new (drop (length new) items)
+refill-all items new same = grind (arith, take-append_seam)
 
 -- of pairs that are stored, the first are those held, and there is a place behind them
 pub record HasPlace (most : ℕ) (ps : List Pair) (n : ℕ) (held : List Pair) : Type 0 where
@@ -118,27 +103,13 @@ place-of-old most ps n held room same place = record { same = same; place = plac
 
 pub place-of-new : (most : ℕ) (ps more : List Pair) (n : ℕ) (held : List Pair) (p : Pair) → more ≡ ps ++ p ∷ [] → take n ps ≡ held → n ≡ length ps → n < most
     → HasPlace most more n held
-place-of-new most ps more n held p is same all room =
-    let long : length more ≡ length ps + 1 = ap (length {A = Pair}) is ∙ length-append ps (p ∷ []) in
-    record {
-      same = ap (take n) is ∙ take-append-le n ps (p ∷ []) (omega (arith, all)) ∙ same;
-      place = omega (arith, long, all);
-      room = omega (arith, long, all, room);
-    }
+place-of-new most ps more n held p is same all room = search (rules, take-append-le, length-append)
 
 -- a pair is put there
 pub put-in-place : (most : ℕ) (ps : List Pair) (n : ℕ) (held : List Pair) (p : Pair) → HasPlace most ps n held
     → take (n + 1) (refill (length ps) ps (set ps n p)) ≡ held ++ p ∷ []
-put-in-place most ps n held p has =
-    ap (take (n + 1)) (refill-all ps (set ps n p) (length-set ps n p)) ∙ take_more_set ps n p has.place ∙ ap (λ h. h ++ p ∷ []) has.same
+put-in-place most ps n held p has = grind (arith, length-set, take_more_set, refill-all)
 
 pub stays-in-place : (most : ℕ) (ps : List Pair) (n : ℕ) (held : List Pair) (p : Pair) → HasPlace most ps n held
     → FitsPairStore most (refill (length ps) ps (set ps n p)) (n + 1) true
-stays-in-place most ps n held p has =
-    let long : length (refill (length ps) ps (set ps n p)) ≡ length ps =
-    ap (length {A = Pair}) (refill-all ps (set ps n p) (length-set ps n p)) ∙ length-set ps n p in
-    record {
-      room = omega (arith, long, has.room);
-      within = omega (arith, long, has.place);
-      some = λ _. omega arith;
-    }
+stays-in-place most ps n held p has = search (rules, length-set, refill-all)

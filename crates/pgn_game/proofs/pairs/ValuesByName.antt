@@ -1,5 +1,5 @@
 -- The values of names in pairs that are joined, filtered, or put in one after another.
-use Rattle.pgn_game.proofs.Words.{◌≡◌, ℕ, ◌||◌, Bool, true, false, cond, List, [], ◌∷◌, ◌++◌, refl, sym, ap, subst, ◌∙◌, Option, None, Some, bytes_eq, filter, is_some, AllByRecursion, false≢true, or_parts, bytes_eq-Decides, Pair, value_of, has_pair, comes_before, insert_pair}
+use Rattle.pgn_game.proofs.Words.{◌≡◌, ℕ, ◌||◌, Bool, true, false, cond, List, [], ◌∷◌, ◌++◌, refl, sym, ap, ◌∙◌, Option, None, Some, bytes_eq, filter, is_some, AllByRecursion, false≢true, or_parts, bytes_eq-Decides, Pair, value_of, has_pair, comes_before, insert_pair, arith, rules}
 
 pub bytes_eq-true : (xs ys : List ℕ) → bytes_eq xs ys ≡ true → xs ≡ ys
 bytes_eq-true xs ys e = (bytes_eq-Decides xs ys).0 e
@@ -8,15 +8,11 @@ pub bytes_eq-refl : (xs ys : List ℕ) → xs ≡ ys → bytes_eq xs ys ≡ true
 bytes_eq-refl xs ys e = (bytes_eq-Decides xs ys).1 e
 
 same_bool : (a b : Bool) → (a ≡ true → b ≡ true) → (b ≡ true → a ≡ true) → a ≡ b
-same_bool true b there back = sym (there refl)
-same_bool false true there back = back refl
-same_bool false false there back = refl
+same_bool a b there back = grind arith
 
 -- the tests of equality of texts agree either way round
 pub bytes_eq-sym : (xs ys : List ℕ) → bytes_eq xs ys ≡ bytes_eq ys xs
-bytes_eq-sym xs ys =
-    same_bool _ _ (λ e. bytes_eq-refl ys xs (sym (bytes_eq-true xs ys e)))
-    (λ e. bytes_eq-refl xs ys (sym (bytes_eq-true ys xs e)))
+bytes_eq-sym xs ys = grind (arith, bytes_eq-true, bytes_eq-refl, same_bool)
 
 pub no_value : {A : Type 0} (o : Option A) → is_some o ≡ false → o ≡ None
 no_value None e = refl
@@ -28,12 +24,7 @@ pick true v o = Some v
 pick false v o = o
 
 pub value_of-cons : (p : Pair) (ps : List Pair) (name : List ℕ) → value_of (p ∷ ps) name ≡ pick (bytes_eq p.name name) p.value (value_of ps name)
-value_of-cons p ps name =
-    elim (bytes_eq _ name)
-    as (λ b. elim b [ true ↦ Some p.value | false ↦ value_of ps name ] ≡ pick b p.value (value_of ps name)) [
-      | true ↦ refl
-      | false ↦ refl
-    ]
+value_of-cons p ps name = grind arith
 
 some_pick : (b : Bool) (v : List ℕ) (o : Option (List ℕ)) → is_some (pick b v o) ≡ (b || is_some o)
 some_pick true v o = refl
@@ -50,11 +41,7 @@ not_among r rs name e = or_parts _ _ (sym (has-cons r rs name) ∙ e)
 -- the pair of a name that has a value
 found_at : (P : Pair → Type 0) (q : Pair) (n v : List ℕ) (o : Option (List ℕ)) (b : Bool) → P q → bytes_eq q.name n ≡ b
     → (o ≡ Some v → P (record { name = n; value = v })) → pick b q.value o ≡ Some v → P (record { name = n; value = v })
-found_at P q n v o true h is rest e =
-    let name : q.name ≡ n = bytes_eq-true _ n is in
-    let value : q.value ≡ v = cc in
-    subst (λ x. P (record { name = n; value = x })) value (rw name at h)
-found_at P q n v o false h is rest e = rest e
+found_at P q n v o b h is rest e = search (rules, bytes_eq-true)
 
 pub found : (P : Pair → Type 0) (ps : List Pair) (n v : List ℕ) → AllByRecursion P ps → value_of ps n ≡ Some v → P (record { name = n; value = v })
 found P [] n v h e = absurd (cc)
@@ -102,10 +89,9 @@ pub by_insert : (P : List Pair → List Pair → Type 0) (q : Pair) → ((qs : L
     → P qs (insert_pair q qs)
 by_insert P q first later [] = first []
 by_insert P q first later (r ∷ rs) =
-    let rest = later r rs (insert_pair q rs) (by_insert P q first later rs) in
     elim (comes_before q.name r.name) as (λ b. P (r ∷ rs) (elim b [ true ↦ q ∷ r ∷ rs | false ↦ r ∷ insert_pair q rs ])) [
       | true ↦ first _
-      | false ↦ rest
+      | false ↦ (later r rs (insert_pair q rs) (by_insert P q first later rs))
     ]
 
 or_swap : (a b c : Bool) → (a || (b || c)) ≡ (b || (a || c))
@@ -116,7 +102,7 @@ or_swap false b c = refl
 -- a name is among the pairs with one more
 pub has-insert : (q : Pair) (ps : List Pair) (name : List ℕ) → has_pair (insert_pair q ps) name ≡ (bytes_eq q.name name || has_pair ps name)
 has-insert q ps name =
-    cc (by_insert (λ qs l. has_pair l name ≡ (bytes_eq q.name name || has_pair qs name)) q (λ qs. has-cons q qs name) (λ r rs l more. has-cons r l name ∙ ap (λ (x : Bool). bytes_eq r.name name || x) more ∙ or_swap (bytes_eq r.name name) (bytes_eq q.name name) (has_pair rs name) ∙ ap (λ (x : Bool). bytes_eq q.name name || x) (sym (has-cons r rs name))) ps)
+    cc (by_insert (λ qs l. has_pair l name ≡ (bytes_eq q.name name || has_pair qs name)) q (λ qs. has-cons q qs name) (λ r rs l more. has-cons r l name ∙ ap (λ x. bytes_eq r.name name || x) more ∙ or_swap (bytes_eq r.name name) (bytes_eq q.name name) (has_pair rs name) ∙ ap (λ x. bytes_eq q.name name || x) (sym (has-cons r rs name))) ps)
 
 -- it does not change the values of other names
 pub value_of-insert : (p : Pair) (qs : List Pair) (name : List ℕ) → bytes_eq p.name name ≡ false → value_of (insert_pair p qs) name ≡ value_of qs name
@@ -126,9 +112,7 @@ value_of-insert p qs name e =
     (λ r rs l e. value_of-cons r l name ∙ ap (pick (bytes_eq _ name) _) e ∙ sym (value_of-cons r rs name)) qs
 
 pick_swap : (b c : Bool) (v w : List ℕ) (o : Option (List ℕ)) → (b ≡ true → c ≡ true → ⊥) → pick b v (pick c w o) ≡ pick c w (pick b v o)
-pick_swap true true v w o apart = absurd (apart refl refl)
-pick_swap true false v w o apart = refl
-pick_swap false c v w o apart = refl
+pick_swap b c v w o apart = grind arith
 
 two_names : (r q n : List ℕ) → bytes_eq r q ≡ false → bytes_eq r n ≡ true → bytes_eq q n ≡ true → ⊥
 two_names r q n other e f = false≢true (sym other ∙ bytes_eq-refl r q (bytes_eq-true r n e ∙ sym (bytes_eq-true q n f)))
@@ -141,9 +125,7 @@ value_of-put q qs n =
     (λ ps new. value_of-cons q ps n)
     (λ r rs l more new.
     let apart = not_among r rs _ new in
-    value_of-cons r l n ∙ ap (pick (bytes_eq _ n) r.value) (more apart.1)
-    ∙ pick_swap (bytes_eq _ n) (bytes_eq q.name n) r.value q.value (value_of rs n) (two_names _ q.name n apart.0)
-    ∙ ap (pick (bytes_eq q.name n) q.value) (sym (value_of-cons r rs n))) qs
+    cc (value_of-cons r l n, more apart.1, pick_swap (bytes_eq _ n) (bytes_eq q.name n) r.value q.value (value_of rs n) (two_names _ q.name n apart.0), value_of-cons r rs n)) qs
 
 pub all-insert : (P : Pair → Type 0) (q : Pair) (qs : List Pair) → P q → AllByRecursion P qs → AllByRecursion P (insert_pair q qs)
 all-insert P q qs h =

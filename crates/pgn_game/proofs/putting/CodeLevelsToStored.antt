@@ -1,9 +1,7 @@
 -- The levels around the current one, as they are kept and as contracts see them: kept with the main
 -- line first, seen with the nearest first.
-use Rattle.std.proofs.Common.{◌≡◌, ℕ, ◌+◌, List, [], ◌∷◌, ◌++◌, length, refl, arith, Option, None, Some, IfSome}
-use Rattle.chess_rules.specs.declared.position.Parts.{Parts}
+use Rattle.pgn_game.proofs.Words.{◌≡◌, ◌+◌, List, [], ◌∷◌, ◌++◌, length, refl, arith, Option, None, Some, IfSome, Parts, StoredLevel, StoredLevels, inside, code_levels, AreThere, ClosesLevel, level_at, level_of}
 use Rattle.pgn_game.specs.declared.levels.Level.{Level as CodeLevel}
-use Rattle.pgn_game.specs.Movetext.{StoredLevel, StoredLevels, level_of, inside, code_levels, AreThere, ClosesLevel, level_at}
 
 -- one more is the nearest
 pub inside-snoc : (ls : List StoredLevel) (xs : List (Option CodeLevel)) (l : CodeLevel) → inside ls (xs ++ Some l ∷ []) ≡ level_of l ∷ inside ls xs

@@ -1,11 +1,10 @@
 -- What an item adds to the movetext that is held.
-use Rattle.pgn_game.proofs.Words.{◌≡◌, ℕ, ◌+◌, ◌<◌, ◌≤◌, Bool, true, false, cond, List, [], ◌∷◌, ◌++◌, map, length, Option, Some, refl, sym, ap, subst, ◌∙◌, append_assoc, append-nil, arith, All, ◌==◌, ◌&&◌, IsTrue, is_some, IfSome, Result, Ok, Err, IsErr, OnOk, Appends, All-nil, All-cons, All-head, All-tail, length-map, drop-append_seam, Move, legal, AppendsFront, Counts, Device, Writes, IsToken, lines_of, full_lines, last_line, text_of as text_of_lines, Put, laid_from, text_put, line_put, Parts, Played, Mode, Full, Reduced, play, text_of_move, Item, open_variation, close_variation, Level as ModelLevel, Levels as ModelLevels, levels_after, levels_of, depth, here, outermost, main_moves, Placed, is_move, tokens_at, tokens_from, tokens_out, full_text, StoredLevels, Movetext, level_at, ClosesLevel, before_last, stored_level, stored_levels, ends_in_move, HoldsItems, ItemFits, model_item, PutsTokens, GoesOn, Plays, LeadsLevels, counted_at, writes, tokens_due, tokens_if, after_move_if, plies_in, item_text, Adds, WritesItem}
+use Rattle.pgn_game.proofs.Words.{◌≡◌, ℕ, ◌+◌, ◌<◌, ◌≤◌, Bool, true, false, List, [], ◌∷◌, ◌++◌, map, length, Option, Some, refl, sym, ap, subst, ◌∙◌, append_assoc, append-nil, arith, All, ◌==◌, IsTrue, is_some, IfSome, Result, Ok, Err, IsErr, Appends, All-nil, All-cons, All-head, All-tail, length-map, drop-append_seam, Move, legal, Device, IsToken, lines_of, full_lines, last_line, text_of as text_of_lines, Put, laid_from, text_put, line_put, Parts, Played, Mode, play, text_of_move, Item, open_variation, close_variation, Level as ModelLevel, Levels as ModelLevels, levels_after, levels_of, depth, here, outermost, main_moves, Placed, is_move, tokens_out, StoredLevels, Movetext, level_at, ClosesLevel, before_last, stored_level, stored_levels, ends_in_move, HoldsItems, ItemFits, model_item, PutsTokens, GoesOn, Plays, writes, tokens_due, tokens_if, after_move_if, plies_in, item_text, Adds, WritesItem, rules}
 use Rattle.std.proofs.lemmas.List.Elements.{All-append}
 use Rattle.std.proofs.Math.Dec.{eqb-suc-zero}
 use Rattle.chess_text.specs.San.{san, MarkPairs, disambiguation_pairs}
 use Rattle.pgn_layout.specs.declared.sink.WriteFault.{WriteFault}
 use Rattle.pgn_game.specs.declared.annotation.Annotation.{Annotation}
-use Rattle.pgn_game.specs.declared.annotation.Annotation.TheVariants as code
 use Rattle.pgn_game.specs.Game.{move}
 use Rattle.pgn_game.proofs.reading.MovetextTokens.{levels_more}
 use Rattle.pgn_game.proofs.putting.WritesInTurn.{front_of_more, Writes-append}
@@ -15,16 +14,12 @@ use Rattle.pgn_game.proofs.putting.ItemsAppended.{written_from_start, written_be
 full_lines_laid : (ts us : List (List ℕ)) → All IsToken ts → All IsToken us
     → text_of_lines (full_lines (lines_of (ts ++ us))) ≡ text_of_lines (full_lines (lines_of ts)) ++ (laid_from (last_line (lines_of ts)) (map Put us)).written
 full_lines_laid ts [] each more =
-    ap (λ l. text_of_lines (full_lines (lines_of l))) (append-nil ts) ∙ sym (append-nil (text_of_lines _))
+    cc (append-nil ts, append-nil (text_of_lines _))
 full_lines_laid ts (u ∷ us) each more =
     let full = text_of_lines (full_lines (lines_of ts)) in
     let last = last_line (lines_of ts) in
     let first = All-append IsToken ts (u ∷ []) each (All-cons IsToken u [] (All-head IsToken u us more) (All-nil IsToken)) in
-    ap (λ l. text_of_lines (full_lines (lines_of l))) (sym (append_assoc ts (u ∷ []) us))
-    ∙ full_lines_laid (ts ++ u ∷ []) us first (All-tail IsToken u us more)
-    ∙ ap (λ l. l ++ (laid_from (last_line (lines_of (ts ++ u ∷ []))) (map Put us)).written) (full_lines_put ts u each)
-    ∙ ap (λ l. (full ++ text_put last u) ++ (laid_from l (map Put us)).written) (last_line_put ts u each)
-    ∙ append_assoc full (text_put last u) (laid_from (line_put last u) (map Put us)).written
+    cc (append_assoc ts (u ∷ []) us, full_lines_laid (ts ++ u ∷ []) us first (All-tail IsToken u us more), full_lines_put ts u each, last_line_put ts u each, append_assoc full (text_put last u) (laid_from (line_put last u) (map Put us)).written)
 
 last_line_laid : (ts us : List (List ℕ)) → All IsToken ts → All IsToken us → last_line (lines_of (ts ++ us)) ≡ (laid_from (last_line (lines_of ts)) (map Put us)).line
 last_line_laid ts [] each more = cc (append-nil ts)
@@ -47,7 +42,7 @@ plies_by (move m) present [] = omega arith
 plies_by (move m) present (l ∷ around) =
     let n = length (main_of (record { present = present; around = l ∷ around })) in
     let none_more : n ≡ n + 0 = omega arith in
-    none_more ∙ ap (λ b. n + elim b [ true ↦ 1 | false ↦ 0 ]) (sym (eqb-suc-zero _))
+    cc (eqb-suc-zero _)
 plies_by close_variation present [] = omega arith
 plies_by close_variation present (l ∷ around) = omega arith
 plies_by _ present around = omega arith
@@ -69,38 +64,16 @@ module _ (mode : Mode) (start : Parts) (items : List Item) (i : Item) (text : Mo
 
   behind_by : (m : Mode)
       → written_behind m start items (i ∷ []) ≡ elim (writes m (depth (levels_of items)) i) [ true ↦ placed ∷ [] | false ↦ [] ]
-  behind_by Full = refl
-  behind_by Reduced =
-      elim (is_move i && (depth (levels_of items) == 0))
-      as (λ v. cond v (placed ∷ []) [] ≡ elim v [ true ↦ placed ∷ [] | false ↦ [] ]) [
-        | true ↦ refl
-        | false ↦ refl
-      ]
+  behind_by m = grind arith
 
   behind_is : written_behind mode start items (i ∷ []) ≡ elim written [ true ↦ placed ∷ [] | false ↦ [] ]
-  behind_is =
-      behind_by mode
-      ∙ ap (λ (v : Bool). elim v [ true ↦ placed ∷ [] | false ↦ [] ]) (ap (λ n. writes mode n i) same_depth ∙ is)
+  behind_is = grind (arith, same_depth, behind_by)
 
   tokens_are : tokens_behind mode start items (i ∷ []) ≡ tokens_if written text i
-  tokens_are =
-      ap (tokens_from (ends_in_move false (written_from_start mode start items))) behind_is ∙ by_written written
-    where
-      by_written : (v : Bool)
-          → tokens_from (ends_in_move false (written_from_start mode start items)) (elim v [ true ↦ placed ∷ [] | false ↦ [] ])
-          ≡ tokens_if v text i
-      by_written true =
-          append-nil _ ∙ ap (λ b. tokens_at b (here start (levels_of items)) i) (sym holds.is_after_move)
-          ∙ ap (λ p. tokens_at text.is_after_move p i) (sym (ap (λ (ls : StoredLevels). ls.present.present) holds.levels))
-      by_written false = refl
+  tokens_are = grind (arith, append-nil, written_from_start, behind_is)
 
   ends_are : after_move_if written text i ≡ ends_in_move text.is_after_move (written_behind mode start items (i ∷ []))
-  ends_are = by_written written ∙ sym (ap (ends_in_move text.is_after_move) behind_is)
-    where
-      by_written : (v : Bool)
-          → after_move_if v text i ≡ ends_in_move text.is_after_move (elim v [ true ↦ placed ∷ [] | false ↦ [] ])
-      by_written true = refl
-      by_written false = refl
+  ends_are = grind (arith, behind_is)
 
 -- The levels that an item leads to.
 opened : (start : Parts) (trail : List Move) (holds : Bool) (around : List ModelLevel) (new : StoredLevels)
@@ -134,39 +107,17 @@ pub plays_on : (x : Played) (text new : Movetext) → legal text.levels.present.
 plays_on x text new is on = record {
   levels = λ start ls e.
       on.levels ∙ ap (then_at text.levels) (played_is text.levels.present.present x.mv _ is)
-      ∙ ap (λ (l : StoredLevels). then_at l (play l.present.present x.mv)) e;
+      ∙ ap (λ l. then_at l (play l.present.present x.mv)) e;
   plies = on.plies;
   is_after_move = on.is_after_move;
 }
 
 -- no other item is a move
 pub no_move : (i : Annotation) → is_move (model_item i) ≡ false
-no_move (code.Glyph n) = refl
-no_move code.CommentOpen = refl
-no_move (code.Word text) = refl
-no_move code.CommentClose = refl
-no_move code.Open = refl
-no_move code.Close = refl
+no_move i = grind arith
 
 pub goes_on : (most : ℕ) (i : Annotation) (text new : Movetext) → ItemFits most text i → GoesOn i text new → Advances (model_item i) text new
-goes_on most i text new fits on = record {
-  levels = λ start ls e. levels_lead i start ls fits on.levels e;
-  plies =
-      let none : plies_in (model_item i) (length text.levels.around) ≡ 0 = ap (λ (b : Bool). elim b as (λ x. ℕ) [ true ↦ counted_at (length text.levels.around) | false ↦ 0 ]) (no_move i) in
-      omega (arith, on.plies, none);
-  is_after_move = on.is_after_move;
-}
-  where
-    levels_lead : (i : Annotation) (start : Parts) (ls : ModelLevels) → ItemFits most text i
-        → LeadsLevels i text.levels new.levels → text.levels ≡ stored_levels start ls → new.levels ≡ stored_levels start (levels_after ls (model_item i))
-    levels_lead code.Open start ls fits leads e =
-        opened start ls.present.trail ls.present.has_own_move ls.around new.levels
-        (subst (λ (o : StoredLevels). IsTrue (is_some o.present.before)) e fits.0)
-        (subst (λ (o : StoredLevels). IfSome o.present.before (λ s. new.levels ≡ record { present = level_at s; around = o.present ∷ o.around })) e leads)
-    levels_lead code.Close start ls fits leads e =
-        closed start ls.present ls.around new.levels
-        (subst (λ (o : StoredLevels). 0 < length o.around) e fits) (subst (λ (o : StoredLevels). ClosesLevel o.around new.levels) e leads)
-    levels_lead _ start ls fits leads e = leads ∙ e
+goes_on most i text new fits on = search (rules, ModelLevels, opened, closed, no_move)
 
 one_at_most : (moved main : Bool) → elim moved [ true ↦ elim main [ true ↦ 1 | false ↦ 0 ] | false ↦ 0 ] ≤ 1
 one_at_most true true = omega arith
@@ -191,9 +142,7 @@ module _ (mode : Mode) (i : Item) (text : Movetext) (line new_line : List ℕ) (
 
   item_text_is : (start : Parts) (items : List Item) → HoldsItems mode start items text line → All IsToken us
       → (laid_from line (map Put us)).written ≡ item_text mode start items i
-  item_text_is start items holds each =
-      let ts = tokens_out mode start items in
-      cc (tokens_then start items holds, full_lines_laid ts us holds.tokens each, drop-append_seam (full_text mode start items) (laid_from (last_line (lines_of ts)) (map Put us)).written)
+  item_text_is start items holds each = grind (arith, drop-append_seam, full_lines_laid, tokens_then)
 
   held_then : (start : Parts) (items : List Item) (new : Movetext) → HoldsItems mode start items text line → All IsToken us
       → new_line ≡ (laid_from line (map Put us)).line → Advances i between new
@@ -202,18 +151,11 @@ module _ (mode : Mode) (i : Item) (text : Movetext) (line new_line : List ℕ) (
       let ts = tokens_out mode start items in
       let behind = written_behind mode start items (i ∷ []) in
       record {
-        levels = on.levels start (levels_of items) holds.levels
-            ∙ ap (stored_levels start) (sym (levels_more items i));
-        plies = on.plies
-            ∙ ap (λ n. text.plies + plies_in i n) (sym (same_depth mode start items i text line written holds refl))
-            ∙ ap (λ n. n + plies_in i (depth (levels_of items))) holds.plies ∙ sym (plies-snoc items i);
-        is_after_move = on.is_after_move ∙ ends_are mode start items i text line written holds refl
-            ∙ ap (λ b. ends_in_move b behind) holds.is_after_move
-            ∙ sym (ap (ends_in_move false) (written_more mode start items _)
-            ∙ ends_in_move-append false (written_from_start mode start items) behind);
+        levels = cc (on.levels start (levels_of items) holds.levels, levels_more items i);
+        plies = cc (on.plies, same_depth mode start items i text line written holds refl, holds.plies, plies-snoc items i);
+        is_after_move = cc (on.is_after_move, ends_are mode start items i text line written holds refl, holds.is_after_move, written_more mode start items _, ends_in_move-append false (written_from_start mode start items) behind);
         tokens = subst (All IsToken) (sym (tokens_then start items holds)) (All-append IsToken ts us holds.tokens each);
-        last = held ∙ ap (λ (l : List ℕ). (laid_from l (map Put us)).line) holds.last
-            ∙ sym (ap (λ l. last_line (lines_of l)) (tokens_then start items holds) ∙ last_line_laid ts us holds.tokens each);
+        last = cc (holds.last, tokens_then start items holds, last_line_laid ts us holds.tokens each);
       }
 
   pub adds_put : (new : Movetext) → PutsTokens {A = Unit} {E = WriteFault} us line new_line (Ok tt) d
@@ -229,21 +171,12 @@ module _ (mode : Mode) (i : Item) (text : Movetext) (line new_line : List ℕ) (
 
   pub adds_front : {A E : Type 0} (new : Movetext) (e : E) (result : Result Unit WriteFault) → PutsTokens {A = A} us line new_line (Err e) d → new ≡ text
       → IsErr result → Adds mode i text line new new_line result d
-  adds_front new e (Ok x) puts same err = absurd (cc)
-  adds_front new e (Err f) puts same err = record {
-    adds = λ start items holds. subst (AppendsFront _ _) (item_text_is start items holds puts.each) puts.text;
-    plies = omega (arith, ap (λ (t : Movetext). t.plies) same);
-    counted = puts.counted;
-  }
+  adds_front new e result puts same err = search (rules, item_text_is)
 
 -- Such an item was written, or left out.
 pub left_out : (mode : Mode) (i : Item) (text : Movetext) (line : List ℕ) (d : Device) → writes mode (length text.levels.around) i ≡ false
     → Appends d.before d.after [] → d.failures_after ≡ d.failures → WritesItem {A = Unit} {E = WriteFault} mode i text line text line (Ok tt) d
-left_out mode i text line d none nothing counted = record {
-  puts = rw none
-      (record { text = nothing; held = refl; each = All-nil IsToken; counted = counted });
-  ends = cc;
-}
+left_out mode i text line d none nothing counted = search (rules, All-nil)
 
 pub written_out : (mode : Mode) (i : Item) (text : Movetext) (line new_line : List ℕ) (d : Device) → writes mode (length text.levels.around) i ≡ true
     → PutsTokens {A = Unit} {E = WriteFault} (tokens_due text i) line new_line (Ok tt) d
@@ -256,12 +189,7 @@ written_out mode i text line new_line d is puts = record {
 pub not_written : {A E : Type 0} (mode : Mode) (i : Item) (text : Movetext) (line new_line : List ℕ) (e : E) (result : Result Unit WriteFault) (d : Device)
     → writes mode (length text.levels.around) i ≡ true → PutsTokens {A = A} (tokens_due text i) line new_line (Err e) d → IsErr result
     → WritesItem mode i text line text new_line result d
-not_written mode i text line new_line e (Ok x) d is puts err = absurd (cc)
-not_written mode i text line new_line e (Err f) d is puts err = record {
-  puts = rw is
-      (record { text = puts.text; held = tt; each = puts.each; counted = puts.counted });
-  ends = refl;
-}
+not_written mode i text line new_line e result d is puts err = search rules
 
 -- Tokens put after others.
 laid-written : (line : List ℕ) (xs ys : List (List ℕ))
@@ -282,12 +210,12 @@ pub puts_after : {A B E : Type 0} (xs ys : List (List ℕ)) (line between new_li
     → PutsTokens {A = A} {E = E} xs line between (Ok x) (from_to a b n m) → PutsTokens ys between new_line result (from_to b c m k)
     → PutsTokens (xs ++ ys) line new_line result (from_to a c n k)
 puts_after xs ys line between new_line x result a b c n m k first more =
-    let held : between ≡ (laid_from line (map Put xs)).line = first.held in
-    let next = subst (λ (l : List ℕ). PutsTokens ys l new_line result (from_to b c m k)) held more in record {
-      text = subst (Writes a c result) (sym (laid-written line xs ys)) (Writes-append a b c _ _ result first.text next.text);
-      held = subst (λ (l : List ℕ). OnOk result (new_line ≡ l)) (sym (laid-line line xs ys)) next.held;
+    let held = first.held in
+    let next = (rw held at more) in record {
+      text = (rw (laid-written line xs ys) (Writes-append a b c _ _ result first.text next.text));
+      held = (rw (laid-line line xs ys) next.held);
       each = All-append IsToken xs ys first.each more.each;
-      counted = subst (λ (x : ℕ). Counts result x k) first.counted more.counted;
+      counted = (rw first.counted at more.counted);
     }
 
 -- so where a write failed before the last tokens
@@ -307,8 +235,7 @@ unfolding text_of_move
 is_text p q m s text same = cc
 
 pub is_token : (p : Parts) (m : Move) (s : List ℕ) → s ≡ text_of_move p m → 0 < length s → length s ≤ 7 → All IsToken (text_of_move p m ∷ [])
-is_token p m s text some short =
-    subst (λ (t : List ℕ). All IsToken (t ∷ [])) text (All-cons IsToken s [] (record { not_empty = some; fits = omega arith }) (All-nil IsToken))
+is_token p m s text some short = search (rules, All-nil, All-cons)
 
 -- the pairs of a move are those of its position, however the code holds that
 pub writes_move : (place held : Parts) (m : Move) (next : Parts) (n k : ℕ) → held ≡ place → legal place m ≡ Some next

@@ -1,5 +1,5 @@
 -- What putting a token of movetext adds to what stands written of its game, and to the reader.
-use Rattle.pgn_game.proofs.Words.{◌≡◌, max, ℕ, ◌<◌, ◌≤◌, Bool, true, false, ◌||◌, List, [], ◌∷◌, ◌++◌, length, drop, Option, None, refl, sym, ap, subst, ◌∙◌, append-nil, length-append, arith, IsTrue, Ok, Err, list_any, list_any-append, drop-append-add, drop-length, Appends-trans, Appends, Move, AppendsFront, Device, one_more, Parts, Mode, Full, Reduced, Stage, Between, AfterTags, InMovetext, Profile, known_result, Pair, Item, Part, More, is_at, start_of, tag_section, is_move, full_text, torn_at, has_move, Next, going, Movetext, HoldsItems, ReaderState, Agrees, as_written, plies_behind, whole_plies, IsOpen, may_have_movetext, with_items, Adds, BeginsText, Goes, Keeps, PutResult, PutsItems, gain_to, section_due, section_due_of}
+use Rattle.pgn_game.proofs.Words.{◌≡◌, max, ℕ, ◌<◌, ◌≤◌, true, false, List, [], ◌∷◌, ◌++◌, length, drop, Option, None, refl, sym, ap, subst, ◌∙◌, append-nil, length-append, arith, IsTrue, Ok, Err, list_any-append, drop-append-add, drop-length, Appends-trans, Appends, Move, AppendsFront, Device, one_more, Parts, Mode, Full, Reduced, Stage, Between, AfterTags, InMovetext, known_result, Pair, Item, Part, More, is_at, start_of, tag_section, is_move, full_text, torn_at, has_move, Next, going, Movetext, HoldsItems, ReaderState, Agrees, as_written, whole_plies, IsOpen, may_have_movetext, with_items, Adds, BeginsText, Goes, Keeps, PutResult, PutsItems, gain_to, section_due, section_due_of, rules}
 use Rattle.std.proofs.Math.Nat.{le-max_left}
 use Rattle.pgn_layout.specs.declared.sink.WriteFault.{WriteFault}
 use Rattle.pgn_game.specs.declared.reason.Reason.TheVariants as reasons
@@ -11,9 +11,6 @@ use Rattle.pgn_game.proofs.putting.ItemToMovetext.{from_to}
 abbrev pub lines_gain : Mode → List Pair → List Item → List Item → List ℕ
 lines_gain mode ps items more = drop (length (full_text mode (start_of ps) items)) (full_text mode (start_of ps) (items ++ more))
 
-abbrev pub part_at : Stage → List Pair → List ℕ → List Item → Part
-part_at stage ps name items = record { stage = stage; pairs = ps; name = name; items = items }
-
 no_text : (mode : Mode) (start : Parts) → full_text mode start [] ≡ []
 no_text Full start = refl
 no_text Reduced start = refl
@@ -21,15 +18,9 @@ no_text Reduced start = refl
 -- What the section and these lines add to what is written: the section, where it is due, and the
 -- lines without those of the items so far.
 pub gain_at : (mode : Mode) (result : List ℕ) (stage : Stage) (ps : List Pair) (name : List ℕ) (items : List Item) (lines : List ℕ) → IsTrue (may_have_movetext stage) → (stage ≡ AfterTags → items ≡ [])
-    → drop (length (torn_at stage mode result (part_at stage ps name items))) (tag_section mode result ps ++ lines)
+    → drop (length (torn_at stage mode result (record { stage = stage; pairs = ps; name = name; items = items }))) (tag_section mode result ps ++ lines)
     ≡ section_due stage mode result ps ++ drop (length (full_text mode (start_of ps) items)) lines
-gain_at mode result AfterTags ps name items lines at fresh =
-    cc (fresh refl, no_text mode (start_of ps))
-gain_at mode result InMovetext ps name items lines at fresh =
-    let section = tag_section mode result ps in
-    let full = full_text mode (start_of ps) items in
-    ap (λ n. drop n (section ++ lines)) (length-append section full) ∙ drop-append-add section lines _
-gain_at mode result _ ps name items lines at fresh = absurd (cc)
+gain_at mode result stage ps name items lines at fresh = grind (arith, length-append, drop-append-add, no_text)
 
 -- the stage of a part is the reader's
 pub open_stage : (old : ReaderState) (part : Part) → IsOpen old part → IsTrue (may_have_movetext old.stage) → IsTrue (may_have_movetext part.stage)
@@ -56,17 +47,13 @@ begins_as old begun held d same begins = rw same begins
 
 -- no move was played outside the games before
 pub plies_before : (old : ReaderState) → IsTrue (may_have_movetext old.stage) → whole_plies old ≡ old.earlier_plies
-plies_before old at = by_stage _ at
-  where
-    by_stage : (stage : Stage) → IsTrue (may_have_movetext stage) → plies_behind stage old.earlier_plies old.text.plies ≡ old.earlier_plies
-    by_stage Between at = absurd (cc)
-    by_stage _ at = refl
+plies_before old at = grind arith
 
 -- a put that failed, and one after which the game goes on
 module _ (old new : ReaderState) (IsOf : Part → Type 0) (to : Part → Next) (d : Device) (keeps : Keeps old new) where
   pub unwritten : d.failures_after ≡ one_more d.failures → ((part : Part) → IsOf part → AppendsFront d.before d.after (gain_to (as_written old.profile) part (to part)))
       → PutResult old IsOf to new (Err reasons.WriteFault) d
-  unwritten counted front = record { goes = λ part is. (refl, front part is); keeps = keeps; stays = tt; counted = (refl, counted) }
+  unwritten counted front = search rules
 
   pub more_comes : (new.stage ≡ Between → new ≡ old) → d.failures_after ≡ d.failures → ((part : Part) → IsOf part → Goes old part (to part) new More d)
       → PutResult old IsOf to new (Ok More) d
@@ -75,15 +62,10 @@ module _ (old new : ReaderState) (IsOf : Part → Type 0) (to : Part → Next) (
 -- a reader in movetext agrees with the part that it holds
 agrees_in_text : (r : ReaderState) (part : Part) → r.stage ≡ InMovetext → part.stage ≡ InMovetext → r.tags ≡ record { held = part.pairs; pending_name = None }
     → HoldsItems r.profile.mode (start_of part.pairs) part.items r.text r.line → (IsTrue (has_move part.items) → 0 < r.most_probes) → Agrees r part
-agrees_in_text r part stage same tags held probed =
-    record {
-      stage = stage ∙ sym same;
-      pairs = rw stage tags;
-      text = rw stage (held, probed);
-    }
+agrees_in_text r part stage same tags held probed = search rules
 
 not_between : (stage : Stage) {P : Type 0} → stage ≡ InMovetext → stage ≡ Between → P
-not_between stage at e = let h : InMovetext ≡ Between = sym at ∙ e in absurd (cc)
+not_between stage at e = let h = sym at ∙ e in absurd (cc)
 
 -- The reader after the section and an item: its movetext and its line have changed, and nothing
 -- else but the count of probes.
@@ -99,15 +81,7 @@ goes_with : (old begun new : ReaderState) (part : Part) (more : List Item) (d : 
     → begun ≡ record old { stage = InMovetext } → IsAfterItem begun new → HoldsItems old.profile.mode (start_of part.pairs) (part.items ++ more) new.text new.line
     → (IsTrue (has_move (part.items ++ more)) → 0 < new.most_probes) → Appends d.before d.after (gain_to (as_written old.profile) part (going (with_items part more)))
     → Goes old part (going (with_items part more)) new More d
-goes_with old begun new part more d at is begins next held probed appended =
-    let stage : new.stage ≡ InMovetext = next.stage ∙ ap (λ (r : ReaderState). r.stage) begins in
-    record {
-      leads = agrees_in_text new (with_items part more) stage refl (next.tags ∙ ap (λ (r : ReaderState). r.tags) begins ∙ is.pairs)
-          (rw (next.profile ∙ ap (λ (r : ReaderState). r.profile) begins) held) probed;
-      plies = ap (λ (s : Stage). plies_behind s new.earlier_plies new.text.plies) stage
-          ∙ omega (arith, next.earlier, ap (λ (r : ReaderState). r.earlier_plies) begins, plies_before old at);
-      appended = appended;
-    }
+goes_with old begun new part more d at is begins next held probed appended = search (rules, plies_before, agrees_in_text)
 
 -- what items lead to
 abbrev pub to_items : List Item → Part → Next
@@ -116,55 +90,17 @@ to_items items part = going (with_items part items)
 -- A number was put, or a period: the section alone was written.
 pub puts_number : (old new : ReaderState) (d : Device) → IsTrue (may_have_movetext old.stage)
     → BeginsText {A = Unit} {E = WriteFault} old new (Ok tt) d → PutsItems old [] new (Ok More) d
-puts_number old new d at begins = record {
-  puts = more_comes old new (IsOpen old) (to_items []) d
-      (record { profile = begins.profile; plies = omega (arith, begins.earlier, begins.plies); probes = omega (arith, begins.probes) })
-      (not_between new.stage (ap (λ (r : ReaderState). r.stage) begins.begun)) begins.counted
-      (λ part is.
-      let ps = part.pairs in
-      let items = part.items in
-      let nothing : lines_gain old.profile.mode ps items [] ≡ [] =
-      ap (λ (is : List Item). drop (length (full_text old.profile.mode (start_of ps) items)) (full_text old.profile.mode (start_of ps) is)) (append-nil items)
-      ∙ drop-length (full_text old.profile.mode (start_of ps) items) in
-      goes_with old new new part [] d at is begins.begun (record { profile = refl; stage = refl; tags = refl; earlier = refl; probes = omega arith })
-      (subst (λ (r : ReaderState). HoldsItems old.profile.mode (start_of ps) (items ++ []) r.text r.line) (sym begins.begun)
-      (subst (λ (l : List Item). HoldsItems old.profile.mode (start_of ps) l old.text old.line) (sym (append-nil items)) is.held))
-      (λ has. subst (λ (n : ℕ). 0 < n) (sym begins.probes) (is.probed (rw (append-nil items) at has)))
-      (subst (Appends d.before d.after) (sym (append-nil _) ∙ ap (λ l. section_due_of old ++ l) (sym nothing) ∙ gain_is old part [] at is) begins.text));
-  goes_on = tt;
-  probes = begins.probes;
-}
+puts_number old new d at begins = search (rules, append-nil, drop-length, gain_is, more_comes, not_between, goes_with)
 
 -- In movetext nothing is due of the section.
 pub begun_before : (old : ReaderState) (d : Device) → old.stage ≡ InMovetext
     → Appends d.before d.after [] → d.failures_after ≡ d.failures → BeginsText {A = Unit {0}} {E = WriteFault} old old (Ok tt) d
-begun_before old d at nothing counted = record {
-  text = rw at nothing;
-  begun = ap (λ (s : Stage). record old { stage = s }) at;
-  profile = refl;
-  earlier = refl;
-  plies = refl;
-  probes = refl;
-  counted = counted;
-}
+begun_before old d at nothing counted = search rules
 
 -- where a move was played, some pair was tried
 probed_with : (old : ReaderState) (part : Part) (i : Item) (most : ℕ) → (is_move i ≡ true → 0 < old.most_probes) → old.most_probes ≤ most
     → (IsTrue (has_move part.items) → 0 < old.most_probes) → IsTrue (has_move (part.items ++ i ∷ [])) → 0 < most
-probed_with old part i most put rises before has = by_kind _ refl
-  where
-    or_left : (x y : Bool) → y ≡ false → (x || y) ≡ true → x ≡ true
-    or_left true y e h = refl
-    or_left false y e h = sym e ∙ h
-
-    earlier : list_any is_move (i ∷ []) ≡ false → 0 < most
-    earlier none =
-        let some = before (or_left (has_move part.items) (list_any is_move (i ∷ [])) none (sym (list_any-append is_move part.items (i ∷ [])) ∙ has)) in
-        omega (arith, some, rises)
-
-    by_kind : (b : Bool) → is_move i ≡ b → 0 < most
-    by_kind true is = omega (arith, put is, rises)
-    by_kind false is = earlier (ap (λ (b : Bool). b || false) is)
+probed_with old part i most put rises before has = grind (arith, list_any-append)
 
 -- the movetext that was held is held where its section is written
 begun_held : (old begun : ReaderState) (part : Part) → IsOpen old part → begun ≡ record old { stage = InMovetext }
@@ -181,14 +117,13 @@ module _ (old begun new : ReaderState) (i : Item) (a b c : Option (List ℕ)) (n
       let most : old.most_probes ≤ new.most_probes = omega (arith, next.probes, begins.probes) in
       more_comes old new (IsOpen old) (to_items _) (from_to a c n k)
       (record { profile = next.profile ∙ begins.profile; plies = omega (arith, next.earlier, begins.earlier, begins.plies, adds.plies); probes = most })
-      (not_between new.stage (next.stage ∙ ap (λ (r : ReaderState). r.stage) begins.begun)) (adds.counted ∙ begins.counted)
+      (not_between new.stage (next.stage ∙ ap (λ r. r.stage) begins.begun)) (adds.counted ∙ begins.counted)
       (λ part is.
       let added = adds.adds (start_of part.pairs) part.items (begun_held old begun part is begins.begun) in
       goes_with old begun new part (i ∷ []) (from_to a c n k) at is begins.begun next
-      (subst (λ (p : Profile). HoldsItems p.mode (start_of part.pairs) (part.items ++ i ∷ []) new.text new.line) begins.profile added.0)
+      (rw begins.profile at added.0)
       (probed_with old part i new.most_probes put most is.probed)
-      (subst (Appends a c) (ap (λ (p : Profile). section_due_of old ++ lines_gain p.mode part.pairs part.items (i ∷ [])) begins.profile
-      ∙ gain_is old part _ at is) (Appends-trans a b c _ _ begins.text added.1)))
+      (subst (Appends a c) (rw begins.profile (gain_is old part _ at is)) (Appends-trans a b c _ _ begins.text added.1)))
 
   pub fails_item : (f : WriteFault) → Adds {A = Unit} begun.profile.mode i begun.text begun.line new.text new.line (Err f) (from_to b c m k)
       → PutResult old (IsOpen old) (to_items (i ∷ [])) new (Err reasons.WriteFault) (from_to a c n k)
@@ -196,8 +131,7 @@ module _ (old begun new : ReaderState) (i : Item) (a b c : Option (List ℕ)) (n
       unwritten old new (IsOpen old) (to_items _) (from_to a c n k)
       (record { profile = next.profile ∙ begins.profile; plies = omega (arith, next.earlier, begins.earlier, begins.plies, adds.plies); probes = omega (arith, next.probes, begins.probes) })
       (adds.counted ∙ ap one_more begins.counted) (λ part is.
-      subst (AppendsFront a c) (ap (λ (p : Profile). section_due_of old ++ lines_gain p.mode part.pairs part.items (i ∷ [])) begins.profile
-      ∙ gain_is old part _ at is)
+      subst (AppendsFront a c) (rw begins.profile (gain_is old part _ at is))
       (front_after a b c _ _ begins.text (adds.adds (start_of part.pairs) part.items (begun_held old begun part is begins.begun))))
 
 -- Items could not be put, since the section could not be written.
@@ -207,8 +141,7 @@ puts_unbegun old new more f d at begins =
     unwritten old new (IsOpen old) (to_items more) d
     (record { profile = begins.profile; plies = omega (arith, begins.earlier, begins.plies); probes = omega (arith, begins.probes) }) begins.counted
     (λ part is.
-    subst (AppendsFront _ _) (gain_is old part more at is)
-    (front_of_more _ _ _ (lines_gain old.profile.mode part.pairs part.items more) begins.text))
+    (rw (gain_is old part more at is) at (front_of_more _ _ _ (lines_gain old.profile.mode part.pairs part.items more) begins.text)))
 
 -- Behind the section the movetext is what it was before it.
 module _ (old begun held : ReaderState) (d : Device) (same : held ≡ begun) (begins : BeginsText {A = Unit} {E = WriteFault} old begun (Ok tt) d) where
@@ -217,13 +150,7 @@ module _ (old begun held : ReaderState) (d : Device) (same : held ≡ begun) (be
 
 -- the reader after a move, once its probes are counted
 after_move : (begun new : ReaderState) (text : Movetext) (line : List ℕ) (n : ℕ) → new ≡ record begun { text = text; line = line; most_probes = max begun.most_probes n } → IsAfterItem begun new
-after_move begun new text line n is = record {
-  profile = cc;
-  stage = cc;
-  tags = cc;
-  earlier = cc;
-  probes = omega (arith, ap (λ (r : ReaderState). r.most_probes) is, le-max_left begun.most_probes n);
-}
+after_move begun new text line n is = search (rules, le-max_left)
 
 -- The section was written, and then a move put, whose pairs were counted.
 module _ (old begun new : ReaderState) (mv : Move) (after : ℕ) {text : Movetext} {line : List ℕ} {a b c : Option (List ℕ)} {n m k : ℕ} (at : IsTrue (may_have_movetext old.stage))
@@ -243,11 +170,4 @@ most_after old begun new text line after d begins is = cc
 -- where the section could not be written, movetext had not begun
 pub unbegun_part : {A : Type 0} (old new : ReaderState) (f : WriteFault) (d : Device) (part : Part) → IsTrue (may_have_movetext old.stage) → BeginsText {A = A} old new (Err f) d
     → old.stage ≡ part.stage → is_at InMovetext part ≡ false
-unbegun_part old new f d part at begins same =
-    cc (by_stage old.stage at begins.text)
-  where
-    by_stage : (stage : Stage) → IsTrue (may_have_movetext stage)
-        → AppendsFront d.before d.after (section_due stage old.profile.mode (known_result old.profile.missing_result) old.tags.held) → stage ≡ AfterTags
-    by_stage AfterTags at front = refl
-    by_stage InMovetext at front = absurd (omega (arith, front.1))
-    by_stage _ at front = absurd (cc)
+unbegun_part old new f d part at begins same = grind arith

@@ -1,7 +1,6 @@
 -- Movetext of more items: its tokens, and the lines that are full.
-use Rattle.pgn_game.proofs.Words.{◌≡◌, ℕ, ◌<◌, Bool, true, false, List, [], ◌∷◌, ◌++◌, length, refl, sym, ap, subst, ◌∙◌, append_assoc, append-nil, length-append, arith, All, fold, filter-append, All-nil, All-cons, All-head, All-tail, IsToken, has_room, lines_from, lines_of, full_lines, last_line, text_of as text_of_lines, Put, EndGame, ended, text_put, line_put, text_at, line_at, Parts, Mode, Full, Reduced, Item, Levels, levels_after, levels_of, first_level, Placed, placed_from, is_move, is_main_move, written_items, tokens_at, tokens_from, tokens_out, full_text, ends_in_move}
+use Rattle.pgn_game.proofs.Words.{◌≡◌, ℕ, ◌<◌, Bool, true, false, List, [], ◌∷◌, ◌++◌, length, refl, sym, ap, ◌∙◌, append_assoc, append-nil, length-append, arith, All, fold, filter-append, All-nil, All-cons, All-head, All-tail, IsToken, has_room, lines_from, lines_of, full_lines, last_line, text_of as text_of_lines, Put, EndGame, ended, text_put, line_put, text_at, line_at, Parts, Mode, Full, Reduced, Item, Levels, levels_after, levels_of, first_level, Placed, placed_from, is_move, is_main_move, written_items, tokens_at, tokens_from, tokens_out, full_text, ends_in_move, IsPrefix}
 use Rattle.std.proofs.lemmas.List.Elements.{All-append}
-use Rattle.pgn_game.specs.Laws.{IsPrefix}
 
 -- Lines.
 -- what holds of a line and more lines holds of the lines of tokens that go on from a line
@@ -39,9 +38,7 @@ lines_from-append line (t ∷ ts) us =
     ≡ full_lines (elim v [ true ↦ lines_from (line ++ 32 ∷ t) ts | false ↦ line ∷ lines_from t ts ])
     ++ lines_from (last_line (elim v [ true ↦ lines_from (line ++ 32 ∷ t) ts | false ↦ line ∷ lines_from t ts ])) us) [
       | true ↦ lines_from-append (line ++ 32 ∷ t) ts us
-      | false ↦ ap (λ l. line ∷ l) (lines_from-append t ts us)
-          ∙ ap (λ l. l ++ lines_from (last_line (lines_from t ts)) us) (sym (full_lines-cons line t ts))
-          ∙ ap (λ l. full_lines (line ∷ lines_from t ts) ++ lines_from l us) (sym (last_line-cons line t ts))
+      | false ↦ cc (lines_from-append t ts us, full_lines-cons line t ts, last_line-cons line t ts)
     ]
 
 text_of_lines-append : (xs ys : List (List ℕ)) → text_of_lines (xs ++ ys) ≡ text_of_lines xs ++ text_of_lines ys
@@ -65,7 +62,7 @@ full_lines-front [] = ([], refl)
 full_lines-front (l ∷ []) = (text_of_lines (l ∷ []), refl)
 full_lines-front (l ∷ m ∷ ls) =
     let rest = full_lines-front (m ∷ ls) in
-    (rest.0, ap (λ x. (l ++ 10 ∷ []) ++ x) rest.1 ∙ sym (append_assoc (l ++ 10 ∷ []) (text_of_lines _) rest.0))
+    (rest.0, (rw rest.1 (sym (append_assoc (l ++ 10 ∷ []) (text_of_lines _) rest.0))))
 
 -- Items.
 pub placed-append : (start : Parts) (ls : Levels) (xs ys : List Item) → placed_from start ls (xs ++ ys) ≡ placed_from start ls xs ++ placed_from start (fold levels_after ls xs) ys
@@ -90,16 +87,14 @@ written_behind mode start items more = written_items mode (placed_from start (le
 
 pub written_more : (mode : Mode) (start : Parts) (items more : List Item)
     → written_from_start mode start (items ++ more) ≡ written_from_start mode start items ++ written_behind mode start items more
-written_more mode start items more =
-    cc (placed-append start first_level items more, written-append mode (placed_from start first_level items) (placed_from start (levels_of items) more))
+written_more mode start items more = grind (arith, placed-append, written-append)
 
 -- the tokens that they add
 abbrev pub tokens_behind : Mode → Parts → List Item → List Item → List (List ℕ)
 tokens_behind mode start items more = tokens_from (ends_in_move false (written_from_start mode start items)) (written_behind mode start items more)
 
 pub tokens_more : (mode : Mode) (start : Parts) (items more : List Item) → tokens_out mode start (items ++ more) ≡ tokens_out mode start items ++ tokens_behind mode start items more
-tokens_more mode start items more =
-    cc (written_more mode start items more, tokens_from-append false (written_from_start mode start items) (written_behind mode start items more))
+tokens_more mode start items more = grind (arith, tokens_from-append, written_more)
 
 -- What stands on full lines stays there when more items come.
 pub full_text_grows : (mode : Mode) (start : Parts) (items more : List Item) → IsPrefix (full_text mode start items) (full_text mode start (items ++ more))
@@ -112,9 +107,8 @@ pub full_text_marker : (mode : Mode) (start : Parts) (items : List Item) (marker
     → IsPrefix (full_text mode start items) (text_of_lines (lines_of (tokens_out mode start items ++ marker ∷ [])) ++ 10 ∷ [])
 full_text_marker mode start items marker =
     let ts = tokens_out mode start items in
-    let whole = lines_of (ts ++ marker ∷ []) in
     let full = full_lines-grow ts (marker ∷ []) in
-    let all = full_lines-front whole in (
+    let all = full_lines-front (lines_of (ts ++ marker ∷ [])) in (
       full.0 ++ (all.0 ++ 10 ∷ []),
       ap (λ l. l ++ 10 ∷ []) (all.1 ∙ ap (λ l. l ++ all.0) full.1 ∙ append_assoc _ _ all.0)
           ∙ append_assoc (full_text mode start items) (full.0 ++ all.0) (10 ∷ []) ∙ ap (λ l. full_text mode start items ++ l) (append_assoc _ all.0 _),
@@ -126,28 +120,15 @@ still_not_empty line [] some each = some
 still_not_empty line (t ∷ ts) some each =
     elim (has_room line t) as (λ v. 0 < length (last_line (elim v [ true ↦ lines_from (line ++ 32 ∷ t) ts | false ↦ line ∷ lines_from t ts ]))) [
       | true ↦ still_not_empty (line ++ 32 ∷ t) ts (omega (arith, length-append line (32 ∷ t))) (All-tail IsToken t ts each)
-      | false ↦ subst (λ (l : List ℕ). 0 < length l) (sym (last_line-cons line t ts))
-          (still_not_empty t ts (All-head IsToken t ts each).not_empty (All-tail IsToken t ts each))
+      | false ↦ (rw (last_line-cons line t ts) (still_not_empty t ts (All-head IsToken t ts each).not_empty (All-tail IsToken t ts each)))
     ]
 
 -- one token put on a line that holds one
 put_full : (line t : List ℕ) → 0 < length line → text_of_lines (full_lines (lines_from line (t ∷ []))) ≡ text_put line t
-put_full [] t some = absurd (omega arith)
-put_full (b ∷ bs) t some =
-    elim (has_room (b ∷ bs) t)
-    as (λ v. text_of_lines (full_lines (elim v [ true ↦ ((b ∷ bs) ++ 32 ∷ t) ∷ [] | false ↦ (b ∷ bs) ∷ t ∷ [] ])) ≡ elim v [ true ↦ [] | false ↦ ended (b ∷ bs) ]) [
-      | true ↦ refl
-      | false ↦ append-nil _
-    ]
+put_full line t some = grind (arith, append-nil, text_of_lines)
 
 put_last : (line t : List ℕ) → 0 < length line → last_line (lines_from line (t ∷ [])) ≡ line_put line t
-put_last [] t some = absurd (omega arith)
-put_last (b ∷ bs) t some =
-    elim (has_room (b ∷ bs) t)
-    as (λ v. last_line (elim v [ true ↦ ((b ∷ bs) ++ 32 ∷ t) ∷ [] | false ↦ (b ∷ bs) ∷ t ∷ [] ]) ≡ elim v [ true ↦ (b ∷ bs) ++ 32 ∷ t | false ↦ t ]) [
-      | true ↦ refl
-      | false ↦ refl
-    ]
+put_last line t some = grind arith
 
 -- What goes out for one token more, and the line that is held after it.
 pub full_lines_put : (ts : List (List ℕ)) (t : List ℕ) → All IsToken ts
@@ -156,17 +137,16 @@ full_lines_put [] t each = refl
 full_lines_put (x ∷ xs) t each =
     let full = full_lines (lines_from x xs) in
     let last = last_line (lines_from x xs) in
-    let some : 0 < length last = still_not_empty x xs (All-head IsToken x xs each).not_empty (All-tail IsToken x xs each) in
-    ap (λ ls. text_of_lines (full_lines ls)) (lines_from-append x xs _) ∙ ap text_of_lines (full_lines-append full last (t ∷ []))
-    ∙ text_of_lines-append full (full_lines _) ∙ ap (λ l. text_of_lines full ++ l) (put_full last t some)
+    let some = still_not_empty x xs (All-head IsToken x xs each).not_empty (All-tail IsToken x xs each) in
+    rw (lines_from-append x xs _) (ap text_of_lines (full_lines-append full last (t ∷ []))
+    ∙ text_of_lines-append full (full_lines _) ∙ ap (λ l. text_of_lines full ++ l) (put_full last t some))
 
 pub last_line_put : (ts : List (List ℕ)) (t : List ℕ) → All IsToken ts → last_line (lines_of (ts ++ t ∷ [])) ≡ line_put (last_line (lines_of ts)) t
 last_line_put [] t each = refl
 last_line_put (x ∷ xs) t each =
-    let full = full_lines (lines_from x xs) in
     let last = last_line (lines_from x xs) in
-    let some : 0 < length last = still_not_empty x xs (All-head IsToken x xs each).not_empty (All-tail IsToken x xs each) in
-    ap last_line (lines_from-append x xs _) ∙ last_line-append full last (t ∷ []) ∙ put_last last t some
+    let some = still_not_empty x xs (All-head IsToken x xs each).not_empty (All-tail IsToken x xs each) in
+    cc (lines_from-append x xs _, last_line-append (full_lines (lines_from x xs)) last (t ∷ []), put_last last t some)
 
 -- the lines are those that are full, and the last
 lines_ended : (ls : List (List ℕ)) → 0 < length (last_line ls) → text_of_lines ls ≡ text_of_lines (full_lines ls) ++ ended (last_line ls)
@@ -185,11 +165,4 @@ held_not_empty (x ∷ xs) m each token =
 pub game_ends : (ts : List (List ℕ)) (m : List ℕ) → All IsToken ts → IsToken m
     → text_of_lines (lines_of (ts ++ m ∷ [])) ++ 10 ∷ []
     ≡ text_of_lines (full_lines (lines_of ts)) ++ text_at (last_line (lines_of ts)) (Put m) ++ text_at (line_at (last_line (lines_of ts)) (Put m)) EndGame
-game_ends ts m each token =
-    let before = text_of_lines (full_lines (lines_of ts)) in
-    let last = last_line (lines_of ts) in
-    ap (λ l. l ++ 10 ∷ [])
-    (lines_ended _ (held_not_empty ts m each token)
-    ∙ ap (λ l. l ++ ended (last_line (lines_of (ts ++ m ∷ [])))) (full_lines_put ts m each)
-    ∙ ap (λ l. (before ++ text_put last m) ++ ended l) (last_line_put ts m each))
-    ∙ append_assoc (before ++ text_put last m) (ended (line_put last m)) (10 ∷ [])
+game_ends ts m each token = grind (arith, append_assoc, text_of_lines, full_lines_put, last_line_put, lines_ended, held_not_empty)

@@ -1,5 +1,5 @@
 -- What putting a step of the tag section does, or nothing.
-use Rattle.pgn_game.proofs.Words.{◌≡◌, ℕ, ◌≤◌, false, List, [], length, drop, Option, None, Some, refl, sym, ap, subst, ◌∙◌, le_refl, arith, IfSome, Ok, drop-length, Appends, Appends-nil, Parts, Stage, Between, AfterLeftBracket, AfterTags, AfterName, AfterValue, InMovetext, Profile, Missing, counts_as, takes_the_marker, Pair, has_pair, insert_pair, Item, Part, More, start_of, TagPairs, torn, torn_for, Next, at_stage, going, Movetext, movetext_from, movetext_after_fen, ReaderState, Agrees, as_written, plies_behind, fen_position, Goes, PutResult, gain_to}
+use Rattle.pgn_game.proofs.Words.{◌≡◌, ℕ, false, List, [], Option, None, Some, sym, ◌∙◌, le_refl, arith, IfSome, Ok, drop-length, Appends, Appends-nil, Parts, Stage, Between, AfterLeftBracket, AfterTags, AfterName, AfterValue, InMovetext, Profile, Pair, has_pair, insert_pair, Item, Part, More, start_of, TagPairs, torn, Next, at_stage, going, Movetext, movetext_from, movetext_after_fen, ReaderState, Agrees, fen_position, PutResult, gain_to, rules}
 use Rattle.std.proofs.Math.ListN.{drop_of_length-le}
 use Rattle.pgn_game.proofs.putting.ItemToMovetext.{from_to}
 use Rattle.pgn_game.proofs.refusals.ReaderToPart.{begun_name, held_at, text_at}
@@ -9,20 +9,14 @@ use Rattle.pgn_game.proofs.pairs.PairsToFirstPosition.{with_pair, start_found, s
 -- before movetext nothing stands written
 nothing_torn : (p : Profile) (stage : Stage) (ps : List Pair) (name : List ℕ) (items : List Item) → (stage ≡ InMovetext → ⊥)
     → torn p (record { stage = stage; pairs = ps; name = name; items = items }) ≡ []
-nothing_torn p stage ps name items before = by_profile _ stage before
-  where
-    by_profile : (missing : Missing) (s : Stage) → (s ≡ InMovetext → ⊥) → torn_for missing p.mode (record { stage = s; pairs = ps; name = name; items = items }) ≡ []
-    by_profile takes_the_marker s before = refl
-    by_profile (counts_as text) InMovetext before = absurd (before refl)
-    by_profile (counts_as text) _ before = refl
+nothing_torn p stage ps name items before = grind arith
 
 pub no_torn : (p : Profile) (part : Part) (stage : Stage) → part.stage ≡ stage → (stage ≡ InMovetext → ⊥) → torn p part ≡ []
 no_torn p part stage at before = nothing_torn p _ _ _ _ (λ e. before (sym at ∙ e))
 
 -- so that nothing is added
 adds_nothing : (p : Profile) (part to : Part) (o : Option (List ℕ)) → torn p to ≡ [] → Appends o o (gain_to p part (going to))
-adds_nothing p part to o none =
-    rw (ap (drop (length (torn p part))) none ∙ drop_of_length-le {A = ℕ} [] (omega arith)) (Appends-nil o)
+adds_nothing p part to o none = search (rules, Appends-nil, drop_of_length-le)
 
 -- A step goes from a stage in which the game has begun to another one, and to a part that the
 -- reader then agrees with.
@@ -37,31 +31,12 @@ steps : (old new : ReaderState) (to : Part → Next) (from stage : Stage) (tags 
     → old.stage ≡ from → (from ≡ Between → ⊥) → (stage ≡ Between → ⊥) → (stage ≡ InMovetext → ⊥)
     → ((part : Part) → Agrees old part → IsStep old (record old { stage = stage; tags = tags; text = movetext_after_fen start old.text }) part (to part))
     → PutResult old (Agrees old) to new (Ok More) (from_to o o n n)
-steps old new to from stage tags start o n is at begun goes before each =
-    let then : ReaderState = record old { stage = stage; tags = tags; text = movetext_after_fen start old.text } in
-    subst (λ (r : ReaderState). PutResult old (Agrees old) to r (Ok More) (from_to o o n n)) (sym is)
-    (more_comes old then (Agrees old) to (from_to o o n n) (record { profile = refl; plies = omega (arith, few start); probes = le_refl old.most_probes }) (λ e. absurd (goes e)) refl (λ part agrees.
-    let h = each part agrees in
-    subst (λ (x : Next). Goes old part x then More (from_to o o n n)) h.leads
-    (record {
-      leads = h.agrees;
-      plies = earlier stage then.text.plies goes ∙ sym (ap (λ (s : Stage). plies_behind s old.earlier_plies old.text.plies) at ∙ earlier from old.text.plies begun) ∙ omega arith;
-      appended = adds_nothing (as_written old.profile) part h.to o (no_torn (as_written old.profile) h.to stage (sym h.agrees.stage) before);
-    })))
-  where
-    few : (s : Option Parts) → (movetext_after_fen s old.text).plies ≤ old.text.plies
-    few None = le_refl _
-    few (Some p) = omega arith
-
-    earlier : (s : Stage) (plies : ℕ) → (s ≡ Between → ⊥) → plies_behind s old.earlier_plies plies ≡ old.earlier_plies
-    earlier Between plies out = absurd (out refl)
-    earlier _ plies out = refl
+steps old new to from stage tags start o n is at begun goes before each = search (rules, le_refl, from_to, more_comes, no_torn, adds_nothing)
 
 -- where a game begins once the pair is held
 begins_with : (name value : List ℕ) (ps : List Pair) (start : Option Parts) (text : Movetext) → has_pair ps name ≡ false → fen_position name value ≡ Ok start → text ≡ movetext_from (start_of ps)
     → movetext_after_fen start text ≡ movetext_from (start_of (with_pair name value ps))
-begins_with name value ps None text new told is = cc (start_kept name value ps told)
-begins_with name value ps (Some start) text new told is = cc (start_found name value ps start new told)
+begins_with name value ps start text new told is = grind (arith, start_found, start_kept)
 
 abbrev pub completed : List ℕ → List ℕ → List Pair → TagPairs
 completed name value ps = record { held = with_pair name value ps; pending_name = None }
@@ -81,58 +56,22 @@ pub puts_value : (old new : ReaderState) (value name : List ℕ) (start : Option
     → old.stage ≡ AfterName → IfSome old.tags.pending_name (λ m. held ≡ completed m value old.tags.held)
     → old.tags.pending_name ≡ Some name → fen_position name value ≡ Ok start
     → new ≡ record old { stage = AfterValue; tags = held; text = movetext_after_fen start old.text } → PutResult old (Agrees old) (to_value value) new (Ok More) (from_to o o n n)
-puts_value old new value name start held o n at completes begun told is =
-    steps old new (to_value value) AfterName AfterValue held start o n is at (λ e. absurd (cc)) (λ e. absurd (cc)) (λ e. absurd (cc)) (λ part agrees.
-    let pairs = held_at old part AfterName agrees at in
-    let text = text_at old part AfterName agrees at in
-    let same = begun_name old.tags part name pairs.0 begun in
-    record {
-      to = record { stage = AfterValue; pairs = with_pair part.name value part.pairs; name = []; items = part.items };
-      leads = refl;
-      agrees = record {
-        stage = refl;
-        pairs = subst (λ (t : TagPairs). IfSome t.pending_name (λ m. held ≡ completed m value t.held)) pairs.0 completes;
-        text = (text.0, begins_with part.name value part.pairs start old.text pairs.1 (ap (λ (m : List ℕ). fen_position m value) (sym same) ∙ told) text.1, text.2);
-      };
-    })
+puts_value old new value name start held o n at completes begun told is = search (rules, begun_name, held_at, text_at, with_pair, steps, begins_with)
 
 -- nothing changes at a comment in the tag section, or at a token between games
 pub puts_nothing : (old : ReaderState) (o : Option (List ℕ)) (n : ℕ) → PutResult old (Agrees old) going old (Ok More) (from_to o o n n)
-puts_nothing old o n =
-    more_comes old old _ going _ (record { profile = refl; plies = omega arith; probes = le_refl _ }) (λ e. refl) refl
-    (λ part agrees. record { leads = agrees; plies = omega arith; appended = rw (drop-length (torn (as_written old.profile) part)) (Appends-nil o) })
+puts_nothing old o n = search (rules, le_refl, drop-length, Appends-nil, more_comes)
 
 -- a bracket changes the stage alone
 pub puts_left_bracket : (old new : ReaderState) (o : Option (List ℕ)) (n : ℕ) → old.stage ≡ AfterTags → new ≡ record old { stage = AfterLeftBracket }
     → PutResult old (Agrees old) (to_stage AfterLeftBracket) new (Ok More) (from_to o o n n)
-puts_left_bracket old new o n at is =
-    steps old new _ _ _ _ None o n is at (λ e. absurd (cc)) (λ e. absurd (cc)) (λ e. absurd (cc)) (λ part agrees. record {
-      to = at_stage _ part;
-      leads = refl;
-      agrees = record { stage = refl; pairs = held_at old part _ agrees at; text = text_at old part _ agrees at };
-    })
+puts_left_bracket old new o n at is = search (rules, held_at, text_at, steps)
 
 pub puts_right_bracket : (old new : ReaderState) (o : Option (List ℕ)) (n : ℕ) → old.stage ≡ AfterValue → new ≡ record old { stage = AfterTags }
     → PutResult old (Agrees old) (to_stage AfterTags) new (Ok More) (from_to o o n n)
-puts_right_bracket old new o n at is =
-    steps old new _ _ _ _ None o n is at (λ e. absurd (cc)) (λ e. absurd (cc)) (λ e. absurd (cc)) (λ part agrees. record {
-      to = at_stage _ part;
-      leads = refl;
-      agrees = record { stage = refl; pairs = held_at old part _ agrees at; text = text_at old part _ agrees at };
-    })
+puts_right_bracket old new o n at is = search (rules, held_at, text_at, steps)
 
 pub puts_name : (old new : ReaderState) (name : List ℕ) (held : TagPairs) (o : Option (List ℕ)) (n : ℕ) → old.stage ≡ AfterLeftBracket → has_pair old.tags.held name ≡ false
     → held ≡ record old.tags { pending_name = Some name } → new ≡ record old { stage = AfterName; tags = held }
     → PutResult old (Agrees old) (to_name name) new (Ok More) (from_to o o n n)
-puts_name old new name held o n at fresh begins is =
-    steps old new _ _ _ held None o n is at (λ e. absurd (cc)) (λ e. absurd (cc)) (λ e. absurd (cc)) (λ part agrees.
-    let pairs = held_at old part _ agrees at in
-    record {
-      to = record { stage = AfterName; pairs = part.pairs; name = name; items = part.items };
-      leads = refl;
-      agrees = record {
-        stage = refl;
-        pairs = (begins ∙ ap (λ (t : TagPairs). record t { pending_name = Some name }) pairs, rw pairs at fresh);
-        text = text_at old part _ agrees at;
-      };
-    })
+puts_name old new name held o n at fresh begins is = search (rules, held_at, text_at, steps)

@@ -1,10 +1,7 @@
 -- Each move that is read is legal where it stands.
-use Rattle.pgn_game.proofs.Words.{◌≡◌, ℕ, Bool, true, false, List, [], ◌∷◌, ◌++◌, Option, None, Some, Result, Ok, refl, sym, ap, subst, ◌∙◌, ◌⊎◌, inl, inr, IsTrue, option_map, is_some, list_all, and_from, list_all-append, legal, TheOneMoveIsRead, Parts, Played, SanFault, Kind, Token, Reason, Stage, Between, AfterLeftBracket, AfterName, AfterValue, AfterTags, InMovetext, Profile, Pair, Item, Game, Part, move_of, Levels, here, levels_of, start_of, is_number, marker_of, position_in, levels_of_part, placed_from, Next, going, whole, next, next_in, in_text, move_item, items_of, Progress, progress_with, progress_after, no_progress, read_from}
-use Rattle.chess_text.specs.declared.form.Form.{Form}
-use Rattle.chess_text.specs.MoveOfForm.{move_of_form}
-use Rattle.pgn_lexer.specs.Tokens as tokens
+use Rattle.pgn_game.proofs.Words.{◌≡◌, ℕ, Bool, List, [], ◌∷◌, ◌++◌, Option, None, Some, Result, Ok, refl, ap, ◌⊎◌, IsTrue, option_map, is_some, list_all, and_from, list_all-append, legal, TheOneMoveIsRead, Parts, Played, SanFault, Kind, Token, Stage, InMovetext, Profile, Pair, Item, Game, Part, move_of, Levels, here, levels_of, start_of, levels_of_part, placed_from, Next, going, whole, next, next_in, in_text, move_item, items_of, Progress, progress_with, progress_after, no_progress, read_from, Form, move_of_form, arith, rules}
 use Rattle.pgn_game.specs.MovesAreLegal.{is_legal_at, plays_legally, MovesAreLegal}
-use Rattle.pgn_game.proofs.tokens.OneMoreToken.{after_test, read_from-test}
+use Rattle.pgn_game.proofs.tokens.OneMoreToken.{by_token}
 use Rattle.pgn_game.proofs.putting.ItemsAppended.{placed-append}
 
 -- the items placed there are legal moves, or no moves
@@ -39,34 +36,15 @@ AddsNone (whole g) = ⊥
 
 adds_none : (stage : Stage) (part : Part) (k : Kind) → HoldsNone stage part.items
     → (next_in stage part k ≡ in_text part k) ⊎ AddsNone (next_in stage part k)
-adds_none Between part tokens.left_bracket none = inr none
-adds_none Between part tokens.comment_open none = inr none
-adds_none Between part (tokens.word text) none = inr none
-adds_none Between part tokens.comment_close none = inr none
-adds_none Between part tokens.end none = inr none
-adds_none Between part _ none = inl refl
-adds_none AfterTags part tokens.left_bracket none = inr none
-adds_none AfterTags part _ none = inl refl
-adds_none InMovetext part k none = inl refl
-adds_none AfterLeftBracket part (tokens.symbol name) none = inr none
-adds_none AfterName part (tokens.str value) none = inr none
-adds_none AfterValue part tokens.right_bracket none = inr none
-adds_none _ part _ none = inr none
+adds_none stage part k none = grind arith
 
 leads_none : (nx : Next) → AddsNone nx → LeadsLegally nx
-leads_none (going part) none =
-    (none_held _ _ none, nothing_to_play part.pairs _ none)
-leads_none (whole g) none = absurd none
+leads_none nx none = search (rules, none_held, nothing_to_play)
 
 more_items : (pairs : List Pair) (items more : List Item) → IsTrue (plays_legally pairs items)
     → IsTrue (go_on_legally (start_of pairs) (levels_of items) more)
     → IsTrue (plays_legally pairs (items ++ more))
-more_items pairs items more h k =
-    let start = start_of pairs in
-    ap (list_all (λ i. is_legal_at i.position i.item)) (placed-append start _ items more)
-    ∙ list_all-append (λ i. is_legal_at i.position i.item) (placed_from start _ items)
-    (placed_from start _ more)
-    ∙ and_from _ _ h k
+more_items pairs items more h k = grind (arith, and_from, list_all-append, placed-append)
 
 module _ (one_read : TheOneMoveIsRead) where
   -- what a text names is legal
@@ -88,34 +66,14 @@ module _ (one_read : TheOneMoveIsRead) where
 
   items_legal : (part : Part) (k : Kind)
       → IsTrue (go_on_legally (start_of part.pairs) (levels_of_part part) (items_of part k))
-  items_legal part (tokens.symbol s) =
-      elim (is_number s)
-      as (λ b. IsTrue (go_on_legally (start_of part.pairs) (levels_of_part part)
-      (elim b [ true ↦ [] | false ↦ move_item (move_of (position_in part) s) ]))) [
-        | true ↦ refl
-        | false ↦
-            item_legal (start_of part.pairs) (levels_of_part part) s _ refl
-      ]
-  items_legal part _ = refl
+  items_legal part k = grind (arith, item_legal)
 
   text_legal : (part : Part) (k : Kind) → IsTrue (plays_legally part.pairs part.items)
       → LeadsLegally (in_text part k)
-  text_legal part k h =
-      elim (marker_of k)
-      as (λ o. LeadsLegally (elim o [
-        | Some marker ↦ whole (record { pairs = part.pairs; items = part.items; marker = marker })
-        | None ↦ going (record { stage = InMovetext; pairs = part.pairs; name = part.name; items = part.items ++ items_of part k })
-      ])) [
-        | Some marker ↦ h
-        | None ↦ (tt, more_items part.pairs part.items (items_of part k) h (items_legal part k))
-      ]
+  text_legal part k h = search (rules, more_items, items_legal)
 
   next_legal : (part : Part) (k : Kind) → IsLegal part → LeadsLegally (next part k)
-  next_legal part k (none, h) =
-      elim (adds_none _ part k none) [
-        | inl e ↦ subst LeadsLegally (sym e) (text_legal part k h)
-        | inr e ↦ leads_none _ e
-      ]
+  next_legal part k h2 = search (rules, adds_none, leads_none, text_legal)
 
   abbrev AllLegal : Progress → Type 0
   AllLegal b = IsTrue (list_all (λ g. plays_legally g.pairs g.items) b.games) × IsLegal b.part
@@ -123,26 +81,14 @@ module _ (one_read : TheOneMoveIsRead) where
   with_legal : (games : List Game) (nx : Next)
       → IsTrue (list_all (λ g. plays_legally g.pairs g.items) games) → LeadsLegally nx
       → AllLegal (progress_with games nx)
-  with_legal games (going part) h k = (h, k)
-  with_legal games (whole g) h k = (
-    list_all-append _ games _
-        ∙ and_from _ _ h (and_from _ _ k refl),
-    (refl, refl),
-  )
+  with_legal games nx h k = search (rules, and_from, list_all-append)
 
   read_legal : (p : Profile) (b : Progress) (ts : List Token) → AllLegal b
       → AllLegal (read_from p b ts).progress
   read_legal p b [] h = h
   read_legal p b (t ∷ ts) h =
-      let here = with_legal b.games (next _ t.kind) h.0 (next_legal _ _ h.1) in
-      let more = read_legal p (progress_after b t) ts here in
-      rw (read_from-test p b t ts)
-      (by_test more _)
-    where
-      by_test : AllLegal (read_from p (progress_after b t) ts).progress → (o : Option Reason)
-          → AllLegal (after_test p b t ts o).progress
-      by_test more (Some reason) = h
-      by_test more None = more
+      by_token p b t ts (λ r. AllLegal r.progress) (λ reason is. h)
+      (λ is. read_legal p (progress_after b t) ts (with_legal b.games (next _ t.kind) h.0 (next_legal _ _ h.1)))
 
   pub moves_legal : MovesAreLegal
   moves_legal p ts =

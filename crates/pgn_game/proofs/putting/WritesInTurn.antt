@@ -1,10 +1,9 @@
 -- Texts written in turn.
-use Rattle.pgn_game.proofs.Words.{◌≡◌, ℕ, ◌+◌, ◌<◌, List, [], ◌∷◌, ◌++◌, length, take, drop, get_or, Option, ap, sym, ◌∙◌, refl, add-one, append-nil, append_assoc, length-append, arith, Some, slice_get, Result, Ok, Err, take-suc, take-append-add, take-append-drop, take-append-le, slice_get_within, get_or_from_slice_get, Appends-trans, Appends, AppendsFront, Counts, Writes, text_by}
+use Rattle.pgn_game.proofs.Words.{◌≡◌, ℕ, ◌+◌, ◌<◌, List, [], ◌∷◌, ◌++◌, length, take, drop, get_or, Option, ap, sym, ◌∙◌, refl, add-one, append-nil, append_assoc, length-append, arith, Some, slice_get, Result, Ok, Err, take-suc, take-append-add, take-append-drop, take-append-le, slice_get_within, get_or_from_slice_get, Appends-trans, Appends, AppendsFront, Counts, Writes, text_by, rules}
 
 -- a front of a text is one of a longer text
 pub front_of_more : (a b : Option (List ℕ)) (text more : List ℕ) → AppendsFront a b text → AppendsFront a b (text ++ more)
-front_of_more a b text more (n, within, front) =
-    (n, omega (arith, length-append text more), rw (take-append-le n text more (omega (arith, within))) front)
+front_of_more a b text more h4 = search (rules, length-append, take-append-le)
 
 -- the whole of one text, and then a front of the next
 pub front_after : (a b c : Option (List ℕ)) (text more : List ℕ) → Appends a b text → AppendsFront b c more → AppendsFront a c (text ++ more)
@@ -32,7 +31,7 @@ next_text f xs i x a b c h e done next = rw (text_by-next f xs i x h e) (Appends
 pub next_front : {A : Type 0} (f : A → List ℕ) (xs : List A) (i : ℕ) (x : A) (a b c : Option (List ℕ)) → i < length xs → get_or xs i x ≡ x
     → Appends a b (text_by f (take i xs)) → AppendsFront b c (f x) → AppendsFront a c (text_by f xs)
 next_front f xs i x a b c h e done next =
-    let whole : text_by f xs ≡ (text_by f (take i xs) ++ f x) ++ text_by f (drop (i + 1) xs) =
+    let whole =
     ap (text_by f) (sym (take-append-drop _ xs)) ∙ text_by-append f (take _ xs) (drop _ xs)
     ∙ ap (λ l. l ++ text_by f (drop (i + 1) xs)) (text_by-next f xs i x h e) in
     rw whole (front_of_more a c _ _ (front_after a b c _ _ done next))

@@ -1,11 +1,11 @@
 -- From the grammar to reading: tokens that spell games run, and finish these games.
-use Rattle.pgn_game.proofs.Words.{◌≡◌, ℕ, ◌+◌, ◌<◌, Bool, true, false, ◌&&◌, not, List, [], ◌∷◌, ◌++◌, length, nat_lt, nat_le, refl, sym, ap, subst, ◌∙◌, arith, append_assoc, append-nil, Option, None, Some, ◌==◌, codes, bytes_eq, is_some, unwrap_or, IsTrue, IsFalse, list_all, bytes_eq-Decides, and_parts, nat_tests, escaped, Played, Kind, Mode, Full, Reduced, BadTagName, DuplicateTag, TagLineTooLong, ReducedFen, TooDeep, MarkerInVariation, ResultDiffers, Stage, Between, AfterLeftBracket, AfterName, AfterTags, InMovetext, Profile, Pair, value_of, has_pair, insert_pair, Item, Game, Part, no_part, Level, Levels, levels_of, levels_after, depth, here, replayed, without_last, start_of, refusal, is_comment, in_name, is_result, is_end, is_reduced, fen_field, fen_fault_field, marker_of, lacks_fen, next, going, whole, AreDropped, SpellsPair, pair, SpellsPairs, no_pair, next_pair, IsPair, by_name, IsSetUp, Names, new_level, SpellsText, no_more, token, move, variation, BeginsBare, IsResult, SpellsGame, SpellsGames, no_game, next_game}
+use Rattle.pgn_game.proofs.Words.{◌≡◌, ℕ, ◌<◌, Bool, true, false, ◌&&◌, not, List, [], ◌∷◌, ◌++◌, length, nat_le, refl, sym, ap, subst, ◌∙◌, arith, append_assoc, append-nil, Option, None, Some, ◌==◌, codes, bytes_eq, unwrap_or, IsTrue, IsFalse, list_all, bytes_eq-Decides, and_parts, nat_tests, Played, Kind, Mode, TooDeep, MarkerInVariation, ResultDiffers, Stage, Between, AfterLeftBracket, AfterName, AfterTags, InMovetext, Profile, Pair, value_of, has_pair, insert_pair, Item, Game, Part, no_part, Level, Levels, levels_of, levels_after, depth, here, replayed, without_last, start_of, refusal, is_comment, is_end, is_reduced, marker_of, lacks_fen, next, going, whole, AreDropped, SpellsPair, pair, SpellsPairs, no_pair, next_pair, IsPair, by_name, IsSetUp, Names, new_level, SpellsText, no_more, token, move, variation, BeginsBare, IsResult, SpellsGame, SpellsGames, no_game, next_game, rules}
 use Rattle.pgn_lexer.specs.Tokens as tokens
 use Rattle.pgn_game.specs.Game as games
 use Rattle.pgn_game.proofs.reading.RunsToEnd.{at, Runs, ends, goes, finishes}
 use Rattle.pgn_game.proofs.refusals.RefusalsByStage.{pass, drops_comments, comment_free, comment_stays, comment_goes, open_refusal, open_between, name_refusal, value_refusal, close_refusal, is_textual, after_tags, leads_after_tags, between, leads_between, is_lexical, text_row}
 use Rattle.pgn_game.proofs.reading.PairsInTurn.{with_pairs, Takes, takes}
-use Rattle.pgn_game.proofs.refusals.RefusalsInMovetext.{refused_as, move_refusal, symbol_leads, marker_refusal, marker_whole}
+use Rattle.pgn_game.proofs.refusals.RefusalsInMovetext.{move_refusal, symbol_leads, marker_refusal, marker_whole}
 use Rattle.pgn_game.proofs.reading.MovetextTokens.{levels_more, result_meets, stands_free, stands_leads, stands_levels, stands_goes}
 
 -- Comments that are dropped.
@@ -21,19 +21,11 @@ dropped_run p stage ps name items drops (k ∷ ks) rest gs are runs =
 
 -- Pairs.
 name_fits : (mode : Mode) (q : Pair) → IsPair mode q → (is_reduced mode && bytes_eq q.name (codes "FEN")) ≡ false
-name_fits Full q h = refl
-name_fits Reduced q h = by_test _ refl
-  where
-    by_test : (b : Bool) → bytes_eq q.name (codes "FEN") ≡ b → bytes_eq q.name (codes "FEN") ≡ false
-    by_test false e = e
-    by_test true e = let full : Reduced ≡ Full = (h.fen ((bytes_eq-Decides _ _).0 e)).0 in absurd (cc)
+name_fits mode q h = grind (arith, bytes_eq-Decides)
 
 name_passes : (p : Profile) (ps : List Pair) (name : List ℕ) (items : List Item) (q : Pair) → IsFalse (has_pair ps q.name) → IsPair p.mode q
     → refusal p (at AfterLeftBracket ps name items) (tokens.symbol q.name) ≡ None
-name_passes p ps name items q new h =
-    let room = h.room in
-    let short : nat_lt 249 (length q.name) ≡ false = grind (arith, nat_tests) in
-    cc (name_refusal p (at AfterLeftBracket ps name items) q.name refl, pass (not (list_all in_name q.name)) BadTagName _ (ap not h.name), pass (has_pair ps q.name) DuplicateTag _ new, pass (nat_lt 249 (length q.name)) TagLineTooLong _ short, pass (is_reduced p.mode && bytes_eq q.name (codes "FEN")) ReducedFen None (name_fits p.mode q h))
+name_passes p ps name items q new h = grind (arith, nat_tests, at, pass, name_refusal, name_fits)
 
 guarded : (a b : Bool) → (a ≡ true → b ≡ false) → (a && b) ≡ false
 guarded true b h = h refl
@@ -41,17 +33,7 @@ guarded false b h = refl
 
 value_passes : (p : Profile) (ps : List Pair) (items : List Item) (q : Pair) → IsPair p.mode q
     → refusal p (at AfterName ps q.name items) (tokens.str q.value) ≡ None
-value_passes p ps items q h =
-    let room = h.room in
-    let short : nat_lt 249 (length q.name + length (escaped q.value)) ≡ false = grind (arith, nat_tests) in
-    let is_marker : (bytes_eq q.name (codes "Result") && not (is_result q.value)) ≡ false =
-    guarded (bytes_eq q.name (codes "Result")) (not (is_result q.value)) (λ e. ap not (h.result ((bytes_eq-Decides _ _).0 e))) in
-    let is_position : (bytes_eq q.name (codes "FEN") && is_some (fen_field q.value)) ≡ false =
-    guarded (bytes_eq q.name (codes "FEN")) (is_some (fen_field _))
-    (λ e. ap (λ r. is_some (fen_fault_field r)) (h.fen ((bytes_eq-Decides _ _).0 e)).2) in
-    value_refusal p _ _ refl ∙ pass _ _ _ is_marker
-    ∙ pass _ _ _ is_position
-    ∙ pass _ _ None short
+value_passes p ps items q h = grind (arith, bytes_eq-Decides, nat_tests, pass, value_refusal, guarded)
 
 -- the tokens of a pair, and those behind it
 pair_run : (p : Profile) (ps : List Pair) (name : List ℕ) (ks rest : List Kind) (q : Pair) (gs : List Game) → SpellsPair ks q
@@ -73,16 +55,14 @@ pairs_run : (p : Profile) (ps : List Pair) (name : List ℕ) (ks rest : List Kin
     → ((n : List ℕ) → Runs p (at AfterTags (with_pairs ps qs) n []) rest gs) → Runs p (at AfterTags ps name []) (ks ++ rest) gs
 pairs_run p ps name _ rest _ gs no_pair takes runs = runs name
 pairs_run p ps name _ rest _ gs (next_pair ks ls q qs first others) takes runs =
-    subst (λ js. Runs p (at AfterTags ps name []) js gs) (sym (append_assoc ks ls rest))
-    (pair_run p ps name ks (ls ++ rest) q gs first takes.0 takes.1 takes.2 (pairs_run p (insert_pair q ps) [] ls rest qs gs others takes.3 runs))
+    rw (append_assoc ks ls rest) (pair_run p ps name ks (ls ++ rest) q gs first takes.0 takes.1 takes.2 (pairs_run p (insert_pair q ps) [] ls rest qs gs others takes.3 runs))
 
 -- Movetext.
 move_free : (p : Profile) (ps : List Pair) (name : List ℕ) (items : List Item) (s : List ℕ) (played : Played) → Names (here (start_of ps) (levels_of items)) s played
     → refusal p (at InMovetext ps name items) (tokens.symbol s) ≡ None
 move_free p ps name items s played h =
     let place = here (start_of ps) (levels_of items) in
-    text_row p (at InMovetext ps name items) _ refl ∙ move_refusal p (at InMovetext ps name items) s h.no_number h.no_marker ∙ ap (refused_as place) h.one
-    ∙ pass _ _ None h.within
+    cc (text_row p (at InMovetext ps name items) _ refl, move_refusal p (at InMovetext ps name items) s h.no_number h.no_marker, h.one, pass _ _ None h.within)
 
 move_leads : (ps : List Pair) (name : List ℕ) (items : List Item) (s : List ℕ) (played : Played) → Names (here (start_of ps) (levels_of items)) s played
     → next (at InMovetext ps name items) (tokens.symbol s) ≡ going (at InMovetext ps name (items ++ games.move played.mv ∷ []))
@@ -170,7 +150,7 @@ marker_finishes p ps name items k marker is outside result =
     record {
       free =
           text_row p (at InMovetext ps name items) k plain.0 ∙ marker_refusal p (at InMovetext ps name items) k marker is
-          ∙ pass _ MarkerInVariation _ shallow ∙ pass _ ResultDiffers None (ap (λ (b : Bool). b && (depth (levels_of items) == 0)) same);
+          ∙ pass _ MarkerInVariation _ shallow ∙ pass _ ResultDiffers None (ap (λ b. b && (depth (levels_of items) == 0)) same);
       goes = plain.1;
       leads = marker_whole (at InMovetext ps name items) k marker is;
     }
@@ -186,11 +166,7 @@ runs_alike : (p : Profile) (part other : Part) (ks : List Kind) (gs : List Game)
     → ((k : Kind) (js : List Kind) → ks ≡ k ∷ js → refusal p part k ≡ None
     → (refusal p other k ≡ None) × (next other k ≡ next part k))
     → Runs p part ks gs → Runs p other ks gs
-runs_alike p _ other _ _ alike (ends part free) = ends other (alike _ [] refl free).0
-runs_alike p _ other _ _ alike (goes part to k ks gs free end leads runs) =
-    let a = alike k ks refl free in goes other to k ks gs a.0 end (a.1 ∙ leads) runs
-runs_alike p _ other _ _ alike (finishes part k g ks gs free end leads runs) =
-    let a = alike k ks refl free in finishes other k g ks gs a.0 end (a.1 ∙ leads) runs
+runs_alike p part other ks gs alike h6 = search (rules, ends, goes, finishes)
 
 -- what is let pass within movetext is a token of it
 textual : (p : Profile) (ps : List Pair) (name : List ℕ) (items : List Item) (k : Kind) → refusal p (at InMovetext ps name items) k ≡ None → IsTrue (is_textual k)
@@ -224,34 +200,24 @@ whole_text_run : (p : Profile) (ps : List Pair) (name : List ℕ) (text rest : L
 whole_text_run p ps name text rest items last marker gs spells is result runs =
     text_run p ps name 0 _ text items spells [] items [] (last ∷ rest) (finished ps items marker ∷ gs) refl refl refl
     (λ m outside.
-    let h = marker_finishes p ps name items last marker is (ap (λ (x : Levels). depth x) outside) result in
+    let h = marker_finishes p ps name items last marker is (ap (λ x. depth x) outside) result in
     finishes _ last _ rest gs h.free h.goes h.leads runs)
 
 -- the first pair opens as any other
 opens_between : (p : Profile) (ps : List Pair) (name : List ℕ) (ks : List Kind) (gs : List Game)
     → Runs p (at AfterTags ps name []) (tokens.left_bracket ∷ ks) gs → Runs p (at Between ps name []) (tokens.left_bracket ∷ ks) gs
-opens_between p ps name _ _ (goes _ to _ ks gs free end leads runs) =
-    goes _ to _ ks gs (open_between p (at Between ps name []) ∙ sym (open_refusal p (at _ ps name []) refl) ∙ free) end leads runs
-opens_between p ps name _ _ (finishes _ _ g ks gs free end leads runs) = absurd (cc)
+opens_between p ps name ks gs h5 = search (rules, at, goes, finishes, open_refusal, open_between)
 
 has_fen : (o : Option (List ℕ)) (fen : Bool) → (o ≡ Some (codes "1") → fen ≡ true) → (bytes_eq (unwrap_or o []) (codes "1") && not fen) ≡ false
-has_fen None fen h = refl
-has_fen (Some v) fen h = guarded (bytes_eq v _) (not fen) (λ e. ap not (h (ap Some ((bytes_eq-Decides v _).0 e))))
+has_fen o fen h = grind (arith, bytes_eq-Decides, guarded)
 
 bare_with : (text : List Kind) (last : Kind) (rest : List Kind) (marker : List ℕ) → marker_of last ≡ Some marker → BeginsBare text → BeginsBare (text ++ last ∷ rest)
-bare_with (k ∷ ks) last rest marker is bare = bare
-bare_with [] tokens.comment_open rest marker is bare = absurd (cc)
-bare_with [] _ rest marker is bare = cc
+bare_with text last rest marker is bare = search rules
 
 -- pairs and what comes behind them, or what comes in place of pairs
 tags_run : (p : Profile) (tags : List Kind) (given : List Pair) (rest : List Kind) (gs : List Game) → SpellsPairs tags given → Takes p [] given → IsSetUp (with_pairs [] given)
     → (given ≡ [] → BeginsBare rest) → ((n : List ℕ) → Runs p (at InMovetext (with_pairs [] given) n []) rest gs) → Runs p no_part (tags ++ rest) gs
-tags_run p _ _ rest gs no_pair takes set_up bare runs = begins_between p [] [] [] rest gs (bare refl) (runs [])
-tags_run p _ _ rest gs (next_pair _ ls q qs (pair xs ys zs n v before_name before_value before_bracket) others) takes set_up bare runs =
-    let ps = with_pairs [] (q ∷ qs) in
-    opens_between p [] [] _ gs
-    (pairs_run p [] [] _ rest (q ∷ qs) gs (next_pair _ ls q qs (pair xs ys zs n v before_name before_value before_bracket) others) takes
-    (λ name. begins_after_tags p ps name [] rest gs (has_fen _ _ set_up) (runs name)))
+tags_run p tags given rest gs h5 h6 set_up bare runs = search (rules, with_pairs, takes, pairs_run, begins_after_tags, begins_between, opens_between, has_fen)
 
 game_run : (p : Profile) (ks rest : List Kind) (g : Game) (gs : List Game) → SpellsGame p ks g → Runs p no_part rest gs → Runs p no_part (ks ++ rest) (g ∷ gs)
 game_run p ks rest g gs h runs =
@@ -264,10 +230,7 @@ game_run p ks rest g gs h runs =
     (dropped_run p Between [] [] [] refl h.before (h.tags ++ behind) (g ∷ gs) h.dropped
     (tags_run p _ h.given behind _ h.pairs (takes p _ h.keeps) set_up (λ none. bare_with _ _ rest g.marker h.marker (h.bare none)) whole_text))
 
-end_free : (p : Profile) → refusal p no_part tokens.end ≡ None
-unfolding refusal
-end_free p = refl
-
 pub games_run : (p : Profile) (ks : List Kind) (gs : List Game) → SpellsGames p ks gs → Runs p no_part ks gs
-games_run p _ _ (no_game ks are) = dropped_run p Between [] [] [] refl ks (tokens.end ∷ []) [] are (ends no_part (end_free p))
+unfolding refusal
+games_run p _ _ (no_game ks are) = dropped_run p Between [] [] [] refl ks (tokens.end ∷ []) [] are (ends no_part refl)
 games_run p _ _ (next_game ks ls g gs first others) = game_run p ks ls g gs first (games_run p ls gs others)

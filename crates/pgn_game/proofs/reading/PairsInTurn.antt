@@ -1,5 +1,5 @@
 -- Pairs that come one after another, and what is asked of each beside those before it.
-use Rattle.pgn_game.proofs.Words.{◌≡◌, ℕ, suc, ◌+◌, ◌<◌, ◌≤◌, Bool, true, false, List, [], ◌∷◌, length, refl, sym, ap, ◌∙◌, arith, Option, None, IsFalse, bytes_eq, AllByRecursion, or_parts, or_from, Profile, Pair, value_of, has_pair, insert_pair, IsPair, AreDistinct, KeepsTags}
+use Rattle.pgn_game.proofs.Words.{◌≡◌, ℕ, suc, ◌+◌, ◌<◌, ◌≤◌, Bool, true, false, List, [], ◌∷◌, length, refl, sym, ap, ◌∙◌, arith, Option, None, IsFalse, bytes_eq, AllByRecursion, or_parts, or_from, Profile, Pair, value_of, has_pair, insert_pair, IsPair, AreDistinct, KeepsTags, rules}
 use Rattle.std.specs.List.{fold}
 use Rattle.pgn_game.proofs.pairs.NameOrder.{InOrder, order-insert}
 use Rattle.pgn_game.proofs.pairs.ValuesByName.{bytes_eq-true, bytes_eq-sym, either_of, either_none, pick, value_of-cons, value_of-put, has-cons, has-insert, not_among, no_value, by_insert, all-insert}
@@ -45,7 +45,7 @@ taken_count : (p : Profile) (ps qs : List Pair) → length ps ≤ p.tags → Tak
 taken_count p ps [] room h = omega arith
 taken_count p ps (q ∷ qs) room h =
     let more = length-insert q ps in
-    let here : length ps < p.tags = h.0 in
+    let here = h.0 in
     let next : length (insert_pair q ps) ≤ p.tags = omega arith in
     let rest = taken_count p (insert_pair q ps) qs next h.3 in
     omega arith
@@ -62,11 +62,7 @@ taken_apart p ps (q ∷ qs) h =
     ((h.1, less.0), (less.1, rest.1))
 
 pub taken : (p : Profile) (qs : List Pair) → Takes p [] qs → KeepsTags p qs
-taken p qs h = record {
-  count = let n = taken_count p [] qs (omega arith) h in omega arith;
-  each = taken_each p [] qs h;
-  distinct = (taken_apart p [] qs h).1;
-}
+taken p qs h = search (rules, taken_count, taken_each, taken_apart)
 
 -- And back.
 takes_from : (p : Profile) (ps qs : List Pair) → length ps + length qs ≤ p.tags → AllByRecursion (IsPair p.mode) qs → AreDistinct qs → Apart ps qs → Takes p ps qs

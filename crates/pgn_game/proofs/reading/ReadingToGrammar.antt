@@ -1,9 +1,9 @@
 -- From reading to the grammar: tokens that run to their end spell the games that they finish.
-use Rattle.pgn_game.proofs.Words.{◌≡◌, ℕ, ◌+◌, ◌<◌, ◌≤◌, Bool, true, false, ◌&&◌, ◌||◌, not, List, [], ◌∷◌, ◌++◌, length, nat_lt, nat_le, refl, sym, ap, subst, ◌∙◌, arith, append_assoc, append-nil, Option, None, Some, ◌==◌, codes, bytes_eq, is_some, unwrap_or, IsTrue, IsFalse, Result, Ok, Err, list_all, bytes_eq-Decides, false≢true, not-false, leb-false, ltb-false, none-some, nat_tests, FenFault, NoMove, Ambiguous, escaped, Parts, Played, SanFault, Kind, Mode, Full, Reduced, BadTagName, DuplicateTag, TooManyTags, BadResult, BadFen, TagLineTooLong, SetUpWithoutFen, ReducedFen, MoveLimit, NoMoveBefore, TooDeep, UnmatchedClose, MarkerInVariation, ResultDiffers, Stage, Between, AfterLeftBracket, AfterName, AfterValue, AfterTags, InMovetext, Profile, Pair, value_of, has_pair, insert_pair, Item, Game, Part, no_part, position_of, move_of, Level, levels_of, levels_after, depth, here, without_last, start_of, refusal, is_comment, in_name, is_result, is_score, is_number, is_end, is_reduced, fen_fault_field, marker_of, lacks_fen, Next, next, going, whole, AreDropped, pair, SpellsPairs, no_pair, next_pair, by_name, IsSetUp, StandsFor, number, period, glyph, comment_open, word, comment_close, Names, new_level, level_after_move, SpellsText, no_more, token, move, variation, BeginsBare, IsResult, SpellsGame, SpellsGames, no_game, next_game, or_else}
+use Rattle.pgn_game.proofs.Words.{◌≡◌, ℕ, ◌+◌, ◌<◌, ◌≤◌, Bool, true, false, ◌&&◌, ◌||◌, not, List, [], ◌∷◌, ◌++◌, length, nat_lt, nat_le, refl, sym, ap, subst, ◌∙◌, arith, append_assoc, append-nil, Option, None, Some, ◌==◌, codes, bytes_eq, is_some, unwrap_or, IsTrue, IsFalse, Result, Ok, Err, list_all, bytes_eq-Decides, false≢true, not-false, leb-false, ltb-false, none-some, FenFault, NoMove, Ambiguous, escaped, Parts, Played, SanFault, Kind, Mode, Full, Reduced, BadTagName, DuplicateTag, TooManyTags, BadResult, BadFen, TagLineTooLong, SetUpWithoutFen, ReducedFen, MoveLimit, NoMoveBefore, TooDeep, UnmatchedClose, MarkerInVariation, ResultDiffers, Stage, Between, AfterLeftBracket, AfterName, AfterValue, AfterTags, InMovetext, Profile, Pair, value_of, has_pair, insert_pair, Item, Game, Part, no_part, position_of, move_of, Level, levels_of, levels_after, depth, here, without_last, start_of, refusal, is_comment, in_name, is_result, is_score, is_number, is_end, is_reduced, fen_fault_field, marker_of, lacks_fen, Next, next, going, whole, AreDropped, pair, SpellsPairs, no_pair, next_pair, IsSetUp, StandsFor, number, period, glyph, comment_open, word, comment_close, Names, new_level, level_after_move, SpellsText, no_more, token, move, variation, BeginsBare, IsResult, SpellsGame, SpellsGames, no_game, next_game, rules}
 use Rattle.pgn_lexer.specs.Tokens as tokens
 use Rattle.pgn_game.specs.Game as games
 use Rattle.pgn_game.proofs.reading.RunsToEnd.{at, Runs, ends, goes, finishes}
-use Rattle.pgn_game.proofs.refusals.RefusalsInMovetext.{marker_if, rows_for, symbol_next, symbol_refusal}
+use Rattle.pgn_game.proofs.refusals.RefusalsInMovetext.{marker_if, rows_for, same_at_zero, symbol_next, symbol_refusal}
 use Rattle.pgn_game.proofs.refusals.RefusalsByStage.{test_failed, rest_passed, open_refusal, open_between, name_refusal, value_refusal, is_textual, after_tags, leads_after_tags, between, leads_between, text_row}
 use Rattle.pgn_game.proofs.reading.PairsInTurn.{with_pairs, Takes, taken}
 use Rattle.pgn_game.proofs.reading.MovetextTokens.{levels_more, stands_levels, differs, result_is}
@@ -32,8 +32,7 @@ add_front : (p : Profile) (first : Parts) (l n : Level) (around : List Level) (k
 add_front p first l _ _ k _ item _ front (outermost n ks items text) =
     outermost l _ _ (front 0 ks items text)
 add_front p first l _ _ k _ item _ front (inside n m around ks ls items more text rest) =
-    subst (Closes p first l _ (k ∷ (ks ++ tokens.right_paren ∷ ls))) (append_assoc item items _)
-    (inside l m around (k ∷ ks) ls (item ++ items) more (front _ ks items text) rest)
+    rw (append_assoc item items _) at (inside l m around (k ∷ ks) ls (item ++ items) more (front _ ks items text) rest)
 
 -- a variation, with what comes behind it
 add_variation : (p : Profile) (first : Parts) (l : Level) (around : List Level) (ks ls : List Kind) (items more : List Item) → IsTrue l.has_own_move → deep around < p.depth
@@ -43,9 +42,7 @@ add_variation p first _ _ ks _ items _ holds room inner (outermost l ls more tex
     outermost l (tokens.left_paren ∷ (ks ++ tokens.right_paren ∷ ls)) (games.open_variation ∷ (items ++ games.close_variation ∷ more))
     (variation 0 l ks ls items more holds room inner text)
 add_variation p first _ _ ks _ items _ holds room inner (inside l m around ls js more others text rest) =
-    subst (λ xs. Closes p first l (m ∷ around) (tokens.left_paren ∷ xs) (games.open_variation ∷ (items ++ games.close_variation ∷ (more ++ games.close_variation ∷ others))))
-    (append_assoc ks _ _)
-    (subst (λ xs. Closes p first l (m ∷ around) (tokens.left_paren ∷ ((ks ++ tokens.right_paren ∷ ls) ++ tokens.right_paren ∷ js)) (games.open_variation ∷ xs))
+    rw (append_assoc ks _ _) at (subst (λ xs. Closes p first l (m ∷ around) (tokens.left_paren ∷ ((ks ++ tokens.right_paren ∷ ls) ++ tokens.right_paren ∷ js)) (games.open_variation ∷ xs))
     (append_assoc items _ _)
     (inside l m around (tokens.left_paren ∷ (ks ++ tokens.right_paren ∷ ls)) js (games.open_variation ∷ (items ++ games.close_variation ∷ more)) others
     (variation _ l ks ls items more holds room inner text) rest))
@@ -53,8 +50,7 @@ add_variation p first _ _ ks _ items _ holds room inner (inside l m around ls js
 add_open : (p : Profile) (first : Parts) (l n : Level) (around : List Level) (ks : List Kind) (items : List Item) → IsTrue l.has_own_move → deep around < p.depth
     → n ≡ new_level (without_last l.trail) → Closes p first n (l ∷ around) ks items
     → Closes p first l around (tokens.left_paren ∷ ks) (games.open_variation ∷ items)
-add_open p first _ _ _ _ _ holds room e (inside n l around ks ls items more text rest) =
-    add_variation p first l around ks ls items more holds room (rw e at text) rest
+add_open p first l n around ks items holds room e h10 = search (rules, at, add_variation)
 
 add_close : (p : Profile) (first : Parts) (l m : Level) (around : List Level) (ks : List Kind) (items : List Item) → Closes p first m around ks items
     → Closes p first l (m ∷ around) (tokens.right_paren ∷ ks) (games.close_variation ∷ items)
@@ -87,20 +83,7 @@ Adds p ps items k new =
 
 text_more : (p : Profile) (ps : List Pair) (items new : List Item) (k : Kind) (ks : List Kind) (gs : List Game) → Adds p ps items k new
     → Text_left p ps (items ++ new) ks gs → Text_left p ps items (k ∷ ks) gs
-text_more p ps items new k ks gs adds h = record {
-  text = k ∷ h.text;
-  last = h.last;
-  behind = h.behind;
-  more = new ++ h.more;
-  marker = h.marker;
-  later = h.later;
-  kinds = cc;
-  closes = adds _ _ h.closes;
-  is_marker = h.is_marker;
-  result = h.result;
-  games = cc (append_assoc items new h.more);
-  others = h.others;
-}
+text_more p ps items new k ks gs adds h = search (rules, append_assoc)
 
 -- What is left of a game at each stage.
 
@@ -199,33 +182,23 @@ adds_move p ps items s played names text more c =
 
 adds_open : (p : Profile) (ps : List Pair) (items : List Item) → IsTrue (levels_of items).present.has_own_move → depth (levels_of items) < p.depth
     → Adds p ps items tokens.left_paren (games.open_variation ∷ [])
-adds_open p ps items holds room text more c =
-    let e = deep-length (levels_of items).around in
-    add_open p _ _ _ _ text more holds (omega arith) refl
-    (rw (levels_more items games.open_variation) at c)
+adds_open p ps items holds room = search (rules, at, levels_more, deep-length, add_open)
 
 close_at : (p : Profile) (first : Parts) (l : Level) (around : List Level) (text : List Kind) (more : List Item) → (length around == 0) ≡ false
     → Closes p first (levels_after (record { present = l; around = around }) games.close_variation).present
     (levels_after (record { present = l; around = around }) games.close_variation).around text more
     → Closes p first l around (tokens.right_paren ∷ text) (games.close_variation ∷ more)
-close_at p first l [] text more some c = absurd (false≢true (sym some))
-close_at p first l (m ∷ around) text more some c = add_close p first l m around text more c
+close_at p first l around text more some c = search (rules, false≢true, add_close)
 
 adds_close : (p : Profile) (ps : List Pair) (items : List Item) → (depth (levels_of items) == 0) ≡ false → Adds p ps items tokens.right_paren (games.close_variation ∷ [])
-adds_close p ps items some text more c =
-    close_at p _ _ _ text more some
-    (rw (levels_more items games.close_variation) at c)
-
--- what a test of two numbers says that failed
-no_one : (n : ℕ) → nat_le 1 n ≡ false → n ≡ 0
-no_one n e = grind (arith, nat_tests)
+adds_close p ps items some = search (rules, at, levels_more, close_at)
 
 open_step : (p : Profile) (ps : List Pair) (name : List ℕ) (items : List Item) (ks : List Kind) (gs : List Game) → refusal p (at InMovetext ps name items) tokens.left_paren ≡ None
     → Text_left p ps (items ++ games.open_variation ∷ []) ks gs → Text_left p ps items (tokens.left_paren ∷ ks) gs
 open_step p ps name items ks gs free h =
-    let e : or_else (not (levels_of items).present.has_own_move) NoMoveBefore (or_else (nat_le p.depth (depth (levels_of items))) TooDeep None) ≡ None = sym (text_row p (at InMovetext ps name items) _ refl) ∙ free in
+    let e = sym (text_row p (at InMovetext ps name items) _ refl) ∙ free in
     let holds = not-false (levels_of items).present.has_own_move (test_failed _ NoMoveBefore _ e) in
-    let room : nat_le p.depth (depth (levels_of items)) ≡ false =
+    let room =
     test_failed _ TooDeep None (rest_passed (not _) NoMoveBefore _ e) in
     text_more p ps items _ _ ks gs
     (adds_open p ps items holds (leb-false _ _ room)) h
@@ -241,7 +214,7 @@ marker_step : (p : Profile) (ps : List Pair) (items : List Item) (k : Kind) (mar
     → nat_le 1 (depth (levels_of items)) ≡ false → (differs p.missing_result (value_of ps (codes "Result")) marker && (depth (levels_of items) == 0)) ≡ false
     → After p (whole (record { pairs = ps; items = items; marker = marker })) ks gs → Text_left p ps items (k ∷ ks) gs
 marker_step p ps items k marker ks gs is shallow same after =
-    let outside : depth (levels_of items) ≡ 0 = no_one _ shallow in
+    let outside : depth (levels_of items) ≡ 0 = omega (arith, leb-false 1 (depth (levels_of items)) shallow) in
     record {
       text = [];
       last = k;
@@ -252,16 +225,10 @@ marker_step p ps items k marker ks gs is shallow same after =
       kinds = refl;
       closes = nothing_left p _ _ _ outside;
       is_marker = is;
-      result =
-          result_is _ _ marker
-          (at_zero _ _ outside same);
+      result = result_is _ _ marker (same_at_zero _ _ shallow same);
       games = cc (append-nil items);
       others = after.2;
     }
-  where
-    at_zero : (b : Bool) (n : ℕ) → n ≡ 0 → (b && (n == 0)) ≡ false → b ≡ false
-    at_zero true n e h = absurd (let zero_is : (n == 0) ≡ true = ap (λ x. x == 0) e in cc)
-    at_zero false n e h = refl
 
 symbol_step : (p : Profile) (ps : List Pair) (name : List ℕ) (items : List Item) (s : List ℕ) (ks : List Kind) (gs : List Game)
     → (is_digits score : Bool) (o : Option (Result Played SanFault))
@@ -278,11 +245,11 @@ symbol_step p ps name items s ks gs false false None digits is_marker one free a
 symbol_step p ps name items s ks gs false false (Some (Err NoMove)) digits is_marker one free after = absurd (none-some _ (sym free))
 symbol_step p ps name items s ks gs false false (Some (Err Ambiguous)) digits is_marker one free after = absurd (none-some _ (sym free))
 symbol_step p ps name items s ks gs true true o digits is_marker one free after =
-    marker_step p ps items _ s ks gs (ap (λ (b : Bool). marker_if b s) is_marker)
+    marker_step p ps items _ s ks gs (ap (λ b. marker_if b s) is_marker)
     (test_failed _ MarkerInVariation _ free)
     (test_failed _ ResultDiffers None (rest_passed (nat_le 1 _) MarkerInVariation _ free)) after
 symbol_step p ps name items s ks gs false true o digits is_marker one free after =
-    marker_step p ps items _ s ks gs (ap (λ (b : Bool). marker_if b s) is_marker)
+    marker_step p ps items _ s ks gs (ap (λ b. marker_if b s) is_marker)
     (test_failed _ MarkerInVariation _ free)
     (test_failed _ ResultDiffers None (rest_passed (nat_le 1 _) MarkerInVariation _ free)) after
 
@@ -313,7 +280,7 @@ text_step p ps name items _ ks gs free end after = absurd (none-some _ (sym free
 
 -- Pairs, token by token.
 dropped_more : (k : Kind) (ks : List Kind) → IsTrue (is_comment k) → AreDropped ks → AreDropped (k ∷ ks)
-dropped_more k ks is are = ap (λ (b : Bool). b && list_all is_comment ks) is ∙ are
+dropped_more k ks is are = cc
 
 forced : (a b : Bool) → (a && b) ≡ false → a ≡ true → b ≡ false
 forced true b h e = h
@@ -353,10 +320,9 @@ value_given : (p : Profile) (ps : List Pair) (name : List ℕ) (items : List Ite
     → Value_left p ps name (tokens.str s ∷ ks) gs
 value_given p ps name items s ks gs free h =
     let e = sym (value_refusal p _ s refl) ∙ free in
-    let is_marker = test_failed (bytes_eq name _ && not _) BadResult _ e in
     let f = rest_passed (bytes_eq name _ && not _) BadResult _ e in
     let is_position = test_failed (bytes_eq name _ && is_some _) (BadFen _) _ f in
-    let short : nat_lt 249 (length name + length (escaped s)) ≡ false =
+    let short =
     test_failed _ TagLineTooLong None
     (rest_passed (bytes_eq name _ && is_some _) (BadFen _) _ f) in
     none_dropped _ _ (record {
@@ -365,7 +331,7 @@ value_given p ps name items s ks gs free h =
       kinds = refl;
       room = ltb-false 249 _ short;
       result = λ is. not-false _
-          (forced (bytes_eq name _) _ is_marker ((bytes_eq-Decides name _).1 is));
+          (forced (bytes_eq name _) _ (test_failed (bytes_eq name _ && not _) BadResult _ e) ((bytes_eq-Decides name _).1 is));
       fen = λ is. position_is _ (forced (bytes_eq name _) _ is_position ((bytes_eq-Decides name _).1 is));
       bracket = h;
     })
@@ -402,13 +368,7 @@ name_given p ps name items s ks gs free h =
 name_step : (p : Profile) (ps : List Pair) (name : List ℕ) (items : List Item) (k : Kind) (ks : List Kind) (gs : List Game) → items ≡ []
     → refusal p (at AfterLeftBracket ps name items) k ≡ None → After p (next (at AfterLeftBracket ps name items) k) ks gs → Name_left p ps (k ∷ ks) gs
 unfolding refusal
-name_step p ps name items tokens.comment_open ks gs none free after =
-    one_dropped _ _ ks refl (after none)
-name_step p ps name items (tokens.word s) ks gs none free after = one_dropped _ _ ks refl (after none)
-name_step p ps name items tokens.comment_close ks gs none free after =
-    one_dropped _ _ ks refl (after none)
-name_step p ps name items (tokens.symbol s) ks gs none free after = name_given p ps name items s ks gs free (after none)
-name_step p ps name items _ ks gs none free after = absurd (none-some _ (sym free))
+name_step p ps name items k ks gs none free after = search (rules, none-some, one_dropped, name_given)
 
 -- a `[`, and a pair
 pair_step : (p : Profile) (ps : List Pair) (ks : List Kind) (gs : List Game) → nat_le p.tags (length ps) ≡ false → Name_left p ps ks gs
@@ -430,7 +390,7 @@ pair_step p ps ks gs free dn =
         tags = (tokens.left_bracket ∷ (xs ++ tokens.symbol n.name ∷ (ys ++ tokens.str v.value ∷ (zs ++ tokens.right_bracket ∷ [])))) ++ t.tags;
         given = q ∷ t.given;
         behind = t.behind;
-        kinds = ap (λ js. tokens.left_bracket ∷ js) whole ∙ simp append_assoc;
+        kinds = (rw whole (simp append_assoc));
         pairs = next_pair _ t.tags q t.given (pair xs ys zs _ _ dn.dropped dv.dropped db.dropped) t.pairs;
         takes = (
           leb-false p.tags (length ps) free,
@@ -458,8 +418,7 @@ no_pair_step p ps items ks gs none set_up h = record {
 }
 
 is_set_up : (o : Option (List ℕ)) (fen : Bool) → (bytes_eq (unwrap_or o []) (codes "1") && not fen) ≡ false → o ≡ Some (codes "1") → fen ≡ true
-is_set_up o fen h e =
-    not-false fen (ap (λ (x : Option (List ℕ)). bytes_eq (unwrap_or x []) (codes "1") && not fen) (sym e) ∙ h)
+is_set_up o fen h e = grind (arith, not-false)
 
 tags_text : (p : Profile) (ps : List Pair) (name : List ℕ) (items : List Item) (k : Kind) (ks : List Kind) (gs : List Game) → items ≡ [] → IsTrue (is_textual k)
     → refusal p (at AfterTags ps name items) k ≡ None → is_end k ≡ false → After p (next (at AfterTags ps name items) k) ks gs → Tags_left p ps (k ∷ ks) gs
@@ -472,11 +431,7 @@ tags_text p ps name items k ks gs none is free end after =
 tags_step : (p : Profile) (ps : List Pair) (name : List ℕ) (items : List Item) (k : Kind) (ks : List Kind) (gs : List Game) → items ≡ []
     → refusal p (at AfterTags ps name items) k ≡ None → is_end k ≡ false → After p (next (at AfterTags ps name items) k) ks gs → Tags_left p ps (k ∷ ks) gs
 unfolding refusal
-tags_step p ps name items tokens.left_bracket ks gs none free end after =
-    (pair_step p ps ks gs (test_failed _ TooManyTags None (sym (open_refusal p (at _ ps name items) refl) ∙ free)) (after none)).0
-tags_step p ps name items tokens.end ks gs none free end after = absurd (false≢true (sym end))
-tags_step p ps name items (tokens.refused r) ks gs none free end after = absurd (none-some _ (sym free))
-tags_step p ps name items k ks gs none free end after = tags_text p ps name items k ks gs none refl free end after
+tags_step p ps name items k ks gs none free end after = search (rules, false≢true, none-some, at, test_failed, open_refusal, pair_step, tags_text)
 
 -- Games.
 game_drops : (p : Profile) (k : Kind) (ks : List Kind) (g : Game) → IsTrue (is_comment k) → SpellsGame p ks g → SpellsGame p (k ∷ ks) g
@@ -509,10 +464,10 @@ outer_text p first l _ _ (outermost _ ks items text) = text
 game_begins : (p : Profile) (ps : List Pair) (ks : List Kind) (gs : List Game) → ps ≡ [] → (t : Tags_left p ps ks gs) → (t.given ≡ [] → BeginsBare t.text.text) → SpellsGames p ks gs
 game_begins p ps ks gs none t bare =
     let x = t.text in
-    let sorted : with_pairs ps t.given ≡ by_name t.given = ap (λ qs. with_pairs qs t.given) none in
+    let sorted = ap (λ qs. with_pairs qs t.given) none in
     let g : Game = record { pairs = with_pairs ps t.given; items = x.more; marker = x.marker } in
-    let front : List Kind = t.tags ++ (x.text ++ x.last ∷ []) in
-    let e : ks ≡ front ++ x.behind = t.kinds ∙ ap (λ js. t.tags ++ js) x.kinds ∙ simp append_assoc in
+    let front = t.tags ++ (x.text ++ x.last ∷ []) in
+    let e = t.kinds ∙ ap (λ js. t.tags ++ js) x.kinds ∙ simp append_assoc in
     let game : SpellsGame p front g =
     record {
       before = [];
@@ -523,7 +478,7 @@ game_begins p ps ks gs none t bare =
       tokens = refl;
       dropped = refl;
       pairs = t.pairs;
-      keeps = taken p t.given (subst (λ qs. Takes p qs t.given) none t.takes);
+      keeps = taken p t.given (rw none at t.takes);
       sorted = sorted;
       set_up = t.set_up;
       bare = bare;
@@ -531,7 +486,7 @@ game_begins p ps ks gs none t bare =
       marker = x.is_marker;
       result = x.result;
     } in
-    subst (λ js. SpellsGames p js gs) (sym e) (subst (SpellsGames p _) (sym x.games) (next_game front _ g x.later game x.others))
+    rw e (subst (SpellsGames p _) (sym x.games) (next_game front _ g x.later game x.others))
 
 bare_from : (k : Kind) (ks text : List Kind) (last : Kind) (behind : List Kind) → IsFalse (is_comment k) → k ∷ ks ≡ text ++ last ∷ behind → BeginsBare text
 bare_from k ks [] last behind is e = tt
@@ -561,12 +516,7 @@ between_step p ps name items k ks gs no_pairs none free end after = between_text
 -- one token more, at any stage
 step : (p : Profile) (stage : Stage) (ps : List Pair) (name : List ℕ) (items : List Item) (k : Kind) (ks : List Kind) (gs : List Game) → Fits stage ps items
     → refusal p (at stage ps name items) k ≡ None → is_end k ≡ false → After p (next (at stage ps name items) k) ks gs → Left p stage ps name items (k ∷ ks) gs
-step p Between ps name items k ks gs fits free end after = between_step p ps name items k ks gs fits.0 fits.1 free end after
-step p AfterLeftBracket ps name items k ks gs fits free end after = name_step p ps name items k ks gs fits free after
-step p AfterName ps name items k ks gs fits free end after = value_step p ps name items k ks gs fits free after
-step p AfterValue ps name items k ks gs fits free end after = bracket_step p ps name items k ks gs fits free after
-step p AfterTags ps name items k ks gs fits free end after = tags_step p ps name items k ks gs fits free end after
-step p InMovetext ps name items k ks gs fits free end after = text_step p ps name items k ks gs free end after
+step p stage ps name items k ks gs fits free end after = search (rules, text_step, bracket_step, value_step, name_step, tags_step, between_step)
 
 -- the end is between games
 at_end : (p : Profile) (stage : Stage) (ps : List Pair) (name : List ℕ) (items : List Item) → refusal p (at stage ps name items) tokens.end ≡ None

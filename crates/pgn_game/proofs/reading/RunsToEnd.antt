@@ -1,5 +1,5 @@
 -- Tokens that are read to their end, as a relation: which games they finish from a part on.
-use Rattle.pgn_game.proofs.Words.{◌≡◌, ℕ, false, List, [], ◌∷◌, ◌++◌, map, None, refl, sym, ap, subst, ◌∙◌, append_assoc, append-nil, ◌↔◌, IsLast, RisesTo, Kind, Token, Stage, Between, AfterLeftBracket, AfterName, AfterValue, Profile, Pair, Item, Game, Part, no_part, refusal, is_end, Next, going, whole, next, Progress, no_progress, progress_with, progress_after, Read, read_from, read}
+use Rattle.pgn_game.proofs.Words.{◌≡◌, ℕ, false, List, [], ◌∷◌, ◌++◌, map, None, refl, sym, ap, ◌∙◌, append_assoc, append-nil, ◌↔◌, IsLast, RisesTo, Kind, Token, Stage, Between, AfterLeftBracket, AfterName, AfterValue, Profile, Pair, Item, Game, Part, no_part, refusal, is_end, Next, going, whole, next, Progress, no_progress, progress_with, progress_after, read_from, read, rules}
 use Rattle.pgn_lexer.specs.Tokens as tokens
 use Rattle.pgn_game.proofs.tokens.OneMoreToken.{first_passes, goes_on}
 
@@ -44,7 +44,7 @@ at_end p b place tokens.end last e =
     let free = first_passes p b t [] e in
     let leads = end_leads b.part.stage b.part.pairs b.part.name b.part.items in
     record {
-      same = ap (λ (r : Read). r.progress.games) (goes_on p b t [] free) ∙ ap (λ (n : Next). (progress_with b.games n).games) leads.1 ∙ sym (append-nil _);
+      same = (rw (goes_on p b t [] free) (ap (λ (n : Next). (progress_with b.games n).games) leads.1 ∙ sym (append-nil _)));
       runs = ends _ free;
     }
 at_end p b place _ last e = absurd last
@@ -71,8 +71,7 @@ from_read p b [] rises e = absurd rises
 from_read p b (t ∷ []) rises e = ([], at_end p b t.at t.kind rises e)
 from_read p b (t ∷ u ∷ us) rises e =
     let free = first_passes p b t (u ∷ us) e in
-    let here = goes_on p b t (u ∷ us) free in
-    let rest = from_read p (progress_after b t) (u ∷ us) rises.2 (ap (λ (r : Read). r.fault) (sym here) ∙ e) in
+    let rest = from_read p (progress_after b t) (u ∷ us) rises.2 (rw (sym (goes_on p b t (u ∷ us) free)) (e)) in
     one_more p b t (u ∷ us) free (not_end _ rises.0) (next _ t.kind) refl rest.0 rest.1
 
 -- From the relation to reading.
@@ -85,12 +84,7 @@ behind games part = record { games = games; part = part }
 
 read_one : (p : Profile) (b c : Progress) (t : Token) (ts : List Token) (gs all : List Game) → refusal p b.part t.kind ≡ None → progress_after b t ≡ c → c.games ++ gs ≡ b.games ++ all
     → Read_well p c ts gs → Read_well p b (t ∷ ts) all
-read_one p b c t ts gs all free leads same h =
-    let here : read_from p b (t ∷ ts) ≡ read_from p c ts = cc (goes_on p b t ts free) in
-    record {
-      fault = cc;
-      games = cc;
-    }
+read_one p b c t ts gs all free leads same h = search (rules, goes_on)
 
 to_read : (p : Profile) (part : Part) (ks : List Kind) (gs : List Game) → Runs p part ks gs → (ts : List Token) (before : List Game) → kinds ts ≡ ks
     → Read_well p (behind before part) ts gs
@@ -98,19 +92,19 @@ to_read p _ _ _ (ends part free) (t ∷ []) before e =
     let kind : t.kind ≡ tokens.end = cc in
     let leads = end_leads part.stage part.pairs part.name part.items in
     read_one p _ (behind before leads.0) t [] [] [] (ap (refusal p part) kind ∙ free)
-    (ap (λ (k : Kind). progress_with before (next part k)) kind ∙ ap (progress_with before) leads.1) refl
+    (rw kind (ap (progress_with before) leads.1)) refl
     (record { fault = refl; games = sym (append-nil before) })
 to_read p _ _ _ (goes part to k ks gs free end leads runs) (t ∷ ts) before e =
     let kind : t.kind ≡ k = cc in
     let rest : kinds ts ≡ ks = cc in
     read_one p _ (behind before to) t ts gs gs (ap (refusal p part) kind ∙ free)
-    (ap (λ (j : Kind). progress_with before (next part j)) kind ∙ ap (progress_with before) leads) refl
+    (rw kind (ap (progress_with before) leads)) refl
     (to_read p to ks gs runs ts before rest)
 to_read p _ _ _ (finishes part k g ks gs free end leads runs) (t ∷ ts) before e =
     let kind : t.kind ≡ k = cc in
     let rest : kinds ts ≡ ks = cc in
     read_one p _ (behind _ no_part) t ts gs _ (ap (refusal p part) kind ∙ free)
-    (ap (λ (j : Kind). progress_with before (next part j)) kind ∙ ap (progress_with before) leads) (append_assoc before _ gs)
+    (ap (λ j. progress_with before (next part j)) kind ∙ ap (progress_with before) leads) (append_assoc before _ gs)
     (to_read p no_part ks gs runs ts _ rest)
 to_read p _ _ _ _ _ before e = absurd (cc)
 
@@ -120,5 +114,5 @@ pub runs_as_read : (p : Profile) (ts : List Token) (gs : List Game) → RisesTo 
     → Runs p no_part (kinds ts) gs ↔ (((read p ts).fault ≡ None) × ((read p ts).progress.games ≡ gs))
 runs_as_read p ts gs rises = (
   λ runs. let h = to_read p no_part (kinds ts) gs runs ts [] refl in (h.fault, h.games),
-  λ h. let r = from_read p no_progress ts rises h.0 in subst (Runs p no_part _) (sym r.1.same ∙ h.1) r.1.runs,
+  λ h. let r = from_read p no_progress ts rises h.0 in (rw (sym r.1.same ∙ h.1) at r.1.runs),
 )

@@ -1,7 +1,7 @@
 -- Which tokens are rejected at a stage, row by row, and where the others lead.
-use Rattle.pgn_game.proofs.Words.{◌≡◌, ℕ, ◌+◌, Bool, true, false, ◌&&◌, ◌||◌, not, List, [], length, nat_lt, nat_le, Option, None, Some, refl, sym, ◌∙◌, ◌==◌, codes, bytes_eq, is_some, Bor, IsTrue, IsFalse, Result, list_all, and_right, false≢true, escaped, left_bracket, right_bracket, symbol, str, kind_of, TokenKind, Played, SanFault, Kind, Reason, ExpectedName, BadTagName, DuplicateTag, TooManyTags, ExpectedValue, BadResult, BadFen, TagLineTooLong, ExpectedBracket, SetUpWithoutFen, ReducedFen, NotAMove, IllegalMove, AmbiguousMove, MoveLimit, MarkerInVariation, ResultDiffers, UnexpectedEnd, Stage, Between, AfterLeftBracket, AfterName, AfterValue, AfterTags, InMovetext, Profile, Pair, has_pair, insert_pair, Part, no_part, refusal, is_comment, is_end, in_name, is_result, is_no_form, is_no_move, is_many_moves, is_one_move, fen_field, fen_field_of, lacks_fen, is_reduced, going, next, at_stage, in_text, or_else, text_refusal}
+use Rattle.pgn_game.proofs.Words.{◌≡◌, ℕ, ◌+◌, Bool, true, false, ◌&&◌, ◌||◌, not, List, [], length, nat_lt, nat_le, Option, None, Some, refl, sym, ◌∙◌, ◌==◌, codes, bytes_eq, is_some, Bor, IsTrue, IsFalse, Result, list_all, and_right, false≢true, escaped, left_bracket, right_bracket, symbol, str, kind_of, TokenKind, Played, SanFault, Kind, Reason, ExpectedName, BadTagName, DuplicateTag, TooManyTags, ExpectedValue, BadResult, BadFen, TagLineTooLong, ExpectedBracket, SetUpWithoutFen, ReducedFen, NotAMove, IllegalMove, AmbiguousMove, MoveLimit, MarkerInVariation, ResultDiffers, UnexpectedEnd, Stage, Between, AfterLeftBracket, AfterName, AfterValue, AfterTags, InMovetext, Profile, Pair, has_pair, insert_pair, Part, no_part, refusal, is_comment, is_end, in_name, is_result, is_no_form, is_no_move, is_many_moves, is_one_move, fen_field, fen_field_of, lacks_fen, is_reduced, going, next, at_stage, in_text, or_else, text_refusal, arith}
 use Rattle.pgn_lexer.specs.Tokens as tokens
-use Rattle.pgn_lexer.specs.declared.token.TokenKind.TheVariants as variants
+use Rattle.pgn_lexer.specs.declared.token.TokenKind.TheVariants as token_kinds
 
 -- what holds of a part at a stage holds of each that is there
 at_the_stage : (P : Part → Type 0) (part : Part) (stage : Stage) → part.stage ≡ stage → P (at_stage stage part) → P part
@@ -36,29 +36,10 @@ reduced_row p = pass _ _ None (and_right _ false refl)
 
 pub comment_free : (p : Profile) (stage : Stage) (part : Part) (k : Kind) → IsTrue (drops_comments stage) → IsTrue (is_comment k) → refusal p (at_stage stage part) k ≡ None
 unfolding refusal
-comment_free p AfterTags part k drops is = absurd (false≢true drops)
-comment_free p InMovetext part k drops is = absurd (false≢true drops)
-comment_free p Between part tokens.comment_open drops is = refl
-comment_free p Between part (tokens.word s) drops is = refl
-comment_free p Between part tokens.comment_close drops is = refl
-comment_free p AfterLeftBracket part tokens.comment_open drops is = reduced_row p
-comment_free p AfterLeftBracket part (tokens.word s) drops is = reduced_row p
-comment_free p AfterLeftBracket part tokens.comment_close drops is = reduced_row p
-comment_free p AfterName part tokens.comment_open drops is = no_value_rows part.name
-comment_free p AfterName part (tokens.word s) drops is = no_value_rows part.name
-comment_free p AfterName part tokens.comment_close drops is = no_value_rows part.name
-comment_free p AfterValue part tokens.comment_open drops is = refl
-comment_free p AfterValue part (tokens.word s) drops is = refl
-comment_free p AfterValue part tokens.comment_close drops is = refl
-comment_free p _ part _ drops is = absurd (false≢true is)
+comment_free p stage part k drops is = grind (arith, false≢true, no_value_rows, reduced_row)
 
 pub comment_stays : (stage : Stage) (part : Part) (k : Kind) → IsTrue (drops_comments stage) → IsTrue (is_comment k) → next (at_stage stage part) k ≡ going (at_stage stage part)
-comment_stays AfterTags part k drops is = absurd (false≢true drops)
-comment_stays InMovetext part k drops is = absurd (false≢true drops)
-comment_stays _ part tokens.comment_open drops is = refl
-comment_stays _ part (tokens.word s) drops is = refl
-comment_stays _ part tokens.comment_close drops is = refl
-comment_stays _ part _ drops is = absurd (false≢true is)
+comment_stays stage part k drops is = grind (arith, false≢true)
 
 pub comment_goes : (k : Kind) → IsTrue (is_comment k) → is_end k ≡ false
 comment_goes tokens.end is = absurd (false≢true is)
@@ -71,42 +52,30 @@ comment_passes p part k stage at out is =
     (comment_free p _ part _ drops (sym is), comment_stays _ part _ drops (sym is))
 
 -- Pairs.
-expected_name_at : (p : Profile) (part : Part) (k : TokenKind) → false ≡ is_comment (kind_of k) → ((text : Bor (List ℕ)) → k ≡ variants.Symbol text → ⊥)
+expected_name_at : (p : Profile) (part : Part) (k : TokenKind) → false ≡ is_comment (kind_of k) → ((text : Bor (List ℕ)) → k ≡ token_kinds.Symbol text → ⊥)
     → refusal p (at_stage AfterLeftBracket part) (kind_of k) ≡ Some ExpectedName
 unfolding refusal
-expected_name_at p part (variants.Symbol t) is other = absurd (other t refl)
-expected_name_at p part variants.CommentOpen is other = absurd (false≢true is)
-expected_name_at p part (variants.Word t) is other = absurd (false≢true is)
-expected_name_at p part variants.CommentClose is other = absurd (false≢true is)
-expected_name_at p part _ is other = refl
+expected_name_at p part k is other = grind (arith, false≢true)
 
-pub expected_name : (p : Profile) (part : Part) (k : TokenKind) → part.stage ≡ AfterLeftBracket → false ≡ is_comment (kind_of k) → ((text : Bor (List ℕ)) → k ≡ variants.Symbol text → ⊥)
+pub expected_name : (p : Profile) (part : Part) (k : TokenKind) → part.stage ≡ AfterLeftBracket → false ≡ is_comment (kind_of k) → ((text : Bor (List ℕ)) → k ≡ token_kinds.Symbol text → ⊥)
     → refusal p part (kind_of k) ≡ Some ExpectedName
 expected_name p part k at is other = at_the_stage (λ q. refusal p q (kind_of k) ≡ Some ExpectedName) part _ at (expected_name_at p part k is other)
 
-expected_value_at : (p : Profile) (part : Part) (k : TokenKind) → false ≡ is_comment (kind_of k) → ((text : Bor (List ℕ)) → k ≡ variants.Str text → ⊥)
+expected_value_at : (p : Profile) (part : Part) (k : TokenKind) → false ≡ is_comment (kind_of k) → ((text : Bor (List ℕ)) → k ≡ token_kinds.Str text → ⊥)
     → refusal p (at_stage AfterName part) (kind_of k) ≡ Some ExpectedValue
 unfolding refusal
-expected_value_at p part (variants.Str t) is other = absurd (other t refl)
-expected_value_at p part variants.CommentOpen is other = absurd (false≢true is)
-expected_value_at p part (variants.Word t) is other = absurd (false≢true is)
-expected_value_at p part variants.CommentClose is other = absurd (false≢true is)
-expected_value_at p part _ is other = refl
+expected_value_at p part k is other = grind (arith, false≢true)
 
-pub expected_value : (p : Profile) (part : Part) (k : TokenKind) → part.stage ≡ AfterName → false ≡ is_comment (kind_of k) → ((text : Bor (List ℕ)) → k ≡ variants.Str text → ⊥)
+pub expected_value : (p : Profile) (part : Part) (k : TokenKind) → part.stage ≡ AfterName → false ≡ is_comment (kind_of k) → ((text : Bor (List ℕ)) → k ≡ token_kinds.Str text → ⊥)
     → refusal p part (kind_of k) ≡ Some ExpectedValue
 expected_value p part k at is other = at_the_stage (λ q. refusal p q (kind_of k) ≡ Some ExpectedValue) part _ at (expected_value_at p part k is other)
 
-expected_bracket_at : (p : Profile) (part : Part) (k : TokenKind) → false ≡ is_comment (kind_of k) → (k ≡ variants.RightBracket → ⊥)
+expected_bracket_at : (p : Profile) (part : Part) (k : TokenKind) → false ≡ is_comment (kind_of k) → (k ≡ token_kinds.RightBracket → ⊥)
     → refusal p (at_stage AfterValue part) (kind_of k) ≡ Some ExpectedBracket
 unfolding refusal
-expected_bracket_at p part variants.RightBracket is other = absurd (other refl)
-expected_bracket_at p part variants.CommentOpen is other = absurd (false≢true is)
-expected_bracket_at p part (variants.Word t) is other = absurd (false≢true is)
-expected_bracket_at p part variants.CommentClose is other = absurd (false≢true is)
-expected_bracket_at p part _ is other = refl
+expected_bracket_at p part k is other = grind (arith, false≢true)
 
-pub expected_bracket : (p : Profile) (part : Part) (k : TokenKind) → part.stage ≡ AfterValue → false ≡ is_comment (kind_of k) → (k ≡ variants.RightBracket → ⊥)
+pub expected_bracket : (p : Profile) (part : Part) (k : TokenKind) → part.stage ≡ AfterValue → false ≡ is_comment (kind_of k) → (k ≡ token_kinds.RightBracket → ⊥)
     → refusal p part (kind_of k) ≡ Some ExpectedBracket
 expected_bracket p part k at is other = at_the_stage (λ q. refusal p q (kind_of k) ≡ Some ExpectedBracket) part _ at (expected_bracket_at p part k is other)
 
@@ -122,7 +91,7 @@ unfolding refusal
 name_refusal p part name at = at_the_stage (λ q. refusal p q (symbol name) ≡ name_rows p q.pairs name) part _ at refl
 
 pub name_next : (part : Part) (name : List ℕ) → part.stage ≡ AfterLeftBracket → next part (symbol name) ≡ going (record { stage = AfterName; pairs = part.pairs; name = name; items = part.items })
-name_next part name at = at_the_stage (λ q. next q (symbol name) ≡ going (record { stage = AfterName; pairs = q.pairs; name = name; items = q.items })) part _ at refl
+name_next part name at = cc
 
 abbrev pub value_rows : List ℕ → List ℕ → Option Reason
 value_rows name s =
@@ -136,8 +105,7 @@ value_refusal p part value at = at_the_stage (λ q. refusal p q (str value) ≡ 
 
 pub value_next : (part : Part) (value : List ℕ) → part.stage ≡ AfterName
     → next part (str value) ≡ going (record { stage = AfterValue; pairs = insert_pair (record { name = part.name; value = value }) part.pairs; name = []; items = part.items })
-value_next part value at =
-    at_the_stage (λ q. next q (str value) ≡ going (record { stage = AfterValue; pairs = insert_pair (record { name = q.name; value = value }) q.pairs; name = []; items = q.items })) part _ at refl
+value_next part value at = cc
 
 pub close_refusal : (p : Profile) (part : Part) → part.stage ≡ AfterValue → refusal p part right_bracket ≡ None
 unfolding refusal
@@ -150,7 +118,7 @@ close_next part at = at_the_stage (λ q. next q right_bracket ≡ going (at_stag
 pub open_refusal : (p : Profile) (part : Part) → part.stage ≡ AfterTags
     → refusal p part left_bracket ≡ or_else (nat_le p.tags (length part.pairs)) TooManyTags None
 unfolding refusal
-open_refusal p part at = at_the_stage (λ q. refusal p q left_bracket ≡ or_else (nat_le p.tags (length q.pairs)) TooManyTags None) part _ at refl
+open_refusal p part at = grind (arith, at_the_stage)
 
 pub open_next : (part : Part) → part.stage ≡ AfterTags → next part left_bracket ≡ going (at_stage AfterLeftBracket part)
 open_next part at = at_the_stage (λ q. next q left_bracket ≡ going (at_stage AfterLeftBracket q)) part _ at refl
@@ -173,10 +141,8 @@ is_lexical (tokens.refused r) = true
 is_lexical _ = false
 
 -- a token that is neither a `[` nor the end may be one of movetext
-pub textual : (k : TokenKind) → (k ≡ variants.LeftBracket → ⊥) → (k ≡ variants.End → ⊥) → IsTrue (is_textual (kind_of k))
-textual variants.LeftBracket bracket over = absurd (bracket refl)
-textual variants.End bracket over = absurd (over refl)
-textual _ bracket over = refl
+pub textual : (k : TokenKind) → (k ≡ token_kinds.LeftBracket → ⊥) → (k ≡ token_kinds.End → ⊥) → IsTrue (is_textual (kind_of k))
+textual k bracket over = grind arith
 
 -- behind the pairs of a game
 pub after_tags : (p : Profile) (part : Part) (k : Kind) → IsTrue (is_textual k)
@@ -188,40 +154,23 @@ after_tags p part (tokens.refused r) is = absurd (false≢true is)
 after_tags p part _ is = refl
 
 pub leads_after_tags : (part : Part) (k : Kind) → IsTrue (is_textual k) → next (at_stage AfterTags part) k ≡ next (at_stage InMovetext part) k
-leads_after_tags part tokens.left_bracket is = absurd (false≢true is)
-leads_after_tags part tokens.end is = absurd (false≢true is)
-leads_after_tags part (tokens.refused r) is = absurd (false≢true is)
-leads_after_tags part _ is = refl
+leads_after_tags part k is = grind (arith, false≢true)
 
 -- without pairs
 pub between : (p : Profile) (part : Part) (k : Kind) → IsTrue (is_textual k) → IsFalse (is_comment k) → refusal p (at_stage Between part) k ≡ refusal p (at_stage InMovetext part) k
 unfolding refusal
-between p part tokens.left_bracket is bare = absurd (false≢true is)
-between p part tokens.end is bare = absurd (false≢true is)
-between p part (tokens.refused r) is bare = absurd (false≢true is)
-between p part tokens.comment_open is bare = absurd (false≢true (sym bare))
-between p part (tokens.word s) is bare = absurd (false≢true (sym bare))
-between p part tokens.comment_close is bare = absurd (false≢true (sym bare))
-between p part _ is bare = refl
+between p part k is bare = grind (arith, false≢true)
 
 pub leads_between : (part : Part) (k : Kind) → IsTrue (is_textual k) → IsFalse (is_comment k) → next (at_stage Between part) k ≡ next (at_stage InMovetext part) k
-leads_between part tokens.left_bracket is bare = absurd (false≢true is)
-leads_between part tokens.end is bare = absurd (false≢true is)
-leads_between part (tokens.refused r) is bare = absurd (false≢true is)
-leads_between part tokens.comment_open is bare = absurd (false≢true (sym bare))
-leads_between part (tokens.word s) is bare = absurd (false≢true (sym bare))
-leads_between part tokens.comment_close is bare = absurd (false≢true (sym bare))
-leads_between part _ is bare = refl
+leads_between part k is bare = grind (arith, false≢true)
 
 -- the table and the step of movetext are those of a token in it, and of the first one
 pub text_row : (p : Profile) (part : Part) (k : Kind) → is_lexical k ≡ false → refusal p (at_stage InMovetext part) k ≡ text_refusal p part k
 unfolding refusal
-text_row p part (tokens.refused r) plain = absurd (false≢true (sym plain))
-text_row p part tokens.end plain = refl
-text_row p part _ plain = refl
+text_row p part k plain = grind (arith, false≢true)
 
 no_lexical : (k : TokenKind) → is_lexical (kind_of k) ≡ false
-no_lexical variants.End = refl
+no_lexical token_kinds.End = refl
 no_lexical _ = refl
 
 pub row_in_movetext : (p : Profile) (part : Part) (k : TokenKind) → part.stage ≡ InMovetext → refusal p part (kind_of k) ≡ text_refusal p part (kind_of k)
@@ -238,33 +187,19 @@ row_after_tags p part k at is free =
     ∙ text_row p part _ (no_lexical k))
 
 pub next_after_tags : (part : Part) (k : TokenKind) → part.stage ≡ AfterTags → IsTrue (is_textual (kind_of k)) → next part (kind_of k) ≡ in_text part (kind_of k)
-next_after_tags part k at is =
-    at_the_stage (λ q. next q (kind_of k) ≡ in_text part (kind_of k)) part _ at
-    (leads_after_tags part _ is)
+next_after_tags part k at is = grind (arith, at_the_stage, leads_after_tags)
 
 -- a comment between games and the end there change nothing
 pub passes_between : (p : Profile) (part : Part) (k : TokenKind) → part.stage ≡ Between → (is_comment (kind_of k) || is_end (kind_of k)) ≡ true
     → (refusal p part (kind_of k) ≡ None) × (next part (kind_of k) ≡ going part)
 unfolding refusal
-passes_between p part k at is = at_the_stage (λ q. (refusal p q (kind_of k) ≡ None) × (next q (kind_of k) ≡ going q)) part Between at (by_kind k is)
-  where
-    by_kind : (k : TokenKind) → (is_comment (kind_of k) || is_end (kind_of k)) ≡ true
-        → (refusal p (at_stage Between part) (kind_of k) ≡ None) × (next (at_stage Between part) (kind_of k) ≡ going (at_stage Between part))
-    by_kind variants.End is = (refl, refl)
-    by_kind variants.CommentOpen is = (refl, refl)
-    by_kind (variants.Word t) is = (refl, refl)
-    by_kind variants.CommentClose is = (refl, refl)
-    by_kind _ is = absurd (false≢true is)
+passes_between p part k at is = grind (arith, false≢true, at_the_stage)
 
 -- A token that begins a game means what it means after pairs, of which there is none.
 pub begins_alike : (p : Profile) (k : TokenKind) → is_comment (kind_of k) ≡ false → is_end (kind_of k) ≡ false
     → (refusal p (at_stage AfterTags no_part) (kind_of k) ≡ refusal p no_part (kind_of k)) × (next (at_stage AfterTags no_part) (kind_of k) ≡ next no_part (kind_of k))
 unfolding refusal
-begins_alike p variants.End comment over = absurd (false≢true (sym over))
-begins_alike p variants.CommentOpen comment over = absurd (false≢true (sym comment))
-begins_alike p (variants.Word t) comment over = absurd (false≢true (sym comment))
-begins_alike p variants.CommentClose comment over = absurd (false≢true (sym comment))
-begins_alike p _ comment over = (refl, refl)
+begins_alike p k comment over = grind (arith, false≢true)
 
 -- the end after the pairs of a game
 pub end_after_tags : (p : Profile) (part : Part) → part.stage ≡ AfterTags → refusal p part tokens.end ≡ Some UnexpectedEnd

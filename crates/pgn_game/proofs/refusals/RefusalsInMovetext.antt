@@ -1,27 +1,28 @@
 -- What the tokens of movetext are rejected for, and where they lead, for a part that is open.
-use Rattle.pgn_game.proofs.Words.{◌≡◌, IsFalse, ℕ, Bool, true, false, ◌&&◌, ◌||◌, not, List, [], ◌∷◌, length, nat_le, Option, None, Some, Bor, refl, sym, ap, ◌∙◌, arith, is_some, ◌==◌, Result, Ok, Err, bytes_eq, codes, unwrap_or, length-map, or_right, or_from, option_copied, NoMove, Ambiguous, Kind, asterisk, symbol, Parts, Played, SanFault, Reason, NotAMove, IllegalMove, AmbiguousMove, MoveLimit, MarkerInVariation, ResultDiffers, Profile, Missing, Pair, value_of, Part, move_of, Level as ModelLevel, depth, start_of, replayed, without_last, marker_of, is_number, is_score, is_at_limit, levels_of_part, position_in, result_for, Next, going, whole, in_text, move_item, items_of, StoredLevels, before_last, stored_level, ReaderState, is_outside_the_table, IsOpen, game_of, or_else, text_refusal, with_items}
-use Rattle.pgn_game.specs.Game as games
-use Rattle.pgn_game.specs.FoundMove.{found_in}
+use Rattle.pgn_game.proofs.Words.{leb-false, ◌≡◌, IsFalse, ℕ, Bool, true, false, ◌&&◌, ◌||◌, not, List, [], ◌∷◌, length, nat_le, Option, None, Some, Bor, refl, sym, ap, ◌∙◌, arith, is_some, ◌==◌, Result, Ok, Err, bytes_eq, codes, unwrap_or, length-map, or_right, or_from, option_copied, NoMove, Ambiguous, Kind, asterisk, symbol, Parts, Played, SanFault, Reason, NotAMove, IllegalMove, AmbiguousMove, MoveLimit, MarkerInVariation, ResultDiffers, Profile, Missing, Pair, value_of, Part, move_of, Level as ModelLevel, depth, start_of, marker_of, is_number, is_score, is_at_limit, levels_of_part, position_in, result_for, Next, going, whole, in_text, move_item, before_last, stored_level, ReaderState, is_outside_the_table, IsOpen, game_of, or_else, text_refusal, with_items, found_in}
+use Rattle.pgn_game.specs.Game as game
 use Rattle.pgn_game.proofs.refusals.RefusalsByStage.{hit, pass, symbol_rows}
 
 -- The levels.
 
 some_before : (start : Parts) (l : ModelLevel) → is_some (before_last start l) ≡ l.has_own_move
-some_before start l =
-    elim l.has_own_move as (λ b. is_some {T = Parts} (elim b [ true ↦ Some (replayed start (without_last l.trail)) | false ↦ None ]) ≡ b) [ true ↦ refl | false ↦ refl ]
+some_before start l = grind arith
 
 pub holds_is : (old : ReaderState) (part : Part) → IsOpen old part → is_some old.text.levels.present.before ≡ (levels_of_part part).present.has_own_move
-holds_is old part is =
-    ap (λ (ls : StoredLevels). is_some ls.present.before) is.held.levels ∙ some_before (start_of part.pairs) (levels_of_part part).present
+holds_is old part is = grind (arith, some_before)
 
 pub depth_is : (old : ReaderState) (part : Part) → IsOpen old part → length old.text.levels.around ≡ depth (levels_of_part part)
 depth_is old part is =
     cc (length-map (levels_of_part part).around (stored_level (start_of part.pairs)))
 
 pub position_is : (old : ReaderState) (part : Part) → IsOpen old part → old.text.levels.present.present ≡ position_in part
-position_is old part is = ap (λ (ls : StoredLevels). ls.present.present) is.held.levels
+position_is old part is = ap (λ ls. ls.present.present) is.held.levels
 
 -- Symbols.
+
+-- a marker that is at no depth, and no other result there
+pub same_at_zero : (other : Bool) (deep : ℕ) → nat_le 1 deep ≡ false → (other && (deep == 0)) ≡ false → other ≡ false
+same_at_zero other deep shallow same = grind (arith, leb-false)
 
 abbrev pub MoveReading : Type 0
 MoveReading = Option (Result Played SanFault)
@@ -74,16 +75,7 @@ abbrev limited : Bool → Played → Result Played Reason
 limited b one = elim b [ true ↦ Err MoveLimit | false ↦ Ok one ]
 
 found_free : (p : Parts) (r : MoveReading) (played : Played) → found_in p r ≡ Ok played → (refused_as p r ≡ None) × (r ≡ Some (Ok played))
-found_free p (Some (Ok one)) played e = by_limit _ refl
-  where
-    by_limit : (b : Bool) → is_at_limit p ≡ b → (refused_as p (one_move one) ≡ None) × (one_move one ≡ one_move played)
-    by_limit true is = let h : limited true one ≡ Ok played = cc in absurd (cc)
-    by_limit false is =
-        let h : limited false one ≡ Ok played = cc in
-        let k : one ≡ played = cc in
-        (pass _ _ None is, ap one_move k)
-found_free p (Some (Err NoMove)) played e = absurd (cc)
-found_free p _ played e = absurd (cc)
+found_free p r played h3 = grind (arith, pass)
 
 -- a reason of the table is the one that was met
 met : (known reason : Reason) → is_outside_the_table known ≡ false → known ≡ reason → (Some known ≡ Some reason) × (is_outside_the_table reason ≡ false)
@@ -111,30 +103,22 @@ found_at old part s here r is same found = cc (position_is old part is)
 
 pub move_free : (old : ReaderState) (part : Part) (s : List ℕ) (here : Parts) (played : Played) → is_number s ≡ false → is_score s ≡ false → IsOpen old part → here ≡ old.text.levels.present.present
     → Ok played ≡ found_in here (move_of here s) → text_refusal old.profile part (symbol s) ≡ None
-move_free old part s here played number score is same found =
-    move_refusal old.profile part s number score ∙ (found_free (position_in part) (move_of _ s) played (found_at old part s here _ is same found)).0
+move_free old part s here played number score is same found = grind (arith, move_refusal, found_free, found_at)
 
 pub move_refused : (old : ReaderState) (part : Part) (s : List ℕ) (here : Parts) (reason : Reason) → is_number s ≡ false → is_score s ≡ false → IsOpen old part → here ≡ old.text.levels.present.present
     → Err reason ≡ found_in here (move_of here s) → text_refusal old.profile part (symbol s) ≡ Some reason
-move_refused old part s here reason number score is same found =
-    move_refusal old.profile part s number score ∙ (found_refused (position_in part) (move_of _ s) reason (found_at old part s here _ is same found)).0
+move_refused old part s here reason number score is same found = grind (arith, move_refusal, found_refused, found_at)
 
 pub refused_inside : (here : Parts) (s : List ℕ) (reason : Reason) → Err reason ≡ found_in here (move_of here s) → IsFalse (is_outside_the_table reason)
 refused_inside here s reason found = (found_refused here (move_of here s) reason (sym found)).1
 
 pub move_leads : (old : ReaderState) (part : Part) (s : List ℕ) (here : Parts) (played : Played) → is_number s ≡ false → is_score s ≡ false → IsOpen old part → here ≡ old.text.levels.present.present
-    → Ok played ≡ found_in here (move_of here s) → in_text part (symbol s) ≡ going (with_items part (games.move played.mv ∷ []))
-move_leads old part s here played number score is same found =
-    symbol_leads part s false false number score
-    ∙ ap (λ (r : MoveReading). going (with_items part (move_item r))) (found_free (position_in part) _ played (found_at old part s here _ is same found)).1
+    → Ok played ≡ found_in here (move_of here s) → in_text part (symbol s) ≡ going (with_items part (game.move played.mv ∷ []))
+move_leads old part s here played number score is same found = grind (arith, symbol_leads, found_free, found_at)
 
 -- a number is not rejected, and adds no item
-number_rows : (p : Profile) (part : Part) (s : List ℕ) (r : MoveReading) → rows_for p part s true false r ≡ None
-number_rows p part s r = refl
-
 pub number_free : (p : Profile) (part : Part) (s : List ℕ) → is_number s ≡ true → is_score s ≡ false → text_refusal p part (symbol s) ≡ None
-number_free p part s number score =
-    symbol_refusal p part s true false (ap (λ (b : Bool). b || is_score s) number) score ∙ number_rows p part s (move_of (position_in part) s)
+number_free p part s number score = cc
 
 pub number_leads : (part : Part) (s : List ℕ) → is_number s ≡ true → is_score s ≡ false → in_text part (symbol s) ≡ going (with_items part [])
 number_leads part s number score = symbol_leads part s true false number score
@@ -152,17 +136,13 @@ score_of s marker true e h = (refl, cc)
 score_of s marker false e h = absurd (cc)
 
 symbol_marker : (p : Profile) (part : Part) (s marker : List ℕ) → marker_of (symbol s) ≡ Some marker → text_refusal p part (symbol s) ≡ marker_rows p part marker
-symbol_marker p part s marker is =
-    let h = score_of s marker _ refl is in
-    cc (symbol_refusal p part s true true (or_right (is_number s) (is_score s) h.0) h.0)
+symbol_marker p part s marker is = grind (arith, or_right, symbol_refusal, score_of)
 
 asterisk_marker : (p : Profile) (part : Part) (marker : List ℕ) → codes "*" ≡ marker → text_refusal p part asterisk ≡ marker_rows p part marker
 asterisk_marker p part marker e = cc
 
 pub marker_refusal : (p : Profile) (part : Part) (k : Kind) (marker : List ℕ) → marker_of k ≡ Some marker → text_refusal p part k ≡ marker_rows p part marker
-marker_refusal p part asterisk marker is = let e : codes "*" ≡ marker = cc in asterisk_marker p part marker e
-marker_refusal p part (symbol s) marker is = symbol_marker p part s marker is
-marker_refusal p part _ marker is = absurd (cc)
+marker_refusal p part k marker is = grind (arith, symbol_marker, asterisk_marker)
 
 -- whether a marker differs from the value for Result, or else from this text
 abbrev pub differs : List ℕ → Option (List ℕ) → List ℕ → Bool
@@ -189,8 +169,7 @@ marker_differs old k missing marker part is none known test =
 
 pub marker_free : (old : ReaderState) (k : Kind) (missing marker : List ℕ) (part : Part) → marker_of k ≡ Some marker → depth (levels_of_part part) ≡ 0
     → result_for old.profile.missing_result marker ≡ missing → differs missing (value_of part.pairs (codes "Result")) marker ≡ false → text_refusal old.profile part k ≡ None
-marker_free old k missing marker part is none known test =
-    marker_refusal old.profile part k marker is ∙ marker_tested old.profile part missing marker false false (ap (nat_le 1) none) known test
+marker_free old k missing marker part is none known test = grind (arith, marker_refusal, marker_tested)
 
 pub marker_whole : (part : Part) (k : Kind) (marker : List ℕ) → marker_of k ≡ Some marker → in_text part k ≡ whole (game_of part marker)
 marker_whole part k marker is = cc

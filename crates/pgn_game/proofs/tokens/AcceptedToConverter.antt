@@ -1,33 +1,15 @@
 -- One token that the lexer gave, and what the reader answered to it.
-use Rattle.std.proofs.Common.{◌≡◌, ℕ, ◌+◌, ◌*◌, is_some, ◌<◌, ◌≤◌, ◌⊎◌, inl, inr, Bool, false, true, List, [], ◌∷◌, ◌++◌, length, take, drop, Option, None, Some, Result, Ok, Err, refl, sym, ap, subst, ◌∙◌, append_assoc, append-nil, length-append, arith, IsTrue, map, sum, ◌||◌}
-use Rattle.std.proofs.lemmas.List.{take-append-drop, map-append}
 use Rattle.std.proofs.lemmas.List.Sums.{sum_by-append, sum_by-cons}
-use Rattle.std.proofs.lemmas.List.Folds.{list_any-append}
-use Rattle.std.proofs.lemmas.Bool.{or_cases}
-use Rattle.std.proofs.KnownBytes.{Appends-nil}
-use Rattle.std.specs.Io.KnownBytes.{Appends}
 use Rattle.pgn_lexer.specs.declared.token.LexFault.{LexFault}
-use Rattle.pgn_lexer.specs.Tokens.{Token, EndsAt}
-use Rattle.pgn_lexer.specs.TokensOf.{tokens_of}
 use Rattle.pgn_lexer.specs.PartialToken.{refusal as refusal_token}
 use Rattle.pgn_lexer.specs.Scanned.{more, token, fault}
-use Rattle.pgn_lexer.specs.Standing.{Standing, coming, waiting}
-use Rattle.pgn_lexer.specs.Stands.{StandsAfter, Follows, AfterScan, first, still}
-use Rattle.pgn_game.specs.declared.accepted.Accepted.{Accepted}
-use Rattle.pgn_game.specs.declared.accepted.Accepted.TheVariants.{More, Finished}
-use Rattle.pgn_game.proofs.Words.{Reason, Lexical, Fault, Profile, Missing, Game, Part}
-use Rattle.pgn_game.specs.FaultTable.{refusal, position_if_move, position_in}
-use Rattle.pgn_game.specs.Progress.{Next, going, whole, next, Progress, progress_with, progress_after, Read, read, position_at_fault}
-use Rattle.pgn_game.specs.Due.{gain, Gains}
-use Rattle.pgn_game.specs.Levels.{plies_of}
+use Rattle.pgn_game.proofs.Words.{Reason, Lexical, WriteFault, Fault, Profile, Missing, Game, Part, ◌≡◌, ℕ, ◌+◌, ◌*◌, is_some, ◌<◌, ◌≤◌, ◌⊎◌, inl, inr, Bool, false, true, List, [], ◌∷◌, ◌++◌, length, take, drop, Option, None, Some, Result, Ok, Err, refl, sym, ap, subst, ◌∙◌, append_assoc, append-nil, length-append, le_refl, arith, IsTrue, map, sum, ◌||◌, take-append-drop, map-append, list_any-append, or_cases, Appends-nil, Appends, Token, EndsAt, tokens_of, Standing, coming, waiting, StandsAfter, Follows, AfterScan, first, still, Accepted, More, Finished, refusal, position_if_move, position_in, Next, going, whole, next, Progress, progress_with, progress_after, Read, read, position_at_fault, gain, Gains, plies_of, has_move, ReaderState, Agrees, IsKnown, as_written, IsBehind, whole_plies, plies_next, Leads, Answers, AppendsFront, MostTried, Raises, Tries, TriesUnwritten}
 use Rattle.pgn_game.specs.ReaderState as reader_state
-use Rattle.pgn_game.specs.Text.{has_move}
-use Rattle.pgn_game.specs.ReaderState.{ReaderState, Agrees, IsKnown, as_written, IsBehind, whole_plies, plies_next, Leads, Answers}
-use Rattle.pgn_game.specs.ConverterCalls.{FinishedGame, finished_game_of, Converter, game_in_reader, game_in_reader_if, play_moves, has_played_move, HasRead, Stands, Stops, refused, unwritten, StopsWriting, AreNext, games_before, position_at_stop, ProbesAtStop, reported_position}
-use Rattle.pgn_game.specs.ConverterSteps.{SameGames, OneGame, AfterStep, outcome_at, finished_game, games_after, fault_of_step, StepAdvances}
-use Rattle.pgn_game.specs.MostTried.{MostTried, Raises, Tries, TriesUnwritten}
+use Rattle.pgn_game.specs.ConverterCalls.{FinishedGame, finished_game_of, Converter, game_in_reader, game_in_reader_if, play_moves, has_played_move, HasRead, Stands, refused, unwritten, AreNext, reported_position, FedToFault}
+use Rattle.pgn_game.specs.ConverterSteps.{FaultAtEnd, SameGames, OneGame, AfterStep, outcome_at, finished_game, games_after, fault_of_step, StepAdvances}
+use Rattle.pgn_game.specs.Progress.{written, due}
 use Rattle.pgn_game.proofs.tokens.PairsTriedForToken.{most_with, most_to_refused, part_probed, raises_none}
-use Rattle.pgn_game.proofs.tokens.OneMoreToken.{read-passes, read-refuses, due-passes, due-refuses, gains_none, gains_nothing}
+use Rattle.pgn_game.proofs.tokens.OneMoreToken.{read-passes, read-refuses, due-passes, gains_none}
 
 pub follows_first : (xs s : List ℕ) → Follows (first xs) (xs ++ s)
 follows_first [] s = tt
@@ -42,20 +24,16 @@ follows_own (x ∷ xs) = refl
 pub written_known : (p : Profile) → IsKnown p → as_written p ≡ p
 written_known p known = ap (λ (m : Missing). record { tags = p.tags; depth = p.depth; mode = p.mode; missing_result = m }) (sym known)
 
--- what a token leads to, with the games before
-leads_more : (nx : Next) (games : List Game) (r : ReaderState) → Leads nx More r → ((progress_with games nx).games ≡ games) × Agrees r (progress_with games nx).part
-leads_more (going part) games r h = (refl, h)
+-- what a token leads to, with the games before; one that finishes no game counts no move
+leads_more : (nx : Next) (games : List Game) (r : ReaderState) → Leads nx More r
+    → ((progress_with games nx).games ≡ games) × Agrees r (progress_with games nx).part × (plies_next nx ≡ 0)
+leads_more (going part) games r h = (refl, h, refl)
 leads_more (whole g) games r h = absurd h
 
 leads_finished : (nx : Next) (games : List Game) (r : ReaderState) → Leads nx Finished r
     → (g : Game) × ((progress_with games nx).games ≡ games ++ g ∷ []) × Agrees r (progress_with games nx).part × IsBehind r g × (plies_next nx ≡ plies_of g)
 leads_finished (going part) games r h = absurd h
 leads_finished (whole g) games r h = (g, refl, h.agrees, h, refl)
-
--- a token that finishes no game counts no move
-plies_more : (nx : Next) (r : ReaderState) → Leads nx More r → plies_next nx ≡ 0
-plies_more (going part) r h = refl
-plies_more (whole g) r h = absurd h
 
 -- what the reader still holds of the game that it is behind
 finished_behind : (r : ReaderState) (g : Game) → IsBehind r g → game_in_reader r ≡ finished_game_of g
@@ -77,9 +55,6 @@ moves-snoc games g h =
     only : (b : Bool) → (b || false) ≡ true → b ≡ true
     only true e = refl
     only false e = absurd (cc)
-
-length-snoc : (games : List Game) (g : Game) → length (games ++ g ∷ []) ≡ length games + 1
-length-snoc games g = length-append games (g ∷ [])
 
 -- a converter after a step
 abbrev pub stepped : Standing → ReaderState → ℕ → Bool → Result (Option Accepted) Fault → Converter
@@ -140,8 +115,7 @@ module _ (p : Profile) (old : Converter) (given : List Token) (t : Token) (l : S
   has_read_more h leads plies tries =
       let more = leads_more (next b.part t.kind) b.games new leads in
       let same = same_games h leads in
-      let none = plies_more (next b.part t.kind) new leads in
-      let total : whole_plies new ≡ whole_plies old.reading = omega (arith, plies, none) in
+      let total : whole_plies new ≡ whole_plies old.reading = omega (arith, plies, more.2) in
       let agrees : Agrees new (read p (given ++ t ∷ [])).progress.part = subst (λ (r : Read). Agrees new r.progress.part) (sym (reads h)) more.1 in
       record {
         profile = profile ∙ has_read.profile;
@@ -177,9 +151,8 @@ module _ (p : Profile) (old : Converter) (given : List Token) (t : Token) (l : S
         no_fault = refl;
         passes = ap (λ (r : Read). r.fault) (reads h);
         agrees = agrees;
-        games = ap (λ n. n + 1) has_read.games ∙ sym (ap (length {A = Game}) one ∙ length-snoc b.games g);
-        plies = plies ∙ ap (λ n. n + plies_next (next b.part t.kind)) has_read.plies ∙ ap (λ n. sum (map plies_of b.games) + n) done.4
-            ∙ sym (ap (λ games. sum (map plies_of games)) one ∙ plies-snoc b.games g);
+        games = ap (λ n. n + 1) has_read.games ∙ sym (ap (length {A = Game}) one ∙ length-append b.games (g ∷ []));
+        plies = cc (plies, has_read.plies, done.4, one, plies-snoc b.games g);
         probed = in_either new (read p (given ++ t ∷ [])).progress agrees
             (λ moves. elim (moves-snoc b.games g (subst (λ games. IsTrue (play_moves games)) one moves)) [
               | inl before ↦ probed_before (in_games b before)
@@ -190,35 +163,22 @@ module _ (p : Profile) (old : Converter) (given : List Token) (t : Token) (l : S
       }
 
   -- the token is rejected
-  pub stops_refused : (us : List Token) (a c : Option (List ℕ)) (reason : Reason) → refusal old.reading.profile b.part t.kind ≡ Some reason → Appends a c []
-      → Stops p given (given ++ t ∷ us) a c (record { at = t.at; reason = reason })
-  stops_refused us a c reason h wrote =
+  pub at_refused : (us : List Token) (a c : Option (List ℕ)) (reason : Reason) → refusal old.reading.profile b.part t.kind ≡ Some reason → Appends a c []
+      → Raises (Tries old.reading.profile b.part t.kind) old.reading.most_probes new.most_probes → reported_position new reason ≡ position_if_move reason (position_in b.part)
+      → FaultAtEnd p given (given ++ t ∷ us) (record { at = t.at; reason = reason }) new a c
+  at_refused us a c reason h wrote tries here =
       let some = subst (λ q. refusal q b.part t.kind ≡ Some reason) has_read.profile h in
-      refused (record { at = t.at; reason = reason }) (ap (λ (r : Read). r.fault) (read-refuses p given t us reason has_read.passes some))
-      (gains_nothing p given (given ++ t ∷ us) a c (due-refuses p given t us reason has_read.passes some) wrote)
-
-  pub none_before_refused : (us : List Token) (a c : Option (List ℕ)) (reason : Reason) (h : refusal old.reading.profile b.part t.kind ≡ Some reason) (wrote : Appends a c [])
-      → games_before (stops_refused us a c reason h wrote) ≡ b.games
-  unfolding stops_refused
-  none_before_refused us a c reason h wrote =
-      ap (λ (r : Read). r.progress.games) (read-refuses p given t us reason has_read.passes (subst (λ q. refusal q b.part t.kind ≡ Some reason) has_read.profile h))
-
-  pub count_at_refused : (us : List Token) (a c : Option (List ℕ)) (reason : Reason) (h : refusal old.reading.profile b.part t.kind ≡ Some reason) (wrote : Appends a c [])
-      → Raises (Tries old.reading.profile b.part t.kind) old.reading.most_probes new.most_probes → ProbesAtStop (stops_refused us a c reason h wrote) new.most_probes
-  unfolding stops_refused
-  count_at_refused us a c reason h wrote tries =
-      let some = subst (λ q. refusal q b.part t.kind ≡ Some reason) has_read.profile h in
+      let ends = read-refuses p given t us reason has_read.passes some in
       record {
-        tried = most_to_refused p given t us reason old.reading.most_probes new.most_probes has_read.tried has_read.passes some (raised tries);
-        probed = λ moves. probed_before (subst (λ (r : Read). IsTrue (has_played_move r.progress)) (read-refuses p given t us reason has_read.passes some) moves);
+        stops = refused (record { at = t.at; reason = reason }) (ap (λ (r : Read). r.fault) ends)
+            (record { text = []; due_for = ap (λ (r : Read). written p r.progress) ends ∙ sym (append-nil (due p given)); appended = wrote });
+        no_game = ap (λ (r : Read). r.progress.games) ends;
+        counts = record {
+          tried = most_to_refused p given t us reason old.reading.most_probes new.most_probes has_read.tried has_read.passes some (raised tries);
+          probed = λ moves. probed_before (subst (λ (r : Read). IsTrue (has_played_move r.progress)) ends moves);
+        };
+        position = here ∙ sym (ap position_at_fault ends);
       }
-
-  pub position_at_refused : (us : List Token) (a c : Option (List ℕ)) (reason : Reason) (h : refusal old.reading.profile b.part t.kind ≡ Some reason) (wrote : Appends a c [])
-      → reported_position new reason ≡ position_if_move reason (position_in b.part) → reported_position new reason ≡ position_at_stop (stops_refused us a c reason h wrote)
-  unfolding stops_refused
-  position_at_refused us a c reason h wrote here =
-      let some = subst (λ q. refusal q b.part t.kind ≡ Some reason) has_read.profile h in
-      here ∙ sym (ap position_at_fault (read-refuses p given t us reason has_read.passes some))
 
   -- what is written is the profile's
   module _ (written : as_written old.reading.profile ≡ old.reading.profile) where
@@ -234,53 +194,49 @@ module _ (p : Profile) (old : Converter) (given : List Token) (t : Token) (l : S
         }
 
     -- a write failed
-    pub writing : (us : List Token) (a c : Option (List ℕ)) → refusal old.reading.profile b.part t.kind ≡ None
-        → (n : ℕ) × (n < length (gain (as_written old.reading.profile) b.part t.kind)) × Appends a c (take n (gain (as_written old.reading.profile) b.part t.kind))
-        → StopsWriting p given (given ++ t ∷ us) t.at a c
-    writing us a c h (n, short, wrote) =
-        record {
-          front = given;
-          token = t;
-          rest = us;
-          cut = refl;
-          place = refl;
-          passes = ap (λ (r : Read). r.fault) (reads h);
-          text = gain p b.part t.kind;
-          due_for = due-passes p given t has_read.passes (passes h);
-          count = n;
-          least = omega arith;
-          short = subst (λ q. n < length (gain q b.part t.kind)) shown short;
-          appended = subst (λ q. Appends a c (take n (gain q b.part t.kind))) shown wrote;
-        }
-
-    pub none_before_unwritten : (us : List Token) (a c : Option (List ℕ)) (h : refusal old.reading.profile b.part t.kind ≡ None)
-        (wrote : (n : ℕ) × (n < length (gain (as_written old.reading.profile) b.part t.kind)) × Appends a c (take n (gain (as_written old.reading.profile) b.part t.kind)))
-        → games_before (unwritten t.at (writing us a c h wrote)) ≡ b.games
-    unfolding writing
-    none_before_unwritten us a c h (n, short, wrote) = refl
-
-    pub count_at_unwritten : (us : List Token) (a c : Option (List ℕ)) (h : refusal old.reading.profile b.part t.kind ≡ None)
-        (wrote : (n : ℕ) × (n < length (gain (as_written old.reading.profile) b.part t.kind)) × Appends a c (take n (gain (as_written old.reading.profile) b.part t.kind)))
+    pub at_unwritten : (us : List Token) (a c : Option (List ℕ)) → refusal old.reading.profile b.part t.kind ≡ None
+        → AppendsFront a c (gain (as_written old.reading.profile) b.part t.kind)
         → Raises (TriesUnwritten old.reading.profile b.part t.kind) old.reading.most_probes new.most_probes
-        → ProbesAtStop (unwritten t.at (writing us a c h wrote)) new.most_probes
-    unfolding writing
-    count_at_unwritten us a c h (n, short, wrote) tries =
+        → FaultAtEnd p given (given ++ t ∷ us) (record { at = t.at; reason = WriteFault }) new a c
+    at_unwritten us a c h (n, short, wrote) tries =
         record {
-          tried = (
-            old.reading.most_probes,
-            has_read.tried,
-            subst (λ q. Raises (TriesUnwritten q b.part t.kind) old.reading.most_probes new.most_probes) has_read.profile tries,
-          );
-          probed = probed_before;
+          stops = unwritten t.at (record {
+            front = given;
+            token = t;
+            rest = us;
+            cut = refl;
+            place = refl;
+            passes = ap (λ (r : Read). r.fault) (reads h);
+            text = gain p b.part t.kind;
+            due_for = due-passes p given t has_read.passes (passes h);
+            count = n;
+            least = omega arith;
+            short = subst (λ q. n < length (gain q b.part t.kind)) shown short;
+            appended = subst (λ q. Appends a c (take n (gain q b.part t.kind))) shown wrote;
+          });
+          no_game = refl;
+          counts = record {
+            tried = (
+              old.reading.most_probes,
+              has_read.tried,
+              subst (λ q. Raises (TriesUnwritten q b.part t.kind) old.reading.most_probes new.most_probes) has_read.profile tries,
+            );
+            probed = probed_before;
+          };
+          position = refl;
         }
+
+    pub at_fault : (us : List Token) (a c : Option (List ℕ)) (why : Reason) → Answers old.reading b.part t.kind new (Err why) a c
+        → FaultAtEnd p given (given ++ t ∷ us) (record { at = t.at; reason = why }) new a c
+    at_fault us a c why (reader_state.refused reason some wrote tries here) = at_refused us a c reason some wrote tries here
+    at_fault us a c why (reader_state.unwritten none wrote tries) = at_unwritten us a c none wrote tries
 
 -- a text that goes on behind the bytes used goes on behind the piece
 next_in_piece : (l : Standing) (u piece : List ℕ) (used : ℕ) (given : List Token) → StandsAfter l (u ++ take used piece) (first (drop used piece)) given → AreNext (u ++ piece) None given
 next_in_piece l u piece used given stands s follows =
     let rest = drop used piece in
     let whole : (u ++ piece) ++ s ≡ (u ++ take used piece) ++ (rest ++ s) =
-    ap (λ xs. (u ++ xs) ++ s) (sym (take-append-drop used piece)) ∙ ap (λ xs. xs ++ s) (sym (append_assoc u (take used piece) rest))
-    ∙ append_assoc (u ++ take used piece) rest s in
+    cc (take-append-drop used piece, append_assoc u (take used piece) rest, append_assoc (u ++ take used piece) rest s) in
     (coming l (rest ++ s), ap tokens_of whole ∙ stands.tokens (rest ++ s) (follows_first rest s))
 
 pub still_none : (b : Option ℕ) (piece : List ℕ) → 0 < length piece → still b piece ≡ None
@@ -290,6 +246,12 @@ still_none b (x ∷ xs) h = refl
 pub still_none-none : (piece : List ℕ) → still None piece ≡ None
 still_none-none [] = refl
 still_none-none (x ∷ xs) = refl
+
+-- the tokens at fault are those of the piece
+fed_to : (p : Profile) (u : List ℕ) (given ts : List Token) (piece : List ℕ) (f : Fault) (reading : ReaderState) (a c : Option (List ℕ)) → AreNext (u ++ piece) (still None piece) ts
+    → FaultAtEnd p given ts f reading a c → FedToFault p u None given piece f reading a c
+fed_to p u given ts piece f reading a c next to =
+    record { fed = record { tokens = ts; next = next; stops = to.stops }; no_game = to.no_game; counts = to.counts; position = to.position }
 
 -- What the reader answers to a token of the piece.
 pub took : (p : Profile) (old : Converter) (u : List ℕ) (given : List Token) (piece : List ℕ) (used : ℕ) (t : Token) (l : Standing) (new : ReaderState) (finished : Bool)
@@ -318,28 +280,10 @@ took p old u given piece used t l new finished a c (Ok Finished) stands scan end
       },
       (one.0, one.1, ap (λ (finished : FinishedGame). Some finished) one.2),
     )
-took p old u given piece used t l new finished a c (Err why) stands scan ends count profile probes written (reader_state.refused reason some wrote tries here) =
-    record {
-      fed = record {
-        tokens = given ++ t ∷ [];
-        next = subst (λ b. AreNext (u ++ piece) b (given ++ t ∷ [])) (sym (still_none-none piece)) (next_in_piece l u piece used (given ++ t ∷ []) scan.0);
-        stops = stops_refused p old given t l new finished stands.has_read profile probes [] a c reason some wrote;
-      };
-      no_game = none_before_refused p old given t l new finished stands.has_read profile probes [] a c reason some wrote;
-      counts = count_at_refused p old given t l new finished stands.has_read profile probes [] a c reason some wrote tries;
-      position = position_at_refused p old given t l new finished stands.has_read profile probes [] a c reason some wrote here;
-    }
-took p old u given piece used t l new finished a c (Err why) stands scan ends count profile probes written (reader_state.unwritten none wrote tries) =
-    record {
-      fed = record {
-        tokens = given ++ t ∷ [];
-        next = subst (λ b. AreNext (u ++ piece) b (given ++ t ∷ [])) (sym (still_none-none piece)) (next_in_piece l u piece used (given ++ t ∷ []) scan.0);
-        stops = unwritten t.at (writing p old given t l new finished stands.has_read profile probes written [] a c none wrote);
-      };
-      no_game = none_before_unwritten p old given t l new finished stands.has_read profile probes written [] a c none wrote;
-      counts = count_at_unwritten p old given t l new finished stands.has_read profile probes written [] a c none wrote tries;
-      position = refl;
-    }
+took p old u given piece used t l new finished a c (Err why) stands scan ends count profile probes written stopped =
+    fed_to p u given (given ++ t ∷ []) piece _ new a c
+    (subst (λ b. AreNext (u ++ piece) b (given ++ t ∷ [])) (sym (still_none-none piece)) (next_in_piece l u piece used (given ++ t ∷ []) scan.0))
+    (at_fault p old given t l new finished stands.has_read profile probes written [] a c why stopped)
 
 -- no token in the piece
 pub took_none : (p : Profile) (old : Converter) (u : List ℕ) (given : List Token) (piece : List ℕ) (used : ℕ) (l : Standing) (o : Option (List ℕ)) → 0 < length piece
@@ -361,57 +305,25 @@ pub lexical-refusal : (p : Profile) (part : Part) (f : LexFault) → refusal p p
 unfolding refusal
 lexical-refusal p part f = refl
 
-pub stops_lexical : (p : Profile) (given : List Token) (f : LexFault) (o : Option (List ℕ)) → (read p given).fault ≡ None
-    → Stops p given (given ++ refusal_token f ∷ []) o o (record { at = f.at; reason = Lexical f.reason })
-stops_lexical p given f o passes =
-    let some = lexical-refusal p (read p given).progress.part f in
-    refused (record { at = f.at; reason = Lexical f.reason }) (ap (λ (r : Read). r.fault) (read-refuses p given (refusal_token f) [] (Lexical f.reason) passes some))
-    (gains_nothing p given (given ++ refusal_token f ∷ []) o o (due-refuses p given (refusal_token f) [] (Lexical f.reason) passes some) (Appends-nil o))
-
-pub none_before_lexical : (p : Profile) (given : List Token) (f : LexFault) (o : Option (List ℕ)) (passes : (read p given).fault ≡ None)
-    → games_before (stops_lexical p given f o passes) ≡ (read p given).progress.games
-unfolding stops_lexical
-none_before_lexical p given f o passes =
-    ap (λ (r : Read). r.progress.games) (read-refuses p given (refusal_token f) [] (Lexical f.reason) passes (lexical-refusal p (read p given).progress.part f))
-
--- a rejection of the lexer tries no pair
-pub count_at_lexical : (p : Profile) (old : Converter) (given : List Token) (f : LexFault) (o : Option (List ℕ)) (has_read : HasRead p old given)
-    → ProbesAtStop (stops_lexical p given f o has_read.passes) old.reading.most_probes
-unfolding stops_lexical
-count_at_lexical p old given f o has_read =
-    let b = (read p given).progress in
-    let some = lexical-refusal p b.part f in
-    record {
-      tried = most_to_refused p given (refusal_token f) [] (Lexical f.reason) old.reading.most_probes old.reading.most_probes has_read.tried has_read.passes some
-          (raises_none p b.part f.reason (Lexical f.reason) old.reading.most_probes some);
-      probed = λ moves. has_read.probed
-          (subst (λ (r : Read). IsTrue (has_played_move r.progress)) (read-refuses p given (refusal_token f) [] (Lexical f.reason) has_read.passes some) moves);
-    }
-
--- and rejects no move
-pub position_at_lexical : (p : Profile) (given : List Token) (f : LexFault) (o : Option (List ℕ)) (passes : (read p given).fault ≡ None)
-    → None ≡ position_at_stop (stops_lexical p given f o passes)
-unfolding stops_lexical
-position_at_lexical p given f o passes =
-    sym (ap position_at_fault (read-refuses p given (refusal_token f) [] (Lexical f.reason) passes (lexical-refusal p (read p given).progress.part f)))
+-- it tries no pair, and rejects no move
+pub at_lexical : (p : Profile) (old : Converter) (given : List Token) (f : LexFault) (reading : ReaderState) (o : Option (List ℕ)) → HasRead p old given → reading ≡ old.reading
+    → FaultAtEnd p given (given ++ refusal_token f ∷ []) (record { at = f.at; reason = Lexical f.reason }) reading o o
+at_lexical p old given f reading o has_read same =
+    let part = (read p given).progress.part in
+    let some = lexical-refusal old.reading.profile part f in
+    subst (λ (r : ReaderState). FaultAtEnd p given (given ++ refusal_token f ∷ []) (record { at = f.at; reason = Lexical f.reason }) r o o) (sym same)
+    (at_refused p old given (refusal_token f) old.lexer old.reading false has_read refl (le_refl old.reading.most_probes) [] o o (Lexical f.reason) some (Appends-nil o)
+    (raises_none old.reading.profile part f.reason (Lexical f.reason) old.reading.most_probes some) refl)
 
 pub took_fault : (p : Profile) (old : Converter) (u : List ℕ) (given : List Token) (piece : List ℕ) (used : ℕ) (f : LexFault) (l : Standing) (new : Converter) (o : Option (List ℕ)) → 0 < length piece
     → Stands p old u (first piece) given → AfterScan u (first piece) given piece l used (fault f)
     → new.reading ≡ old.reading → AfterStep p u given piece new used (Err (record { at = f.at; reason = Lexical f.reason })) o o
 took_fault p old u given piece used f l new o some stands scan same =
-    record {
-      fed = record {
-        tokens = given ++ refusal_token f ∷ [];
-        next = λ s follows.
-            let rest = subst (λ b. Follows b s) (still_none-none piece ∙ sym (still_none (first piece) piece some)) follows in
-            ([], scan.0 s rest ∙ sym (append-nil (given ++ refusal_token f ∷ [])));
-        stops = stops_lexical p given f o stands.has_read.passes;
-      };
-      no_game = none_before_lexical p given f o stands.has_read.passes;
-      counts = subst (λ (r : ReaderState). ProbesAtStop (stops_lexical p given f o stands.has_read.passes) r.most_probes) (sym same)
-          (count_at_lexical p old given f o stands.has_read);
-      position = position_at_lexical p given f o stands.has_read.passes;
-    }
+    fed_to p u given (given ++ refusal_token f ∷ []) piece _ new.reading o o
+    (λ s follows.
+    let rest = subst (λ b. Follows b s) (still_none-none piece ∙ sym (still_none (first piece) piece some)) follows in
+    ([], scan.0 s rest ∙ sym (append-nil (given ++ refusal_token f ∷ []))))
+    (at_lexical p old given f new.reading o stands.has_read same)
 
 -- a game is just finished after a step where the step finished one
 pub is_some_held : (b : Bool) (reading : ReaderState) → is_some (game_in_reader_if b reading) ≡ b

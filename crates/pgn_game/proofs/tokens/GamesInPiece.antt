@@ -1,18 +1,9 @@
 -- Games in turn in a piece.
 use Rattle.std.proofs.Common.{◌≡◌, ℕ, ◌+◌, ◌^◌, ◌<◌, ◌≤◌, List, [], ◌∷◌, ◌++◌, length, take, drop, Option, None, refl, sym, ap, subst, ◌∙◌, inl, append-nil, append_assoc, take_all, length-drop, arith}
-use Rattle.std.proofs.lemmas.List.{take-append-drop, drop-drop}
-use Rattle.pgn_lexer.specs.Decided.{decided}
-use Rattle.pgn_lexer.specs.Stands.{IsDecided, first, still}
-use Rattle.pgn_game.proofs.Words.{Token, Fault, Profile}
-use Rattle.pgn_game.specs.ConverterCalls.{Converter, Stands, AreNext, FedAll, FedGame, FedToFault, FedFault, FedWhole, ReadsUpTo, StopsIn, at_token, too_long}
-use Rattle.pgn_game.specs.ConverterSteps.{AllSoFar}
+use Rattle.pgn_game.proofs.Words.{Token, Fault, Profile, take-append-drop, drop-drop, decided, IsDecided, first, still, Converter, Stands, AreNext, FedAll, FedGame, FedToFault, FedFault, FedWhole, ReadsUpTo, StopsIn, at_token, too_long, AllSoFar}
 use Rattle.pgn_game.proofs.tokens.OneMoreToken.{gains_none, gains_more, stops_more}
 use Rattle.pgn_game.proofs.tokens.AcceptedToConverter.{still_none-none}
 use Rattle.pgn_game.proofs.tokens.StepsInPiece.{further, whole_piece, decided_at_end, stands_before_any}
-
--- what is decided before a piece
-decided_here : (u piece : List ℕ) (ts : List Token) → ts ≡ decided u → IsDecided (u ++ take 0 piece) (drop 0 piece) ts
-decided_here u piece ts e = inl (e ∙ ap decided (sym (append-nil u)))
 
 pub all_none : (p : Profile) (old : Converter) (u : List ℕ) (given : List Token) (piece : List ℕ) (o : Option (List ℕ)) → Stands p old u None given → given ≡ decided u
     → AllSoFar p u given piece 0 old o o
@@ -21,7 +12,7 @@ all_none p old u given piece o stands is_decided =
       tokens = given;
       stands = subst (λ xs. Stands p old xs (first piece) given) (sym (append-nil u)) (stands_before_any p old u (first piece) given stands);
       at_limit = λ h. is_decided ∙ ap decided (sym (append-nil u));
-      decided = decided_here u piece given is_decided;
+      decided = inl (is_decided ∙ ap decided (sym (append-nil u)));
       gains = gains_none p given o;
     }
 

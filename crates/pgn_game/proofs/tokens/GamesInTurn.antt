@@ -1,22 +1,11 @@
 -- Games read in turn from a source.
-use Rattle.std.proofs.Common.{◌≡◌, ℕ, ◌+◌, ◌^◌, ◌<◌, ◌≤◌, Bool, true, false, List, [], ◌∷◌, ◌++◌, length, take, drop, Option, None, Some, Result, Ok, Err, refl, sym, ap, subst, ◌∙◌, inl, inr, ◌⊎◌, append-nil, append_assoc, length-append, arith}
 use Rattle.std.specs.Prelude.{IsTrue, is_ok}
-use Rattle.std.proofs.lemmas.List.{take-append-drop}
-use Rattle.std.proofs.KnownBytes.{Consumes-nil, Consumes-trans}
 use Rattle.std.specs.Io.KnownBytes.{Consumes, Keeps, IsAtEnd}
-use Rattle.pgn_lexer.specs.TokensOf.{tokens_of}
-use Rattle.pgn_lexer.specs.Decided.{decided}
-use Rattle.pgn_lexer.specs.Standing.{Standing, coming}
-use Rattle.pgn_lexer.specs.Stands.{IsDecided, first}
-use Rattle.pgn_game.proofs.Words.{Token, ReadFault, Reason, Fault, Profile, Game, no_part}
-use Rattle.pgn_game.specs.FaultTable.{refusal}
+use Rattle.pgn_game.proofs.Words.{Token, ReadFault, Reason, Fault, Profile, Game, no_part, ◌≡◌, ℕ, ◌^◌, ◌≤◌, Bool, true, false, List, [], ◌∷◌, ◌++◌, length, take, drop, Option, None, Some, Result, Ok, Err, refl, sym, ap, subst, ◌∙◌, inl, inr, append-nil, append_assoc, length-append, arith, take-append-drop, Consumes-nil, Consumes-trans, tokens_of, decided, coming, IsDecided, first, refusal, Gains, Games, games_of, ReadsOn, HasReadAll, HaveRead, within, at_end, NextGame, NoGame, StopsAtEnd, NextStops, AfterNext, NextSoFar}
 use Rattle.pgn_game.specs.Text.{text_of}
 use Rattle.pgn_game.specs.Progress.{Next, going, whole, next, Progress, progress_with, no_progress, Read, read, read_from, written, due}
-use Rattle.pgn_game.specs.Due.{Gains}
 use Rattle.pgn_game.specs.ConverterCalls.{Converter, finished_game_of, IsLast, HasRead, Stands, AreNext, FedAll, FedGame, FedToFault, StopsIn, at_token, too_long, AfterFinish, Finishes, FinishesToFault}
-use Rattle.pgn_game.specs.GamesCalls as games
-use Rattle.pgn_game.specs.GamesCalls.{Games, games_of, ReadsOn, HasReadAll, HaveRead, within, at_end, NextGame, NoGame, StopsAtToken, StopsAtEnd, ReadsNoGame, NextStops, AfterNext}
-use Rattle.pgn_game.specs.GamesSteps.{NextSoFar}
+use Rattle.pgn_game.specs.GamesCalls as games_calls
 use Rattle.pgn_game.proofs.tokens.OneMoreToken.{read-passes, read-refuses, stops_from, torn-none, gains_none, gains_more, stops_more, games_still, counts_still}
 use Rattle.pgn_game.proofs.tokens.StepsInPiece.{decided_at_end, stands_before_any}
 use Rattle.pgn_game.proofs.tokens.GamesInPiece.{behind_first}
@@ -42,8 +31,7 @@ passes_before p ts us passes = by_fault (read p ts).fault refl
 -- between games all that is due is the text of games
 pub due_between : (p : Profile) (b : Progress) → b.part ≡ no_part → written p b ≡ text_of p b.games
 due_between p b none =
-    ap (λ part. written p (record { games = b.games; part = part })) none
-    ∙ ap (λ l. text_of p b.games ++ l) (torn-none p.missing_result p.mode) ∙ append-nil (text_of p b.games)
+    cc (none, torn-none p.missing_result p.mode, append-nil (text_of p b.games))
 
 pub not_one_more : (gs : List Game) (g : Game) → gs ≡ gs ++ g ∷ [] → ⊥
 not_one_more gs g e = absurd (omega (arith, ap (length {A = Game}) e, length-append gs (g ∷ [])))
@@ -69,9 +57,6 @@ none_behind p ts t g passes one = by_test (refusal p (read p ts).progress.part t
 
 -- ---- one call
 
-not_both : {b : Bool} → b ≡ true → b ≡ false → ⊥
-not_both h k = cc
-
 pub none_yet : (p : Profile) (u : List ℕ) (given : List Token) (left : Option (List ℕ)) (now : Games) (o : Option (List ℕ)) → HaveRead p left u now given
     → now.converter.is_finished ≡ false → NextSoFar p u given left left now o o
 none_yet p u given left now o (within on) not_finished =
@@ -83,12 +68,12 @@ none_yet p u given left now o (within on) not_finished =
       no_game = refl;
       gains = gains_none p given o;
     }
-none_yet p u given left now o (at_end all) not_finished = absurd (not_both all.finished not_finished)
+none_yet p u given left now o (at_end all) not_finished = absurd (cc (all.finished))
 
 -- what a call at the end finds
 pub at_end_again : (p : Profile) (u : List ℕ) (given : List Token) (left : Option (List ℕ)) (now : Games) (new : Converter) (o : Option (List ℕ)) → HaveRead p left u now given
     → now.converter.is_finished ≡ true → new ≡ record now.converter { just_finished = None } → NoGame p u given left left (games_of new now.unused) o o
-at_end_again p u given left now new o (within on) finished is = absurd (not_both finished on.not_finished)
+at_end_again p u given left now new o (within on) finished is = absurd (cc (on.not_finished))
 at_end_again p u given left now new o (at_end all) finished is =
     let text : tokens_of (u ++ []) ≡ given = ap tokens_of (append-nil u) ∙ sym all.whole in
     record {
@@ -142,8 +127,7 @@ module _ (p : Profile) (u : List ℕ) (given : List Token) (left_old left : Opti
         tokens = ts;
         have_read = within (record {
           used = so.reads_on.used ++ take used now.unused;
-          bytes = so.reads_on.bytes ∙ ap (λ xs. so.reads_on.used ++ xs) (sym (take-append-drop used now.unused))
-              ∙ sym (append_assoc so.reads_on.used (take used now.unused) (drop used now.unused));
+          bytes = cc (so.reads_on.bytes, take-append-drop used now.unused, append_assoc so.reads_on.used (take used now.unused) (drop used now.unused));
           stands = fed.stands;
           at_limit = fed.at_limit;
           decided = fed.decided;
@@ -186,7 +170,7 @@ module _ (p : Profile) (u : List ℕ) (given : List Token) (left_old left : Opti
       (λ front. (n : Converter) × FedAll p so.reads_on.used (first now.unused) so.tokens front n c d × (new.reading ≡ n.reading)) f
       → NextStops p u given left_old left new.reading.most_probes a d f
   rest_stops new f (at_token h to) =
-      games.at_token h so.more so.consumed (record {
+      games_calls.at_token h so.more so.consumed (record {
         tokens = to.fed.tokens;
         next = subst (λ xs. AreNext xs None to.fed.tokens) (sym so.reads_on.bytes)
             (subst (λ n. AreNext (so.reads_on.used ++ now.unused) n to.fed.tokens) (behind_first now.unused) to.fed.next);
@@ -197,7 +181,7 @@ module _ (p : Profile) (u : List ℕ) (given : List Token) (left_old left : Opti
   rest_stops new f (too_long front rest cut place some (n, fed, same)) =
       let full : front ≡ [] → so.tokens ≡ decided so.reads_on.used =
       λ none. so.reads_on.at_limit (ap (length {A = ℕ}) (sym (ap (λ xs. so.reads_on.used ++ xs) none ∙ append-nil so.reads_on.used)) ∙ place) in
-      games.too_long so.more (so.reads_on.used ++ front) rest so.consumed
+      games_calls.too_long so.more (so.reads_on.used ++ front) rest so.consumed
       (so.reads_on.bytes ∙ ap (λ xs. so.reads_on.used ++ xs) cut ∙ sym (append_assoc so.reads_on.used front rest)) place some (record {
         reads = record {
           tokens = fed.tokens;
@@ -238,7 +222,7 @@ module _ (p : Profile) (u : List ℕ) (given : List Token) (left_old left left_n
   unread f most keeps is =
       let place : now.lexer.count ≡ length (u ++ so.more) = so.reads_on.stands.lexer.count ∙ ap (length {A = ℕ}) (sym all_used) in
       subst (NextStops p u given left_old left_new most a c) (sym (is ∙ ap (λ n. record { at = n; reason = ReadFault }) place))
-      (games.unread so.more (keeps_consumed left_old left left_new so.more so.consumed keeps) (record {
+      (games_calls.unread so.more (keeps_consumed left_old left left_new so.more so.consumed keeps) (record {
         reads = record {
           tokens = so.tokens;
           decided = decided_at_end so.reads_on.used so.tokens so.reads_on.decided ∙ ap decided (sym all_used);
@@ -266,9 +250,6 @@ module _ (p : Profile) (u : List ℕ) (given : List Token) (left_old left left_n
         → AfterNext p u given left_old left_new (games_of new []) (Ok is_game) a d
     ended is_game fed finished few = by_game is_game refl adds
       where
-        ts : List Token
-        ts = tokens_of (u ++ so.more)
-
         text : tokens_of so.reads_on.used ≡ tokens_of (u ++ so.more)
         text = ap tokens_of (sym all_used)
 
@@ -331,7 +312,7 @@ module _ (p : Profile) (u : List ℕ) (given : List Token) (left_old left left_n
     ended_at_fault : (f : Fault) → FinishesToFault p so.reads_on.used so.tokens new f c d
         → NextStops p u given left_old left_new new.reading.most_probes a d f
     ended_at_fault f fed =
-        games.at_end f so.more all end (subst (λ xs. StopsAtEnd p xs given new.reading.most_probes f a d) (sym all_used) (record {
+        games_calls.at_end f so.more all end (subst (λ xs. StopsAtEnd p xs given new.reading.most_probes f a d) (sym all_used) (record {
           stops = stops_more p given so.tokens (tokens_of so.reads_on.used) f a c d so.gains fed.stops;
           no_game = games_still p given so.tokens (tokens_of so.reads_on.used) f a c d so.gains fed.stops ∙ fed.no_game ∙ so.no_game;
           counts = counts_still p given so.tokens (tokens_of so.reads_on.used) f a c d so.gains fed.stops new.reading.most_probes fed.counts;

@@ -1,22 +1,11 @@
 -- Calls of `next` one after another.
-use Rattle.std.proofs.Common.{◌≡◌, ℕ, ◌∷◌, ◌++◌, true, false, List, [], length, map, sum, Option, None, Some, Ok, Err, refl, sym, ap, subst, ◌∙◌}
-use Rattle.std.proofs.KnownBytes.{Consumes-nil, Consumes-trans}
 use Rattle.std.proofs.lemmas.List.{append_assoc, append-nil, map-append, length-map}
-use Rattle.std.specs.Io.KnownBytes.{Appends, Consumes}
 use Rattle.std.specs.Prelude.{IfSome}
-use Rattle.pgn_lexer.specs.Standing.{coming}
-use Rattle.pgn_lexer.specs.Stands.{Follows, first}
-use Rattle.pgn_lexer.specs.Tokens.{Token}
-use Rattle.pgn_lexer.specs.TokensOf.{tokens_of}
-use Rattle.pgn_game.proofs.Words.{Profile, Game}
-use Rattle.pgn_game.specs.Levels.{plies_of}
-use Rattle.pgn_game.specs.Progress.{read, totals}
-use Rattle.pgn_game.specs.ConverterCalls.{FinishedGame, finished_game_of}
-use Rattle.pgn_game.specs.GamesCalls as calls
-use Rattle.pgn_game.specs.GamesCalls.{Games, HaveRead, ReadSoFar, NextGame}
-use Rattle.pgn_game.specs.GamesRestart.{games_read}
-use Rattle.pgn_game.specs.GamesJoined as joined
+use Rattle.pgn_game.proofs.Words.{Profile, Game, ◌≡◌, ℕ, ◌∷◌, ◌++◌, true, false, List, [], length, map, sum, Option, None, Some, Ok, Err, refl, sym, ap, subst, ◌∙◌, Consumes-nil, Consumes-trans, Appends, Consumes, coming, first, Token, tokens_of, plies_of, read, totals, FinishedGame, finished_game_of, Games, HaveRead, ReadSoFar, NextGame, games_read}
+use Rattle.pgn_game.specs.GamesCalls as games_calls
+use Rattle.pgn_game.specs.GamesJoined as games_joined
 use Rattle.pgn_game.specs.GamesJoined.{TakesGames, GamesJoin}
+use Rattle.pgn_game.proofs.tokens.AcceptedToConverter.{follows_first}
 use Rattle.pgn_game.proofs.tokens.OneMoreToken.{gains_none, gains_more}
 use Rattle.pgn_game.proofs.tokens.WholeInput.{games_stop, verdict_passes, appended, known_left, known_whole}
 
@@ -31,21 +20,15 @@ plies_taken : (games : List Game) → map (λ (game : FinishedGame). game.plies)
 plies_taken [] = refl
 plies_taken (g ∷ games) = ap (λ l. plies_of g ∷ l) (plies_taken games)
 
--- a piece begins with its first byte
-begins_with : (piece rest : List ℕ) → Follows (first piece) (piece ++ rest)
-begins_with [] rest = tt
-begins_with (b ∷ piece) rest = refl
-
 -- the tokens read are the first ones of the text that the source had
 first_of_text : (p : Profile) (left left_new : Option (List ℕ)) (u : List ℕ) (now : Games) (given : List Token)
     → Consumes left left_new u → HaveRead p left_new u now given → IfSome left (λ s. (later : List Token) × (tokens_of s ≡ given ++ later))
-first_of_text p left left_new u now given consumed (calls.within on) =
+first_of_text p left left_new u now given consumed (games_calls.within on) =
     known_left left left_new u (λ s. (later : List Token) × (tokens_of s ≡ given ++ later)) consumed (λ rest. (
       coming now.converter.lexer (now.unused ++ rest),
-      ap (λ l. tokens_of (l ++ rest)) on.bytes ∙ ap tokens_of (append_assoc on.used now.unused rest)
-          ∙ on.stands.lexer.tokens (now.unused ++ rest) (begins_with now.unused rest),
+      cc (on.bytes, append_assoc on.used now.unused rest, on.stands.lexer.tokens (now.unused ++ rest) (follows_first now.unused rest)),
     ))
-first_of_text p left left_new u now given consumed (calls.at_end all) =
+first_of_text p left left_new u now given consumed (games_calls.at_end all) =
     known_whole left left_new u (λ s. (later : List Token) × (tokens_of s ≡ given ++ later)) consumed all.at_end
     ([], sym all.whole ∙ sym (append-nil given))
 
@@ -68,12 +51,12 @@ taken_more p left left_old left_new before out after taken game old new so next 
 module _ (p : Profile) (left before : Option (List ℕ)) (first : Games) (begins : HaveRead p left [] first []) where
   so_far : {taken : List FinishedGame} {now : Games} {left_now after : Option (List ℕ)} → TakesGames left before first taken now left_now after
       → SoFar p left before taken now left_now after
-  so_far joined.none =
+  so_far games_joined.none =
       record {
         reads = record { bytes = []; tokens = []; consumed = Consumes-nil left; have_read = begins; gains = gains_none p [] before };
         games = refl;
       }
-  so_far (joined.one_more taken game old new source sink calls reads e) =
+  so_far (games_joined.one_more taken game old new source sink calls reads e) =
       let so = so_far calls in
       let next = reads p so.reads.bytes so.reads.tokens so.reads.have_read in
       record {
@@ -107,7 +90,7 @@ games_join p left before first old new taken (Ok false) source sink begins calls
     let text = so.reads.bytes ++ end.more in
     let same : taken ≡ finished (games_read p (tokens_of text)) = so.games ∙ ap finished (sym end.no_game) in
     let games = games_read p (tokens_of text) in
-    known_whole left source.after text (λ s. joined.TookAll p s taken before sink.after)
+    known_whole left source.after text (λ s. games_joined.TookAll p s taken before sink.after)
     (Consumes-trans left source.before source.after so.reads.bytes end.more so.reads.consumed end.consumed) end.have_read_all.at_end
     (record {
       games = same;

@@ -1,18 +1,12 @@
 -- A text that is converted from the end of a game on.
-use Rattle.std.proofs.Common.{◌≡◌, ℕ, ◌+◌, false, List, [], ◌∷◌, ◌++◌, length, Option, None, Some, refl, sym, ap, ◌∙◌, append_assoc, append-nil, length-append, arith, map, sum}
 use Rattle.std.proofs.lemmas.List.Sums.{sum-map, sum_by-append}
 use Rattle.pgn_lexer.specs.Tokens as tokens
-use Rattle.pgn_lexer.specs.Tokens.{EndsAt}
-use Rattle.pgn_lexer.specs.TokensOf.{tokens_of}
 use Rattle.pgn_lexer.specs.WhiteSpace.{white_space}
 use Rattle.pgn_lexer.specs.Laws.{TextsRestart, CanBeMarker}
-use Rattle.pgn_game.proofs.Words.{Kind, Token, Reason, Fault, Profile, Game, Part, no_part}
-use Rattle.pgn_game.specs.Levels.{plies_of}
-use Rattle.pgn_game.specs.FaultTable.{refusal, marker_of}
+use Rattle.pgn_game.proofs.Words.{Kind, Token, Fault, Profile, Game, Part, no_part, ◌≡◌, ℕ, ◌+◌, false, List, [], ◌∷◌, ◌++◌, length, Option, None, Some, refl, sym, ap, ◌∙◌, append_assoc, append-nil, length-append, arith, map, sum, tokens_of, plies_of, marker_of, games_read, counting_also, GamesRestart}
 use Rattle.pgn_game.specs.Text.{game_text, text_of, torn}
-use Rattle.pgn_game.specs.Progress.{Next, going, whole, next, Progress, progress_with, progress_after, no_progress, Read, read_from, read, written, output, verdict, verdict_of, refused, totals}
-use Rattle.pgn_game.specs.GamesRestart.{games_read, FinishesGame, counting_also, GamesRestart}
-use Rattle.pgn_game.proofs.tokens.OneMoreToken.{read_from-test, after_test}
+use Rattle.pgn_game.specs.Progress.{Next, going, whole, next, Progress, progress_with, progress_after, no_progress, Read, read_from, read, written, verdict_of, totals}
+use Rattle.pgn_game.proofs.tokens.OneMoreToken.{by_token, goes_on, read_from-test, after_test}
 use Rattle.pgn_game.proofs.tokens.GamesInTurn.{none_behind}
 use Rattle.pgn_game.proofs.tokens.MarkerEndsGame.{games_end_by_marker}
 use Rattle.pgn_game.proofs.tokens.NoneBeforeFault.{reads_behind}
@@ -33,14 +27,9 @@ front_stays : (p : Profile) (games : List Game) (b : Progress) (ts : List Token)
     → read_from p (with_front games b) ts ≡ reads_with_front games (read_from p b ts)
 front_stays p games b [] = refl
 front_stays p games b (t ∷ ts) =
-    read_from-test p (with_front games b) t ts
-    ∙ by_test (refusal p b.part t.kind) (front_stays p games (progress_after b t) ts)
-    ∙ ap (reads_with_front games) (sym (read_from-test p b t ts))
-  where
-    by_test : (o : Option Reason) → read_from p (with_front games (progress_after b t)) ts ≡ reads_with_front games (read_from p (progress_after b t) ts)
-        → after_test p (with_front games b) t ts o ≡ reads_with_front games (after_test p b t ts o)
-    by_test (Some reason) later = refl
-    by_test None later = ap (λ c. read_from p c ts) (front_of_next games b.games (next b.part t.kind)) ∙ later
+    by_token p b t ts (λ r. read_from p (with_front games b) (t ∷ ts) ≡ reads_with_front games r)
+    (λ reason is. read_from-test p (with_front games b) t ts ∙ ap (after_test p (with_front games b) t ts) is)
+    (λ is. goes_on p (with_front games b) t ts is ∙ ap (λ c. read_from p c ts) (front_of_next games b.games (next b.part t.kind)) ∙ front_stays p games (progress_after b t) ts)
 
 text_of-append : (p : Profile) (games more : List Game) → text_of p (games ++ more) ≡ text_of p games ++ text_of p more
 text_of-append p [] more = refl

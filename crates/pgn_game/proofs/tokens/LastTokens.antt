@@ -1,22 +1,20 @@
 -- The tokens that a lexer has left at the end of the input: they finish at most one game, and if
 -- they pass, they leave none begun.
-use Rattle.std.proofs.Common.{◌≡◌, ℕ, ◌<◌, Bool, true, false, List, [], ◌∷◌, ◌++◌, length, length-append, Option, None, Some, refl, sym, ap, subst, ◌∙◌, append-nil, arith, inl, inr, ◌⊎◌}
 use Rattle.std.specs.Prelude.{if◌then◌else◌}
 use Rattle.pgn_lexer.specs.declared.partial_token.Mode.{Mode}
 use Rattle.pgn_lexer.specs.declared.partial_token.Mode.TheVariants as modes
+use Rattle.pgn_lexer.specs.declared.partial_token.SuffixRun.{SuffixRun}
+use Rattle.pgn_lexer.specs.declared.partial_token.SuffixRun.TheVariants as suffix_runs
 use Rattle.pgn_lexer.specs.declared.token.LexReason.{LexReason}
-use Rattle.pgn_lexer.specs.declared.token.LexReason.TheVariants.{WordTooLong}
-use Rattle.pgn_lexer.specs.Spelling.{Found, gives, nothing, stops}
-use Rattle.pgn_lexer.specs.Laws.{IsLast}
+use Rattle.pgn_lexer.specs.declared.token.LexReason.TheVariants.{SymbolTooLong, WordTooLong, GlyphRange}
+use Rattle.pgn_lexer.specs.Spelling.{gives, stops}
 use Rattle.pgn_lexer.specs.Tokens as tokens
 use Rattle.pgn_lexer.specs.TokensOf.{onto}
 use Rattle.pgn_lexer.specs.PartialToken.{tokens_to_come_in}
-use Rattle.pgn_lexer.specs.Standing.{Standing, coming}
-use Rattle.pgn_game.proofs.Words.{Kind, Token, Reason, Profile, Missing, counts_as, takes_the_marker, Stage, Between, AfterLeftBracket, AfterName, AfterValue, AfterTags, InMovetext, Pair, Item, Game, Part, no_part}
-use Rattle.pgn_game.specs.FaultTable.{refusal}
+use Rattle.pgn_game.proofs.Words.{Kind, Token, Reason, Profile, Missing, counts_as, takes_the_marker, Stage, Between, AfterLeftBracket, AfterName, AfterValue, AfterTags, InMovetext, Pair, Item, Game, Part, no_part, ◌≡◌, ℕ, ◌<◌, Bool, true, false, List, [], ◌∷◌, ◌++◌, length, nat_le, length-append, Option, None, Some, refl, sym, ap, subst, ◌∙◌, append-nil, arith, inl, inr, ◌⊎◌, IsLast, Standing, coming, refusal}
 use Rattle.pgn_game.specs.Text.{text_of, torn, torn_for}
 use Rattle.pgn_game.specs.Progress.{Progress, Next, Read, progress_after, progress_with, going, next, next_in, read_from, whole, written}
-use Rattle.pgn_game.proofs.tokens.OneMoreToken.{after_test, first_passes, goes_on, read_from-test}
+use Rattle.pgn_game.proofs.tokens.OneMoreToken.{after_test, by_token, first_passes, goes_on, read_from-test}
 
 reads_on : (p : Profile) (b : Progress) (t : Token) (ts : List Token) (o : Option Reason) → refusal p b.part t.kind ≡ o → read_from p b (t ∷ ts) ≡ after_test p b t ts o
 reads_on p b t ts o is = read_from-test p b t ts ∙ ap (after_test p b t ts) is
@@ -29,27 +27,18 @@ pub data IsQuiet : Kind → Type 0 where
   close : IsQuiet tokens.comment_close
   refused : (r : LexReason) → IsQuiet (tokens.refused r)
 
-at_end : (gs : List Game) (part : Part) (s : Stage) → (progress_with gs (next_in s part tokens.end)).games ≡ gs
-at_end gs part s =
+quiet_in : (gs : List Game) (part : Part) (s : Stage) (k : Kind) → IsQuiet k → (progress_with gs (next_in s part k)).games ≡ gs
+quiet_in gs part s _ end =
     elim s as (λ w. (progress_with gs (next_in w part tokens.end)).games ≡ gs) [ Between ↦ refl | AfterLeftBracket ↦ refl | AfterName ↦ refl | AfterValue ↦ refl | AfterTags ↦ refl | InMovetext ↦ refl ]
-
-at_word : (gs : List Game) (part : Part) (text : List ℕ) (s : Stage) → (progress_with gs (next_in s part (tokens.word text))).games ≡ gs
-at_word gs part text s =
+quiet_in gs part s _ (word text) =
     elim s as (λ w. (progress_with gs (next_in w part (tokens.word text))).games ≡ gs) [ Between ↦ refl | AfterLeftBracket ↦ refl | AfterName ↦ refl | AfterValue ↦ refl | AfterTags ↦ refl | InMovetext ↦ refl ]
-
-at_close : (gs : List Game) (part : Part) (s : Stage) → (progress_with gs (next_in s part tokens.comment_close)).games ≡ gs
-at_close gs part s =
+quiet_in gs part s _ close =
     elim s as (λ w. (progress_with gs (next_in w part tokens.comment_close)).games ≡ gs) [ Between ↦ refl | AfterLeftBracket ↦ refl | AfterName ↦ refl | AfterValue ↦ refl | AfterTags ↦ refl | InMovetext ↦ refl ]
-
-at_refused : (gs : List Game) (part : Part) (r : LexReason) (s : Stage) → (progress_with gs (next_in s part (tokens.refused r))).games ≡ gs
-at_refused gs part r s =
+quiet_in gs part s _ (refused r) =
     elim s as (λ w. (progress_with gs (next_in w part (tokens.refused r))).games ≡ gs) [ Between ↦ refl | AfterLeftBracket ↦ refl | AfterName ↦ refl | AfterValue ↦ refl | AfterTags ↦ refl | InMovetext ↦ refl ]
 
 quiet_next : (b : Progress) (k : Kind) → IsQuiet k → (progress_with b.games (next b.part k)).games ≡ b.games
-quiet_next b _ end = at_end b.games b.part b.part.stage
-quiet_next b _ (word text) = at_word b.games b.part text b.part.stage
-quiet_next b _ close = at_close b.games b.part b.part.stage
-quiet_next b _ (refused r) = at_refused b.games b.part r b.part.stage
+quiet_next b k quiet = quiet_in b.games b.part b.part.stage k quiet
 
 abbrev pub AreQuiet : List Token → Type 0
 AreQuiet [] = Unit {0}
@@ -57,13 +46,8 @@ AreQuiet (t ∷ ts) = IsQuiet t.kind × AreQuiet ts
 
 pub quiet_games : (p : Profile) (b : Progress) (ts : List Token) → AreQuiet ts → (read_from p b ts).progress.games ≡ b.games
 quiet_games p b [] quiet = refl
-quiet_games p b (t ∷ ts) (here, rest) = by_test (refusal p b.part t.kind) refl (quiet_games p (progress_after b t) ts rest)
-  where
-    by_test : (o : Option Reason) → refusal p b.part t.kind ≡ o → (read_from p (progress_after b t) ts).progress.games ≡ (progress_after b t).games
-        → (read_from p b (t ∷ ts)).progress.games ≡ b.games
-    by_test (Some reason) is further = ap (λ (r : Read). r.progress.games) (reads_on p b t ts (Some reason) is)
-    by_test None is further =
-        ap (λ (r : Read). r.progress.games) (reads_on p b t ts None is) ∙ further ∙ quiet_next b t.kind here
+quiet_games p b (t ∷ ts) (here, rest) =
+    by_token p b t ts (λ r. r.progress.games ≡ b.games) (λ reason is. refl) (λ is. quiet_games p (progress_after b t) ts rest ∙ quiet_next b t.kind here)
 
 quiet_front : (xs ys : List Token) → AreQuiet (xs ++ ys) → AreQuiet xs
 quiet_front [] ys q = tt
@@ -93,7 +77,7 @@ AddsOne gs r = (r.progress.games ≡ gs) ⊎ ((r.fault ≡ None) × ((g : Game) 
 
 last_games : (p : Profile) (b : Progress) (ts : List Token) → AreLast ts → AddsOne b.games (read_from p b ts)
 last_games p b _ (quiet ts q has) = inl (quiet_games p b ts q)
-last_games p b _ (one t at) = by_test (refusal p b.part t.kind) refl
+last_games p b _ (one t at) = by_token p b t (last ∷ []) (AddsOne b.games) (λ reason is. inl refl) (λ is. by_next (next b.part t.kind))
   where
     last : Token
     last = record { at = at; kind = tokens.end }
@@ -103,11 +87,6 @@ last_games p b _ (one t at) = by_test (refusal p b.part t.kind) refl
     by_next (whole g) =
         let here = reads_on p (progress_with b.games (whole g)) last [] None (end_passes p) in
         inr (ap (λ (r : Read). r.fault) here, (g, ap (λ (r : Read). r.progress.games) here))
-
-    by_test : (o : Option Reason) → refusal p b.part t.kind ≡ o → AddsOne b.games (read_from p b (t ∷ last ∷ []))
-    by_test (Some reason) is = inl (ap (λ (r : Read). r.progress.games) (reads_on p b t (last ∷ []) (Some reason) is))
-    by_test None is =
-        subst (λ (r : Read). AddsOne b.games r) (sym (reads_on p b t (last ∷ []) None is)) (by_next (next b.part t.kind))
 
 -- ---- the end
 
@@ -146,39 +125,67 @@ none_torn p b (t ∷ u ∷ ts) has passes =
 
 -- ---- what a lexer has left
 
--- a token that is waiting, and then the end
-before_end : (at place : ℕ) (found : Found) → AreLast (onto at found (record { at = place; kind = tokens.end } ∷ []))
-before_end at place nothing = quiet _ (end, tt) tt
-before_end at place (gives k) = one (record { at = at; kind = k }) place
-before_end at place (stops behind reason) = quiet _ (refused reason, tt) tt
+abbrev pub end_at : ℕ → Token
+end_at place = record { at = place; kind = tokens.end }
 
--- a word that is waiting
-word_last : (at : ℕ) (fits : Bool) (text : List ℕ) (t : Token) (ts : List Token) → AreQuiet (t ∷ ts) → HasLast (t ∷ ts)
-    → AreLast (onto at (if fits then gives (tokens.word text) else stops at WordTooLong) (t ∷ ts))
-word_last at true text t ts q has = quiet _ (word text, q) has
-word_last at false text t ts q has = quiet _ (refused WordTooLong, tt) tt
+abbrev pub token_at : ℕ → Kind → Token
+token_at at k = record { at = at; kind = k }
 
-left_in : (mode : Mode) (place at : ℕ) (text : List ℕ) → AreLast (tokens_to_come_in mode place at text [])
-left_in modes.Start place at text = quiet _ (end, tt) tt
-left_in modes.AfterEf place at text = quiet _ (refused _, tt) tt
-left_in modes.AfterEfBb place at text = quiet _ (refused _, tt) tt
-left_in modes.LineStart place at text = quiet _ (end, tt) tt
-left_in modes.Outside place at text = quiet _ (end, tt) tt
-left_in modes.EscapeLine place at text = quiet _ (end, tt) tt
-left_in modes.Symbol place at text = before_end at place _
-left_in modes.Str place at text = quiet _ (refused _, tt) tt
-left_in modes.AfterBackslash place at text = quiet _ (refused _, tt) tt
-left_in modes.Dollar place at text = quiet _ (refused _, tt) tt
-left_in (modes.Glyph n) place at text = before_end at place _
-left_in (modes.Suffix run) place at text = before_end at place _
-left_in modes.Brace place at text = quiet _ (refused _, tt) tt
-left_in modes.BraceWord place at text = word_last at _ _ _ _ (refused _, tt) tt
-left_in modes.Line place at text = quiet _ (close, (end, tt)) tt
-left_in modes.LineWord place at text = word_last at _ _ _ _ (close, (end, tt)) tt
-left_in (modes.Failed f) place at text = quiet _ (refused _, tt) tt
+-- nothing that finishes a game, or a NAG, or a symbol
+pub data IsLeft (mode : Mode) (place at : ℕ) (text : List ℕ) : List Token → Type 0 where
+  none : (ts : List Token) → AreQuiet ts → HasLast ts → IsLeft mode place at text ts
+  glyph : (n : ℕ) → IsLeft mode place at text (token_at at (tokens.glyph n) ∷ end_at place ∷ [])
+  symbol : mode ≡ modes.Symbol → IsLeft mode place at text (token_at at (tokens.symbol (text ++ [])) ∷ end_at place ∷ [])
+
+symbol_left : (place at : ℕ) (text : List ℕ) (fits : Bool)
+    → IsLeft modes.Symbol place at text (onto at (if fits then gives (tokens.symbol (text ++ [])) else stops at SymbolTooLong) (end_at place ∷ []))
+symbol_left place at text true = symbol refl
+symbol_left place at text false = none _ (refused SymbolTooLong, tt) tt
+
+glyph_left : (mode : Mode) (place at n : ℕ) (text : List ℕ) (fits : Bool)
+    → IsLeft mode place at text (onto at (if fits then gives (tokens.glyph n) else stops at GlyphRange) (end_at place ∷ []))
+glyph_left mode place at n text true = glyph n
+glyph_left mode place at n text false = none _ (refused GlyphRange, tt) tt
+
+suffix_left : (run : SuffixRun) (place at : ℕ) (text : List ℕ) → IsLeft (modes.Suffix run) place at text (tokens_to_come_in (modes.Suffix run) place at text [])
+suffix_left suffix_runs.Good place at text = glyph _
+suffix_left suffix_runs.Poor place at text = glyph _
+suffix_left suffix_runs.VeryGood place at text = glyph _
+suffix_left suffix_runs.VeryPoor place at text = glyph _
+suffix_left suffix_runs.Speculative place at text = glyph _
+suffix_left suffix_runs.Questionable place at text = glyph _
+
+word_left : (mode : Mode) (place at : ℕ) (text run : List ℕ) (fits : Bool) (t : Token) (ts : List Token) → AreQuiet (t ∷ ts) → HasLast (t ∷ ts)
+    → IsLeft mode place at text (onto at (if fits then gives (tokens.word run) else stops at WordTooLong) (t ∷ ts))
+word_left mode place at text run true t ts q has = none _ (word run, q) has
+word_left mode place at text run false t ts q has = none _ (refused WordTooLong, tt) tt
+
+pub left_in : (mode : Mode) (place at : ℕ) (text : List ℕ) → IsLeft mode place at text (tokens_to_come_in mode place at text [])
+left_in modes.Start place at text = none _ (end, tt) tt
+left_in modes.AfterEf place at text = none _ (refused _, tt) tt
+left_in modes.AfterEfBb place at text = none _ (refused _, tt) tt
+left_in modes.LineStart place at text = none _ (end, tt) tt
+left_in modes.Outside place at text = none _ (end, tt) tt
+left_in modes.EscapeLine place at text = none _ (end, tt) tt
+left_in modes.Symbol place at text = symbol_left place at text (nat_le (length (text ++ [])) 255)
+left_in modes.Str place at text = none _ (refused _, tt) tt
+left_in modes.AfterBackslash place at text = none _ (refused _, tt) tt
+left_in modes.Dollar place at text = none _ (refused _, tt) tt
+left_in (modes.Glyph n) place at text = glyph_left _ place at _ text _
+left_in (modes.Suffix run) place at text = suffix_left run place at text
+left_in modes.Brace place at text = none _ (refused _, tt) tt
+left_in modes.BraceWord place at text = word_left _ place at text _ _ _ _ (refused _, tt) tt
+left_in modes.Line place at text = none _ (close, (end, tt)) tt
+left_in modes.LineWord place at text = word_left _ place at text _ _ _ _ (close, (end, tt)) tt
+left_in (modes.Failed f) place at text = none _ (refused _, tt) tt
+
+left_last : (mode : Mode) (place at : ℕ) (text : List ℕ) (ts : List Token) → IsLeft mode place at text ts → AreLast ts
+left_last mode place at text _ (none ts q has) = quiet ts q has
+left_last mode place at text _ (glyph n) = one _ place
+left_last mode place at text _ (symbol is) = one _ place
 
 left : (l : Standing) → AreLast (coming l [])
-left l = left_in l.held.mode l.count l.held.at l.held.text
+left l = left_last l.held.mode l.count l.held.at l.held.text _ (left_in l.held.mode l.count l.held.at l.held.text)
 
 -- with them at most one game is read
 pub left_games : (p : Profile) (b : Progress) (l : Standing) → AddsOne b.games (read_from p b (coming l []))

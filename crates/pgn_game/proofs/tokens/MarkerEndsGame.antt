@@ -1,20 +1,11 @@
 -- The token that finishes a game is its marker, which is the Result of its tag section.
-use Rattle.std.proofs.Common.{◌≡◌, ℕ, Bool, true, false, ◌&&◌, not, nat_le, List, [], ◌∷◌, ◌++◌, Option, None, Some, refl, sym, ap, subst, ◌∙◌, arith, ◌==◌, bytes_eq, codes, unwrap_or, IsTrue, IsFalse}
-use Rattle.std.proofs.lemmas.Bool.{not-false}
-use Rattle.std.proofs.lemmas.Bool.Decides.{nat_tests}
-use Rattle.std.proofs.lemmas.Slice.Eq.{bytes_eq-Decides}
 use Rattle.pgn_lexer.specs.Tokens as tokens
-use Rattle.pgn_game.proofs.Words.{Kind, Token, Reason, MarkerInVariation, ResultDiffers, SetUpWithoutFen, Stage, Between, AfterLeftBracket, AfterName, AfterValue, AfterTags, InMovetext, Profile, value_of, Game, Part}
-use Rattle.pgn_game.specs.FaultTable.{refusal, marker_of, is_comment, levels_of_part, lacks_fen, result_for}
-use Rattle.pgn_game.specs.Levels.{depth}
-use Rattle.pgn_game.specs.TokenInMovetext.{text_refusal}
-use Rattle.pgn_game.specs.Progress.{Next, going, whole, next, next_in, in_text, items_of, at_stage, Progress, progress_with, Read, read}
-use Rattle.pgn_game.specs.GamesRestart.{games_read, FinishesGame}
+use Rattle.pgn_game.proofs.Words.{Kind, Token, Reason, MarkerInVariation, ResultDiffers, SetUpWithoutFen, Stage, Between, AfterLeftBracket, AfterName, AfterValue, AfterTags, InMovetext, Profile, value_of, Game, Part, ◌≡◌, ℕ, false, ◌&&◌, not, nat_le, List, [], ◌∷◌, ◌++◌, Option, None, Some, refl, sym, ap, subst, ◌∙◌, ◌==◌, bytes_eq, codes, unwrap_or, IsTrue, IsFalse, not-false, bytes_eq-Decides, refusal, marker_of, is_comment, levels_of_part, lacks_fen, result_for, depth, text_refusal, Next, going, whole, next, next_in, in_text, items_of, at_stage, Progress, progress_with, Read, read, games_read, FinishesGame}
 use Rattle.pgn_game.specs.GameEnds.{EndsByMarker, GamesEndByMarker}
 use Rattle.pgn_game.proofs.exporting.PairsExportedAgain.{result_of}
 use Rattle.pgn_game.proofs.pairs.ExportedValues.{exported_known}
 use Rattle.pgn_game.proofs.refusals.RefusalsByStage.{is_textual, is_lexical, after_tags, between, rest_passed, test_failed, text_row}
-use Rattle.pgn_game.proofs.refusals.RefusalsInMovetext.{marker_refusal, other_if}
+use Rattle.pgn_game.proofs.refusals.RefusalsInMovetext.{marker_refusal, other_if, same_at_zero}
 use Rattle.pgn_game.proofs.tokens.GamesInTurn.{due_between, last_is, none_behind, none_or_some, not_one_more, passes_before}
 use Rattle.pgn_game.proofs.tokens.OneMoreToken.{read-passes, read-refuses}
 
@@ -92,22 +83,14 @@ passes_in_text p AfterTags part k g is free leads =
     sym (text_row p part k is.sound) ∙ rest_passed (lacks_fen part.pairs) SetUpWithoutFen _ (sym (after_tags p part k is.textual) ∙ free)
 passes_in_text p InMovetext part k g is free leads = sym (text_row p part k is.sound) ∙ free
 
-no_one : (n : ℕ) → nat_le 1 n ≡ false → n ≡ 0
-no_one n e = grind (arith, nat_tests)
-
-at_zero : (b : Bool) (n : ℕ) → n ≡ 0 → (b && (n == 0)) ≡ false → b ≡ false
-at_zero true n e h = absurd (let zero_is : (n == 0) ≡ true = ap (λ x. x == 0) e in cc)
-at_zero false n e h = refl
-
 same_result : (p : Profile) (part : Part) (k : Kind) (marker : List ℕ) → marker_of k ≡ Some marker → text_refusal p part k ≡ None
     → marker ≡ unwrap_or (value_of part.pairs (codes "Result")) (result_for p.missing_result marker)
 same_result p part k marker is free =
     let rows = sym (marker_refusal p part k marker is) ∙ free in
     let value = unwrap_or (value_of part.pairs (codes "Result")) (result_for p.missing_result marker) in
     let deep = depth (levels_of_part part) in
-    let none : deep ≡ 0 = no_one deep (test_failed (nat_le 1 deep) MarkerInVariation _ rows) in
     let same : not (bytes_eq marker value) ≡ false =
-    at_zero (not (bytes_eq marker value)) deep none
+    same_at_zero (not (bytes_eq marker value)) deep (test_failed (nat_le 1 deep) MarkerInVariation _ rows)
     (test_failed (other_if p.missing_result part.pairs (Some marker) && (deep == 0)) ResultDiffers None
     (rest_passed (nat_le 1 deep) MarkerInVariation _ rows)) in
     (bytes_eq-Decides marker value).0 (not-false (bytes_eq marker value) same)
@@ -126,14 +109,13 @@ module _ (p : Profile) (given : List Token) (marker : Token) (finishes : Finishe
   of_game g free leads same =
       let led : Leads marker.kind part (whole g) = subst (Leads marker.kind part) leads (leads_in part.stage part marker.kind) in
       let kind : marker_of marker.kind ≡ Some finishes.game.marker = led.0 ∙ ap (λ (h : Game). Some h.marker) same in
-      let pairs = led.1 in
       let text_free = passes_in_text p part.stage part marker.kind g (plain marker.kind g.marker led.0) free leads in
       let result = same_result p part marker.kind finishes.game.marker kind text_free in
       let known = result_for p.missing_result finishes.game.marker in
       record {
         is_marker = kind;
         result = exported_known p.mode known finishes.game.pairs (codes "Result") known (result_of known)
-            ∙ ap (λ ps. Some (unwrap_or (value_of ps (codes "Result")) known)) (ap (λ (h : Game). h.pairs) (sym same) ∙ pairs)
+            ∙ ap (λ ps. Some (unwrap_or (value_of ps (codes "Result")) known)) (ap (λ (h : Game). h.pairs) (sym same) ∙ led.1)
             ∙ ap Some (sym result);
         whole = due_between p (read p (given ++ marker ∷ [])).progress (none_behind p given marker finishes.game finishes.passes finishes.one_more);
       }

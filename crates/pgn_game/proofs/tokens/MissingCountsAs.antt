@@ -1,14 +1,6 @@
 -- A converter that has read no token, where a missing Result counts as another marker from now on.
-use Rattle.std.proofs.Common.{◌≡◌, Bool, true, false, [], ℕ, Option, refl, ap}
-use Rattle.pgn_lexer.specs.Standing.{Standing}
-use Rattle.pgn_game.proofs.Words.{Fault, Profile}
-use Rattle.pgn_game.specs.declared.marker.Marker.{Marker}
-use Rattle.pgn_game.specs.Game.{no_part}
-use Rattle.pgn_game.specs.Markers.{marker_text}
-use Rattle.pgn_game.specs.Profile.{counting}
+use Rattle.pgn_game.proofs.Words.{Fault, Profile, ◌≡◌, Bool, true, false, [], ℕ, Option, refl, ap, Standing, Marker, no_part, marker_text, counting, ReaderState, Converter, CountsMissingAs, IsSound, counting_missing_as, game_in_reader_if}
 use Rattle.pgn_game.specs.MostTried.{MostTried, none}
-use Rattle.pgn_game.specs.ReaderState.{ReaderState}
-use Rattle.pgn_game.specs.ConverterCalls.{Converter, CountsMissingAs, IsSound, counting_missing_as, game_in_reader_if}
 use Rattle.pgn_game.proofs.twice.MarkerCounts.{agrees_under}
 
 -- the reader by the other profile

@@ -1,16 +1,7 @@
 -- A token takes nothing back: what stands written of a game begins what stands written of it a
 -- token later.
-use Rattle.std.proofs.Common.{◌≡◌, ℕ, List, [], ◌∷◌, ◌++◌, length, drop, None, Some, refl, sym, ap, subst, ◌∙◌, append_assoc}
-use Rattle.std.proofs.Math.Seq.{drop-append_seam}
 use Rattle.pgn_layout.specs.Lines.{lines_of, text_of as text_of_lines}
-use Rattle.pgn_game.proofs.Words.{Kind, Mode, Stage, InMovetext, Profile, Missing, counts_as, takes_the_marker, Pair, Item, Part}
-use Rattle.pgn_game.specs.Levels.{start_of}
-use Rattle.pgn_game.specs.FaultTable.{marker_of}
-use Rattle.pgn_game.specs.TagSection.{tag_section}
-use Rattle.pgn_game.specs.Text.{tokens_out, torn}
-use Rattle.pgn_game.specs.Progress.{going, whole, next, next_in, items_of}
-use Rattle.pgn_game.specs.Due.{text_next}
-use Rattle.pgn_game.specs.Laws.{IsPrefix}
+use Rattle.pgn_game.proofs.Words.{Kind, Mode, Stage, InMovetext, Profile, Missing, counts_as, takes_the_marker, Pair, Item, Part, ◌≡◌, ℕ, List, [], ◌∷◌, ◌++◌, length, drop, None, Some, refl, sym, ap, subst, ◌∙◌, append_assoc, drop-append_seam, start_of, marker_of, tag_section, tokens_out, torn, going, whole, next, next_in, items_of, text_next, IsPrefix}
 use Rattle.pgn_game.proofs.putting.ItemsAppended.{full_text_grows, full_text_marker}
 
 -- a text in front of both

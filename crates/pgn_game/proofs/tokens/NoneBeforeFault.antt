@@ -1,9 +1,5 @@
 -- Behind the last piece no game is finished before a token that is rejected, or a write that fails.
-use Rattle.std.proofs.Common.{◌≡◌, ℕ, ◌+◌, ◌<◌, List, [], ◌∷◌, ◌++◌, length, Option, None, Some, refl, sym, ap, subst, ◌∙◌, inl, inr, ◌⊎◌, append-nil, append_assoc, length-append, arith}
-use Rattle.pgn_lexer.specs.TokensOf.{tokens_of}
-use Rattle.pgn_lexer.specs.Standing.{Standing, coming}
-use Rattle.pgn_lexer.specs.Stands.{HasLeft}
-use Rattle.pgn_game.proofs.Words.{Token, Fault, Profile}
+use Rattle.pgn_game.proofs.Words.{Token, Fault, Profile, ◌≡◌, ℕ, ◌+◌, ◌<◌, List, [], ◌∷◌, ◌++◌, length, Option, None, refl, sym, ap, subst, ◌∙◌, inl, inr, ◌⊎◌, append-nil, append_assoc, length-append, arith, tokens_of, Standing, coming, HasLeft}
 use Rattle.pgn_game.specs.Progress.{Progress, progress_after, no_progress, Read, read, read_from, written, due}
 use Rattle.pgn_game.specs.ConverterCalls.{Stops, refused, unwritten, StopsWriting, games_before}
 use Rattle.pgn_game.proofs.tokens.OneMoreToken.{first_passes, goes_on, due_grows}
@@ -76,24 +72,19 @@ module _ (p : Profile) (given : List Token) (l : Standing) (ts : List Token) (pa
         length-append (due p (writing.front ++ writing.token ∷ [])) grown.0,
       ))
 
-  none_before : (read p writing.front).progress.games ≡ (read p given).progress.games
-  none_before = by_parts (parted given writing.front (coming l []) (writing.token ∷ writing.rest) (sym whole_text ∙ writing.cut))
-
 -- ---- both
 
 -- u is the whole text, and of its tokens the lexer has left those behind the given ones
 pub none_before_fault : (p : Profile) (u : List ℕ) (given : List Token) (l : Standing) → HasLeft l u given → (read p given).fault ≡ None → (a b : Option (List ℕ)) {f : Fault} (stops : Stops p given (tokens_of u) a b f)
     → games_before stops ≡ (read p given).progress.games
-none_before_fault p u given l left passes a b (unwritten at writing) = none_before p given l (tokens_of u) passes left at a b writing
+none_before_fault p u given l left passes a b (unwritten at writing) =
+    by_parts p given l (tokens_of u) passes left at a b writing (parted given writing.front (coming l []) (writing.token ∷ writing.rest) (sym left ∙ writing.cut))
 none_before_fault p u given l left passes a b (refused f fault gains) =
     by_games (subst (AddsOne (read p given).progress.games) (sym reads) (left_games p (read p given).progress l))
   where
     reads : read p (tokens_of u) ≡ read_from p (read p given).progress (coming l [])
     reads = ap (read p) left ∙ reads_behind p no_progress given (coming l []) passes
 
-    none_or_some : (o : Option Fault) (g : Fault) → o ≡ Some g → o ≡ None → ⊥
-    none_or_some o g some none = cc
-
     by_games : AddsOne (read p given).progress.games (read p (tokens_of u)) → (read p (tokens_of u)).progress.games ≡ (read p given).progress.games
     by_games (inl same) = same
-    by_games (inr (none, more)) = absurd (none_or_some _ f fault none)
+    by_games (inr (none, more)) = absurd (cc (none, fault))

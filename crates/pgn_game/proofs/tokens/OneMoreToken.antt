@@ -1,13 +1,7 @@
 -- One token more: what was read, and what is due for it.
-use Rattle.std.proofs.Common.{◌≡◌, ℕ, ◌+◌, List, [], ◌∷◌, ◌++◌, length, Option, None, Some, refl, sym, ap, subst, ◌∙◌, append_assoc, append-nil, length-append, arith}
-use Rattle.std.proofs.Math.Seq.{take-append-add}
-use Rattle.std.proofs.KnownBytes.{Appends-trans, Appends-nil}
-use Rattle.std.specs.Io.KnownBytes.{Appends}
-use Rattle.pgn_game.proofs.Words.{Kind, Token, Reason, Fault, Mode, Profile, Missing, counts_as, takes_the_marker, Game, Part, no_part}
-use Rattle.pgn_game.specs.FaultTable.{refusal}
+use Rattle.pgn_game.proofs.Words.{Kind, Token, Reason, Fault, Mode, Profile, Missing, counts_as, takes_the_marker, Game, Part, no_part, ◌≡◌, ℕ, ◌+◌, List, [], ◌∷◌, ◌++◌, length, Option, None, Some, refl, sym, ap, subst, ◌∙◌, append_assoc, append-nil, length-append, arith, take-append-add, Appends-trans, Appends-nil, Appends, refusal, text_next, gain, Gains}
 use Rattle.pgn_game.specs.Text.{game_text, text_of, torn, torn_for}
 use Rattle.pgn_game.specs.Progress.{Next, going, whole, next, Progress, progress_with, progress_after, no_progress, Read, read_from, read, written, due}
-use Rattle.pgn_game.specs.Due.{text_next, gain, Gains}
 use Rattle.pgn_game.specs.Laws.{IsPrefix, DueGrows}
 use Rattle.pgn_game.specs.ConverterCalls.{Stops, refused, unwritten, StopsWriting, games_before, position_at_stop, ProbesAtStop}
 use Rattle.pgn_game.proofs.tokens.NextGrows.{next_is}
@@ -28,6 +22,16 @@ read_from-test p b t ts =
       | None ↦ refl
     ]
 
+-- what holds where a token is rejected, and where it passes, holds of what is read from it on
+pub by_token : (p : Profile) (b : Progress) (t : Token) (ts : List Token) (P : Read → Type 0)
+    → ((reason : Reason) → refusal p b.part t.kind ≡ Some reason → P (read_as b (Some (record { at = t.at; reason = reason }))))
+    → (refusal p b.part t.kind ≡ None → P (read_from p (progress_after b t) ts)) → P (read_from p b (t ∷ ts))
+by_token p b t ts P rejected passes = subst P (sym (read_from-test p b t ts)) (by_test (refusal p b.part t.kind) refl)
+  where
+    by_test : (o : Option Reason) → refusal p b.part t.kind ≡ o → P (after_test p b t ts o)
+    by_test (Some reason) is = rejected reason is
+    by_test None is = passes is
+
 passed : (p : Profile) (b : Progress) (t : Token) (ts : List Token) (o : Option Reason) → (after_test p b t ts o).fault ≡ None → o ≡ None
 passed p b t ts (Some reason) e = absurd (cc)
 passed p b t ts None e = refl
@@ -44,9 +48,7 @@ after_those p b [] t us e = read_from-test p b t us
 after_those p b (x ∷ xs) t us e =
     let none = first_passes p b x xs e in
     let here : read_from p b (x ∷ xs) ≡ read_from p (progress_after b x) xs = goes_on p b x xs none in
-    let rest = after_those p (progress_after b x) xs t us (ap (λ (r : Read). r.fault) (sym here) ∙ e) in
-    goes_on p b x (xs ++ t ∷ us) none ∙ rest
-    ∙ ap (λ (r : Read). after_test p r.progress t us (refusal p r.progress.part t.kind)) (sym here)
+    cc (goes_on p b x (xs ++ t ∷ us) none, after_those p (progress_after b x) xs t us (ap (λ (r : Read). r.fault) (sym here) ∙ e), here)
 
 -- a token that is not rejected
 pub read-passes : (p : Profile) (given : List Token) (t : Token) → (read p given).fault ≡ None → refusal p (read p given).progress.part t.kind ≡ None
@@ -77,25 +79,15 @@ written_with p games (whole g) =
 written-next : (p : Profile) (games : List Game) (part : Part) (k : Kind)
     → written p (progress_with games (next part k)) ≡ written p (record { games = games; part = part }) ++ gain p part k
 written-next p games part k =
-    written_with p games (next part k) ∙ ap (λ l. text_of p games ++ l) (next_is p part k)
-    ∙ sym (append_assoc (text_of p games) (torn p part) (gain p part k))
+    cc (written_with p games (next part k), next_is p part k, append_assoc (text_of p games) (torn p part) (gain p part k))
 
 pub due-passes : (p : Profile) (given : List Token) (t : Token) → (read p given).fault ≡ None → refusal p (read p given).progress.part t.kind ≡ None
     → due p (given ++ t ∷ []) ≡ due p given ++ gain p (read p given).progress.part t.kind
 due-passes p given t e none =
-    ap (λ (r : Read). written p r.progress) (read-passes p given t e none)
-    ∙ written-next p (read p given).progress.games (read p given).progress.part t.kind
-
-pub due-refuses : (p : Profile) (given : List Token) (t : Token) (us : List Token) (reason : Reason) → (read p given).fault ≡ None → refusal p (read p given).progress.part t.kind ≡ Some reason
-    → due p (given ++ t ∷ us) ≡ due p given
-due-refuses p given t us reason e some = ap (λ (r : Read). written p r.progress) (read-refuses p given t us reason e some)
+    cc (read-passes p given t e none, written-next p (read p given).progress.games (read p given).progress.part t.kind)
 
 pub gains_none : (p : Profile) (given : List Token) (o : Option (List ℕ)) → Gains p given given o o
 gains_none p given o = record { text = []; due_for = sym (append-nil (due p given)); appended = Appends-nil o }
-
--- nothing was due, and nothing was appended
-pub gains_nothing : (p : Profile) (given tokens : List Token) (a b : Option (List ℕ)) → due p tokens ≡ due p given → Appends a b [] → Gains p given tokens a b
-gains_nothing p given tokens a b same appended = record { text = []; due_for = same ∙ sym (append-nil (due p given)); appended = appended }
 
 pub gains_more : (p : Profile) (x y z : List Token) (a b c : Option (List ℕ)) → Gains p x y a b → Gains p y z b c → Gains p x z a c
 gains_more p x y z a b c first more =
@@ -151,16 +143,10 @@ position_still p x y tokens f a b c first (unwritten at writing) = refl
 -- behind a token that is rejected nothing is read
 pub stops_from : (p : Profile) (b : Progress) (ts us : List Token) (f : Fault) → (read_from p b ts).fault ≡ Some f → read_from p b (ts ++ us) ≡ read_from p b ts
 stops_from p b [] us f e = absurd (cc)
-stops_from p b (t ∷ ts) us f e = by_test (refusal p b.part t.kind) refl (stops_from p (progress_after b t) ts us f)
-  where
-    by_test : (o : Option Reason) → refusal p b.part t.kind ≡ o
-        → ((read_from p (progress_after b t) ts).fault ≡ Some f → read_from p (progress_after b t) (ts ++ us) ≡ read_from p (progress_after b t) ts)
-        → read_from p b (t ∷ ts ++ us) ≡ read_from p b (t ∷ ts)
-    by_test (Some reason) is further =
-        read_from-test p b t (ts ++ us) ∙ ap (after_test p b t (ts ++ us)) is ∙ sym (read_from-test p b t ts ∙ ap (after_test p b t ts) is)
-    by_test None is further =
-        let here : read_from p b (t ∷ ts) ≡ read_from p (progress_after b t) ts = goes_on p b t ts is in
-        goes_on p b t (ts ++ us) is ∙ further (ap (λ (r : Read). r.fault) (sym here) ∙ e) ∙ sym here
+stops_from p b (t ∷ ts) us f e =
+    by_token p b t ts (λ r. r.fault ≡ Some f → read_from p b (t ∷ ts ++ us) ≡ r)
+    (λ reason is fault. read_from-test p b t (ts ++ us) ∙ ap (after_test p b t (ts ++ us)) is)
+    (λ is fault. goes_on p b t (ts ++ us) is ∙ stops_from p (progress_after b t) ts us f fault) e
 
 pub also : (xs ys zs : List ℕ) → IsPrefix xs ys → IsPrefix ys zs → IsPrefix xs zs
 also xs ys zs h k = (h.0 ++ k.0, k.1 ∙ ap (λ l. l ++ k.0) h.1 ∙ append_assoc xs h.0 k.0)
@@ -170,32 +156,15 @@ same_text xs = ([], sym (append-nil xs))
 
 pub grows_from : (p : Profile) (b : Progress) (us : List Token) → IsPrefix (written p b) (written p (read_from p b us).progress)
 grows_from p b [] = same_text (written p b)
-grows_from p b (t ∷ ts) = by_test (refusal p b.part t.kind) refl (grows_from p (progress_after b t) ts)
-  where
-    by_test : (o : Option Reason) → refusal p b.part t.kind ≡ o → IsPrefix (written p (progress_after b t)) (written p (read_from p (progress_after b t) ts).progress)
-        → IsPrefix (written p b) (written p (read_from p b (t ∷ ts)).progress)
-    by_test (Some reason) is further =
-        subst (λ (r : Read). IsPrefix (written p b) (written p r.progress)) (sym (read_from-test p b t ts ∙ ap (after_test p b t ts) is)) (same_text (written p b))
-    by_test None is further =
-        subst (λ (r : Read). IsPrefix (written p b) (written p r.progress)) (sym (goes_on p b t ts is))
-        (also (written p b) (written p (progress_after b t)) _
-        (gain p b.part t.kind, written-next p b.games b.part t.kind) further)
-
-abbrev Grows : Profile → Read → Read → Type 0
-Grows p r s = IsPrefix (written p r.progress) (written p s.progress)
+grows_from p b (t ∷ ts) =
+    by_token p b t ts (λ r. IsPrefix (written p b) (written p r.progress)) (λ reason is. same_text (written p b))
+    (λ is. also (written p b) (written p (progress_after b t)) _ (gain p b.part t.kind, written-next p b.games b.part t.kind) (grows_from p (progress_after b t) ts))
 
 grows : (p : Profile) (b : Progress) (ts us : List Token) → IsPrefix (written p (read_from p b ts).progress) (written p (read_from p b (ts ++ us)).progress)
 grows p b [] us = grows_from p b us
-grows p b (t ∷ ts) us = by_test (refusal p b.part t.kind) refl (grows p (progress_after b t) ts us)
-  where
-    by_test : (o : Option Reason) → refusal p b.part t.kind ≡ o → Grows p (read_from p (progress_after b t) ts) (read_from p (progress_after b t) (ts ++ us))
-        → Grows p (read_from p b (t ∷ ts)) (read_from p b (t ∷ ts ++ us))
-    by_test (Some reason) is further =
-        subst (λ (r : Read). Grows p r (read_from p b (t ∷ ts ++ us))) (sym (read_from-test p b t ts ∙ ap (after_test p b t ts) is))
-        (subst (λ (r : Read). IsPrefix (written p b) (written p r.progress)) (sym (read_from-test p b t (ts ++ us) ∙ ap (after_test p b t (ts ++ us)) is)) (same_text (written p b)))
-    by_test None is further =
-        subst (λ (r : Read). Grows p r (read_from p b (t ∷ ts ++ us))) (sym (goes_on p b t ts is))
-        (subst (λ (r : Read). Grows p (read_from p (progress_after b t) ts) r) (sym (goes_on p b t (ts ++ us) is)) further)
+grows p b (t ∷ ts) us =
+    by_token p b t ts (λ r. IsPrefix (written p r.progress) (written p (read_from p b (t ∷ ts ++ us)).progress)) (λ reason is. grows_from p b (t ∷ ts ++ us))
+    (λ is. subst (λ (r : Read). IsPrefix (written p (read_from p (progress_after b t) ts).progress) (written p r.progress)) (sym (goes_on p b t (ts ++ us) is)) (grows p (progress_after b t) ts us))
 
 pub due_grows : DueGrows
 due_grows p ts us = grows p no_progress ts us

@@ -1,28 +1,12 @@
 -- How many pairs were tried for a token: from what the reader counts to what is said of tokens.
-use Rattle.std.proofs.Common.{◌≡◌, ◌⊎◌, inl, ℕ, ◌<◌, max, Bool, true, false, ◌&&◌, ◌||◌, not, List, [], ◌∷◌, ◌++◌, length, drop, Option, None, Some, is_some, Result, Ok, Err, refl, sym, ap, subst, ◌∙◌, arith, IsTrue}
-use Rattle.std.proofs.Math.Seq.{drop-append_seam, drop-length}
-use Rattle.std.proofs.lemmas.Bool.{and_right, or_right, false≢true}
-use Rattle.chess_rules.specs.declared.position.Move.{Move}
 use Rattle.pgn_lexer.specs.Tokens as tokens
-use Rattle.pgn_lexer.specs.Scanned.{kind_of}
 use Rattle.pgn_lexer.specs.declared.token.LexReason.{LexReason}
-use Rattle.pgn_lexer.specs.declared.token.TokenKind.{TokenKind}
-use Rattle.pgn_lexer.specs.declared.token.TokenKind.TheVariants as variants
-use Rattle.pgn_game.specs.declared.accepted.Accepted.{Accepted}
+use Rattle.pgn_lexer.specs.declared.token.TokenKind.TheVariants as token_kinds
 use Rattle.pgn_game.specs.declared.annotation.Annotation.{Annotation}
-use Rattle.pgn_game.specs.declared.annotation.Annotation.TheVariants as code
-use Rattle.pgn_game.proofs.Words.{Parts, Kind, Token, Mode, Full, Reduced, Reason, Stage, Between, AfterTags, InMovetext, Profile}
+use Rattle.pgn_game.specs.declared.annotation.Annotation.TheVariants as annotations
+use Rattle.pgn_game.proofs.Words.{Parts, Kind, Token, Mode, Full, Reduced, Reason, Stage, Between, AfterTags, InMovetext, Profile, ◌≡◌, ◌⊎◌, inl, ℕ, ◌<◌, max, Bool, true, false, ◌&&◌, ◌||◌, not, List, [], ◌∷◌, ◌++◌, length, drop, Option, None, Some, is_some, Result, Ok, Err, refl, sym, ap, subst, ◌∙◌, arith, IsTrue, drop-append_seam, drop-length, and_right, or_right, false≢true, Move, kind_of, TokenKind, Accepted, depth, refusal, is_at, is_number, is_outside_tag_pairs, is_score, levels_of_part, marker_of, position_in, Next, going, next, at_stage, Progress, no_progress, progress_after, Read, read_from, read, Costs, CostsIf, CostsToFind, is_sought, is_written, CostsToWrite, added, CostsToAdd, CostsUnlessRefused, Tries, MostFrom, MostTried, Raises, has_move, ReaderState, Agrees, IsOpen, may_have_movetext, model_item, with_items, TriesItem, writes}
 use Rattle.pgn_game.specs.Game.{Item, Part, move}
-use Rattle.pgn_game.specs.Levels.{depth}
-use Rattle.pgn_game.specs.FaultTable.{refusal, is_at, is_number, is_outside_tag_pairs, is_score, levels_of_part, marker_of, position_in}
-use Rattle.pgn_game.specs.Progress.{Next, going, next, at_stage, Progress, no_progress, progress_after, Read, read_from, read}
-use Rattle.pgn_game.specs.Tried.{Costs}
-use Rattle.pgn_game.specs.MostTried.{CostsIf, CostsToFind, is_sought, is_written, CostsToWrite, added, CostsToAdd, CostsUnlessRefused, Tries, MostFrom, MostTried, Raises}
-use Rattle.pgn_game.specs.MostTried as tried
-use Rattle.pgn_game.specs.Text.{has_move}
-use Rattle.pgn_game.specs.ReaderState.{ReaderState, Agrees}
-use Rattle.pgn_game.specs.TokenInMovetext.{IsOpen, may_have_movetext, model_item, with_items}
-use Rattle.pgn_game.specs.ItemResult.{TriesItem, writes}
+use Rattle.pgn_game.specs.MostTried as most_tried
 use Rattle.pgn_game.proofs.tokens.OneMoreToken.{first_passes, goes_on}
 use Rattle.pgn_game.proofs.refusals.RefusalsInMovetext.{depth_is, position_is}
 use Rattle.pgn_game.proofs.refusals.ReaderToPart.{held_at, text_at}
@@ -32,14 +16,14 @@ use Rattle.pgn_game.proofs.refusals.ReaderToPart.{held_at, text_at}
 most_then : (p : Profile) (b : Progress) (ts : List Token) (most : ℕ) → MostFrom p b ts most → (us : List Token) (n : ℕ)
     → (read_from p b ts).fault ≡ None → MostFrom p (read_from p b ts).progress us n
     → MostFrom p b (ts ++ us) (max most n)
-most_then p b ts most (tried.none c) us n clear then = let most_of_one : n ≡ max 0 n = omega arith in subst (MostFrom p c us) most_of_one then
-most_then p b ts most (tried.refused c x xs m reason some h) us n clear then =
+most_then p b ts most (most_tried.none c) us n clear then = let most_of_one : n ≡ max 0 n = omega arith in subst (MostFrom p c us) most_of_one then
+most_then p b ts most (most_tried.refused c x xs m reason some h) us n clear then =
     let none = first_passes p c x xs clear in absurd (cc)
-most_then p b ts most (tried.passes c x xs m rest is h more) us n clear then =
+most_then p b ts most (most_tried.passes c x xs m rest is h more) us n clear then =
     let same : read_from p c (x ∷ xs) ≡ read_from p (progress_after c x) xs = goes_on p c x xs is in
     let again : max m (max rest n) ≡ max (max m rest) n = omega arith in
     subst (MostFrom p c (x ∷ xs ++ us)) again
-    (tried.passes c x (xs ++ us) m (max rest n) is h
+    (most_tried.passes c x (xs ++ us) m (max rest n) is h
     (most_then p (progress_after c x) xs rest more us n (ap (λ (r : Read). r.fault) (sym same) ∙ clear)
     (subst (λ (r : Read). MostFrom p r.progress us n) same then)))
 
@@ -48,7 +32,7 @@ pub most_with : (p : Profile) (given : List Token) (t : Token) (old new : ℕ) �
     → refusal p (read p given).progress.part t.kind ≡ None → Raises (Tries p (read p given).progress.part t.kind) old new → MostTried p (given ++ t ∷ []) new
 most_with p given t old new before clear free raised =
     let b = (read p given).progress in
-    let one = tried.passes b t [] raised.tried 0 free raised.allowed (tried.none (progress_after b t)) in
+    let one = most_tried.passes b t [] raised.tried 0 free raised.allowed (most_tried.none (progress_after b t)) in
     let least : max raised.tried 0 ≡ raised.tried = omega arith in
     let then = subst (MostFrom p b (t ∷ [])) least one in
     subst (MostTried p (given ++ t ∷ [])) (sym raised.most)
@@ -57,7 +41,7 @@ most_with p given t old new before clear free raised =
 pub most_to_refused : (p : Profile) (given : List Token) (t : Token) (us : List Token) (why : Reason) (old new : ℕ) → MostTried p given old → (read p given).fault ≡ None
     → refusal p (read p given).progress.part t.kind ≡ Some why → Raises (Tries p (read p given).progress.part t.kind) old new → MostTried p (given ++ t ∷ us) new
 most_to_refused p given t us why old new before clear is raised =
-    let then = tried.refused (read p given).progress t us raised.tried why is raised.allowed in
+    let then = most_tried.refused (read p given).progress t us raised.tried why is raised.allowed in
     subst (MostTried p (given ++ t ∷ us)) (sym raised.most)
     (most_then p no_progress given old before (t ∷ us) raised.tried clear then)
 
@@ -104,7 +88,7 @@ pub number_untried : (part : Part) (s : List ℕ) → is_number s ≡ true → C
 number_untried part s number = plain_untried part s (or_right (is_score s) (is_number s) number)
 
 pub marker_untried : (part : Part) (k : TokenKind) → IsTrue (is_some (marker_of (kind_of k))) → CostsToFind part (kind_of k) 0
-marker_untried part (variants.Symbol s) is =
+marker_untried part (token_kinds.Symbol s) is =
     costs_nothing (is_sought part s.now) (position_in part) s.now
     (and_right (is_outside_tag_pairs part) (not (is_score s.now || is_number s.now)) (ap (λ (b : Bool). not (b || is_number s.now)) (score_by (is_score s.now) s.now is)))
   where
@@ -143,12 +127,12 @@ item_held r to i n k is h =
 
 -- for an item other than a move no pair is tried
 untried : (b : Bool) (place : Parts) (i : Annotation) (n k : ℕ) → k ≡ n → CostsToWrite b place (model_item i) n k
-untried true place (code.Glyph glyph) n k h = h
-untried true place code.CommentOpen n k h = h
-untried true place (code.Word text) n k h = h
-untried true place code.CommentClose n k h = h
-untried true place code.Open n k h = h
-untried true place code.Close n k h = h
+untried true place (annotations.Glyph glyph) n k h = h
+untried true place annotations.CommentOpen n k h = h
+untried true place (annotations.Word text) n k h = h
+untried true place annotations.CommentClose n k h = h
+untried true place annotations.Open n k h = h
+untried true place annotations.Close n k h = h
 untried false place i n k h = h
 
 -- The pairs tried before what is written of a token, and after. Where a write of the tag section

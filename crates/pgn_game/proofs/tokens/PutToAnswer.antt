@@ -1,41 +1,15 @@
 -- From what putting a token results in, and from its row of the table, to what the reader answers.
-use Rattle.std.proofs.Common.{◌≡◌, ◌⊎◌, inl, inr, ℕ, ◌+◌, ◌<◌, max, true, false, ◌||◌, [], ◌∷◌, List, length, drop, Option, None, Some, Bor, Result, Ok, Err, IsFalse, IsTrue, is_some, refl, sym, ap, subst, ◌∙◌, arith}
 use Rattle.std.proofs.Math.Nat.{le-max_left}
-use Rattle.std.proofs.lemmas.Bool.{false≢true, or_parts}
-use Rattle.std.specs.Option.{ok_or}
-use Rattle.chess_rules.specs.declared.position.Move.{Move}
-use Rattle.chess_rules.specs.Legal.{legal}
-use Rattle.chess_text.specs.MoveOfForm.{with_next}
-use Rattle.std.specs.Io.KnownBytes.{Appends}
-use Rattle.std.proofs.KnownBytes.{Appends-nil}
-use Rattle.pgn_layout.specs.Device.{AppendsFront, Device}
-use Rattle.pgn_lexer.specs.Scanned.{kind_of}
-use Rattle.pgn_lexer.specs.declared.token.TokenKind.{TokenKind}
-use Rattle.pgn_lexer.specs.declared.token.TokenKind.TheVariants as variants
-use Rattle.pgn_lexer.specs.Tokens.{symbol}
-use Rattle.pgn_game.specs.declared.accepted.Accepted.{Accepted}
-use Rattle.pgn_game.specs.declared.accepted.Accepted.TheVariants.{More, Finished}
+use Rattle.pgn_lexer.specs.declared.token.TokenKind.TheVariants as token_kinds
 use Rattle.pgn_game.specs.declared.annotation.Annotation.{Annotation}
-use Rattle.pgn_game.specs.declared.marker.Marker.{Marker}
-use Rattle.pgn_game.specs.Markers.{marker_text}
-use Rattle.pgn_game.specs.Chess.{move_of}
-use Rattle.pgn_game.specs.FoundMove.{found_in}
 use Rattle.pgn_game.specs.Game.{move}
-use Rattle.pgn_game.proofs.Words.{Parts, Played, Kind, IllegalMove, Reason, Stage, Between, AfterTags, InMovetext, Profile, Item, Part, no_part}
-use Rattle.pgn_game.specs.Text.{torn}
-use Rattle.pgn_game.specs.FaultTable.{refusal, is_at, is_comment, is_end, is_number, is_outside_tag_pairs, is_score, levels_of_part, marker_of, position_if_move, position_in}
-use Rattle.pgn_game.specs.Levels.{depth}
-use Rattle.pgn_game.specs.Progress.{Next, going, at_stage, in_text, next}
-use Rattle.pgn_game.specs.Due.{gain, text_next}
-use Rattle.pgn_game.specs.MostTried.{CostsToFind, CostsToAdd, CostsUnlessRefused, Raises, Tries, TriesUnwritten, added}
-use Rattle.pgn_game.specs.MostTried as tried
+use Rattle.pgn_game.proofs.Words.{Parts, Played, Kind, IllegalMove, Reason, Stage, Between, AfterTags, InMovetext, Profile, Item, Part, no_part, ◌≡◌, ◌⊎◌, inl, inr, ℕ, ◌+◌, ◌<◌, max, true, false, ◌||◌, [], ◌∷◌, List, length, drop, Option, None, Some, Bor, Result, Ok, Err, IsFalse, IsTrue, is_some, refl, sym, ap, subst, ◌∙◌, arith, false≢true, or_parts, ok_or, Move, legal, with_next, Appends, Appends-nil, AppendsFront, Device, kind_of, TokenKind, symbol, Accepted, More, Finished, Marker, marker_text, move_of, found_in, torn, refusal, is_at, is_comment, is_end, is_number, is_outside_tag_pairs, is_score, levels_of_part, marker_of, position_if_move, position_in, depth, Next, going, at_stage, in_text, next, gain, text_next, CostsToFind, CostsUnlessRefused, Tries, TriesUnwritten, added, ReaderState, Agrees, Answers, as_written, IsStopped, CountsStop, is_outside_the_table, Stays, FinishesAtMarker, Leads, plies_behind, plies_next, whole_plies, IsEntry, IsOpen, may_have_movetext, model_item, text_refusal, with_items}
+use Rattle.pgn_game.specs.MostTried as most_tried
 use Rattle.pgn_game.specs.ReaderState as reader_state
-use Rattle.pgn_game.specs.ReaderState.{ReaderState, Agrees, Answers, as_written, IsStopped, CountsStop, is_outside_the_table, Stays, FinishesAtMarker, Leads, plies_behind, plies_next, whole_plies}
-use Rattle.pgn_game.specs.TokenInMovetext.{IsEntry, IsOpen, may_have_movetext, model_item, text_refusal, with_items}
 use Rattle.pgn_game.specs.PutResult.{CountsMove, EntersMovetext, Finds, FinishesNone, GoesTo, PutResult, PutsItems, Takes, TakesEntry, TakesOutside, TakesToken, TakesUnwritten, at_game_start, counting_probes, unused}
 use Rattle.pgn_game.proofs.refusals.RefusalsByStage.{begins_alike, comment_passes, drops_comments, passes_between}
-use Rattle.pgn_game.proofs.refusals.RefusalsInMovetext.{marker_whole, move_free, move_leads, move_refused as move_row_refused, refused_inside}
-use Rattle.pgn_game.proofs.refusals.ReaderToPart.{held_at, open_agrees, open_position, part_stage, position_in_pair, text_at}
+use Rattle.pgn_game.proofs.refusals.RefusalsInMovetext.{marker_whole, move_free, move_leads, move_refused as move_row_refused, position_is, refused_inside}
+use Rattle.pgn_game.proofs.refusals.ReaderToPart.{held_at, open_agrees, part_stage, position_in_pair, text_at}
 use Rattle.pgn_game.proofs.putting.ItemToReader.{to_items}
 use Rattle.pgn_game.proofs.putting.MarkerToReader.{to_game}
 use Rattle.pgn_game.proofs.putting.PairStepToReader.{no_torn, puts_nothing}
@@ -46,10 +20,6 @@ pub counting_none : (old : ReaderState) → old ≡ counting_probes old 0
 counting_none old = let same : old.most_probes ≡ max old.most_probes 0 = omega arith in ap (λ (n : ℕ). record old { most_probes = n }) same
 
 -- Rejections.
-
--- a rejection counts no failure
-pub counts_refused : (reason : Reason) (n : ℕ) → IsFalse (is_outside_the_table reason) → CountsStop (is_outside_the_table reason) reason n n
-counts_refused reason n h = subst (λ b. CountsStop b reason n n) (sym h) refl
 
 pub refused_after : (old new : ReaderState) (IsOf : Part → Type 0) (k : Kind) (reason : Reason) (n : ℕ) (o : Option (List ℕ)) (m : ℕ) → new ≡ counting_probes old n
     → IsFalse (is_outside_the_table reason) → ((part : Part) → IsOf part → refusal old.profile part k ≡ Some reason) → ((part : Part) → IsOf part → CostsToFind part k n)
@@ -74,7 +44,7 @@ refused_after old new IsOf k reason n o m counted inside why costs here = record
   };
   stays = tt;
   finished = tt;
-  counted = counts_refused reason m inside;
+  counted = subst (λ b. CountsStop b reason m m) (sym inside) refl;
 }
 
 -- in movetext, where no pair was tried
@@ -82,7 +52,7 @@ pub entry_refused : (old : ReaderState) (k : Kind) (reason : Reason) (o : Option
     → ((part : Part) → IsOpen old part → text_refusal old.profile part k ≡ Some reason) → ((part : Part) → CostsToFind part k 0) → TakesEntry old k old (Err reason) (unused o m)
 entry_refused old k reason o m inside why costs =
     refused_after old old (IsEntry old k) k reason 0 o m (counting_none old) inside (λ part is. is.row ∙ why part is.is_open) (λ part is. costs part)
-    (λ part is. ap (position_if_move reason) (open_position old part is.is_open))
+    (λ part is. ap (position_if_move reason) (position_is old part is.is_open))
 
 -- Tokens that are put.
 
@@ -103,8 +73,8 @@ module _ (old counted new : ReaderState) (part : Part) (k : Kind) (to : Next) (d
   }
 
   unwritten : CostsToPut old.profile part to n more ⊎ ((is_at InMovetext part ≡ false) × (more ≡ n)) → TriesUnwritten old.profile part k more
-  unwritten (inl costs) = tried.at_token (tries costs)
-  unwritten (inr (before, none)) = tried.in_section before (subst (CostsToFind part k) (sym none) finds)
+  unwritten (inl costs) = most_tried.at_token (tries costs)
+  unwritten (inr (before, none)) = most_tried.in_section before (subst (CostsToFind part k) (sym none) finds)
 
   answers : (r : Result Accepted Reason) → GoesTo counted part to new r d → TriesPut old.profile part to r n more → Answers old part k new r d.before d.after
   answers (Ok accepted) goes costs = record {
@@ -197,27 +167,19 @@ pub item_entry : (old new : ReaderState) (k : Kind) (i : Annotation) (r : Result
     → TakesEntry old k new r d
 item_entry old new k i r d put says finds = puts_entry old new k (model_item i ∷ []) r d put (λ p part. adds_item p i part) says finds
 
--- What holds after each part of a kind holds after those of another that are of it too.
-pub takes_of : (old new : ReaderState) (IsOf IsToo : Part → Type 0) (k : Kind) (r : Result Accepted Reason) (d : Device) → ((part : Part) → IsOf part → IsToo part)
-    → Takes old IsToo k new r d → Takes old IsOf k new r d
-takes_of old new IsOf IsToo k r d sub t =
-    record { accepts = λ part is. t.accepts part (sub part is); keeps = t.keeps; stays = t.stays; finished = t.finished; counted = t.counted }
-
 -- A token that belongs to movetext at the stage of the reader.
 pub enters : (old : ReaderState) (k : TokenKind) → IsTrue (may_have_movetext old.stage) → ((part : Part) → Agrees old part → IsEntry old (kind_of k) part) → EntersMovetext old (kind_of k) old
 enters old k at entry = record {
   stage = at;
   plies = omega arith;
-  takes = λ new r d t. takes_of old new (Agrees old) (IsEntry old (kind_of k)) (kind_of k) r d entry t;
+  takes = λ new r d t.
+      record { accepts = λ part agrees. t.accepts part (entry part agrees); keeps = t.keeps; stays = t.stays; finished = t.finished; counted = t.counted };
 }
 
 -- A token that begins a game.
 
 abbrev no_pairs : Part
 no_pairs = at_stage AfterTags no_part
-
-begins_at_first : (old : ReaderState) (part : Part) → Agrees old part → old.stage ≡ Between → Agrees (at_game_start old) no_pairs
-begins_at_first old part agrees at = record { stage = refl; pairs = refl; text = (refl, refl, text_at old part Between agrees at) }
 
 finds_alike : (k : TokenKind) (n : ℕ) → CostsToFind no_pairs (kind_of k) n → CostsToFind no_part (kind_of k) n
 finds_alike _ n h = h
@@ -232,8 +194,8 @@ module _ (p : Profile) (k : TokenKind) (row : refusal p no_pairs (kind_of k) ≡
   }
 
   unwritten_alike : (n : ℕ) → TriesUnwritten p no_pairs (kind_of k) n → TriesUnwritten p no_part (kind_of k) n
-  unwritten_alike n (tried.at_token t) = tried.at_token (tries_alike n t)
-  unwritten_alike n (tried.in_section before finds) = tried.in_section refl (finds_alike k n finds)
+  unwritten_alike n (most_tried.at_token t) = most_tried.at_token (tries_alike n t)
+  unwritten_alike n (most_tried.in_section before finds) = most_tried.in_section refl (finds_alike k n finds)
 
   gain_alike : gain (as_written p) no_pairs (kind_of k) ≡ gain (as_written p) no_part (kind_of k)
   gain_alike =
@@ -266,7 +228,7 @@ takes_first old new k r d at comment over t =
     record {
       accepts = λ part agrees.
           subst (λ (q : Part). Answers old q (kind_of k) new r d.before d.after) (sym (held_at old part Between agrees at))
-          (answers_alike old new k r d.before d.after at row leads (t.accepts no_pairs (begins_at_first old part agrees at)));
+          (answers_alike old new k r d.before d.after at row leads (t.accepts no_pairs (record { stage = refl; pairs = refl; text = (refl, refl, text_at old part Between agrees at) })));
       keeps = record { profile = t.keeps.profile; plies = omega (arith, t.keeps.plies); probes = t.keeps.probes };
       stays = stays_first r t.stays;
       finished = t.finished;
@@ -310,7 +272,7 @@ module _ (old found : ReaderState) (s : List ℕ) (n : ℕ) (at : IsTrue (may_ha
       let here = old.text.levels.present.present in
       refused_after old found (IsEntry old (symbol s)) (symbol s) reason n o m finds.counted (refused_inside here s reason finds.found)
       (λ part is. is.row ∙ move_row_refused old part s here reason number score is.is_open refl finds.found) (λ part is. costs_found old part s n is.is_open at number score finds.tried)
-      (λ part is. ap (position_if_move reason) (open_position old part is.is_open))
+      (λ part is. ap (position_if_move reason) (position_is old part is.is_open))
 
   pub takes_move : (new : ReaderState) (mv : Move) (r : Result Accepted Reason) (d : Device) (more : ℕ) → Finds old s found (Ok mv) n
       → PutResult found (IsOpen found) (to_items (move mv ∷ [])) new r d → FinishesNone r → new.most_probes ≡ max old.most_probes more
@@ -334,7 +296,7 @@ module _ (old found : ReaderState) (s : List ℕ) (n : ℕ) (at : IsTrue (may_ha
 
 -- A token between games that begins none.
 bare_untried : (k : TokenKind) (part : Part) → (is_comment (kind_of k) || is_end (kind_of k)) ≡ true → CostsToFind part (kind_of k) 0
-bare_untried (variants.Symbol s) part is = absurd (false≢true is)
+bare_untried (token_kinds.Symbol s) part is = absurd (false≢true is)
 bare_untried _ part is = refl
 
 pub passes_first : (old new : ReaderState) (k : TokenKind) (o : Option (List ℕ)) (m : ℕ) → new ≡ old → old.stage ≡ Between → (is_comment (kind_of k) || is_end (kind_of k)) ≡ true
@@ -345,8 +307,8 @@ passes_first old new k o m same at is =
     (λ part agrees. bare_untried k part is) (λ part. adds_same old.profile part part refl))
 
 -- The move of a token that SetUp rejects.
-pub no_symbol_counted : (old : ReaderState) (k : TokenKind) → ((s : Bor (List ℕ)) → k ≡ variants.Symbol s → ⊥) → CountsMove old (kind_of k) old
-no_symbol_counted old (variants.Symbol s) other = absurd (other s refl)
+pub no_symbol_counted : (old : ReaderState) (k : TokenKind) → ((s : Bor (List ℕ)) → k ≡ token_kinds.Symbol s → ⊥) → CountsMove old (kind_of k) old
+no_symbol_counted old (token_kinds.Symbol s) other = absurd (other s refl)
 no_symbol_counted old k other = record { pairs = 0; counted = counting_none old; tried = λ part agrees. refl }
 
 pub plain_counted : (old : ReaderState) (s : List ℕ) → (is_score s || is_number s) ≡ true → CountsMove old (symbol s) old

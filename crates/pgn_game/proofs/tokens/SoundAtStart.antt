@@ -1,11 +1,8 @@
 -- How many tokens come without another byte, and the counts before the first byte.
-use Rattle.std.proofs.Common.{◌≡◌, ◌≤◌, ◌^◌, false, None, arith}
+use Rattle.pgn_game.proofs.Words.{◌≡◌, ◌≤◌, ◌^◌, false, None, arith, Standing, waiting, IsKnown, ReaderState, IsSound}
 use Rattle.pgn_lexer.specs.declared.partial_token.Mode.{Mode}
 use Rattle.pgn_lexer.specs.declared.partial_token.Mode.TheVariants.{LineWord, Symbol, Glyph, Suffix, BraceWord, Line}
 use Rattle.pgn_lexer.specs.PartialToken.{pending_in}
-use Rattle.pgn_lexer.specs.Standing.{Standing, waiting}
-use Rattle.pgn_game.specs.ReaderState.{IsKnown, ReaderState}
-use Rattle.pgn_game.specs.ConverterCalls.{IsSound}
 
 few_waiting_in : (m : Mode) → pending_in m ≤ 2
 few_waiting_in Symbol = omega arith

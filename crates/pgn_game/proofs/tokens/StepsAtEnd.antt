@@ -1,25 +1,12 @@
 -- Steps behind the last piece.
-use Rattle.std.proofs.Common.{◌≡◌, ℕ, ◌+◌, ◌<◌, ◌≤◌, Bool, true, false, List, [], ◌∷◌, ◌++◌, length, Option, None, Some, Result, Ok, Err, refl, sym, ap, subst, ◌∙◌, append-nil, append_assoc, length-append, le_refl, arith, ◌*◌, ◌^◌, IsTrue, is_some, ◌↔◌}
-use Rattle.pgn_layout.specs.Device.{Device, IsStill}
 use Rattle.pgn_lexer.specs.declared.token.LexFault.{LexFault}
 use Rattle.pgn_lexer.specs.Tokens as tokens
-use Rattle.pgn_lexer.specs.TokensOf.{tokens_of}
 use Rattle.pgn_lexer.specs.PartialToken.{refusal as refusal_token}
-use Rattle.pgn_lexer.specs.Standing.{Standing, coming, waiting}
-use Rattle.pgn_lexer.specs.Stands.{HasLeft, IsNext, FinishGivesToken, Follows}
-use Rattle.pgn_game.proofs.Words.{Kind, Token, Stage, Between, Reason, Lexical, ReadFault, WriteFault, InputTooLong, Changed, Fault, Profile, Pair, Item, Game}
-use Rattle.pgn_game.specs.declared.accepted.Accepted.{Accepted}
-use Rattle.pgn_game.specs.declared.accepted.Accepted.TheVariants.{More, Finished}
-use Rattle.pgn_game.specs.FaultTable.{refusal, is_end, marker_of}
-use Rattle.pgn_game.specs.Progress.{next, progress_with, Progress, Read, read}
-use Rattle.pgn_game.specs.Due.{Gains}
-use Rattle.pgn_game.specs.ReaderState as reader_state
-use Rattle.pgn_game.specs.ReaderState.{ReaderState, Answers, IsKnown, as_written, Stays, FinishesAtMarker, CountsStop, CountsWrites, is_outside_the_table}
-use Rattle.pgn_game.specs.ConverterCalls.{Converter, IsSound, game_in_reader, game_in_reader_if, IsLast, HasRead, Stands, unwritten, Finishes, FinishesToFault, ProbesAtStop, CountsFault, CountsReason}
-use Rattle.pgn_game.specs.ConverterSteps.{SameGames, FaultAtEnd, AfterStepAtEnd, StepAtEndAdvances, AtEndSoFar, StaysBetween, outcome_at, is_ended, games_after, none_at_end, fault_of_step}
+use Rattle.pgn_game.proofs.Words.{Kind, Token, Stage, Between, Reason, Lexical, ReadFault, WriteFault, InputTooLong, Changed, Fault, Profile, Pair, Item, Game, ◌≡◌, ℕ, ◌+◌, ◌<◌, ◌≤◌, Bool, true, false, List, [], ◌∷◌, ◌++◌, length, Option, None, Some, Result, Ok, Err, refl, sym, ap, subst, ◌∙◌, append-nil, append_assoc, length-append, le_refl, arith, ◌*◌, ◌^◌, IsTrue, is_some, ◌↔◌, Device, IsStill, tokens_of, Standing, coming, waiting, HasLeft, IsNext, FinishGivesToken, Follows, Accepted, More, Finished, refusal, is_end, marker_of, next, progress_with, Progress, read, Gains, ReaderState, Answers, IsKnown, as_written, Stays, FinishesAtMarker, CountsStop, CountsWrites, is_outside_the_table, SameGames, FaultAtEnd, AfterStepAtEnd, StepAtEndAdvances, AtEndSoFar, StaysBetween, outcome_at, is_ended, games_after, none_at_end, fault_of_step}
+use Rattle.pgn_game.specs.ConverterCalls.{Converter, IsSound, game_in_reader, game_in_reader_if, IsLast, HasRead, Stands, Finishes, FinishesToFault, CountsFault, CountsReason}
 use Rattle.pgn_game.proofs.tokens.OneMoreToken.{gains_none, gains_more, stops_more, games_still, counts_still, position_still, read-passes}
 use Rattle.pgn_game.proofs.tokens.NoneBeforeFault.{none_before_fault}
-use Rattle.pgn_game.proofs.tokens.AcceptedToConverter.{stepped, gains_token, same_games, has_read_more, one_game, has_read_game, stops_refused, writing, stops_lexical, none_before_refused, none_before_unwritten, none_before_lexical, count_at_refused, count_at_unwritten, count_at_lexical, position_at_lexical, position_at_refused}
+use Rattle.pgn_game.proofs.tokens.AcceptedToConverter.{stepped, gains_token, same_games, has_read_more, one_game, has_read_game, at_fault, at_lexical}
 
 -- what is left behind a token: nothing behind the end
 abbrev pub Left : List ℕ → List Token → Bool → Standing → Token → Type 0
@@ -95,8 +82,7 @@ closes p old u given t l new finished a c true (Ok More) is_e has_read left prof
       record {
         whole = left;
         has_read = let_go p _ _ more;
-        between = more.agrees.stage ∙ ap (λ (r : Read). r.progress.part.stage) (read-passes p given t has_read.passes passes)
-            ∙ end_passes p (read p given).progress t.kind is_e passes;
+        between = cc (more.agrees.stage, read-passes p given t has_read.passes passes, end_passes p (read p given).progress t.kind is_e passes);
         same = same_games p old given t l new finished has_read profile probes h.free h.leads;
         gains = gains_token p old given t l new finished has_read profile probes written a c h.free h.appended;
       },
@@ -123,35 +109,15 @@ closes p old u given t l new finished a c false (Ok Finished) is_e has_read left
   },
   one_game p old given t l new finished has_read profile probes h.free h.leads,
 )
-closes p old u given t l new finished a c e (Err why) is_e has_read left profile probes written (reader_state.refused reason some wrote tries here) stays at_marker =
+closes p old u given t l new finished a c e (Err why) is_e has_read left profile probes written stopped stays at_marker =
     let rest = tokens_left u given e l t left in
-    (subst (λ ts. FaultAtEnd p given ts (record { at = t.at; reason = reason }) new a c) (sym rest.1)
-    (record {
-      stops = stops_refused p old given t l new finished has_read profile probes rest.0 a c reason some wrote;
-      no_game = none_before_refused p old given t l new finished has_read profile probes rest.0 a c reason some wrote;
-      counts = count_at_refused p old given t l new finished has_read profile probes rest.0 a c reason some wrote tries;
-      position = position_at_refused p old given t l new finished has_read profile probes rest.0 a c reason some wrote here;
-    }))
-closes p old u given t l new finished a c e (Err why) is_e has_read left profile probes written (reader_state.unwritten none wrote tries) stays at_marker =
-    let rest = tokens_left u given e l t left in
-    (subst (λ ts. FaultAtEnd p given ts (record { at = t.at; reason = WriteFault }) new a c) (sym rest.1)
-    (record {
-      stops = unwritten t.at (writing p old given t l new finished has_read profile probes written rest.0 a c none wrote);
-      no_game = none_before_unwritten p old given t l new finished has_read profile probes written rest.0 a c none wrote;
-      counts = count_at_unwritten p old given t l new finished has_read profile probes written rest.0 a c none wrote tries;
-      position = refl;
-    }))
+    subst (λ ts. FaultAtEnd p given ts (record { at = t.at; reason = why }) new a c) (sym rest.1)
+    (at_fault p old given t l new finished has_read profile probes written rest.0 a c why stopped)
 
 pub closes_fault : (p : Profile) (old new : Converter) (u : List ℕ) (given : List Token) (f : LexFault) (o : Option (List ℕ)) → HasRead p old given
     → tokens_of u ≡ given ++ refusal_token f ∷ [] → new.reading ≡ old.reading → AfterStepAtEnd p u given old new (Err (record { at = f.at; reason = Lexical f.reason })) o o
 closes_fault p old new u given f o has_read whole same =
-    subst (λ ts. FaultAtEnd p given ts (record { at = f.at; reason = Lexical f.reason }) new.reading o o) (sym whole)
-    (record {
-      stops = stops_lexical p given f o has_read.passes;
-      no_game = none_before_lexical p given f o has_read.passes;
-      counts = subst (λ (r : ReaderState). ProbesAtStop (stops_lexical p given f o has_read.passes) r.most_probes) (sym same) (count_at_lexical p old given f o has_read);
-      position = position_at_lexical p given f o has_read.passes;
-    })
+    subst (λ ts. FaultAtEnd p given ts (record { at = f.at; reason = Lexical f.reason }) new.reading o o) (sym whole) (at_lexical p old given f new.reading o has_read same)
 
 -- the end has neither a fault of its own nor a failure
 pub fault_of_closed : (e : Bool) (outcome : Result (Option Accepted) Fault) → fault_of_step outcome ≡ fault_of_step (none_at_end e outcome)
@@ -202,6 +168,11 @@ sound_behind_fault lexer reading games is_finished f known =
       no_fault = λ is. absurd (cc);
     }
 
+-- a token finishes one game at most
+one_more : (accepted : Accepted) (games : ℕ) → games_after (Ok (Some accepted)) games ≤ games + 1
+one_more More games = omega arith
+one_more Finished games = omega arith
+
 -- A token behind the last piece keeps the counts small. The end takes no byte, but it is the last
 -- one.
 pub sound_behind : (old new : Standing) (before after : ReaderState) (games at : ℕ) (k : Kind) (e : Bool) (r : Result Accepted Reason) → is_end k ≡ e → Nearer e old new
@@ -221,23 +192,14 @@ sound_behind old new before after games at k true (Ok More) is_e near marker cou
       between = λ is. absurd (cc);
       no_fault = λ is. absurd (cc);
     }
-sound_behind old new before after games at k false (Ok More) is_e near marker count few plies more known =
-    record {
-      known = known;
-      count = λ none. omega (arith, count, near.1);
-      few = λ none. omega (arith, few, near.0, near.1);
-      few_plies = λ none. omega (arith, plies, more, near.0, near.1);
-      fewer_plies = λ none is. omega (arith, plies, more, near.0, near.1);
-      between = λ is. absurd (cc);
-      no_fault = λ is. absurd (cc);
-    }
 sound_behind old new before after games at k true (Ok Finished) is_e near marker count few plies more known =
     absurd (no_marker_at_end k is_e marker.0)
-sound_behind old new before after games at k false (Ok Finished) is_e near marker count few plies more known =
+sound_behind old new before after games at k false (Ok accepted) is_e near marker count few plies more known =
+    let counted = one_more accepted games in
     record {
       known = known;
       count = λ none. omega (arith, count, near.1);
-      few = λ none. omega (arith, few, near.0, near.1);
+      few = λ none. omega (arith, few, near.0, near.1, counted);
       few_plies = λ none. omega (arith, plies, more, near.0, near.1);
       fewer_plies = λ none is. omega (arith, plies, more, near.0, near.1);
       between = λ is. absurd (cc);

@@ -1,15 +1,7 @@
 -- Steps in turn in a piece.
 use Rattle.std.proofs.Common.{◌≡◌, ℕ, ◌+◌, ◌-◌, ◌<◌, ◌≤◌, ◌^◌, zero, suc, List, [], ◌∷◌, ◌++◌, length, take, drop, Option, None, Some, refl, sym, ap, subst, ◌∙◌, append_assoc, append-nil, length-append, length-drop, length-take, length-take-le, le_refl, take_all, drop_of_length-le, inl, inr, arith, Ok, Err}
 use Rattle.std.proofs.Math.Seq.{take-add}
-use Rattle.std.proofs.lemmas.List.{take-append-drop, take-take, drop-take, drop-drop}
-use Rattle.pgn_lexer.specs.Tokens.{Token, EndsAt}
-use Rattle.pgn_lexer.specs.TokensOf.{tokens_of}
-use Rattle.pgn_lexer.specs.Decided.{decided}
-use Rattle.pgn_lexer.specs.Stands.{Follows, IsDecided, first, still}
-use Rattle.pgn_game.proofs.Words.{Reason, InputTooLong, Fault, Profile}
-use Rattle.pgn_game.specs.declared.accepted.Accepted.TheVariants.{More, Finished}
-use Rattle.pgn_game.specs.ReaderState.{ReaderState}
-use Rattle.pgn_game.specs.ConverterCalls.{Converter, Stands, AreNext, FedAll, FedGame, FedToFault, StopsIn, too_long, CountsReason}
+use Rattle.pgn_game.proofs.Words.{Reason, InputTooLong, Fault, Profile, take-append-drop, take-take, drop-take, drop-drop, Token, EndsAt, tokens_of, decided, Follows, IsDecided, first, still, More, Finished, ReaderState, Converter, Stands, AreNext, FedAll, FedGame, FedToFault, StopsIn, too_long, CountsReason}
 use Rattle.pgn_game.specs.ConverterSteps.{AfterStep, next_at, SoFar}
 use Rattle.pgn_game.proofs.tokens.OneMoreToken.{gains_none, gains_more, stops_more, games_still, counts_still, position_still}
 use Rattle.pgn_game.proofs.tokens.AcceptedToConverter.{still_none, still_none-none}
@@ -244,8 +236,7 @@ module _ (p : Profile) (u : List ℕ) (b : Option ℕ) (given : List Token) (pie
           tokens = fed.tokens;
           next = λ s follows.
               let whole : (u ++ piece) ++ s ≡ (u ++ take n piece) ++ (drop n piece ++ s) =
-              ap (λ xs. (u ++ xs) ++ s) (sym (take-append-drop n piece)) ∙ ap (λ xs. xs ++ s) (sym (append_assoc u (take n piece) (drop n piece)))
-              ∙ append_assoc (u ++ take n piece) (drop n piece) s in
+              cc (take-append-drop n piece, append_assoc u (take n piece) (drop n piece), append_assoc (u ++ take n piece) (drop n piece) s) in
               let begun = fed.next (drop n piece ++ s) (goes_on piece n s begins follows) in
               (begun.0, ap tokens_of whole ∙ begun.1);
           stops = fed.stops;

@@ -1,21 +1,10 @@
 -- Conversions of whole inputs.
-use Rattle.std.proofs.Common.{◌≡◌, ℕ, false, inl, ◌^◌, ◌<◌, ◌≤◌, List, [], ◌∷◌, ◌++◌, length, Option, None, Some, Result, Ok, Err, IfSome, refl, sym, ap, subst, ◌∙◌, append-nil, append_assoc, map, sum}
-use Rattle.std.proofs.KnownBytes.{Consumes-nil, Consumes-trans}
 use Rattle.std.specs.Io.KnownBytes.{Appends, Consumes, Keeps, IsAtEnd}
-use Rattle.pgn_lexer.specs.TokensOf.{tokens_of}
-use Rattle.pgn_lexer.specs.Decided.{decided}
-use Rattle.pgn_lexer.specs.Stands.{Follows}
-use Rattle.pgn_game.proofs.Words.{Token, InputTooLong, Fault, Profile}
+use Rattle.pgn_game.proofs.Words.{Token, InputTooLong, Fault, Profile, ◌≡◌, ℕ, false, inl, ◌^◌, ◌<◌, ◌≤◌, List, [], ◌∷◌, ◌++◌, length, Option, None, Some, Result, Ok, Err, IfSome, refl, sym, ap, subst, ◌∙◌, append-nil, append_assoc, map, sum, Consumes-nil, Consumes-trans, tokens_of, decided, Follows, plies_of, whole_plies, Gains, MostTried, IsConverted, IsTotalled, MostProbes, ReadsNoMore, FailsOn, Fails, AfterEnd, AfterConversion, AfterSlice, verdict_in, Games, games_of, HaveRead, within, NextGame, NoGame, NextStops, ReadSoFar}
 use Rattle.pgn_game.specs.declared.conversion.Totals.{Totals}
-use Rattle.pgn_game.specs.Levels.{plies_of}
-use Rattle.pgn_game.specs.ReaderState.{whole_plies}
 use Rattle.pgn_game.specs.Progress.{no_progress, Read, read, written, due, refused as is_refused, totals, verdict, verdict_of}
-use Rattle.pgn_game.specs.Due.{Gains}
-use Rattle.pgn_game.specs.MostTried.{MostTried}
 use Rattle.pgn_game.specs.ConverterCalls.{Converter, HasRead, Stands, Stops, refused, unwritten, StopsWriting, StopsIn, at_token, too_long, FedFault, FedWhole, ReadsUpTo, Finishes}
-use Rattle.pgn_game.specs.Conversion.{IsConverted, IsTotalled, MostProbes, ReadsNoMore, FailsOn, Fails, AfterEnd, AfterConversion, AfterSlice, verdict_in}
-use Rattle.pgn_game.specs.GamesCalls as calls
-use Rattle.pgn_game.specs.GamesCalls.{Games, games_of, HaveRead, within, NextGame, NoGame, NextStops, ReadSoFar}
+use Rattle.pgn_game.specs.GamesCalls as games_calls
 use Rattle.pgn_game.specs.Conversion as conversion
 use Rattle.pgn_game.proofs.tokens.OneMoreToken.{torn-none, gains_none, gains_more, stops_more, stops_from}
 use Rattle.pgn_game.proofs.tokens.AcceptedToConverter.{in_games, still_none-none}
@@ -143,7 +132,7 @@ module _ (p : Profile) (left_old left left_new : Option (List ℕ)) (now : Games
 
   -- a call stopped
   pub games_stop : (most : ℕ) (f : Fault) → NextStops p so.bytes so.tokens left left_new most c d f → Fails p left_old left_new a d f
-  games_stop most f (calls.at_token g more consumed to) = by_stops (stops_more p [] so.tokens to.tokens g a c d so.gains to.stops)
+  games_stop most f (games_calls.at_token g more consumed to) = by_stops (stops_more p [] so.tokens to.tokens g a c d so.gains to.stops)
     where
       by_stops : {h : Fault} → Stops p [] to.tokens a d h → Fails p left_old left_new a d h
       by_stops (refused h fault gains) =
@@ -153,17 +142,17 @@ module _ (p : Profile) (left_old left left_new : Option (List ℕ)) (now : Games
           let here = to.next [] tt in
           let cut : tokens_of (so.bytes ++ more) ≡ to.tokens ++ here.0 = ap tokens_of (sym (append-nil (so.bytes ++ more))) ∙ here.1 in
           conversion.unwritten (so.bytes ++ more) at (all more consumed) (subst (λ ts. StopsWriting p [] ts at a d) (sym cut) (further_writing p [] to.tokens here.0 at a d writing))
-  games_stop most f (calls.at_end g more consumed end to) = by_stops (stops_more p [] so.tokens (tokens_of (so.bytes ++ more)) g a c d so.gains to.stops)
+  games_stop most f (games_calls.at_end g more consumed end to) = by_stops (stops_more p [] so.tokens (tokens_of (so.bytes ++ more)) g a c d so.gains to.stops)
     where
       by_stops : {h : Fault} → Stops p [] (tokens_of (so.bytes ++ more)) a d h → Fails p left_old left_new a d h
       by_stops (refused h fault gains) =
           conversion.refused h (known_whole left_old left_new (so.bytes ++ more) (λ s. IsConverted p s (is_refused h) a d) (all more consumed) end
           (refused_text p (so.bytes ++ more) (tokens_of (so.bytes ++ more)) [] h a d (sym (append-nil (tokens_of (so.bytes ++ more)))) fault gains))
       by_stops (unwritten at writing) = conversion.unwritten (so.bytes ++ more) at (all more consumed) writing
-  games_stop most f (calls.unread more consumed none) =
+  games_stop most f (games_calls.unread more consumed none) =
       conversion.unread (so.bytes ++ more) (all more consumed)
       (no_more p (so.bytes ++ more) none.reads.tokens a d none.reads.decided none.reads.passes (gains_more p [] so.tokens none.reads.tokens a c d so.gains none.reads.gains))
-  games_stop most f (calls.too_long more front rest consumed cut place some none) =
+  games_stop most f (games_calls.too_long more front rest consumed cut place some none) =
       subst (λ n. Fails p left_old left_new a d (record { at = n; reason = InputTooLong })) place
       (conversion.too_long front rest (subst (Consumes left_old left_new) cut (all more consumed)) place some
       (no_more p front none.reads.tokens a d none.reads.decided none.reads.passes (gains_more p [] so.tokens none.reads.tokens a c d so.gains none.reads.gains)))

@@ -1,25 +1,11 @@
 -- What the reader answers to a token, and what a reading takes.
-use Rattle.std.proofs.Common.{◌≡◌, ℕ, ◌+◌, ◌<◌, IsTrue, inl, inr, Bool, true, false, List, [], length, take, drop, Option, None, Some, Err, refl, sym, ap, subst, ◌∙◌, arith, ◌||◌, ◌==◌, bytes_eq, is_some}
-use Rattle.std.proofs.lemmas.Bool.{and_parts, not-false}
-use Rattle.std.proofs.lemmas.Slice.Eq.{bytes_eq-Decides}
-use Rattle.std.proofs.Math.Seq.{drop-length}
-use Rattle.std.proofs.KnownBytes.{Appends-nil}
-use Rattle.std.specs.Io.KnownBytes.{Appends}
 use Rattle.pgn_lexer.specs.Tokens as tokens
 use Rattle.pgn_game.specs.declared.accepted.Accepted.TheVariants.{More as Continues, Finished}
 use Rattle.pgn_game.specs.declared.checked.Mark.{Mark as CodeMark}
 use Rattle.pgn_game.specs.declared.checked.Taken.{Taken}
 use Rattle.pgn_game.specs.declared.checked.Taken.TheVariants.{More, Game as GameEnd, End}
-use Rattle.pgn_game.proofs.Words.{Kind, Token, Reason, Changed, Stage, Between, Profile, takes_the_marker, Pair, Item, Part}
-use Rattle.pgn_game.specs.Markers.{marker_text}
-use Rattle.pgn_game.specs.FaultTable.{refusal, is_end, marker_of}
-use Rattle.pgn_game.specs.Text.{torn}
-use Rattle.pgn_game.specs.Due.{gain, text_next}
-use Rattle.pgn_game.specs.Progress.{Next, going, whole, next}
-use Rattle.pgn_game.specs.ReaderState.{Answers, IsAccepted, Leads, ReaderState, as_written}
+use Rattle.pgn_game.proofs.Words.{Kind, Token, Reason, Changed, Stage, Between, Profile, takes_the_marker, Pair, Item, Part, ◌≡◌, ℕ, ◌+◌, ◌<◌, IsTrue, inl, inr, Bool, true, false, List, [], length, take, drop, Option, None, Some, Err, refl, sym, ap, subst, ◌∙◌, arith, ◌||◌, ◌==◌, bytes_eq, is_some, and_parts, not-false, bytes_eq-Decides, drop-length, Appends-nil, Appends, marker_text, refusal, is_end, marker_of, torn, gain, text_next, Next, going, whole, next, Answers, IsAccepted, Leads, ReaderState, as_written, game_of, is_other}
 use Rattle.pgn_game.specs.ReaderState as reader_state
-use Rattle.pgn_game.specs.TokenInMovetext.{game_of}
-use Rattle.pgn_game.specs.Checked.{is_other}
 use Rattle.pgn_game.specs.Pass.{LeadsTo, TakesToken, TokenFails, EndsGame, TellsEnd, accepted_of, games_with, marks_differ, model_mark, other, profile_under, refused, rejects, shows_other, unwritten}
 use Rattle.pgn_game.proofs.tokens.StepsAtEnd.{end_at, is_the_end, marker_or_end}
 use Rattle.pgn_game.proofs.twice.MarkerCounts.{accepted_under, marker_finishes, no_marker_goes, refusal_counting, same_mode}

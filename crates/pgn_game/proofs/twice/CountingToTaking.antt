@@ -1,29 +1,16 @@
 -- Reading with a missing Result that counts as a text, and with one that takes the marker.
 -- Letters: q is the profile whose missing Result takes the marker, b the progress, t a token, ts
 -- are tokens.
-use Rattle.std.proofs.Common.{◌≡◌, ◌⊎◌, inl, inr, ℕ, ◌+◌, Bool, true, false, ◌&&◌, not, ◌==◌, List, [], ◌∷◌, ◌++◌, length, take, drop, codes, bytes_eq, unwrap_or, Option, None, Some, IsTrue, refl, sym, ap, subst, ◌∙◌, length-append, true≢false, arith}
-use Rattle.std.specs.List.{list_all}
 use Rattle.std.proofs.lemmas.Bool.{and_parts, not-true}
-use Rattle.std.proofs.lemmas.Slice.Eq.{bytes_eq-Decides}
 use Rattle.pgn_layout.specs.Lines.{lines_of, text_of as text_of_lines}
 use Rattle.pgn_lexer.specs.Tokens as tokens
-use Rattle.pgn_game.proofs.Words.{Kind, Token, Reason, ResultDiffers, Profile, Missing, counts_as, takes_the_marker, Pair, value_of, Game, Part}
-use Rattle.pgn_game.specs.declared.reason.Fault.{Fault}
-use Rattle.pgn_game.specs.declared.marker.Marker.{Marker}
-use Rattle.pgn_game.specs.Markers.{marker_text}
-use Rattle.pgn_game.specs.Profile.{counting, with_missing}
-use Rattle.pgn_game.specs.TagSection.{tag_lines}
-use Rattle.pgn_game.specs.Levels.{depth, start_of}
-use Rattle.pgn_game.specs.FaultTable.{Row, row, rows, first_holding, refusal, is_outside_tag_pairs, has_other_result, levels_of_part, marker_of}
-use Rattle.pgn_game.specs.Spells.{IsResult}
+use Rattle.pgn_game.proofs.Words.{Kind, Token, Reason, ResultDiffers, Profile, Missing, counts_as, takes_the_marker, Pair, value_of, Game, Part, ◌≡◌, ◌⊎◌, inl, inr, ℕ, ◌+◌, Bool, true, false, ◌&&◌, not, ◌==◌, List, [], ◌∷◌, ◌++◌, length, take, drop, codes, bytes_eq, unwrap_or, Option, None, Some, IsTrue, refl, sym, ap, subst, ◌∙◌, length-append, true≢false, arith, list_all, bytes_eq-Decides, Fault, Marker, marker_text, counting, with_missing, tag_lines, depth, start_of, Row, row, rows, first_holding, refusal, is_outside_tag_pairs, has_other_result, levels_of_part, marker_of, IsResult, Next, going, whole, next, Progress, progress_with, progress_after, no_progress, Read, read_from, read, or_else}
 use Rattle.pgn_game.specs.Text.{game_text, text_of, tokens_out}
-use Rattle.pgn_game.specs.Progress.{Next, going, whole, next, Progress, progress_with, progress_after, no_progress, Read, read_from, read}
-use Rattle.pgn_game.specs.TokenInMovetext.{or_else}
 use Rattle.pgn_game.specs.MissingResults.{is_about_result, rejects_marker, IsReadAlike, MissingResults}
 use Rattle.pgn_game.proofs.refusals.RefusalsInMovetext.{other_if}
 use Rattle.pgn_game.proofs.exporting.GameTextToGame.{exported_result}
 use Rattle.pgn_game.proofs.exporting.GameToResult.{one_of_four, result_of}
-use Rattle.pgn_game.proofs.tokens.OneMoreToken.{after_test, read_from-test, goes_on, text_of-snoc}
+use Rattle.pgn_game.proofs.tokens.OneMoreToken.{after_test, by_token, read_from-test, goes_on, text_of-snoc}
 use Rattle.pgn_game.proofs.twice.MarkerCounts.{marker_finishes, no_marker_goes, refusal_counting, same_game_text, table_alike}
 
 -- One row of the table.
@@ -113,20 +100,14 @@ one_more : (q : Profile) (text : List ℕ) (games : List Game) (to : Next) → A
     → AreAlike q text (progress_with games to).games
 one_more q text games (going part) before same = before
 one_more q text games (whole g) before same =
-    text_of-snoc q games g ∙ ap (λ (xs : List ℕ). xs ++ game_text q g) before ∙ ap (λ (xs : List ℕ). text_of (counting q text) games ++ xs) (same g refl)
-    ∙ sym (text_of-snoc (counting q text) games g)
+    cc (text_of-snoc q games g, before, same g refl, text_of-snoc (counting q text) games g)
 
 all_alike : (q : Profile) (text : List ℕ) (b : Progress) (ts : List Token) → q.missing_result ≡ takes_the_marker → AreAlike q text b.games
     → AreAlike q text (read_from (counting q text) b ts).progress.games
 all_alike q text b [] takes before = before
 all_alike q text b (t ∷ ts) takes before =
-    subst (λ (r : Read). AreAlike q text r.progress.games) (sym (read_from-test (counting q text) b t ts)) (by_test (refusal (counting q text) b.part t.kind) refl (all_alike q text (progress_after b t) ts takes))
-  where
-    by_test : (o : Option Reason) → refusal (counting q text) b.part t.kind ≡ o
-        → (AreAlike q text (progress_after b t).games → AreAlike q text (read_from (counting q text) (progress_after b t) ts).progress.games)
-        → AreAlike q text (after_test (counting q text) b t ts o).progress.games
-    by_test (Some reason) is further = before
-    by_test None is further = further (one_more q text b.games (next b.part t.kind) before (λ g leads. finished_alike q text b.part t.kind g takes is leads))
+    by_token (counting q text) b t ts (λ r. AreAlike q text r.progress.games) (λ reason is. before)
+    (λ is. all_alike q text (progress_after b t) ts takes (one_more q text b.games (next b.part t.kind) before (λ g leads. finished_alike q text b.part t.kind g takes is leads)))
 
 -- Reading.
 
@@ -134,20 +115,10 @@ all_alike q text b (t ∷ ts) takes before =
 reads_alike : (q : Profile) (text : List ℕ) (b : Progress) (ts : List Token) → q.missing_result ≡ takes_the_marker → rejects_marker (read_from (counting q text) b ts).fault ≡ false
     → read_from q b ts ≡ read_from (counting q text) b ts
 reads_alike q text b [] takes plain = refl
-reads_alike q text b (t ∷ ts) takes plain = by_test (refusal (counting q text) b.part t.kind) refl (reads_alike q text (progress_after b t) ts takes)
-  where
-    by_test : (o : Option Reason) → refusal (counting q text) b.part t.kind ≡ o
-        → (rejects_marker (read_from (counting q text) (progress_after b t) ts).fault ≡ false → read_from q (progress_after b t) ts ≡ read_from (counting q text) (progress_after b t) ts)
-        → read_from q b (t ∷ ts) ≡ read_from (counting q text) b (t ∷ ts)
-    by_test (Some reason) is further =
-        let here : read_from (counting q text) b (t ∷ ts) ≡ after_test (counting q text) b t ts (Some reason) = read_from-test (counting q text) b t ts ∙ ap (after_test (counting q text) b t ts) is in
-        let other : is_about_result reason ≡ false = sym (ap (λ (r : Read). rejects_marker r.fault) here) ∙ plain in
-        let same : refusal q b.part t.kind ≡ Some reason = refusal_taking q text b.part t.kind takes (ap by_result is ∙ other) ∙ is in
-        read_from-test q b t ts ∙ ap (after_test q b t ts) same ∙ sym here
-    by_test None is further =
-        let here : read_from (counting q text) b (t ∷ ts) ≡ read_from (counting q text) (progress_after b t) ts = goes_on (counting q text) b t ts is in
-        let same : refusal q b.part t.kind ≡ None = refusal_taking q text b.part t.kind takes (ap by_result is) ∙ is in
-        goes_on q b t ts same ∙ further (sym (ap (λ (r : Read). rejects_marker r.fault) here) ∙ plain) ∙ sym here
+reads_alike q text b (t ∷ ts) takes plain =
+    by_token (counting q text) b t ts (λ r. rejects_marker r.fault ≡ false → read_from q b (t ∷ ts) ≡ r)
+    (λ reason is other. read_from-test q b t ts ∙ ap (after_test q b t ts) (refusal_taking q text b.part t.kind takes (ap by_result is ∙ other) ∙ is))
+    (λ is other. goes_on q b t ts (refusal_taking q text b.part t.kind takes (ap by_result is) ∙ is) ∙ reads_alike q text (progress_after b t) ts takes other) plain
 
 is_read_alike : (q : Profile) (text : List ℕ) (ts : List Token) → q.missing_result ≡ takes_the_marker → read q ts ≡ read (counting q text) ts → IsReadAlike q text ts
 is_read_alike q text ts takes same = record {
@@ -165,14 +136,11 @@ length_with games (whole g) = (1, length-append games (g ∷ []))
 none_lost : (p : Profile) (b : Progress) (ts : List Token) → (n : ℕ) × (length (read_from p b ts).progress.games ≡ length b.games + n)
 none_lost p b [] = (0, omega arith)
 none_lost p b (t ∷ ts) =
-    subst (λ (r : Read). (n : ℕ) × (length r.progress.games ≡ length b.games + n)) (sym (read_from-test p b t ts)) (by_test (refusal p b.part t.kind) (none_lost p (progress_after b t) ts))
-  where
-    by_test : (o : Option Reason) → (n : ℕ) × (length (read_from p (progress_after b t) ts).progress.games ≡ length (progress_after b t).games + n)
-        → (n : ℕ) × (length (after_test p b t ts o).progress.games ≡ length b.games + n)
-    by_test (Some reason) others = (0, omega arith)
-    by_test None others =
-        let first = length_with b.games (next b.part t.kind) in
-        (first.0 + others.0, omega (arith, first.1, others.1))
+    by_token p b t ts (λ r. (n : ℕ) × (length r.progress.games ≡ length b.games + n)) (λ reason is. (0, omega arith))
+    (λ is.
+    let first = length_with b.games (next b.part t.kind) in
+    let others = none_lost p (progress_after b t) ts in
+    (first.0 + others.0, omega (arith, first.1, others.1)))
 
 -- a game that a token finishes is there at the end
 game_stays : (p : Profile) (b : Progress) (t : Token) (ts : List Token) (g : Game) → next b.part t.kind ≡ whole g → length (read_from p (progress_after b t) ts).progress.games ≡ length b.games → ⊥
@@ -236,25 +204,19 @@ module _ (q : Profile) (b : Progress) (t : Token) (m : Marker) (takes : q.missin
   same_row = refusal_counting q (marker_text m) b.part t.kind takes (inr is)
 
   pub up_to_marker : read_from q b (t ∷ []) ≡ read_from (counting q (marker_text m)) b (t ∷ [])
-  up_to_marker = by_test (refusal q b.part t.kind) refl
-    where
-      by_test : (o : Option Reason) → refusal q b.part t.kind ≡ o → read_from q b (t ∷ []) ≡ read_from (counting q (marker_text m)) b (t ∷ [])
-      by_test (Some reason) row =
-          read_from-test q b t [] ∙ ap (after_test q b t []) row
-          ∙ sym (read_from-test (counting q (marker_text m)) b t [] ∙ ap (after_test (counting q (marker_text m)) b t []) (same_row ∙ row))
-      by_test None row = goes_on q b t [] row ∙ sym (goes_on (counting q (marker_text m)) b t [] (same_row ∙ row))
+  up_to_marker =
+      by_token q b t [] (λ r. r ≡ read_from (counting q (marker_text m)) b (t ∷ []))
+      (λ reason row. sym (read_from-test (counting q (marker_text m)) b t [] ∙ ap (after_test (counting q (marker_text m)) b t []) (same_row ∙ row)))
+      (λ row. sym (goes_on (counting q (marker_text m)) b t [] (same_row ∙ row)))
 
   pub marker_refused : (ts : List Token) → length (read_from (counting q (marker_text m)) b (t ∷ ts)).progress.games ≡ length b.games
       → read_from q b (t ∷ ts) ≡ read_from (counting q (marker_text m)) b (t ∷ ts)
-  marker_refused ts none = by_test (refusal q b.part t.kind) refl
-    where
-      by_test : (o : Option Reason) → refusal q b.part t.kind ≡ o → read_from q b (t ∷ ts) ≡ read_from (counting q (marker_text m)) b (t ∷ ts)
-      by_test (Some reason) row =
-          read_from-test q b t ts ∙ ap (after_test q b t ts) row
-          ∙ sym (read_from-test (counting q (marker_text m)) b t ts ∙ ap (after_test (counting q (marker_text m)) b t ts) (same_row ∙ row))
-      by_test None row =
-          absurd (game_stays (counting q (marker_text m)) b t ts _ (marker_finishes q b.part t.kind (marker_text m) is row)
-          (ap (λ (r : Read). length r.progress.games) (sym (goes_on (counting q (marker_text m)) b t ts (same_row ∙ row))) ∙ none))
+  marker_refused ts none =
+      by_token q b t ts (λ r. r ≡ read_from (counting q (marker_text m)) b (t ∷ ts))
+      (λ reason row. sym (read_from-test (counting q (marker_text m)) b t ts ∙ ap (after_test (counting q (marker_text m)) b t ts) (same_row ∙ row)))
+      (λ row.
+      absurd (game_stays (counting q (marker_text m)) b t ts _ (marker_finishes q b.part t.kind (marker_text m) is row)
+      (ap (λ (r : Read). length r.progress.games) (sym (goes_on (counting q (marker_text m)) b t ts (same_row ∙ row))) ∙ none)))
 
 -- at a token before it, which is no marker
 module _ (q : Profile) (b : Progress) (t : Token) (takes : q.missing_result ≡ takes_the_marker) (none : marker_of t.kind ≡ None) (free : refusal q b.part t.kind ≡ None) where
@@ -290,36 +252,29 @@ from_there : (q : Profile) (text : List ℕ) (b : Progress) (ts : List Token) (a
     → (read_from (counting q text) b ts).fault ≡ Some (record { at = at; reason = ResultDiffers })
     → length (read_from (counting q text) b ts).progress.games ≡ length b.games → FromThere q b ts at
 from_there q text b [] at takes fault same = absurd (cc)
-from_there q text b (t ∷ ts) at takes fault same = by_test (refusal (counting q text) b.part t.kind) refl (from_there q text (progress_after b t) ts at takes)
-  where
-    by_test : (o : Option Reason) → refusal (counting q text) b.part t.kind ≡ o
-        → ((read_from (counting q text) (progress_after b t) ts).fault ≡ Some (record { at = at; reason = ResultDiffers })
-        → length (read_from (counting q text) (progress_after b t) ts).progress.games ≡ length (progress_after b t).games → FromThere q (progress_after b t) ts at)
-        → FromThere q b (t ∷ ts) at
-    by_test (Some reason) row further =
-        let here : read_from (counting q text) b (t ∷ ts) ≡ after_test (counting q text) b t ts (Some reason) = read_from-test (counting q text) b t ts ∙ ap (after_test (counting q text) b t ts) row in
-        let f : Some (record { at = t.at; reason = reason }) ≡ Some (record { at = at; reason = ResultDiffers }) = ap (λ (r : Read). r.fault) (sym here) ∙ fault in
-        let place : t.at ≡ at = ap (λ (o : Option Fault). elim o [ None ↦ t.at | Some g ↦ g.at ]) f in
-        let why : reason ≡ ResultDiffers = ap (λ (o : Option Fault). elim o [ None ↦ reason | Some g ↦ g.reason ]) f in
-        let m = marker_rejected q text b.part t.kind takes (row ∙ ap Some why) in
-        record {
-          front = [];
-          token = t;
-          rest = ts;
-          cut = refl;
-          place = place;
-          marker = m.0;
-          is_marker = m.1;
-          up_to_it = up_to_marker q b t m.0 takes m.1;
-          rejected = marker_refused q b t m.0 takes m.1 ts;
-        }
-    by_test None row further =
-        let here : read_from (counting q text) b (t ∷ ts) ≡ read_from (counting q text) (progress_after b t) ts = goes_on (counting q text) b t ts row in
-        let free : refusal q b.part t.kind ≡ None = refusal_taking q text b.part t.kind takes (ap by_result row) ∙ row in
-        let same_there = ap (λ (r : Read). length r.progress.games) (sym here) ∙ same in
-        let none = not_a_marker (counting q text) b t ts (marker_of t.kind) refl row same_there in
-        one_before q b t takes none free ts at
-        (further (ap (λ (r : Read). r.fault) (sym here) ∙ fault) (same_there ∙ sym (same_count q b t takes none free)))
+from_there q text b (t ∷ ts) at takes fault same =
+    by_token (counting q text) b t ts
+    (λ r. r.fault ≡ Some (record { at = at; reason = ResultDiffers }) → length r.progress.games ≡ length b.games → FromThere q b (t ∷ ts) at)
+    (λ reason row f there.
+    let place : t.at ≡ at = ap (λ (o : Option Fault). elim o [ None ↦ t.at | Some g ↦ g.at ]) f in
+    let why : reason ≡ ResultDiffers = ap (λ (o : Option Fault). elim o [ None ↦ reason | Some g ↦ g.reason ]) f in
+    let m = marker_rejected q text b.part t.kind takes (row ∙ ap Some why) in
+    record {
+      front = [];
+      token = t;
+      rest = ts;
+      cut = refl;
+      place = place;
+      marker = m.0;
+      is_marker = m.1;
+      up_to_it = up_to_marker q b t m.0 takes m.1;
+      rejected = marker_refused q b t m.0 takes m.1 ts;
+    })
+    (λ row f there.
+    let free : refusal q b.part t.kind ≡ None = refusal_taking q text b.part t.kind takes (ap by_result row) ∙ row in
+    let none = not_a_marker (counting q text) b t ts (marker_of t.kind) refl row there in
+    one_before q b t takes none free ts at (from_there q text (progress_after b t) ts at takes f (there ∙ sym (same_count q b t takes none free))))
+    fault same
 
 pub missing_results : MissingResults
 missing_results = record {

@@ -1,42 +1,27 @@
 -- Which device counts a failure in a step, of the reasons one by one.
-use Rattle.std.proofs.Common.{◌≡◌, ℕ, Result, Ok, Err, refl, ap, subst, ◌∙◌, inl, inr, arith}
-use Rattle.pgn_layout.specs.Device.{Device, IsStill, one_more}
-use Rattle.pgn_game.specs.declared.checked.Taken.{Taken}
-use Rattle.pgn_game.proofs.Words.{Reason, ReadFault, WriteFault, Changed, Fault}
-use Rattle.pgn_game.specs.ReaderState.{CountsWrites}
-use Rattle.pgn_game.specs.ConverterCalls.{CountsReason}
-use Rattle.pgn_game.specs.Conversion.{CountsDevices}
+use Rattle.pgn_game.proofs.Words.{Reason, ReadFault, WriteFault, Changed, ◌≡◌, ℕ, Err, refl, ap, subst, ◌∙◌, inl, inr, arith, Device, IsStill, one_more, CountsWrites, CountsReason, CountsDevices, changed_reason}
 use Rattle.pgn_game.specs.CheckedConversion.{CountsThree}
-use Rattle.pgn_game.specs.Pass.{CountsStep}
 use Rattle.pgn_game.proofs.tokens.StepsAtEnd.{counts_token}
 
--- an error of the reader is no difference
-reader_reason : (r : Reason) (o n : ℕ) → CountsReason r o n → CountsDevices r 0 0 o n
-reader_reason ReadFault o n h = absurd h
-reader_reason Changed o n h = absurd h
-reader_reason _ o n h = (refl, h)
+-- an error of the reader is no difference, and no failed read
+reader_reason : (r : Reason) (s o n : ℕ) → CountsReason r o n → CountsDevices r s s o n
+reader_reason ReadFault s o n h = absurd h
+reader_reason Changed s o n h = absurd h
+reader_reason _ s o n h = (refl, h)
 
-pub reader_counts : (at : ℕ) (r : Reason) (sink : Device) → CountsWrites (Err r) sink → CountsDevices r 0 0 sink.failures sink.failures_after
-reader_counts at r sink h = reader_reason r sink.failures sink.failures_after (counts_token at (Err r) sink h)
-
--- beside a source that is still, and beside a sink
-by_sink : (r : Reason) (s o n : ℕ) → CountsDevices r 0 0 o n → CountsDevices r s s o n
-by_sink ReadFault s o n h = absurd (omega (arith, h.0))
-by_sink WriteFault s o n h = (refl, h.1)
-by_sink _ s o n h = (refl, h.1)
-
-pub with_source : (r : Result Taken Fault) (s o n : ℕ) → CountsStep r 0 0 o n → CountsStep r s s o n
-with_source (Ok x) s o n h = (refl, h.1)
-with_source (Err f) s o n h = by_sink f.reason s o n h
-
-pub with_sink : (r : Reason) (s t o : ℕ) → CountsDevices r s t 0 0 → CountsDevices r s t o o
-with_sink WriteFault s t o h = absurd (omega (arith, h.1))
-with_sink ReadFault s t o h = (h.0, refl)
-with_sink _ s t o h = (h.0, refl)
+pub reader_counts : (at : ℕ) (r : Reason) (s : ℕ) (sink : Device) → CountsWrites (Err r) sink
+    → CountsDevices r s s sink.failures sink.failures_after
+reader_counts at r s sink h = reader_reason r s sink.failures sink.failures_after (counts_token at (Err r) sink h)
 
 -- a sink that counts nothing
 pub no_write : (r : Reason) (s t : ℕ) → CountsDevices r s t 0 0 → r ≡ WriteFault → ⊥
 no_write r s t h is = absurd (omega (arith, (subst (λ x. CountsDevices x s t 0 0) is h).1))
+
+-- a fault that shows a change counts as the fault that it is
+pub counts_changed : (r : Reason) (s t o n : ℕ) → CountsDevices r s t o n → CountsDevices (changed_reason r) s t o n
+counts_changed ReadFault s t o n h = h
+counts_changed WriteFault s t o n h = h
+counts_changed _ s t o n h = h
 
 -- behind steps that counted none
 pub behind_still : (r : Reason) (s t u o n m : ℕ) → t ≡ s → n ≡ o → CountsDevices r t u n m → CountsDevices r s u o m

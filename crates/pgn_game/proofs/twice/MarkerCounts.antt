@@ -2,27 +2,13 @@
 -- table rejects the same tokens for the same reasons, and a game has the same export text.
 -- Letters: q is the profile whose missing Result takes the marker. For the reader it counts as the
 -- marker `text`. k is the kind of a token, g a game.
-use Rattle.std.proofs.Common.{◌≡◌, ℕ, ◌⊎◌, Bool, true, false, ◌&&◌, ◌||◌, not, List, [], ◌∷◌, ◌++◌, take, drop, Option, None, Some, inl, inr, refl, sym, ap, subst, ◌∙◌, true≢false, IsTrue, ◌==◌, codes, bytes_eq}
-use Rattle.std.specs.List.{list_all}
 use Rattle.std.proofs.lemmas.Bool.{and_parts, not-true}
-use Rattle.std.proofs.lemmas.Slice.Eq.{bytes_eq-Decides}
 use Rattle.pgn_lexer.specs.Tokens as tokens
 use Rattle.pgn_lexer.specs.declared.token.LexReason.{LexReason}
-use Rattle.pgn_lexer.specs.declared.token.LexReason.TheVariants as lexical
-use Rattle.pgn_game.specs.declared.accepted.Accepted.{Accepted}
-use Rattle.pgn_game.specs.declared.accepted.Accepted.TheVariants.{More, Finished}
-use Rattle.pgn_game.proofs.Words.{Kind, Reason, Lexical, BadTagName, ResultDiffers, Mode, Stage, Between, AfterLeftBracket, AfterName, AfterValue, AfterTags, InMovetext, Profile, Missing, counts_as, takes_the_marker, Game, Part, no_part}
-use Rattle.pgn_game.specs.Profile.{counting, with_missing}
-use Rattle.pgn_game.specs.Levels.{depth, start_of}
-use Rattle.pgn_game.specs.FaultTable.{Row, row, rows, first_holding, refusal, in_name, is_score, is_outside_tag_pairs, has_other_result, levels_of_part, marker_of, position_in}
-use Rattle.pgn_game.specs.Text.{game_text}
-use Rattle.pgn_game.specs.Progress.{Next, going, whole, at_stage, items_of, in_text, next, next_in}
-use Rattle.pgn_game.specs.MostTried.{CostsUnlessRefused, Tries, added}
-use Rattle.pgn_game.specs.Movetext.{HoldsItems}
-use Rattle.pgn_game.specs.ReaderState.{ReaderState, Agrees, HoldsText, IsAccepted, Leads, is_outside_the_table}
-use Rattle.pgn_game.specs.TokenInMovetext.{game_of, or_else, with_items}
+use Rattle.pgn_lexer.specs.declared.token.LexReason.TheVariants as lex_reasons
+use Rattle.pgn_game.proofs.Words.{Kind, Reason, Lexical, BadTagName, ResultDiffers, Mode, Stage, Between, AfterLeftBracket, AfterName, AfterValue, AfterTags, InMovetext, Profile, Missing, counts_as, takes_the_marker, Game, Part, no_part, ◌≡◌, ℕ, ◌⊎◌, Bool, true, false, ◌&&◌, not, List, [], ◌∷◌, ◌++◌, take, drop, Option, None, Some, inl, inr, refl, sym, ap, subst, ◌∙◌, true≢false, IsTrue, ◌==◌, list_all, Accepted, More, Finished, counting, with_missing, depth, start_of, Row, row, rows, first_holding, refusal, in_name, is_score, is_outside_tag_pairs, has_other_result, levels_of_part, marker_of, position_in, game_text, Next, going, whole, at_stage, items_of, in_text, next, next_in, CostsUnlessRefused, Tries, added, HoldsItems, ReaderState, Agrees, HoldsText, IsAccepted, Leads, is_outside_the_table, game_of, or_else, with_items, profile_under, reading_under}
 use Rattle.pgn_game.specs.declared.checked.Mark.{Mark as CodeMark}
-use Rattle.pgn_game.specs.Pass.{profile_under, reading_under}
+use Rattle.pgn_game.proofs.MarkerTexts.{score_marker, marker_no_name}
 use Rattle.pgn_game.proofs.refusals.RefusalsByStage.{name_refusal, test_failed}
 use Rattle.pgn_game.proofs.refusals.RefusalsInMovetext.{marker_whole, other_if, score_of}
 
@@ -49,14 +35,7 @@ refusal_counting q text part k takes known =
 -- A marker is rejected in a pair, and finishes the game elsewhere.
 -- a score has a byte that no name has
 pub no_name : (s : List ℕ) → is_score s ≡ true → list_all in_name s ≡ false
-no_name s is = by_tests (bytes_eq s (codes "1-0")) (bytes_eq s (codes "0-1")) (bytes_eq s (codes "1/2-1/2")) refl refl refl is
-  where
-    by_tests : (a b c : Bool) → bytes_eq s (codes "1-0") ≡ a → bytes_eq s (codes "0-1") ≡ b → bytes_eq s (codes "1/2-1/2") ≡ c
-        → (a || b || c) ≡ true → list_all in_name s ≡ false
-    by_tests true b c first second third is = ap (list_all in_name) ((bytes_eq-Decides s (codes "1-0")).0 first)
-    by_tests false true c first second third is = ap (list_all in_name) ((bytes_eq-Decides s (codes "0-1")).0 second)
-    by_tests false false true first second third is = ap (list_all in_name) ((bytes_eq-Decides s (codes "1/2-1/2")).0 third)
-    by_tests false false false first second third is = absurd (cc)
+no_name s is = let m = score_marker s is in ap (list_all in_name) m.1 ∙ marker_no_name m.0
 
 star_leads : (q : Profile) (stage : Stage) (part : Part) → refusal q (at_stage stage part) tokens.asterisk ≡ None
     → next (at_stage stage part) tokens.asterisk ≡ in_text part tokens.asterisk
@@ -170,7 +149,7 @@ first_inside (r ∷ rs) reason all e =
     inside_or r.holds r.reason reason (first_holding rs) (not-true (is_outside_the_table r.reason) both.0) (first_inside rs reason both.1) e
 
 lexical_inside : (r : LexReason) → is_outside_the_table (Lexical r) ≡ false
-lexical_inside lexical.StrayByte = refl
+lexical_inside lex_reasons.StrayByte = refl
 lexical_inside _ = refl
 
 pub refusals_are_inside : (q : Profile) (part : Part) (k : Kind) (reason : Reason) → refusal q part k ≡ Some reason → is_outside_the_table reason ≡ false

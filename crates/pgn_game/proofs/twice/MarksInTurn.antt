@@ -1,16 +1,8 @@
 -- One token more, of either reading: the marks of the first, and the tokens of the second up to a
 -- mark.
-use Rattle.std.proofs.Common.{◌≡◌, Bool, false, ◌||◌, is_some, List, [], ◌∷◌, ◌++◌, Option, None, Some, refl, sym, ap, subst, ◌∙◌, append_assoc, append-nil}
-use Rattle.pgn_game.proofs.Words.{Token, Reason, Profile, Game, Part}
-use Rattle.pgn_game.specs.FaultTable.{refusal}
-use Rattle.pgn_game.specs.Progress.{Next, going, whole, next, no_progress, progress_after, Read, read}
-use Rattle.pgn_game.specs.Checked.{Mark, mark_at, marks, marks_from, is_other, is_changed, marks_after, compared_from, compared}
-use Rattle.pgn_game.specs.Pass.{HasMarked, HasMatched, part_after}
+use Rattle.pgn_game.proofs.Words.{Token, Reason, Profile, Game, Part, ◌≡◌, Bool, false, ◌||◌, is_some, List, [], ◌∷◌, ◌++◌, Option, None, Some, refl, sym, ap, subst, ◌∙◌, append_assoc, append-nil, refusal, Next, going, whole, next, no_progress, progress_after, Read, read, Mark, mark_at, marks, marks_from, is_other, is_changed, marks_after, compared_from, compared, HasMarked, HasMatched, part_after}
 use Rattle.pgn_game.proofs.EqualReadings.{after_marks, marks_test, after_change, change_test}
 use Rattle.pgn_game.proofs.tokens.OneMoreToken.{read-passes}
-
-pub marked_none : (q : Profile) → HasMarked q [] []
-marked_none q ts = refl
 
 marked_token : (q : Profile) (given : List Token) (t : Token) (ms : List Mark) → (read q given).fault ≡ None → refusal q (part_after q given) t.kind ≡ None → HasMarked q given ms
     → HasMarked q (given ++ t ∷ []) (ms ++ mark_at t.at (next (part_after q given) t.kind))
@@ -31,9 +23,6 @@ pub marked_game : (q : Profile) (given : List Token) (t : Token) (ms : List Mark
     → next (part_after q given) t.kind ≡ whole g → HasMarked q given ms → HasMarked q (given ++ t ∷ []) (ms ++ record { text = g.marker; at = t.at } ∷ [])
 marked_game q given t ms g passes free leads so =
     subst (λ (l : List Mark). HasMarked q (given ++ t ∷ []) l) (ap (λ (n : Next). ms ++ mark_at t.at n) leads) (marked_token q given t ms passes free so)
-
-pub matched_none : (q : Profile) → HasMatched q [] [] []
-matched_none q ns ts = refl
 
 pub matched_mark : (q : Profile) (ms : List Mark) (m : Mark) (us : List Token) → HasMatched q ms us [] → HasMatched q (ms ++ m ∷ []) us (m ∷ [])
 matched_mark q ms m us so ns ts = ap (λ (l : List Mark). compared_from q l no_progress (us ++ ts)) (append_assoc ms (m ∷ []) ns) ∙ so (m ∷ ns) ts
@@ -59,14 +48,9 @@ matched_token q ms m us t passes same so ns ts =
     ∙ ap (λ (l : List Mark). compared_from q l (progress_after b t) ts) (marks_behind n m ns)
     ∙ ap (λ (r : Read). compared_from q (marks_after n m [] ++ ns) r.progress ts) (sym (read-passes q us t passes (not_changed q m b.part t same).0))
 
-pub matched_more : (q : Profile) (ms : List Mark) (m : Mark) (us : List Token) (t : Token) (to : Part) → (read q us).fault ≡ None → is_changed q m (part_after q us) t ≡ false
-    → next (part_after q us) t.kind ≡ going to → HasMatched q ms us (m ∷ []) → HasMatched q ms (us ++ t ∷ []) (m ∷ [])
-matched_more q ms m us t to passes same leads so =
-    subst (λ (n : Next). HasMatched q ms (us ++ t ∷ []) (marks_after n m [])) leads (matched_token q ms m us t passes same so)
-
-pub matched_game : (q : Profile) (ms : List Mark) (m : Mark) (us : List Token) (t : Token) (g : Game) → (read q us).fault ≡ None → is_changed q m (part_after q us) t ≡ false
-    → next (part_after q us) t.kind ≡ whole g → HasMatched q ms us (m ∷ []) → HasMatched q ms (us ++ t ∷ []) []
-matched_game q ms m us t g passes same leads so =
+pub matched_next : (q : Profile) (ms : List Mark) (m : Mark) (us : List Token) (t : Token) (n : Next) → (read q us).fault ≡ None → is_changed q m (part_after q us) t ≡ false
+    → next (part_after q us) t.kind ≡ n → HasMatched q ms us (m ∷ []) → HasMatched q ms (us ++ t ∷ []) (marks_after n m [])
+matched_next q ms m us t n passes same leads so =
     subst (λ (n : Next). HasMatched q ms (us ++ t ∷ []) (marks_after n m [])) leads (matched_token q ms m us t passes same so)
 
 -- both readings, whatever comes behind them

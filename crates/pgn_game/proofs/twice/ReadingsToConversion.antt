@@ -1,27 +1,10 @@
 -- From what the calls of each game return, in both readings, to the conversion.
-use Rattle.std.proofs.Common.{◌≡◌, inl, inr, ◌||◌, is_some, Err, ℕ, ◌+◌, ◌<◌, ◌≤◌, max, Bool, true, false, List, [], ◌∷◌, ◌++◌, length, take, Option, None, Some, Ok, IfSome, refl, sym, ap, subst, ◌∙◌, append_assoc, append-nil, length-append, arith, IsTrue, map, sum}
-use Rattle.std.proofs.Math.Seq.{take-append-add}
-use Rattle.std.proofs.KnownBytes.{Appends-nil, Appends-trans}
 use Rattle.std.proofs.lemmas.Option.{IfSome_then}
-use Rattle.std.proofs.lemmas.Bool.{and_parts, not-false}
-use Rattle.std.proofs.lemmas.Slice.Eq.{bytes_eq-Decides}
-use Rattle.std.specs.Io.KnownBytes.{Appends, Consumes}
-use Rattle.pgn_layout.specs.Device.{Device, FailsOnce}
-use Rattle.pgn_lexer.specs.TokensOf.{tokens_of}
-use Rattle.pgn_lexer.specs.Decided.{decided}
-use Rattle.pgn_lexer.specs.Standing.{Standing, coming}
-use Rattle.pgn_game.proofs.Words.{Token, Reason, Changed, ReadFault, WriteFault, Fault, Profile, Missing, takes_the_marker, Game, no_part}
+use Rattle.pgn_game.proofs.Words.{Token, Reason, Changed, ReadFault, WriteFault, Fault, Profile, Missing, takes_the_marker, Game, no_part, ◌≡◌, inl, inr, ◌||◌, is_some, Err, ℕ, ◌+◌, ◌<◌, ◌≤◌, max, Bool, true, false, List, [], ◌∷◌, ◌++◌, length, take, Option, None, Some, Ok, IfSome, refl, sym, ap, subst, ◌∙◌, append_assoc, append-nil, length-append, arith, IsTrue, map, sum, take-append-add, Appends-nil, Appends-trans, and_parts, not-false, bytes_eq-Decides, Appends, Consumes, Device, FailsOnce, tokens_of, decided, Standing, coming, plies_of, text_next, gain, is_outside_the_table, whole_plies, play_moves, verdict_in, MostTried, Mark, marks_from, is_other, is_changed, marks_after, Comparison, compared_from, compared, with_mark, torn_before, written_by, earlier_fault}
 use Rattle.pgn_game.specs.declared.conversion.Totals.{Totals}
 use Rattle.pgn_game.specs.declared.checked.Mark.{Mark as CodeMark}
-use Rattle.pgn_game.specs.Levels.{plies_of}
 use Rattle.pgn_game.specs.Text.{game_text, text_of, torn}
 use Rattle.pgn_game.specs.Progress.{Next, going, whole, next, Progress, progress_with, progress_after, Read, read, refused as is_refused, totals, verdict_of}
-use Rattle.pgn_game.specs.Due.{text_next, gain}
-use Rattle.pgn_game.specs.ReaderState.{is_outside_the_table, whole_plies}
-use Rattle.pgn_game.specs.ConverterCalls.{play_moves}
-use Rattle.pgn_game.specs.Conversion.{verdict_in}
-use Rattle.pgn_game.specs.MostTried.{MostTried}
-use Rattle.pgn_game.specs.Checked.{Mark, marks_from, is_other, is_changed, marks_after, Comparison, compared_from, compared, with_mark, torn_before, written_by, earlier_fault}
 use Rattle.pgn_game.specs.CheckedConversion.{AreConverted, AreTotalled, IsTokenPrefix, Decides, HasTaken, MatchesAllMarks, FirstStops, SecondStops, WriteStops, TwoReadingsFail, TwoReadingsConvert}
 use Rattle.pgn_game.specs.declared.checked.Taken.TheVariants.{Game as GameEnd, End}
 use Rattle.pgn_game.specs.Pass.{AfterStep, BothSoFar, ComesNext, HasGiven, HasMarked, Pass, ReadFails, ReadsToLast, StandsIn, TokenFails, as_changed, changed_reason, model_mark, other, part_after, refused, unwritten}
@@ -31,7 +14,7 @@ use Rattle.pgn_game.proofs.tokens.OneMoreToken.{read-refuses, text_of-snoc}
 use Rattle.pgn_game.proofs.tokens.AcceptedToConverter.{follows_first, in_games}
 use Rattle.pgn_game.proofs.tokens.WholeInput.{known_left}
 use Rattle.pgn_game.proofs.twice.MarkerCounts.{refusals_are_inside}
-use Rattle.pgn_game.proofs.twice.MarksInTurn.{marked_none, matched_mark, matched_none, not_changed, both_read}
+use Rattle.pgn_game.proofs.twice.MarksInTurn.{matched_mark, not_changed, both_read}
 use Rattle.pgn_game.proofs.twice.StepsToGame.{end_marked, game, game_marked, game_matched, game_written, one_game, stands, tokens as tokens_read}
 
 -- what follows for both texts, if both are known
@@ -62,9 +45,6 @@ decides true l unused u given d consumed (left, none, all) =
     let is : u ++ unused ≡ u = ap (λ (l : List ℕ). u ++ l) none ∙ append-nil u in
     Decides.at_end u (subst (Consumes d.before d.after) is consumed) all (coming l [], left)
 
-given_decides : (q : Profile) (told : Option CodeMark) (d : Device) (s : Pass) (given : List Token) → HasGiven q told d.before d.after s given → Decides d given
-given_decides q told d s given h = decides s.has_ended s.lexer s.unused h.bytes given d h.consumed h.stands
-
 given_first : (q : Profile) (told : Option CodeMark) (left_old left_now : Option (List ℕ)) (s : Pass) (given : List Token) → HasGiven q told left_old left_now s given
     → IfSome left_old (Begins given)
 given_first q told left_old left_now s given h = begins s.has_ended s.lexer s.unused h.bytes given left_old left_now h.consumed h.stands
@@ -76,19 +56,13 @@ both_none q first second a b o first_given second_given =
       marks = [];
       first_tokens = [];
       first_stands = record { has_given = first_given; between = refl };
-      marked = marked_none q;
+      marked = λ ts. refl;
       told = None;
       second_tokens = [];
       second_stands = record { has_given = second_given; between = refl };
-      matched = matched_none q;
+      matched = λ ns ts. refl;
       written = Appends-nil o;
     }
-
-at_least : (xs : List ℕ) (n : ℕ) → length xs ≤ length xs + n
-at_least xs n = omega arith
-
-not_all : (xs ys : List ℕ) (n : ℕ) → n < length ys → length xs + n < length (xs ++ ys)
-not_all xs ys n h = omega (arith, h, length-append xs ys)
 
 -- Of a game that ends with the mark, the text under that mark is its text.
 under_mark : (q : Profile) (g : Game) (m : Mark) → q.missing_result ≡ takes_the_marker → g.marker ≡ m.text → game_text q g ≡ game_text (with_mark q m) g
@@ -107,8 +81,7 @@ written_at_token : (q : Profile) (m : Mark) (ms : List Mark) (games : List Game)
 written_at_token q m ms games t (going to) takes same = refl
 written_at_token q m ms games t (whole g) takes same =
     let marker = (bytes_eq-Decides g.marker m.text).0 (and_parts _ _ (not-false _ same)).0 in
-    ap (λ (l : List ℕ). text_of q (games ++ g ∷ []) ++ l) (torn-between q ms) ∙ append-nil (text_of q (games ++ g ∷ [])) ∙ text_of-snoc q games g
-    ∙ ap (λ (l : List ℕ). text_of q games ++ l) (under_mark q g m takes marker)
+    cc (torn-between q ms, append-nil (text_of q (games ++ g ∷ [])), text_of-snoc q games g, under_mark q g m takes marker)
 
 pub both_more : (q : Profile) (first_old first_now second_old second_now : Option (List ℕ)) (a b : Pass) (before mid : Option (List ℕ)) (so : BothSoFar q first_old first_now second_old second_now a b before mid)
     (m x : CodeMark) (new_a new_b : Pass) (first_new second_new after : Option (List ℕ)) → ReadsToLast q None first_old first_new so.first_tokens (Ok (GameEnd m)) new_a None None
@@ -137,8 +110,7 @@ module _ (q : Profile) (first second sink : Device) (first_now : Option (List �
   -- where `first` has no mark more, `second` is read no further
   last_mark : (xs us ts vs ws : List Token) → xs ≡ ts ++ vs → us ≡ so.second_tokens ++ ws → HasMarked q ts so.marks → marks_from q (read q ts).progress vs ≡ [] → compared q xs us ≡ at_mark
   last_mark xs us ts vs ws first second marked none =
-      ap (λ (l : List Token). compared q l us) first ∙ ap (compared q (ts ++ vs)) second ∙ both_read q ts so.second_tokens vs ws so.marks [] marked so.matched
-      ∙ ap (λ (ms : List Mark). compared_from q ms (read q so.second_tokens).progress ws) none ∙ no_mark q (read q so.second_tokens).progress ws
+      cc (first, second, both_read q ts so.second_tokens vs ws so.marks [] marked so.matched, none, no_mark q (read q so.second_tokens).progress ws)
 
   written : HasTaken sink (written_by q at_mark)
   written = subst (HasTaken sink) (sym (append-nil (text_of q (read q so.second_tokens).progress.games))) so.written
@@ -268,11 +240,8 @@ module _ (q : Profile) (first second sink : Device) (first_now second_now mid : 
   first_given : HasGiven q None first.before first.after new_a first_tokens
   first_given = (stands q None first.before first.after so.first_tokens m new_a None None reads).has_given
 
-  first_begins : IfSome first.before (Begins first_tokens)
-  first_begins = given_first q None first.before first.after new_a first_tokens first_given
-
   first_decides : Decides first first_tokens
-  first_decides = given_decides q None first new_a first_tokens first_given
+  first_decides = decides new_a.has_ended new_a.lexer new_a.unused first_given.bytes first_tokens first first_given.consumed first_given.stands
 
   goes : (xs us vs ws : List Token) → xs ≡ first_tokens ++ vs → us ≡ tokens ++ ws → compared q xs us ≡ compared_from q (mark ∷ behind vs) c ws
   goes xs us vs ws is also =
@@ -335,8 +304,8 @@ module _ (q : Profile) (first second sink : Device) (first_now second_now mid : 
         place = refl;
         fault = ap (λ (f : Comparison). f.fault) at_token;
         count = length (games ++ before_it) + n;
-        least = subst (λ (f : Comparison). length (written_by q f) ≤ length (games ++ before_it) + n) (sym at_front) (at_least (games ++ before_it) n);
-        short = subst (λ (l : List ℕ). length (games ++ before_it) + n < length l) (sym text) (not_all (games ++ before_it) more n short);
+        least = subst (λ (f : Comparison). length (written_by q f) ≤ length (games ++ before_it) + n) (sym at_front) (omega arith);
+        short = subst (λ (l : List ℕ). length (games ++ before_it) + n < length l) (sym text) (omega (arith, short, length-append (games ++ before_it) more));
         appended = subst (λ (l : List ℕ). HasTaken sink (take (length (games ++ before_it) + n) l)) (sym text) (subst (HasTaken sink) front (all_written _ wrote));
       }
 
@@ -345,7 +314,7 @@ module _ (q : Profile) (first second sink : Device) (first_now second_now mid : 
   second_differs t comes changed wrote =
       let f : Fault = record { at = t.at; reason = Changed } in
       TwoReadingsFail.refused f
-      (both_known first.before second.before (Begins first_tokens) (λ r. (us : List Token) × (tokens_of r ≡ tokens ++ t ∷ us)) (λ s r. AreConverted q s r (is_refused f) sink) first_begins comes
+      (both_known first.before second.before (Begins first_tokens) (λ r. (us : List Token) × (tokens_of r ≡ tokens ++ t ∷ us)) (λ s r. AreConverted q s r (is_refused f) sink) (given_first q None first.before first.after new_a first_tokens first_given) comes
       (λ s r x y.
       let is : compared q (tokens_of s) (tokens_of r) ≡ record { progress = c; marks_left = mark ∷ behind x.0; fault = Some f } =
       goes (tokens_of s) (tokens_of r) x.0 (t ∷ y.0) x.1 y.1 ∙ change_test q mark (behind x.0) c t y.0 ∙ ap (after_change q mark (behind x.0) c t y.0) changed in (

@@ -1,26 +1,13 @@
 -- Steps of a reading in turn, up to the last one of a game.
-use Rattle.std.proofs.Common.{◌≡◌, ℕ, inl, inr, true, false, List, [], ◌∷◌, ◌++◌, Option, None, Some, Ok, refl, sym, ap, subst, ◌∙◌, append-nil, ◌==◌, bytes_eq}
 use Rattle.std.proofs.lemmas.Bool.{true≢false, and_parts, not-false}
-use Rattle.std.proofs.lemmas.Slice.Eq.{bytes_eq-Decides}
-use Rattle.std.proofs.KnownBytes.{Appends-nil, Appends-trans}
-use Rattle.std.specs.Io.KnownBytes.{Appends}
 use Rattle.pgn_game.specs.declared.checked.Mark.{Mark as CodeMark}
 use Rattle.pgn_game.specs.declared.checked.Taken.TheVariants.{More, Game as GameEnd, End}
-use Rattle.pgn_game.proofs.Words.{Token, Profile, Game, Part, no_part}
-use Rattle.pgn_game.specs.Markers.{marker_text}
-use Rattle.pgn_game.specs.FaultTable.{refusal, is_end}
-use Rattle.pgn_game.specs.Progress.{Next, going, whole, next, Progress, progress_with, progress_after, Read, read}
-use Rattle.pgn_game.specs.Text.{game_text, torn}
-use Rattle.pgn_game.specs.Due.{gain, text_next}
-use Rattle.pgn_game.specs.ReaderState.{ReaderState, as_written}
-use Rattle.pgn_game.specs.Checked.{Mark, is_other}
-use Rattle.pgn_game.specs.Profile.{counting}
-use Rattle.pgn_game.specs.ConverterCalls.{HasRead}
+use Rattle.pgn_game.proofs.Words.{Token, Profile, Game, Part, no_part, ◌≡◌, ℕ, inl, inr, true, false, List, [], ◌∷◌, ◌++◌, Option, None, Some, Ok, refl, sym, ap, subst, ◌∙◌, append-nil, ◌==◌, bytes_eq, bytes_eq-Decides, Appends-nil, Appends-trans, Appends, marker_text, refusal, is_end, Next, going, whole, next, Progress, progress_with, progress_after, Read, read, game_text, torn, gain, text_next, ReaderState, as_written, Mark, is_other, counting, HasRead}
 use Rattle.pgn_game.specs.Pass.{AfterStep, AfterWrite, GoesOn, GoesSoFar, HasMarked, HasMatched, LeadsTo, Pass, ReadsToLast, StandsBetween, TokenPasses, as_converter, last_of, model_mark, part_after, profile_under, rejects}
 use Rattle.pgn_game.proofs.tokens.NextGrows.{next_is}
 use Rattle.pgn_game.proofs.tokens.OneMoreToken.{read-passes}
 use Rattle.pgn_game.proofs.twice.MarkerCounts.{same_game_text}
-use Rattle.pgn_game.proofs.twice.MarksInTurn.{either_false, matched_game, matched_more, marked_game, marked_more}
+use Rattle.pgn_game.proofs.twice.MarksInTurn.{either_false, matched_next, marked_game, marked_more}
 
 -- where a token leads, by what the step answers
 goes_on : (n : Next) (t : Token) → LeadsTo n t More → (to : Part) × (n ≡ going to)
@@ -89,7 +76,7 @@ module _ (q : Profile) (told : Option CodeMark) (left_old left_now left_new : Op
         tokens = so.tokens ++ t ∷ [];
         has_given = on.has_given refl;
         marked = λ ms h. marked_more q so.tokens t ms to.0 clear p.free to.1 (so.marked ms h);
-        matched = λ m ms is h. matched_more q ms (model_mark m) so.tokens t to.0 clear (subst (λ x. rejects x q part t ≡ false) is p.same) to.1 (so.matched m ms is h);
+        matched = λ m ms is h. matched_next q ms (model_mark m) so.tokens t (going to.0) clear (subst (λ x. rejects x q part t ≡ false) is p.same) to.1 (so.matched m ms is h);
         no_game = ap (λ (b : Progress). b.games) b ∙ so.no_game;
         appended = subst (Appends a d) (ap (text_next w) to.1 ∙ ap (λ (b : Progress). torn w b.part) (sym b)) (with_gain t p.appended);
       }
@@ -135,7 +122,7 @@ module _ (q : Profile) (told : Option CodeMark) (left_old left_new : Option (Lis
     same = subst (λ x. rejects x q (part_after q r.so.tokens) t ≡ false) is passes.same
 
     pub game_matched : (ms : List Mark) → HasMatched q ms given (model_mark m ∷ []) → HasMatched q ms tokens []
-    game_matched ms h = matched_game q ms (model_mark m) r.so.tokens t game r.so.has_given.has_read.passes same leads.1 (r.so.matched m ms is h)
+    game_matched ms h = matched_next q ms (model_mark m) r.so.tokens t (whole game) r.so.has_given.has_read.passes same leads.1 (r.so.matched m ms is h)
 
     same_marker : game.marker ≡ marker_text m.marker
     same_marker =

@@ -1,25 +1,14 @@
 -- A token of one of two readings: what the lexer gives, and what the reader answers.
-use Rattle.std.proofs.Common.{◌≡◌, ℕ, ◌+◌, ◌-◌, ◌<◌, ◌≤◌, inl, inr, Bool, true, false, List, [], ◌∷◌, ◌++◌, length, take, drop, Option, None, Some, Result, Ok, Err, IfSome, refl, sym, ap, subst, ◌∙◌, append_assoc, append-nil, length-take, drop_of_length-le, le_refl, arith, IfOk}
-use Rattle.std.proofs.lemmas.List.{drop-drop, drop-take}
-use Rattle.std.proofs.KnownBytes.{Appends-nil}
-use Rattle.std.specs.Io.KnownBytes.{Consumes}
 use Rattle.pgn_lexer.specs.declared.token.LexFault.{LexFault}
-use Rattle.pgn_lexer.specs.TokensOf.{tokens_of}
-use Rattle.pgn_lexer.specs.Laws.{IsLast, RisesTo, TokensRise}
 use Rattle.pgn_lexer.specs.PartialToken.{refusal as refusal_token}
-use Rattle.pgn_lexer.specs.Scanned.{more, token, fault}
-use Rattle.pgn_lexer.specs.Standing.{Standing, coming}
-use Rattle.pgn_lexer.specs.Stands.{AfterScan, FinishGivesToken, Follows, HasLeft, IsNext, StandsAfter, first, still}
+use Rattle.pgn_lexer.specs.Scanned.{Scanned, more, token, fault}
+use Rattle.pgn_lexer.specs.Stands.{AfterScan, Finishes, Follows, HasLeft, IsNext, Scans, StandsAfter, first, still}
 use Rattle.pgn_game.specs.declared.checked.Mark.{Mark as CodeMark}
 use Rattle.pgn_game.specs.declared.checked.Taken.{Taken}
 use Rattle.pgn_game.specs.declared.checked.Taken.TheVariants.{More, Game as GameEnd, End}
-use Rattle.pgn_game.proofs.Words.{Kind, Token, Lexical, Fault, Profile, takes_the_marker, Part}
-use Rattle.pgn_game.specs.FaultTable.{is_end}
-use Rattle.pgn_game.specs.MostTried.{Raises}
-use Rattle.pgn_game.specs.ReaderState.{Agrees, IsAccepted, ReaderState}
-use Rattle.pgn_game.specs.ConverterCalls.{HasRead}
-use Rattle.pgn_game.specs.Pass.{AfterStep, AfterToken, ComesNext, HasGiven, Pass, StandsIn, TakesKind, TakesOn, TakesToken, TellsEnd, accepted_of, as_converter, games_with, part_after, profile_under, reading_under, refused}
-use Rattle.pgn_game.proofs.tokens.AcceptedToConverter.{follows_first, has_read_game, has_read_more, lexical-refusal, still_none}
+use Rattle.pgn_game.proofs.Words.{Token, Lexical, Fault, Profile, takes_the_marker, Part, ◌≡◌, ℕ, ◌+◌, ◌-◌, ◌<◌, ◌≤◌, inl, inr, Bool, true, false, List, [], ◌∷◌, ◌++◌, length, take, drop, Option, None, Some, Result, Ok, Err, IfSome, refl, sym, ap, subst, ◌∙◌, append_assoc, append-nil, length-take, arith, IfOk, drop-drop, drop-take, Appends-nil, Consumes, tokens_of, IsLast, RisesTo, TokensRise, Standing, coming, is_end, Raises, IsAccepted, ReaderState, HasRead}
+use Rattle.pgn_game.specs.Pass.{AfterStep, AfterToken, ComesNext, HasGiven, Pass, StandsIn, Steps, TakesKind, TakesOn, TakesToken, TellsEnd, accepted_of, as_converter, games_with, part_after, profile_under, reading_under, refused}
+use Rattle.pgn_game.proofs.tokens.AcceptedToConverter.{follows_first, follows_own, has_read_game, has_read_more, lexical-refusal, still_none}
 use Rattle.pgn_game.proofs.tokens.StepsAtEnd.{Left, Nearer, is_the_end, left_by, let_go, nearer_by, tokens_left}
 use Rattle.pgn_game.proofs.tokens.StepsInPiece.{whole_piece}
 use Rattle.pgn_game.proofs.tokens.WholeInput.{known_left}
@@ -40,12 +29,9 @@ none_behind [] t (u ∷ ts) last rises = absurd (rises.0 last)
 none_behind (x ∷ []) t ts last rises = none_behind [] t ts last rises.2
 none_behind (x ∷ y ∷ given) t ts last rises = none_behind (y ∷ given) t ts last rises.2
 
-end_is_last : (k : Kind) → is_end k ≡ true → IsLast k
-end_is_last k h = subst IsLast (sym (is_the_end k h)) tt
-
 only_end : TokensRise → (s : List ℕ) (given : List Token) (t : Token) → is_end t.kind ≡ true → (ts : List Token) × (tokens_of s ≡ given ++ t ∷ ts) → tokens_of s ≡ given ++ t ∷ []
 only_end rise s given t is_e (ts, cut) =
-    cut ∙ ap (λ (us : List Token). given ++ t ∷ us) (none_behind given t ts (end_is_last t.kind is_e) (subst RisesTo cut (rise s)))
+    cut ∙ ap (λ (us : List Token). given ++ t ∷ us) (none_behind given t ts (subst IsLast (sym (is_the_end t.kind is_e)) tt) (subst RisesTo cut (rise s)))
 
 if_some : (o : Option (List ℕ)) (P Q : List ℕ → Type 0) → ((s : List ℕ) → P s → Q s) → IfSome o P → IfSome o Q
 if_some None P Q f h = tt
@@ -146,81 +132,119 @@ module _ (q : Profile) (left_old left_now : Option (List ℕ)) (told : Option Co
   taken (Ok End) took games end = (t, takes_on End took games end)
   taken (Err f) fails games end = inl (record { token = t; comes = came.comes; fails = fails })
 
--- The reader agrees with the part under its own profile too.
-agrees_back : (q : Profile) (r : ReaderState) (told : Option CodeMark) (part : Part) → r.profile ≡ profile_under q told → Agrees (reading_under q r) part → Agrees r part
-agrees_back q r told part is agrees = agrees_under r.profile (reading_under q r) part (ap (λ (p : Profile). p.mode) is ∙ same_mode q told) agrees
-
-module _ (q : Profile) (left_old left_now : Option (List ℕ)) (told : Option CodeMark) (given : List Token) (s : Pass) (l : Standing) (has : HasGiven q told left_old left_now s given) where
+module _ (q : Profile) (left_old left : Option (List ℕ)) (told : Option CodeMark) (given : List Token) (s : Pass) (has : HasGiven q told left_old left s given) where
   -- a token that the lexer gave, and what the reader did with it
-  reads : (t : Token) (new : Pass) (result : Result Taken Fault) (a c : Option (List ℕ)) → Came left_old left_now new.lexer new.unused new.has_ended given t
+  reads : (t : Token) (new : Pass) (result : Result Taken Fault) (a c : Option (List ℕ))
+      → Came left_old left new.lexer new.unused new.has_ended given t
       → TakesKind told t.kind t.at s.reading new.reading result a c → IfOk result (λ x. new.games ≡ games_with x s.games) → IfOk result (TellsEnd t.kind)
-      → AfterStep q left_old left_now told given new result a c
+      → AfterStep q left_old left told given new result a c
   reads t new result a c came h games end =
-      taken q left_old left_now told given t s new a c has.takes has.profile has.has_read came result
-      (h q (part_after q given) has.takes has.profile (agrees_back q s.reading told (part_after q given) has.profile has.has_read.agrees)) games end
+      taken q left_old left told given t s new a c has.takes has.profile has.has_read came result
+      (h q (part_after q given) has.takes has.profile (agrees_under s.reading.profile (reading_under q s.reading) (part_after q given) (ap (λ (p : Profile). p.mode) has.profile ∙ same_mode q told) has.has_read.agrees)) games end
 
-  fails_lexical : (f : LexFault) (o : Option (List ℕ)) → ComesNext left_old given (refusal_token f)
-      → AfterStep q left_old left_now told given s (Err (record { at = f.at; reason = Lexical f.reason })) o o
-  fails_lexical f o comes =
-      inl (record { token = refusal_token f; comes = comes; fails = refused (Lexical f.reason) (lexical-refusal q (part_after q given) f) (Appends-nil o) })
-
-  -- Where the source has ended.
+  -- where the source has ended
   module _ (ended : s.has_ended ≡ true) where
     waits : HasLeft s.lexer has.bytes given × (s.unused ≡ []) × IfSome left_old (λ text. text ≡ has.bytes)
     waits = subst (λ e. StandsIn e s.lexer s.unused given has.bytes left_old) ended has.stands
 
-    none_left : Consumes left_old left_now (has.bytes ++ [])
-    none_left = subst (λ xs. Consumes left_old left_now (has.bytes ++ xs)) waits.1 has.consumed
+    none_left : Consumes left_old left (has.bytes ++ [])
+    none_left = subst (λ xs. Consumes left_old left (has.bytes ++ xs)) waits.1 has.consumed
 
+  -- where the buffer has a byte
+  module _ (some : 0 < length s.unused) where
+    not_ended : s.has_ended ≡ false
+    not_ended = by_end s.has_ended refl
+      where
+        by_end : (e : Bool) → s.has_ended ≡ e → e ≡ false
+        by_end false is = refl
+        by_end true is = absurd (omega (arith, some, ap (length {A = ℕ}) (waits is).1))
+
+    scanned : {l : Standing} {used : ℕ} {seen : Scanned} → Scans s.lexer s.unused l used seen
+        → AfterScan has.bytes (first s.unused) given s.unused l used seen
+    scanned scans =
+        scans.carries has.bytes (first s.unused) given (subst (λ e. StandsIn e s.lexer s.unused given has.bytes left_old) not_ended has.stands).0
+        (follows_own s.unused)
+
+-- A step of the reading x, whose fields are those of s.
+module _ (left : Option (List ℕ)) (told : Option CodeMark) (x s : Pass) (view : s ≡ x) (l : Standing) where
+  own : (q : Profile) (left_old : Option (List ℕ)) (given : List Token) → HasGiven q told left_old left x given
+      → HasGiven q told left_old left s given
+  own q left_old given has = subst (λ y. HasGiven q told left_old left y given) (sym view) has
+
+  fails_lexical : (q : Profile) (left_old : Option (List ℕ)) (given : List Token) (f : LexFault) (y : Pass) (o : Option (List ℕ))
+      → ComesNext left_old given (refusal_token f)
+      → AfterStep q left_old left told given y (Err (record { at = f.at; reason = Lexical f.reason })) o o
+  fails_lexical q left_old given f y o comes =
+      inl (record { token = refusal_token f; comes = comes; fails = refused (Lexical f.reason) (lexical-refusal q (part_after q given) f) (Appends-nil o) })
+
+  -- Where the source has ended.
+  module _ (ended : s.has_ended ≡ true) where
     pub token_at_end : (t : Token) (r : ReaderState) (games : ℕ) (result : Result Taken Fault) (a c : Option (List ℕ))
-        → ((u : List ℕ) (ts : List Token) → HasLeft s.lexer u ts → IsNext u ts t.kind l t) → FinishGivesToken t.kind s.lexer l t
+        → Finishes s.lexer l (token t)
         → TakesKind told t.kind t.at s.reading r result a c → IfOk result (λ x. games ≡ games_with x s.games) → IfOk result (TellsEnd t.kind)
-        → AfterStep q left_old left_now told given (record s { lexer = l; reading = r; games = games }) result a c
-    token_at_end t r games result a c goes gives =
-        let near = nearer_by t.kind s.lexer l t gives in
-        let came : Came left_old left_now l [] true given t =
-        came_at_end left_old left_now has.bytes given s.lexer l none_left waits.2 t (goes has.bytes given waits.0) (λ is. (subst (λ e. Nearer e s.lexer l) is near).1 ∙ has.counted) in
-        reads t (record s { lexer = l; reading = r; games = games }) result a c
-        (subst (λ e. Came left_old left_now l s.unused e given t) (sym ended) (subst (λ xs. Came left_old left_now l xs true given t) (sym waits.1) came))
+        → Steps left left told x (record s { lexer = l; reading = r; games = games }) result a c
+    token_at_end t r games result a c finishes took counts end q left_old given h =
+        let has = own q left_old given h in
+        let w = waits q left_old left told given s has ended in
+        let came : Came left_old left l [] true given t =
+        came_at_end left_old left has.bytes given s.lexer l (none_left q left_old left told given s has ended) w.2 t
+        (finishes.left has.bytes given w.0)
+        (λ on. (subst (λ e. Nearer e s.lexer l) on (nearer_by t.kind s.lexer l t finishes.closes)).1 ∙ has.counted) in
+        reads q left_old left told given s has t (record s { lexer = l; reading = r; games = games }) result a c
+        (subst (λ e. Came left_old left l s.unused e given t) (sym ended)
+        (subst (λ xs. Came left_old left l xs true given t) (sym w.1) came)) took counts end
 
-    pub fails_at_end : (f : LexFault) (o : Option (List ℕ)) → ((u : List ℕ) (ts : List Token) → HasLeft s.lexer u ts → tokens_of u ≡ ts ++ refusal_token f ∷ [])
-        → AfterStep q left_old left_now told given s (Err (record { at = f.at; reason = Lexical f.reason })) o o
-    fails_at_end f o goes = fails_lexical f o (fault_at_end left_old left_now has.bytes given s.lexer l none_left waits.2 f (goes has.bytes given waits.0))
+    pub fails_at_end : (f : LexFault) (y : Pass) (o : Option (List ℕ)) → Finishes s.lexer l (fault f)
+        → Steps left left told x y (Err (record { at = f.at; reason = Lexical f.reason })) o o
+    fails_at_end f y o finishes q left_old given h =
+        let has = own q left_old given h in
+        let w = waits q left_old left told given s has ended in
+        fails_lexical q left_old given f y o
+        (fault_at_end left_old left has.bytes given s.lexer l (none_left q left_old left told given s has ended) w.2 f
+        (finishes.left has.bytes given w.0))
 
   -- In the buffer.
-  module _ (not_ended : s.has_ended ≡ false) (used : ℕ) (unused : List ℕ) (rest : unused ≡ drop used s.unused) where
-    pub in_buffer_before : StandsAfter s.lexer has.bytes (first s.unused) given
-    in_buffer_before = (subst (λ e. StandsIn e s.lexer s.unused given has.bytes left_old) not_ended has.stands).0
+  module _ (some : 0 < length s.unused) (used : ℕ) where
+    pub token_in_buffer : TokensRise → (unused : List ℕ) → unused ≡ drop used s.unused
+        → (t : Token) (r : ReaderState) (games : ℕ) (result : Result Taken Fault) (a c : Option (List ℕ))
+        → Scans s.lexer s.unused l used (token t) → TakesKind told t.kind t.at s.reading r result a c
+        → IfOk result (λ x. games ≡ games_with x s.games) → IfOk result (TellsEnd t.kind)
+        → Steps left left told x (record s { lexer = l; reading = r; games = games; unused = unused }) result a c
+    token_in_buffer rise unused rest t r games result a c scans took counts end q left_old given h =
+        let has = own q left_old given h in
+        let came = came_in_buffer left_old left s.unused has.bytes given l used has.consumed rise t
+        (scanned q left_old left told given s has some scans) in
+        reads q left_old left told given s has t (record s { lexer = l; reading = r; games = games; unused = unused }) result a c
+        (subst (λ e. Came left_old left l unused e given t) (sym (not_ended q left_old left told given s has some))
+        (subst (λ xs. Came left_old left l xs false given t) (sym rest) came)) took counts end
 
-    pub token_in_buffer : TokensRise → (t : Token) (r : ReaderState) (games : ℕ) (result : Result Taken Fault) (a c : Option (List ℕ))
-        → AfterScan has.bytes (first s.unused) given s.unused l used (token t)
-        → TakesKind told t.kind t.at s.reading r result a c → IfOk result (λ x. games ≡ games_with x s.games) → IfOk result (TellsEnd t.kind)
-        → AfterStep q left_old left_now told given (record s { lexer = l; reading = r; games = games; unused = unused }) result a c
-    token_in_buffer rise t r games result a c scan =
-        let came = came_in_buffer left_old left_now s.unused has.bytes given l used has.consumed rise t scan in
-        reads t (record s { lexer = l; reading = r; games = games; unused = unused }) result a c
-        (subst (λ e. Came left_old left_now l unused e given t) (sym not_ended) (subst (λ xs. Came left_old left_now l xs false given t) (sym rest) came))
+    pub fails_in_buffer : (f : LexFault) (y : Pass) (o : Option (List ℕ)) → Scans s.lexer s.unused l used (fault f)
+        → Steps left left told x y (Err (record { at = f.at; reason = Lexical f.reason })) o o
+    fails_in_buffer f y o scans q left_old given h =
+        let has = own q left_old given h in
+        fails_lexical q left_old given f y o
+        (fault_in_buffer left_old left s.unused has.bytes given l used has.consumed f (scanned q left_old left told given s has some scans))
 
-    pub fails_in_buffer : (f : LexFault) (o : Option (List ℕ)) → AfterScan has.bytes (first s.unused) given s.unused l used (fault f)
-        → AfterStep q left_old left_now told given s (Err (record { at = f.at; reason = Lexical f.reason })) o o
-    fails_in_buffer f o scan = fails_lexical f o (fault_in_buffer left_old left_now s.unused has.bytes given l used has.consumed f scan)
-
-    pub more_in_buffer : 0 < length s.unused → AfterScan has.bytes (first s.unused) given s.unused l used more
-        → HasGiven q told left_old left_now (record s { lexer = l; unused = unused }) given
-    more_in_buffer some scan =
-        let none : unused ≡ [] = rest ∙ ap (λ n. drop n s.unused) scan.0 ∙ drop_of_length-le s.unused (le_refl (length s.unused)) in
-        let after = none_in_buffer left_old left_now s.unused has.bytes given l used has.consumed scan some in
+    pub more_in_buffer : (o : Option (List ℕ)) → Scans s.lexer s.unused l used more
+        → Steps left left told x (record s { lexer = l; unused = [] }) (Ok More) o o
+    more_in_buffer o scans q left_old given hs =
+        let has = own q left_old given hs in
+        let after = none_in_buffer left_old left s.unused has.bytes given l used has.consumed
+        (scanned q left_old left told given s has some scans) some in
         let h = has.has_read in
-        record {
-          takes = has.takes;
-          bytes = has.bytes ++ s.unused;
-          consumed = subst (λ xs. Consumes left_old left_now ((has.bytes ++ s.unused) ++ xs)) (sym none) after.0;
-          stands = subst (λ e. StandsIn e l unused given (has.bytes ++ s.unused) left_old) (sym not_ended)
-              (subst (λ xs. StandsIn false l xs given (has.bytes ++ s.unused) left_old) (sym none) after.1);
-          counted = after.2;
-          has_read = record { profile = h.profile; no_fault = h.no_fault; passes = h.passes; agrees = h.agrees; games = h.games; plies = h.plies; probed = h.probed; tried = h.tried; just_finished = h.just_finished };
-          profile = has.profile;
-        }
+        inl (
+          record {
+            takes = has.takes;
+            bytes = has.bytes ++ s.unused;
+            consumed = after.0;
+            stands = subst (λ e. StandsIn e l [] given (has.bytes ++ s.unused) left_old)
+                (sym (not_ended q left_old left told given s has some)) after.1;
+            counted = after.2;
+            has_read = record { profile = h.profile; no_fault = h.no_fault; passes = h.passes; agrees = h.agrees; games = h.games; plies = h.plies; probed = h.probed; tried = h.tried; just_finished = h.just_finished };
+            profile = has.profile;
+          },
+          Appends-nil o,
+        )
 
 -- what is left of a part of the buffer
 pub rest_of : (start end used : ℕ) (buffer : List ℕ) → used ≤ length (take (end - start) (drop start buffer))

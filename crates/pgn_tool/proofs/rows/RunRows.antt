@@ -1,14 +1,10 @@
 -- Worked rows: what a job writes for a text, how it ends, and what is told.
-use Rattle.pgn_tool.proofs.Words.{◌≡◌, ℕ, List, [], ◌++◌, refl, codes, digits, Full, Reduced, UnexpectedEnd, refusal, roster, verdict, finished_game_line, Job, checking, counting_line, exporting, line, listing, profile_for, status_of, text_for}
-use Rattle.pgn_game.specs.Reason.{line_of}
+use Rattle.pgn_tool.proofs.Words.{◌≡◌, ℕ, List, [], ◌++◌, refl, codes, digits, Full, Reduced, UnexpectedEnd, refusal, roster, verdict, finished_game_line, Job, checking, counting_line, exporting, line, listing, profile_for, status_of, text_for, line_of}
 use Rattle.pgn_game.specs.Chess.{first_position}
 
--- the six roster lines before Result, with no value
-abbrev unknown : List ℕ
-unknown = codes "[Event \"?\"]\n[Site \"?\"]\n[Date \"????.??.??\"]\n[Round \"?\"]\n[White \"?\"]\n[Black \"?\"]\n"
-
-abbrev head : List ℕ
-head = unknown ++ codes "[Result \"*\"]\n\n"
+-- the tag section of a game without tag pairs
+abbrev pub head : List ℕ
+head = codes "[Event \"?\"]\n[Site \"?\"]\n[Date \"????.??.??\"]\n[Round \"?\"]\n[White \"?\"]\n[Black \"?\"]\n[Result \"*\"]\n\n"
 
 -- what a job writes for a text, and its status
 abbrev Gives : Job → List ℕ → List ℕ → ℕ → Type 0

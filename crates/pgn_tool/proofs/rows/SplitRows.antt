@@ -1,9 +1,6 @@
 -- Worked rows: the files that a split makes of a text.
 use Rattle.pgn_tool.proofs.Words.{◌≡◌, ℕ, List, [], ◌∷◌, ◌++◌, Some, refl, codes, digits, tokens_of, UnmatchedClose, refusal, roster, read, list_profile, FileStep, closed, made, files_of}
-
--- the tag section of a game without tag pairs
-abbrev head : List ℕ
-head = codes "[Event \"?\"]\n[Site \"?\"]\n[Date \"????.??.??\"]\n[Round \"?\"]\n[White \"?\"]\n[Black \"?\"]\n[Result \"*\"]\n\n"
+use Rattle.pgn_tool.proofs.rows.RunRows.{head}
 
 abbrev Makes : List ℕ → List FileStep → Type 0
 Makes s files = files_of (tokens_of s) ≡ files

@@ -1,11 +1,11 @@
 -- Games listed one by one.
-use Rattle.pgn_tool.proofs.Words.{◌≡◌, ℕ, ◌+◌, List, [], ◌∷◌, ◌++◌, length, take, Option, None, Some, IfSome, refl, sym, ap, subst, ◌∙◌, append-nil, append_assoc, length-append, arith, Appends, Consumes, IsAtEnd, Appends-trans, Consumes-trans, Consumes-nil, take-append-add, take-append-le, AppendsFront, Token, tokens_of, Profile, WriteFault, InputTooLong, Fault, Game, Read, no_progress, read, FinishedGame, HasRead, finished_game_of, CountsDevices, Games, HaveRead, within, at_end, NextGame, NoGame, NextStops, ReadsNoGame, IsListed, ListsNoMore, ListStops, game_line, finished_game_line, line_just_finished, lines_from, list_profile, list_text, too_long, unread, ListedSoFar, Refused, Unwritten}
+use Rattle.pgn_tool.proofs.Words.{◌≡◌, ℕ, ◌+◌, List, [], ◌∷◌, ◌++◌, length, Option, None, Some, IfSome, refl, sym, ap, subst, ◌∙◌, append-nil, append_assoc, length-append, arith, Appends, Consumes, IsAtEnd, Appends-trans, Consumes-trans, AppendsFront, Token, tokens_of, InputTooLong, Fault, Game, Read, no_progress, read, HasRead, CountsDevices, Games, HaveRead, within, at_end, NextGame, NoGame, NextStops, ReadsNoGame, IsListed, ListsNoMore, ListStops, game_line, line_just_finished, lines_from, lines_of, list_profile, list_text, too_long, unread, ListedSoFar, Refused, Unwritten, Consumes-whole}
 use Rattle.pgn_lexer.specs.Standing.{coming}
 use Rattle.pgn_lexer.specs.Stands.{Follows, first}
-use Rattle.pgn_game.specs.ConverterCalls as converter
-use Rattle.pgn_game.specs.GamesCalls as calls
-use Rattle.pgn_tool.specs.ListLines.{lines_of, unwritten}
+use Rattle.pgn_game.specs.ConverterCalls as converter_calls
+use Rattle.pgn_game.specs.GamesCalls as games_calls
 use Rattle.pgn_tool.specs.ListLines as list_lines
+use Rattle.pgn_tool.proofs.runs.PartsOfText.{front_after, front_within}
 use Rattle.pgn_tool.proofs.runs.TokensInTwoParts.{games_grow, read_stops}
 
 -- ---- lines
@@ -15,15 +15,6 @@ lines_two n [] hs = ap (λ k. lines_from k hs) (omega arith)
 lines_two n (g ∷ gs) hs =
     ap (λ l. game_line n g ++ l) (lines_two (n + 1) gs hs ∙ ap (λ k. lines_from (n + 1) gs ++ lines_from k hs) (omega arith))
     ∙ sym (append_assoc (game_line n g) (lines_from (n + 1) gs) (lines_from (n + length (g ∷ gs)) hs))
-
-lines_one_more : (gs : List Game) (g : Game) → lines_from 1 (gs ++ g ∷ []) ≡ lines_from 1 gs ++ game_line (1 + length gs) g
-lines_one_more gs g = lines_two 1 gs (g ∷ []) ∙ ap (λ l. lines_from 1 gs ++ l) (append-nil (game_line (1 + length gs) g))
-
--- the line of the last game is that of the game just finished
-finished_line_is : (o : Option FinishedGame) (number other : ℕ) (p : Profile) (g : Game) → o ≡ Some (finished_game_of g) → number ≡ other → p ≡ list_profile
-    → elim o [ None ↦ [] | Some finished ↦ finished_game_line number p finished ] ≡ game_line other g
-finished_line_is o number other p g is same listed =
-    ap (λ o. elim o [ None ↦ [] | Some finished ↦ finished_game_line number p finished ]) is ∙ ap (λ n. finished_game_line n p (finished_game_of g)) same ∙ ap (λ q. finished_game_line other q (finished_game_of g)) listed
 
 -- ---- what was read
 
@@ -42,26 +33,28 @@ tokens_so_far left u games given (within on) =
     (coming games.converter.lexer games.unused, ap tokens_of on.bytes ∙ on.stands.lexer.tokens games.unused (own_follows games.unused))
 tokens_so_far left u games given (at_end all) = ([], sym all.whole ∙ sym (append-nil given))
 
--- what is left, where it is known
-pub known_left : (o n : Option (List ℕ)) (u : List ℕ) (P : List ℕ → Type 0) → Consumes o n u → ((rest : List ℕ) → P (u ++ rest)) → IfSome o P
-known_left None n u P h all = tt
-known_left (Some s) None u P h all = absurd h
-known_left (Some s) (Some rest) u P h all = subst P (sym h) (all rest)
+-- ---- the whole text of a source
 
-pub known_whole : (o n : Option (List ℕ)) (u : List ℕ) (P : List ℕ → Type 0) → Consumes o n u → IsAtEnd n → P u → IfSome o P
-known_whole None n u P h end here = tt
-known_whole (Some s) None u P h end here = absurd h
-known_whole (Some s) (Some rest) u P h end here = subst P (sym (h ∙ ap (λ l. u ++ l) end ∙ append-nil u)) here
+-- Where a token of ts is rejected, the text of the source reads as ts: what follows of that holds
+-- of it, if it is known.
+abbrev pub ReadAs : Option (List ℕ) → List Token → Type 1
+ReadAs left ts =
+    (f : Fault) → (read list_profile ts).fault ≡ Some f
+    → (P : List ℕ → Type 0) → ((s : List ℕ) → read list_profile (tokens_of s) ≡ read list_profile ts → P s) → IfSome left P
 
-pub none_listed : (left : Option (List ℕ)) (games : Games) (o : Option (List ℕ)) → HaveRead list_profile left [] games [] → Appends o o [] → ListedSoFar left left games o o
-none_listed left games o have none =
-    record { bytes = []; tokens = []; consumed = Consumes-nil left; have_read = have; written = none }
+-- the bytes so far decide these tokens
+pub reads_at_token : (o n : Option (List ℕ)) (u : List ℕ) (ts : List Token) → Consumes o n u → converter_calls.AreNext u None ts → ReadAs o ts
+reads_at_token None n u ts consumed next f fault P follows = tt
+reads_at_token (Some s) None u ts consumed next f fault P follows = absurd consumed
+reads_at_token (Some s) (Some left) u ts consumed next f fault P follows =
+    let (rest, begins) = next left tt in
+    follows s (ap (λ l. read list_profile (tokens_of l)) consumed ∙ ap (read list_profile) begins ∙ read_stops list_profile no_progress ts rest f fault)
+
+-- the source has ended
+pub reads_at_end : (o n : Option (List ℕ)) (u : List ℕ) → Consumes o n u → IsAtEnd n → ReadAs o (tokens_of u)
+reads_at_end o n u consumed end f fault P follows = Consumes-whole o n u P consumed end (follows u refl)
 
 -- ---- a call
-
--- a sink that keeps nothing counts no failure
-not_unwritten : (s t : ℕ) → CountsDevices WriteFault s t 0 0 → ⊥
-not_unwritten s t (same, more) = absurd (omega (arith, more))
 
 module _ (left_old left left_new : Option (List ℕ)) (old new : Games) (a b : Option (List ℕ)) (so : ListedSoFar left_old left old a b) where
   all : (more : List ℕ) → Consumes left left_new more → Consumes left_old left_new (so.bytes ++ more)
@@ -76,9 +69,8 @@ module _ (left_old left left_new : Option (List ℕ)) (old new : Games) (a b : O
     next_line =
         let games = (read list_profile so.tokens).progress.games in
         let number : new.converter.games ≡ 1 + length games = has.games ∙ ap (length {A = Game}) game.one_game ∙ length-append games (game.game ∷ []) ∙ omega arith in
-        ap (lines_from 1) game.one_game ∙ lines_one_more games game.game
-        ∙ ap (λ l. lines_of so.tokens ++ l)
-        (sym (finished_line_is new.converter.just_finished new.converter.games (1 + length games) new.converter.reading.profile game.game game.just_finished number has.profile))
+        let line : line_just_finished new.converter ≡ game_line (1 + length games) game.game = rw (game.just_finished, number, has.profile) in
+        ap (lines_from 1) game.one_game ∙ lines_two 1 games (game.game ∷ []) ∙ ap (λ l. lines_of so.tokens ++ l) (append-nil (game_line (1 + length games) game.game) ∙ sym line)
 
     pub game_listed : (c : Option (List ℕ)) → Appends b c (line_just_finished new.converter) → ListedSoFar left_old left_new new a c
     game_listed c wrote =
@@ -92,7 +84,7 @@ module _ (left_old left left_new : Option (List ℕ)) (old new : Games) (a b : O
 
     -- the line could not be written
     pub game_cut : (c : Option (List ℕ)) → AppendsFront b c (line_just_finished new.converter) → ListStops left_old left_new a c Unwritten
-    game_cut c (n, short, front) =
+    game_cut c wrote =
         let u = so.bytes ++ game.more in
         let here = tokens_so_far left_new u new game.tokens game.have_read in
         let grown = games_grow list_profile game.tokens here.0 has.passes in
@@ -100,22 +92,14 @@ module _ (left_old left left_new : Option (List ℕ)) (old new : Games) (a b : O
         let more = lines_from (1 + length games) grown.0 in
         let known : list_text u ≡ (lines_of so.tokens ++ line_just_finished new.converter) ++ more =
         ap lines_of here.1 ∙ ap (lines_from 1) grown.1 ∙ lines_two 1 games grown.0 ∙ ap (λ l. l ++ more) next_line in
-        let first_part = length-append (lines_of so.tokens) (line_just_finished new.converter) in
-        let second_part = length-append (lines_of so.tokens ++ line_just_finished new.converter) more in
-        let cut : take (length (lines_of so.tokens) + n) (list_text u) ≡ lines_of so.tokens ++ take n (line_just_finished new.converter) =
-        ap (take (length (lines_of so.tokens) + n)) known
-        ∙ take-append-le (length (lines_of so.tokens) + n) (lines_of so.tokens ++ line_just_finished new.converter) more (omega (arith, short, first_part))
-        ∙ take-append-add (lines_of so.tokens) (line_just_finished new.converter) n in
-        unwritten u [] (subst (Consumes left_old left_new) (sym (append-nil u)) (all game.more game.consumed)) (record {
-          count = length (lines_of so.tokens) + n;
-          short = omega (arith, short, first_part, second_part, ap (length {A = ℕ}) known);
-          front = subst (Appends a c) (sym cut) (Appends-trans a b c _ _ so.written front);
-        })
+        let (count, short, front) = subst (AppendsFront a c) (sym known) (front_within a c _ more (front_after a b c _ _ so.written wrote)) in
+        list_lines.unwritten u [] (subst (Consumes left_old left_new) (sym (append-nil u)) (all game.more game.consumed))
+        (record { count = count; short = short; front = front })
 
   -- no game is left
   pub all_listed : NoGame list_profile so.bytes so.tokens left left_new new None None → IfSome left_old (λ s. IsListed s None a b)
   all_listed end =
-      known_whole left_old left_new (so.bytes ++ end.more) (λ s. IsListed s None a b) (all end.more end.consumed) end.have_read_all.at_end (record {
+      Consumes-whole left_old left_new (so.bytes ++ end.more) (λ s. IsListed s None a b) (all end.more end.consumed) end.have_read_all.at_end (record {
         fault = end.have_read_all.has_read.passes;
         written = subst (λ gs. Appends a b (lines_from 1 gs)) (sym end.no_game) so.written;
       })
@@ -129,29 +113,24 @@ module _ (left_old left left_new : Option (List ℕ)) (old new : Games) (a b : O
 
   pub list_stops : (most : ℕ) (f : Fault) (s t : ℕ) → NextStops list_profile so.bytes so.tokens left left_new most None None f → CountsDevices f.reason s t 0 0
       → ListStops left_old left_new a b (Refused f)
-  list_stops most f s t (calls.at_token g more consumed to) counted = by_stops to.stops to.no_game counted
+  list_stops most f s t stopped counted = by_stop stopped counted
     where
-      by_stops : {h : Fault} (stops : converter.Stops list_profile so.tokens to.tokens None None h) → converter.games_before stops ≡ (read list_profile so.tokens).progress.games
+      by_stops : {h : Fault} (ts : List Token) → ReadAs left_old ts
+          → (stops : converter_calls.Stops list_profile so.tokens ts None None h) → converter_calls.games_before stops ≡ (read list_profile so.tokens).progress.games
           → CountsDevices h.reason s t 0 0 → ListStops left_old left_new a b (Refused h)
-      by_stops (converter.unwritten at writing) same counts = absurd (not_unwritten s t counts)
-      by_stops (converter.refused h fault gains) same counts =
-          list_lines.refused h (known_left left_old left_new (so.bytes ++ more) (λ s. IsListed s (Some h) a b) (all more consumed) (λ rest.
-          let begun = to.next rest tt in
-          let reads : read list_profile (tokens_of ((so.bytes ++ more) ++ rest)) ≡ read list_profile to.tokens =
-          ap (read list_profile) begun.1 ∙ read_stops list_profile no_progress to.tokens begun.0 h fault in
-          record {
-            fault = ap (λ (r : Read). r.fault) reads ∙ fault;
-            written = subst (λ (r : Read). Appends a b (lines_from 1 r.progress.games)) (sym reads) (subst (λ gs. Appends a b (lines_from 1 gs)) (sym same) so.written);
+      by_stops ts reads (converter_calls.unwritten at writing) same counts = absurd (omega (arith, counts.1))
+      by_stops ts reads (converter_calls.refused h fault gains) same counts =
+          list_lines.refused h (reads h fault (λ s. IsListed s (Some h) a b) (λ s is. record {
+            fault = ap (λ (r : Read). r.fault) is ∙ fault;
+            written = subst (λ gs. Appends a b (lines_from 1 gs)) (sym same ∙ ap (λ (r : Read). r.progress.games) (sym is)) so.written;
           }))
-  list_stops most f s t (calls.at_end g more consumed end to) counted = by_stops to.stops to.no_game counted
-    where
-      by_stops : {h : Fault} (stops : converter.Stops list_profile so.tokens (tokens_of (so.bytes ++ more)) None None h) → converter.games_before stops ≡ (read list_profile so.tokens).progress.games
-          → CountsDevices h.reason s t 0 0 → ListStops left_old left_new a b (Refused h)
-      by_stops (converter.unwritten at writing) same counts = absurd (not_unwritten s t counts)
-      by_stops (converter.refused h fault gains) same counts =
-          list_lines.refused h (known_whole left_old left_new (so.bytes ++ more) (λ s. IsListed s (Some h) a b) (all more consumed) end
-          (record { fault = fault; written = subst (λ gs. Appends a b (lines_from 1 gs)) (sym same) so.written }))
-  list_stops most f s t (calls.unread more consumed none) counted = unread (so.bytes ++ more) (all more consumed) (no_more (so.bytes ++ more) none)
-  list_stops most f s t (calls.too_long more front rest consumed cut place some none) counted =
-      subst (λ n. ListStops left_old left_new a b (Refused (record { at = n; reason = InputTooLong }))) place
-      (too_long front rest (subst (Consumes left_old left_new) cut (all more consumed)) place some (no_more front none))
+
+      by_stop : {h : Fault} → NextStops list_profile so.bytes so.tokens left left_new most None None h → CountsDevices h.reason s t 0 0 → ListStops left_old left_new a b (Refused h)
+      by_stop (games_calls.at_token h more consumed to) counts =
+          by_stops to.tokens (reads_at_token left_old left_new (so.bytes ++ more) to.tokens (all more consumed) to.next) to.stops to.no_game counts
+      by_stop (games_calls.at_end h more consumed end to) counts =
+          by_stops (tokens_of (so.bytes ++ more)) (reads_at_end left_old left_new (so.bytes ++ more) (all more consumed) end) to.stops to.no_game counts
+      by_stop (games_calls.unread more consumed none) counts = unread (so.bytes ++ more) (all more consumed) (no_more (so.bytes ++ more) none)
+      by_stop (games_calls.too_long more front rest consumed cut place some none) counts =
+          subst (λ n. ListStops left_old left_new a b (Refused (record { at = n; reason = InputTooLong }))) place
+          (too_long front rest (subst (Consumes left_old left_new) cut (all more consumed)) place some (no_more front none))

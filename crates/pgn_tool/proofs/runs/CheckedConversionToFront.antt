@@ -1,5 +1,5 @@
 -- A run that reads the same text twice has written a prefix of its output, whichever device fails.
-use Rattle.pgn_tool.proofs.Words.{◌≡◌, ◌∙◌, ℕ, List, ◌++◌, length, take, Option, Some, IfSome, None, [], ap, append_assoc, append-nil, refl, subst, sym, take-append_seam, Result, Ok, Err, Appends, Consumes, Device, Token, tokens_of, decided, Mode, Fault, Totals, Profile, takes_the_marker, Verdict, due, output, refused as is_refused, AreConverted, AreTotalled, IsTokenPrefix, TwoReadingsConvert, Decides, FirstStops, SecondStops, TwoReadingsFail, HasTaken, MatchesAllMarks, WriteStops, first_too_long, first_unread, second_too_long, second_unread, unwritten, EqualReadings, InterruptedReadings, HasFront, Gives, RunsTwice, WritesFront, profile_twice}
+use Rattle.pgn_tool.proofs.Words.{◌≡◌, ◌∙◌, ℕ, List, ◌++◌, length, take, Option, Some, None, [], ap, append_assoc, append-nil, subst, sym, take-append_seam, Result, Ok, Err, Appends, Consumes, Device, Token, tokens_of, decided, Fault, Totals, Profile, takes_the_marker, Verdict, due, output, AreConverted, IsTokenPrefix, TwoReadingsConvert, Decides, FirstStops, SecondStops, TwoReadingsFail, HasTaken, first_too_long, first_unread, second_too_long, second_unread, unwritten, EqualReadings, InterruptedReadings, HasFront, Gives}
 use Rattle.pgn_lexer.specs.Laws.{DecidedIsPrefix}
 use Rattle.pgn_game.specs.Laws.{DueGrows, IsPrefix}
 use Rattle.pgn_game.specs.Checked.{compared, written_by}
@@ -8,9 +8,6 @@ use Rattle.pgn_game.specs.CheckedConversion.{refused}
 front_is : (out : Device) (written whole : List ℕ) → IsPrefix written whole → HasTaken out written → HasFront out whole
 front_is out written whole prefix taken =
     (length written, subst (Appends out.before out.after) (sym (ap (take (length written)) prefix.1 ∙ take-append_seam written prefix.0)) taken)
-
-whole_is : (out : Device) (written whole : List ℕ) → written ≡ whole → HasTaken out written → HasFront out whole
-whole_is out written whole same taken = front_is out whole whole ([], sym (append-nil whole)) (subst (HasTaken out) same taken)
 
 -- what was consumed of a text, and what is left
 left_of : (s : List ℕ) (new : Option (List ℕ)) (u : List ℕ) → Consumes (Some s) new u → (x : List ℕ) × (s ≡ u ++ x)
@@ -23,19 +20,11 @@ front_left u rest x = (rest ++ x.0, x.1 ∙ append_assoc u rest x.0)
 module _ (decides : DecidedIsPrefix) (grows : DueGrows) (equal : EqualReadings) (interrupted : InterruptedReadings)
     (p : Profile) (takes : p.missing_result ≡ takes_the_marker) (s : List ℕ) (first second out : Device)
     (first_gives : Gives s first) (second_gives : Gives s second) where
-  first_left : (u : List ℕ) → Consumes first.before first.after u → (x : List ℕ) × (s ≡ u ++ x)
-  first_left u consumed = left_of s first.after u (subst (λ (a : Option (List ℕ)). Consumes a first.after u) first_gives consumed)
-
-  second_left : (u : List ℕ) → Consumes second.before second.after u → (x : List ℕ) × (s ≡ u ++ x)
-  second_left u consumed = left_of s second.after u (subst (λ (a : Option (List ℕ)). Consumes a second.after u) second_gives consumed)
-
-  both_give : (P : List ℕ → List ℕ → Type 0) → IfSome first.before (λ s. IfSome second.before (λ r. P s r)) → P s s
-  both_give P known =
-      subst (λ (b : Option (List ℕ)). IfSome b (λ r. P s r)) second_gives
-      (subst (λ (a : Option (List ℕ)). IfSome a (λ s. IfSome second.before (λ r. P s r))) first_gives known)
+  rest_of : (d : Device) → Gives s d → (u : List ℕ) → Consumes d.before d.after u → (x : List ℕ) × (s ≡ u ++ x)
+  rest_of d gives u consumed = left_of s d.after u (rw gives at consumed)
 
   converted : (v : Verdict) → AreConverted p s s v out → HasFront out (output p s)
-  converted v h = whole_is out _ _ (equal p s takes).1 h.1
+  converted v h = front_is out _ _ ([], sym (append-nil (output p s))) (subst (HasTaken out) (equal p s takes).1 h.1)
 
   ends_first : (u : List ℕ) → ((x : List ℕ) × (s ≡ u ++ x)) → FirstStops p u second out → HasFront out (output p s)
   ends_first u x ends =
@@ -43,7 +32,7 @@ module _ (decides : DecidedIsPrefix) (grows : DueGrows) (equal : EqualReadings) 
       let all : IsPrefix (due p (decided u)) (output p s) =
       subst (λ (t : List ℕ). IsPrefix (due p (decided u)) (output p t)) (sym x.1)
       (subst (λ (ts : List Token). IsPrefix (due p (decided u)) (due p ts)) (sym h.1) (grows p (decided u) h.0)) in
-      let so = subst (λ (b : Option (List ℕ)). IfSome b (λ r. MatchesAllMarks p (decided u) (tokens_of r) out)) second_gives ends.matched in
+      let so = rw second_gives at ends.matched in
       let law = interrupted.first_stops p u x.0 takes in
       let text : written_by p (compared p (decided u) (tokens_of s)) ≡ due p (decided u) =
       ap (λ (t : List ℕ). written_by p (compared p (decided u) (tokens_of t))) x.1 ∙ law.written in
@@ -51,10 +40,10 @@ module _ (decides : DecidedIsPrefix) (grows : DueGrows) (equal : EqualReadings) 
 
   begins : (ts : List Token) → Decides first ts → IsTokenPrefix ts (tokens_of s)
   begins ts (Decides.so_far u consumed goes) =
-      let x = first_left u consumed in
+      let x = rest_of first first_gives u consumed in
       subst (λ (t : List ℕ). IsTokenPrefix ts (tokens_of t)) (sym x.1) (goes x.0)
   begins ts (Decides.at_end u consumed all goes) =
-      let same : s ≡ u = subst (λ (a : Option (List ℕ)). IfSome a (λ s. s ≡ u)) first_gives all in
+      let same : s ≡ u = rw first_gives at all in
       subst (λ (t : List ℕ). IsTokenPrefix ts (tokens_of t)) (sym same) goes
 
   ends_second : (u : List ℕ) → ((x : List ℕ) × (s ≡ u ++ x)) → SecondStops p first u out → HasFront out (output p s)
@@ -63,24 +52,17 @@ module _ (decides : DecidedIsPrefix) (grows : DueGrows) (equal : EqualReadings) 
       let law = interrupted.second_stops p u x.0 ends.tokens h.0 ends.next_mark.0 ends.next_mark.1 takes (ap tokens_of (sym x.1) ∙ h.1) ends.next_mark.2 in
       front_is out _ _ (subst (λ (t : List ℕ). IsPrefix (written_by p (compared p ends.tokens (decided u))) (output p t)) (sym x.1) law.most) ends.appended
 
-  stops : (at : ℕ) → WriteStops p first (tokens_of s) at out → HasFront out (output p s)
-  stops at h =
+  fails : (f : Fault) → TwoReadingsFail p first second out f → HasFront out (output p s)
+  fails _ (refused f known) = converted _ (rw (first_gives, second_gives) at known)
+  fails _ (first_unread u consumed failed ends) = ends_first u (rest_of first first_gives u consumed) ends
+  fails _ (first_too_long u rest consumed long more ends) = ends_first u (front_left u rest (rest_of first first_gives (u ++ rest) consumed)) ends
+  fails _ (second_unread u consumed failed ends) = ends_second u (rest_of second second_gives u consumed) ends
+  fails _ (second_too_long u rest consumed long more ends) = ends_second u (front_left u rest (rest_of second second_gives (u ++ rest) consumed)) ends
+  fails _ (unwritten at known) =
+      let h = rw second_gives at known in
       let x = begins h.tokens h.decided_by in
       front_is out _ _ (interrupted.write_fails p s h.tokens x.0 h.front h.rest h.token h.count takes x.1 h.cut) h.appended
 
-  fails : (f : Fault) → TwoReadingsFail p first second out f → HasFront out (output p s)
-  fails _ (refused f known) = converted _ (both_give (λ s r. AreConverted p s r (is_refused f) out) known)
-  fails _ (first_unread u consumed failed ends) = ends_first u (first_left u consumed) ends
-  fails _ (first_too_long u rest consumed long more ends) = ends_first u (front_left u rest (first_left (u ++ rest) consumed)) ends
-  fails _ (second_unread u consumed failed ends) = ends_second u (second_left u consumed) ends
-  fails _ (second_too_long u rest consumed long more ends) = ends_second u (front_left u rest (second_left (u ++ rest) consumed)) ends
-  fails _ (unwritten at known) = stops at (subst (λ (b : Option (List ℕ)). IfSome b (λ r. WriteStops p first (tokens_of r) at out)) second_gives known)
-
   pub front_written : (answer : Result Totals Fault) → TwoReadingsConvert p first second out answer → HasFront out (output p s)
-  front_written (Ok t) converts = converted _ (both_give (λ s r. AreTotalled p s r t out) converts).converted
+  front_written (Ok t) converts = converted _ (rw (first_gives, second_gives) at converts).converted
   front_written (Err f) converts = fails f converts
-
-pub twice_front : DecidedIsPrefix → DueGrows → EqualReadings → InterruptedReadings → (mode : Mode) (s : List ℕ) (first second out err : Device) (code : ℕ)
-    → Gives s first → Gives s second → RunsTwice mode first second out err code → WritesFront mode s out
-twice_front decides grows equal interrupted mode s first second out err code first_gives second_gives runs =
-    front_written decides grows equal interrupted (profile_twice mode) refl s first second out first_gives second_gives runs.answer runs.works

@@ -1,66 +1,58 @@
 -- What follows of a run from the conversion in it.
-use Rattle.pgn_tool.proofs.Words.{◌≡◌, ◌∙◌, ℕ, ◌^◌, ◌<◌, ◌≤◌, Bool, true, false, List, [], ◌++◌, length, ap, refl, subst, sym, arith, append-nil, take, length-append, Option, None, Some, inl, inr, false≢true, take-length, Result, Ok, Err, OnOk, is_ok, map, sum, codes, ◌⊎◌, if◌then◌else◌, Appends, Consumes, Keeps, Counts, Device, IsStill, Writes, one_more, Full, Reason, ReadFault, WriteFault, Fault, Totals, Profile, tokens_of, Read, read, refused as is_refused, totals, verdict_of, plies_of, profile_of, AfterConversion, CountsDevices, Fails, IsConverted, Stopped, CountsReadFault, ListResult, ListStops, list_profile, Answers, Blames, Concludes, Ends, EndsList, FlushCounts, HasFailed, IsCalm, IsSmooth, IsUntouched, Job, Runs, Tells, TellsVerdict, Works, checking, counting_of, exporting, line, listing, status_of}
+use Rattle.pgn_tool.proofs.Words.{◌≡◌, ◌∙◌, ℕ, ◌^◌, ◌<◌, ◌≤◌, Bool, true, false, List, [], ◌++◌, length, ap, refl, subst, sym, arith, take, length-append, Option, None, Some, inl, inr, take-length, Result, Ok, Err, OnOk, is_ok, codes, ◌⊎◌, if◌then◌else◌, Appends, Appends-nil, Counted, line_of, Consumes, Keeps, Counts, Device, IsStill, Writes, one_more, Full, Reason, ReadFault, WriteFault, Fault, Totals, Profile, tokens_of, Read, read, refused as is_refused, totals, verdict_of, profile_of, AfterConversion, CountsDevices, Fails, IsConverted, Stopped, CountsReadFault, ListResult, ListStops, list_profile, Answers, Blames, Concludes, Ends, EndsList, FlushCounts, HasFailed, IsCalm, IsSmooth, Job, Runs, Tells, TellsVerdict, Works, checking, exporting, line, listing, status_of, IfSome, Appends-kept, device, Verdict}
 use Rattle.pgn_game.specs.Conversion.{refused, unread, unwritten, too_long}
 use Rattle.pgn_tool.specs.declared.list.Stopped.TheVariants as stopped
 use Rattle.pgn_tool.specs.ListLines as list_lines
 
+-- what holds of a known value, and what follows of it
+pub IfSome-map : {A : Type 0} → (o : Option A) (P Q : A → Type 0) → ((x : A) → P x → Q x) → IfSome o P → IfSome o Q
+IfSome-map None P Q more known = tt
+IfSome-map (Some x) P Q more known = more x known
+
 -- ---- devices
 
-pub keeps_on : (a b c : Option (List ℕ)) (text : List ℕ) → Appends a b text → Keeps b c → Appends a c text
-keeps_on None b c text appends keeps = tt
-keeps_on (Some xs) None c text appends keeps = absurd appends
-keeps_on (Some xs) (Some ys) None text appends keeps = absurd keeps
-keeps_on (Some xs) (Some ys) (Some zs) text appends keeps = keeps ∙ appends
-
-keeps_nothing : (a b : Option (List ℕ)) → Keeps a b → Appends a b []
-keeps_nothing None b keeps = tt
-keeps_nothing (Some xs) None keeps = absurd keeps
-keeps_nothing (Some xs) (Some ys) keeps = keeps ∙ sym (append-nil xs)
-
 -- what a write of a text and a flush after it leave
-front_on : {A E : Type 0} → (r : Result A E) (a b c : Option (List ℕ)) (text : List ℕ) → Writes a b r text → Keeps b c
+pub front_on : {A E : Type 0} → (r : Result A E) (a b c : Option (List ℕ)) (text : List ℕ) → Writes a b r text → Keeps b c
     → (count : ℕ) × Appends a c (take count text)
-front_on (Ok x) a b c text writes keeps = (length text, keeps_on a b c _ (subst (Appends a b) (sym (take-length text)) writes) keeps)
-front_on (Err e) a b c text writes keeps = (writes.0, keeps_on a b c _ writes.2 keeps)
-
-pub front_as : {A E : Type 0} → (r : Result A E) (a b c : Option (List ℕ)) (text other : List ℕ) → text ≡ other → Writes a b r text → Keeps b c
-    → (count : ℕ) × Appends a c (take count other)
-front_as r a b c text other same writes keeps = front_on r a b c other (subst (λ (t : List ℕ). Writes a b r t) same writes) keeps
+front_on (Ok x) a b c text writes keeps = (length text, Appends-kept a b c _ (subst (Appends a b) (sym (take-length text)) writes) keeps)
+front_on (Err e) a b c text writes keeps = (writes.0, Appends-kept a b c _ writes.2 keeps)
 
 pub calm_fails : (d : Device) → IsCalm d → HasFailed d → ⊥
 calm_fails d calm failed = omega (arith, calm.0, calm.1)
 
 -- ---- a run without a fault
 
--- a flush that did well leaves the count, and one that failed raises it
-pub flush_still : {A E : Type 0} → (r : Result A E) (old mid new : ℕ) → mid ≡ old → Counts r mid new → is_ok r ≡ true → new ≡ old
-flush_still (Ok x) old mid new still counts is = counts ∙ still
-flush_still (Err e) old mid new still counts is = absurd (false≢true is)
-
-pub flush_failed : {A E : Type 0} → (r : Result A E) (old mid new : ℕ) → mid ≡ old → Counts r mid new → is_ok r ≡ false → one_more old ≤ new
-flush_failed (Ok x) old mid new still counts is = absurd (false≢true (sym is))
-flush_failed (Err e) old mid new still counts is = omega (arith, still, counts)
-
 pub flush_counts : {A E : Type 0} → (r : Result A E) (mid new : ℕ) → Counts r mid new → FlushCounts mid new
 flush_counts (Ok x) mid new counts = inl counts
 flush_counts (Err e) mid new counts = inr counts
 
 -- the status says whether all was written
-pub concludes_as : (is_written : Bool) (source out err : Device) (status : ℕ) → IsStill source → (is_written ≡ true → IsStill out)
-    → (is_written ≡ false → HasFailed out) → status ≡ (if is_written then 0 else 1) → (is_written ≡ true → IsUntouched err)
-    → (is_written ≡ false → Tells err (line (codes "output cannot be written"))) → Concludes source out err status
-concludes_as true source out err status read still failed is untouched told = record {
+pub concludes_as : {S : Type 0} → (taken : S → Option (List ℕ)) (failures : S → ℕ) (old new : S) (is_written : Bool) (source out : Device) (status : ℕ)
+    → IsStill source → (is_written ≡ true → IsStill out) → (is_written ≡ false → HasFailed out) → status ≡ (if is_written then 0 else 1)
+    → (is_written ≡ true → new ≡ old) → (is_written ≡ false → Tells (device taken failures old new) (line (codes "output cannot be written")))
+    → Concludes source out (device taken failures old new) status
+concludes_as taken failures old new true source out status read still failed is untouched told = record {
   read = read;
   ends = omega (arith, is);
-  well = λ zero. (still refl, untouched refl);
+  well = λ zero. (still refl, (ap taken (untouched refl), ap failures (untouched refl)));
   ill = λ one. absurd (omega (arith, one, is));
 }
-concludes_as false source out err status read still failed is untouched told = record {
+concludes_as taken failures old new false source out status read still failed is untouched told = record {
   read = read;
   ends = omega (arith, is);
   well = λ zero. absurd (omega (arith, zero, is));
   ill = λ one. (failed refl, told refl);
 }
+
+-- the same where a flush says it: one that did well leaves the count, and one that failed raises it
+pub concludes_flushed : {A E S : Type 0} → (taken : S → Option (List ℕ)) (failures : S → ℕ) (old new : S) (r : Result A E) (is_written : Bool) (source out : Device)
+    (mid status : ℕ) → is_written ≡ is_ok r → IsStill source → mid ≡ out.failures → Counts r mid out.failures_after → status ≡ (if is_written then 0 else 1)
+    → (is_written ≡ true → new ≡ old) → (is_written ≡ false → Tells (device taken failures old new) (line (codes "output cannot be written")))
+    → Concludes source out (device taken failures old new) status
+concludes_flushed taken failures old new (Ok x) is_written source out mid status same read kept counts =
+    concludes_as taken failures old new is_written source out status read (λ well. counts ∙ kept) (λ ill. absurd (cc))
+concludes_flushed taken failures old new (Err e) is_written source out mid status same read kept counts =
+    concludes_as taken failures old new is_written source out status read (λ well. absurd (cc)) (λ ill. omega (arith, kept, counts))
 
 -- a text is told where it was written or the sink has failed
 pub tells_as : (is_written : Bool) (d : Device) (text : List ℕ) → (is_written ≡ true → Appends d.before d.after text)
@@ -72,10 +64,10 @@ tells_as false d text written failed = λ calm. absurd (calm_fails d calm (faile
 
 pub fails_on : (p : Profile) (left_old left_new a b c : Option (List ℕ)) (f : Fault) → Fails p left_old left_new a b f → Keeps b c
     → Fails p left_old left_new a c f
-fails_on p None left_new a b c _ (refused f converted) keeps = refused f tt
-fails_on p (Some s) left_new a b c _ (refused f converted) keeps = refused f (converted.0, keeps_on a b c _ converted.1 keeps)
+fails_on p left_old left_new a b c _ (refused f known) keeps =
+    refused f (IfSome-map left_old _ _ (λ s converted. (converted.0, Appends-kept a b c _ converted.1 keeps)) known)
 fails_on p left_old left_new a b c _ (unread u consumed reads) keeps =
-    unread u consumed (record { passes = reads.passes; appended = keeps_on a b c _ reads.appended keeps })
+    unread u consumed (record { passes = reads.passes; appended = Appends-kept a b c _ reads.appended keeps })
 fails_on p left_old left_new a b c _ (unwritten u at consumed stops) keeps =
     unwritten u at consumed (record {
       front = stops.front;
@@ -89,16 +81,15 @@ fails_on p left_old left_new a b c _ (unwritten u at consumed stops) keeps =
       count = stops.count;
       least = stops.least;
       short = stops.short;
-      appended = keeps_on a b c _ stops.appended keeps;
+      appended = Appends-kept a b c _ stops.appended keeps;
     })
 fails_on p left_old left_new a b c _ (too_long u rest consumed long more reads) keeps =
-    too_long u rest consumed long more (record { passes = reads.passes; appended = keeps_on a b c _ reads.appended keeps })
+    too_long u rest consumed long more (record { passes = reads.passes; appended = Appends-kept a b c _ reads.appended keeps })
 
 pub converts_on : (p : Profile) (left_old left_new a b c : Option (List ℕ)) (r : Result Totals Fault) → AfterConversion p left_old left_new r a b
     → Keeps b c → AfterConversion p left_old left_new r a c
-converts_on p None left_new a b c (Ok t) converts keeps = tt
-converts_on p (Some s) left_new a b c (Ok t) converts keeps =
-    record { converted = (converts.converted.0, keeps_on a b c _ converts.converted.1 keeps); probes = converts.probes }
+converts_on p left_old left_new a b c (Ok t) converts keeps =
+    IfSome-map left_old _ _ (λ s known. record { converted = (known.converted.0, Appends-kept a b c _ known.converted.1 keeps); probes = known.probes }) converts
 converts_on p left_old left_new a b c (Err f) converts keeps = fails_on p left_old left_new a b c f converts keeps
 
 -- ---- which device is to blame
@@ -135,21 +126,11 @@ counted_once ReadFault source_old source_new old mid devices = inl devices.1
 counted_once WriteFault source_old source_new old mid devices = inr devices.1
 counted_once _ source_old source_new old mid devices = inl devices.1
 
--- the status of a run that has not written all
-pub ill_status : (is_written : Bool) (status : ℕ) → status ≡ (if is_written then 0 else 1) → is_written ≡ false → status ≡ 1
-ill_status true status is ill = absurd (false≢true (sym ill))
-ill_status false status is ill = is
-
 -- the same of a run that says whether all was written
 pub flushed_well : (is_written : Bool) (old new status : ℕ) (unflushed : List ℕ) → status ≡ (if is_written then 0 else 1)
     → (unflushed ≡ []) ⊎ ((one_more old ≤ new) × (is_written ≡ false)) → (unflushed ≡ []) ⊎ ((one_more old ≤ new) × (status ≡ 1))
 flushed_well is_written old new status unflushed is (inl empty) = inl empty
-flushed_well is_written old new status unflushed is (inr (failed, ill)) = inr (failed, ill_status is_written status is ill)
-
--- the buffer was made before, which counts nothing
-pub flushed_from : (old reserved new : ℕ) (unflushed : List ℕ) (P : Type 0) → reserved ≡ old → (unflushed ≡ []) ⊎ ((one_more reserved ≤ new) × P)
-    → (unflushed ≡ []) ⊎ ((one_more old ≤ new) × P)
-flushed_from old reserved new unflushed P same flushed = subst (λ (n : ℕ). (unflushed ≡ []) ⊎ ((one_more n ≤ new) × P)) same flushed
+flushed_well is_written old new status unflushed is (inr (failed, ill)) = inr (failed, rw ill at is)
 
 -- ---- where no device fails
 
@@ -162,73 +143,62 @@ longer s (Some ys) u rest consumed long more short =
 
 -- a fault that no device is to blame for is the text's own
 own_fault : (p : Profile) (s : List ℕ) (source out : Device) (a b : Option (List ℕ)) (f : Fault) → IsSmooth s source out
-    → Fails p (Some s) source.after a b f → Blames f.reason source out → IsConverted p s (is_refused f) a b
-own_fault p s source out a b _ smooth (refused f converted) blames = converted
+    → Fails p source.before source.after a b f → Blames f.reason source out → IsConverted p s (is_refused f) a b
+own_fault p s source out a b _ smooth (refused f converted) blames = rw smooth.gives at converted
 own_fault p s source out a b _ smooth (unread u consumed reads) blames = absurd (calm_fails source smooth.reads blames)
 own_fault p s source out a b _ smooth (unwritten u at consumed stops) blames = absurd (calm_fails out smooth.writes blames)
 own_fault p s source out a b _ smooth (too_long u rest consumed long more reads) blames =
-    absurd (longer s source.after u rest consumed long more smooth.short)
+    absurd (longer s source.after u rest (rw smooth.gives at consumed) long more smooth.short)
 
--- a run without a fault that has written all
-below_two : (code : ℕ) → code ≤ 1 → (code ≡ 1 → ⊥) → code ≡ 0
-below_two code low other = omega (arith, low, other)
+-- a run without a fault, and its status if it has written all
+pub concludes_by_verdict : (v : Verdict) (source out err : Device) (code : ℕ) (c : Counted) → v ≡ totals c → IsCalm out → Concludes source out err code
+    → (code ≡ status_of v) × TellsVerdict err v
+concludes_by_verdict v source out err code c is calm ends =
+    let written : code ≡ 1 → ⊥ = λ one. calm_fails out calm (ends.ill one).0 in
+    let zero : code ≡ 0 = omega (arith, ends.ends, written) in
+    (zero ∙ sym (ap status_of is), subst (TellsVerdict err) (sym is) (ends.well zero).1)
 
-pub well : (source out err : Device) (code : ℕ) → Concludes source out err code → IsCalm out → code ≡ 0
-well source out err code ends calm = below_two code ends.ends (λ one. calm_fails out calm (ends.ill one).0)
+-- a run with a fault
+pub refuses_by_verdict : (v : Verdict) (err : Device) (code : ℕ) (f : Fault) → v ≡ is_refused f → code ≡ 1 → Tells err (line (line_of f))
+    → (code ≡ status_of v) × TellsVerdict err v
+refuses_by_verdict v err code f is ends told = (ends ∙ sym (ap status_of is), subst (TellsVerdict err) (sym is) told)
 
 job_answers : (job : Job) (s : List ℕ) (source out err : Device) (code : ℕ) (answer : Result Totals Fault) → IsSmooth s source out
     → Works job answer source out → Ends answer source out err code → Answers job s out err code
 job_answers (exporting mode) s source out err code (Ok t) smooth works ends =
     let converted = (rw smooth.gives at works).converted in
-    let zero = well source out err code ends smooth.writes in
-    record {
-      ends = zero ∙ sym (ap status_of converted.0);
-      written = converted.1;
-      told = subst (TellsVerdict err) (sym converted.0) (ends.well zero).1;
-    }
+    let by = concludes_by_verdict _ source out err code _ converted.0 smooth.writes ends in
+    record { ends = by.0; written = converted.1; told = by.1 }
 job_answers (exporting mode) s source out err code (Err f) smooth works ends =
-    let fails : Fails (profile_of 64 32 mode) (Some s) source.after out.before out.after f = rw smooth.gives at works in
-    let converted = own_fault (profile_of 64 32 mode) s source out out.before out.after f smooth fails ends.blames in
-    record {
-      ends = ends.ends ∙ sym (ap status_of converted.0);
-      written = converted.1;
-      told = subst (TellsVerdict err) (sym converted.0) ends.told;
-    }
+    let converted = own_fault (profile_of 64 32 mode) s source out out.before out.after f smooth works ends.blames in
+    let by = refuses_by_verdict _ err code f converted.0 ends.ends ends.told in
+    record { ends = by.0; written = converted.1; told = by.1 }
 job_answers checking s source out err code (Ok t) smooth works ends =
     let converted = (rw smooth.gives at works.0).converted in
-    let zero = well source out err code ends smooth.writes in
-    record {
-      ends = zero ∙ sym (ap status_of converted.0);
-      written = subst (λ v. Appends out.before out.after (counting_of v)) (sym converted.0) (works.1.0 smooth.writes);
-      told = subst (TellsVerdict err) (sym converted.0) (ends.well zero).1;
-    }
+    let by = concludes_by_verdict _ source out err code _ converted.0 smooth.writes ends in
+    record { ends = by.0; written = rw converted.0 (works.1.0 smooth.writes); told = by.1 }
 job_answers checking s source out err code (Err f) smooth works ends =
-    let fails : Fails (profile_of 64 32 Full) (Some s) source.after None None f = rw smooth.gives at works.0 in
-    let converted = own_fault (profile_of 64 32 Full) s source out None None f smooth fails ends.blames in
-    record {
-      ends = ends.ends ∙ sym (ap status_of converted.0);
-      written = subst (λ v. Appends out.before out.after (counting_of v)) (sym converted.0) (keeps_nothing out.before out.after works.1);
-      told = subst (TellsVerdict err) (sym converted.0) ends.told;
-    }
+    let converted = own_fault (profile_of 64 32 Full) s source out None None f smooth works.0 ends.blames in
+    let by = refuses_by_verdict _ err code f converted.0 ends.ends ends.told in
+    record { ends = by.0; written = rw converted.0 (Appends-kept _ _ _ [] (Appends-nil out.before) works.1); told = by.1 }
 job_answers listing s source out err code answer smooth works ends = absurd works
 
 -- ---- a list
 
 -- and a flush after it
 pub stops_on : (left_old left_new a b c : Option (List ℕ)) (stopped : Stopped) → ListStops left_old left_new a b stopped → Keeps b c → ListStops left_old left_new a c stopped
-stops_on None left_new a b c _ (list_lines.refused f listed) keeps = list_lines.refused f tt
-stops_on (Some s) left_new a b c _ (list_lines.refused f listed) keeps =
-    list_lines.refused f (record { fault = listed.fault; written = keeps_on a b c _ listed.written keeps })
+stops_on left_old left_new a b c _ (list_lines.refused f known) keeps =
+    list_lines.refused f (IfSome-map left_old _ _ (λ s listed. record { fault = listed.fault; written = Appends-kept a b c _ listed.written keeps }) known)
 stops_on left_old left_new a b c _ (list_lines.unread u consumed listed) keeps =
-    list_lines.unread u consumed (record { passes = listed.passes; written = keeps_on a b c _ listed.written keeps })
+    list_lines.unread u consumed (record { passes = listed.passes; written = Appends-kept a b c _ listed.written keeps })
 stops_on left_old left_new a b c _ (list_lines.too_long u rest consumed long more listed) keeps =
-    list_lines.too_long u rest consumed long more (record { passes = listed.passes; written = keeps_on a b c _ listed.written keeps })
+    list_lines.too_long u rest consumed long more (record { passes = listed.passes; written = Appends-kept a b c _ listed.written keeps })
 stops_on left_old left_new a b c _ (list_lines.unwritten u rest consumed cut) keeps =
-    list_lines.unwritten u rest consumed (record { count = cut.count; short = cut.short; front = keeps_on a b c _ cut.front keeps })
+    list_lines.unwritten u rest consumed (record { count = cut.count; short = cut.short; front = Appends-kept a b c _ cut.front keeps })
 
 pub lists_on : (left_old left_new a b c : Option (List ℕ)) (r : Result Unit Stopped) → ListResult left_old left_new r a b → Keeps b c → ListResult left_old left_new r a c
-lists_on None left_new a b c (Ok x) listed keeps = tt
-lists_on (Some s) left_new a b c (Ok x) listed keeps = record { fault = listed.fault; written = keeps_on a b c _ listed.written keeps }
+lists_on left_old left_new a b c (Ok x) known keeps =
+    IfSome-map left_old _ _ (λ s listed. record { fault = listed.fault; written = Appends-kept a b c _ listed.written keeps }) known
 lists_on left_old left_new a b c (Err stopped) listed keeps = stops_on left_old left_new a b c stopped listed keeps
 
 pub list_blames : (reason : Reason) (source out : Device) → CountsReadFault reason source.failures source.failures_after → Blames reason source out
@@ -236,38 +206,30 @@ list_blames ReadFault source out counts = omega (arith, counts)
 list_blames WriteFault source out counts = absurd counts
 list_blames _ source out counts = tt
 
-passes_verdict : (r : Read) → r.fault ≡ None → verdict_of r ≡ totals (record { games = length r.progress.games; plies = sum (map plies_of r.progress.games) })
-passes_verdict r e =
-    ap (λ (o : Option Fault). elim o [ Some f ↦ is_refused f | None ↦ totals (record { games = length r.progress.games; plies = sum (map plies_of r.progress.games) }) ]) e
-
-refused_verdict : (r : Read) (f : Fault) → r.fault ≡ Some f → verdict_of r ≡ is_refused f
-refused_verdict r f e =
-    ap (λ (o : Option Fault). elim o [ Some f ↦ is_refused f | None ↦ totals (record { games = length r.progress.games; plies = sum (map plies_of r.progress.games) }) ]) e
+-- a verdict by the fault that was found
+verdict_is : (r : Read) (o : Option Fault) → r.fault ≡ o → verdict_of r ≡ verdict_of (record r { fault = o })
+verdict_is r o is = ap (λ o. verdict_of (record r { fault = o })) is
 
 stopped_answers : (s : List ℕ) (source out err : Device) (code : ℕ) (stopped : Stopped) → IsSmooth s source out
-    → ListStops (Some s) source.after out.before out.after stopped → EndsList (Err stopped) source out err code → Answers listing s out err code
-stopped_answers s source out err code _ smooth (list_lines.refused f listed) ends =
-    let verdict = refused_verdict (read list_profile (tokens_of s)) f listed.fault in
-    record { ends = ends.ends ∙ sym (ap status_of verdict); written = listed.written; told = subst (TellsVerdict err) (sym verdict) ends.told }
+    → ListStops source.before source.after out.before out.after stopped → EndsList (Err stopped) source out err code → Answers listing s out err code
+stopped_answers s source out err code _ smooth (list_lines.refused f known) ends =
+    let listed = rw smooth.gives at known in
+    let by = refuses_by_verdict _ err code f (verdict_is (read list_profile (tokens_of s)) (Some f) listed.fault) ends.ends ends.told in
+    record { ends = by.0; written = listed.written; told = by.1 }
 stopped_answers s source out err code _ smooth (list_lines.unread u consumed listed) ends = absurd (calm_fails source smooth.reads ends.blames)
 stopped_answers s source out err code _ smooth (list_lines.too_long u rest consumed long more listed) ends =
-    absurd (longer s source.after u rest consumed long more smooth.short)
+    absurd (longer s source.after u rest (rw smooth.gives at consumed) long more smooth.short)
 stopped_answers s source out err code _ smooth (list_lines.unwritten u rest consumed cut) ends = absurd (calm_fails out smooth.writes ends.failed)
 
 list_answers : (s : List ℕ) (source out err : Device) (code : ℕ) (answer : Result Unit Stopped) → IsSmooth s source out
     → ListResult source.before source.after answer out.before out.after → EndsList answer source out err code → Answers listing s out err code
 list_answers s source out err code (Ok x) smooth works ends =
     let listed = rw smooth.gives at works in
-    let zero = well source out err code ends smooth.writes in
-    let verdict = passes_verdict (read list_profile (tokens_of s)) listed.fault in
-    record { ends = zero ∙ sym (ap status_of verdict); written = listed.written; told = subst (TellsVerdict err) (sym verdict) (ends.well zero).1 }
-list_answers s source out err code (Err stopped) smooth works ends =
-    stopped_answers s source out err code stopped smooth (subst (λ o. ListStops o source.after out.before out.after stopped) smooth.gives works) ends
+    let by = concludes_by_verdict _ source out err code _ (verdict_is (read list_profile (tokens_of s)) None listed.fault) smooth.writes ends in
+    record { ends = by.0; written = listed.written; told = by.1 }
+list_answers s source out err code (Err stopped) smooth works ends = stopped_answers s source out err code stopped smooth works ends
 
 -- ---- any run
-
-pub runs_as : (job other : Job) (source out err : Device) (code : ℕ) → job ≡ other → Runs job source out err code → Runs other source out err code
-runs_as job other source out err code same runs = subst (λ (j : Job). Runs j source out err code) same runs
 
 pub runs_answers : (job : Job) (s : List ℕ) (source out err : Device) (code : ℕ) → IsSmooth s source out → Runs job source out err code
     → Answers job s out err code
@@ -277,32 +239,20 @@ runs_answers listing s source out err code smooth runs = list_answers s source o
 
 -- ---- the status
 
-ends_status : (answer : Result Totals Fault) (source out err : Device) (code : ℕ) → Ends answer source out err code → code ≤ 1
-ends_status (Ok t) source out err code ends = ends.ends
-ends_status (Err f) source out err code ends = omega (arith, ends.ends)
+-- it is 1 at most, and 0 only if no device failed
+ends_as : (answer : Result Totals Fault) (source out err : Device) (code : ℕ) → Ends answer source out err code
+    → (code ≤ 1) × (code ≡ 0 → IsStill source × IsStill out)
+ends_as (Ok t) source out err code ends = (ends.ends, λ zero. (ends.read, (ends.well zero).0))
+ends_as (Err f) source out err code ends = (omega (arith, ends.ends), λ zero. absurd (omega (arith, ends.ends, zero)))
 
-list_status : (answer : Result Unit Stopped) (source out err : Device) (code : ℕ) → EndsList answer source out err code → code ≤ 1
-list_status (Ok x) source out err code ends = ends.ends
-list_status (Err (stopped.Refused f)) source out err code ends = omega (arith, ends.ends)
-list_status (Err stopped.Unwritten) source out err code ends = omega (arith, ends.ends)
+list_ends_as : (answer : Result Unit Stopped) (source out err : Device) (code : ℕ) → EndsList answer source out err code
+    → (code ≤ 1) × (code ≡ 0 → IsStill source × IsStill out)
+list_ends_as (Ok x) source out err code ends = (ends.ends, λ zero. (ends.read, (ends.well zero).0))
+list_ends_as (Err (stopped.Refused f)) source out err code ends = ends_as (Err f) source out err code ends
+list_ends_as (Err stopped.Unwritten) source out err code ends = (omega (arith, ends.ends), λ zero. absurd (omega (arith, ends.ends, zero)))
 
-pub runs_status : (job : Job) (source out err : Device) (code : ℕ) → Runs job source out err code → code ≤ 1
-runs_status (exporting mode) source out err code runs = ends_status runs.answer source out err code runs.ends
-runs_status checking source out err code runs = ends_status runs.answer source out err code runs.ends
-runs_status listing source out err code runs = list_status runs.answer source out err code runs.ends
-
-ends_still : (answer : Result Totals Fault) (source out err : Device) (code : ℕ) → Ends answer source out err code → code ≡ 0
-    → IsStill source × IsStill out
-ends_still (Ok t) source out err code ends zero = (ends.read, (ends.well zero).0)
-ends_still (Err f) source out err code ends zero = absurd (omega (arith, ends.ends, zero))
-
-list_still : (answer : Result Unit Stopped) (source out err : Device) (code : ℕ) → EndsList answer source out err code → code ≡ 0
-    → IsStill source × IsStill out
-list_still (Ok x) source out err code ends zero = (ends.read, (ends.well zero).0)
-list_still (Err (stopped.Refused f)) source out err code ends zero = absurd (omega (arith, ends.ends, zero))
-list_still (Err stopped.Unwritten) source out err code ends zero = absurd (omega (arith, ends.ends, zero))
-
-pub runs_still : (job : Job) (source out err : Device) (code : ℕ) → Runs job source out err code → code ≡ 0 → IsStill source × IsStill out
-runs_still (exporting mode) source out err code runs = ends_still runs.answer source out err code runs.ends
-runs_still checking source out err code runs = ends_still runs.answer source out err code runs.ends
-runs_still listing source out err code runs = list_still runs.answer source out err code runs.ends
+pub runs_end : (job : Job) (source out err : Device) (code : ℕ) → Runs job source out err code
+    → (code ≤ 1) × (code ≡ 0 → IsStill source × IsStill out)
+runs_end (exporting mode) source out err code runs = ends_as runs.answer source out err code runs.ends
+runs_end checking source out err code runs = ends_as runs.answer source out err code runs.ends
+runs_end listing source out err code runs = list_ends_as runs.answer source out err code runs.ends

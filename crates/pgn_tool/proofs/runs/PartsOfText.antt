@@ -1,5 +1,5 @@
 -- Texts that are written in parts, and the line of the game just finished.
-use Rattle.pgn_tool.proofs.Words.{◌≡◌, ℕ, ◌+◌, List, [], ◌++◌, length, Option, None, Some, Result, Ok, Err, ap, subst, sym, codes, decimal, unwrap_or, length-append, ◌∙◌, arith, option_map, Appends, Appends-trans, take-append-add, take-append-le, AppendsFront, Writes, Profile, known_result, exported, Converter, FinishedGame, finished_game_plies, finished_game_position, finished_game_value, finished_game_line, line_just_finished, six_fields, listed_value}
+use Rattle.pgn_tool.proofs.Words.{◌≡◌, ℕ, ◌+◌, List, [], ◌++◌, length, Option, None, Some, Result, Ok, Err, ap, subst, sym, codes, decimal, unwrap_or, length-append, arith, option_map, Appends, Appends-trans, take-append-add, take-append-le, AppendsFront, Writes, Profile, known_result, exported, FinishedGame, finished_game_line, six_fields, listed_value}
 use Rattle.chess_rules.specs.declared.position.Parts.{Parts}
 use Rattle.chess_text.specs.Fen.{fen_text}
 use Rattle.pgn_game.specs.Pairs.{value_of}
@@ -25,7 +25,7 @@ writes_after (Ok x) a b c xs ys first more = Appends-trans a b c _ _ first more
 writes_after (Err e) a b c xs ys first more = front_after a b c xs ys first more
 
 -- the line of the game just finished, by the answers of a converter
-line_told : (o : Option FinishedGame) (number : ℕ) (by : Profile) (p : Parts) → Some p ≡ option_map (λ finished. finished.position) o
+pub line_told : (o : Option FinishedGame) (number : ℕ) (by : Profile) (p : Parts) → Some p ≡ option_map (λ finished. finished.position) o
     → elim o [ None ↦ [] | Some finished ↦ finished_game_line number by finished ]
     ≡ six_fields (decimal number) (unwrap_or (elim o [ None ↦ None | Some finished ↦ value_of (exported by.mode (known_result by.missing_result) finished.pairs) (codes "White") ]) [])
     (unwrap_or (elim o [ None ↦ None | Some finished ↦ value_of (exported by.mode (known_result by.missing_result) finished.pairs) (codes "Black") ]) [])
@@ -36,14 +36,3 @@ line_told None number by p e = absurd (cc)
 line_told (Some finished) number by p e =
     ap (λ q. six_fields (decimal number) (listed_value by finished.pairs (codes "White")) (listed_value by finished.pairs (codes "Black"))
     (listed_value by finished.pairs (codes "Result")) (decimal finished.plies) (fen_text q)) (ap (λ o. unwrap_or o p) (sym e))
-
-pub line_just_finished-told : (k : Converter) (p : Parts) → Some p ≡ finished_game_position k
-    → line_just_finished k ≡ six_fields (decimal k.games) (unwrap_or (finished_game_value k (codes "White")) []) (unwrap_or (finished_game_value k (codes "Black")) [])
-    (unwrap_or (finished_game_value k (codes "Result")) []) (decimal (finished_game_plies k)) (fen_text p)
-line_just_finished-told k p e = line_told k.just_finished k.games k.reading.profile p e
-
--- a line by other spellings of its fields
-pub six_as : (a b c d e f k l m n o p : List ℕ) → a ≡ k → b ≡ l → c ≡ m → d ≡ n → e ≡ o → f ≡ p → six_fields a b c d e f ≡ six_fields k l m n o p
-six_as a b c d e f k l m n o p ak bl cm dn eo fp =
-    ap (λ x. six_fields x b c d e f) ak ∙ ap (λ x. six_fields k x c d e f) bl ∙ ap (λ x. six_fields k l x d e f) cm ∙ ap (λ x. six_fields k l m x e f) dn
-    ∙ ap (λ x. six_fields k l m n x f) eo ∙ ap (λ x. six_fields k l m n o x) fp

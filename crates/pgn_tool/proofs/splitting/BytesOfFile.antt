@@ -1,14 +1,10 @@
 -- The bytes in the file of a game.
-use Rattle.pgn_tool.proofs.Words.{◌≡◌, ℕ, ◌<◌, ◌≤◌, true, List, [], ◌∷◌, ◌++◌, length, length-append, length-take, append-nil, take, Option, None, Some, Result, Ok, Err, refl, sym, ap, subst, ◌∙◌, arith, is_some, IfOk, false≢true, Appends, WriteAppends, Counts, FileStep, IsNew, added, has_bytes, is_text}
+use Rattle.pgn_tool.proofs.Words.{◌≡◌, ℕ, ◌<◌, ◌≤◌, true, List, [], ◌∷◌, length, length-append, length-take, append-nil, take, Option, None, Some, Result, Ok, Err, refl, sym, ap, subst, ◌∙◌, arith, is_some, IfOk, false≢true, Appends, WriteAppends, Counts, FileStep, IsNew, added, has_bytes, is_text}
 
 -- its bytes are reported, if the log is
 abbrev pub IsKnown : Option (List FileStep) → Option (List ℕ) → Type 0
 IsKnown None bytes = Unit {0}
 IsKnown (Some log) bytes = is_some bytes ≡ true
-
-known_new : (log : Option (List FileStep)) (bytes : Option (List ℕ)) → IsNew log bytes → IsKnown log bytes
-known_new None bytes new = tt
-known_new (Some log) bytes new = ap is_some new
 
 -- some bytes were written
 appended : (a b : Option (List ℕ)) (text : List ℕ) → is_some a ≡ true → 0 < length text → Appends a b text → is_text b ≡ true
@@ -27,11 +23,14 @@ has_more (Some log) a b (Ok n) text failed failed_after known writes bound count
     appended a b (take n text) (known (sym counts ∙ zero)) (omega (arith, bound.0, bound.1, length-take n text)) writes
 has_more (Some log) a b (Err e) text failed failed_after known writes bound counts zero = absurd (omega (arith, counts, zero))
 
+pub added_nil : (log : Option (List FileStep)) → added log [] ≡ log
+added_nil None = refl
+added_nil (Some steps) = ap (λ l. Some l) (append-nil steps)
+
 -- a file that is made where the log is as before
 pub known_made : (log now : Option (List FileStep)) (a : Option (List ℕ)) → now ≡ added log [] → IsNew now a → IsKnown log a
 known_made None now a same new = tt
-known_made (Some log) now a same new = known_new (Some log) a (subst (λ l. IsNew l a) same new)
+known_made (Some log) now a same new = ap is_some (subst (λ l. IsNew l a) same new)
 
 pub made_first : (log now after : Option (List FileStep)) (steps : List FileStep) → now ≡ added log [] → after ≡ added now steps → after ≡ added log steps
-made_first None now after steps same made = made ∙ ap (λ l. added l steps) same
-made_first (Some log) now after steps same made = made ∙ ap (λ l. added l steps) same ∙ ap (λ l. Some (l ++ steps)) (append-nil log)
+made_first log now after steps same made = made ∙ ap (λ l. added l steps) (same ∙ added_nil log)

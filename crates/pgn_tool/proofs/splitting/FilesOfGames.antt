@@ -1,5 +1,5 @@
 -- The files of a split hold the export texts of the games.
-use Rattle.pgn_tool.proofs.Words.{◌≡◌, ◌∙◌, ℕ, ◌+◌, true, List, [], ◌∷◌, ◌++◌, length, Option, None, Some, refl, sym, ap, arith, append_assoc, append-nil, length-append, Appends, false≢true, append_cancel_left, one_more, Token, Full, Game, start_of, tag_section, result_for, game_text, text_of, tokens_out, due, read, GameFile, NotMade, Open, list_profile, FileStep, IsBegun, added, bytes_in, closed, failures_in, file_steps, is_text, made, number_after, whole_files, torn_file, torn_text}
+use Rattle.pgn_tool.proofs.Words.{◌≡◌, ◌∙◌, ℕ, ◌+◌, List, [], ◌∷◌, ◌++◌, length, Option, None, Some, refl, sym, ap, arith, append_assoc, append-nil, length-append, Appends, false≢true, append_cancel_left, one_more, Token, Full, Game, start_of, tag_section, result_for, game_text, text_of, tokens_out, due, read, GameFile, NotMade, Open, list_profile, FileStep, IsBegun, added, bytes_in, closed, failures_in, file_steps, made, number_after, whole_files, torn_file, torn_text}
 use Rattle.pgn_layout.specs.Lines.{lines_of, text_of as text_of_lines}
 use Rattle.pgn_tool.specs.declared.game_sink.GameFile.TheVariants.{Refused}
 
@@ -17,15 +17,10 @@ pub whole_and_one : (n : ℕ) (texts : List (List ℕ)) (text : List ℕ)
 whole_and_one n [] text = refl
 whole_and_one n (t ∷ texts) text = ap (λ l. made (one_more n) ∷ closed (Some t) 0 ∷ l) (whole_and_one (one_more n) texts text)
 
-number_is : (n : ℕ) (texts : List (List ℕ)) → one_more (n + length texts) ≡ one_more (number_after n texts)
-number_is n [] = ap one_more (omega arith)
-number_is n (t ∷ texts) = omega arith ∙ number_is (one_more n) texts
-
 -- the number of the next file, by how many there are
-pub number_next : (texts : List (List ℕ)) → one_more (length texts) ≡ one_more (number_after 0 texts)
-number_next texts =
-    let same : length texts ≡ 0 + length texts = omega arith in
-    ap one_more same ∙ number_is 0 texts
+pub number_is : (n count : ℕ) (texts : List (List ℕ)) → count ≡ n + length texts → one_more count ≡ one_more (number_after n texts)
+number_is n count [] is = ap one_more (omega arith)
+number_is n count (t ∷ texts) is = omega arith ∙ number_is (one_more n) _ texts refl
 
 -- ---- texts
 
@@ -63,32 +58,29 @@ module _ (given ts : List Token) (text : List ℕ) (none : torn_text given ≡ [
 some_byte : (xs ys : List ℕ) → [] ≡ xs ++ ys ++ 10 ∷ [] → ⊥
 some_byte xs ys e = absurd (omega (arith, ap (length {A = ℕ}) e, length-append (xs ++ ys) (10 ∷ []), length-append xs (ys ++ 10 ∷ []), length-append ys (10 ∷ [])))
 
-text_is_some : (g : Game) → [] ≡ game_text list_profile g → ⊥
-text_is_some g e =
-    some_byte (tag_section Full (result_for list_profile.missing_result g.marker) g.pairs)
-    (text_of_lines (lines_of (tokens_out Full (start_of g.pairs) g.items ++ g.marker ∷ []))) e
+-- the file of a text that has bytes
+torn_made : (n : ℕ) (text : List ℕ) → ([] ≡ text → ⊥) → torn_file n text ≡ made (one_more n) ∷ closed (Some text) 0 ∷ []
+torn_made n [] some = absurd (some refl)
+torn_made n (byte ∷ bytes) some = refl
 
 -- the file of a whole game
 pub whole_file : (n : ℕ) (g : Game) → torn_file n (game_text list_profile g) ≡ made (one_more n) ∷ closed (Some (game_text list_profile g)) 0 ∷ []
-whole_file n g = by_text (game_text list_profile g) (text_is_some g)
-  where
-    by_text : (text : List ℕ) → ([] ≡ text → ⊥) → torn_file n text ≡ made (one_more n) ∷ closed (Some text) 0 ∷ []
-    by_text [] some = absurd (some refl)
-    by_text (byte ∷ bytes) some = refl
+whole_file n g =
+    torn_made n (game_text list_profile g)
+    (some_byte (tag_section Full (result_for list_profile.missing_result g.marker) g.pairs) (text_of_lines (lines_of (tokens_out Full (start_of g.pairs) g.items ++ g.marker ∷ []))))
 
 -- ---- the file of a game
+
+pub taken_is : (o : Option (List ℕ)) (text : List ℕ) → Appends (Some []) o text → o ≡ Some text
+taken_is None text wrote = absurd wrote
+taken_is (Some xs) text wrote = ap (λ l. Some l) wrote
 
 -- it holds what was written, if no write failed
 pub file_holds : {A : Type 0} → (taken : A → Option (List ℕ)) (failures : A → ℕ) (b : List FileStep) (n : ℕ) (file : GameFile A) (text : List ℕ)
     → IsBegun taken failures (Some b) file → failures_in failures file ≡ 0 → Appends (Some []) (bytes_in taken (Some b) file) text
     → file_steps taken failures (one_more n) file ≡ torn_file n text
 file_holds taken failures b n NotMade text begun clean wrote = ap (torn_file n) wrote
-file_holds {A} taken failures b n (Open out) text begun clean wrote = by_bytes (taken out) refl (begun clean) wrote
-  where
-    by_bytes : (bytes : Option (List ℕ)) → taken out ≡ bytes → is_text bytes ≡ true → Appends (Some []) bytes text
-        → made (one_more n) ∷ closed (taken out) (failures out) ∷ [] ≡ torn_file n text
-    by_bytes None is has wrote = absurd (false≢true has)
-    by_bytes (Some []) is has wrote = absurd (false≢true has)
-    by_bytes (Some (x ∷ xs)) is has wrote =
-        ap (λ t. made (one_more n) ∷ closed t (failures out) ∷ []) is ∙ ap (λ k. made (one_more n) ∷ closed (Some (x ∷ xs)) k ∷ []) clean ∙ ap (torn_file n) wrote
+file_holds taken failures b n (Open out) text begun clean wrote =
+    let is = taken_is (taken out) text wrote in
+    rw (is, clean) (sym (torn_made n text (λ none. false≢true (rw (is, ← none) at (begun clean)))))
 file_holds taken failures b n (Refused fault failed) text begun clean wrote = absurd (false≢true (begun clean))

@@ -1,11 +1,7 @@
-use Rattle.std.proofs.Common.{◌-◌, max, refl, ap, ◌∙◌, arith}
-use Rattle.std.proofs.lemmas.Result.{err_from_is_err_and}
-use Rattle.pgn_layout.specs.Device.{device, one_more}
-use Rattle.pgn_game.specs.Checked.{checked_profile}
-use Rattle.pgn_game.proofs.Words.{Fault}
-use Rattle.pgn_game.specs.Pass.{Pass}
+use Rattle.pgn_game.proofs.Words.{Fault, ◌-◌, max, refl, ap, ◌∙◌, arith, err_from_is_err_and, device, one_more, checked_profile, Pass}
 use Rattle.pgn_game.proofs.twice.FailuresOfSteps.{first_counts, no_write, second_counts, source_fails}
 use Rattle.pgn_game.proofs.twice.ReadingsToConversion.{both_end, both_more, both_none, first_stops, second_stops}
+use Rattle.pgn_game.proofs.ReaderFitsInMemory.{pass_fits_reader}
 use Rattle.pgn_game.proofs.checked.convert_checked.Goals as goal
 
 pub loop-mark-init : goal.loop-mark-init
@@ -48,7 +44,6 @@ loop-mark-preserved g c =
     let q = checked_profile g.row.T (g.row.L - 1) c.args.mode in
     let so = c.loop-mark.invariant in
     let x = so.both in
-    let reads = rw c.in-Some.is at c.in_ok-mark.ensures.reads in
     let goes_on = rw c.in-Some.is at c.in_ok-mark.ensures.going in
     let second = c.in_ok-write_game.ensures.writes q x.told _ x.second_tokens x.second_stands in
     record {
@@ -59,7 +54,7 @@ loop-mark-preserved g c =
       sink = c.in_ok-write_game.ensures.counted.1 ∙ so.sink;
       both =
           both_more q _ _ _ _ c.loop-mark.ahead c.loop-mark.behind _ _ x c.in-Some.mark second.0 c.read_game.new.self c.write_game.new.self _ _ _
-          (reads q _ x.first_tokens x.first_stands) second.1;
+          ((rw c.in-Some.is at c.in_ok-mark.ensures.reads) q _ x.first_tokens x.first_stands) second.1;
     }
 
 pub returns-in_err-write_game-clause-converts : goal.returns-in_err-write_game-clause-converts
@@ -94,3 +89,33 @@ returns-in_err-mark-clause-counted g c =
     (first_counts c.in_err-mark.field-0.0.reason (device g.Q.Source.left g.Q.Source.failures c.args.first.now c.read_game.new.source)
     (device g.R.Source.left g.R.Source.failures c.args.second.now c.loop-mark.second) (device g.W.Sink.taken g.W.Sink.failures c.args.writer.now c.loop-mark.writer) _
     so.first so.second so.sink c.in_err-mark.ensures.counted)
+
+pub read_game-requires : goal.read_game-requires
+read_game-requires g c = (c.requires.memory, c.loop-mark.invariant.first_going)
+
+pub write_game-requires : goal.write_game-requires
+write_game-requires g c = (c.requires.memory, c.loop-mark.invariant.second_going)
+
+pub loop-mark-smaller : goal.loop-mark-smaller
+loop-mark-smaller g c =
+    let goes_on = rw c.in-Some.is at c.in_ok-mark.ensures.going in
+    goes_on.fewer
+
+pub returns-in_default-clause-counted : goal.returns-in_default-clause-counted
+returns-in_default-clause-counted g c =
+    let so = c.loop-mark.invariant in
+    (c.in_ok-mark.ensures.counted.0 ∙ so.first, so.second, so.sink)
+
+pub new-ahead-requires : goal.new-ahead-requires
+new-ahead-requires g c = (c.requires.memory, c.requires.levels)
+
+pub new-behind-requires : goal.new-behind-requires
+new-behind-requires g c = (c.requires.memory, c.requires.levels)
+
+pub most_probes-requires : goal.most_probes-requires
+most_probes-requires g c = search pass_fits_reader
+
+pub totals-requires : goal.totals-requires
+totals-requires g c =
+    let going = c.loop-mark.invariant.second_going in
+    (c.requires.memory, (omega (arith, going.few_plies, going.room), c.most_probes.ensures.bound))

@@ -1,6 +1,4 @@
-use Rattle.std.proofs.Common.{◌≡◌, ◌-◌}
-use Rattle.pgn_game.specs.Checked.{checked_profile}
-use Rattle.pgn_game.specs.Pass.{BothSoFar, IsGoing, steps_left}
+use Rattle.pgn_game.proofs.Words.{◌≡◌, ◌-◌, checked_profile, BothSoFar, IsGoing, steps_left}
 use Rattle.pgn_game.proofs.checked.convert_checked.Given as goal
 
 abbrev pub invariant-loop-mark : goal.invariant-loop-mark

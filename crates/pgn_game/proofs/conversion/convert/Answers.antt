@@ -1,6 +1,4 @@
-use Rattle.std.proofs.Common.{[], refl, ap, ◌∙◌, Ok}
-use Rattle.std.proofs.lemmas.Result.{err_from_is_err_and}
-use Rattle.pgn_game.specs.GamesCalls.{games_of}
+use Rattle.pgn_game.proofs.Words.{[], refl, ap, ◌∙◌, Ok, err_from_is_err_and, games_of}
 use Rattle.pgn_game.proofs.tokens.WholeInput.{none_read, read_none, games_more, games_end, games_short, games_stop}
 use Rattle.pgn_game.proofs.conversion.convert.Goals as goal
 
@@ -29,39 +27,31 @@ loop-preserved g c =
       read = games_more _ _ _ _ (games_of c.loop.converter c.loop.buffer) _ _ _ so _ (next _ _ _ so.have_read);
     }
 
-pub returns-in_err-next_game-clause-converts : goal.returns-in_err-next_game-clause-converts
-returns-in_err-next_game-clause-converts g c =
-    let so = c.loop.invariant.read in
+pub returns-in_err-next_game : goal.returns-in_err-next_game
+returns-in_err-next_game g c =
     let e = err_from_is_err_and c.from_residual.result c.from_residual.ensures.1 in
-    rw (e.1, e.2) (games_stop _ _ _ _ (games_of c.loop.converter c.loop.buffer) _ _ _ so _ _ (c.in_err-next_game.ensures.reads _ _ _ so.have_read))
+    record {
+      converts =
+          let so = c.loop.invariant.read in
+          let e = err_from_is_err_and c.from_residual.result c.from_residual.ensures.1 in
+          rw (e.1, e.2) (games_stop _ _ _ _ (games_of c.loop.converter c.loop.buffer) _ _ _ so _ _ (c.in_err-next_game.ensures.reads _ _ _ so.have_read));
+      short = rw e.1 tt;
+      counted = rw (e.1, e.2, ← c.loop.invariant.source, ← c.loop.invariant.sink) (c.in_err-next_game.ensures.counted c.loop.invariant.fault);
+    }
 
-pub returns-in_err-next_game-clause-short : goal.returns-in_err-next_game-clause-short
-returns-in_err-next_game-clause-short g c =
-    let e = err_from_is_err_and c.from_residual.result c.from_residual.ensures.1 in
-    rw e.1 tt
-
-pub returns-in_err-next_game-clause-counted : goal.returns-in_err-next_game-clause-counted
-returns-in_err-next_game-clause-counted g c =
-    let e = err_from_is_err_and c.from_residual.result c.from_residual.ensures.1 in
-    rw (e.1, e.2, ← c.loop.invariant.source, ← c.loop.invariant.sink) (c.in_err-next_game.ensures.counted c.loop.invariant.fault)
-
-pub returns-clause-converts : goal.returns-clause-converts
-returns-clause-converts g c =
+pub returns : goal.returns
+returns g c =
     let so = c.loop.invariant.read in
     let next = rw c.if-branch.false at c.in_ok-next_game.ensures.reads in
-    games_end _ _ _ _ (games_of c.loop.converter c.loop.buffer) _ _ _ so _ c.totals_of.result (next _ _ _ so.have_read) c.totals_of.ensures.games c.totals_of.ensures.plies
-    c.totals_of.ensures.probes c.totals_of.ensures.bound
-
-pub returns-clause-short : goal.returns-clause-short
-returns-clause-short g c =
-    let so = c.loop.invariant.read in
-    let next = rw c.if-branch.false at c.in_ok-next_game.ensures.reads in
-    games_short _ _ _ _ (games_of c.loop.converter c.loop.buffer) _ _ _ so _ (next _ _ _ so.have_read)
-
-pub returns-clause-counted : goal.returns-clause-counted
-returns-clause-counted g c =
-    let counted = c.in_ok-next_game.ensures.counted c.loop.invariant.fault in
-    (counted.0 ∙ c.loop.invariant.source, counted.1 ∙ c.loop.invariant.sink)
+    record {
+      converts =
+          games_end _ _ _ _ (games_of c.loop.converter c.loop.buffer) _ _ _ so _ c.totals_of.result (next _ _ _ so.have_read) c.totals_of.ensures.games c.totals_of.ensures.plies
+          c.totals_of.ensures.probes c.totals_of.ensures.bound;
+      short = games_short _ _ _ _ (games_of c.loop.converter c.loop.buffer) _ _ _ so _ (next _ _ _ so.have_read);
+      counted =
+          let counted = c.in_ok-next_game.ensures.counted c.loop.invariant.fault in
+          (counted.0 ∙ c.loop.invariant.source, counted.1 ∙ c.loop.invariant.sink);
+    }
 
 pub new-converter-requires : goal.new-converter-requires
 new-converter-requires g c = (c.requires.memory, c.requires.levels)

@@ -1,6 +1,4 @@
-use Rattle.std.proofs.Common.{◌≡◌, ◌-◌, None}
-use Rattle.pgn_game.specs.ConverterCalls.{profile_of}
-use Rattle.pgn_game.specs.GamesCalls.{ReadSoFar, games_of, most_left}
+use Rattle.pgn_game.proofs.Words.{◌≡◌, ◌-◌, None, profile_of, ReadSoFar, games_of, most_left}
 use Rattle.pgn_game.proofs.conversion.convert.Given as goal
 
 abbrev pub invariant-loop : goal.invariant-loop

@@ -1,7 +1,4 @@
-use Rattle.std.proofs.Common.{Option, sym, ap, ◌∙◌}
-use Rattle.std.specs.Option.{ok_or}
-use Rattle.chess_text.specs.MoveOfForm.{with_next}
-use Rattle.pgn_game.proofs.Words.{Parts, IllegalMove}
+use Rattle.pgn_game.proofs.Words.{Option, sym, ap, ◌∙◌, ok_or, with_next, Parts, IllegalMove}
 use Rattle.pgn_game.proofs.find.find_move.Goals as goal
 
 pub returns-in-Ok-clause-found : goal.returns-in-Ok-clause-found

@@ -1,16 +1,5 @@
-use Rattle.std.proofs.Common.{◌≡◌, is_some, Bool, true, false, List, ℕ, ◌+◌, None, Some, sym, ap, subst, ◌∙◌, arith, Option, Result, Ok, Err, option_map}
-use Rattle.chess_text.specs.declared.form.Form.{Form}
+use Rattle.pgn_game.proofs.Words.{◌≡◌, is_some, Bool, true, false, List, ℕ, ◌+◌, None, Some, sym, ap, subst, ◌∙◌, arith, Option, Result, Ok, Err, option_map, Form, move_of_form, with_next, NoMove, Move, legal, ok_or, Parts, Played, SanFault, Reason, IllegalMove, MoveLimit, move_of, is_at_limit, found_in, Costs, form_pairs, CostsForm, CostsAnswer}
 use Rattle.chess_text.specs.Form.{form_of}
-use Rattle.chess_text.specs.MoveOfForm.{form_pairs, move_of_form, with_next}
-use Rattle.chess_text.specs.declared.resolution.SanFault.TheVariants.{NoMove}
-use Rattle.chess_rules.specs.declared.position.Move.{Move}
-use Rattle.chess_rules.specs.Legal.{legal}
-use Rattle.std.specs.Option.{ok_or}
-use Rattle.pgn_game.proofs.Words.{Parts, Played, SanFault, Reason, IllegalMove, MoveLimit}
-use Rattle.pgn_game.specs.Chess.{move_of}
-use Rattle.pgn_game.specs.FaultTable.{is_at_limit}
-use Rattle.pgn_game.specs.FoundMove.{found_in}
-use Rattle.pgn_game.specs.Tried.{Costs, CostsForm, CostsAnswer}
 use Rattle.pgn_game.proofs.find.named_move.Goals as goal
 
 no_form : (p : Parts) (s : List ℕ) → None ≡ form_of s → move_of p s ≡ None
@@ -86,16 +75,14 @@ returns-in_default-clause-tried c =
 
 pub returns-in-Err-NoMove-clause-tried : goal.returns-in-Err-NoMove-clause-tried
 returns-in-Err-NoMove-clause-tried c =
-    let f = c.in-Some.form in
     let answer = rw c.in-Err-NoMove.field-0-is at c.in-Err-NoMove.ensures.answer in
-    of_answer c.args.position.now c.args.text.now f _ _ c.in-Some.ensures answer
+    of_answer c.args.position.now c.args.text.now c.in-Some.form _ _ c.in-Some.ensures answer
     (from_none _ _ _ c.requires (c.in-Err-NoMove.ensures.each (λ e. cc)))
 
 pub returns-in-Err-Ambiguous-clause-tried : goal.returns-in-Err-Ambiguous-clause-tried
 returns-in-Err-Ambiguous-clause-tried c =
-    let f = c.in-Some.form in
     let answer = rw c.in-Err-Ambiguous.field-0-is at c.in-Err-Ambiguous.ensures.answer in
-    of_answer c.args.position.now c.args.text.now f _ _ c.in-Some.ensures answer
+    of_answer c.args.position.now c.args.text.now c.in-Some.form _ _ c.in-Some.ensures answer
     (omega (arith, c.in-Err-Ambiguous.ensures.two (cc), c.requires), omega (arith, c.in-Err-Ambiguous.ensures.most, c.requires))
 
 pub returns-then-is_at_limit-clause-tried : goal.returns-then-is_at_limit-clause-tried

@@ -1,9 +1,57 @@
-use Rattle.std.proofs.Common.{sym, ◌∙◌}
-use Rattle.pgn_game.specs.GamesCalls.{games_of}
+use Rattle.pgn_game.proofs.Words.{◌≡◌, ℕ, List, Option, None, refl, sym, ◌∙◌, Token, Profile, Games, HaveRead, games_of, within, at_end}
+use Rattle.pgn_game.proofs.ReaderFitsInMemory.{fits_alike}
 use Rattle.pgn_game.proofs.tokens.GamesInTurn.{at_end_again}
 use Rattle.pgn_game.proofs.games.next_game.Goals as goal
 
-pub returns-then-is_finished-clause-reads : goal.returns-then-is_finished-clause-reads
-returns-then-is_finished-clause-reads g c p u given have =
-    at_end_again p u given _ (games_of c.args.converter.now c.args.buffer.now) c.forget_game.new.self _ have
-    (sym c.is_finished.ensures ∙ c.if-is_finished.true) c.forget_game.ensures
+-- games that have read tokens have no fault
+no_fault : (p : Profile) (left : Option (List ℕ)) (u : List ℕ) (now : Games) (given : List Token) → HaveRead p left u now given → now.converter.fault ≡ None
+no_fault p left u now given (within on) = on.stands.has_read.no_fault
+no_fault p left u now given (at_end all) = all.has_read.no_fault
+
+pub fault-requires : goal.fault-requires
+fault-requires g c = search fits_alike
+
+pub returns-in-Some : goal.returns-in-Some
+returns-in-Some g c =
+    record {
+      reads = λ p u given have. absurd (cc (no_fault p _ u _ given have));
+      fewer = λ same. absurd (cc);
+      fault = sym c.fault.ensures ∙ c.in-Some.is;
+      at_end = λ none. absurd (cc);
+      again = λ f is. (cc, refl, refl, refl);
+      counted = λ none. absurd (cc);
+    }
+
+pub is_finished-requires : goal.is_finished-requires
+is_finished-requires g c = search fits_alike
+
+pub forget_game-requires : goal.forget_game-requires
+forget_game-requires g c = search fits_alike
+
+pub returns-then-is_finished : goal.returns-then-is_finished
+returns-then-is_finished g c =
+    record {
+      reads = λ p u given have.
+          at_end_again p u given _ (games_of c.args.converter.now c.args.buffer.now) c.forget_game.new.self _ have
+          (sym c.is_finished.ensures ∙ c.if-is_finished.true) c.forget_game.ensures;
+      fewer = λ same. absurd (cc);
+      fault = rw c.forget_game.ensures (sym c.fault.ensures ∙ c.in_default.is);
+      at_end = λ none finished. rw c.forget_game.ensures (refl, refl, refl, refl);
+      again = λ f is. absurd (cc);
+      counted = λ none. (refl, refl);
+    }
+
+pub read_game-requires : goal.read_game-requires
+read_game-requires g c =
+    (search fits_alike, (sym c.is_finished.ensures ∙ c.if-is_finished.false, sym c.fault.ensures ∙ c.in_default.is))
+
+pub returns : goal.returns
+returns g c =
+    record {
+      reads = c.read_game.ensures.reads;
+      fewer = c.read_game.ensures.fewer;
+      fault = c.read_game.ensures.fault;
+      at_end = λ none finished. absurd (cc);
+      again = λ f is. absurd (cc);
+      counted = λ none. c.read_game.ensures.counted;
+    }

@@ -1,7 +1,4 @@
-use Rattle.std.proofs.Common.{◌≡◌, ◌+◌, ◌-◌, ◌^◌, None, false, length}
-use Rattle.pgn_layout.specs.Device.{device}
-use Rattle.pgn_game.specs.GamesCalls.{games_of}
-use Rattle.pgn_game.specs.GamesSteps.{ReadsSoFar}
+use Rattle.pgn_game.proofs.Words.{◌≡◌, ◌+◌, ◌-◌, ◌^◌, None, false, length, device, games_of, ReadsSoFar}
 use Rattle.pgn_game.proofs.games.read_game.Given as goal
 
 abbrev pub invariant-loop-converter : goal.invariant-loop-converter

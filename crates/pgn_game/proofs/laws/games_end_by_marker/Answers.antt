@@ -1,5 +1,5 @@
-use Rattle.pgn_game.proofs.tokens.MarkerEndsGame as ends
+use Rattle.pgn_game.proofs.tokens.MarkerEndsGame as marker_ends_game
 use Rattle.pgn_game.proofs.laws.games_end_by_marker.Goals as goal
 
 pub returns : goal.returns
-returns c = ends.games_end_by_marker
+returns c = marker_ends_game.games_end_by_marker

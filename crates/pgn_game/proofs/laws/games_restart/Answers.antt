@@ -1,5 +1,5 @@
-use Rattle.pgn_game.proofs.tokens.GamesRestart as restart
+use Rattle.pgn_game.proofs.tokens.GamesRestart as games_restart
 use Rattle.pgn_game.proofs.laws.games_restart.Goals as goal
 
 pub returns : goal.returns
-returns c = restart.games_restart c.texts_restart.ensures
+returns c = games_restart.games_restart c.texts_restart.ensures

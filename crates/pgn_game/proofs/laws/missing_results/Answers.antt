@@ -1,5 +1,5 @@
-use Rattle.pgn_game.proofs.twice.CountingToTaking as counting
+use Rattle.pgn_game.proofs.twice.CountingToTaking as counting_to_taking
 use Rattle.pgn_game.proofs.laws.missing_results.Goals as goal
 
 pub returns : goal.returns
-returns c = counting.missing_results
+returns c = counting_to_taking.missing_results

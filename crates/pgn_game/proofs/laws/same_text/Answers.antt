@@ -1,10 +1,10 @@
-use Rattle.pgn_game.proofs.exporting.ExportAgain as again
+use Rattle.pgn_game.proofs.exporting.ExportAgain as export_again
 use Rattle.pgn_game.proofs.exporting.ExportToGames.{exported_games}
 use Rattle.pgn_game.proofs.laws.same_text.Goals as goal
 
 pub returns : goal.returns
 returns c =
-    again.same_text c.unique_reading.ensures c.tokens_rise.ensures
+    export_again.same_text c.unique_reading.ensures c.tokens_rise.ensures
     (exported_games c.the_one_move_is_read.ensures c.a_legal_move_leaves_a_position.ensures
     c.a_written_move_is_a_symbol.ensures c.a_written_move_is_read_as_itself.ensures
     c.numbers_are_symbols.ensures c.reading_is_spelling.ensures c.lines_keep_tokens.ensures.computed

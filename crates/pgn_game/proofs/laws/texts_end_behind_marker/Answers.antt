@@ -1,5 +1,5 @@
-use Rattle.pgn_game.proofs.tokens.TextEndsGame as ends
+use Rattle.pgn_game.proofs.tokens.TextEndsGame as text_ends_game
 use Rattle.pgn_game.proofs.laws.texts_end_behind_marker.Goals as goal
 
 pub returns : goal.returns
-returns c = ends.behind_marker c.symbols_stand_in_text.ensures c.games_end_by_marker.ensures
+returns c = text_ends_game.behind_marker c.symbols_stand_in_text.ensures c.games_end_by_marker.ensures

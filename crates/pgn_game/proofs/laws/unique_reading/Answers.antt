@@ -1,4 +1,4 @@
-use Rattle.pgn_lexer.specs.TokensOf.{tokens_of}
+use Rattle.pgn_game.proofs.Words.{tokens_of}
 use Rattle.pgn_game.proofs.reading.RunsToEnd.{kinds, runs_as_read}
 use Rattle.pgn_game.proofs.reading.GrammarToReading.{games_run}
 use Rattle.pgn_game.proofs.reading.ReadingToGrammar.{games_spelled}

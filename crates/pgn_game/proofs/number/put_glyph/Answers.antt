@@ -1,7 +1,4 @@
-use Rattle.std.proofs.Common.{◌≡◌, ℕ, List, ◌∷◌, [], decimal, subst, sym, ◌∙◌}
-use Rattle.pgn_layout.specs.Device.{device}
-use Rattle.pgn_layout.specs.Lines.{IsToken}
-use Rattle.pgn_game.specs.ItemResult.{PutsTokens}
+use Rattle.pgn_game.proofs.Words.{◌≡◌, ℕ, List, ◌∷◌, [], decimal, subst, sym, ◌∙◌, device, IsToken, PutsTokens}
 use Rattle.pgn_game.proofs.putting.NumberToTokens.{glyph_token, puts_token}
 use Rattle.pgn_game.proofs.number.put_glyph.Goals as goal
 

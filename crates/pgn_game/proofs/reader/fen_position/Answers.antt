@@ -1,5 +1,5 @@
-use Rattle.std.proofs.Common.{◌≡◌, false, not, codes, bytes_eq, sym, ap, ◌∙◌, Ok, Err}
-use Rattle.pgn_game.proofs.pairs.PairsToFirstPosition.{told_read}
+use Rattle.pgn_game.proofs.Words.{◌≡◌, false, not, codes, bytes_eq, sym, ap, ◌∙◌, Ok, Err}
+use Rattle.pgn_game.proofs.ReaderLemmas.{told_read}
 use Rattle.pgn_game.proofs.reader.fen_position.Goals as goal
 
 pub returns-in-Ok : goal.returns-in-Ok

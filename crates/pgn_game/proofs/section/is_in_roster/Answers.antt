@@ -1,7 +1,4 @@
-use Rattle.std.proofs.Common.{refl, sym, ◌∙◌}
-use Rattle.pgn_game.specs.declared.marker.Marker.TheVariants.{Unknown}
-use Rattle.pgn_game.specs.Markers.{marker_text}
-use Rattle.pgn_game.specs.TagSection.{roster}
+use Rattle.pgn_game.proofs.Words.{refl, sym, ◌∙◌, Unknown, marker_text, roster}
 use Rattle.pgn_game.proofs.refusals.ReaderToPart.{has_pair_found}
 use Rattle.pgn_game.proofs.pairs.ExportedValues.{in_roster-value}
 use Rattle.pgn_game.proofs.section.is_in_roster.Goals as goal

@@ -1,8 +1,4 @@
-use Rattle.std.proofs.Common.{◌≡◌, drop}
-use Rattle.pgn_game.specs.Markers.{missing_of}
-use Rattle.pgn_game.specs.Profile.{known_result}
-use Rattle.pgn_game.specs.Pairs.{value_of}
-use Rattle.pgn_game.specs.TagSection.{roster}
+use Rattle.pgn_game.proofs.Words.{◌≡◌, drop, missing_of, known_result, value_of, roster}
 use Rattle.pgn_game.proofs.section.unknown_value.Given as goal
 
 abbrev pub invariant-loop-index : goal.invariant-loop-index

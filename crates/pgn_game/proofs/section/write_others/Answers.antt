@@ -1,12 +1,4 @@
-use Rattle.std.proofs.Common.{◌≡◌, ℕ, true, false, List, ◌++◌, take, drop, refl, ap, sym, ◌∙◌, codes}
-use Rattle.std.proofs.lemmas.Result.{err_from_is_err_and}
-use Rattle.std.proofs.KnownBytes.{Appends-trans}
-use Rattle.pgn_layout.specs.Device.{one_more}
-use Rattle.pgn_layout.specs.TagLine.{tag_line}
-use Rattle.pgn_game.specs.StoredPairs.{index_of}
-use Rattle.pgn_game.specs.Pairs.{Pair, has_pair}
-use Rattle.pgn_game.specs.SectionLines.{text_by, other_line}
-use Rattle.pgn_game.specs.TagSection.{other_pairs, tag_lines, with_set_up}
+use Rattle.pgn_game.proofs.Words.{◌≡◌, ℕ, true, List, ◌++◌, take, drop, refl, ap, sym, ◌∙◌, codes, err_from_is_err_and, Appends-trans, one_more, tag_line, index_of, Pair, has_pair, text_by, other_line, other_pairs, tag_lines, with_set_up, arith, rules}
 use Rattle.pgn_game.proofs.putting.WritesInTurn.{counts_behind, front_of_more, front_after, Writes-append}
 use Rattle.pgn_game.proofs.pairs.SectionByLines.{others_without_fen, others_with_fen, lines_about}
 use Rattle.pgn_game.proofs.section.write_others.Goals as goal
@@ -15,26 +7,19 @@ use Rattle.pgn_game.proofs.section.write_others.Goals as goal
 both_sides : (held pairs before after : List Pair) (n : ℕ) → pairs ≡ held → n ≡ index_of (codes "SetUp") pairs → before ≡ take n pairs → after ≡ drop n pairs
     → has_pair held (codes "FEN") ≡ true
     → (text_by (other_line true) before ++ tag_line (codes "SetUp") (codes "1")) ++ text_by (other_line true) after ≡ tag_lines (other_pairs (with_set_up held))
-both_sides held pairs before after n is place front back some =
-    ap (λ ps. (text_by (other_line true) ps ++ tag_line (codes "SetUp") (codes "1")) ++ text_by (other_line true) after) front
-    ∙ ap (λ ps. (text_by (other_line true) (take n pairs) ++ tag_line (codes "SetUp") (codes "1")) ++ text_by (other_line true) ps) back
-    ∙ ap (λ k. lines_about k pairs) place ∙ ap (λ ps. lines_about (index_of (codes "SetUp") ps) ps) is ∙ others_with_fen held some
+both_sides held pairs before after n is place front back some = grind (arith, others_with_fen, lines_about)
 
 pub returns-then-not-has_fen : goal.returns-then-not-has_fen
-returns-then-not-has_fen g c =
-    let held = c.args.pairs.now in
-    let none : has_pair held (codes "FEN") ≡ false = sym c.has_fen.ensures ∙ c.if-not-has_fen.true in
-    rw (← others_without_fen held none) c.write_pairs.ensures
+returns-then-not-has_fen g c = search (rules, others_without_fen)
 
 pub split_at-requires : goal.split_at-requires
 split_at-requires g c = c.index_of.ensures.within
 
 pub returns-in_err-write_pairs : goal.returns-in_err-write_pairs
 returns-in_err-write_pairs g c =
-    let p = err_from_is_err_and c.from_residual.result c.from_residual.ensures.1 in
     let some : has_pair c.args.pairs.now (codes "FEN") ≡ true = sym c.has_fen.ensures ∙ c.if-not-has_fen.false in
     let first = c.in_err-write_pairs.ensures in
-    rw p.1
+    rw (err_from_is_err_and c.from_residual.result c.from_residual.ensures.1).1
     (record {
       written = rw (← both_sides c.args.pairs.now _ _ _ _ refl c.index_of.ensures.index c.split_at.ensures.front c.split_at.ensures.back some)
           (front_of_more _ _ _ _ (front_of_more _ _ _ _ first.written));
@@ -43,10 +28,9 @@ returns-in_err-write_pairs g c =
 
 pub returns-in_err-write_tag : goal.returns-in_err-write_tag
 returns-in_err-write_tag g c =
-    let p = err_from_is_err_and c.from_residual-in_err-write_tag.result c.from_residual-in_err-write_tag.ensures.1 in
     let some : has_pair c.args.pairs.now (codes "FEN") ≡ true = sym c.has_fen.ensures ∙ c.if-not-has_fen.false in
     let first = c.in_ok-write_pairs.ensures in
-    rw p.1
+    rw (err_from_is_err_and c.from_residual-in_err-write_tag.result c.from_residual-in_err-write_tag.ensures.1).1
     (record {
       written = rw (← both_sides c.args.pairs.now _ _ _ _ refl c.index_of.ensures.index c.split_at.ensures.front c.split_at.ensures.back some)
           (front_of_more _ _ _ _ (front_after _ _ _ _ _ first.written c.in_err-write_tag.ensures.text));

@@ -1,6 +1,4 @@
-use Rattle.std.proofs.Common.{◌≡◌, take}
-use Rattle.std.specs.Io.KnownBytes.{Appends}
-use Rattle.pgn_game.specs.SectionLines.{text_by, other_line}
+use Rattle.pgn_game.proofs.Words.{◌≡◌, take, Appends, text_by, other_line}
 use Rattle.pgn_game.proofs.section.write_pairs.Given as goal
 
 abbrev pub invariant-loop-pair : goal.invariant-loop-pair

@@ -1,9 +1,4 @@
-use Rattle.std.proofs.Common.{◌≡◌, take}
-use Rattle.std.specs.Io.KnownBytes.{Appends}
-use Rattle.pgn_game.specs.Markers.{missing_of}
-use Rattle.pgn_game.specs.Profile.{known_result}
-use Rattle.pgn_game.specs.SectionLines.{roster_line, text_by}
-use Rattle.pgn_game.specs.TagSection.{roster}
+use Rattle.pgn_game.proofs.Words.{◌≡◌, take, Appends, missing_of, known_result, roster_line, text_by, roster}
 use Rattle.pgn_game.proofs.section.write_roster.Given as goal
 
 abbrev pub invariant-loop-index : goal.invariant-loop-index

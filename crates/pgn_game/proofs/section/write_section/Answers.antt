@@ -1,20 +1,10 @@
-use Rattle.std.proofs.Common.{◌∙◌, ap}
-use Rattle.std.proofs.lemmas.Result.{err_from_is_err_and}
-use Rattle.std.proofs.KnownBytes.{Appends-trans}
-use Rattle.pgn_layout.specs.Device.{one_more}
-use Rattle.pgn_game.specs.Markers.{missing_of}
-use Rattle.pgn_game.specs.Profile.{known_result}
+use Rattle.pgn_game.proofs.Words.{◌∙◌, ap, err_from_is_err_and, Appends-trans, one_more, missing_of, known_result, rules}
 use Rattle.pgn_game.proofs.putting.WritesInTurn.{counts_behind, front_of_more, front_after, Writes-append}
 use Rattle.pgn_game.proofs.pairs.SectionByLines.{reduced_section, full_section, roster_first}
 use Rattle.pgn_game.proofs.section.write_section.Goals as goal
 
 pub returns-in-Reduced : goal.returns-in-Reduced
-returns-in-Reduced g c =
-    let roster = c.in_ok-write_roster.ensures in
-    record {
-      written = rw (c.in-Reduced.is, ← reduced_section (known_result (missing_of c.args.missing_result)) c.args.pairs.now) (Writes-append _ _ _ _ _ _ roster.written c.end_tags.ensures.text);
-      counted = counts_behind _ _ _ _ roster.counted c.end_tags.ensures.counted;
-    }
+returns-in-Reduced g c = search (rules, counts_behind, Writes-append, reduced_section)
 
 pub returns-in_err-write_roster : goal.returns-in_err-write_roster
 returns-in_err-write_roster g c =

@@ -1,14 +1,9 @@
-use Rattle.std.proofs.Common.{◌≡◌, ℕ, ◌+◌, ◌≤◌, List, length, Option, refl, ap, subst, ◌∙◌, insert, IsSomeAnd}
-use Rattle.pgn_layout.specs.TagLine.{escaped}
-use Rattle.pgn_game.specs.Pairs.{Pair}
-use Rattle.pgn_game.specs.StoredPairs.{index_of, last_name}
+use Rattle.pgn_game.proofs.Words.{◌≡◌, ℕ, List, refl, ap, ◌∙◌, insert, Pair, index_of, rules}
 use Rattle.pgn_game.proofs.pairs.SortedPairs.{insert-place, last_name-snoc, finished-last}
 use Rattle.pgn_game.proofs.tags.complete_last.Goals as goal
 
 pub set_value-requires : goal.set_value-requires
-set_value-requires c =
-    let named = subst (λ (ps : List Pair). IsSomeAnd (last_name ps) (λ name. length name + length (escaped c.args.value.now) ≤ 249)) c.in-Some.ensures.cases.0 c.requires in
-    subst (λ (o : Option (List ℕ)). IsSomeAnd o (λ name. length name + length (escaped c.args.value.now) ≤ 249)) (last_name-snoc c.in-Some.front.now c.in-Some.last.now) named
+set_value-requires c = search (rules, last_name-snoc)
 
 pub returns-in-Some-clause-pairs : goal.returns-in-Some-clause-pairs
 returns-in-Some-clause-pairs c =

@@ -1,5 +1,4 @@
-use Rattle.std.proofs.Common.{◌≡◌, ◌+◌, drop}
-use Rattle.pgn_game.specs.StoredPairs.{index_of}
+use Rattle.pgn_game.proofs.Words.{◌≡◌, ◌+◌, drop, index_of}
 use Rattle.pgn_game.proofs.tags.index_of.Given as goal
 
 abbrev pub invariant-loop-i : goal.invariant-loop-i

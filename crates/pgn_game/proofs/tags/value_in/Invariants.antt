@@ -1,5 +1,4 @@
-use Rattle.std.proofs.Common.{◌≡◌, drop}
-use Rattle.pgn_game.specs.Pairs.{value_of}
+use Rattle.pgn_game.proofs.Words.{◌≡◌, drop, value_of}
 use Rattle.pgn_game.proofs.tags.value_in.Given as goal
 
 abbrev pub invariant-loop-pair : goal.invariant-loop-pair

@@ -1,5 +1,5 @@
-use Rattle.pgn_tool.proofs.Words.{refl, ◌∙◌, Appends-nil}
-use Rattle.pgn_tool.proofs.runs.CallToLines.{all_listed, game_cut, game_listed, list_stops, none_listed}
+use Rattle.pgn_tool.proofs.Words.{refl, ◌∙◌, [], Appends-nil, Consumes-nil}
+use Rattle.pgn_tool.proofs.runs.CallToLines.{all_listed, game_cut, game_listed, list_stops}
 use Rattle.pgn_tool.proofs.list.list_games.Goals as goal
 
 pub loop-fault-init : goal.loop-fault-init
@@ -8,7 +8,7 @@ loop-fault-init g c =
       fault = c.new-games.ensures.no_fault;
       source = refl;
       sink = refl;
-      read = none_listed _ c.new-games.result _ (c.new-games.ensures.begins _) (Appends-nil _);
+      read = record { bytes = []; tokens = []; consumed = Consumes-nil _; have_read = c.new-games.ensures.begins _; written = Appends-nil _ };
     }
 
 pub returns-in-Ok-false-clause-lists : goal.returns-in-Ok-false-clause-lists

@@ -1,5 +1,5 @@
-use Rattle.pgn_tool.proofs.Words.{Some, refl, reading, opened_again}
-use Rattle.pgn_tool.proofs.runs.FileToRun.{opened_is, refused_again}
+use Rattle.pgn_tool.proofs.Words.{Some, refl, reading, opened_again, unopened_again}
+use Rattle.pgn_tool.proofs.runs.FileToRun.{opened_is}
 use Rattle.pgn_tool.proofs.run.run_again.Goals as goal
 
 pub returns-in-Ok-clause-runs : goal.returns-in-Ok-clause-runs
@@ -10,4 +10,6 @@ returns-in-Ok-clause-runs g c =
     c.run_both.ensures.runs
 
 pub returns-in-Err-clause-runs : goal.returns-in-Err-clause-runs
-returns-in-Err-clause-runs g c = refused_again _ _ _ _ _ _ _ _ _ _ _ c.in-Err.is c.open.ensures (refl, refl) (refl, refl) c.refuse_file.ensures.ends
+returns-in-Err-clause-runs g c =
+    let refused = rw c.in-Err.is at c.open.ensures in
+    unopened_again _ refused.0 (refl, refl) refused.1 (refl, refl) c.refuse_file.ensures.ends

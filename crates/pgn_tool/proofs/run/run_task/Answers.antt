@@ -6,7 +6,8 @@ pub returns-in-Ok-clause-carries : goal.returns-in-Ok-clause-carries
 returns-in-Ok-clause-carries g c = opened _ (opened_is _ _ _ _ _ c.in-Ok.is c.open_file.ensures) c.run_opened.ensures.opened
 
 pub returns-in-Err-clause-carries : goal.returns-in-Err-clause-carries
-returns-in-Err-clause-carries g c = unopened_is _ _ _ _ _ c.in-Err.is c.open_file.ensures (refl, refl) refl (refl, refl) c.refuse_file.ensures.ends
+returns-in-Err-clause-carries g c =
+    unopened_is _ _ _ _ _ refl (rw c.in-Err.is at c.open_file.ensures) (refl, refl) refl (refl, refl) c.refuse_file.ensures.ends
 
 pub returns-in-Ok-clause-missing : goal.returns-in-Ok-clause-missing
 returns-in-Ok-clause-missing g c = λ name named gone. missing_told _ _ _ name named gone (returns-in-Ok-clause-carries g c)

@@ -1,5 +1,6 @@
-use Rattle.pgn_tool.proofs.Words.{◌∙◌, ap, refl, Ok, err_from_is_err_and}
-use Rattle.pgn_tool.proofs.splitting.GameToFiles.{no_more_games, none_split, one_more_game, stops_at}
+use Rattle.pgn_tool.proofs.Words.{◌∙◌, ap, refl, sym, [], Ok, Consumes-nil, err_from_is_err_and}
+use Rattle.pgn_tool.proofs.splitting.GameToFiles.{no_more_games, one_more_game, stops_at}
+use Rattle.pgn_tool.proofs.splitting.BytesOfFile.{added_nil}
 use Rattle.pgn_tool.proofs.split.split_source.Goals as goal
 
 pub loop-init : goal.loop-init
@@ -7,7 +8,14 @@ loop-init g c =
     record {
       fault = c.new-games.ensures.no_fault;
       source = refl;
-      split = none_split _ c.new-games.result _ (c.new-games.ensures.begins _);
+      split = record {
+        bytes = [];
+        tokens = [];
+        consumed = Consumes-nil _;
+        have_read = c.new-games.ensures.begins _;
+        none_torn = refl;
+        files = sym (added_nil _);
+      };
     }
 
 pub loop-smaller : goal.loop-smaller
@@ -23,33 +31,18 @@ loop-preserved g c =
       split = next.0;
     }
 
-pub returns-clause-files : goal.returns-clause-files
-returns-clause-files g c =
+pub returns : goal.returns
+returns g c =
     let call = rw c.if-branch.false at c.in_ok-split_game.ensures.splits in
-    (no_more_games g.F.Out.Sink.taken g.F.Out.Sink.failures _ _ c.loop.games c.split_game.new.games _ _ _ c.loop.invariant.split call).1
+    let ended = no_more_games g.F.Out.Sink.taken g.F.Out.Sink.failures _ _ c.loop.games c.split_game.new.games _ _ _ c.loop.invariant.split call in
+    record { files = ended.1; counted = ended.2 ∙ c.loop.invariant.source; splits = ended.0 }
 
-pub returns-clause-splits : goal.returns-clause-splits
-returns-clause-splits g c =
-    let call = rw c.if-branch.false at c.in_ok-split_game.ensures.splits in
-    (no_more_games g.F.Out.Sink.taken g.F.Out.Sink.failures _ _ c.loop.games c.split_game.new.games _ _ _ c.loop.invariant.split call).0
-
-pub returns-clause-counted : goal.returns-clause-counted
-returns-clause-counted g c =
-    let call = rw c.if-branch.false at c.in_ok-split_game.ensures.splits in
-    (no_more_games g.F.Out.Sink.taken g.F.Out.Sink.failures _ _ c.loop.games c.split_game.new.games _ _ _ c.loop.invariant.split call).2 ∙ c.loop.invariant.source
-
-pub returns-in_err-split_game-clause-files : goal.returns-in_err-split_game-clause-files
-returns-in_err-split_game-clause-files g c =
+pub returns-in_err-split_game : goal.returns-in_err-split_game
+returns-in_err-split_game g c =
     let e = err_from_is_err_and c.from_residual.result c.from_residual.ensures.1 in
-    rw (e.1, e.2) (stops_at g.F.Out.Sink.taken g.F.Out.Sink.failures _ _ c.loop.games c.split_game.new.games _ _ _ c.loop.invariant.split _ c.in_err-split_game.ensures.splits).1
-
-pub returns-in_err-split_game-clause-splits : goal.returns-in_err-split_game-clause-splits
-returns-in_err-split_game-clause-splits g c =
-    let e = err_from_is_err_and c.from_residual.result c.from_residual.ensures.1 in
-    rw (e.1, e.2) (stops_at g.F.Out.Sink.taken g.F.Out.Sink.failures _ _ c.loop.games c.split_game.new.games _ _ _ c.loop.invariant.split _ c.in_err-split_game.ensures.splits).0
-
-pub returns-in_err-split_game-clause-counted : goal.returns-in_err-split_game-clause-counted
-returns-in_err-split_game-clause-counted g c =
-    let e = err_from_is_err_and c.from_residual.result c.from_residual.ensures.1 in
-    rw (e.1, e.2, ← c.loop.invariant.source)
-    (stops_at g.F.Out.Sink.taken g.F.Out.Sink.failures _ _ c.loop.games c.split_game.new.games _ _ _ c.loop.invariant.split _ c.in_err-split_game.ensures.splits).2
+    let ended = stops_at g.F.Out.Sink.taken g.F.Out.Sink.failures _ _ c.loop.games c.split_game.new.games _ _ _ c.loop.invariant.split _ c.in_err-split_game.ensures.splits in
+    record {
+      files = rw (e.1, e.2) ended.1;
+      counted = rw (e.1, e.2, ← c.loop.invariant.source) ended.2;
+      splits = rw (e.1, e.2) ended.0;
+    }

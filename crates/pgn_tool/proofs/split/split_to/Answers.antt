@@ -1,46 +1,24 @@
-use Rattle.pgn_tool.proofs.Words.{◌≡◌, ◌∙◌, ap, refl, subst, sym, Result, Err, device, Unsplit, NoMemory, EndsSplit}
-use Rattle.pgn_tool.specs.declared.split.Unsplit.TheVariants.{Refused}
+use Rattle.pgn_tool.proofs.Words.{ℕ, List, Option, Result, refl, Device, FileStep, Unsplit, CountsSplit, EndsSplit, RunsSplit, SplitFiles, SplitResult}
 use Rattle.pgn_tool.proofs.split.split_to.Goals as goal
+
+runs_by : {before after : Option (List FileStep)} {source err : Device} {status : ℕ} (answer : Result Unit Unsplit) → SplitFiles before after answer
+    → SplitResult source.before source.after answer before after → CountsSplit answer source.failures source.failures_after → EndsSplit answer err status
+    → RunsSplit before after source err status
+runs_by answer files splits counted ends = record { answer = answer; files = files; splits = splits; counted = counted; ends = ends }
 
 pub returns-in-Ok-clause-runs : goal.returns-in-Ok-clause-runs
 returns-in-Ok-clause-runs g c =
     let split = c.split_source in
-    record {
-      answer = split.result;
-      files = split.ensures.files;
-      splits = split.ensures.splits;
-      counted = split.ensures.counted;
-      ends =
-          subst (λ (r : Result Unit Unsplit). EndsSplit r (device g.E.Sink.taken g.E.Sink.failures c.args.err.now c.args.err.now) 0)
-          (sym c.in-Ok.is) (refl, (refl, refl));
-    }
+    runs_by split.result split.ensures.files split.ensures.splits split.ensures.counted (rw c.in-Ok.is (refl, (refl, refl)))
 
 pub returns-in-Err-Refused-clause-runs : goal.returns-in-Err-Refused-clause-runs
 returns-in-Err-Refused-clause-runs g c =
     let split = c.split_source in
-    let is : split.result ≡ Err (Refused c.in-Err-Refused.fault) =
-    c.in-Err-Refused.is ∙ ap (λ s. Err s) c.in-Err-Refused.field-0-is in
-    record {
-      answer = split.result;
-      files = split.ensures.files;
-      splits = split.ensures.splits;
-      counted = split.ensures.counted;
-      ends =
-          subst (λ (r : Result Unit Unsplit). EndsSplit r (device g.E.Sink.taken g.E.Sink.failures c.args.err.now c.refuse.new.err) c.refuse.result)
-          (sym is) (c.refuse.ensures.status, c.refuse.ensures.told);
-    }
+    runs_by split.result split.ensures.files split.ensures.splits split.ensures.counted
+    (rw (c.in-Err-Refused.is, c.in-Err-Refused.field-0-is) (c.refuse.ensures.status, c.refuse.ensures.told))
 
 pub returns-in-Err-NoMemory-clause-runs : goal.returns-in-Err-NoMemory-clause-runs
 returns-in-Err-NoMemory-clause-runs g c =
     let split = c.split_source in
-    let is : split.result ≡ Err NoMemory =
-    c.in-Err-NoMemory.is ∙ ap (λ s. Err s) c.in-Err-NoMemory.field-0-is in
-    record {
-      answer = split.result;
-      files = split.ensures.files;
-      splits = split.ensures.splits;
-      counted = split.ensures.counted;
-      ends =
-          subst (λ (r : Result Unit Unsplit). EndsSplit r (device g.E.Sink.taken g.E.Sink.failures c.args.err.now c.out_of_memory.new.err) c.out_of_memory.result)
-          (sym is) (c.out_of_memory.ensures.status, c.out_of_memory.ensures.told);
-    }
+    runs_by split.result split.ensures.files split.ensures.splits split.ensures.counted
+    (rw (c.in-Err-NoMemory.is, c.in-Err-NoMemory.field-0-is) (c.out_of_memory.ensures.status, c.out_of_memory.ensures.told))

@@ -1,52 +1,60 @@
-use Rattle.std.proofs.Common.{ℕ, true, length, sym, ap, subst, ◌∙◌, arith}
-use Rattle.pgn_game.specs.Pass.{HasGiven, IsGoing, Pass}
-use Rattle.pgn_game.proofs.twice.BytesOfReading.{ended_here, fails_too_long, fails_unread, filled_here}
-use Rattle.pgn_game.proofs.twice.CountsStaySmall.{keeps_filled, keeps_from}
+use Rattle.std.proofs.Common.{ℕ, length, true, false, refl, ap, ◌∙◌, arith}
+use Rattle.pgn_game.specs.Pass.{Pass}
+use Rattle.pgn_game.proofs.twice.BytesOfReading.{fails_too_long, fails_unread, fills_buffer}
+use Rattle.pgn_game.proofs.twice.CountsStaySmall.{keeps_read}
 use Rattle.pgn_game.proofs.checked.Pass.fill.Goals as goal
 
-pub returns-in-Err-clause-fills : goal.returns-in-Err-clause-fills
-returns-in-Err-clause-fills g c q told left_old given has =
-    fails_unread q told left_old _ _ c.args.self.now given has c.requires.empty.0 c.requires.empty.1 _ c.in-Err.ensures.fills
-    (c.count-at.ensures ∙ ap (λ (s : Pass). s.lexer.count) c.self.view_is)
+pub returns-in-Err : goal.returns-in-Err
+returns-in-Err g c =
+    record {
+      fills = fails_unread _ _ _ _ c.self.view_is c.requires.empty.0 c.requires.empty.1 c.args.self.now _ c.count-at.ensures c.in-Err.ensures.fills;
+      keeps = tt;
+      counted = λ n. (c.in-Err.ensures.counted, refl);
+    }
 
-pub returns-in-Ok-false-clause-fills : goal.returns-in-Ok-false-clause-fills
-returns-in-Ok-false-clause-fills g c q told left_old given has =
-    let read = rw c.in-Ok-false.field-0-test at c.in-Ok-false.ensures.fills in
-    let here = subst (λ (s : Pass). HasGiven q told left_old (g.R.Source.left c.args.source.now) s given) (sym c.self.view_is) has in
-    let not_ended = ap (λ (s : Pass). s.has_ended) c.self.view_is ∙ c.requires.empty.0 in
-    let empty = ap (λ (s : Pass). s.unused) c.self.view_is ∙ c.requires.empty.1 in
-    ended_here q told left_old _ _ _ given here not_ended empty _ read.0 read.1 read.2
+pub returns-in-Ok-false : goal.returns-in-Ok-false
+returns-in-Ok-false g c =
+    record {
+      fills =
+          fills_buffer _ _ _ _ c.self.view_is c.requires.empty.0 c.requires.empty.1 _ false true refl
+          (rw c.in-Ok-false.field-0-test at c.in-Ok-false.ensures.fills);
+      keeps =
+          let read = rw c.in-Ok-false.field-0-test at c.in-Ok-false.ensures.fills in
+          keeps_read _ _ c.self.view_is c.requires.going c.requires.empty.0 c.requires.empty.1 _ true
+          (omega (arith, c.requires.going.room, ap (length {A = ℕ}) read.0)) (omega arith);
+      counted = λ n. (c.in-Ok-false.ensures.counted, refl);
+    }
 
-pub returns-then-room-eq0-clause-fills : goal.returns-then-room-eq0-clause-fills
-returns-then-room-eq0-clause-fills g c q told left_old given has =
-    let read = rw c.in-Ok-true.field-0-test at c.in-Ok-true.ensures.fills in
-    let place = c.count-at.ensures ∙ ap (λ (s : Pass). s.lexer.count) c.self.view_is in
-    fails_too_long q told left_old _ _ c.args.self.now given has c.requires.empty.0 c.requires.empty.1 _ _ read.1 read.0 place
-    (omega (arith, c.if-room-eq0.true, place, c.requires.going.room))
+pub returns-then-room-eq0 : goal.returns-then-room-eq0
+returns-then-room-eq0 g c =
+    record {
+      fills =
+          let place = c.count-at.ensures ∙ ap (λ (s : Pass). s.lexer.count) c.self.view_is in
+          fails_too_long _ _ _ _ c.self.view_is c.requires.empty.0 c.requires.empty.1 c.args.self.now _ _ c.count-at.ensures
+          (omega (arith, c.if-room-eq0.true, place, c.requires.going.room))
+          (rw c.in-Ok-true.field-0-test at c.in-Ok-true.ensures.fills);
+      keeps = tt;
+      counted = λ n. (c.in-Ok-true.ensures.counted, refl);
+    }
 
-pub returns-else-room-eq0-clause-fills : goal.returns-else-room-eq0-clause-fills
-returns-else-room-eq0-clause-fills g c q told left_old given has =
-    let read = rw c.in-Ok-true.field-0-test at c.in-Ok-true.ensures.fills in
-    let here = subst (λ (s : Pass). HasGiven q told left_old (g.R.Source.left c.args.source.now) s given) (sym c.self.view_is) has in
-    let not_ended = ap (λ (s : Pass). s.has_ended) c.self.view_is ∙ c.requires.empty.0 in
-    let empty = ap (λ (s : Pass). s.unused) c.self.view_is ∙ c.requires.empty.1 in
-    filled_here q told left_old _ _ _ given here not_ended empty _ read.1
+pub returns-else-room-eq0 : goal.returns-else-room-eq0
+returns-else-room-eq0 g c =
+    record {
+      fills =
+          fills_buffer _ _ _ _ c.self.view_is c.requires.empty.0 c.requires.empty.1 _ true _
+          (ap (λ (s : Pass). s.has_ended) c.self.view_is ∙ c.requires.empty.0)
+          (rw c.in-Ok-true.field-0-test at c.in-Ok-true.ensures.fills);
+      keeps =
+          let read = rw c.in-Ok-true.field-0-test at c.in-Ok-true.ensures.fills in
+          let place = c.count-at.ensures ∙ ap (λ (s : Pass). s.lexer.count) c.self.view_is in
+          keeps_read _ _ c.self.view_is c.requires.going c.requires.empty.0 c.requires.empty.1 _ _
+          (omega (arith, c.in-Ok-true.ensures.fits, c.bytes_to_read.ensures.room, c.if-room-eq0.false, place, c.requires.going.room))
+          (rw (ap (λ (s : Pass). s.has_ended) c.self.view_is ∙ c.requires.empty.0) (omega (arith, read.0)));
+      counted = λ n. (c.in-Ok-true.ensures.counted, refl);
+    }
 
-pub returns-in-Ok-false-clause-keeps : goal.returns-in-Ok-false-clause-keeps
-returns-in-Ok-false-clause-keeps g c =
-    let read = rw c.in-Ok-false.field-0-test at c.in-Ok-false.ensures.fills in
-    let going = subst IsGoing (sym c.self.view_is) c.requires.going in
-    let ended = ap (λ (s : Pass). s.has_ended) c.self.view_is ∙ c.requires.empty.0 in
-    let empty = ap (λ (s : Pass). s.unused) c.self.view_is ∙ c.requires.empty.1 in
-    keeps_from _ _ _ c.self.view_is
-    (keeps_filled _ c.fill.new.self true going (omega (arith, going.room, ap (length {A = ℕ}) read.0)) (rw (ended, empty) (omega arith)))
+pub fill-requires-clause-some : goal.fill-requires-clause-some
+fill-requires-clause-some g c = c.bytes_to_read.ensures.some
 
-pub returns-else-room-eq0-clause-keeps : goal.returns-else-room-eq0-clause-keeps
-returns-else-room-eq0-clause-keeps g c =
-    let read = rw c.in-Ok-true.field-0-test at c.in-Ok-true.ensures.fills in
-    let going = subst IsGoing (sym c.self.view_is) c.requires.going in
-    let ended = ap (λ (s : Pass). s.has_ended) c.self.view_is ∙ c.requires.empty.0 in
-    let empty = ap (λ (s : Pass). s.unused) c.self.view_is ∙ c.requires.empty.1 in
-    keeps_from _ _ _ c.self.view_is
-    (keeps_filled _ c.fill.new.self _ going (omega (arith, c.in-Ok-true.ensures.fits, c.bytes_to_read.ensures.room, c.if-room-eq0.false, c.count-at.ensures, going.room))
-    (rw (ended, empty) (omega (arith, read.0))))
+pub fill-requires-clause-room : goal.fill-requires-clause-room
+fill-requires-clause-room g c = c.bytes_to_read.ensures.fits

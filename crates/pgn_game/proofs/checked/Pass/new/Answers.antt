@@ -1,14 +1,7 @@
-use Rattle.std.proofs.Common.{ℕ, ◌-◌, [], length, refl, sym, ap, subst, ◌∙◌, inl, arith}
-use Rattle.std.proofs.KnownBytes.{Consumes-nil}
-use Rattle.std.specs.Io.KnownBytes.{Consumes}
-use Rattle.pgn_game.specs.Progress.{no_progress}
-use Rattle.pgn_game.specs.Profile.{takes_the_marker}
-use Rattle.pgn_game.specs.Game.{no_part}
+use Rattle.pgn_game.proofs.Words.{ℕ, ◌-◌, [], length, refl, sym, ap, subst, ◌∙◌, inl, arith, Consumes-nil, Consumes, no_progress, takes_the_marker, no_part, ReaderState, Agrees, whole_plies, checked_profile, reading_under}
 use Rattle.pgn_game.specs.MostTried.{MostTried, none}
-use Rattle.pgn_game.specs.ReaderState.{ReaderState, Agrees, whole_plies}
-use Rattle.pgn_game.specs.Checked.{checked_profile}
-use Rattle.pgn_game.specs.Pass.{reading_under}
 use Rattle.pgn_game.proofs.tokens.SoundAtStart.{few_waiting}
+use Rattle.pgn_game.proofs.ReaderFitsInMemory.{pass_fits_reader}
 use Rattle.pgn_game.proofs.checked.Pass.new.Goals as goal
 
 pub returns-clause-given : goal.returns-clause-given
@@ -40,10 +33,15 @@ pub returns-clause-going : goal.returns-clause-going
 returns-clause-going g c =
     let is = c.count_missing_result_as.ensures
     ∙ ap (λ (r : ReaderState). record r { profile = record r.profile { missing_result = takes_the_marker } }) c.new-reader.ensures in
-    let count = c.new-2.ensures.stands.count in
     let few = few_waiting c.new-2.result in
     record {
       few = omega (arith, few);
       few_plies = omega (arith, few, ap (λ (r : ReaderState). r.earlier_plies) is, ap (λ (r : ReaderState). r.text.plies) is);
-      room = omega (arith, count, ap (length {A = ℕ}) c.new.ensures);
+      room = omega (arith, c.new-2.ensures.stands.count, ap (length {A = ℕ}) c.new.ensures);
     }
+
+pub new-reader-requires : goal.new-reader-requires
+new-reader-requires g c = (search pass_fits_reader, c.requires)
+
+pub count_missing_result_as-requires : goal.count_missing_result_as-requires
+count_missing_result_as-requires g c = search pass_fits_reader

@@ -1,29 +1,30 @@
-use Rattle.std.proofs.Common.{◌-◌, [], arith, refl, sym, ap, subst}
-use Rattle.pgn_game.specs.Progress.{no_progress}
-use Rattle.pgn_game.specs.Game.{no_part}
+use Rattle.pgn_game.proofs.Words.{◌-◌, [], arith, refl, sym, ap, subst, no_progress, no_part, ReaderState, Agrees, IsKnown, whole_plies, profile_of}
 use Rattle.pgn_game.specs.MostTried.{MostTried, none}
-use Rattle.pgn_game.specs.ReaderState.{ReaderState, Agrees, IsKnown, whole_plies}
-use Rattle.pgn_game.specs.ConverterCalls.{profile_of}
 use Rattle.pgn_game.proofs.ReaderFitsInMemory.{fits_reader}
 use Rattle.pgn_game.proofs.tokens.SoundAtStart.{sound_at_start}
 use Rattle.pgn_game.proofs.converter.Converter.begin_at.Goals as goal
 
-pub returns-clause-stands : goal.returns-clause-stands
-returns-clause-stands g c =
-    let is = c.new.ensures in
+pub returns : goal.returns
+returns g c =
     record {
-      lexer = c.begin_at.ensures.stands;
-      has_read = record {
-        profile = ap (λ (r : ReaderState). r.profile) is;
-        no_fault = refl;
-        passes = refl;
-        agrees = subst (λ (r : ReaderState). Agrees r no_part) (sym is) (record { stage = refl; pairs = refl; text = refl });
-        games = refl;
-        plies = ap whole_plies is;
-        probed = λ moves. absurd (cc);
-        tried = subst (MostTried (profile_of g.row.T (g.row.L - 1) c.args.mode) []) (sym (ap (λ (r : ReaderState). r.most_probes) is)) (none no_progress);
-        just_finished = tt;
-      };
+      stands =
+          let is = c.new.ensures in
+          record {
+            lexer = c.begin_at.ensures.stands;
+            has_read = record {
+              profile = ap (λ (r : ReaderState). r.profile) is;
+              no_fault = refl;
+              passes = refl;
+              agrees = subst (λ (r : ReaderState). Agrees r no_part) (sym is) (record { stage = refl; pairs = refl; text = refl });
+              games = refl;
+              plies = ap whole_plies is;
+              probed = λ moves. absurd (cc);
+              tried = subst (MostTried (profile_of g.row.T (g.row.L - 1) c.args.mode) []) (sym (ap (λ (r : ReaderState). r.most_probes) is)) (none no_progress);
+              just_finished = tt;
+            };
+          };
+      count = c.begin_at.ensures.count;
+      not_finished = refl;
     }
 
 pub new-requires : goal.new-requires
@@ -34,6 +35,3 @@ invariant_of-result g c =
     let is = c.new.ensures in
     sound_at_start c.begin_at.result c.new.result (omega (arith, c.begin_at.ensures.count, c.requires.place)) (ap (λ (r : ReaderState). r.earlier_plies) is) (ap (λ (r : ReaderState). r.text.plies) is)
     (subst (λ (r : ReaderState). IsKnown r.profile) (sym is) refl)
-
-pub returns-clause-not_finished : goal.returns-clause-not_finished
-returns-clause-not_finished g c = refl

@@ -1,7 +1,4 @@
-use Rattle.std.proofs.Common.{◌≡◌, ℕ, ◌+◌, ◌≤◌, ◌-◌, ◌^◌, List, None, length, take, arith, sym, ap, ◌∙◌, le_refl, length-take}
-use Rattle.std.proofs.lemmas.Option.{none-some}
-use Rattle.std.proofs.lemmas.Result.{err_from_is_err_and}
-use Rattle.pgn_game.specs.ConverterCalls.{Converter, at_token}
+use Rattle.pgn_game.proofs.Words.{◌≡◌, ℕ, ◌+◌, ◌≤◌, ◌-◌, ◌^◌, List, length, take, arith, sym, ap, ◌∙◌, le_refl, length-take, none-some, err_from_is_err_and, Converter, at_token}
 use Rattle.pgn_game.proofs.ReaderFitsInMemory.{fits_alike}
 use Rattle.pgn_game.proofs.tokens.StepsAtEnd.{not_just_finished, sound_behind_fault}
 use Rattle.pgn_game.proofs.tokens.StepsInPiece.{follows_front, front_all, front_game, front_fault, front_too_long, limit_left, front_used}
@@ -22,8 +19,6 @@ returns-in_err-used g c =
     let e = err_from_is_err_and c.from_residual.result c.from_residual.ensures.1 in
     let fed = c.in_err-used.ensures in
     let feeds = rw c.within_limit-front.ensures at fed.feeds in
-    let none : c.args.self.now.fault ≡ None =
-    ap (λ (s : Converter). s.fault) (sym c.self.view_is) ∙ c.in_default.is in
     rw (e.1, e.2) (record {
       used = tt;
       feeds = λ p u b given stands follows.
@@ -36,7 +31,7 @@ returns-in_err-used g c =
       fault = fed.fault;
       games = fed.games;
       probes = c.feed_front.ensures.probes;
-      again = λ f is. absurd (none-some f (sym none ∙ is));
+      again = λ f is. absurd (none-some f (sym c.in_default.is ∙ ap (λ (s : Converter). s.fault) c.self.view_is ∙ is));
       counted = λ free. fed.counted;
     })
 
@@ -49,8 +44,6 @@ returns-in-Game g c =
     let count = rw c.in-Game.is at fed.count in
     let used = c.in-Game.used in
     let room = front_used piece (2 ^ 62 - c.count.result) used within in
-    let none : c.args.self.now.fault ≡ None =
-    ap (λ (s : Converter). s.fault) (sym c.self.view_is) ∙ c.in_default.is in
     record {
       used = in_piece used (2 ^ 62 - c.count.result) piece within;
       feeds = λ p u b given stands follows.
@@ -64,7 +57,7 @@ returns-in-Game g c =
       fault = fed.fault;
       games = rw c.in-Game.is at fed.games;
       probes = c.feed_front.ensures.probes;
-      again = λ f is. absurd (none-some f (sym none ∙ is));
+      again = λ f is. absurd (none-some f (sym c.in_default.is ∙ ap (λ (s : Converter). s.fault) c.self.view_is ∙ is));
       counted = λ free. fed.counted;
     }
 
@@ -75,8 +68,6 @@ returns-then-front-piece g c =
     let feeds = rw (c.in-All.is, c.within_limit-front.ensures) at fed.feeds in
     let more = rw c.within_limit-front.ensures at c.if-front-piece.true in
     let kept = rw c.in-All.is at fed.games in
-    let none : c.args.self.now.fault ≡ None =
-    ap (λ (s : Converter). s.fault) (sym c.self.view_is) ∙ c.in_default.is in
     record {
       used = tt;
       feeds = λ p u b given stands follows.
@@ -103,7 +94,7 @@ returns-then-front-piece g c =
         ap (λ (s : Converter). s.reading.most_probes) c.self-2.view_is,
         c.feed_front.ensures.probes,
       );
-      again = λ f is. absurd (none-some f (sym none ∙ is));
+      again = λ f is. absurd (none-some f (sym c.in_default.is ∙ ap (λ (s : Converter). s.fault) c.self.view_is ∙ is));
       counted = λ free. rw c.too_long.ensures.fault fed.counted;
     }
 
@@ -116,8 +107,6 @@ returns-else-front-piece g c =
     let whole = front_used piece (2 ^ 62 - c.count.result) (length piece) more in
     let count = rw (c.in-All.is, c.within_limit-front.ensures) at fed.count in
     let all = whole_count c.feed_front.new.self.lexer.count c.args.self.now.lexer.count (2 ^ 62 - c.count.result) piece count whole in
-    let none : c.args.self.now.fault ≡ None =
-    ap (λ (s : Converter). s.fault) (sym c.self.view_is) ∙ c.in_default.is in
     record {
       used = le_refl _;
       feeds = λ p u b given stands follows.
@@ -131,7 +120,7 @@ returns-else-front-piece g c =
       fault = fed.fault;
       games = rw c.in-All.is at fed.games;
       probes = c.feed_front.ensures.probes;
-      again = λ f is. absurd (none-some f (sym none ∙ is));
+      again = λ f is. absurd (none-some f (sym c.in_default.is ∙ ap (λ (s : Converter). s.fault) c.self.view_is ∙ is));
       counted = λ free. fed.counted;
     }
 
@@ -140,7 +129,6 @@ within_limit-front-requires g c = omega (arith, c.count.ensures, c.self.invarian
 
 pub feed_front-requires : goal.feed_front-requires
 feed_front-requires g c =
-    let piece = c.args.piece.now in
     let front = ap (length {A = ℕ}) c.within_limit-front.ensures in (
       search fits_alike,
       (
@@ -150,7 +138,7 @@ feed_front-requires g c =
           omega (
             arith,
             front,
-            length-take (2 ^ 62 - c.count.result) piece,
+            length-take (2 ^ 62 - c.count.result) c.args.piece.now,
             c.count.ensures,
             c.self.invariant.count c.in_default.is,
             ap (λ (s : Converter). s.lexer.count) c.self.view_is,

@@ -1,6 +1,4 @@
-use Rattle.std.proofs.Common.{arith, refl, drop, length, ◌∙◌, length-drop, le_refl}
-use Rattle.std.proofs.lemmas.List.{take_rest}
-use Rattle.std.proofs.lemmas.Result.{err_from_is_err_and}
+use Rattle.pgn_game.proofs.Words.{arith, refl, drop, length, ◌∙◌, length-drop, le_refl, take_rest, err_from_is_err_and}
 use Rattle.pgn_game.proofs.ReaderFitsInMemory.{fits_alike}
 use Rattle.pgn_game.proofs.tokens.AcceptedToConverter.{follows_own}
 use Rattle.pgn_game.proofs.tokens.GamesInPiece.{all_none, all_more, all_fed, all_stops}
@@ -17,21 +15,38 @@ loop-used-init g c =
       feeds = λ p u given stands is_decided. all_none p _ u given c.args.piece.now _ stands is_decided;
     }
 
-pub returns-in_err-feed-clause-feeds : goal.returns-in_err-feed-clause-feeds
-returns-in_err-feed-clause-feeds g c =
+pub returns-in_err-feed : goal.returns-in_err-feed
+returns-in_err-feed g c =
     let e = err_from_is_err_and c.from_residual.result c.from_residual.ensures.1 in
-    let feeds = rw take_rest at c.in_err-feed.ensures.feeds in
-    rw (e.1, e.2) (λ p u given stands is_decided.
-    let so = c.loop-used.invariant.feeds p u given stands is_decided in
-    all_stops p u given c.args.piece.now c.loop-used.at _ _ _ _ so c.feed.new.self _
-    (feeds p _ _ _ so.stands (follows_own (drop c.loop-used.at c.args.piece.now))))
+    record {
+      feeds =
+          rw (e.1, e.2) (λ p u given stands is_decided.
+          let so = c.loop-used.invariant.feeds p u given stands is_decided in
+          all_stops p u given c.args.piece.now c.loop-used.at _ _ _ _ so c.feed.new.self _
+          ((rw take_rest at c.in_err-feed.ensures.feeds) p _ _ _ so.stands (follows_own (drop c.loop-used.at c.args.piece.now))));
+      count = rw e.1 tt;
+      short = rw e.1 tt;
+      not_finished = c.feed.ensures.not_finished;
+      fault = rw (e.1, e.2) c.in_err-feed.ensures.fault;
+      counted = rw (e.1, e.2, ← c.loop-used.invariant.counted) (c.in_err-feed.ensures.counted c.loop-used.invariant.fault);
+    }
 
-pub returns-in-All-clause-feeds : goal.returns-in-All-clause-feeds
-returns-in-All-clause-feeds g c p u given stands is_decided =
-    let so = c.loop-used.invariant.feeds p u given stands is_decided in
-    let feeds = rw (c.in-All.is, take_rest) at c.in_ok-feed.ensures.feeds in
-    all_fed p u given c.args.piece.now c.loop-used.at _ _ _ _ so _
-    (feeds p _ _ _ so.stands (follows_own (drop c.loop-used.at c.args.piece.now)))
+pub returns-in-All : goal.returns-in-All
+returns-in-All g c =
+    record {
+      feeds = λ p u given stands is_decided.
+          let so = c.loop-used.invariant.feeds p u given stands is_decided in
+          let feeds = rw (c.in-All.is, take_rest) at c.in_ok-feed.ensures.feeds in
+          all_fed p u given c.args.piece.now c.loop-used.at _ _ _ _ so _
+          (feeds p _ _ _ so.stands (follows_own (drop c.loop-used.at c.args.piece.now)));
+      count =
+          let count = rw (c.in-All.is, take_rest) at c.in_ok-feed.ensures.count in
+          omega (arith, count, c.loop-used.invariant.count, length-drop c.loop-used.at c.args.piece.now, c.loop-used.invariant.within);
+      short = c.in_ok-feed.ensures.short;
+      not_finished = c.feed.ensures.not_finished;
+      fault = c.in_ok-feed.ensures.fault;
+      counted = c.in_ok-feed.ensures.counted c.loop-used.invariant.fault ∙ c.loop-used.invariant.counted;
+    }
 
 pub loop-used-preserved : goal.loop-used-preserved
 loop-used-preserved g c =
@@ -58,46 +73,6 @@ loop-used-smaller g c =
     let advances = rw c.in-Game.is at c.in_ok-feed.ensures.advances in
     let used = rw (c.in-Game.is, take_rest) at c.in_ok-feed.ensures.used in
     omega (arith, advances, used, length-drop c.loop-used.at c.args.piece.now, c.loop-used.invariant.within)
-
-pub returns-in-All-clause-count : goal.returns-in-All-clause-count
-returns-in-All-clause-count g c =
-    let count = rw (c.in-All.is, take_rest) at c.in_ok-feed.ensures.count in
-    omega (arith, count, c.loop-used.invariant.count, length-drop c.loop-used.at c.args.piece.now, c.loop-used.invariant.within)
-
-pub returns-in-All-clause-counted : goal.returns-in-All-clause-counted
-returns-in-All-clause-counted g c = c.in_ok-feed.ensures.counted c.loop-used.invariant.fault ∙ c.loop-used.invariant.counted
-
-pub returns-in-All-clause-fault : goal.returns-in-All-clause-fault
-returns-in-All-clause-fault g c = c.in_ok-feed.ensures.fault
-
-pub returns-in-All-clause-not_finished : goal.returns-in-All-clause-not_finished
-returns-in-All-clause-not_finished g c = c.feed.ensures.not_finished
-
-pub returns-in-All-clause-short : goal.returns-in-All-clause-short
-returns-in-All-clause-short g c = c.in_ok-feed.ensures.short
-
-pub returns-in_err-feed-clause-count : goal.returns-in_err-feed-clause-count
-returns-in_err-feed-clause-count g c =
-    let e = err_from_is_err_and c.from_residual.result c.from_residual.ensures.1 in
-    rw e.1 tt
-
-pub returns-in_err-feed-clause-short : goal.returns-in_err-feed-clause-short
-returns-in_err-feed-clause-short g c =
-    let e = err_from_is_err_and c.from_residual.result c.from_residual.ensures.1 in
-    rw e.1 tt
-
-pub returns-in_err-feed-clause-not_finished : goal.returns-in_err-feed-clause-not_finished
-returns-in_err-feed-clause-not_finished g c = c.feed.ensures.not_finished
-
-pub returns-in_err-feed-clause-fault : goal.returns-in_err-feed-clause-fault
-returns-in_err-feed-clause-fault g c =
-    let e = err_from_is_err_and c.from_residual.result c.from_residual.ensures.1 in
-    rw (e.1, e.2) c.in_err-feed.ensures.fault
-
-pub returns-in_err-feed-clause-counted : goal.returns-in_err-feed-clause-counted
-returns-in_err-feed-clause-counted g c =
-    let e = err_from_is_err_and c.from_residual.result c.from_residual.ensures.1 in
-    rw (e.1, e.2, ← c.loop-used.invariant.counted) (c.in_err-feed.ensures.counted c.loop-used.invariant.fault)
 
 pub overflow_add-at : goal.overflow_add-at
 overflow_add-at g c =

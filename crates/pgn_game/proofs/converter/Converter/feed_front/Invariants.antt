@@ -1,7 +1,4 @@
-use Rattle.std.proofs.Common.{◌≡◌, ◌≤◌, ◌+◌, ◌-◌, ◌*◌, None, false, length}
-use Rattle.pgn_lexer.specs.Standing.{waiting}
-use Rattle.pgn_layout.specs.Device.{device}
-use Rattle.pgn_game.specs.ConverterSteps.{FeedsSoFar}
+use Rattle.pgn_game.proofs.Words.{◌≡◌, ◌≤◌, ◌+◌, ◌-◌, ◌*◌, None, false, length, waiting, device, FeedsSoFar}
 use Rattle.pgn_game.proofs.converter.Converter.feed_front.Given as goal
 
 abbrev pub invariant-loop-at : goal.invariant-loop-at

@@ -1,10 +1,7 @@
-use Rattle.std.proofs.Common.{rules, arith, le_refl, le_trans, refl, sym, ap, subst, ◌∙◌, Ok, None, Some}
-use Rattle.std.proofs.lemmas.Option.{none-some}
-use Rattle.pgn_game.specs.ConverterCalls.{Converter, Stands}
+use Rattle.pgn_game.proofs.Words.{rules, arith, le_refl, le_trans, refl, sym, ap, subst, ◌∙◌, Ok, None, Some, none-some, Converter, Stands, AfterStepAtEnd}
 use Rattle.pgn_game.proofs.ReaderFitsInMemory.{fits_reader}
 use Rattle.pgn_game.proofs.tokens.StepsAtEnd.{sound_at_none, left_of, closed_none, closed_more, closed_game, closed_end, closed_fault}
 use Rattle.pgn_game.proofs.tokens.StepsInPiece.{counts_step}
-use Rattle.pgn_game.specs.ConverterSteps.{AfterStepAtEnd}
 use Rattle.pgn_game.proofs.converter.Converter.finish.Goals as goal
 use Rattle.pgn_game.proofs.converter.Converter.finish.Goals.{then-finished_game, else-finished_game}
 
@@ -28,7 +25,6 @@ loop-finished_game-smaller-in-Ok-Some-More g c = rw (c.in-Ok-Some-More.is ∙ ap
 pub loop-finished_game-preserved-in-Ok-Some-More : goal.loop-finished_game-preserved-in-Ok-Some-More
 loop-finished_game-preserved-in-Ok-Some-More g c =
     let is = c.in-Ok-Some-More.is ∙ ap Ok (c.in-Ok-Some-More.field-0-is ∙ ap Some c.in-Ok-Some-More.field-0-0-is) in
-    let after = rw is at c.step_at_end.ensures.after in
     let counted = rw is at c.step_at_end.ensures.counted in
     record {
       fault = rw is at c.step_at_end.ensures.fault;
@@ -38,7 +34,7 @@ loop-finished_game-preserved-in-Ok-Some-More g c =
       counted = counted ∙ c.loop-finished_game.invariant.counted;
       closes = λ p u b given stands.
           let so = c.loop-finished_game.invariant.closes p u b given stands in
-          closed_more p u given _ _ _ _ _ _ so (after p u _ so.left so.has_read);
+          closed_more p u given _ _ _ _ _ _ so ((rw is at c.step_at_end.ensures.after) p u _ so.left so.has_read);
     }
 
 pub loop-finished_game-smaller : goal.loop-finished_game-smaller
@@ -47,7 +43,6 @@ loop-finished_game-smaller g c = rw (c.in-Ok-Some-Finished.is ∙ ap Ok (c.in-Ok
 pub loop-finished_game-preserved : goal.loop-finished_game-preserved
 loop-finished_game-preserved g c =
     let is = c.in-Ok-Some-Finished.is ∙ ap Ok (c.in-Ok-Some-Finished.field-0-is ∙ ap Some c.in-Ok-Some-Finished.field-0-0-is) in
-    let after = rw is at c.step_at_end.ensures.after in
     let counted = rw is at c.step_at_end.ensures.counted in
     record {
       fault = rw is at c.step_at_end.ensures.fault;
@@ -57,43 +52,44 @@ loop-finished_game-preserved g c =
       counted = counted ∙ c.loop-finished_game.invariant.counted;
       closes = λ p u b given stands.
           let so = c.loop-finished_game.invariant.closes p u b given stands in
-          closed_game p u given _ _ _ _ _ _ so (after p u _ so.left so.has_read);
+          closed_game p u given _ _ _ _ _ _ so ((rw is at c.step_at_end.ensures.after) p u _ so.left so.has_read);
     }
 
-pub returns-in-Ok-None-clause-ends : goal.returns-in-Ok-None-clause-ends
-returns-in-Ok-None-clause-ends g c p u b given stands =
-    let so = c.loop-finished_game.invariant.closes p u b given stands in
-    let after = rw (c.in-Ok-None.is ∙ ap Ok c.in-Ok-None.field-0-is) at c.step_at_end.ensures.after in
-    let here = subst (λ (s : Converter). AfterStepAtEnd p u so.tokens c.loop-finished_game.self s (Ok None) (g.W.Sink.taken c.loop-finished_game.out) (g.W.Sink.taken c.step_at_end.new.out))
-    (sym c.self-in-loop-finished_game.view_is) (after p u _ so.left so.has_read) in
-    closed_end p u given _ _ c.loop-finished_game.finished_game _ _ _ so c.if-finished_game.self here
-    (λ between. elim c.if-finished_game.branch [ then-finished_game w ↦ w.self-is ∙ w.is_between-self-inside.ensures.1 between ∙ sym w.if-finished_game.true | else-finished_game w ↦ w.self-is ])
+pub returns-in-Ok-None : goal.returns-in-Ok-None
+returns-in-Ok-None g c =
+    let is = c.in-Ok-None.is ∙ ap Ok c.in-Ok-None.field-0-is in
+    record {
+      ends = λ p u b given stands.
+          let so = c.loop-finished_game.invariant.closes p u b given stands in
+          let after = rw is at c.step_at_end.ensures.after in
+          let here = subst (λ (s : Converter). AfterStepAtEnd p u so.tokens c.loop-finished_game.self s (Ok None) (g.W.Sink.taken c.loop-finished_game.out) (g.W.Sink.taken c.step_at_end.new.out))
+          (sym c.self-in-loop-finished_game.view_is) (after p u _ so.left so.has_read) in
+          closed_end p u given _ _ c.loop-finished_game.finished_game _ _ _ so c.if-finished_game.self here
+          (λ between. elim c.if-finished_game.branch [ then-finished_game w ↦ w.self-is ∙ w.is_between-self-inside.ensures.1 between ∙ sym w.if-finished_game.true | else-finished_game w ↦ w.self-is ]);
+      finished = ap (λ (s : Converter). s.is_finished) c.self-in-loop-finished_game.view_is ∙ (rw is at c.step_at_end.ensures.finished);
+      probes = omega (arith, ap (λ (s : Converter). s.reading.most_probes) c.self-in-loop-finished_game.view_is, c.step_at_end.ensures.probes, c.loop-finished_game.invariant.probes);
+      fault = ap (λ (s : Converter). s.fault) c.self-in-loop-finished_game.view_is ∙ (rw is at c.step_at_end.ensures.fault);
+      none_just_finished = tt;
+      again = λ f is. absurd (none-some f (sym (ap (λ (s : Converter). s.fault) (sym c.self.view_is) ∙ c.in_default.is) ∙ is));
+      counted = λ none. (rw is at c.step_at_end.ensures.counted) ∙ c.loop-finished_game.invariant.counted;
+    }
 
-pub returns-in-Ok-None-clause-counted : goal.returns-in-Ok-None-clause-counted
-returns-in-Ok-None-clause-counted g c none =
-    let counted = rw (c.in-Ok-None.is ∙ ap Ok c.in-Ok-None.field-0-is) at c.step_at_end.ensures.counted in
-    counted ∙ c.loop-finished_game.invariant.counted
-
-pub returns-in-Err-clause-ends : goal.returns-in-Err-clause-ends
-returns-in-Err-clause-ends g c p u b given stands =
-    let after = rw c.in-Err.is at c.step_at_end.ensures.after in
-    let so = c.loop-finished_game.invariant.closes p u b given stands in
-    closed_fault p u given _ c.step_at_end.new.self _ _ _ _ so c.in-Err.fault c.args.self.now.lexer (left_of p c.args.self.now u b given stands) stands.has_read.passes (after p u _ so.left so.has_read) (rw c.in-Err.is at c.step_at_end.ensures.games)
-
-pub returns-in-Err-clause-finished : goal.returns-in-Err-clause-finished
-returns-in-Err-clause-finished g c = rw c.in-Err.is at c.step_at_end.ensures.finished
-
-pub returns-in-Err-clause-counted : goal.returns-in-Err-clause-counted
-returns-in-Err-clause-counted g c none =
-    let counted = rw c.in-Err.is at c.step_at_end.ensures.counted in
-    counts_step c.in-Err.fault.reason _ _ _ c.loop-finished_game.invariant.counted counted
-
-pub returns-in-Ok-None-clause-probes : goal.returns-in-Ok-None-clause-probes
-returns-in-Ok-None-clause-probes g c =
-    omega (arith, ap (λ (s : Converter). s.reading.most_probes) c.self-in-loop-finished_game.view_is, c.step_at_end.ensures.probes, c.loop-finished_game.invariant.probes)
-
-pub returns-in-Err-clause-probes : goal.returns-in-Err-clause-probes
-returns-in-Err-clause-probes g c = le_trans c.loop-finished_game.invariant.probes c.step_at_end.ensures.probes
+pub returns-in-Err : goal.returns-in-Err
+returns-in-Err g c =
+    record {
+      ends = λ p u b given stands.
+          let after = rw c.in-Err.is at c.step_at_end.ensures.after in
+          let so = c.loop-finished_game.invariant.closes p u b given stands in
+          closed_fault p u given _ c.step_at_end.new.self _ _ _ _ so c.in-Err.fault c.args.self.now.lexer (left_of p c.args.self.now u b given stands) stands.has_read.passes (after p u _ so.left so.has_read) (rw c.in-Err.is at c.step_at_end.ensures.games);
+      finished = rw c.in-Err.is at c.step_at_end.ensures.finished;
+      probes = le_trans c.loop-finished_game.invariant.probes c.step_at_end.ensures.probes;
+      fault = rw c.in-Err.is at c.step_at_end.ensures.fault;
+      none_just_finished = c.step_at_end.ensures.none_just_finished;
+      again = λ f is. absurd (none-some f (sym (ap (λ (s : Converter). s.fault) (sym c.self.view_is) ∙ c.in_default.is) ∙ is));
+      counted = λ none.
+          let counted = rw c.in-Err.is at c.step_at_end.ensures.counted in
+          counts_step c.in-Err.fault.reason _ _ _ c.loop-finished_game.invariant.counted counted;
+    }
 
 pub invariant_of-self : goal.invariant_of-self
 invariant_of-self g c =
@@ -101,31 +97,6 @@ invariant_of-self g c =
 
 pub is_between-self-inside-requires : goal.is_between-self-inside-requires
 is_between-self-inside-requires g c = search fits_reader
-
-pub returns-in-Ok-None-clause-fault : goal.returns-in-Ok-None-clause-fault
-returns-in-Ok-None-clause-fault g c =
-    let fault = rw (c.in-Ok-None.is ∙ ap Ok c.in-Ok-None.field-0-is) at c.step_at_end.ensures.fault in
-    ap (λ (s : Converter). s.fault) c.self-in-loop-finished_game.view_is ∙ fault
-
-pub returns-in-Ok-None-clause-finished : goal.returns-in-Ok-None-clause-finished
-returns-in-Ok-None-clause-finished g c =
-    let finished = rw (c.in-Ok-None.is ∙ ap Ok c.in-Ok-None.field-0-is) at c.step_at_end.ensures.finished in
-    ap (λ (s : Converter). s.is_finished) c.self-in-loop-finished_game.view_is ∙ finished
-
-pub returns-in-Ok-None-clause-none_just_finished : goal.returns-in-Ok-None-clause-none_just_finished
-returns-in-Ok-None-clause-none_just_finished g c = tt
-
-pub returns-in-Ok-None-clause-again : goal.returns-in-Ok-None-clause-again
-returns-in-Ok-None-clause-again g c = λ f is. absurd (none-some f (sym (ap (λ (s : Converter). s.fault) (sym c.self.view_is) ∙ c.in_default.is) ∙ is))
-
-pub returns-in-Err-clause-fault : goal.returns-in-Err-clause-fault
-returns-in-Err-clause-fault g c = rw c.in-Err.is at c.step_at_end.ensures.fault
-
-pub returns-in-Err-clause-none_just_finished : goal.returns-in-Err-clause-none_just_finished
-returns-in-Err-clause-none_just_finished g c = c.step_at_end.ensures.none_just_finished
-
-pub returns-in-Err-clause-again : goal.returns-in-Err-clause-again
-returns-in-Err-clause-again g c = λ f is. absurd (none-some f (sym (ap (λ (s : Converter). s.fault) (sym c.self.view_is) ∙ c.in_default.is) ∙ is))
 
 pub returns-in-Some-clause-fault : goal.returns-in-Some-clause-fault
 returns-in-Some-clause-fault g c = ap (λ (s : Converter). s.fault) (sym c.self.view_is) ∙ c.in-Some.is

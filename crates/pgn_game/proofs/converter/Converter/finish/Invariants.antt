@@ -1,7 +1,4 @@
-use Rattle.std.proofs.Common.{◌≡◌, ◌≤◌, None, false}
-use Rattle.pgn_lexer.specs.Standing.{waiting}
-use Rattle.pgn_layout.specs.Device.{device}
-use Rattle.pgn_game.specs.ConverterSteps.{FinishesSoFar}
+use Rattle.pgn_game.proofs.Words.{◌≡◌, ◌≤◌, None, false, waiting, device, FinishesSoFar}
 use Rattle.pgn_game.proofs.converter.Converter.finish.Given as goal
 
 abbrev pub invariant-loop-finished_game : goal.invariant-loop-finished_game

@@ -1,7 +1,5 @@
-use Rattle.std.proofs.Common.{◌≡◌, ℕ, ◌+◌, ◌≤◌, List, [], ◌∷◌, ◌++◌, length, Option, None, Some, ap, subst, sym, ◌∙◌, arith, length-append}
-use Rattle.std.specs.Option.{option_to_list}
+use Rattle.pgn_game.proofs.Words.{◌≡◌, ℕ, List, [], ◌∷◌, ◌++◌, length, Option, None, Some, ap, subst, sym, ◌∙◌, arith, length-append, StoredLevel, StoredLevels, AreThere, ClosesLevel, code_levels, inside, option_to_list, FitsLevelStore}
 use Rattle.pgn_game.specs.declared.levels.Level.{Level as CodeLevel}
-use Rattle.pgn_game.specs.Movetext.{StoredLevel, StoredLevels, AreThere, ClosesLevel, FitsLevelStore, code_levels, inside}
 use Rattle.pgn_game.proofs.putting.CodeLevelsToStored.{closes, last-there, there-front}
 use Rattle.pgn_game.proofs.levels.Levels.close.Goals as goal
 

@@ -1,5 +1,4 @@
-use Rattle.std.proofs.Common.{arith, ap, length}
-use Rattle.pgn_game.specs.Movetext.{StoredLevels}
+use Rattle.pgn_game.proofs.Words.{arith, ap, length, StoredLevels}
 use Rattle.pgn_game.proofs.putting.CodeLevelsToStored.{depth-held}
 use Rattle.pgn_game.proofs.levels.Levels.depth.Goals as goal
 

@@ -1,6 +1,4 @@
-use Rattle.std.proofs.Common.{ap}
-use Rattle.pgn_game.specs.Chess.{first_position}
-use Rattle.pgn_game.specs.Movetext.{only_level}
+use Rattle.pgn_game.proofs.Words.{ap, first_position, only_level}
 use Rattle.pgn_game.proofs.levels.Levels.new.Goals as goal
 
 pub returns : goal.returns

@@ -1,5 +1,4 @@
-use Rattle.std.proofs.Common.{◌≡◌, List, ◌∷◌, length, Some, ap, subst, sym, ◌∙◌, arith, []}
-use Rattle.pgn_game.specs.Movetext.{StoredLevel, StoredLevels, AreThere, level_at}
+use Rattle.pgn_game.proofs.Words.{◌≡◌, List, ◌∷◌, length, Some, ap, subst, sym, ◌∙◌, arith, [], StoredLevel, StoredLevels, AreThere, level_at}
 use Rattle.pgn_game.proofs.putting.CodeLevelsToStored.{depth-held, inside-snoc, there-snoc, opens}
 use Rattle.pgn_game.proofs.levels.Levels.open.Goals as goal
 

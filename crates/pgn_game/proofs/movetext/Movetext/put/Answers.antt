@@ -1,6 +1,4 @@
-use Rattle.std.proofs.Common.{subst, sym}
-use Rattle.pgn_game.specs.Movetext.{Movetext}
-use Rattle.pgn_game.specs.TokenInMovetext.{ItemFits, model_item}
+use Rattle.pgn_game.proofs.Words.{subst, sym, Movetext, ItemFits, model_item}
 use Rattle.pgn_game.proofs.putting.ItemToMovetext.{Advances, adds_put, adds_front, goes_on}
 use Rattle.pgn_game.proofs.movetext.Movetext.put.Goals as goal
 

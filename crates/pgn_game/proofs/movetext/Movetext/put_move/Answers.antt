@@ -1,8 +1,5 @@
-use Rattle.std.proofs.Common.{◌≡◌, Some, subst, sym, ap, ◌∙◌}
-use Rattle.pgn_game.proofs.Words.{Parts}
-use Rattle.chess_rules.specs.Legal.{legal}
+use Rattle.pgn_game.proofs.Words.{◌≡◌, Some, subst, sym, ap, ◌∙◌, Parts, legal, Movetext}
 use Rattle.pgn_game.specs.Game.{move}
-use Rattle.pgn_game.specs.Movetext.{Movetext}
 use Rattle.pgn_game.proofs.putting.ItemToMovetext.{Advances, adds_put, adds_front, plays_on}
 use Rattle.pgn_game.proofs.movetext.Movetext.put_move.Goals as goal
 

@@ -1,11 +1,6 @@
-use Rattle.std.proofs.Common.{Bool, true, Ok, refl, sym, subst}
-use Rattle.pgn_layout.specs.Device.{device}
-use Rattle.std.proofs.KnownBytes.{Appends-nil}
+use Rattle.pgn_game.proofs.Words.{Bool, true, Ok, refl, sym, subst, device, Appends-nil, Movetext, WritesItem, CostsToWrite}
 use Rattle.pgn_layout.specs.declared.sink.WriteFault.{WriteFault}
 use Rattle.pgn_game.specs.Game.{move}
-use Rattle.pgn_game.specs.MostTried.{CostsToWrite}
-use Rattle.pgn_game.specs.Movetext.{Movetext}
-use Rattle.pgn_game.specs.ItemResult.{WritesItem}
 use Rattle.pgn_game.proofs.putting.ItemToMovetext.{left_out, written_out, not_written}
 use Rattle.pgn_game.proofs.movetext.Movetext.write_move.Goals as goal
 

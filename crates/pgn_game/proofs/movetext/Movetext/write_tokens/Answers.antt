@@ -1,6 +1,4 @@
-use Rattle.std.proofs.Common.{ℕ, ◌∷◌, [], arith, subst}
-use Rattle.pgn_layout.specs.Lines.{IsToken}
-use Rattle.pgn_game.specs.TokenInMovetext.{ItemFits}
+use Rattle.pgn_game.proofs.Words.{ℕ, ◌∷◌, [], arith, subst, IsToken, ItemFits}
 use Rattle.pgn_game.proofs.putting.NumberToTokens.{puts_token}
 use Rattle.pgn_game.proofs.movetext.Movetext.write_tokens.Goals as goal
 

@@ -1,9 +1,4 @@
-use Rattle.std.proofs.Common.{arith, ◌≡◌, ◌<◌, ◌≤◌, length, ◌∷◌, [], List, ℕ, ap, subst, ◌∙◌}
-use Rattle.pgn_layout.specs.Device.{device}
-use Rattle.pgn_layout.specs.Lines.{IsToken}
-use Rattle.pgn_game.specs.Chess.{text_of_move}
-use Rattle.pgn_game.specs.Movetext.{Movetext}
-use Rattle.pgn_game.specs.ItemResult.{PutsTokens, number_due}
+use Rattle.pgn_game.proofs.Words.{arith, ◌≡◌, ◌<◌, ◌≤◌, length, ◌∷◌, [], List, ℕ, ap, subst, ◌∙◌, device, IsToken, text_of_move, Movetext, PutsTokens, number_due}
 use Rattle.pgn_game.proofs.putting.ItemToMovetext.{puts_after, puts_fail, is_text, is_token, writes_move}
 use Rattle.pgn_game.proofs.putting.NumberToTokens.{puts_token}
 use Rattle.pgn_game.proofs.movetext.Movetext.write_tokens_of_move.Goals as goal

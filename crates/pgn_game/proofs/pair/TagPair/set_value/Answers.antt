@@ -1,7 +1,5 @@
-use Rattle.std.proofs.Common.{◌≡◌, ℕ, ◌+◌, ◌≤◌, List, ◌++◌, take, drop, length, refl, arith, ap, ◌∙◌, Result, Ok, Err}
-use Rattle.std.proofs.lemmas.List.{take_at, drop_at, length-take-le}
+use Rattle.pgn_game.proofs.Words.{◌≡◌, ℕ, ◌+◌, ◌≤◌, List, ◌++◌, take, drop, length, refl, arith, ap, ◌∙◌, Result, Ok, Err, length-take-le, Pair, take_at, drop_at}
 use Rattle.pgn_game.proofs.pairs.EscapedLength.{length-le-escaped}
-use Rattle.pgn_game.specs.Pairs.{Pair}
 use Rattle.std.specs.Result.{IsOk, OnOk}
 use Rattle.pgn_game.proofs.pair.TagPair.set_value.Goals as goal
 

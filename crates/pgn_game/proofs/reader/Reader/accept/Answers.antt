@@ -1,10 +1,5 @@
-use Rattle.std.proofs.Common.{◌≡◌, ◌≤◌, ◌+◌, Result, arith}
-use Rattle.pgn_layout.specs.Device.{Device}
-use Rattle.pgn_game.specs.declared.accepted.Accepted.{Accepted}
-use Rattle.pgn_game.proofs.Words.{Kind, Reason}
-use Rattle.pgn_game.specs.ReaderState.{ReaderState, Accepts, CountsWrites, FinishesAtMarker, Stays}
-use Rattle.pgn_game.specs.PutResult.{TakesToken}
-use Rattle.pgn_game.proofs.ReaderFitsInMemory.{reader_alike}
+use Rattle.pgn_game.proofs.Words.{◌≡◌, ◌≤◌, ◌+◌, Result, arith, Device, Kind, Reason, ReaderState, Accepts, CountsWrites, FinishesAtMarker, Stays, TakesToken, Accepted}
+use Rattle.pgn_game.proofs.ReaderLemmas.{reader_alike}
 use Rattle.pgn_game.proofs.reader.Reader.accept.Goals as goal
 
 -- what `accept` ensures

@@ -1,19 +1,5 @@
-use Rattle.std.proofs.Common.{◌≡◌, ◌≤◌, length, true, false, refl, sym, ap, subst, ◌∙◌, arith}
-use Rattle.std.proofs.lemmas.Bool.{le-leb, lt-leb, false≢true}
-use Rattle.pgn_lexer.specs.Scanned.{kind_of}
-use Rattle.pgn_lexer.specs.declared.token.TokenKind.{TokenKind}
-use Rattle.pgn_game.proofs.Words.{SetUpWithoutFen, TooManyTags, UnexpectedEnd, AfterLeftBracket, AfterTags, Part}
-use Rattle.pgn_game.specs.StoredPairs.{TagPairs}
-use Rattle.pgn_game.specs.FaultTable.{refusal}
-use Rattle.pgn_game.specs.MostTried.{CostsToFind}
-use Rattle.pgn_game.specs.Progress.{at_stage, next}
-use Rattle.pgn_game.specs.ReaderState.{ReaderState, Agrees}
-use Rattle.pgn_game.specs.TokenInMovetext.{may_have_movetext}
-use Rattle.pgn_game.proofs.refusals.RefusalsByStage.{hit, pass, textual, end_after_tags, open_refusal, open_next, refuses_set_up}
-use Rattle.pgn_game.proofs.refusals.ReaderToPart.{entry_after_tags, lacks_of, part_stage, held_at}
-use Rattle.pgn_game.proofs.putting.PairStepToReader.{puts_left_bracket, to_stage}
-use Rattle.pgn_game.proofs.tokens.PairsTriedForToken.{adds_same}
-use Rattle.pgn_game.proofs.tokens.PutToAnswer.{counting_none, enters, refused_after, takes_step}
+use Rattle.pgn_game.proofs.Words.{◌≡◌, ◌≤◌, length, true, false, refl, sym, ap, subst, ◌∙◌, arith, le-leb, lt-leb, false≢true, kind_of, TokenKind, SetUpWithoutFen, TooManyTags, UnexpectedEnd, AfterLeftBracket, AfterTags, Part, TagPairs, refusal, at_stage, next, ReaderState, Agrees, may_have_movetext, CostsToFind}
+use Rattle.pgn_game.proofs.ReaderLemmas.{hit, pass, textual, end_after_tags, open_refusal, open_next, refuses_set_up, entry_after_tags, lacks_of, part_stage, held_at, puts_left_bracket, to_stage, adds_same, counting_none, enters, refused_after, takes_step}
 use Rattle.pgn_game.proofs.reader.Reader.accept_after_tags.Goals as goal
 
 -- how many pairs the part has

@@ -1,11 +1,5 @@
-use Rattle.std.proofs.Common.{◌≡◌, ◌||◌, Bool, true, refl, sym, ap, subst, ◌∙◌, arith}
-use Rattle.std.proofs.lemmas.Bool.{or_right}
-use Rattle.pgn_lexer.specs.Scanned.{kind_of}
-use Rattle.pgn_game.specs.FaultTable.{is_comment, is_end}
-use Rattle.pgn_game.specs.ReaderState.{ReaderState}
-use Rattle.pgn_game.specs.PutResult.{TakesOutside}
-use Rattle.pgn_game.proofs.ReaderFitsInMemory.{reader_alike}
-use Rattle.pgn_game.proofs.tokens.PutToAnswer.{passes_first, takes_outside_first}
+use Rattle.pgn_game.proofs.Words.{◌≡◌, ◌||◌, Bool, true, refl, sym, ap, subst, ◌∙◌, arith, or_right, kind_of, is_comment, is_end, ReaderState, TakesOutside}
+use Rattle.pgn_game.proofs.ReaderLemmas.{reader_alike, passes_first, takes_outside_first}
 use Rattle.pgn_game.proofs.reader.Reader.accept_between.Goals as goal
 use Rattle.pgn_game.proofs.reader.Reader.accept_between.Goals.{then-is_comment-via-then-is_comment, then-is_comment-via-else-is_comment+then-is_end}
 
@@ -14,8 +8,7 @@ begin_game-requires g c = (search reader_alike, omega (arith, c.requires.few))
 
 pub accept_after_tags-requires : goal.accept_after_tags-requires
 accept_after_tags-requires g c =
-    let begins = c.begin_game.ensures in
-    (search reader_alike, ap (λ (r : ReaderState). r.stage) begins)
+    (search reader_alike, ap (λ (r : ReaderState). r.stage) c.begin_game.ensures)
 
 pub returns-then-is_comment : goal.returns-then-is_comment
 returns-then-is_comment g c =

@@ -1,18 +1,14 @@
-use Rattle.std.proofs.Common.{◌≡◌, ℕ, List, Bor, false, refl}
+use Rattle.pgn_game.proofs.Words.{◌≡◌, ℕ, List, Bor, false, refl, kind_of, TokenKind, is_frequent}
 use Rattle.pgn_lexer.specs.Tokens as tokens
-use Rattle.pgn_lexer.specs.Scanned.{kind_of}
-use Rattle.pgn_lexer.specs.declared.token.TokenKind.{TokenKind}
-use Rattle.pgn_lexer.specs.declared.token.TokenKind.TheVariants as variants
+use Rattle.pgn_lexer.specs.declared.token.TokenKind.TheVariants as token_kinds
 use Rattle.pgn_game.specs.declared.annotation.Annotation.TheVariants.{Word}
-use Rattle.pgn_game.specs.TokenInMovetext.{is_frequent}
-use Rattle.pgn_game.proofs.ReaderFitsInMemory.{reader_alike}
-use Rattle.pgn_game.proofs.tokens.PutToAnswer.{item_entry, passes_entry}
+use Rattle.pgn_game.proofs.ReaderLemmas.{reader_alike, item_entry, passes_entry}
 use Rattle.pgn_game.proofs.reader.Reader.accept_entry.Goals as goal
 
-other : (k : TokenKind) → ((s : Bor (List ℕ)) → k ≡ variants.Symbol s → ⊥) → (k ≡ variants.Period → ⊥) → ((s : Bor (List ℕ)) → k ≡ variants.Word s → ⊥) → is_frequent (kind_of k) ≡ false
-other (variants.Symbol s) symbol period word = absurd (symbol s refl)
-other variants.Period symbol period word = absurd (period refl)
-other (variants.Word s) symbol period word = absurd (word s refl)
+other : (k : TokenKind) → ((s : Bor (List ℕ)) → k ≡ token_kinds.Symbol s → ⊥) → (k ≡ token_kinds.Period → ⊥) → ((s : Bor (List ℕ)) → k ≡ token_kinds.Word s → ⊥) → is_frequent (kind_of k) ≡ false
+other (token_kinds.Symbol s) symbol period word = absurd (symbol s refl)
+other token_kinds.Period symbol period word = absurd (period refl)
+other (token_kinds.Word s) symbol period word = absurd (word s refl)
 other _ symbol period word = refl
 
 pub accept_other-requires : goal.accept_other-requires

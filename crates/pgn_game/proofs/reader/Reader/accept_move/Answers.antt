@@ -1,18 +1,7 @@
-use Rattle.std.proofs.Common.{◌∷◌, [], inl, inr, IsTrue, refl, sym, ap, subst, ◌∙◌, arith, Err}
-use Rattle.std.proofs.lemmas.Result.{err_from_is_err_and}
+use Rattle.pgn_game.proofs.Words.{◌∷◌, [], inl, inr, IsTrue, refl, sym, ap, subst, ◌∙◌, arith, Err, err_from_is_err_and, is_legal, InMovetext, Movetext, ReaderState, may_have_movetext, TriesItem}
 use Rattle.std.proofs.Math.Nat.{le-max_right}
-use Rattle.chess_rules.specs.Legal.{is_legal}
-use Rattle.pgn_game.proofs.Words.{InMovetext}
 use Rattle.pgn_game.specs.Game.{move}
-use Rattle.pgn_game.specs.Movetext.{Movetext}
-use Rattle.pgn_game.specs.ReaderState.{ReaderState}
-use Rattle.pgn_game.specs.TokenInMovetext.{may_have_movetext}
-use Rattle.pgn_game.specs.ItemResult.{TriesItem}
-use Rattle.pgn_game.proofs.ReaderFitsInMemory.{reader_alike}
-use Rattle.pgn_game.proofs.ReaderPartsFitInMemory.{text_fits}
-use Rattle.pgn_game.proofs.putting.ItemToReader.{begins_as, fails_move, most_after, puts_move, puts_unbegun, text_begun, unbegun_part}
-use Rattle.pgn_game.proofs.tokens.PairsTriedForToken.{adds_move}
-use Rattle.pgn_game.proofs.tokens.PutToAnswer.{move_refused, takes_move}
+use Rattle.pgn_game.proofs.ReaderLemmas.{reader_alike, text_fits, begins_as, fails_move, most_after, puts_move, puts_unbegun, text_begun, unbegun_part, adds_move, move_refused, takes_move}
 use Rattle.pgn_game.proofs.reader.Reader.accept_move.Goals as goal
 
 pub find-requires : goal.find-requires

@@ -1,17 +1,12 @@
-use Rattle.std.proofs.Common.{◌≡◌, false, refl, sym, subst}
-use Rattle.std.proofs.lemmas.Bool.{false≢true}
-use Rattle.pgn_lexer.specs.Scanned.{kind_of}
-use Rattle.pgn_lexer.specs.declared.token.TokenKind.{TokenKind}
-use Rattle.pgn_game.specs.TokenInMovetext.{is_frequent}
+use Rattle.pgn_game.proofs.Words.{◌≡◌, false, refl, sym, subst, false≢true, kind_of, TokenKind, is_frequent, NotAMove, TagInMovetext, UnexpectedEnd}
 use Rattle.pgn_lexer.specs.Tokens as tokens
-use Rattle.pgn_lexer.specs.declared.token.TokenKind.TheVariants as variants
+use Rattle.pgn_lexer.specs.declared.token.TokenKind.TheVariants as token_kinds
 use Rattle.pgn_game.specs.declared.annotation.Annotation.TheVariants.{Glyph, CommentOpen, CommentClose}
-use Rattle.pgn_game.specs.declared.reason.Reason.TheVariants.{NotAMove, TagInMovetext, UnexpectedEnd}
-use Rattle.pgn_game.proofs.tokens.PutToAnswer.{entry_refused, item_entry}
+use Rattle.pgn_game.proofs.ReaderLemmas.{entry_refused, item_entry}
 use Rattle.pgn_game.proofs.reader.Reader.accept_other.Goals as goal
 
 pub returns-in-Asterisk : goal.returns-in-Asterisk
-returns-in-Asterisk g c = rw c.in-Asterisk.is (c.end_game.ensures variants.Asterisk refl)
+returns-in-Asterisk g c = rw c.in-Asterisk.is (c.end_game.ensures token_kinds.Asterisk refl)
 
 pub returns-in-Glyph : goal.returns-in-Glyph
 returns-in-Glyph g c =

@@ -1,10 +1,5 @@
-use Rattle.std.proofs.Common.{◌≡◌, ap, sym, ◌∙◌}
-use Rattle.pgn_game.proofs.Words.{Stage}
-use Rattle.pgn_game.specs.ReaderState.{ReaderState}
-use Rattle.pgn_game.specs.TokenInMovetext.{may_have_movetext}
-use Rattle.pgn_game.proofs.ReaderFitsInMemory.{reader_alike}
-use Rattle.pgn_game.proofs.refusals.ReaderToPart.{entry_in_movetext}
-use Rattle.pgn_game.proofs.tokens.PutToAnswer.{enters}
+use Rattle.pgn_game.proofs.Words.{◌≡◌, ap, sym, ◌∙◌, Stage, ReaderState, may_have_movetext}
+use Rattle.pgn_game.proofs.ReaderLemmas.{reader_alike, entry_in_movetext, enters}
 use Rattle.pgn_game.proofs.reader.Reader.accept_outside.Goals as goal
 
 -- the stage that was met is the reader's

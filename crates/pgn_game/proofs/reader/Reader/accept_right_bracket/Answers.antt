@@ -1,15 +1,5 @@
-use Rattle.std.proofs.Common.{refl, sym, ap, ◌∙◌}
-use Rattle.pgn_lexer.specs.Scanned.{kind_of}
-use Rattle.pgn_lexer.specs.declared.token.TokenKind.{TokenKind}
-use Rattle.pgn_game.proofs.Words.{ExpectedBracket, AfterTags, AfterValue}
-use Rattle.pgn_game.specs.Progress.{at_stage, next}
-use Rattle.pgn_game.specs.FaultTable.{refusal}
-use Rattle.pgn_game.proofs.refusals.RefusalsByStage.{expected_bracket, close_refusal, close_next}
-use Rattle.pgn_game.specs.ReaderState.{ReaderState}
-use Rattle.pgn_game.proofs.refusals.ReaderToPart.{part_stage}
-use Rattle.pgn_game.proofs.putting.PairStepToReader.{puts_right_bracket, to_stage}
-use Rattle.pgn_game.proofs.tokens.PairsTriedForToken.{adds_same}
-use Rattle.pgn_game.proofs.tokens.PutToAnswer.{comment_in_pair, refused_in_pair, step_in_pair}
+use Rattle.pgn_game.proofs.Words.{refl, sym, ap, ◌∙◌, kind_of, TokenKind, ExpectedBracket, AfterTags, AfterValue, at_stage, next, refusal, ReaderState}
+use Rattle.pgn_game.proofs.ReaderLemmas.{expected_bracket, close_refusal, close_next, part_stage, puts_right_bracket, to_stage, adds_same, comment_in_pair, refused_in_pair, step_in_pair}
 use Rattle.pgn_game.proofs.reader.Reader.accept_right_bracket.Goals as goal
 
 pub returns-then-is_comment : goal.returns-then-is_comment

@@ -1,13 +1,6 @@
-use Rattle.std.proofs.Common.{◌≡◌, Option, None, Some, is_some, false, refl, sym, ◌∙◌}
-use Rattle.pgn_lexer.specs.Tokens.{symbol}
-use Rattle.pgn_lexer.specs.declared.token.TokenKind.TheVariants as variants
-use Rattle.pgn_game.specs.declared.marker.Marker.{Marker}
-use Rattle.pgn_game.specs.FaultTable.{is_number, is_score}
-use Rattle.pgn_game.proofs.ReaderFitsInMemory.{reader_alike}
-use Rattle.pgn_game.proofs.reading.MovetextTokens.{number_no_score}
-use Rattle.pgn_game.proofs.refusals.RefusalsInMovetext.{number_free, number_leads}
-use Rattle.pgn_game.proofs.tokens.PairsTriedForToken.{number_untried}
-use Rattle.pgn_game.proofs.tokens.PutToAnswer.{passes_entry}
+use Rattle.pgn_game.proofs.Words.{◌≡◌, Option, None, Some, is_some, false, refl, sym, ◌∙◌, symbol, Marker, is_number, is_score}
+use Rattle.pgn_lexer.specs.declared.token.TokenKind.TheVariants as token_kinds
+use Rattle.pgn_game.proofs.ReaderLemmas.{reader_alike, number_no_score, number_free, number_leads, number_untried, passes_entry}
 use Rattle.pgn_game.proofs.reader.Reader.accept_symbol.Goals as goal
 use Rattle.pgn_game.proofs.reader.Reader.accept_symbol.Goals.{then-may_be_score_or_number+else-is_number+in_default, else-may_be_score_or_number}
 
@@ -20,7 +13,7 @@ returns-then-is_number g c =
     (λ part is. (number_free old.profile part s number (number_no_score s number), number_leads part s number (number_no_score s number))) (λ part. number_untried part s number)
 
 pub returns-in-Some : goal.returns-in-Some
-returns-in-Some g c = c.end_game.ensures (variants.Symbol c.args.text) (sym c.in-Some.ensures.text)
+returns-in-Some g c = c.end_game.ensures (token_kinds.Symbol c.args.text) (sym c.in-Some.ensures.text)
 
 no_marker : (o : Option Marker) → ((m : Marker) → o ≡ Some m → ⊥) → is_some o ≡ false
 no_marker None other = refl

@@ -1,27 +1,20 @@
-use Rattle.std.proofs.Common.{◌≡◌, ◌&&◌, ◌≤◌, ◌+◌, false, not, Some, IsTrue, bytes_eq, codes, ℕ, length, Bool, true, nat_lt, List, [], Option, IfSome, refl, sym, ap, subst, ◌∙◌, IsSomeAnd, Ok, is_ok}
-use Rattle.std.proofs.lemmas.Bool.{le-ltb, ltb-false, true_from_ne_false, false≢true}
-use Rattle.pgn_layout.specs.TagLine.{escaped}
-use Rattle.pgn_lexer.specs.Scanned.{kind_of}
-use Rattle.pgn_lexer.specs.declared.token.TokenKind.{TokenKind}
-use Rattle.pgn_game.proofs.Words.{ExpectedValue, BadResult, BadFen, TagLineTooLong, AfterName, AfterValue, Part, insert_pair}
-use Rattle.pgn_game.specs.FaultTable.{refusal, is_result as is_any_result}
-use Rattle.pgn_game.specs.Progress.{next}
-use Rattle.pgn_game.specs.ReaderState.{ReaderState, Agrees}
+use Rattle.pgn_game.proofs.Words.{Bor, ◌≡◌, ◌&&◌, ◌≤◌, ◌+◌, false, not, Some, IsTrue, bytes_eq, codes, ℕ, length, Bool, true, nat_lt, List, [], Option, IfSome, refl, sym, ap, subst, ◌∙◌, IsSomeAnd, Ok, is_ok, ltb-false, false≢true, escaped, kind_of, TokenKind, ExpectedValue, BadResult, BadFen, TagLineTooLong, AfterName, AfterValue, Part, insert_pair, refusal, next, ReaderState, Agrees, movetext_after_fen, true_from_ne_false}
+use Rattle.std.proofs.lemmas.Bool.{le-ltb}
+use Rattle.pgn_lexer.specs.declared.token.TokenKind.TheVariants.{Str}
+use Rattle.pgn_game.specs.FaultTable.{is_result as is_any_result}
 use Rattle.pgn_game.specs.TokenInMovetext.{fen_position as told}
-use Rattle.pgn_game.proofs.refusals.RefusalsByStage.{hit, pass, expected_value, value_refusal, value_next}
-use Rattle.pgn_game.proofs.pairs.PairsToFirstPosition.{start_fine, start_faults}
-use Rattle.pgn_game.specs.Movetext.{movetext_after_fen}
-use Rattle.pgn_game.proofs.refusals.ReaderToPart.{part_stage, held_at, begun_name}
-use Rattle.pgn_game.proofs.putting.PairStepToReader.{completed, puts_value, to_value}
-use Rattle.pgn_game.proofs.tokens.PairsTriedForToken.{adds_same}
-use Rattle.pgn_game.proofs.tokens.PutToAnswer.{comment_in_pair, refused_in_pair, step_in_pair}
-use Rattle.pgn_game.proofs.ReaderPartsFitInMemory.{tags_fit, text_fits}
+use Rattle.pgn_game.proofs.ReaderLemmas.{value_rows, hit, pass, expected_value, value_refusal, value_next, start_fine, start_faults, part_stage, held_at, begun_name, completed, puts_value, to_value, adds_same, comment_in_pair, refused_in_pair, step_in_pair, tags_fit, text_fits}
 use Rattle.pgn_game.proofs.reader.Reader.accept_value.Goals as goal
 
--- the name that the reader was given is the part's
-name_of : (old : ReaderState) (begun : Option (List ℕ)) (name : List ℕ) → begun ≡ old.tags.pending_name → begun ≡ Some name → old.stage ≡ AfterName
-    → (part : Part) → Agrees old part → name ≡ part.name
-name_of old begun name same is at part agrees = begun_name old.tags part name (held_at old part AfterName agrees at).0 (sym same ∙ is)
+-- what a value is rejected for; the name that the reader was given is the part's
+rows : (old : ReaderState) (k : TokenKind) (value : Bor (List ℕ)) → old.stage ≡ AfterName → k ≡ Str value → (part : Part) → Agrees old part
+    → refusal old.profile part (kind_of k) ≡ value_rows part.name value.now
+rows old k value at is part agrees =
+    ap (λ (k : TokenKind). refusal old.profile part (kind_of k)) is ∙ value_refusal old.profile part value.now (part_stage old part _ agrees at)
+
+name_of : (old state : ReaderState) (name : List ℕ) → state ≡ old → state.tags.pending_name ≡ Some name → old.stage ≡ AfterName → (part : Part) → Agrees old part → name ≡ part.name
+name_of old state name same is at part agrees =
+    begun_name old.tags part name (held_at old part _ agrees at).0 (sym (ap (λ (r : ReaderState). r.tags.pending_name) same) ∙ is)
 
 too_long : (n : ℕ) (fits : Bool) → fits ≡ false → (n ≤ 249 → IsTrue fits) → nat_lt 249 n ≡ true
 too_long n fits out test = true_from_ne_false (nat_lt 249 n) (λ e. false≢true (sym out ∙ test (ltb-false 249 n e)))
@@ -45,20 +38,19 @@ returns-in_default g c =
 pub returns-then-is_bad_result : goal.returns-then-is_bad_result
 returns-then-is_bad_result g c =
     let old = c.args.self.now in
-    let value = c.in-Str.value.now in
     refused_in_pair old _ (kind_of c.args.kind) AfterName c.requires.stage (λ q. refl) BadResult refl refl (λ part agrees.
-    let name = name_of old c.self.inside.tags.pending_name c.pending_name-name.result.now (ap (λ (r : ReaderState). r.tags.pending_name) c.self.view_is) c.pending_name-name.ensures c.requires.stage part agrees in
-    ap (λ (k : TokenKind). refusal old.profile part (kind_of k)) c.in-Str.is ∙ value_refusal old.profile part value (part_stage old part AfterName agrees c.requires.stage)
-    ∙ hit _ _ _ (ap (bad value) (sym name) ∙ sym c.is_bad_result.ensures ∙ c.if-is_bad_result.true))
+    let name = name_of old _ _ c.self.view_is c.pending_name-name.ensures c.requires.stage part agrees in
+    rows old _ _ c.requires.stage c.in-Str.is part agrees
+    ∙ hit _ _ _ (ap (bad c.in-Str.value.now) (sym name) ∙ sym c.is_bad_result.ensures ∙ c.if-is_bad_result.true))
 
 pub returns-in-Err : goal.returns-in-Err
 returns-in-Err g c =
     let old = c.args.self.now in
     let value = c.in-Str.value.now in
     refused_in_pair old _ (kind_of c.args.kind) AfterName c.requires.stage (λ q. refl) (BadFen c.in-Err.field) refl refl (λ part agrees.
-    let name = name_of old c.self.inside.tags.pending_name c.pending_name-name.result.now (ap (λ (r : ReaderState). r.tags.pending_name) c.self.view_is) c.pending_name-name.ensures c.requires.stage part agrees in
+    let name = name_of old _ _ c.self.view_is c.pending_name-name.ensures c.requires.stage part agrees in
     let fault = start_faults part.name value c.in-Err.field (ap (λ (n : List ℕ). told n value) (sym name) ∙ sym c.fen_position.ensures ∙ c.in-Err.is) in
-    ap (λ (k : TokenKind). refusal old.profile part (kind_of k)) c.in-Str.is ∙ value_refusal old.profile part value (part_stage old part AfterName agrees c.requires.stage)
+    rows old _ _ c.requires.stage c.in-Str.is part agrees
     ∙ pass _ _ _ (ap (bad value) (sym name) ∙ sym c.is_bad_result.ensures ∙ c.if-is_bad_result.false)
     ∙ hit _ _ _ fault.0 ∙ ap (λ n. Some (BadFen n)) fault.1)
 
@@ -67,8 +59,8 @@ returns-then-not-fits_tag_line g c =
     let old = c.args.self.now in
     let value = c.in-Str.value.now in
     refused_in_pair old _ (kind_of c.args.kind) AfterName c.requires.stage (λ q. refl) TagLineTooLong refl refl (λ part agrees.
-    let name = name_of old c.self.inside.tags.pending_name c.pending_name-name.result.now (ap (λ (r : ReaderState). r.tags.pending_name) c.self.view_is) c.pending_name-name.ensures c.requires.stage part agrees in
-    ap (λ (k : TokenKind). refusal old.profile part (kind_of k)) c.in-Str.is ∙ value_refusal old.profile part value (part_stage old part AfterName agrees c.requires.stage)
+    let name = name_of old _ _ c.self.view_is c.pending_name-name.ensures c.requires.stage part agrees in
+    rows old _ _ c.requires.stage c.in-Str.is part agrees
     ∙ pass _ _ _ (ap (bad value) (sym name) ∙ sym c.is_bad_result.ensures ∙ c.if-is_bad_result.false)
     ∙ pass _ _ _ (start_fine part.name value (subst (λ (n : List ℕ). IsTrue (is_ok (told n value))) name (ap is_ok (sym c.fen_position.ensures ∙ c.in-Ok.is))))
     ∙ hit _ _ _ (ap (long value) (sym name) ∙ too_long (length c.pending_name-name.result.now + length (escaped value)) c.fits_tag_line.result c.if-not-fits_tag_line.true c.fits_tag_line.ensures.1))
@@ -92,7 +84,6 @@ returns g c =
     let held = c.complete.new.self in
     let begun : old.tags.pending_name ≡ Some c.pending_name-name.result.now = sym (ap (λ (r : ReaderState). r.tags.pending_name) v) ∙ c.pending_name-name.ensures in
     let tells : told c.pending_name-name.result.now value ≡ Ok c.in-Ok.start = sym c.fen_position.ensures ∙ c.in-Ok.is in
-    let fits = c.fits_tag_line.ensures.0 c.if-not-fits_tag_line.false in
     step_in_pair old _ (kind_of c.args.kind) AfterName c.requires.stage (λ q. refl) (to_value value)
     (λ o m. puts_value old _ value c.pending_name-name.result.now c.in-Ok.start held o m c.requires.stage
     (subst (λ (r : ReaderState). IfSome r.tags.pending_name (λ name. held ≡ completed name value r.tags.held)) v c.complete.ensures) begun tells
@@ -100,11 +91,11 @@ returns g c =
     (ap (λ (r : ReaderState). r.most_probes) v)
     (λ part. adds_same old.profile part (record { stage = AfterValue; pairs = insert_pair (record { name = part.name; value = value }) part.pairs; name = []; items = part.items }) refl)
     (λ part agrees.
-    let name = name_of old old.tags.pending_name c.pending_name-name.result.now refl begun c.requires.stage part agrees in
+    let name = name_of old old _ refl begun c.requires.stage part agrees in
     let at = part_stage old part AfterName agrees c.requires.stage in (
-      ap (λ (k : TokenKind). refusal old.profile part (kind_of k)) c.in-Str.is ∙ value_refusal old.profile part value at
+      rows old _ _ c.requires.stage c.in-Str.is part agrees
           ∙ pass _ _ _ (ap (bad value) (sym name) ∙ sym c.is_bad_result.ensures ∙ c.if-is_bad_result.false)
           ∙ pass _ _ _ (start_fine part.name value (subst (λ (n : List ℕ). IsTrue (is_ok (told n value))) name (ap is_ok tells)))
-          ∙ pass _ _ _ (ap (long value) (sym name) ∙ le-ltb 249 _ fits),
+          ∙ pass _ _ _ (ap (long value) (sym name) ∙ le-ltb 249 _ (c.fits_tag_line.ensures.0 c.if-not-fits_tag_line.false)),
       ap (λ (k : TokenKind). next part (kind_of k)) c.in-Str.is ∙ value_next part value at,
     ))

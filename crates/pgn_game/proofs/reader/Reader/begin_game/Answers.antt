@@ -1,11 +1,5 @@
-use Rattle.std.proofs.Common.{◌≡◌, ◌+◌, ℕ, [], None, ap, ◌∙◌, refl}
-use Rattle.chess_rules.specs.Position.{initial}
-use Rattle.pgn_game.specs.declared.stage.Stage.TheVariants.{AfterTags}
-use Rattle.pgn_game.specs.Chess.{first_position}
-use Rattle.pgn_game.specs.StoredPairs.{TagPairs}
-use Rattle.pgn_game.specs.Movetext.{Movetext, movetext_from}
-use Rattle.pgn_game.specs.ReaderState.{ReaderState}
-use Rattle.pgn_game.specs.PutResult.{at_game_start}
+use Rattle.pgn_game.proofs.Words.{◌≡◌, ◌+◌, ℕ, [], None, ap, ◌∙◌, refl, AfterTags, first_position, TagPairs, Movetext, movetext_from, ReaderState, initial, at_game_start, arith}
+use Rattle.pgn_game.proofs.ReaderPartsFitInMemory.{tags_fit, text_fits}
 use Rattle.pgn_game.proofs.reader.Reader.begin_game.Goals as goal
 
 is_first : initial ≡ first_position
@@ -25,3 +19,20 @@ returns g c =
     ap (λ (r : ReaderState). record r { stage = AfterTags; tags = c.clear.new.self; text = c.begin.new.self; earlier_plies = r.earlier_plies + c.plies.result }) v
     ∙ begun_by c.args.self.now c.clear.new.self c.begin.new.self c.plies.result c.clear.ensures
     (c.begin.ensures ∙ ap movetext_from (c.initial.ensures ∙ is_first)) (c.plies.ensures ∙ ap (λ (r : ReaderState). r.text.plies) v)
+
+pub overflow_add-self : goal.overflow_add-self
+overflow_add-self g c =
+    let same = ap (λ (r : ReaderState). r.earlier_plies + r.text.plies) c.self.view_is in
+    omega (arith, same, c.plies.ensures, c.requires)
+
+pub invariant_of-self : goal.invariant_of-self
+invariant_of-self g c = (ap (λ (t : TagPairs). t.pending_name) c.clear.ensures, c.self.invariant.1)
+
+pub plies-requires : goal.plies-requires
+plies-requires g c = search text_fits
+
+pub clear-requires : goal.clear-requires
+clear-requires g c = search tags_fit
+
+pub begin-requires : goal.begin-requires
+begin-requires g c = search text_fits

@@ -1,18 +1,6 @@
-use Rattle.std.proofs.Common.{◌≡◌, ℕ, IsTrue, List, None, refl, sym, ap, subst, ◌∙◌, Ok, Err}
-use Rattle.std.proofs.KnownBytes.{Appends-nil}
-use Rattle.std.proofs.lemmas.Bool.{false≢true}
-use Rattle.std.proofs.lemmas.Result.{err_from_is_err_and}
+use Rattle.pgn_game.proofs.Words.{◌≡◌, IsTrue, List, refl, sym, ap, ◌∙◌, Ok, Err, Appends-nil, false≢true, err_from_is_err_and, Device, device, Stage, AfterTags, InMovetext, Pair, known_result, tag_section, ReaderState, may_have_movetext, BeginsText, section_due_of, WritesText}
 use Rattle.pgn_layout.specs.declared.sink.WriteFault.{WriteFault}
-use Rattle.pgn_layout.specs.Device.{Device, WritesText, device}
-use Rattle.pgn_game.proofs.Words.{Stage, AfterTags, InMovetext, Pair, known_result}
-use Rattle.pgn_game.specs.TagSection.{tag_section}
-use Rattle.pgn_game.specs.StoredPairs.{TagPairs}
-use Rattle.pgn_game.specs.ReaderState.{ReaderState, AreSound}
-use Rattle.pgn_game.specs.TokenInMovetext.{may_have_movetext}
-use Rattle.pgn_game.specs.PutResult.{BeginsText, section_due, section_due_of}
-use Rattle.pgn_game.proofs.ReaderFitsInMemory.{reader_alike}
-use Rattle.pgn_game.proofs.ReaderPartsFitInMemory.{tags_fit}
-use Rattle.pgn_game.proofs.putting.ItemToReader.{begun_before}
+use Rattle.pgn_game.proofs.ReaderLemmas.{reader_alike, tags_fit, begun_before, no_name}
 use Rattle.pgn_game.proofs.reader.Reader.begin_movetext.Goals as goal
 
 -- movetext has not begun
@@ -21,16 +9,11 @@ after_tags AfterTags may before = refl
 after_tags InMovetext may before = absurd (before refl)
 after_tags _ may before = absurd (cc)
 
-no_name : (most : ℕ) (stage : Stage) (tags : TagPairs) → stage ≡ AfterTags → AreSound most stage tags → tags.pending_name ≡ None
-no_name most stage tags at = subst (λ (s : Stage). AreSound most s tags) at
-
 -- The section is that of the reader, whose fields are `held`.
 module _ (old held : ReaderState) (pairs : List Pair) (d : Device) (is : held ≡ old) (at : old.stage ≡ AfterTags) (same : pairs ≡ held.tags.held) where
   section_is : tag_section held.profile.mode (known_result held.profile.missing_result) pairs ≡ section_due_of old
   section_is =
-      ap (λ ps. tag_section held.profile.mode (known_result held.profile.missing_result) ps) same
-      ∙ ap (λ (r : ReaderState). section_due AfterTags r.profile.mode (known_result r.profile.missing_result) r.tags.held) is
-      ∙ ap (λ s. section_due s old.profile.mode (known_result old.profile.missing_result) old.tags.held) (sym at)
+      cc (same, is, at)
 
   fails : (f : WriteFault) → WritesText {A = Unit} d (Err f) (tag_section held.profile.mode (known_result held.profile.missing_result) pairs) → BeginsText {A = Unit} old old (Err f) d
   fails f writes = record {
@@ -59,14 +42,10 @@ pub is_in_movetext-requires : goal.is_in_movetext-requires
 is_in_movetext-requires g c = search reader_alike
 
 pub pairs-requires : goal.pairs-requires
-pairs-requires g c =
-    let at = after_tags c.args.self.now.stage c.requires.stage (λ e. false≢true (sym c.if-is_in_movetext.false ∙ c.is_in_movetext.ensures.1 e)) in
-    (search tags_fit, no_name g.row.T c.self.inside.stage c.self.inside.tags (ap (λ (r : ReaderState). r.stage) c.self.view_is ∙ at) c.self.invariant.0)
+pairs-requires g c = (search tags_fit, no_name g.row.T _ _ c.self.view_is c.requires.stage c.self.invariant.0)
 
 pub invariant_of-self : goal.invariant_of-self
-invariant_of-self g c =
-    let at = after_tags c.args.self.now.stage c.requires.stage (λ e. false≢true (sym c.if-is_in_movetext.false ∙ c.is_in_movetext.ensures.1 e)) in
-    (no_name g.row.T c.self.inside.stage c.self.inside.tags (ap (λ (r : ReaderState). r.stage) c.self.view_is ∙ at) c.self.invariant.0, c.self.invariant.1)
+invariant_of-self g c = (no_name g.row.T _ _ c.self.view_is c.requires.stage c.self.invariant.0, c.self.invariant.1)
 
 pub returns-then-is_in_movetext : goal.returns-then-is_in_movetext
 returns-then-is_in_movetext g c =

@@ -1,15 +1,6 @@
-use Rattle.std.proofs.Common.{◌≡◌, ℕ, ◌==◌, length, refl, sym, ap, ◌∙◌, arith}
-use Rattle.std.proofs.lemmas.Bool.{ne_eqb}
-use Rattle.pgn_lexer.specs.Tokens.{right_paren}
+use Rattle.pgn_game.proofs.Words.{◌≡◌, ℕ, ◌==◌, length, refl, sym, ap, ◌∙◌, arith, ne_eqb, UnmatchedClose, depth, levels_of_part, ReaderState, right_paren}
 use Rattle.pgn_game.specs.declared.annotation.Annotation.TheVariants.{Close}
-use Rattle.pgn_game.specs.declared.reason.Reason.TheVariants.{UnmatchedClose}
-use Rattle.pgn_game.specs.Levels.{depth}
-use Rattle.pgn_game.specs.FaultTable.{levels_of_part}
-use Rattle.pgn_game.specs.ReaderState.{ReaderState}
-use Rattle.pgn_game.proofs.ReaderFitsInMemory.{reader_alike}
-use Rattle.pgn_game.proofs.refusals.RefusalsByStage.{hit, pass}
-use Rattle.pgn_game.proofs.refusals.RefusalsInMovetext.{depth_is}
-use Rattle.pgn_game.proofs.tokens.PutToAnswer.{entry_refused, item_entry}
+use Rattle.pgn_game.proofs.ReaderLemmas.{reader_alike, text_fits, hit, pass, depth_is, entry_refused, item_entry}
 use Rattle.pgn_game.proofs.reader.Reader.close_variation.Goals as goal
 
 pub returns-then-depth-eq0 : goal.returns-then-depth-eq0
@@ -31,3 +22,6 @@ returns g c =
     let deep : c.depth.result ≡ length old.text.levels.around = c.depth.ensures.value ∙ ap (λ (r : ReaderState). length r.text.levels.around) c.self.view_is in
     item_entry old _ right_paren Close _ _ c.put.ensures
     (λ part is. (pass _ _ _ (ne_eqb (depth (levels_of_part part)) 0 (λ e. c.if-depth-eq0.false (deep ∙ depth_is old part is ∙ e))), refl)) (λ part. refl)
+
+pub depth-requires : goal.depth-requires
+depth-requires g c = search text_fits

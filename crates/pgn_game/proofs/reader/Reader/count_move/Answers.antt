@@ -1,6 +1,5 @@
-use Rattle.std.proofs.Common.{sym, ◌∙◌}
-use Rattle.pgn_game.proofs.ReaderFitsInMemory.{reader_alike}
-use Rattle.pgn_game.proofs.tokens.PutToAnswer.{move_counted, no_symbol_counted, plain_counted}
+use Rattle.pgn_game.proofs.Words.{sym, ◌∙◌}
+use Rattle.pgn_game.proofs.ReaderLemmas.{reader_alike, move_counted, no_symbol_counted, plain_counted}
 use Rattle.pgn_game.proofs.reader.Reader.count_move.Goals as goal
 
 pub find-requires : goal.find-requires

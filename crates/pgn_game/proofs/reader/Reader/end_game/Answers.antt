@@ -1,37 +1,36 @@
-use Rattle.std.proofs.Common.{◌≡◌, ℕ, Bool, true, false, not, bytes_eq, List, length, refl, sym, ap, subst, ◌∙◌, arith, codes, is_some, None, Some, Err}
-use Rattle.std.specs.Io.KnownBytes.{Appends}
-use Rattle.std.proofs.lemmas.Bool.{le-leb}
-use Rattle.std.proofs.lemmas.Result.{err_from_is_err_and}
-use Rattle.pgn_layout.specs.Device.{AppendsFront, one_more}
-use Rattle.pgn_layout.specs.Layout.{Put, EndGame, text_at, line_at}
-use Rattle.pgn_lexer.specs.Scanned.{kind_of}
-use Rattle.pgn_lexer.specs.declared.token.TokenKind.{TokenKind}
-use Rattle.pgn_game.proofs.Words.{MarkerInVariation, ResultDiffers, Pair, value_of, Part}
-use Rattle.pgn_game.specs.Markers.{marker_text, missing_of}
-use Rattle.pgn_game.specs.Levels.{depth}
-use Rattle.pgn_game.specs.StoredPairs.{TagPairs}
-use Rattle.pgn_game.specs.FaultTable.{levels_of_part, marker_of, result_for}
-use Rattle.pgn_game.specs.TokenInMovetext.{IsOpen, text_refusal}
-use Rattle.pgn_game.specs.ReaderState.{ReaderState}
-use Rattle.pgn_game.proofs.ReaderFitsInMemory.{reader_alike}
-use Rattle.pgn_game.proofs.refusals.RefusalsInMovetext.{depth_is, marker_inside, marker_differs, marker_free, none_around, test_of, differs}
-use Rattle.pgn_game.proofs.putting.WritesInTurn.{front_of_more, front_after}
-use Rattle.pgn_game.proofs.putting.ItemToReader.{begins_as}
-use Rattle.pgn_game.proofs.putting.MarkerToReader.{ends_ill, ends_unbegun, ends_well}
-use Rattle.pgn_game.proofs.tokens.PairsTriedForToken.{marker_untried}
-use Rattle.pgn_game.proofs.tokens.PutToAnswer.{entry_refused, takes_marker}
+use Rattle.pgn_game.proofs.Words.{◌≤◌, Option, Bor, option_copied, unwrap_or, Marker, ◌≡◌, ℕ, Bool, true, false, not, bytes_eq, List, length, refl, sym, ap, subst, ◌∙◌, arith, codes, is_some, None, Some, Err, Appends, le-leb, err_from_is_err_and, AppendsFront, one_more, Put, EndGame, text_at, line_at, kind_of, TokenKind, MarkerInVariation, ResultDiffers, value_of, Part, marker_text, depth, TagPairs, levels_of_part, marker_of, result_for, IsOpen, text_refusal, ReaderState}
+use Rattle.pgn_game.proofs.ReaderLemmas.{reader_alike, tags_fit, text_fits, no_name, depth_is, marker_inside, marker_differs, marker_free, none_around, test_of, differs, front_of_more, front_after, begins_as, ends_ill, ends_unbegun, ends_well, marker_untried, entry_refused, takes_marker}
 use Rattle.pgn_game.proofs.reader.Reader.end_game.Goals as goal
 
--- The test of the Result, for a part that the reader holds.
-module _ (old : ReaderState) (part : Part) (is : IsOpen old part) where
-  tested : (missing text : List ℕ) (test : Bool) → differs missing (value_of old.tags.held (codes "Result")) text ≡ test
-      → differs missing (value_of part.pairs (codes "Result")) text ≡ test
-  tested missing text test e = ap (λ (ps : List Pair). differs missing (value_of ps (codes "Result")) text) (sym (ap (λ (t : TagPairs). t.held) is.pairs)) ∙ e
+-- What the reader's calls say before a game ends: it is at depth 0, and whether its Result differs.
+record Tested (old : ReaderState) (marker : Marker) (other : Bool) : Type 0 where
+  none : length old.text.levels.around ≡ 0
+  result : differs (result_for old.profile.missing_result (marker_text marker)) (value_of old.tags.held (codes "Result")) (marker_text marker) ≡ other
 
-passes : (old : ReaderState) (k : TokenKind) (missing text : List ℕ) → length old.text.levels.around ≡ 0 → result_for old.profile.missing_result text ≡ missing
-    → differs missing (value_of old.tags.held (codes "Result")) text ≡ false → marker_of (kind_of k) ≡ Some text → (part : Part) → IsOpen old part
+tested : (old state : ReaderState) (marker : Marker) (deep : ℕ) (value : Option (Bor (List ℕ))) (missing known text : Bor (List ℕ)) (other : Bool) → state ≡ old
+    → deep ≡ length state.text.levels.around → deep ≤ 0 → option_copied value ≡ value_of state.tags.held (codes "Result")
+    → missing.now ≡ result_for state.profile.missing_result (marker_text marker) → known ≡ unwrap_or value missing
+    → text.now ≡ marker_text marker → other ≡ not (bytes_eq text.now known.now) → Tested old marker other
+tested old state marker deep value missing known text other v is outside found missing_is known_is text_is test = record {
+  none = omega (arith, ap (λ (r : ReaderState). length r.text.levels.around) v);
+  result = test_of state.tags.held value missing known _ _ other old.tags.held (ap (λ (r : ReaderState). r.tags.held) v) found
+      (missing_is ∙ ap (λ (r : ReaderState). result_for r.profile.missing_result (marker_text marker)) v) known_is
+      (test ∙ ap (λ (m : List ℕ). not (bytes_eq m known.now)) text_is);
+}
+
+-- so it is for a part that the reader holds
+of_part : (old : ReaderState) (marker : Marker) (other : Bool) → Tested old marker other → (part : Part) → IsOpen old part
+    → (depth (levels_of_part part) ≡ 0)
+    × (differs (result_for old.profile.missing_result (marker_text marker)) (value_of part.pairs (codes "Result")) (marker_text marker) ≡ other)
+of_part old marker other t part op =
+    let text = marker_text marker in
+    let missing = result_for old.profile.missing_result text in
+    (sym (depth_is old part op) ∙ t.none, ap (λ (t : TagPairs). differs missing (value_of t.held (codes "Result")) text) (sym op.pairs) ∙ t.result)
+
+passes : (old : ReaderState) (marker : Marker) → Tested old marker false → (k : TokenKind) → marker_of (kind_of k) ≡ Some (marker_text marker) → (part : Part) → IsOpen old part
     → text_refusal old.profile part (kind_of k) ≡ None
-passes old k missing text none known test is part op = marker_free old (kind_of k) missing text part is (sym (depth_is old part op) ∙ none) known (tested old part op missing text false test)
+passes old marker t k is part op =
+    let h = of_part old marker false t part op in marker_free old (kind_of k) _ (marker_text marker) part is h.0 refl h.1
 
 pub returns-then-depth-gt0 : goal.returns-then-depth-gt0
 returns-then-depth-gt0 g c = λ k is.
@@ -44,17 +43,10 @@ returns-then-depth-gt0 g c = λ k is.
 pub returns-then-ne : goal.returns-then-ne
 returns-then-ne g c = λ k is.
     let old = c.args.self.now in
-    let v = c.self.view_is in
-    let text = marker_text c.args.marker in
-    let missing = result_for (missing_of c.self.inside.missing_result) text in
-    let known = sym (ap (λ (r : ReaderState). result_for r.profile.missing_result text) v) in
-    let same_text = ap (λ (m : List ℕ). not (bytes_eq m c.unwrap_or.result.now)) c.text.ensures.text in
-    let test = test_of c.self.inside.tags.held c.value.result _ c.unwrap_or.result missing text true old.tags.held (ap (λ (r : ReaderState). r.tags.held) v)
-    c.value.ensures.value c.text_at-missing.ensures.text c.unwrap_or.ensures (sym c.if-ne.true ∙ c.ne.ensures ∙ same_text) in
+    let t = tested old _ c.args.marker _ c.value.result _ c.unwrap_or.result c.text.result true c.self.view_is c.depth.ensures.value c.if-depth-gt0.false
+    c.value.ensures.value c.text_at-missing.ensures.text c.unwrap_or.ensures c.text.ensures.text (sym c.if-ne.true ∙ c.ne.ensures) in
     entry_refused old (kind_of k) ResultDiffers _ _ refl (λ part op.
-    marker_differs old (kind_of k) missing text part is
-    (omega (arith, c.if-depth-gt0.false, c.depth.ensures.value, depth_is old part op, ap (λ (r : ReaderState). length r.text.levels.around) v)) known
-    (tested old part op missing text true test))
+    let h = of_part old c.args.marker true t part op in marker_differs old (kind_of k) _ (marker_text c.args.marker) part is h.0 refl h.1)
     (λ part. marker_untried part k (ap is_some is))
 
 pub begin_movetext-requires : goal.begin_movetext-requires
@@ -66,49 +58,34 @@ put-requires g c = c.text-2.ensures.token
 pub returns-in_err-begin_movetext : goal.returns-in_err-begin_movetext
 returns-in_err-begin_movetext g c =
     let old = c.args.self.now in
-    let v = c.self.view_is in
-    let text = marker_text c.args.marker in
-    let missing = result_for (missing_of c.self.inside.missing_result) text in
-    let none : length old.text.levels.around ≡ 0 = omega (arith, c.if-depth-gt0.false, c.depth.ensures.value, ap (λ (r : ReaderState). length r.text.levels.around) v) in
-    let same_text = ap (λ (m : List ℕ). not (bytes_eq m c.unwrap_or.result.now)) c.text.ensures.text in
-    let test = test_of c.self.inside.tags.held c.value.result _ c.unwrap_or.result missing text false old.tags.held (ap (λ (r : ReaderState). r.tags.held) v)
-    c.value.ensures.value c.text_at-missing.ensures.text c.unwrap_or.ensures (sym c.if-ne.false ∙ c.ne.ensures ∙ same_text) in
+    let t = tested old _ c.args.marker _ c.value.result _ c.unwrap_or.result c.text.result false c.self.view_is c.depth.ensures.value c.if-depth-gt0.false
+    c.value.ensures.value c.text_at-missing.ensures.text c.unwrap_or.ensures c.text.ensures.text (sym c.if-ne.false ∙ c.ne.ensures) in
     let p = err_from_is_err_and c.from_residual.result c.from_residual.ensures.1 in
     let begins = c.in_err-begin_movetext.ensures.begins in
     rw (p.1 ∙ ap Err p.2)
     (λ k is.
     takes_marker old _ k c.args.marker _ _ (ends_unbegun old _ c.args.marker c.in_err-begin_movetext.field-0.0 _ c.requires begins) tt begins.probes is
-    (passes old k missing text none (sym (ap (λ (r : ReaderState). result_for r.profile.missing_result text) v)) test is))
+    (passes old c.args.marker t k is))
 
 pub returns-in_err-put : goal.returns-in_err-put
 returns-in_err-put g c =
     let old = c.args.self.now in
-    let v = c.self.view_is in
-    let text = marker_text c.args.marker in
-    let missing = result_for (missing_of c.self.inside.missing_result) text in
-    let none : length old.text.levels.around ≡ 0 = omega (arith, c.if-depth-gt0.false, c.depth.ensures.value, ap (λ (r : ReaderState). length r.text.levels.around) v) in
-    let same_text = ap (λ (m : List ℕ). not (bytes_eq m c.unwrap_or.result.now)) c.text.ensures.text in
-    let test = test_of c.self.inside.tags.held c.value.result _ c.unwrap_or.result missing text false old.tags.held (ap (λ (r : ReaderState). r.tags.held) v)
-    c.value.ensures.value c.text_at-missing.ensures.text c.unwrap_or.ensures (sym c.if-ne.false ∙ c.ne.ensures ∙ same_text) in
+    let t = tested old _ c.args.marker _ c.value.result _ c.unwrap_or.result c.text.result false c.self.view_is c.depth.ensures.value c.if-depth-gt0.false
+    c.value.ensures.value c.text_at-missing.ensures.text c.unwrap_or.ensures c.text.ensures.text (sym c.if-ne.false ∙ c.ne.ensures) in
     let p = err_from_is_err_and c.from_residual-in_err-put.result c.from_residual-in_err-put.ensures.1 in
     let begins = begins_as old _ _ _ c.self-2.view_is c.in_ok-begin_movetext.ensures.begins in
     let front = front_of_more (g.W.Sink.taken c.begin_movetext.new.out) (g.W.Sink.taken c.put.new.out) _ (text_at (line_at c.self-2.inside.line (Put c.text-2.result.now)) EndGame) c.in_err-put.ensures.text in
     rw (p.1 ∙ ap Err p.2)
     (λ k is.
     takes_marker old _ k c.args.marker _ _
-    (ends_ill old _ _ c.args.marker _ _ _ _ _ _ _ (record { begins = begins; outside = none_around old.text.levels.around none; spells = c.text-2.ensures.text; at = c.requires }) front refl c.in_err-put.ensures.counted) tt begins.probes is
-    (passes old k missing text none (sym (ap (λ (r : ReaderState). result_for r.profile.missing_result text) v)) test is))
+    (ends_ill old _ _ c.args.marker _ _ _ _ _ _ _ (record { begins = begins; outside = none_around old.text.levels.around t.none; spells = c.text-2.ensures.text; at = c.requires }) front refl c.in_err-put.ensures.counted) tt begins.probes is
+    (passes old c.args.marker t k is))
 
 pub returns-in_err-end_game : goal.returns-in_err-end_game
 returns-in_err-end_game g c =
     let old = c.args.self.now in
-    let v = c.self.view_is in
-    let text = marker_text c.args.marker in
-    let missing = result_for (missing_of c.self.inside.missing_result) text in
-    let none : length old.text.levels.around ≡ 0 = omega (arith, c.if-depth-gt0.false, c.depth.ensures.value, ap (λ (r : ReaderState). length r.text.levels.around) v) in
-    let same_text = ap (λ (m : List ℕ). not (bytes_eq m c.unwrap_or.result.now)) c.text.ensures.text in
-    let test = test_of c.self.inside.tags.held c.value.result _ c.unwrap_or.result missing text false old.tags.held (ap (λ (r : ReaderState). r.tags.held) v)
-    c.value.ensures.value c.text_at-missing.ensures.text c.unwrap_or.ensures (sym c.if-ne.false ∙ c.ne.ensures ∙ same_text) in
+    let t = tested old _ c.args.marker _ c.value.result _ c.unwrap_or.result c.text.result false c.self.view_is c.depth.ensures.value c.if-depth-gt0.false
+    c.value.ensures.value c.text_at-missing.ensures.text c.unwrap_or.ensures c.text.ensures.text (sym c.if-ne.false ∙ c.ne.ensures) in
     let p = err_from_is_err_and c.from_residual-in_err-end_game.result c.from_residual-in_err-end_game.ensures.1 in
     let begins = begins_as old _ _ _ c.self-2.view_is c.in_ok-begin_movetext.ensures.begins in
     let held = c.in_ok-put.ensures.line in
@@ -117,23 +94,24 @@ returns-in_err-end_game g c =
     rw (p.1 ∙ ap Err p.2)
     (λ k is.
     takes_marker old _ k c.args.marker _ _
-    (ends_ill old _ _ c.args.marker _ _ _ _ _ _ _ (record { begins = begins; outside = none_around old.text.levels.around none; spells = c.text-2.ensures.text; at = c.requires }) front refl
+    (ends_ill old _ _ c.args.marker _ _ _ _ _ _ _ (record { begins = begins; outside = none_around old.text.levels.around t.none; spells = c.text-2.ensures.text; at = c.requires }) front refl
     (c.in_err-end_game.ensures.counted ∙ ap one_more c.in_ok-put.ensures.counted)) tt begins.probes is
-    (passes old k missing text none (sym (ap (λ (r : ReaderState). result_for r.profile.missing_result text) v)) test is))
+    (passes old c.args.marker t k is))
 
 pub returns : goal.returns
 returns g c = λ k is.
     let old = c.args.self.now in
-    let v = c.self.view_is in
-    let text = marker_text c.args.marker in
-    let missing = result_for (missing_of c.self.inside.missing_result) text in
-    let none : length old.text.levels.around ≡ 0 = omega (arith, c.if-depth-gt0.false, c.depth.ensures.value, ap (λ (r : ReaderState). length r.text.levels.around) v) in
-    let same_text = ap (λ (m : List ℕ). not (bytes_eq m c.unwrap_or.result.now)) c.text.ensures.text in
-    let test = test_of c.self.inside.tags.held c.value.result _ c.unwrap_or.result missing text false old.tags.held (ap (λ (r : ReaderState). r.tags.held) v)
-    c.value.ensures.value c.text_at-missing.ensures.text c.unwrap_or.ensures (sym c.if-ne.false ∙ c.ne.ensures ∙ same_text) in
+    let t = tested old _ c.args.marker _ c.value.result _ c.unwrap_or.result c.text.result false c.self.view_is c.depth.ensures.value c.if-depth-gt0.false
+    c.value.ensures.value c.text_at-missing.ensures.text c.unwrap_or.ensures c.text.ensures.text (sym c.if-ne.false ∙ c.ne.ensures) in
     let begins = begins_as old _ _ _ c.self-2.view_is c.in_ok-begin_movetext.ensures.begins in
     let last = subst (Appends (g.W.Sink.taken c.put.new.out) (g.W.Sink.taken c.end_game.new.out)) (ap (λ (l : List ℕ). text_at l EndGame) c.in_ok-put.ensures.line) c.in_ok-end_game.ensures.text in
     takes_marker old _ k c.args.marker _ _
-    (ends_well old _ _ c.args.marker _ _ _ _ _ _ _ _ (record { begins = begins; outside = none_around old.text.levels.around none; spells = c.text-2.ensures.text; at = c.requires }) c.in_ok-put.ensures.text last refl
+    (ends_well old _ _ c.args.marker _ _ _ _ _ _ _ _ (record { begins = begins; outside = none_around old.text.levels.around t.none; spells = c.text-2.ensures.text; at = c.requires }) c.in_ok-put.ensures.text last refl
     c.in_ok-end_game.ensures.line (c.in_ok-end_game.ensures.counted ∙ c.in_ok-put.ensures.counted)) (ap is_some is, refl) begins.probes is
-    (passes old k missing text none (sym (ap (λ (r : ReaderState). result_for r.profile.missing_result text) v)) test is)
+    (passes old c.args.marker t k is)
+
+pub depth-requires : goal.depth-requires
+depth-requires g c = search text_fits
+
+pub value-requires : goal.value-requires
+value-requires g c = (search tags_fit, no_name g.row.T _ _ c.self.view_is c.requires c.self.invariant.0)

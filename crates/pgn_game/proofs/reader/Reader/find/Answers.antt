@@ -1,12 +1,5 @@
-use Rattle.std.proofs.Common.{◌≡◌, IsTrue, IfOk, ap, subst, ◌∙◌, arith}
-use Rattle.chess_rules.specs.Legal.{is_legal}
-use Rattle.pgn_game.proofs.Words.{Parts}
-use Rattle.pgn_game.specs.Chess.{move_of}
-use Rattle.pgn_game.specs.FoundMove.{found_in, with_position}
-use Rattle.pgn_game.specs.Tried.{Costs}
-use Rattle.pgn_game.specs.ReaderState.{ReaderState}
-use Rattle.pgn_game.proofs.ReaderFitsInMemory.{reader_alike}
-use Rattle.pgn_game.proofs.ReaderPartsFitInMemory.{text_fits}
+use Rattle.pgn_game.proofs.Words.{◌≡◌, IsTrue, ap, subst, ◌∙◌, arith, is_legal, Parts, move_of, found_in, Costs, ReaderState, IfOk, with_position}
+use Rattle.pgn_game.proofs.ReaderLemmas.{reader_alike, text_fits}
 use Rattle.pgn_game.proofs.reader.Reader.find.Goals as goal
 
 pub present-requires : goal.present-requires

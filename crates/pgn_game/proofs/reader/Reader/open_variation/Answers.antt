@@ -1,15 +1,7 @@
-use Rattle.std.proofs.Common.{◌≡◌, ◌-◌, length, not, refl, sym, ap, ◌∙◌, arith, is_some}
-use Rattle.std.proofs.lemmas.Bool.{le-leb, lt-leb}
-use Rattle.pgn_lexer.specs.Tokens.{left_paren}
+use Rattle.pgn_game.proofs.Words.{◌≡◌, ◌-◌, length, not, refl, sym, ap, ◌∙◌, arith, is_some, le-leb, lt-leb, NoMoveBefore, TooDeep, depth, levels_of_part, ReaderState, left_paren}
 use Rattle.pgn_game.specs.declared.annotation.Annotation.TheVariants.{Open}
-use Rattle.pgn_game.specs.declared.reason.Reason.TheVariants.{NoMoveBefore, TooDeep}
-use Rattle.pgn_game.specs.Levels.{depth}
-use Rattle.pgn_game.specs.FaultTable.{levels_of_part}
-use Rattle.pgn_game.specs.ReaderState.{ReaderState}
-use Rattle.pgn_game.proofs.ReaderFitsInMemory.{reader_alike}
-use Rattle.pgn_game.proofs.refusals.RefusalsByStage.{hit, pass}
-use Rattle.pgn_game.proofs.refusals.RefusalsInMovetext.{holds_is, depth_is}
-use Rattle.pgn_game.proofs.tokens.PutToAnswer.{entry_refused, item_entry}
+use Rattle.pgn_game.proofs.ReaderLemmas.{reader_alike, hit, pass, holds_is, depth_is, entry_refused, item_entry}
+use Rattle.pgn_game.proofs.ReaderPartsFitInMemory.{text_fits}
 use Rattle.pgn_game.proofs.reader.Reader.open_variation.Goals as goal
 
 pub returns-then-not-has_own_move : goal.returns-then-not-has_own_move
@@ -48,3 +40,9 @@ returns g c =
           (omega (arith, most, c.if-depth.false, c.depth.ensures.value, depth_is old part is, ap (λ (r : ReaderState). length r.text.levels.around) v))),
       refl,
     )) (λ part. refl)
+
+pub has_own_move-requires : goal.has_own_move-requires
+has_own_move-requires g c = search text_fits
+
+pub depth-requires : goal.depth-requires
+depth-requires g c = search text_fits

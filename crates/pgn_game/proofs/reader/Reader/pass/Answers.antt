@@ -1,7 +1,5 @@
-use Rattle.std.proofs.Common.{ap, Err, ◌∙◌}
-use Rattle.std.proofs.lemmas.Result.{err_from_is_err_and}
-use Rattle.pgn_game.proofs.ReaderFitsInMemory.{reader_alike}
-use Rattle.pgn_game.proofs.putting.ItemToReader.{puts_number, puts_unbegun}
+use Rattle.pgn_game.proofs.Words.{ap, Err, ◌∙◌, err_from_is_err_and}
+use Rattle.pgn_game.proofs.ReaderLemmas.{reader_alike, puts_number, puts_unbegun}
 use Rattle.pgn_game.proofs.reader.Reader.pass.Goals as goal
 
 pub begin_movetext-requires : goal.begin_movetext-requires

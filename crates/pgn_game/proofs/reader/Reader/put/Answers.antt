@@ -1,11 +1,5 @@
-use Rattle.std.proofs.Common.{refl, ap, subst, sym, ◌∙◌, arith, Err}
-use Rattle.std.proofs.lemmas.Result.{err_from_is_err_and}
-use Rattle.pgn_game.specs.Movetext.{Movetext}
-use Rattle.pgn_game.specs.TokenInMovetext.{ItemFits, model_item}
-use Rattle.pgn_game.proofs.ReaderFitsInMemory.{reader_alike}
-use Rattle.pgn_game.proofs.ReaderPartsFitInMemory.{text_fits}
-use Rattle.pgn_game.proofs.putting.ItemToMovetext.{no_move}
-use Rattle.pgn_game.proofs.putting.ItemToReader.{begins_as, fails_item, puts_item, puts_unbegun, text_begun}
+use Rattle.pgn_game.proofs.Words.{refl, ap, subst, sym, ◌∙◌, arith, Err, err_from_is_err_and, Movetext, ItemFits, model_item}
+use Rattle.pgn_game.proofs.ReaderLemmas.{reader_alike, text_fits, no_move, begins_as, fails_item, puts_item, puts_unbegun, text_begun}
 use Rattle.pgn_game.proofs.reader.Reader.put.Goals as goal
 
 pub begin_movetext-requires : goal.begin_movetext-requires
@@ -29,12 +23,11 @@ returns-in_err-begin_movetext g c =
 pub returns-in_err-put : goal.returns-in_err-put
 returns-in_err-put g c =
     let old = c.args.self.now in
-    let i = c.args.item in
     let p = err_from_is_err_and c.from_residual-in_err-put.result c.from_residual-in_err-put.ensures.1 in
     let begins = begins_as old _ _ _ c.self.view_is c.in_ok-begin_movetext.ensures.begins in
     rw (p.1 ∙ ap Err p.2)
     (record {
-      puts = fails_item old _ _ (model_item i) _ _ _ _ _ _ c.requires.stage begins
+      puts = fails_item old _ _ (model_item c.args.item) _ _ _ _ _ _ c.requires.stage begins
           (record { profile = refl; stage = refl; tags = refl; earlier = refl; probes = omega arith }) c.in_err-put.field-0.0 c.in_err-put.ensures;
       goes_on = tt;
       probes = begins.probes;

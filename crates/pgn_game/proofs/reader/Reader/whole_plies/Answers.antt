@@ -1,6 +1,5 @@
-use Rattle.std.proofs.Common.{◌≡◌, ◌+◌, ℕ, refl, sym, ap, ◌∙◌}
-use Rattle.pgn_game.specs.ReaderState.{ReaderState, plies_behind}
-use Rattle.pgn_game.proofs.Words.{Stage, Between}
+use Rattle.pgn_game.proofs.Words.{◌≡◌, ◌+◌, ℕ, refl, sym, ap, ◌∙◌, ReaderState, plies_behind, Stage, Between, arith}
+use Rattle.pgn_game.proofs.ReaderLemmas.{reader_alike, text_fits}
 use Rattle.pgn_game.proofs.reader.Reader.whole_plies.Goals as goal
 
 -- in a game its own moves are not counted yet
@@ -19,3 +18,14 @@ returns g c =
     let r = c.args.self.now in
     ap (λ (r : ReaderState). r.earlier_plies) c.self.view_is
     ∙ sym (plies_elsewhere r.stage r.earlier_plies r.text.plies (λ between. absurd (cc (c.if-is_between.false, c.is_between.ensures.1 between))))
+
+pub overflow_add-result : goal.overflow_add-result
+overflow_add-result g c =
+    let same = ap (λ (r : ReaderState). r.earlier_plies + r.text.plies) c.self.view_is in
+    omega (arith, same, c.plies.ensures, c.requires)
+
+pub is_between-requires : goal.is_between-requires
+is_between-requires g c = search reader_alike
+
+pub plies-requires : goal.plies-requires
+plies-requires g c = search text_fits

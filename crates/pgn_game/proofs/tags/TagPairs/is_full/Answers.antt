@@ -1,5 +1,4 @@
-use Rattle.std.proofs.Common.{arith}
-use Rattle.std.proofs.lemmas.Bool.Decides.{nat_tests}
+use Rattle.pgn_game.proofs.Words.{arith, nat_tests}
 use Rattle.pgn_game.proofs.pairs.SortedPairs.{held-count}
 use Rattle.pgn_game.proofs.tags.TagPairs.is_full.Goals as goal
 

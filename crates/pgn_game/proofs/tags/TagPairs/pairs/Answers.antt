@@ -1,5 +1,4 @@
-use Rattle.std.proofs.Common.{List, ap, ◌∙◌, take}
-use Rattle.pgn_game.specs.Pairs.{Pair}
+use Rattle.pgn_game.proofs.Words.{List, ap, ◌∙◌, take, Pair}
 use Rattle.pgn_game.proofs.pairs.SortedPairs.{first-held}
 use Rattle.pgn_game.proofs.tags.TagPairs.pairs.Goals as goal
 

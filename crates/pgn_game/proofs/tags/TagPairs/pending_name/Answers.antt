@@ -1,5 +1,4 @@
-use Rattle.std.proofs.Common.{◌≡◌, List, ◌-◌, ap, sym, ◌∙◌, Some, get_or}
-use Rattle.pgn_game.specs.Pairs.{Pair}
+use Rattle.pgn_game.proofs.Words.{◌≡◌, List, ◌-◌, ap, sym, ◌∙◌, Some, get_or, Pair}
 use Rattle.pgn_game.proofs.pairs.SortedPairs.{begun-last}
 use Rattle.pgn_game.proofs.tags.TagPairs.pending_name.Goals as goal
 

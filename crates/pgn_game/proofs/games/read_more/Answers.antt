@@ -1,0 +1,30 @@
+use Rattle.pgn_game.proofs.Words.{ℕ, ap, refl, Bool, true, false, List, Option, Ok, Converter, FillResult, MoreResult}
+use Rattle.pgn_game.proofs.ReaderFitsInMemory.{fits_alike}
+use Rattle.pgn_game.proofs.games.read_more.Goals as goal
+
+-- bytes are read without the converter
+filled : (c : Converter) (left_old left_new : Option (List ℕ)) (unused : List ℕ) (has_more : Bool)
+    → FillResult left_old left_new unused (Ok has_more) → MoreResult left_old left_new c c unused (Ok has_more)
+filled c left_old left_new unused true (some, consumed) = (refl, some, consumed)
+filled c left_old left_new unused false (empty, consumed, at_end) = (refl, empty, consumed, at_end)
+
+pub returns-in-Ok : goal.returns-in-Ok
+returns-in-Ok g c =
+    record {
+      more = filled _ _ _ _ _ c.in-Ok.ensures.fills;
+      fits = c.fill.ensures.fits;
+      fault = c.requires.no_fault;
+      counted = c.in-Ok.ensures.counted;
+    }
+
+pub returns-in-Err : goal.returns-in-Err
+returns-in-Err g c =
+    record {
+      more = (c.keep_failed_read.ensures.fault, ap (λ (s : Converter). s.reading) c.keep_failed_read.ensures.kept, c.in-Err.ensures.fills);
+      fits = c.fill.ensures.fits;
+      fault = ap (λ (s : Converter). s.fault) c.keep_failed_read.ensures.kept;
+      counted = c.in-Err.ensures.counted;
+    }
+
+pub keep_failed_read-requires : goal.keep_failed_read-requires
+keep_failed_read-requires g c = search fits_alike
