@@ -1,7 +1,6 @@
 """The games of a source, one at a time."""
-import contextlib
 import ctypes
-import mmap
+import io
 import re
 from typing import Callable, Iterator, Mapping, NamedTuple, Optional, Tuple
 
@@ -10,12 +9,16 @@ from ._faults import PgnFault
 from ._moves import Line, Ply, read_moves, read_tags, write_moves, write_tags
 from ._places import BYTE_ORDER_MARK
 from ._sections import BadGame, end_of
-from ._sources import Input, Source, Window
+from ._sources import Input, Source, Window, readable_again
 
 INITIAL_FEN = "rnbqkbnr/pppppppp/8/8/8/8/PPPPPPPP/RNBQKBNR w KQkq - 0 1"
 OnFault = Callable[[PgnFault], object]
 # The first size of a buffer for the export text of a game.
 _CAPACITY = 1 << 16
+# How many bytes `convert` reads at once: with their export they stay in the processor's cache.
+_PIECE = 1 << 17
+# Most games begin behind this line end. Where it is in a comment or a game, the piece has a fault.
+_EVENT_LINE = b"\n[Event "
 # Empty lines, of which the last one's end is no first half of CR LF.
 _EMPTY_LINES = re.compile(rb"[\t-\r ]*(?:\n|\r(?=[^\n]))")
 _TEXT = re.compile(rb"[^\t-\r ]")
@@ -49,7 +52,7 @@ class Game:
         self.end = end
         """How many bytes of the source there are up to its end, with its termination marker."""
         self.result = result
-        """The result: `1-0`, `0-1`, `1/2-1/2` or `*`."""
+        """The result, which is the termination marker at its end."""
         self.plies = plies
         """How many plies the game has, without variations."""
         self.fen = fen
@@ -162,9 +165,9 @@ class Reader:
             length = len(data)
 
     def _game(self, found: _library.NextGame, text: bytes) -> Game:
-        base = self.window.base
-        game = Game(self.number, self._text_at(), base + found.end,
-                    _library.MARKERS[found.marker], found.plies, found.fen.decode("ascii"), text)
+        base, marker = self.window.base, self.window.data[found.marker_at:found.end]
+        game = Game(self.number, self._text_at(), base + found.end, marker.decode("ascii"),
+                    found.plies, found.fen.decode("ascii"), text)
         self.number, self.at = self.number + 1, base + found.end
         return game
 
@@ -251,51 +254,58 @@ def check(source: Source, *, checked: bool = False) -> Totals:
 def convert(source: Source, *, checked: bool = False, reduced: bool = False) -> bytes:
     """Returns the games of a source in export format; raises PgnFault at the first fault.
 
-    It holds the source and its export in memory: for more, write the `text` of `games`.
+    It holds the export in memory, and a pipe or an open file too: for more, write the `text` of
+    `games`.
 
     >>> print(convert(b"e4 e5 Nf3 *").decode().split("\\n\\n")[1])
     1. e4 e5 2. Nf3 *
     """
-    source = _all_of(source)
-    if not checked:
-        capacity, mode = 2 * len(source) + 4096, _library.FULL_FORMAT
-        if reduced:
-            mode = _library.REDUCED_FORMAT
-        while True:
-            room = _room(capacity)
-            buffer = (ctypes.c_char * capacity).from_buffer(room)
-            found = _library.convert(source, len(source), buffer, capacity, mode)
-            if found.status == _library.OK:
-                return room[:found.written]
-            if found.status == _library.FAULT:
-                break
-            capacity *= 2
+    source = readable_again(source)
+    export = None if checked else _export(source, reduced)
+    if export is not None:
+        return export
     # a fault is found again, with its game and its position
     return b"".join(game.text for game in games(source, checked=checked, reduced=reduced))
 
 
-def _room(size: int) -> mmap.mmap:
-    """Memory of which only the pages that are written take room, and which nobody clears first.
+def _export(source: Source, reduced: bool) -> Optional[bytes]:
+    """The export of a source, or None if one of its pieces has a fault.
 
-    A bytearray, or a buffer of ctypes, is cleared whole. Large pages, where the system has them,
-    cost fewer page faults.
+    A piece that is accepted ends outside games, comments and `%` lines. So the pieces have the
+    games of the source.
     """
-    room = mmap.mmap(-1, size, access=mmap.ACCESS_COPY)
-    advice = getattr(mmap, "MADV_HUGEPAGE", None)
-    if advice is not None:
-        with contextlib.suppress(OSError):
-            room.madvise(advice)
-    return room
-
-
-def _all_of(source: Source) -> bytes:
-    if isinstance(source, bytes):
-        return source
-    opened = Input(source)
+    mode = _library.REDUCED_FORMAT if reduced else _library.FULL_FORMAT
+    export, buffer, opened = io.BytesIO(), ctypes.create_string_buffer(4096), Input(source)
     try:
-        return b"".join(iter(lambda: opened.read(1 << 26), b""))
+        for data, end in _pieces(opened):
+            if len(buffer) < 2 * end:
+                buffer = ctypes.create_string_buffer(2 * end + 4096)
+            found = _library.convert(data, end, buffer, len(buffer), mode)
+            while found.status == _library.FULL:
+                buffer = ctypes.create_string_buffer(2 * len(buffer))
+                found = _library.convert(data, end, buffer, len(buffer), mode)
+            if found.status != _library.OK:
+                return None
+            export.write(memoryview(buffer)[:found.written])
     finally:
         opened.close()
+    return export.getvalue()
+
+
+def _pieces(opened: Input) -> Iterator[Tuple[bytes, int]]:
+    """Yields (bytes, how many of them are the next piece): it ends before a line with an Event tag.
+
+    The bytes behind it come again with those that follow.
+    """
+    data = part = opened.read_at_least(_PIECE)
+    while part:
+        end = data.rfind(_EVENT_LINE) + 1
+        yield data, end
+        data = data[end:]
+        # where no Event tag was met, twice as many
+        part = opened.read_at_least(max(_PIECE, len(data)))
+        data += part
+    yield data, len(data)
 
 
 def write_game(tags: Mapping[str, str], moves: Line, *, encoding: str = "utf-8") -> bytes:

@@ -25,8 +25,6 @@ _ROOT = os.path.dirname(os.path.dirname(_HERE))
 OK, FAULT, FULL, NO_MODE, NO_GAME, MORE, BAD_PLACE = range(7)
 FULL_FORMAT, REDUCED_FORMAT = range(2)
 RESULT_UNKNOWN, RESULT_FROM_MARKER = range(2)
-# the text of a termination marker, by its number
-MARKERS = ("", "1-0", "0-1", "1/2-1/2", "*")
 # the most bytes of a FEN
 LONGEST_FEN = 93
 

@@ -71,7 +71,9 @@ class LineCounter:
     def _count(self, text: bytes) -> None:
         begin = max(text.rfind(b"\n"), text.rfind(b"\r")) + 1
         if begin:
-            self._line += text.count(b"\n") + text.count(b"\r") - text.count(b"\r\n")
+            self._line += text.count(b"\n")
+            if b"\r" in text:
+                self._line += text.count(b"\r") - text.count(b"\r\n")
             self._bytes = self._characters = 0
             self._is_utf8, self._decoder = True, _Decoder()
             text = text[begin:]

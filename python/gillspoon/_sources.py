@@ -23,6 +23,7 @@ class Readable(Protocol):
 
 
 Data = Union[bytes, bytearray, memoryview, mmap.mmap]
+_DATA = (bytes, bytearray, memoryview, mmap.mmap)
 Source = Union[str, "os.PathLike[str]", Data, Readable]
 
 
@@ -31,19 +32,31 @@ class Input:
 
     def __init__(self, source: Source) -> None:
         self._close: Callable[[], None] = _nothing
-        if isinstance(source, (bytes, bytearray, memoryview, mmap.mmap)):
+        if isinstance(source, _DATA):
             self._read, self._close = _open_data(source)
         elif isinstance(source, (str, os.PathLike)):
             path = os.fspath(source)
             if source is path and "\n" in path:
                 raise TypeError("a str is a path: give the text itself as bytes, text.encode()")
-            self._read, self._close = _OPENERS.get(os.path.splitext(path)[1], _open_plain)(path)
+            opener = _OPENERS.get(os.path.splitext(path)[1].lower(), _open_plain)
+            self._read, self._close = opener(path)
         else:
             self._read = _reader_of_file(source)
 
     def read(self, size: int) -> bytes:
         """At least one byte and mostly at most so many; none at the end."""
         return self._read(size)
+
+    def read_at_least(self, size: int) -> bytes:
+        """At least so many bytes and mostly just as many; fewer at the end alone."""
+        parts = []
+        while size > 0:
+            part = self._read(size)
+            if not part:
+                break
+            parts.append(part)
+            size -= len(part)
+        return b"".join(parts)
 
     def close(self) -> None:
         """Closes what this opened; it may be called again."""
@@ -52,6 +65,19 @@ class Input:
 
     def __del__(self) -> None:
         self.close()
+
+
+def readable_again(source: Source) -> Source:
+    """The source, or its bytes if it is an open file or a pipe, which can be read only once."""
+    if isinstance(source, _DATA):
+        return source
+    if isinstance(source, (str, os.PathLike)) and os.path.isfile(source):
+        return source
+    opened = Input(source)
+    try:
+        return b"".join(iter(lambda: opened.read(CHUNK), b""))
+    finally:
+        opened.close()
 
 
 Opened = Tuple[Callable[[int], bytes], Callable[[], None]]

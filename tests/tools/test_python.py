@@ -20,6 +20,7 @@ import tempfile
 import threading
 import time
 import unittest
+from unittest import mock
 
 sys.path.insert(0, os.path.dirname(os.path.realpath(__file__)))
 import programs
@@ -341,7 +342,8 @@ class Calls(unittest.TestCase):
         self.assertTrue(got == wanted * 2)
 
     def test_short_text_with_a_long_export(self):
-        self.assertEqual(gillspoon.convert(b"*" * 3000).count(b"[Event "), 3000)
+        for count in (1, 40, 3000):
+            self.assertEqual(gillspoon.convert(b"*" * count).count(b"[Event "), count)
 
     def test_fields_of_a_fen(self):
         for field, wrong in enumerate(("9/8", "x", "KK", "e5", "x", ""), 1):
@@ -562,6 +564,86 @@ class InPieces(unittest.TestCase):
             self.assertEqual(int(count), 1000 * rounds, ran.stderr)
             peaks.append(int(peak))
         self.assertLess(peaks[1], peaks[0] + 4096)
+
+
+class Converted(Folder):
+    """`convert` gives the text of all games, or their first fault, however it reads the source."""
+
+    def setUp(self):
+        super().setUp()
+        self.module = importlib.import_module("gillspoon._games")
+
+    def converted(self, source, **options):
+        """The export, or what its fault says."""
+        try:
+            return gillspoon.convert(source, **options)
+        except gillspoon.PgnFault as fault:
+            return fault.args
+
+    def check(self, data, sizes=(1, 50, 400, 5000), **options):
+        """Compares with what `games` gives, for pieces of several sizes."""
+        try:
+            wanted = b"".join(it.text for it in gillspoon.games(data, **options))
+        except gillspoon.PgnFault as fault:
+            wanted = fault.args
+        for size in sizes:
+            with mock.patch.object(self.module, "_PIECE", size):
+                self.assertEqual(self.converted(data, **options), wanted, (data, size))
+        return wanted
+
+    def test_vectors(self):
+        for vector in vectors():
+            if len(vector["input"]) < 5000:
+                options = {"reduced": vector["mode"] == "reduced"}
+                data = vector["input"].encode()
+                self.check(data, **options)
+                self.check(sound(b"a") + data + b"\n" + sound(b"b"), **options)
+
+    def test_random_damage(self):
+        source, whole, faults = random.Random(9), archive(10, "annotated"), 0
+        for _ in range(DAMAGED_FILES):
+            got = self.check(damaged(source, whole), reduced=source.random() < 0.5)
+            faults += isinstance(got, tuple)
+        self.assertGreater(faults, DAMAGED_FILES // 2)
+
+    def test_an_event_tag_that_begins_no_game(self):
+        for text in (b"1. e4 {\n[Event 1\n} *\n", b"{\n[Event \n} 1. e4 ;\n*\n", b"%\n[Event {\n\n",
+                     b'% [Event "x"]\n[White "y"] *\n', b'; [Event "x"]\n[White "y"] *\n',
+                     b'[White "x"]\n[Event "y"]\n*\n', b'*\n[Event "x"]\n\n', b"\xef\xbb\xbf",
+                     b"1. e4\n[Event 1 *\n", b"1. e4 e5 2. Ke3 *\n"):
+            data = sound(b"a") + text + sound(b"b") + text + sound(b"c")
+            for data in (data, data.replace(b"\n", b"\r\n")):
+                self.check(data, range(1, len(data)))
+
+    def test_sound_games_are_not_read_one_by_one(self):
+        texts = (archive(30, "annotated"), archive(30, "plain"), b"1. e4 *\n" * 999, b"*" * 999, b"")
+        wanted = [b"".join(it.text for it in gillspoon.games(it)) for it in texts]
+        with mock.patch.object(self.module, "_PIECE", 2000), \
+                mock.patch.object(self.module, "games", side_effect=AssertionError):
+            self.assertEqual([gillspoon.convert(it) for it in texts], wanted)
+
+    def sources(self, data):
+        """The data as sources of each kind, which are closed after their use."""
+        path = self.put("a.pgn", data)
+        yield from (path, type("P", (), {"__fspath__": lambda self: path})(), data, bytearray(data),
+                    memoryview(data), io.BytesIO(data), Pieces(cut(data, ever(400))))
+        yield self.put("a.pgn.gz", gzip.compress(data))
+        with open(path, "rb") as file, \
+                mmap.mmap(file.fileno(), 0, access=mmap.ACCESS_READ) as mapped:
+            yield mapped
+            yield file
+        for source in (lambda pipe: pipe, lambda pipe: "/dev/fd/%d" % pipe.fileno()):
+            with subprocess.Popen(["cat", path], stdout=subprocess.PIPE) as child:
+                yield source(child.stdout)
+
+    def test_kinds_of_sources(self):
+        """A fault is found again, though a pipe or an open file can be read only once."""
+        for more in (b"", b"1. e4 e5 2. Ke3 *\n" + sound(b"b")):
+            data = archive(10, "plain") + more
+            wanted = self.check(data)
+            self.assertEqual(isinstance(wanted, tuple), more != b"")
+            for source in self.sources(data):
+                self.assertEqual(self.converted(source), wanted, type(source))
 
 
 # ---- behind a bad game
