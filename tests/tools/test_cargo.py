@@ -585,8 +585,9 @@ def is_made(line, source):
     """Whether the line is the source's, or that with what stands behind a contract or without what
     only the prover reads."""
     source = source.replace('pub extern "C" fn', "pub fn")
-    made = [source, source + " {", source + " {}", source + ";"]
-    made += [source.replace(", Drop", ""), source.replace(" + Drop", "")]
+    made = []
+    for left in (source, source.replace(", Drop", ""), source.replace(" + Drop", "")):
+        made += [left, left + " {", left + " {}", left + ";"]
     made.append(source.replace("#[rattlefmt::", "#[rustfmt::"))
     if source == "use std::marker::{Brand, PhantomData};":
         made.append("use std::marker::PhantomData;")
