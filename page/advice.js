@@ -1,6 +1,9 @@
 // What a person would try next, by the fault and by what stands at its place.
 //
 // README.md and docs/RECIPES.md have the same table, with commands for whole files.
+import { DRAW, RESULTS } from "./text.js";
+
+const WRITE_DRAW = "Write a draw as " + DRAW + ".";
 
 // `offer` names a button: "fromMarker" takes missing results from the markers, "full" converts in
 // full.
@@ -12,7 +15,7 @@ const ADVICE = [
     "Take out the hyphen: e2e4 and Ng1f3 are read, e2-e4 and Ng1-f3 are not."],
   [(it) => it.number === 33 && /^[0-9]+[a-hKQRBNO]/.test(it.symbol),
     "Put a period or a blank between the number and the move."],
-  [(it) => it.number === 33 && it.symbol === "1/2", "Write a draw as 1/2-1/2."],
+  [(it) => it.number === 33 && it.symbol === "1/2", WRITE_DRAW],
   [(it) => it.number === 33 && /^[SDTLCAF][a-h]?[1-8]?x?[a-h][1-8]/.test(it.symbol),
     "Pieces have their English letters here: K, Q, R, B, N."],
   [(it) => it.number === 34 && /^([a-h][1-8]){2}/.test(it.symbol),
@@ -25,15 +28,15 @@ const ADVICE = [
   [(it) => it.number === 41, "Correct the Result tag or the result at the end of the game."],
   [(it) => it.number === 32,
     "The game before has no result at its end, or a comment is between two tags. Add the result " +
-    "(1-0, 0-1, 1/2-1/2 or *), or move the comment below the tags."],
-  [(it) => it.number === 42, "The last game has no result at its end: 1-0, 0-1, 1/2-1/2 or *."],
+    "(" + RESULTS + "), or move the comment below the tags."],
+  [(it) => it.number === 42, "The last game has no result at its end: " + RESULTS + "."],
   [(it) => it.number === 28, "Write \\\" for a quote inside a value: \"The \\\"Open\\\"\"."],
   [(it) => it.number === 11, "A value ends with a quote on the line where it begins."],
   [(it) => it.number === 1 && it.place === 0 && /^(\u00ff\u00fe|\u00fe\u00ff)/.test(it.near),
     "The file is UTF-16. Save it as UTF-8."],
   [(it) => it.number === 1 && it.near.startsWith("\u00ef\u00bb\u00bf"),
     "A byte order mark is inside the file, where files were joined. Take it out."],
-  [(it) => it.number === 1 && /^(\u00c2?\u00bd)/.test(it.near), "Write a draw as 1/2-1/2."],
+  [(it) => it.number === 1 && /^(\u00c2?\u00bd)/.test(it.near), WRITE_DRAW],
   [(it) => it.number === 2 && it.near.startsWith("\u001a"),
     "Take out the byte 26 with which programs for DOS end a file."],
   [(it) => it.number === 2, "Replace the control byte, or the tab in a value, by a blank."],

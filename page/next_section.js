@@ -1,6 +1,6 @@
 // Where a bad game ends, by guess: before the next line that begins a tag section. The rule is that
 // of bin/pgn_sieve, whose parts have the same names.
-import { latin1, startsWithByteOrderMark } from "./text.js";
+import { DRAW, latin1, startsWithByteOrderMark } from "./text.js";
 
 // A line that begins with a bracket, also behind stray bytes that joined files have there; with the
 // name and the quote of a tag pair, if it has them. Words such as [%clk stand in comments.
@@ -13,7 +13,8 @@ const PAIRS = new RegExp(
   "[\\t-\\r ]*\\][\\t-\\r ]*)*");
 const COMMENT = /\{[^}]*(\}?)|;[^\r\n]*()/g;
 // A line that is movetext even without an empty line before it.
-const MOVETEXT = /^[\t-\r ]*[0-9]+[\t-\r ]*\.|(?:1-0|0-1|1\/2-1\/2|\*)[\t-\r ]*$/;
+const MOVETEXT = new RegExp(
+  "^[\\t-\\r ]*[0-9]+[\\t-\\r ]*\\.|(?:1-0|0-1|" + DRAW + "|\\*)[\\t-\\r ]*$");
 // A longer line is read in parts.
 const LONGEST_LINE = 1 << 20;
 

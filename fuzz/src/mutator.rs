@@ -6,7 +6,7 @@ use chess_rules::{
     in_check, origins, try_pair, Colour, Kind, Move, Position, Probes, Promotion, Square,
 };
 use chess_text::{read_fen, write_san, Played};
-use pgn_game::{convert_slice, find_move, Mode, Nowhere};
+use pgn_game::{convert_slice, find_move, Marker, Mode, Nowhere};
 use pgn_lexer::{Lexer, Outcome, TokenKind};
 
 /// Positions with castling, promotions, en passant, pins, many queens, and clocks near their end.
@@ -22,7 +22,12 @@ const STARTS: [&str; 9] = [
     "7k/5Q2/8/6K1/8/8/8/8 w - - 0 1",
 ];
 
-const MARKERS: [&str; 4] = ["*", "1-0", "0-1", "1/2-1/2"];
+const MARKERS: [Marker; 4] = [
+    Marker::Unknown,
+    Marker::WhiteWins,
+    Marker::BlackWins,
+    Marker::Draw,
+];
 
 const TAGS: [&str; 8] = [
     "[Event \"a \\\"b\\\" \\\\ c\"]",
@@ -62,7 +67,7 @@ impl End {
     fn take(&mut self, kind: TokenKind<'_>) {
         match kind {
             TokenKind::Asterisk => *self = End::new(),
-            TokenKind::Symbol(text) if MARKERS.iter().any(|it| it.as_bytes() == text) => {
+            TokenKind::Symbol(text) if Marker::of_symbol(text).is_some() => {
                 *self = End::new();
             }
             TokenKind::Symbol(text) => {
@@ -246,7 +251,7 @@ fn go_on(text: &mut Vec<u8>, mut end: End, dice: &mut Dice) {
                     .as_bytes(),
             ),
             6 => {
-                text.extend_from_slice(dice.pick(&MARKERS).as_bytes());
+                text.extend_from_slice(dice.pick(&MARKERS).text());
                 return;
             }
             _ => {

@@ -432,14 +432,14 @@ class Files(Lint):
         need("zstd")
         self.put("all/b.pgn", GOOD)
         self.put("all/a.PGN", BAD)
-        self.put("all/below/c.pgn.gz", gzip.compress(BAD))
+        self.put("all/below/c.pgn.GZ", gzip.compress(BAD))
         self.put("all/below/d.pgn.bz2", bz2.compress(BAD))
         self.put("all/below/e.pgn.zst", subprocess.run(
             ["zstd", "-qc"], input=BAD, stdout=subprocess.PIPE, check=True).stdout)
         for name in ("all/.hidden.pgn", "all/.git/f.pgn", "all/readme.txt", "all/pgn"):
             self.put(name, BAD)
         wanted = ["all/%s:%s" % (it, BAD_LINE) for it in (
-            "a.PGN", "below/c.pgn.gz", "below/d.pgn.bz2", "below/e.pgn.zst")]
+            "a.PGN", "below/c.pgn.GZ", "below/d.pgn.bz2", "below/e.pgn.zst")]
         wanted.append("5 files, 5 games, 4 faults in 4 files")
         for words in (["all"], ["-j2", "all"]):
             status, out, told = self.lint(*words)
@@ -528,7 +528,7 @@ class Options(Lint):
         self.assertEqual(self.lint("--quiet", "a.pgn"), (0, "", ""))
 
     def test_checked(self):
-        self.put("a.pgn", b"1. e4 1-0\n[White \"Ada\"]\n1. d4 1/2-1/2\n")
+        self.put("a.pgn", b"1. e4 1-0\n[White \"Ada\"]\n1. d4 0-1\n")
         self.assertEqual(self.lint("--checked", "a.pgn"), (0, "1 file, 2 games, 0 faults\n", ""))
         self.put("a.pgn", b'[Result "0-1"]\n\n1. e4 1-0\n')
         self.assertEqual(self.lint("--checked", "--quiet", "a.pgn")[:2], (

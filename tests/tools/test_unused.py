@@ -52,6 +52,7 @@ pub fn count_of(tokens: &[Token]) -> usize
     sum_of(tokens)
 }
 
+#[tactic(auto, using(crate::proofs::Sums::sums))]
 fn sum_of(tokens: &[Token]) -> usize {
     tokens.iter().map(|it| it.len()).sum()
 }
@@ -72,6 +73,12 @@ use Rattle.pgn_lexer.specs.Tokens.{Token, total}
 
 nothing : (n : ℕ) → 0 + n ≡ n
 nothing n = omega arith
+
+-- a set of lemmas that an attribute names
+nothing_behind : (n : ℕ) → n + 0 ≡ n
+nothing_behind n = omega arith
+
+pub ruleset sums = (nothing_behind, arith)
 
 -- of all
 module _ (ts : List Token)
@@ -202,8 +209,9 @@ class MadeTree(unittest.TestCase):
         self.change(answers, "total_small c.ts c.is", "omega arith")
         self.assertEqual(self.unused(), ["lemma nothing", "lemma total_small"])
         self.change("crates/pgn_lexer/src/token.rt", "    sum_of(tokens)\n", "    0\n")
-        self.assertEqual(self.unused(), ["fn sum_of", "lemma nothing", "lemma total_small",
-                                         "lemma small"])
+        self.assertEqual(self.unused(), [
+            "fn sum_of", "lemma nothing", "lemma nothing_behind", "lemma sums", "lemma total_small",
+            "lemma small"])
 
     def test_a_function_of_another_module_with_the_name_is_listed(self):
         for module in ("faults", "moves"):

@@ -278,7 +278,8 @@ class WhereTest(unittest.TestCase):
         self.put("a.pgn.bz2", bz2.compress(text))
         self.put("a.pgn.zst", subprocess.run(["zstd", "-qc"], input=text, stdout=subprocess.PIPE,
                                              check=True).stdout)
-        for end in ("gz", "bz2", "zst"):
+        self.put("a.pgn.GZ", gzip.compress(text))
+        for end in ("gz", "bz2", "zst", "GZ"):
             shown = self.messages(["pgn_lint", "--quiet", "a.pgn." + end]).split("\n")
             self.assertEqual(shown[1:3], ["1. e4 e5 2. Ke3 *", "            ^"])
             ran = self.call([self.file + "." + end, "55"])
