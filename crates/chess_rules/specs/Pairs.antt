@@ -15,7 +15,8 @@ use Rattle.chess_rules.specs.Reach.{is_aligned, king_square}
 
 -- One pair.
 
--- a queen where a pawn is promoted: all four are legal, or none
+-- The move of a pair. A pawn that reaches the last rank becomes a queen: all four promotions are
+-- legal, or none.
 abbrev pub one_move : Parts → Square → Square → Move
 one_move p s t =
     record { from = s; to = t; promotion = if (t.rank == last_rank p.side) && own p Pawn s then Some promotions.Queen else None }
@@ -29,13 +30,14 @@ is_legal_pair p s t = is_legal p (one_move p s t)
 abbrev pub is_king_step : Parts → Square → Bool
 is_king_step p t = is_adjacent t (king_square p.side p.board) && not (has_colour p.side (at p.board t))
 
--- the piece there is of the side to move and no knight, sees t, and is no king whose step was tried
+-- The piece on s is of the side to move and no knight. It is on a line with t, and all squares
+-- between are empty. It is not the king, if its step to t was tried.
 abbrev pub is_untried_aligned : Parts → Square → Square → Bool
 is_untried_aligned p t s =
     (((has_colour p.side (at p.board s) && not (own p Knight s)) && is_aligned s t) && not (is_king_step p t && own p King s))
     && is_clear p.board s t
 
--- the piece there is still to be tried for t
+-- the piece on s is still to be tried for t
 abbrev pub is_untried : Parts → Square → Square → Bool
 is_untried p t s = (own p Knight s && is_jump s t) || is_untried_aligned p t s
 
@@ -51,7 +53,8 @@ has_untried_move p t = list_any (λ s. is_legal_pair p s t) (filter (is_untried 
 unfoldable pub count_untried : Parts → Square → ℕ
 count_untried p t = length (filter (is_untried p t) squares)
 
--- What a search counts: each of its pairs, or fewer, but one at least, where one is legal.
+-- What a search among `whole` pairs adds to the count: `whole` if no pair is legal, and else at
+-- least 1 and at most `whole`.
 pub record Counts (found : Bool) (old new whole : ℕ) : Type 0 where
   pub rises : old ≤ new
   pub most : new ≤ old + whole

@@ -1,4 +1,4 @@
--- **Bookkeeping**: squares by their numbers, what a piece reaches on an empty board, and the king's
+-- **Bookkeeping**: squares by their indices, what a piece reaches on an empty board, and the king's
 -- square. No rule of play rests on it.
 -- Letters: b is a board, c a colour, k a kind, s, t and u are squares.
 use Rattle.std.specs.Prelude.{◌≡◌, ◌<◌, ℕ, ◌+◌, ◌/◌, ◌%◌, Bool, true, false, ◌&&◌, ◌||◌, not, Option, None, Some, position, unwrap_or, ◌==◌}
@@ -10,7 +10,7 @@ use Rattle.chess_rules.specs.Square.{Square, square, gap, inside, is_adjacent, i
 use Rattle.chess_rules.specs.Board.{Board, at, cell_of, has_colour, has_piece, same_kind}
 use Rattle.chess_rules.specs.Attacks.{is_ahead}
 
--- the square with that place among all, rank by rank from a1
+-- the square with index i: 0 for a1, 1 for b1, and so on, rank by rank, to 63 for h8
 abbrev pub square_at : ℕ → Square
 square_at i = square (i % 8) (i / 8)
 
@@ -22,8 +22,8 @@ is_aligned s t = in_line s t || on_diagonal s t
 abbrev pub is_steep : Square → Square → Bool
 is_steep s t = (s.file == t.file) || (s.file + t.rank == t.file + s.rank)
 
--- The squares that pass are one line through t, without t: what lies between t and one of them is
--- what is on the line and between in order.
+-- The squares that pass are a line through t, without t: a square is strictly between t and one of
+-- them exactly if it passes and its index is between theirs.
 pub record IsLine (line : Square → Bool) (t : Square) : Type 0 where
   pub apart : line t ≡ false
   pub between : (s u : Square) → s.file < 8 → s.rank < 8 → u.file < 8 → u.rank < 8 → line s ≡ true
@@ -38,7 +38,7 @@ reaches Bishop c s t = on_diagonal s t
 reaches Knight c s t = is_jump s t
 reaches Pawn c s t = (gap s.file t.file == 1) && is_ahead c s.rank t.rank
 
--- a piece on s, with that content, would attack t so
+-- the content is a piece, which would attack t from s, were all squares between empty
 abbrev pub reaches_from : Option Piece → Square → Square → Bool
 reaches_from None s t = false
 reaches_from (Some x) s t = reaches x.kind x.colour s t
@@ -52,10 +52,11 @@ has_kind k (Some x) = same_kind k x.kind
 abbrev pub is_near : Option Piece → Bool
 is_near cell = has_kind King cell || (has_kind Knight cell || has_kind Pawn cell)
 
--- a piece of the colour is on s that would attack t so; and the same of a rook, a bishop or a queen
+-- a piece of the colour is on s, and would attack t, were all squares between empty
 abbrev pub may_attack : Board → Colour → Square → Square → Bool
 may_attack b c t s = has_colour c (at b s) && reaches_from (at b s) s t
 
+-- the same for a rook, a bishop or a queen alone
 abbrev pub slides : Board → Colour → Square → Square → Bool
 slides b c t s = may_attack b c t s && not (is_near (at b s))
 

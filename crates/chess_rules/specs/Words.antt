@@ -1,5 +1,5 @@
 -- **Bookkeeping**: the four words of 64 bits in which the code stores a board.
--- Bit i of each belongs to the square with number i. No rule of play rests on it.
+-- Place i of a word is its bit i, that of the square with index i. No rule of play rests on it.
 use Rattle.std.specs.Prelude.{◌≡◌, ◌<◌, ℕ, ◌+◌, ◌*◌, ◌^◌, Bool, true, false, ◌||◌, List, [], ◌∷◌, filter, map, Option, None, Some, ◌==◌, if◌then◌else◌}
 use Rattle.std.specs.Int.{bit_at}
 use Rattle.std.specs.List.{list_any, range_with_len}
@@ -12,19 +12,19 @@ use Rattle.chess_rules.specs.Square.{Square, squares}
 use Rattle.chess_rules.specs.Board.{cell_of, has_colour, some_piece}
 use Rattle.chess_rules.specs.Reach.{has_kind, is_near, square_at}
 
--- a word as a set of places: whether it has place i
+-- bit i of the word is set: as a set, the word has place i
 unfoldable pub has : ℕ → ℕ → Bool
 has word i = bit_at word i == 1
 
 -- Three words tell the kinds apart. A rook is in `straight`, a bishop in `diagonal`, a queen in
 -- both. What does not slide is in `near`: a pawn there alone, a knight in `straight` too, a king in
--- `diagonal` too.
+-- `diagonal` too. The fourth word, `black`, has the black pieces.
 
 abbrev pub colour_of : Bool → Colour
 colour_of true = Black
 colour_of false = White
 
--- what a square holds, by the three bits and by whether it is black
+-- what is on a square, by its bits in `straight`, `diagonal`, `near` and `black`
 abbrev pub coded : Bool → Bool → Bool → Bool → Option Piece
 coded false false false black = None
 coded true false false black = some_piece (colour_of black) Rook
@@ -35,7 +35,8 @@ coded true false true black = some_piece (colour_of black) Knight
 coded false true true black = some_piece (colour_of black) King
 coded true true true black = some_piece (colour_of black) King
 
--- the bits of what a square holds; `near` has `is_near`, and `black` has what is black
+-- The bits of what is on a square, in `straight` and in `diagonal`. Its bit in `near` is `is_near`,
+-- and in `black` it is `has_colour Black`.
 abbrev pub straight_of : Option Piece → Bool
 straight_of cell = has_kind Queen cell || (has_kind Rook cell || has_kind Knight cell)
 
@@ -44,13 +45,14 @@ diagonal_of cell = has_kind King cell || (has_kind Queen cell || has_kind Bishop
 
 -- The words and the cells.
 
+-- what the words have at place i, and at all 64 places
 abbrev pub cell_in : Inside → ℕ → Option Piece
 cell_in w i = coded (has w.straight i) (has w.diagonal i) (has w.near i) (has w.black i)
 
 unfoldable pub cells : Inside → List (Option Piece)
 cells w = map (cell_in w) (range_with_len 0 64)
 
--- the word of the places whose elements pass
+-- the word that has place i exactly if element i of the list passes the test
 unfoldable pub word : {X : Type 0} → (X → Bool) → List X → ℕ
 word test [] = 0
 word test (x ∷ xs) = (if test x then 1 else 0) + 2 * word test xs
@@ -58,35 +60,37 @@ word test (x ∷ xs) = (if test x then 1 else 0) + 2 * word test xs
 abbrev pub words : List (Option Piece) → Inside
 words b = record { straight = word straight_of b; diagonal = word diagonal_of b; near = word is_near b; black = word (has_colour Black) b }
 
--- the words are those of the cells: no square is in the first three, none is empty and black
+-- the words are those of the cells: no square is in all of the first three, or in `black` alone
 abbrev pub AreWords : Inside → Type 0
 AreWords w = words (cells w) ≡ w
 
--- the word has exactly the places that pass, and exactly the squares that pass
+-- the word has exactly the places that pass the test
 pub record Bits (word : ℕ) (test : ℕ → Bool) : Type 0 where
   pub of : (i : ℕ) → i < 64 → has word i ≡ test i
 
+-- the word has exactly the places of the squares that pass the test
 pub record Places (word : ℕ) (test : Square → Bool) : Type 0 where
   pub of : (i : ℕ) → i < 64 → has word i ≡ test (square_at i)
 
--- a place is set or cleared, and no other changes
+-- `new` has the place exactly if `value` is true, and all others as `old` has them
 pub record Sets (old new : ℕ) (place : ℕ) (value : Bool) : Type 0 where
   pub inside : place < 64
   pub fits : new < 2 ^ 64
   pub of : (i : ℕ) → i < 64 → has new i ≡ (if i == place then value else has old i)
 
--- the first place, and the last one
+-- the first place that the word has
 pub record IsLowest (word place : ℕ) : Type 0 where
   pub inside : place < 64
   pub here : has word place ≡ true
   pub none : (i : ℕ) → i < place → has word i ≡ false
 
+-- the last place that the word has
 pub record IsHighest (word place : ℕ) : Type 0 where
   pub inside : place < 64
   pub here : has word place ≡ true
   pub none : (i : ℕ) → place < i → i < 64 → has word i ≡ false
 
--- such a place of a word alone: none if the word has none
+-- `only` has that place of `word` alone, the first or the last, and none if `word` has none
 pub record IsOnly (Is : ℕ → ℕ → Type 0) (word only : ℕ) : Type 0 where
   pub here : (i : ℕ) → i < 64 → has only i ≡ true → Is word i
   pub there : (i : ℕ) → Is word i → has only i ≡ true
@@ -95,7 +99,7 @@ pub record IsOnly (Is : ℕ → ℕ → Type 0) (word only : ℕ) : Type 0 where
 unfoldable pub members : ℕ → List Square
 members word = filter (λ s. has word (cell_of s)) squares
 
--- a square is in the set
+-- some square is in the set
 unfoldable pub has_any : ℕ → Bool
 has_any set = list_any (λ s. has set (cell_of s)) squares
 
@@ -114,7 +118,7 @@ abbrev pub FirstOf : Option Square → ℕ → Type 0
 FirstOf None set = HasNone set
 FirstOf (Some s) set = IsFirst set s
 
--- It is taken out.
+-- Taking the first square out of a set.
 
 pub record TakesLowest (old new : ℕ) (s : Square) : Type 0 where
   pub file : s.file < 8

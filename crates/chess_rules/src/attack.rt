@@ -35,7 +35,7 @@ pub(crate) fn clear_among(board: &Board, set: Squares, target: Square) -> Square
     clear
 }
 
-// The pieces nearest to the target on a line through it, on either side of it.
+// The pieces nearest to the target on this line through it: at most one on either side.
 fn nearest(board: &Board, line: Squares, target: Square) -> Squares
     requires { reach.IsLine (λ s. has line (cell_of s)) target }
     ensures { Places result (λ s. has line (cell_of s)
@@ -47,7 +47,7 @@ fn nearest(board: &Board, line: Squares, target: Square) -> Squares
     (pieces & !before).only_lowest() | (pieces & before).only_highest()
 }
 
-// The pieces nearest to the target on the four lines through it.
+// The pieces nearest to the target, on either side, on its rank, its file and its two diagonals.
 fn pieces_in_view(board: &Board, target: Square) -> Squares
     ensures { Places result (λ s. reach.is_aligned s target
         && (is_some (at board.now s) && spec.is_clear board.now s target)) }
@@ -62,7 +62,7 @@ fn pieces_in_view(board: &Board, target: Square) -> Squares
         | nearest(board, diagonals & !steep, target)
 }
 
-// Whether such a piece on `from` attacks `to`.
+// Whether the piece, on `from`, attacks `to`.
 pub(crate) fn piece_attacks(board: &Board, piece: Piece, from: Square, to: Square) -> bool
     ensures { result ≡ spec.kind_attacks piece.kind piece.colour board.now from to }
 {
@@ -92,8 +92,8 @@ fn possible_attackers(board: &Board, by: Colour, target: Square) -> Squares
 
 // Whether a piece of the colour attacks the square.
 //
-// Mostly there is one at most that could. No loop goes over more of them: a test of legality whose
-// result nobody reads is dropped only if the compiler sees that it ends.
+// Mostly at most one piece could attack it. Even for several there is no loop: the compiler drops a
+// test of legality whose result is unused only if it sees that the test ends.
 pub(crate) fn is_attacked(board: &Board, by: Colour, target: Square) -> bool
     ensures { result ≡ spec.is_attacked board.now by target }
 {
@@ -108,9 +108,9 @@ pub(crate) fn is_attacked(board: &Board, by: Colour, target: Square) -> bool
 }
 
 // The squares of the pieces of the colour that attack the target, and those between the target and
-// the lowest of these; no square if nothing attacks it.
+// the first of these; no square if nothing attacks it.
 //
-// The caller chooses an order by this and nothing else, so it has no contract.
+// The caller uses this only to choose an order, so it has no contract.
 pub(crate) fn evasion_targets(board: &Board, by: Colour, target: Square) -> Squares {
     let attackers = clear_among(board, possible_attackers(board, by, target), target);
     let first = attackers.lowest();

@@ -1,4 +1,4 @@
-//! The board: the piece on each of the 64 squares, in four words.
+//! The board: the piece on each of the 64 squares, in four sets of squares.
 
 ghost use Rattle.std.specs.Prelude.{◌≡◌, if◌then◌else◌, is_some, length};
 ghost use Rattle.chess_rules.specs.Board as spec;
@@ -12,9 +12,9 @@ use crate::square::Square;
 use crate::squares::Squares;
 use std::marker::Model;
 
-// Each word has a bit for each square. A rook is in `straight`, a bishop in `diagonal`, a queen in
-// both. `near` has what does not slide: a pawn is in no other of the three, a knight in `straight`
-// too, a king in `diagonal` too. An empty square is in none of the four.
+// Three sets tell the kinds of pieces apart. A rook is in `straight`, a bishop in `diagonal`, a
+// queen in both. Pieces that do not slide are in `near`: a pawn there alone, a knight in `straight`
+// too, a king in `diagonal` too. `black` has the black pieces. No set has an empty square.
 #[derive(Clone, Copy)]
 pub(crate) struct Board {
     straight: Squares,
@@ -39,7 +39,7 @@ impl Model for Board {
     ghost inverse_ok = { λ a h. h };
 }
 
-// The bits of a content in `straight`, `diagonal`, `near` and `black`.
+// Whether a square with this content is in `straight`, `diagonal`, `near` and `black`.
 fn bits_of(content: Option<Piece>) -> (bool, bool, bool, bool)
     ensures straight { result.0 ≡ words.straight_of content }
     ensures diagonal { result.1 ≡ words.diagonal_of content }
@@ -92,7 +92,7 @@ impl Board {
         }
     }
 
-    // The squares with such a piece.
+    // The squares with a piece of the colour and the kind.
     pub(crate) fn pieces(&self, colour: Colour, kind: Kind) -> Squares
         ensures { words.Places result (λ s. spec.has_piece colour kind (spec.at self.now s)) }
     {
@@ -181,7 +181,7 @@ impl Board {
         };
     }
 
-    // The board of the first position.
+    // The board of the usual first position.
     pub(crate) fn initial() -> Board
         ensures { result ≡ initial_board }
     {
@@ -197,7 +197,7 @@ impl Board {
     pub(crate) fn of(contents: &[Option<Piece>; 64]) -> Board
         ensures { result ≡ contents.now }
     {
-        // Each square is put, so any board will do to begin with.
+        // The loop writes every square, so any board will do to begin with.
         let mut board = Board::initial();
         for (i, content) in contents.iter().enumerate() {
             board.put(Square::nth(i), *content);

@@ -18,9 +18,9 @@ use arrayvec::ArrayVec;
 
 /// Returns the squares from which a piece of the kind, of the side to move, sees the target.
 ///
-/// Such a piece is the first on a rank, a file or a diagonal from the target, or for a knight a
-/// jump away. From no other square has a piece of the kind a legal move to the target. There are at
-/// most 8, each once.
+/// A knight sees the target from a jump away. Every other kind sees it along a rank, a file or a
+/// diagonal with no piece in between, even if it does not move that way. From no other square has a
+/// piece of the kind a legal move to the target. There are at most 8 squares, each once.
 ///
 /// # Examples
 ///
@@ -78,8 +78,8 @@ fn possible_origins(position: &Position, kind: Kind, target: Square) -> Squares
 
 /// Returns `false` only if `origins` lists at most one square for the kind and the target.
 ///
-/// This looks through pieces, so it may return `true` for one origin or none. It is cheaper than
-/// `origins`: for most moves it already says that no other piece can go there.
+/// `true` decides nothing: there may be one origin or none. Pieces in between are ignored. This is
+/// cheaper than `origins`, and for most moves it already says that no other piece can go there.
 pub fn may_have_two_origins(position: &Position, kind: Kind, target: Square) -> bool
     ensures { result ≡ false → length (candidates position.now kind target) ≤ 1 }
 {

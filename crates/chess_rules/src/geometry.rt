@@ -13,56 +13,56 @@ use crate::tables::{
     ADJACENT, BETWEEN, BLACK_PAWNS, DIAGONALS, KNIGHT_JUMPS, LINES, STEEP, WHITE_PAWNS,
 };
 
-// The squares a knight's jump away.
+// The squares a knight's jump away from the target.
 pub(crate) fn knights_to(target: Square) -> Squares
     ensures { Places result (λ s. square.is_jump s target) }
 {
     Squares::of_bits(KNIGHT_JUMPS[target.index()])
 }
 
-// The squares side by side with it.
+// The squares next to the target, on its rank, its file or a diagonal.
 pub(crate) fn adjacent(target: Square) -> Squares
     ensures { Places result (λ s. square.is_adjacent s target) }
 {
     Squares::of_bits(ADJACENT[target.index()])
 }
 
-// The others of its rank and its file.
+// The other squares on the rank and the file of the target.
 pub(crate) fn rank_and_file(target: Square) -> Squares
     ensures { Places result (λ s. square.in_line s target) }
 {
     Squares::of_bits(LINES[target.index()])
 }
 
-// The others of its diagonals.
+// The other squares on the diagonals of the target.
 pub(crate) fn diagonals(target: Square) -> Squares
     ensures { Places result (λ s. square.on_diagonal s target) }
 {
     Squares::of_bits(DIAGONALS[target.index()])
 }
 
-// The squares of its file and of the diagonal that rises to the right.
+// The file of the target and its diagonal that rises to the right, both with the target itself.
 pub(crate) fn steep(target: Square) -> Squares
     ensures { Places result (λ s. reach.is_steep s target) }
 {
     Squares::of_bits(STEEP[target.index()])
 }
 
-// The others of its rank, its file and its diagonals.
+// The other squares on the rank, the file and the diagonals of the target.
 pub(crate) fn aligned(target: Square) -> Squares
     ensures { Places result (λ s. reach.is_aligned s target) }
 {
     rank_and_file(target) | diagonals(target)
 }
 
-// Whether the two are on one rank, file or diagonal.
+// Whether the two are different squares of one rank, file or diagonal.
 pub(crate) fn is_aligned(from: Square, to: Square) -> bool
     ensures { result ≡ reach.is_aligned from to }
 {
     aligned(to).has(from)
 }
 
-// The squares from which a pawn of the colour attacks it.
+// The squares from which a pawn of the colour attacks the target.
 pub(crate) fn pawns_to(by: Colour, target: Square) -> Squares
     ensures { Places result (λ s. reach.reaches Pawn by s target) }
 {
@@ -72,7 +72,7 @@ pub(crate) fn pawns_to(by: Colour, target: Square) -> Squares
     }
 }
 
-// Whether such a piece on `from` attacks `to`, if all squares between are empty.
+// Whether the piece, on `from`, attacks `to` if all squares between are empty.
 pub(crate) fn reaches(piece: Piece, from: Square, to: Square) -> bool
     ensures { result ≡ reach.reaches piece.kind piece.colour from to }
 {

@@ -1,5 +1,5 @@
-//! Laws of the definitions of play: what the rules promise for all positions. The functions do
-//! nothing.
+//! Laws of the definitions of play: what they promise for all positions, or even for all parts. The
+//! functions do nothing: their contracts are the laws.
 
 ghost use Rattle.chess_rules.specs.Laws.{CandidatesComplete, CasesApart, FewCandidates, LeavesPosition, OneAfter, OneKing, PromotionsAlike};
 
@@ -15,14 +15,14 @@ pub fn one_position_after()
     ensures { OneAfter }
 {}
 
-/// A legal move leads to a position.
+/// A legal move in a position leads to a position.
 ///
-/// No king is taken, each side keeps one, and no pawn arrives on rank 1 or 8.
+/// No king is captured, each side keeps one, and no pawn is left on rank 1 or 8.
 pub fn a_legal_move_leaves_a_position()
     ensures { LeavesPosition }
 {}
 
-/// The origin of each legal move is a candidate of its kind for its target.
+/// The origin of each legal move is a candidate of its kind for its target: `origins` lists it.
 ///
 /// Castling, en passant, double steps and promotions are included.
 pub fn candidates_are_complete()
@@ -34,12 +34,12 @@ pub fn candidates_are_few()
     ensures { FewCandidates }
 {}
 
-/// In a position, a pair is legal with all four promotions or with none.
+/// In a position, an origin and a target are legal with all four promotions or with none.
 pub fn promotions_are_alike()
     ensures { PromotionsAlike }
 {}
 
-/// In a position, each side has its king on one square.
+/// In a position, each side has its king on one square only.
 pub fn one_king_a_side()
     ensures { OneKing }
 {}

@@ -12,7 +12,7 @@ use crate::step::{is_step_of_kind, kind_of_step};
 
 /// Returns the position after the move, or `None` if the move is not legal. (FIDE Laws 3.10.1)
 ///
-/// This counts as one pair tried, and the count must have room for it.
+/// This adds 1 to the count of `probes`, which must have room for it.
 ///
 /// # Examples
 ///
@@ -44,7 +44,7 @@ pub fn try_pair(position: &Position, mv: Move, probes: &mut Probes) -> Option<Po
 
 /// Returns the position after a legal move. (FIDE Laws 3.10.1)
 ///
-/// The move must be legal. This tries no pair.
+/// The move must be legal: this does not test it, and counts no pair.
 #[inline(always)]
 pub fn position_after(position: &Position, mv: &Move) -> Position
     requires { IsTrue (spec.is_legal position.now mv.now) }
@@ -53,7 +53,7 @@ pub fn position_after(position: &Position, mv: &Move) -> Position
     position.after(mv, kind_of_step(position, mv))
 }
 
-// Whether the rules allow the move.
+// Whether the move is legal.
 #[inline(never)]
 fn allows(position: &Position, mv: &Move) -> bool
     ensures { result ≡ spec.is_legal position.now mv.now }
@@ -62,22 +62,23 @@ fn allows(position: &Position, mv: &Move) -> bool
     is_step_of_kind(position, mv, step_kind) && position.is_safe_after(mv, step_kind)
 }
 
-/// Whether the king of the side to move is in check. (FIDE Laws 3.9.1)
+/// Returns whether the king of the side to move is in check. (FIDE Laws 3.9.1)
 pub fn in_check(position: &Position) -> bool
     ensures { result ≡ spec.is_check position.now }
 {
     position.is_checked()
 }
 
-/// Whether the side to move has a legal move. (FIDE Laws 1.4, 5.1.1, 5.2.1)
+/// Returns whether the side to move has a legal move. (FIDE Laws 1.4, 5.1.1, 5.2.1)
 ///
 /// Without one it is mated or stalemated. This counts the pairs that it tries: at most 1,024, and
-/// the count must have room for them. If no move is legal, it counts one for each kind, target and
-/// member of `origins`.
+/// the count must have room for as many. If no move is legal, it counts one for each kind, each
+/// target and each square that `origins` lists for them.
 ///
-/// The single steps of the king come first. Then it goes from target to target: in check, first to
-/// the attackers, and the squares between the king and the first of these. In each such set the
-/// squares come from a1 to h1, from a2 to h2 and so on, and so do the origins of one target.
+/// The king's steps to the squares next to it come first, then the other pairs, target by target.
+/// In check, the squares of the attackers, and those between the king and the first attacker, are
+/// the first targets. Each group of targets goes from a1 to h1, from a2 to h2 and so on, and so do
+/// the origins of one target.
 ///
 /// # Examples
 ///
@@ -102,8 +103,8 @@ pub fn has_legal_move(position: &Position, probes: &mut Probes) -> bool
     if has_king_step(position, probes) {
         return true;
     }
-    // In check, the targets that may meet the check come first. To the others only en passant can
-    // meet it, but if no pair is legal, all of them are counted.
+    // In check, the targets that may meet the check come first. Of the moves to the others only en
+    // passant can meet it. They are tried too: if no pair is legal, all are counted.
     let first = evasion_targets(position.board(), position.side().other(), position.king());
     let others = !first;
     has_other_move_to(position, first, probes) || has_other_move_to(position, others, probes)

@@ -15,8 +15,8 @@ use crate::square::Square;
 use crate::squares::Squares;
 use crate::step::rank_from;
 
-// Tries the pair. A pawn that reaches the last rank becomes a queen: all four promotions are legal,
-// or none.
+// Whether the pair is legal; this counts as one tried. A pawn that reaches the last rank becomes a
+// queen: all four promotions are legal, or none.
 fn is_legal_pair(position: &Position, from: Square, to: Square, probes: &mut Probes) -> bool
     requires { probes.old + 1 < 2 ^ 32 }
     ensures found { result ≡ spec.is_legal_pair position.now from to }
@@ -50,14 +50,14 @@ fn has_move_from(position: &Position, origins: Squares, target: Square, probes: 
     false
 }
 
-// The squares beside the king of the side to move without a piece of its side.
+// The squares next to the king of the side to move that have no piece of its side.
 fn king_targets(position: &Position) -> Squares
     ensures { Places result (spec.is_king_step position.now) }
 {
     adjacent(position.king()) & !position.board().of_colour(position.side())
 }
 
-// Whether a single step of the king is legal.
+// Whether a step of the king to one of its `king_targets` is legal.
 pub(crate) fn has_king_step(position: &Position, probes: &mut Probes) -> bool
     requires { probes.old + spec.count_king_steps position.now < 2 ^ 32 }
     ensures found { result ≡ spec.has_king_step position.now }
@@ -72,7 +72,7 @@ pub(crate) fn has_king_step(position: &Position, probes: &mut Probes) -> bool
     false
 }
 
-// Whether a pair for one of the targets is legal that `has_king_step` has not tried.
+// Whether a pair for one of the targets is legal, other than those that `has_king_step` tries.
 pub(crate) fn has_other_move_to(position: &Position, targets: Squares, probes: &mut Probes) -> bool
     requires { probes.old + sum_by (spec.count_untried position.now) (members targets) < 2 ^ 32 }
     ensures found { result ≡ list_any (spec.has_untried_move position.now) (members targets) }
@@ -89,8 +89,8 @@ pub(crate) fn has_other_move_to(position: &Position, targets: Squares, probes: &
 }
 
 // The origins still to be tried for the target: the side's knights a jump away, and its other
-// pieces on a rank, a file or a diagonal with the target, if the way is clear. A king whose step
-// was tried is not among them.
+// pieces on a rank, a file or a diagonal with the target, if the way is clear. The king is not
+// among them if `has_king_step` has tried its step to the target.
 fn untried(position: &Position, target: Square) -> Squares
     ensures { Places result (spec.is_untried position.now target) }
 {

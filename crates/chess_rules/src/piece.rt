@@ -12,7 +12,6 @@ pub enum Colour {
 impl Colour {
     ghost use Rattle.chess_rules.specs.Board.{other};
 
-    // The other side.
     pub(crate) fn other(self) -> Colour
         ensures { result ≡ other self }
     {
@@ -34,7 +33,7 @@ pub enum Kind {
     Pawn,
 }
 
-/// A piece of one side.
+/// A piece: its colour and its kind.
 #[derive(Clone, Copy, PartialEq, Eq, Debug)]
 pub struct Piece {
     pub colour: Colour,

@@ -51,9 +51,9 @@ pub struct Parts {
     pub rights: Rights,
     /// The en passant target: after a pawn's double step the square that it crossed.
     pub target: Option<Square>,
-    /// The halfmove clock.
+    /// The halfmove clock: plies since the last pawn move or capture.
     pub half: u32,
-    /// The fullmove number.
+    /// The fullmove number, which rises after each move of Black.
     pub full: u32,
 }
 
@@ -198,7 +198,7 @@ impl Position {
         &self.board
     }
 
-    // Gives the proof of a body the invariant of every position; it does nothing when it runs.
+    // By this call the caller's proof knows that the parts are a position. It has no effect.
     pub(crate) fn recall_invariant(&self)
         ensures { IsTrue (spec.is_position self.now) }
     {
@@ -219,9 +219,9 @@ impl Position {
         self.checked
     }
 
-    // Whether the step, which leaves that board, attacks the other king.
+    // Whether the step gives check. `board` is the board after it.
     //
-    // A plain step attacks it by the piece that it moves, or along the line that this leaves.
+    // A plain step gives check only by the piece that moves, or along a line that this leaves.
     #[inline(always)]
     fn gives_check(&self, mv: &Move, step_kind: StepKind, board: &Board) -> bool
         requires kind { IsKindOfStep step_kind self.now mv.now }
@@ -240,8 +240,8 @@ impl Position {
 
     // Whether the king of the side to move is safe after its step.
     //
-    // A quick test is enough if the king is not attacked and does not move, and the step opens no
-    // line to it, or no rook, bishop or queen is on its lines.
+    // A plain step of another piece, without check, leaves the king safe if its origin is on no
+    // line with the king, or if no rook, bishop or queen would attack it on an empty board.
     pub(crate) fn is_safe_after(&self, mv: &Move, step_kind: StepKind) -> bool
         requires kind { IsKindOfStep step_kind self.now mv.now }
         requires step { IsTrue (is_some (step.board_after self.now mv.now)) }
@@ -266,7 +266,7 @@ impl Position {
         !is_attacked(&board, self.side.other(), self.king_after(mv))
     }
 
-    // The square of the king of the side to move after its step, which may be the king's own.
+    // The square of the king of the side to move after the step: the target, if the king moves.
     fn king_after(&self, mv: &Move) -> Square
         requires { IsTrue (step.is_on_board mv.now) }
         ensures { IfSome (step.board_after self.now mv.now)
@@ -305,7 +305,7 @@ impl Position {
         }
     }
 
-    // The square crossed by a pawn that goes two squares. (PGN 16.1.3.4)
+    // The en passant target after the move: the square that a double step crosses. (PGN 16.1.3.4)
     #[inline(always)]
     fn target_after(&self, mv: &Move) -> Option<Square>
         ensures { result ≡ step.target_after self.now mv.now }
@@ -333,7 +333,7 @@ impl Position {
         self.board.at(square)
     }
 
-    /// Returns whether no piece is on the square. Square by square it is quicker than `at`.
+    /// Returns whether no piece is on the square. In a loop over squares it is quicker than `at`.
     pub fn is_empty(&self, square: Square) -> bool
         ensures { result ≡ is_empty self.now.board square }
     {
@@ -369,7 +369,7 @@ impl Position {
         self.half
     }
 
-    /// Returns the fullmove number, up to 99,999.
+    /// Returns the fullmove number, which rises after each move of Black, up to 99,999.
     pub fn full(&self) -> u32
         ensures value { result ≡ self.now.full }
         ensures limit { result ≤ 99999 }
@@ -386,7 +386,7 @@ fn has_pawn_on_edge(board: &Board) -> bool
     !(edges & board.of_kind(Kind::Pawn)).is_empty()
 }
 
-// Whether the target is on the rank that a pawn of the other side crosses by its double step.
+// Whether the target, if there is one, is on the rank that double steps of the other side cross.
 fn target_fits(side: Colour, target: Option<Square>) -> bool
     ensures { result ≡ spec.target_fits side target }
 {
@@ -403,7 +403,7 @@ fn counted(number: u32) -> u32
     if number < 99_999 { number + 1 } else { 99_999 }
 }
 
-// Whether a castling right of the king of that rank and the rook of that file stays.
+// Whether the move keeps the castling right of the king of this rank and the rook of this file.
 fn keeps(mv: &Move, file: u8, rank: u8) -> bool
     requires file { file < 8 }
     requires rank { rank < 8 }
@@ -427,7 +427,7 @@ fn rights_after(mv: &Move, rights: Rights) -> Rights
     rights_left(mv, rights)
 }
 
-// The same, for a move that begins or ends on one of those squares.
+// The same, without the quick test of those squares.
 #[inline(never)]
 fn rights_left(mv: &Move, rights: Rights) -> Rights
     ensures { result ≡ step.rights_after mv.now rights }

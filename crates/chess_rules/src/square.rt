@@ -30,7 +30,7 @@ impl Model for Square {
 }
 
 impl Default for Square {
-    /// Returns a1, which fills the unused places of a vector of squares.
+    /// Returns a1, which fills the unused elements of an `ArrayVec` of squares.
     fn default() -> Square
         ensures { result ≡ spec.square 0 0 }
     {
@@ -78,7 +78,7 @@ impl Square {
         }
     }
 
-    // The square's place among all, rank by rank from a1.
+    // The index of the square: 0 for a1, 1 for b1, and so on, rank by rank, to 63 for h8.
     pub(crate) fn index(self) -> usize
         ensures value { result ≡ cell_of self }
         ensures below { result < 64 }
@@ -87,7 +87,7 @@ impl Square {
         self.index as usize
     }
 
-    // The square with that place among all.
+    // The square with this index.
     pub(crate) fn nth(index: usize) -> Square
         requires { index < 64 }
         ensures { result ≡ square_at index }
@@ -95,7 +95,7 @@ impl Square {
         Square { index: index as u8 }
     }
 
-    // Gives the proof of a body the invariant of every square; it does nothing when it runs.
+    // By this call the caller's proof knows that the square is on the board. It has no effect.
     pub(crate) fn recall_invariant(self)
         ensures file { self.file < 8 }
         ensures rank { self.rank < 8 }

@@ -60,7 +60,7 @@ impl Not for Squares {
     }
 }
 
-// The bit of a square.
+// The word in which the bit of this square alone is set.
 fn bit_of(square: Square) -> u64
     ensures bit { result ≡ 2 ^ cell_of square }
     ensures inside { cell_of square < 64 }
@@ -92,7 +92,7 @@ impl Squares {
         self.bits >> square.index() & 1 == 1
     }
 
-    // The same as `has`. For each file of a rank in turn it is quicker: it tests constant bits.
+    // The same as `has`, but quicker in a loop over the files of a rank: each is a constant bit.
     pub(crate) fn has_on_rank(self, square: Square) -> bool
         ensures { result ≡ spec.has self (cell_of square) }
     {
@@ -135,7 +135,7 @@ impl Squares {
         self.with(first, false).is_empty().then_some(first)
     }
 
-    // The first square alone; none of a set that has none.
+    // The set of the first square alone, or the empty set if the set is empty.
     pub(crate) fn only_lowest(self) -> Squares
         ensures { IsOnly IsLowest self result }
     {
@@ -145,7 +145,7 @@ impl Squares {
         }
     }
 
-    // The last square alone; none of a set that has none.
+    // The set of the last square alone, or the empty set if the set is empty.
     pub(crate) fn only_highest(self) -> Squares
         ensures { IsOnly IsHighest self result }
     {
@@ -156,7 +156,7 @@ impl Squares {
         Squares::of_bits(bit_of(last))
     }
 
-    // Takes the first square out of the set, if it has one. Repeated, it goes through all in order.
+    // Removes and returns the first square, if there is one. Repeated, it returns all in order.
     pub(crate) fn take_lowest(&mut self) -> Option<Square>
         ensures { Takes result self.old self.new }
     {

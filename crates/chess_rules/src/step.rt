@@ -15,9 +15,9 @@ use crate::square::Square;
 // The kinds of steps, by what they do to the board.
 #[derive(Clone, Copy)]
 pub(crate) enum StepKind {
-    // One piece goes to the target, or a pawn becomes another there.
+    // One piece goes to the target, where a pawn may become another piece.
     Plain,
-    // A pawn takes the pawn beside it.
+    // A pawn goes to the en passant target, and captures the pawn beside its origin.
     EnPassant,
     // The king goes two files, and the rook of the h file to the square that the king crosses.
     ShortCastling,
@@ -25,7 +25,7 @@ pub(crate) enum StepKind {
     LongCastling,
 }
 
-// A rank, counted from 0 at the colour's home rank.
+// Turns a rank into its distance from the colour's home rank, and such a distance into a rank.
 pub(crate) fn rank_from(colour: Colour, rank: u8) -> u8
     requires { rank < 8 }
     ensures value { result ≡ step_kinds.rank_from colour rank }
@@ -37,14 +37,14 @@ pub(crate) fn rank_from(colour: Colour, rank: u8) -> u8
     }
 }
 
-// The square between the two ranks of a double step.
+// The square that the move crosses, if it is a double step.
 pub(crate) fn crossed(mv: &Move) -> Square
     ensures { result ≡ spec.crossed mv.now }
 {
     Square::on(mv.from.file(), (mv.from.rank() + mv.to.rank()) / 2)
 }
 
-// Whether a pawn of the side to move may go two squares forward. (FIDE Laws 3.7.2)
+// Whether the move is a double step, if a pawn of the side to move makes it. (FIDE Laws 3.7.2)
 #[inline(always)]
 pub(crate) fn is_double_step(position: &Position, mv: &Move) -> bool
     ensures { result ≡ spec.is_double_step position.now mv.now }
@@ -58,7 +58,7 @@ pub(crate) fn is_double_step(position: &Position, mv: &Move) -> bool
         && board.is_empty(mv.to)
 }
 
-// Whether a promotion is named exactly if the move is one. (FIDE Laws 3.7.3.3)
+// Whether the move names a promotion exactly if it ends on the last rank. (FIDE Laws 3.7.3.3)
 fn promotion_fits(position: &Position, mv: &Move) -> bool
     ensures { result ≡ spec.promotion_fits position.now mv.now }
 {
@@ -72,7 +72,7 @@ fn captured_pawn(mv: &Move) -> Square
     Square::on(mv.to.file(), mv.from.rank())
 }
 
-// The square of that file on the side's home rank.
+// The square of this file on the home rank of the side to move.
 fn home(position: &Position, file: u8) -> Square
     requires { file < 8 }
     ensures { result ≡ spec.home position.now file }
@@ -80,7 +80,7 @@ fn home(position: &Position, file: u8) -> Square
     Square::on(file, rank_from(position.side(), 0))
 }
 
-// The castling rights of the side, short and long.
+// The castling rights of the side to move, short and long.
 fn own_rights(position: &Position) -> (bool, bool)
     ensures short { result.0 ≡ spec.short_right position.now.side position.now.rights }
     ensures long { result.1 ≡ spec.long_right position.now.side position.now.rights }
@@ -92,7 +92,7 @@ fn own_rights(position: &Position) -> (bool, bool)
     }
 }
 
-// Whether the square on that file of the home rank is not attacked.
+// Whether the other side does not attack `home(position, file)`.
 fn is_unattacked(position: &Position, file: u8) -> bool
     requires { file < 8 }
     ensures { result ≡ spec.is_unattacked position.now file }
@@ -101,8 +101,8 @@ fn is_unattacked(position: &Position, file: u8) -> bool
     !is_attacked(position.board(), by, home(position, file))
 }
 
-// Whether the move castles, if the side has that right. `wing` has the files of the rook, of the
-// king's end, and of the square that the king crosses, where the rook ends. (FIDE Laws 3.8.2)
+// Whether the side has the `right` to castle on this wing, and the move does so. (FIDE Laws 3.8.2)
+// `wing` has the files of the rook, of the king's target, and of the square that the king crosses.
 fn castles(position: &Position, mv: &Move, right: bool, wing: (u8, u8, u8)) -> bool
     requires rook { wing.0 < 8 }
     requires end { wing.1 < 8 }
@@ -138,7 +138,7 @@ fn kind_of(promotion: Promotion) -> Kind
     }
 }
 
-// The kind of step that the move is, if it is one. This asks no rule.
+// The kind of step that the move is, if it is a step. This does not test whether it is one.
 #[tactic(auto, using(crate::proofs::moves::kings), unfolding(crate::specs::StepKinds::step_kind))]
 pub(crate) fn kind_of_step(position: &Position, mv: &Move) -> StepKind
     ensures { step_kinds.IsKindOfStep result position.now mv.now }
@@ -163,7 +163,7 @@ pub(crate) fn kind_of_step(position: &Position, mv: &Move) -> StepKind
     }
 }
 
-// Whether a pawn, which is on the origin, may go so. (FIDE Laws 3.7)
+// Whether the move is a step of the pawn on the origin, except for en passant. (FIDE Laws 3.7)
 fn is_pawn_step(position: &Position, mv: &Move) -> bool
     requires { IsTrue (spec.own position.now Pawn mv.now.from) }
     ensures { result ≡ spec.is_pawn_step position.now mv.now }
@@ -180,7 +180,7 @@ fn is_pawn_step(position: &Position, mv: &Move) -> bool
     is_ahead && board.is_empty(mv.to) || is_double_step(position, mv)
 }
 
-// Whether a piece of the side to move goes so by itself. The cheapest tests are first.
+// Whether the move is a step, but neither en passant nor castling. The cheapest tests are first.
 #[inline(always)]
 fn is_plain_step(position: &Position, mv: &Move) -> bool
     ensures { result
@@ -200,11 +200,11 @@ fn is_plain_step(position: &Position, mv: &Move) -> bool
     }
 }
 
-/// Whether the move is a step (pseudo-legal move) of the side to move. (FIDE Laws 3.1 to 3.8)
+/// Returns whether the move is a step (pseudo-legal move). (FIDE Laws 3.1 to 3.8)
 ///
-/// A piece of that side is on the origin, and the rules of movement let it go to the target, with
-/// this promotion or without one. Castling is a step only if the other side attacks none of the
-/// squares that the king leaves, crosses and reaches (FIDE Laws 3.8.2.2).
+/// A piece of the side to move is on the origin, and the rules of movement let it go to the target,
+/// with this promotion or without one. Castling is a step only if the other side attacks none of
+/// the squares that the king leaves, crosses and reaches (FIDE Laws 3.8.2.2).
 ///
 /// This does not ask whether the king would be in check afterwards. [`try_pair`](crate::try_pair)
 /// and [`has_legal_move`](crate::has_legal_move) decide what is legal.
@@ -256,10 +256,10 @@ pub(crate) fn is_step_of_kind(position: &Position, mv: &Move, step_kind: StepKin
     }
 }
 
-// The board after a step of that kind. This asks no rule.
+// The board after a step of this kind. This does not test whether the move is a step.
 //
-// All that writes to the board is inlined here. So the compiler sees that a test of legality writes
-// to nothing else, and drops it if nobody asks for the result.
+// Everything that writes to the board is inlined here. So the compiler sees that a test of legality
+// writes to nothing else, and drops the test if its result is unused.
 #[inline(always)]
 pub(crate) fn board_after(position: &Position, mv: &Move, step_kind: StepKind) -> Board
     requires kind { step_kinds.IsKindOfStep step_kind position.now mv.now }
