@@ -1,8 +1,11 @@
 """The games of a source, one at a time."""
 import ctypes
 import io
+import os
 import re
-from typing import Callable, Iterator, Mapping, NamedTuple, Optional, Tuple
+from collections import deque
+from itertools import chain
+from typing import Callable, Deque, Iterator, List, Mapping, NamedTuple, Optional, Tuple
 
 from . import _calls, _library
 from ._faults import PgnFault
@@ -17,6 +20,8 @@ OnFault = Callable[[PgnFault], object]
 _CAPACITY = 1 << 16
 # How many bytes `convert` reads at once: with their export they stay in the processor's cache.
 _PIECE = 1 << 17
+# The most threads in which it converts: a call of the library lets others run.
+_MOST_THREADS = 4
 # Most games begin behind this line end. Where it is in a comment or a game, the piece has a fault.
 _EVENT_LINE = b"\n[Event "
 # Empty lines, of which the last one's end is no first half of CR LF.
@@ -255,7 +260,7 @@ def convert(source: Source, *, checked: bool = False, reduced: bool = False) -> 
     """Returns the games of a source in export format; raises PgnFault at the first fault.
 
     It holds the export in memory, and a pipe or an open file too: for more, write the `text` of
-    `games`.
+    `games`. Up to four threads convert what is longer than 128 KiB.
 
     >>> print(convert(b"e4 e5 Nf3 *").decode().split("\\n\\n")[1])
     1. e4 e5 2. Nf3 *
@@ -272,40 +277,92 @@ def _export(source: Source, reduced: bool) -> Optional[bytes]:
     """The export of a source, or None if one of its pieces has a fault.
 
     A piece that is accepted ends outside games, comments and `%` lines. So the pieces have the
-    games of the source.
+    games of the source, and several can be converted at once.
     """
-    mode = _library.REDUCED_FORMAT if reduced else _library.FULL_FORMAT
-    export, buffer, opened = io.BytesIO(), ctypes.create_string_buffer(4096), Input(source)
+    conversion = _Conversion(_library.REDUCED_FORMAT if reduced else _library.FULL_FORMAT)
+    export, opened = io.BytesIO(), Input(source)
     try:
-        for data, end in _pieces(opened):
-            if len(buffer) < 2 * end:
-                buffer = ctypes.create_string_buffer(2 * end + 4096)
-            found = _library.convert(data, end, buffer, len(buffer), mode)
-            while found.status == _library.FULL:
-                buffer = ctypes.create_string_buffer(2 * len(buffer))
-                found = _library.convert(data, end, buffer, len(buffer), mode)
-            if found.status != _library.OK:
+        for found in _each_converted(conversion, _pieces(opened)):
+            if found is None:
                 return None
-            export.write(memoryview(buffer)[:found.written])
+            export.write(memoryview(found.buffer)[:found.length])
+            conversion.buffers.append(found.buffer)
     finally:
         opened.close()
     return export.getvalue()
 
 
-def _pieces(opened: Input) -> Iterator[Tuple[bytes, int]]:
-    """Yields (bytes, how many of them are the next piece): it ends before a line with an Event tag.
+class _Piece(NamedTuple):
+    """The first bytes of `data`, up to `end`."""
 
-    The bytes behind it come again with those that follow.
+    data: bytes
+    end: int
+
+
+class _Export(NamedTuple):
+    """The export of a piece: the first bytes of a buffer."""
+
+    buffer: _library.Buffer
+    length: int
+
+
+class _Conversion:
+    """Converts pieces. Threads may call it at the same time: each call has a buffer of its own."""
+
+    def __init__(self, mode: int) -> None:
+        self._mode = mode
+        self.buffers: List[_library.Buffer] = []
+        """Buffers for further calls."""
+
+    def __call__(self, piece: _Piece) -> Optional[_Export]:
+        """The export of a piece, or None if it has a fault."""
+        try:
+            buffer = self.buffers.pop()
+        except IndexError:
+            buffer = ctypes.create_string_buffer(2 * piece.end + 4096)
+        found = _library.convert(*piece, buffer, len(buffer), self._mode)
+        while found.status == _library.FULL:
+            buffer = ctypes.create_string_buffer(2 * len(buffer))
+            found = _library.convert(*piece, buffer, len(buffer), self._mode)
+        return _Export(buffer, found.written) if found.status == _library.OK else None
+
+
+def _each_converted(conversion: _Conversion,
+                    pieces: Iterator[_Piece]) -> Iterator[Optional[_Export]]:
+    """Yields the exports of the pieces in their order, while threads convert those behind."""
+    first, second = next(pieces), next(pieces, None)
+    if second is None:
+        yield conversion(first)
+        return
+    from concurrent.futures import Future, ThreadPoolExecutor
+    threads = min(_MOST_THREADS, os.cpu_count() or 1)
+    with ThreadPoolExecutor(threads) as pool:
+        waiting: "Deque[Future[Optional[_Export]]]" = deque()
+        for piece in chain((first, second), pieces):
+            waiting.append(pool.submit(conversion, piece))
+            if len(waiting) > 2 * threads:
+                yield waiting.popleft().result()
+        for found in waiting:
+            yield found.result()
+
+
+def _pieces(opened: Input) -> Iterator[_Piece]:
+    """Yields the source in pieces, of which each but the last ends before a line with an Event tag.
+
+    The bytes behind a piece's end come again with those that follow.
     """
-    data = part = opened.read_at_least(_PIECE)
-    while part:
+    data, size = b"", _PIECE
+    while True:
+        part = opened.read_at_least(size)
+        data += part
+        if len(part) < size:
+            yield _Piece(data, len(data))
+            return
         end = data.rfind(_EVENT_LINE) + 1
-        yield data, end
+        yield _Piece(data, end)
         data = data[end:]
         # where no Event tag was met, twice as many
-        part = opened.read_at_least(max(_PIECE, len(data)))
-        data += part
-    yield data, len(data)
+        size = max(_PIECE, len(data))
 
 
 def write_game(tags: Mapping[str, str], moves: Line, *, encoding: str = "utf-8") -> bytes:

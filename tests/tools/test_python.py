@@ -622,6 +622,25 @@ class Converted(Folder):
                 mock.patch.object(self.module, "games", side_effect=AssertionError):
             self.assertEqual([gillspoon.convert(it) for it in texts], wanted)
 
+    def test_threads_convert_at_the_same_time(self):
+        """Each of the first two calls of the library waits for the other."""
+        real, both, threads = self.module._library.convert, threading.Barrier(2), []
+
+        def convert(*words):
+            threads.append(threading.get_ident())
+            if len(threads) <= 2:
+                both.wait(60)
+            return real(*words)
+
+        data = archive(30, "plain")
+        wanted = gillspoon.convert(data)
+        with mock.patch.object(self.module, "_PIECE", len(data) // 5), \
+                mock.patch.object(self.module.os, "cpu_count", return_value=2), \
+                mock.patch.object(self.module._library, "convert", convert):
+            self.assertEqual(gillspoon.convert(data), wanted)
+        self.assertGreater(len(threads), 4)
+        self.assertEqual(len(set(threads)), 2)
+
     def sources(self, data):
         """The data as sources of each kind, which are closed after their use."""
         path = self.put("a.pgn", data)
