@@ -178,7 +178,7 @@ fn run_words<A: Abort + Copy + Drop>(
     Ok(run_on(machine, alloc, owned))
 }
 
-fn owned_words(alloc: Global, words: &[&str]) -> Result<Vec<String>, AllocError> {
+pub fn owned_words(alloc: Global, words: &[&str]) -> Result<Vec<String>, AllocError> {
     let mut owned = Vec::new(alloc);
     for word in words {
         owned.push(String::from_str(alloc, word)?)?;

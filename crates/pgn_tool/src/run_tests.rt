@@ -4,6 +4,7 @@ ghost use Rattle.std.specs.Prelude.{◌≡◌};
 use crate::devices::{Page, Reader, memory, whole};
 use crate::files::{CreateFault, GameFiles};
 use crate::machine::{GameFolder, Input, Output, SystemFault};
+use crate::memory_tests::owned_words;
 use crate::run::run;
 use crate::stream_tests::{UNKNOWN, WON};
 use pgn_game::{Inlet, Outlet, ReadFailed, Sink, Source, WriteFault};
@@ -215,10 +216,7 @@ fn run_words(alloc: Global, words: Result<Vec<String>, SystemFault>, has_memory:
 }
 
 fn call(alloc: Global, words: &[&str], has_memory: bool) -> Result<Ran, AllocError> {
-    let mut owned = Vec::new(alloc);
-    for word in words {
-        owned.push(String::from_str(alloc, word)?)?;
-    }
+    let owned = owned_words(alloc, words)?;
     Ok(run_words(alloc, Ok(owned), has_memory))
 }
 
