@@ -1,7 +1,5 @@
 -- Two equal readings: no token of the second shows a difference, also where one stops early.
-use Rattle.pgn_game.proofs.Words.{◌≡◌, ℕ, Bool, true, false, List, [], ◌∷◌, ◌++◌, inl, inr, Option, None, Some, refl, sym, ap, subst, ◌∙◌, append-nil, ◌==◌, bytes_eq-Decides, tokens_of, RisesTo, TokensRise, Token, Reason, Changed, Fault, Profile, takes_the_marker, Game, Part, refusal, is_end, Next, going, whole, next, Progress, no_progress, progress_after, read, read_from, eqb_tells, arith, rules, Mark, mark_at, marks_from, Comparison, compared_from, compared, written_by, is_other, is_changed, marks_after}
-use Rattle.pgn_game.specs.Progress.{written, verdict_of}
-use Rattle.pgn_game.specs.EqualReadings.{EqualReadings}
+use Rattle.pgn_game.proofs.Words.{◌≡◌, ℕ, Bool, true, false, List, [], ◌∷◌, ◌++◌, inl, inr, Option, None, Some, refl, sym, ap, ◌∙◌, append-nil, ◌==◌, bytes_eq-Decides, tokens_of, RisesTo, TokensRise, Token, Reason, Changed, Fault, Profile, takes_the_marker, Game, Part, refusal, is_end, Next, going, whole, next, Progress, no_progress, progress_after, read, read_from, eqb_tells, arith, rules, Mark, mark_at, marks_from, Comparison, compared_from, compared, written_by, is_other, is_changed, marks_after, written_so_far as written, verdict_of, EqualReadings}
 use Rattle.pgn_game.proofs.tokens.OneMoreToken.{by_token}
 use Rattle.pgn_game.proofs.reading.RunsToEnd.{not_end}
 
@@ -50,9 +48,9 @@ no_mark p b [] = refl
 no_mark p b (t ∷ ts) = refl
 
 -- a token that neither is rejected nor shows a difference
-unchanged : (p : Profile) (m : Mark) (b : Progress) (t : Token) (n : Next) → refusal p b.part t.kind ≡ None → next b.part t.kind ≡ n → is_other m n t ≡ false
+unchanged : (p : Profile) (m : Mark) (b : Progress) (t : Token) {n : Next} → refusal p b.part t.kind ≡ None → next b.part t.kind ≡ n → is_other m n t ≡ false
     → is_changed p m b.part t ≡ false
-unchanged p m b t n free leads same = cc
+unchanged p m b t free leads same = cc
 
 -- Behind the last mark, P depends on the finished games and not on the current one.
 abbrev pub SeesGames : (Comparison → Type 0) → Type 0
@@ -65,13 +63,13 @@ module _ (P : Comparison → Type 0) (sees : SeesGames P) (p : Profile) (b : Pro
   rest = marks_from p (progress_after b t) ts
 
   -- at a mark
-  at_mark : (g : Game) → next b.part t.kind ≡ whole g → P (compared_from p (mark_at t.at (next b.part t.kind) ++ rest) b (t ∷ us))
-  at_mark g leads = search (rules, change_test, same_mark, unchanged)
+  at_mark : {g : Game} → next b.part t.kind ≡ whole g → P (compared_from p (mark_at t.at (next b.part t.kind) ++ rest) b (t ∷ us))
+  at_mark leads = search (rules, change_test, same_mark, unchanged)
 
   -- within a game, with more marks or without
-  in_game : (part : Part) → next b.part t.kind ≡ going part → (ms : List Mark) → (vs : List Token) → Ends (t ∷ vs) → marks_from p (progress_after b t) vs ≡ ms
+  in_game : {part : Part} → next b.part t.kind ≡ going part → {ms : List Mark} → (vs : List Token) → Ends (t ∷ vs) → marks_from p (progress_after b t) vs ≡ ms
       → P (compared_from p ms (progress_after b t) us) → P (compared_from p ms b (t ∷ us))
-  in_game part leads ms vs ends_so is h = search (rules, change_test, no_mark, unchanged)
+  in_game leads vs ends_so is h = search (rules, change_test, no_mark, unchanged)
 
   by_next : (n : Next) → next b.part t.kind ≡ n → P (compared_from p (mark_at t.at (next b.part t.kind) ++ rest) b (t ∷ us))
   by_next n leads = search (rules, at_mark, in_game)
@@ -80,9 +78,9 @@ module _ (P : Comparison → Type 0) (sees : SeesGames P) (p : Profile) (b : Pro
   same_token = rw (marks_test p b t ts ∙ ap (after_marks p b t ts) free) (by_next (next b.part t.kind) refl)
 
 -- a token that both readings have and that is rejected
-pub rejected_token : (p : Profile) (b : Progress) (t : Token) (ts us : List Token) (reason : Reason) → refusal p b.part t.kind ≡ Some reason
+pub rejected_token : (p : Profile) (b : Progress) (t : Token) (ts us : List Token) {reason : Reason} → refusal p b.part t.kind ≡ Some reason
     → compared_from p (marks_from p b (t ∷ ts)) b (t ∷ us) ≡ record { progress = b; marks_left = []; fault = None }
-rejected_token p b t ts us reason is = cc
+rejected_token p b t ts us is = cc
 
 pub rest_ends : (t : Token) (ts : List Token) → Ends (t ∷ ts) → Ends ts
 rest_ends t [] last = tt
@@ -93,14 +91,14 @@ pub compared_same : (p : Profile) (b : Progress) (ts more : List Token) → Ends
 compared_same p b [] more last = (rw (no_mark p b more) (record { fault = refl; marks_left = refl; games = refl }))
 compared_same p b (t ∷ ts) more last =
     by_token p b t ts (λ r. Same (compared_from p (marks_from p b (t ∷ ts)) b (t ∷ ts ++ more)) r.progress.games)
-    (λ reason is. subst (λ (f : Comparison). Same f b.games) (sym (rejected_token p b t ts (ts ++ more) reason is)) (record { fault = refl; marks_left = refl; games = refl }))
+    (λ reason is. rw (rejected_token p b t ts (ts ++ more) is) (record { fault = refl; marks_left = refl; games = refl }))
     (λ is.
     same_token (λ (f : Comparison). Same f (read_from p (progress_after b t) ts).progress.games) (λ b c alike so. record { fault = refl; marks_left = refl; games = sym alike ∙ so.games }) p b t ts (ts ++ more) last is
     (compared_same p (progress_after b t) ts more (rest_ends t ts last)))
 
 -- What is written at the last mark: the finished games, as in one reading.
-pub written_same : (p : Profile) (f : Comparison) (b : Progress) → p.missing_result ≡ takes_the_marker → Same f b.games → written_by p f ≡ written p b
-written_same p f b takes so = cc
+pub written_same : (p : Profile) {f : Comparison} (b : Progress) → p.missing_result ≡ takes_the_marker → Same f b.games → written_by p f ≡ written p b
+written_same p b takes so = cc
 
 -- the verdict has the games and the fault alone
 same_verdict : (b c : Progress) (o : Option Fault) → b.games ≡ c.games → verdict_of (record { progress = b; fault = o }) ≡ verdict_of (record { progress = c; fault = o })
@@ -113,5 +111,5 @@ equal_readings rise p s takes =
     let r = read p ts in
     let so = (rw (append-nil ts) at (compared_same p no_progress ts [] (ends ts (rise s)))) in (
       (rw so.fault (same_verdict f.progress r.progress r.fault so.games)),
-      written_same p f r.progress takes so,
+      written_same p r.progress takes so,
     )

@@ -1,9 +1,5 @@
 -- Two readings of one text, of which one stops early or a write fails: what is written is a prefix.
-use Rattle.pgn_game.proofs.Words.{◌≡◌, ℕ, List, [], ◌∷◌, ◌++◌, take, drop, ◌⊎◌, inl, inr, None, refl, sym, ap, subst, ◌∙◌, append_assoc, append-nil, take-append-drop, tokens_of, TokensRise, Token, Profile, Missing, takes_the_marker, game_text, torn, torn_for, Next, going, whole, next, Progress, no_progress, progress_with, progress_after, Read, read, read_from, IsPrefix, rules, Mark, mark_at, marks_from, Comparison, compared_from, compared, written_by, with_mark, decided, text_next}
-use Rattle.pgn_lexer.specs.Laws.{DecidedIsPrefix}
-use Rattle.pgn_game.specs.Text.{text_of}
-use Rattle.pgn_game.specs.Progress.{written, due}
-use Rattle.pgn_game.specs.EqualReadings.{AreWritten, AreWrittenWithin, InterruptedReadings}
+use Rattle.pgn_game.proofs.Words.{◌≡◌, ℕ, List, [], ◌∷◌, ◌++◌, take, drop, ◌⊎◌, inl, inr, None, refl, sym, ap, subst, ◌∙◌, append_assoc, append-nil, take-append-drop, tokens_of, TokensRise, Token, Profile, takes_the_marker, game_text, torn, torn_for, Next, going, whole, next, Progress, no_progress, progress_with, progress_after, Read, read, read_from, IsPrefix, rules, Mark, mark_at, marks_from, Comparison, compared_from, compared, written_by, with_mark, decided, DecidedIsPrefix, text_of_games as text_of, written_so_far as written, due, AreWritten, AreWrittenWithin, InterruptedReadings}
 use Rattle.pgn_game.proofs.tokens.OneMoreToken.{by_token, goes_on, also, grows_from, due_grows, text_of-snoc}
 use Rattle.pgn_game.proofs.tokens.NextGrows.{behind, next_grows}
 use Rattle.pgn_game.proofs.EqualReadings.{Ends, ends, rest_ends, after_marks, marks_test, SeesGames, same_token, rejected_token, compared_same, written_same}
@@ -30,7 +26,7 @@ longer (x ∷ xs) (y ∷ ys) vs ws same =
 module _ (p : Profile) (takes : p.missing_result ≡ takes_the_marker) where
   -- where a missing Result takes the marker, only whole games are written in one reading
   whole_games : (b : Progress) → written p b ≡ text_of p b.games
-  whole_games b = ap (λ (m : Missing). text_of p b.games ++ torn_for m p.mode b.part) takes ∙ append-nil (text_of p b.games)
+  whole_games b = ap (λ m. text_of p b.games ++ torn_for m p.mode b.part) takes ∙ append-nil (text_of p b.games)
 
   games_grow : (b : Progress) (ts : List Token) → IsPrefix (text_of p b.games) (written p (read_from p b ts).progress)
   games_grow b ts = subst (λ (l : List ℕ). IsPrefix l (written p (read_from p b ts).progress)) (whole_games b) (grows_from p b ts)
@@ -39,21 +35,21 @@ module _ (p : Profile) (takes : p.missing_result ≡ takes_the_marker) where
   abbrev Ahead : Progress → Mark → Read → Type 0
   Ahead b m r = IsPrefix (text_of p b.games ++ torn (with_mark p m) b.part) (written p r.progress)
 
-  torn_at_mark : (b : Progress) (t : Token) (ts : List Token) (m : Mark) (ms : List Mark) (n : Next) → next b.part t.kind ≡ n
+  torn_at_mark : (b : Progress) (t : Token) (ts : List Token) (m : Mark) {ms : List Mark} (n : Next) → next b.part t.kind ≡ n
       → mark_at t.at n ++ marks_from p (progress_with b.games n) ts ≡ m ∷ ms
       → (marks_from p (progress_with b.games n) ts ≡ m ∷ ms → Ahead (progress_with b.games n) m (read_from p (progress_with b.games n) ts))
       → Ahead b m (read_from p (progress_with b.games n) ts)
-  torn_at_mark b t ts m ms (going part) leads is further =
-      also _ _ _ (behind (text_of p b.games) _ _ (subst (λ (n : Next). IsPrefix (torn (with_mark p m) b.part) (text_next (with_mark p m) n)) leads (next_grows (with_mark p m) b.part t.kind)))
+  torn_at_mark b t ts m (going part) leads is further =
+      also _ _ _ (behind (text_of p b.games) _ _ (rw leads at (next_grows (with_mark p m) b.part t.kind)))
       (further is)
-  torn_at_mark b t ts m ms (whole g) leads is further =
+  torn_at_mark b t ts m (whole g) leads is further =
       let c : Progress = progress_with b.games (whole g) in
       let same : m ≡ record { text = g.marker; at = t.at } = cc in
       let grown : IsPrefix (torn (with_mark p m) b.part) (game_text (with_mark p m) g) =
-      subst (λ (n : Next). IsPrefix (torn (with_mark p m) b.part) (text_next (with_mark p m) n)) leads (next_grows (with_mark p m) b.part t.kind) in
-      let text : game_text (with_mark p m) g ≡ game_text p g = ap (λ (x : Mark). game_text (with_mark p x) g) same ∙ same_game_text p g takes in
+      rw leads at (next_grows (with_mark p m) b.part t.kind) in
+      let text : game_text (with_mark p m) g ≡ game_text p g = rw same (same_game_text p g takes) in
       also _ _ _ (behind (text_of p b.games) _ _ (subst (IsPrefix (torn (with_mark p m) b.part)) text grown))
-      (subst (λ (l : List ℕ). IsPrefix l (written p (read_from p c ts).progress)) (text_of-snoc p b.games g) (games_grow c ts))
+      (rw (text_of-snoc p b.games g) at (games_grow c ts))
 
   torn_ahead : (b : Progress) (ts : List Token) (m : Mark) (ms : List Mark) → marks_from p b ts ≡ m ∷ ms → Ahead b m (read_from p b ts)
   torn_ahead b [] m ms is = absurd (cc)
@@ -61,7 +57,7 @@ module _ (p : Profile) (takes : p.missing_result ≡ takes_the_marker) where
       by_token p b t ts (Ahead b m)
       (λ reason rejects. let none : marks_from p b (t ∷ ts) ≡ [] = marks_test p b t ts ∙ ap (after_marks p b t ts) rejects in absurd (cc))
       (λ free.
-      torn_at_mark b t ts m ms (next b.part t.kind) refl (sym (marks_test p b t ts ∙ ap (after_marks p b t ts) free) ∙ is)
+      torn_at_mark b t ts m (next b.part t.kind) refl (sym (marks_test p b t ts ∙ ap (after_marks p b t ts) free) ∙ is)
       (torn_ahead (progress_after b t) ts m ms))
 
   -- What is written of one text where `second` stops behind a front of its tokens: `low` is what
@@ -74,11 +70,11 @@ module _ (p : Profile) (takes : p.missing_result ≡ takes_the_marker) where
   sees_within : (low high : Progress) → SeesGames (Within low high)
   sees_within low high = search rules
 
-  none_written : (b high : Progress) → IsPrefix (text_of p b.games) (written p high) → Within b high (record { progress = b; marks_left = []; fault = None })
-  none_written b high grown = search (rules, append-nil)
+  none_written : {b high : Progress} → IsPrefix (text_of p b.games) (written p high) → Within b high (record { progress = b; marks_left = []; fault = None })
+  none_written grown = search (rules, append-nil)
 
   waits : (b : Progress) (more : List Token) (ms : List Mark) → marks_from p b more ≡ ms → Within b (read_from p b more).progress (record { progress = b; marks_left = ms; fault = None })
-  waits b more [] is = none_written b (read_from p b more).progress (games_grow b more)
+  waits b more [] is = none_written (games_grow b more)
   waits b more (m ∷ ms) is = record { fault = refl; least = (_, refl); most = torn_ahead b more m ms is }
 
   abbrev ForToken : Progress → Token → List Token → List Token → Read → Read → Type 0
@@ -90,7 +86,7 @@ module _ (p : Profile) (takes : p.missing_result ≡ takes_the_marker) where
   compared_within b [] more last = waits b more (marks_from p b more) refl
   compared_within b (t ∷ us) more last =
       by_token p b t us (λ r. ForToken b t us more r (read_from p b (t ∷ us ++ more)))
-      (λ reason is. subst (Within b _) (sym (rejected_token p b t (us ++ more) us reason is)) (none_written b _ (games_grow b (t ∷ us ++ more))))
+      (λ reason is. subst (Within b _) (sym (rejected_token p b t (us ++ more) us is)) (none_written (games_grow b (t ∷ us ++ more))))
       (λ is.
       subst (ForToken b t us more (read_from p (progress_after b t) us)) (sym (goes_on p b t (us ++ more) is))
       (same_token (Within (read_from p (progress_after b t) us).progress (read_from p (progress_after b t) (us ++ more)).progress) (sees_within _ _) p b t (us ++ more) us last is
@@ -106,27 +102,27 @@ module _ (p : Profile) (takes : p.missing_result ≡ takes_the_marker) where
       let so = compared_within no_progress us more last in
       record {
         fault = so.fault;
-        least = subst (λ (l : List ℕ). IsPrefix l (written_by p (compared p (us ++ more) us))) (sym (whole_games (read p us).progress)) so.least;
+        least = rw (whole_games (read p us).progress) so.least;
         most = so.most;
       }
 
   -- The same where `first` has given the tokens ts, of which a mark is ahead.
-  pub before_mark : (us more ts rest : List Token) (m : Mark) (ms : List Mark) → Ends (us ++ more) → us ++ more ≡ ts ++ rest → (compared p ts us).marks_left ≡ m ∷ ms
+  pub before_mark : (us more ts rest : List Token) {m : Mark} {ms : List Mark} → Ends (us ++ more) → us ++ more ≡ ts ++ rest → (compared p ts us).marks_left ≡ m ∷ ms
       → AreWrittenWithin p (compared p ts us) (due p us) (due p (us ++ more))
-  before_mark us more ts rest m ms last same ahead = by_length (longer ts us rest more (sym same))
+  before_mark us more ts rest last same ahead = by_length (longer ts us rest more (sym same))
     where
       by_length : ((z : List Token) × (us ≡ ts ++ z)) ⊎ ((z : List Token) × (ts ≡ us ++ z)) → AreWrittenWithin p (compared p ts us) (due p us) (due p (us ++ more))
       by_length (inl h) =
           let none : (compared p ts us).marks_left ≡ [] =
-          ap (λ (l : List Token). (compared p ts l).marks_left) h.1 ∙ (first_stops ts h.0 (subst Ends h.1 (front_ends us more last))).no_mark_left in
+          rw h.1 ((first_stops ts h.0 (subst Ends h.1 (front_ends us more last))).no_mark_left) in
           absurd (cc (none, ahead))
       by_length (inr h) =
           let so = second_stops us h.0 (subst Ends h.1 (front_ends ts rest (subst Ends same last))) in
-          let within = subst (λ (l : List Token). AreWrittenWithin p (compared p l us) (due p us) (due p l)) (sym h.1) so in
+          let within = rw (← h.1) at so in
           record {
             fault = within.fault;
             least = within.least;
-            most = also _ _ _ within.most (subst (λ (l : List Token). IsPrefix (due p ts) (due p l)) (sym same) (due_grows p ts rest));
+            most = also _ _ _ within.most (rw same (due_grows p ts rest));
           }
 
   -- Whatever both have given of one text, a prefix of its output is written.
@@ -136,26 +132,24 @@ module _ (p : Profile) (takes : p.missing_result ≡ takes_the_marker) where
       by_length : ((z : List Token) × (us ≡ ts ++ z)) ⊎ ((z : List Token) × (ts ≡ us ++ z)) → IsPrefix (written_by p (compared p ts us)) (due p (ts ++ rest))
       by_length (inl h) =
           let so = first_stops ts h.0 (subst Ends h.1 (front_ends us more (subst Ends same last))) in
-          let is : written_by p (compared p ts us) ≡ due p ts = ap (λ (l : List Token). written_by p (compared p ts l)) h.1 ∙ so.written in
+          let is : written_by p (compared p ts us) ≡ due p ts = rw h.1 so.written in
           subst (λ (l : List ℕ). IsPrefix l (due p (ts ++ rest))) (sym is) (due_grows p ts rest)
       by_length (inr h) =
           let so = second_stops us h.0 (subst Ends h.1 (front_ends ts rest last)) in
-          also _ _ _ (subst (λ (l : List Token). IsPrefix (written_by p (compared p l us)) (due p l)) (sym h.1) so.most) (due_grows p ts rest)
+          also _ _ _ (rw h.1 so.most) (due_grows p ts rest)
 
 pub interrupted_readings : DecidedIsPrefix → TokensRise → InterruptedReadings
 interrupted_readings decides rise =
     record {
       first_stops = λ p u x takes.
           let h = decides u x in
-          subst (λ (ts : List Token). AreWritten p (compared p (decided u) ts) (due p (decided u))) (sym h.1)
-          (first_stops p takes (decided u) h.0 (subst Ends h.1 (ends (tokens_of (u ++ x)) (rise (u ++ x)))));
+          rw h.1 (first_stops p takes (decided u) h.0 (subst Ends h.1 (ends (tokens_of (u ++ x)) (rise (u ++ x)))));
       second_stops = λ p u x ts rest m ms takes cut ahead.
           let h = decides u x in
-          subst (λ (all : List Token). AreWrittenWithin p (compared p ts (decided u)) (due p (decided u)) (due p all)) (sym h.1)
-          (before_mark p takes (decided u) h.0 ts rest m ms (subst Ends h.1 (ends (tokens_of (u ++ x)) (rise (u ++ x)))) (sym h.1 ∙ cut) ahead);
+          rw h.1 (before_mark p takes (decided u) h.0 ts rest (subst Ends h.1 (ends (tokens_of (u ++ x)) (rise (u ++ x)))) (sym h.1 ∙ cut) ahead);
       write_fails = λ p s ts rest front after token count takes cut at.
           let us = front ++ token ∷ [] in
           let here : ts ++ rest ≡ us ++ after = sym cut ∙ at ∙ sym (append_assoc front (token ∷ []) after) in
           let so = written_in_front p takes ts rest us after (subst Ends cut (ends (tokens_of s) (rise s))) here in
-          front_of count _ _ (subst (λ (all : List Token). IsPrefix (written_by p (compared p ts us)) (due p all)) (sym cut) so);
+          front_of count _ _ (rw cut so);
     }

@@ -17,13 +17,13 @@ pub use Rattle.pgn_game.specs.Game.{Item, Game, Part, no_part}
 pub use Rattle.std.proofs.Common.{All, Bool, Bor, Err, IfOk, IfSome, IsErr, IsFalse, IsSome, IsSomeAnd, IsTrue, List, None, Ok, OnOk, Option, Result, Some, [], add-one, ap, append-nil, append_assoc, arith, bytes_eq, codes, cond, decimal, drop, eq-eqb, false, filter, fold, get_or, if◌then◌else◌, inl, inr, insert, is_none, is_ok, is_some, le-ltb, le_refl, length, length-append, lit<, lit≤, lt-ltb, map, max, nat_le, nat_lt, not, option_map, refl, rules, set, slice_get, subst, suc, sum, sym, take, true, true≢false, unwrap_or, zero, ℕ, ◌&&◌, ◌++◌, ◌+◌, ◌-◌, ◌<◌, ◌==◌, ◌^◌, ◌||◌, ◌↔◌, ◌∙◌, ◌∷◌, ◌≡◌, ◌≤◌, ◌⊎◌, drop_of_length-le, le_trans, length-drop, length-take, ◌*◌}
 pub use Rattle.std.proofs.ByRecursion.{All-append, All-map, All-weaker, all_kept_by}
 pub use Rattle.std.proofs.KnownBytes.{Appends-nil, Appends-trans, Consumes-kept, Consumes-nil, Consumes-trans}
-pub use Rattle.std.proofs.Math.Seq.{drop-append-add, drop-append_seam, drop-cons, drop-length, take-append-add, take-append_seam, take-suc}
+pub use Rattle.std.proofs.Math.Seq.{drop-append-add, drop-append_seam, drop-cons, drop-length, take-append-add, take-append_seam, take-suc, take-add}
 pub use Rattle.std.proofs.lemmas.Bool.{and_from, and_parts, and_right, cases_Bool, cases_order, eqb-true, false≢true, le-leb, leb-false, leb-true, lt-leb, ltb-false, ltb-true, ne_eqb, not-false, or_cases, or_from, or_parts, or_right, true_from_ne_false}
 pub use Rattle.std.proofs.lemmas.Bool.Decides.{eqb_tells, nat_tests}
 pub use Rattle.std.proofs.lemmas.List.{drop_all, drop_at, length-map, length-set, length-take-le, take-append-drop, take-append-le, take_all, take_at, take_more_set, drop-append-le, drop-drop, drop-take, map-append, take-take, take_rest}
 pub use Rattle.std.proofs.lemmas.List.Elements.{All-cons, All-head, All-nil, All-tail, filter-append}
 pub use Rattle.std.proofs.lemmas.List.Folds.{list_all-append, list_any-append}
-pub use Rattle.std.proofs.lemmas.List.Sums.{count_by-le-length, fold-append, length-filter}
+pub use Rattle.std.proofs.lemmas.List.Sums.{count_by-le-length, fold-append, length-filter, sum-map, sum_by-append, sum_by-cons}
 pub use Rattle.std.proofs.lemmas.Option.{get_or_from_slice_get, none-some, same_Some, slice_get_within}
 pub use Rattle.std.proofs.lemmas.Slice.Eq.{bytes_eq-Decides}
 pub use Rattle.std.specs.Io.KnownBytes.{Appends, Consumes}
@@ -48,15 +48,15 @@ pub use Rattle.pgn_game.specs.ItemResult.{Adds, GoesOn, Plays, PutsTokens, Tries
 pub use Rattle.pgn_game.specs.Levels.{Level, Levels, back_to, depth, first_level, here, last_position, levels_after, levels_of, main_moves, outermost, plies_of, replayed, start_of, without_last}
 pub use Rattle.pgn_game.specs.Markers.{marker_text, missing_of}
 pub use Rattle.pgn_game.specs.Movetext.{AreThere, ClosesLevel, FitsLevelStore, HoldsItems, Movetext, StoredLevel, StoredLevels, before_last, code_levels, ends_in_move, inside, level_at, level_of, movetext_after_fen, movetext_from, only_level, stored_level, stored_levels}
-pub use Rattle.pgn_game.specs.Progress.{Counted, Next, Progress, Read, at_stage, going, in_text, items_of, move_item, next, next_in, no_progress, output, progress_after, progress_with, read, read_from, refused, totals, verdict, whole, position_at_fault}
-pub use Rattle.pgn_game.specs.PutResult.{BeginsText, Goes, Keeps, PutResult, PutsItems, TakesOutside, TakesToken, at_game_start, gain_to, section_due, section_due_of}
+pub use Rattle.pgn_game.specs.Progress.{Counted, Next, Progress, Read, at_stage, going, in_text, items_of, move_item, next, next_in, no_progress, output, progress_after, progress_with, read, read_from, refused, totals, verdict, whole, position_at_fault, due, verdict_of, written as written_so_far}
+pub use Rattle.pgn_game.specs.PutResult.{BeginsText, Goes, Keeps, PutResult, PutsItems, TakesOutside, TakesToken, at_game_start, gain_to, section_due, section_due_of, CountsMove, EntersMovetext, Finds, FinishesNone, GoesTo, Takes, TakesEntry, TakesUnwritten, counting_probes, unused}
 pub use Rattle.pgn_game.specs.ReaderState.{Accepts, Agrees, AreSound, CountsWrites, FinishesAtMarker, HoldsPairs, HoldsText, IsBehind, ReaderState, Stays, as_written, is_outside_the_table, plies_behind, whole_plies, Answers, CountsStop, IsAccepted, IsKnown, IsStopped, Leads, plies_next}
 pub use Rattle.pgn_game.specs.SectionLines.{other_line, roster_line, text_by}
 pub use Rattle.pgn_game.specs.Spells.{AreDistinct, AreDropped, BeginsBare, IsPair, IsResult, IsSetUp, KeepsTags, Names, Spells, SpellsGame, SpellsGames, SpellsPair, SpellsPairs, SpellsText, StandsFor, by_name, comment_close, comment_open, glyph, level_after_move, move, new_level, next_game, next_pair, no_game, no_more, no_pair, number, pair, period, token, variation, word}
 pub use Rattle.pgn_game.specs.StoredPairs.{FitsPairStore, TagPairs, but_last, index_of, last_name, pairs_seen}
 pub use Rattle.pgn_game.specs.TagSection.{exported, in_roster, other_pairs, roster_pairs, tag_lines, tag_section, with_set_up}
 unfoldable pub use Rattle.pgn_game.specs.TagSection.{roster}
-pub use Rattle.pgn_game.specs.Text.{Placed, full_text, game_text, has_move, is_main_move, is_move, number_before, placed_from, tokens_at, tokens_from, tokens_out, torn, torn_at, torn_for, written_items}
+pub use Rattle.pgn_game.specs.Text.{Placed, full_text, game_text, has_move, is_main_move, is_move, number_before, placed_from, tokens_at, tokens_from, tokens_out, torn, torn_at, torn_for, written_items, text_of as text_of_games}
 pub use Rattle.pgn_game.specs.TokenInMovetext.{IsEntry, IsOpen, ItemFits, fen_position, game_of, is_frequent, may_have_movetext, model_item, or_else, text_refusal, with_items}
 pub use Rattle.pgn_game.specs.declared.accepted.Accepted.TheVariants.{Finished, More}
 pub use Rattle.pgn_game.specs.declared.marker.Marker.{Marker}
@@ -66,31 +66,40 @@ pub use Rattle.pgn_layout.specs.Layout.{EndGame, Put, ended, laid_from, line_at,
 pub use Rattle.pgn_layout.specs.Lines.{IsToken, full_lines, has_room, last_line, lines_from, lines_of, text_of}
 pub use Rattle.pgn_layout.specs.TagLine.{escape_of, escaped, needs_escape, tag_line}
 pub use Rattle.pgn_lexer.specs.Bytes.{continues_symbol, is_digit, is_space, starts_symbol}
-pub use Rattle.pgn_lexer.specs.Laws.{IsLast, KindsAreReadBack, NumbersAreSymbols, RisesTo, TokensAreSound, TokensRise}
+pub use Rattle.pgn_lexer.specs.Laws.{IsLast, KindsAreReadBack, NumbersAreSymbols, RisesTo, TokensAreSound, TokensRise, TextsRestart, CanBeMarker, BeginsWithToken, SymbolsStandInText, DecidedIsPrefix}
 pub use Rattle.pgn_lexer.specs.Scanned.{kind_of}
 pub use Rattle.pgn_lexer.specs.Sound.{CommentsClose, IsData, IsSoundKind, IsSymbol, begins_with}
 pub use Rattle.pgn_lexer.specs.Tokens.{asterisk, left_bracket, right_bracket, str, symbol}
-pub use Rattle.pgn_lexer.specs.TokensOf.{tokens_of}
+pub use Rattle.pgn_lexer.specs.TokensOf.{tokens_of, onto}
 pub use Rattle.pgn_lexer.specs.Written.{AreEnded, IsEndedBy, IsPiece, IsReadable, Piece, kinds_in, text_of_pieces, written}
 pub use Rattle.pgn_lexer.specs.declared.token.TokenKind.{TokenKind}
 pub use Rattle.chess_text.specs.MoveOfForm.{form_pairs, move_of_form, with_next}
 pub use Rattle.chess_text.specs.declared.form.Form.{Form}
 pub use Rattle.pgn_game.specs.FoundMove.{found_in, with_position}
-pub use Rattle.pgn_game.specs.Laws.{IsPrefix}
+pub use Rattle.pgn_game.specs.Laws.{IsPrefix, DueGrows}
 unfoldable pub use Rattle.pgn_game.specs.Tried.{Costs}
 pub use Rattle.std.proofs.lemmas.Result.{err_from_is_err_and}
 pub use Rattle.pgn_game.specs.Tried.{CostsAnswer, CostsForm}
-pub use Rattle.pgn_game.specs.ConverterCalls.{AreNext, Converter, CountsFault, CountsMissingAs, CountsReason, FedAll, FedFault, FedGame, FedToFault, FedWhole, FinishedGame, HasRead, IsSound, ReadsUpTo, Stands, StopsIn, at_token, counting_missing_as, finished_game_of, finished_game_plies, game_in_reader_if, play_moves, profile_of, too_long}
+pub use Rattle.pgn_game.specs.ConverterCalls.{AreNext, Converter, CountsFault, CountsMissingAs, CountsReason, FedAll, FedFault, FedGame, FedToFault, FedWhole, FinishedGame, HasRead, IsSound, ReadsUpTo, Stands, StopsIn, at_token, counting_missing_as, finished_game_of, finished_game_plies, game_in_reader_if, play_moves, profile_of, too_long, AfterFinish, Finishes, FinishesToFault, game_in_reader, Stops, unwritten, StopsWriting, games_before, position_at_stop, ProbesAtStop, has_played_move, reported_position, refused as refused_stop, IsLast as IsLastGame}
 pub use Rattle.pgn_lexer.specs.Standing.{Standing, coming, waiting}
 pub use Rattle.pgn_lexer.specs.Stands.{AfterScan, FinishGivesToken, Follows, HasLeft, IsDecided, IsNext, StandsAfter, first, still}
 pub use Rattle.pgn_game.specs.Pass.{BothSoFar, HasMarked, HasMatched, IsGoing, Pass, changed_reason, marks_differ, part_after, profile_under, reading_under, steps_left}
-pub use Rattle.pgn_game.specs.MostTried.{CostsIf, CostsToAdd, CostsToFind, CostsToWrite, CostsUnlessRefused, MostFrom, MostTried, Raises, Tries, TriesUnwritten, added, is_sought, is_written}
+pub use Rattle.pgn_game.specs.MostTried.{CostsIf, CostsToAdd, CostsToFind, CostsToWrite, CostsUnlessRefused, MostFrom, MostTried, Raises, Tries, TriesUnwritten, added, is_sought, is_written, none}
 pub use Rattle.pgn_game.specs.GamesCalls.{AfterNext, CountsNext, Games, HasReadAll, HaveRead, NextGame, NextStops, NoGame, ReadSoFar, ReadsOn, StopsAtEnd, at_end, games_of, most_left, within}
 pub use Rattle.pgn_game.specs.Due.{Gains, gain, text_next}
-pub use Rattle.pgn_game.specs.ConverterSteps.{AfterStepAtEnd, AllSoFar, AtEndSoFar, FaultAtEnd, FeedsAllSoFar, FeedsSoFar, FinishesSoFar, SameGames, StaysBetween, StepAtEndAdvances, fault_of_step, games_after, is_ended, none_at_end, outcome_at}
+pub use Rattle.pgn_game.specs.ConverterSteps.{AfterStepAtEnd, AllSoFar, AtEndSoFar, FaultAtEnd, FeedsAllSoFar, FeedsSoFar, FinishesSoFar, SameGames, StaysBetween, StepAtEndAdvances, fault_of_step, games_after, is_ended, none_at_end, outcome_at, AfterStep, next_at, SoFar, OneGame, finished_game, StepAdvances}
 pub use Rattle.pgn_game.specs.Checked.{Comparison, Mark, checked_profile, compared, compared_from, earlier_fault, is_changed, is_other, mark_at, marks, marks_after, marks_from, torn_before, with_mark, written_by}
 pub use Rattle.pgn_lexer.specs.Decided.{decided}
 pub use Rattle.pgn_game.specs.declared.accepted.Accepted.{Accepted}
 pub use Rattle.pgn_game.specs.Conversion.{AfterConversion, AfterEnd, AfterSlice, CountsDevices, Fails, FailsOn, IsConverted, IsTotalled, MostProbes, ReadsNoMore, verdict_in}
 pub use Rattle.pgn_game.specs.GamesSteps.{FillResult, MoreResult, NextSoFar, ReadsSoFar}
 pub use Rattle.pgn_game.specs.GamesRestart.{FinishesGame, GamesRestart, counting_also, games_read}
+pub use Rattle.pgn_game.specs.declared.conversion.Totals.{Totals}
+pub use Rattle.pgn_lexer.specs.declared.token.LexFault.{LexFault}
+pub use Rattle.pgn_game.specs.GameEnds.{EndsByMarker, GamesEndByMarker, LastGame, TextsEndBehindMarker, TextsEndBetweenGames}
+pub use Rattle.pgn_game.specs.declared.annotation.Annotation.{Annotation}
+pub use Rattle.pgn_lexer.specs.PartialToken.{pending_in, tokens_to_come_in}
+pub use Rattle.pgn_lexer.specs.declared.token.LexReason.{LexReason}
+pub use Rattle.pgn_lexer.specs.declared.token.LexReason.TheVariants.{SymbolTooLong, WordTooLong, GlyphRange}
+pub use Rattle.pgn_lexer.specs.Spelling.{gives, stops}
+pub use Rattle.pgn_game.specs.EqualReadings.{AreWritten, AreWrittenWithin, InterruptedReadings, EqualReadings}

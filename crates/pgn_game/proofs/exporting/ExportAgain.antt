@@ -1,13 +1,11 @@
 -- An export text is read as its games with their defaults filled in, so it is written again as it
 -- is.
-use Rattle.pgn_game.proofs.Words.{◌≡◌, ℕ, ◌+◌, ◌≤◌, ◌^◌, inl, inr, Bool, true, false, List, [], ◌∷◌, ◌++◌, length, map, refl, sym, ap, subst, ◌∙◌, arith, length-append, append-nil, Option, None, Some, sum, IfSome, Ok, Err, filter, not, bytes_eq, codes, Appends, Consumes, length-map, length-filter, count_by-le-length, IsLast, RisesTo, TokensRise, tokens_of, Kind, Token, Fault, Between, Game, Part, Mode, Full, Reduced, Pair, has_pair, Profile, Progress, progress_after, Read, read_from, read, output, verdict, Counted, refused as is_refused, totals, refusal, is_end, filled, AreExportable, SameText, counted, IsWrittenAgain, SliceIsKept, SourceIsKept, FixedPoint, ExportIsKept, ExportIsKeptOfSource, games_in, IsExportable, ExportingTwice, SameOutput, FewPairsHaveRoom, plies_of, roster, in_roster, roster_pairs, with_set_up, other_pairs, exported, Spells, FailsOn, Fails}
+use Rattle.pgn_game.proofs.Words.{◌≡◌, ℕ, ◌+◌, ◌≤◌, ◌^◌, inl, inr, Bool, true, false, List, [], ◌∷◌, ◌++◌, length, map, refl, sym, ap, subst, ◌∙◌, arith, length-append, append-nil, Option, None, Some, sum, IfSome, Ok, Err, filter, not, bytes_eq, codes, Appends, Consumes, length-map, length-filter, count_by-le-length, IsLast, RisesTo, TokensRise, tokens_of, Kind, Token, Fault, Between, Game, Part, Mode, Full, Reduced, Pair, has_pair, Profile, Progress, progress_after, read_from, read, output, verdict, Counted, refused as is_refused, totals, refusal, is_end, filled, AreExportable, SameText, counted, IsWrittenAgain, SliceIsKept, SourceIsKept, FixedPoint, ExportIsKept, ExportIsKeptOfSource, games_in, IsExportable, ExportingTwice, SameOutput, FewPairsHaveRoom, plies_of, roster, in_roster, roster_pairs, with_set_up, other_pairs, exported, Spells, FailsOn, Fails, Totals, text_of_games as text_of}
 use Rattle.pgn_lexer.specs.Tokens as tokens
-use Rattle.pgn_game.specs.declared.conversion.Totals.{Totals}
 use Rattle.pgn_game.specs.Conversion as conversion
 use Rattle.pgn_game.proofs.exporting.ExportToGames.{ExportedGames}
 use Rattle.pgn_game.proofs.reading.PairsInTurn.{length-insert}
 use Rattle.pgn_game.proofs.pairs.ExportedValues.{set_up, set_up_if, without_set_up}
-use Rattle.pgn_game.specs.Text.{text_of}
 use Rattle.pgn_game.specs.UniqueReading.{UniqueReading}
 use Rattle.pgn_game.proofs.tokens.StepsAtEnd.{end_passes}
 use Rattle.pgn_game.proofs.putting.PairStepToReader.{no_torn}
@@ -25,10 +23,10 @@ ends_between : (p : Profile) (b : Progress) (ts : List Token) → RisesTo ts →
 ends_between p b [] rises e = absurd rises
 ends_between p b (t ∷ []) rises e =
     let free = first_passes p b t [] e in
-    ap (λ (r : Read). r.progress.part.stage) (goes_on p b t [] free) ∙ end_passes p b _ (passing_last p _ _ rises free) free
+    rw (goes_on p b t [] free) (end_passes p b _ (passing_last p _ _ rises free) free)
 ends_between p b (t ∷ u ∷ us) rises e =
     let here = goes_on p b t (u ∷ us) (first_passes p b t (u ∷ us) e) in
-    ap (λ (r : Read). r.progress.part.stage) here ∙ ends_between p (progress_after b t) (u ∷ us) rises.2 (ap (λ (r : Read). r.fault) (sym here) ∙ e)
+    rw here (ends_between p (progress_after b t) (u ∷ us) rises.2 (rw here at e))
 
 module _ (unique : UniqueReading) (rise : TokensRise) where
   -- a text that spells games is converted to theirs
@@ -37,8 +35,8 @@ module _ (unique : UniqueReading) (rise : TokensRise) where
       let was_read = (unique p s gs).0 spelled in
       let part = (read p (tokens_of s)).progress.part in
       let none = no_torn p part Between (ends_between p _ (tokens_of s) (rise s) was_read.0) (λ e. absurd (cc)) in
-      ap (λ (xs : List ℕ). text_of p (read p (tokens_of s)).progress.games ++ xs) none ∙ append-nil _
-      ∙ ap (text_of p) was_read.1
+      rw none (append-nil _
+      ∙ ap (text_of p) was_read.1)
 
   pub verdict_is : (p : Profile) (s : List ℕ) (gs : List Game) → Spells p (tokens_of s) gs → verdict p s ≡ totals (counted gs)
   verdict_is p s gs spelled =
@@ -101,8 +99,7 @@ module _ (unique : UniqueReading) (rise : TokensRise) (exported_games : (p : Pro
 
   counted_again : (p : Profile) (gs : List Game) → AreExportable p gs → counted (map (filled p.mode) gs) ≡ counted gs
   counted_again p gs h =
-      ap (λ n. record { games = n; plies = sum (map plies_of (map (filled p.mode) gs)) }) (length-map gs _)
-      ∙ ap (λ ns. record { games = length gs; plies = sum ns }) (exported_games p gs h).plies
+      rw (length-map gs _) (ap (λ ns. record { games = length gs; plies = sum ns }) (exported_games p gs h).plies)
 
   pub fixed_point : FixedPoint
   fixed_point p gs h =

@@ -24,36 +24,36 @@ pub exported_result : (mode : Mode) (missing : Missing) (m : List ℕ) (ps : Lis
     → exported mode (result_for missing m) ps ≡ exported mode m ps
 exported_result mode missing m ps is = grind (arith, same_result, roster_result)
 
-pub given_result : (missing : Missing) (o : Option (List ℕ)) (m : List ℕ) → IsResult missing o m → m ≡ unwrap_or o m
-given_result missing (Some v) m is = is
-given_result missing None m is = refl
+pub given_result : (missing : Missing) (o : Option (List ℕ)) {m : List ℕ} → IsResult missing o m → m ≡ unwrap_or o m
+given_result missing (Some v) is = is
+given_result missing None is = refl
 
 -- Pairs that are exported are written as sound tokens.
-symbol_of : (text : List ℕ) → IsTrue (begins_with starts_symbol text) → IsTrue (list_all continues_symbol text) → length text ≤ 255 → IsSymbol text
-symbol_of text begins bytes fits = record { begins = begins; bytes = bytes; fits = fits }
+symbol_of : {text : List ℕ} → IsTrue (begins_with starts_symbol text) → IsTrue (list_all continues_symbol text) → length text ≤ 255 → IsSymbol text
+symbol_of begins bytes fits = record { begins = begins; bytes = bytes; fits = fits }
 
-data_of : (text : List ℕ) → IsTrue (list_all (λ b. not (is_barred b)) text) → length text ≤ 255 → IsData text
-data_of text bytes fits = record { bytes = bytes; fits = fits }
+data_of : {text : List ℕ} → IsTrue (list_all (λ b. not (is_barred b)) text) → length text ≤ 255 → IsData text
+data_of bytes fits = record { bytes = bytes; fits = fits }
 
 marker_data : (m : Marker) → IsData (marker_text m)
-marker_data WhiteWins = data_of _ refl (omega arith)
-marker_data _ = data_of _ refl (omega arith)
+marker_data WhiteWins = data_of refl (omega arith)
+marker_data _ = data_of refl (omega arith)
 
-unknown_pair : (name : List ℕ) → IsSymbol name → IsSoundPair (record { name = name; value = codes "?" })
-unknown_pair name is = record { name = is; value = data_of _ refl (omega arith) }
+unknown_pair : {name : List ℕ} → IsSymbol name → IsSoundPair (record { name = name; value = codes "?" })
+unknown_pair {name} is = record { name = is; value = data_of refl (omega arith) }
 
 sound_roster : (m : List ℕ) → is_result m ≡ true → AllByRecursion IsSoundPair (roster m)
 sound_roster m is =
-    on_roster _ m (unknown_pair _ (symbol_of _ refl refl (omega arith)))
-    (unknown_pair _ (symbol_of _ refl refl (omega arith)))
+    on_roster _ m (unknown_pair (symbol_of refl refl (omega arith)))
+    (unknown_pair (symbol_of refl refl (omega arith)))
     (record {
-      name = symbol_of _ refl refl (omega arith);
-      value = data_of _ refl (omega arith);
+      name = symbol_of refl refl (omega arith);
+      value = data_of refl (omega arith);
     })
-    (unknown_pair _ (symbol_of _ refl refl (omega arith)))
-    (unknown_pair _ (symbol_of _ refl refl (omega arith)))
-    (unknown_pair _ (symbol_of _ refl refl (omega arith)))
-    (record { name = symbol_of _ refl refl (omega arith); value = let marker = result_marker m is in rw marker.1 (marker_data marker.0) })
+    (unknown_pair (symbol_of refl refl (omega arith)))
+    (unknown_pair (symbol_of refl refl (omega arith)))
+    (unknown_pair (symbol_of refl refl (omega arith)))
+    (record { name = symbol_of refl refl (omega arith); value = let marker = result_marker m is in rw marker.1 (marker_data marker.0) })
 
 sound_exported : (mode : Mode) (m : List ℕ) (ps : List Pair) → is_result m ≡ true → AllByRecursion IsSoundPair ps → AllByRecursion IsSoundPair (exported mode m ps)
 sound_exported mode m ps is h = search (rules, set_up, all-exported, IsSoundPair, symbol_of, data_of, sound_roster)
@@ -86,15 +86,15 @@ pub record ExportedPairs (p : Profile) (g : Game) : Type 0 where
 
 pub exported_of : (p : Profile) (g : Game) → SoundGame p g → TagSectionFits p g → ExportedPairs p g
 exported_of p g h room =
-    let order = subst InOrder (sym h.sorted) (by_name_order p h.given h.keeps) in
+    let order = subst InOrder (sym h.sorted) (by_name_order p h.keeps) in
     let each = (rw (← h.sorted) at (all-all (IsPair _) [] h.given tt h.keeps.each)) in
     let sound = (rw (← h.sorted) at (all-all _ [] h.given tt h.sound_pairs)) in
-    let is = marker_is_result h.last g.marker h.marker in
+    let is = marker_is_result h.last h.marker in
     let keeps = keeps_exported p g.marker g.pairs is order each room in
     record {
       keeps = keeps;
       sound = sound_exported p.mode g.marker g.pairs is sound;
       order = order;
       each = each;
-      same = λ n. by_name_values p (exported_pairs _ g) n keeps;
+      same = λ n. by_name_values p n keeps;
     }

@@ -6,10 +6,10 @@ use Rattle.pgn_game.proofs.putting.PlayedMovesAreLegal.{named_is_legal}
 use Rattle.pgn_game.proofs.exporting.PiecesToTokens.{IsWritable, AllShown, next_shown, white, black}
 
 -- Positions: the fullmove number is at most 99,999.
-last_test : (a b c d e : Bool)
+last_test : (a b c d : Bool) {e : Bool}
     → is_none (if a then Some Kings else if b then Some PawnOnEdge else if c then Some KingCapturable else if d then Some TargetRank else if not e then Some NumberRange else None) ≡ true
     → e ≡ true
-last_test a b c d e h = grind (arith, false≢true)
+last_test a b c d h = grind (arith, false≢true)
 
 full_fits : (q : Parts) → IsTrue (is_position q) → q.full ≤ 99999
 full_fits q e = grind (arith, and_parts, leb-true, last_test)
@@ -43,10 +43,10 @@ move_byte c = continues (is_letter c) (is_digit c) (c == 95) (c == 43) (c == 35)
 
 begins : (s : List ℕ) → IsTrue (begins_with_letter s) → IsTrue (begins_with starts_symbol s)
 begins [] e = absurd (false≢true e)
-begins (c ∷ s) e = ap (λ b. b || is_digit c) e
+begins (c ∷ s) e = rw e
 
-as_symbol : (s : List ℕ) → IsMoveSymbol s → IsSymbol s
-as_symbol s h = search (rules, each_of, move_byte, begins)
+as_symbol : {s : List ℕ} → IsMoveSymbol s → IsSymbol s
+as_symbol h = search (rules, each_of, move_byte, begins)
 
 no_score : (s : List ℕ) → IsMoveSymbol s → IsFalse (is_score s)
 no_score s h = (or_parts _ (bytes_eq s _) h.no_marker).0
@@ -61,12 +61,12 @@ module _ (one_read : TheOneMoveIsRead) (leaves : LeavesPosition) (is_symbol : Wr
       (rw (ap (λ o. unwrap_or o at) is_legal) (leaves at x.next x.mv (last_position first trail h) is_legal), h)
 
   -- the text that is written for it
-  pub move_symbol : (at : Parts) (s : List ℕ) (x : Played) → Names at s x → IsMoveSymbol (text_of_move at x.mv)
+  pub move_symbol : (at : Parts) {s : List ℕ} (x : Played) → Names at s x → IsMoveSymbol (text_of_move at x.mv)
   unfolding text_of_move
-  move_symbol at s x names = search (rules, named_is_legal)
+  move_symbol at x names = search (rules, named_is_legal)
 
-  pub writable_move : (at : Parts) (s : List ℕ) (x : Played) → Names at s x → IsWritable (tokens.symbol (text_of_move at x.mv))
-  writable_move at s x names = as_symbol _ (move_symbol at s x names)
+  pub writable_move : (at : Parts) {s : List ℕ} (x : Played) → Names at s x → IsWritable (tokens.symbol (text_of_move at x.mv))
+  writable_move at x names = as_symbol (move_symbol at x names)
 
   reads_again : (at : Parts) (s : List ℕ) (x : Played) → IsTrue (is_position at) → Names at s x → move_of at (text_of_move at x.mv) ≡ Some (Ok x)
   unfolding text_of_move move_of
@@ -74,7 +74,7 @@ module _ (one_read : TheOneMoveIsRead) (leaves : LeavesPosition) (is_symbol : Wr
 
   pub names_again : (at : Parts) (s : List ℕ) (x : Played) → IsTrue (is_position at) → Names at s x → Names at (text_of_move at x.mv) x
   names_again at s x h names =
-      let symbol = move_symbol at s x names in
+      let symbol = move_symbol at x names in
       record {
         no_number = symbol.no_number;
         no_marker = no_score _ symbol;
@@ -91,19 +91,19 @@ module _ (one_read : TheOneMoveIsRead) (leaves : LeavesPosition) (is_symbol : Wr
   number_kinds false true n = tokens.symbol (decimal n) ∷ tokens.period ∷ tokens.period ∷ tokens.period ∷ []
   number_kinds true true n = []
 
-  pub number_shown : (b is_black : Bool) (n : ℕ) (ks : List Kind) (ts : List (List ℕ)) → AllShown ks ts → AllShown (number_kinds b is_black n ++ ks) (number_before b is_black n ++ ts)
-  number_shown b is_black n ks ts h = search (rules, next_shown, white, black)
+  pub number_shown : (b is_black : Bool) (n : ℕ) {ks : List Kind} {ts : List (List ℕ)} → AllShown ks ts → AllShown (number_kinds b is_black n ++ ks) (number_before b is_black n ++ ts)
+  number_shown b is_black n h = search (rules, next_shown, white, black)
 
-  pub number_spells : (p : Profile) (first at : Parts) (deep : ℕ) (l : Level) (b is_black : Bool) (ks : List Kind) (items : List Item) → IsTrue (is_position at)
+  pub number_spells : {p : Profile} {first : Parts} (at : Parts) {deep : ℕ} (l : Level) (b is_black : Bool) {ks : List Kind} {items : List Item} → IsTrue (is_position at)
       → SpellsText p first deep l ks items → SpellsText p first deep l (number_kinds b is_black at.full ++ ks) items
-  number_spells p first at deep l b false ks items h text =
+  number_spells at {deep} l b false {ks} {items} h text =
       token deep l _ _ [] items (number _ (number_is_symbol at h).1)
       (token deep l _ ks [] items period text)
-  number_spells p first at deep l false true ks items h text =
+  number_spells at {deep} l false true {ks} {items} h text =
       token deep l _ _ [] items (number _ (number_is_symbol at h).1)
       (token deep l _ _ [] items period
       (token deep l _ _ [] items period (token deep l _ ks [] items period text)))
-  number_spells p first at deep l true true ks items h text = text
+  number_spells at l true true h text = text
 
   pub number_writable : (at : Parts) (b is_black : Bool) → IsTrue (is_position at) → AllByRecursion IsWritable (number_kinds b is_black at.full)
   number_writable at b is_black h = search (rules, number_is_symbol)

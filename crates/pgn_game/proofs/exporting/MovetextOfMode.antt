@@ -1,6 +1,6 @@
 -- The movetext that is written, of all items or of the moves outside variations: it spells the
 -- items that are kept, and these are written in the same way again.
-use Rattle.pgn_game.proofs.Words.{◌≡◌, ℕ, suc, ◌+◌, Bool, true, false, cond, List, [], ◌∷◌, ◌++◌, map, refl, ap, subst, ◌∙◌, arith, ◌==◌, filter, fold, IsTrue, AllByRecursion, ne_eqb, filter-append, fold-append, LeavesPosition, is_position, TheOneMoveIsRead, WrittenMoveIsSymbol, WrittenMoveIsRead, NumbersAreSymbols, IsSoundKind, CommentsClose, Parts, Kind, Mode, Full, Reduced, Item, Profile, Level, Levels, levels_after, first_level, depth, here, main_moves, outermost, without_last, SpellsText, no_more, token, move, variation, new_level, level_after_move, Placed, placed_from, is_main_move, written_items, tokens_from, tokens_out, rules}
+use Rattle.pgn_game.proofs.Words.{◌≡◌, ℕ, suc, ◌+◌, Bool, true, false, cond, List, [], ◌∷◌, ◌++◌, map, refl, ap, subst, ◌∙◌, arith, ◌==◌, filter, fold, IsTrue, AllByRecursion, ne_eqb, filter-append, fold-append, LeavesPosition, is_position, TheOneMoveIsRead, WrittenMoveIsSymbol, WrittenMoveIsRead, NumbersAreSymbols, IsSoundKind, CommentsClose, Parts, Kind, Mode, Full, Reduced, Item, Profile, Level, Levels, levels_after, first_level, depth, here, main_moves, outermost, without_last, SpellsText, no_more, token, move, variation, new_level, Placed, placed_from, is_main_move, written_items, tokens_from, tokens_out, rules}
 use Rattle.pgn_lexer.specs.Tokens as tokens
 use Rattle.pgn_game.specs.Game as game
 use Rattle.pgn_game.proofs.AllOfJoined.{all_behind}
@@ -11,24 +11,20 @@ use Rattle.pgn_game.proofs.exporting.MovetextToItems.{level_in, aside, around_ag
 inside : (n : ℕ) → (suc n == 0) ≡ false
 inside n = ne_eqb _ 0 (λ e. absurd (omega arith))
 
-none_main : (p : Profile) (first : Parts) (deep : ℕ) (l : Level) (ks : List Kind) (items : List Item) → SpellsText p first deep l ks items → (m : Level) (around : List Level)
+none_main : {p : Profile} {first : Parts} {deep : ℕ} {l : Level} {ks : List Kind} {items : List Item} → SpellsText p first deep l ks items → (m : Level) (around : List Level)
     → filter is_main_move (placed_from first (level_in l (m ∷ around)) items) ≡ []
-none_main p first _ _ _ _ (no_more deep l) m around = refl
-none_main p first _ _ _ _ (token deep l k ks item items stands rest) m around =
-    (aside k item items first (level_in l _) stands).1 ∙ none_main p first deep l ks items rest m around
-none_main p first _ _ _ _ (move deep l s x ks items names rest) m around =
-    let at = level_in l (m ∷ around) in
-    let this : Placed = record { position = here first at; depth = depth at; item = game.move x.mv } in
-    let others = filter is_main_move (placed_from first (level_in _ _) items) in
-    ap (λ v. cond v (this ∷ others) others) (inside _) ∙ none_main p first deep _ ks items rest m around
-none_main p first _ _ _ _ (variation deep l ks ls items more holds room inner rest) m around =
+none_main (no_more deep l) m around = refl
+none_main {first} (token deep l k ks item items stands rest) m around =
+    (aside items first (level_in l _) stands).1 ∙ none_main rest m around
+none_main (move deep l s x ks items names rest) m around = rw (inside _) (none_main rest m around)
+none_main {first} (variation deep l ks ls items more holds room inner rest) m around =
     let at = level_in (new_level (without_last l.trail)) (l ∷ m ∷ around) in
     let end = fold levels_after at items in
-    ap (filter is_main_move) (placed_variation p first deep l ks items more inner _)
+    ap (filter is_main_move) (placed_variation deep l more inner _)
     ∙ filter-append is_main_move (placed_from first at items) (close_at first end ∷ placed_from first (level_in l _) more)
     ∙ ap (λ xs. xs ++ filter is_main_move (placed_from first (level_in l (m ∷ around)) more))
-    (none_main p first _ _ ks items inner l (m ∷ around))
-    ∙ none_main p first deep l ls more rest m around
+    (none_main inner l (m ∷ around))
+    ∙ none_main rest m around
 
 -- The moves outside variations.
 abbrev placed_main : Parts → Level → List Item → List Placed
@@ -38,15 +34,15 @@ abbrev main_items : Parts → Level → List Item → List Item
 main_items first l items = map (λ i. i.item) (placed_main first l items)
 
 -- a variation leaves none
-main_variation : (p : Profile) (first : Parts) (deep : ℕ) (l : Level) (ks : List Kind) (items more : List Item)
+main_variation : {p : Profile} {first : Parts} (deep : ℕ) (l : Level) {ks : List Kind} {items : List Item} (more : List Item)
     → SpellsText p first (deep + 1) (new_level (without_last l.trail)) ks items
     → placed_main first l (game.open_variation ∷ (items ++ game.close_variation ∷ more)) ≡ placed_main first l more
-main_variation p first deep l ks items more inner = grind (arith, filter-append, level_in, close_at, placed_variation, none_main)
+main_variation deep l more inner = grind (arith, filter-append, level_in, close_at, placed_variation, none_main)
 
-levels_variation : (p : Profile) (first : Parts) (deep : ℕ) (l : Level) (ks : List Kind) (items more : List Item)
+levels_variation : {p : Profile} {first : Parts} (deep : ℕ) (l : Level) {ks : List Kind} {items : List Item} (more : List Item)
     → SpellsText p first (deep + 1) (new_level (without_last l.trail)) ks items
     → fold levels_after (level_in l []) (game.open_variation ∷ (items ++ game.close_variation ∷ more)) ≡ fold levels_after (level_in l []) more
-levels_variation p first deep l ks items more inner = grind (arith, fold-append, level_in, around_again)
+levels_variation deep l more inner = grind (arith, fold-append, level_in, around_again)
 
 -- They are spelled by their symbols alone, lead to the same levels, and have the same places.
 record Main (p : Profile) (first : Parts) (deep : ℕ) (l : Level) (items : List Item) : Type 0 where
@@ -58,33 +54,33 @@ record Main (p : Profile) (first : Parts) (deep : ℕ) (l : Level) (items : List
   levels : fold levels_after (level_in l []) (main_items first l items) ≡ fold levels_after (level_in l []) items
 
 -- items that add no move outside variations, before others
-main_same : (p : Profile) (first : Parts) (deep : ℕ) (l : Level) (items more : List Item)
+main_same : {p : Profile} {first : Parts} {deep : ℕ} {l : Level} {items : List Item} (more : List Item)
     → placed_main first l items ≡ placed_main first l more
     → fold levels_after (level_in l []) items ≡ fold levels_after (level_in l []) more → Main p first deep l more
     → Main p first deep l items
-main_same p first deep l items more e same r = search rules
+main_same more e same r = search rules
 
-main : (p : Profile) (first : Parts) (deep : ℕ) (l : Level) (ks : List Kind) (items : List Item) → SpellsText p first deep l ks items → AllByRecursion IsSoundKind ks
+main : {p : Profile} {first : Parts} {deep : ℕ} {l : Level} {ks : List Kind} {items : List Item} → SpellsText p first deep l ks items → AllByRecursion IsSoundKind ks
     → Main p first deep l items
-main p first _ _ _ _ (no_more deep l) sound = record { kinds = []; spells = no_more deep l; sound = tt; closes = λ more h. h; placed = refl; levels = refl }
-main p first _ _ _ _ (token deep l k ks item items stands rest) sound =
-    let same = aside k item items first (level_in l []) stands in
-    main_same p first deep l (item ++ items) items same.1 same.0 (main p first deep l ks items rest sound.1)
-main p first _ _ _ _ (move deep l s x ks items names rest) sound =
-    let r = main p first deep (level_after_move x.mv _) ks items rest sound.1 in
+main (no_more deep l) sound = record { kinds = []; spells = no_more deep l; sound = tt; closes = λ more h. h; placed = refl; levels = refl }
+main {first} (token deep l k ks item items stands rest) sound =
+    let same = aside items first (level_in l []) stands in
+    main_same items same.1 same.0 (main rest sound.1)
+main {first} (move deep l s x ks items names rest) sound =
+    let r = main rest sound.1 in
     let this : Placed = record { position = here first (level_in l []); depth = 0; item = game.move x.mv } in
     record {
       kinds = tokens.symbol s ∷ r.kinds;
       spells = move deep l s x r.kinds (main_items first _ items) names r.spells;
       sound = (sound.0, r.sound);
       closes = r.closes;
-      placed = ap (λ xs. this ∷ xs) r.placed;
+      placed = rw r.placed;
       levels = r.levels;
     }
-main p first _ _ _ _ (variation deep l ks ls items more holds room inner rest) sound =
-    main_same p first deep l (game.open_variation ∷ (items ++ game.close_variation ∷ more)) more
-    (main_variation p first deep l ks items more inner) (levels_variation p first deep l ks items more inner)
-    (main p first deep l ls more rest (all_behind IsSoundKind ks (tokens.right_paren ∷ ls) sound.1).1)
+main (variation deep l ks ls items more holds room inner rest) sound =
+    main_same more
+    (main_variation deep l more inner) (levels_variation deep l more inner)
+    (main rest (all_behind IsSoundKind ks (tokens.right_paren ∷ ls) sound.1).1)
 
 -- What is kept of items, in either mode.
 abbrev pub kept : Mode → Parts → List Item → List Item
@@ -115,10 +111,10 @@ pub record KeptText (mode : Mode) (p : Profile) (first : Parts) (ks : List Kind)
   pub moves : main_moves (kept mode first items) ≡ main_moves items
 
 module _ (one_read : TheOneMoveIsRead) (leaves : LeavesPosition) (is_symbol : WrittenMoveIsSymbol) (is_read : WrittenMoveIsRead) (numbers : NumbersAreSymbols) where
-  pub kept_text : (mode : Mode) (p : Profile) (first : Parts) (ks : List Kind) (items : List Item) → IsTrue (is_position first)
+  pub kept_text : (mode : Mode) {p : Profile} (first : Parts) {ks : List Kind} (items : List Item) → IsTrue (is_position first)
       → SpellsText p first 0 (new_level []) ks items → AllByRecursion IsSoundKind ks → KeptText mode p first ks items
-  kept_text Full p first ks items start text sound =
-      let r = rewritten one_read leaves is_symbol is_read numbers p first 0 (new_level []) ks items text start sound [] false in
+  kept_text Full first items start text sound =
+      let r = rewritten one_read leaves is_symbol is_read numbers text start sound [] false in
       let same = all_kept first first_level items in
       record {
         kinds = r.kinds;
@@ -129,9 +125,9 @@ module _ (one_read : TheOneMoveIsRead) (leaves : LeavesPosition) (is_symbol : Wr
         again = ap (tokens_out Full first) same;
         moves = ap main_moves same;
       }
-  kept_text Reduced p first ks items start text sound =
-      let m = main p first 0 (new_level []) ks items text sound in
-      let r = rewritten one_read leaves is_symbol is_read numbers p first 0 (new_level []) m.kinds (main_items first _ items) m.spells start m.sound [] false in
+  kept_text Reduced first items start text sound =
+      let m = main text sound in
+      let r = rewritten one_read leaves is_symbol is_read numbers m.spells start m.sound [] false in
       record {
         kinds = r.kinds;
         spells = r.spells;

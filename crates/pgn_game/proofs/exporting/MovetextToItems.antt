@@ -12,37 +12,35 @@ abbrev pub level_in : Level → List Level → Levels
 level_in l around = record { present = l; around = around }
 
 -- A token anywhere in movetext leaves the levels as they are, and is no move.
-pub aside : (k : Kind) (item items : List Item) (first : Parts) (ls : Levels) → StandsFor k item
+pub aside : {k : Kind} {item : List Item} (items : List Item) (first : Parts) (ls : Levels) → StandsFor k item
     → (fold levels_after ls (item ++ items) ≡ fold levels_after ls items)
     × (filter is_main_move (placed_from first ls (item ++ items)) ≡ filter is_main_move (placed_from first ls items))
-aside _ _ items first ls (number s is) = (refl, refl)
-aside _ _ items first ls _ = (refl, refl)
+aside items first ls (number s is) = (refl, refl)
+aside items first ls _ = (refl, refl)
 
 -- movetext closes the variations that it opens
-pub around_again : (p : Profile) (first : Parts) (deep : ℕ) (l : Level) (ks : List Kind) (items : List Item) → SpellsText p first deep l ks items
-    → (around : List Level) → (fold levels_after (level_in l around) items).around ≡ around
-around_again p first _ _ _ _ (no_more deep l) around = refl
-around_again p first _ _ _ _ (token deep l k ks item items stands rest) around =
-    cc ((aside k item items first _ stands).0, around_again p first deep l ks items rest around)
-around_again p first _ _ _ _ (move deep l s x ks items names rest) around = around_again p first deep _ ks items rest around
-around_again p first _ _ _ _ (variation deep l ks ls items more holds room inner rest) around =
+pub around_again : {p : Profile} {first : Parts} {deep : ℕ} {l : Level} {ks : List Kind} {items : List Item} → SpellsText p first deep l ks items
+    → {around : List Level} → (fold levels_after (level_in l around) items).around ≡ around
+around_again (no_more deep l) = refl
+around_again {first} (token deep l k ks item items stands rest) {around} =
+    cc ((aside items first _ stands).0, around_again rest {around = around})
+around_again (move deep l s x ks items names rest) = around_again rest
+around_again (variation deep l ks ls items more holds room inner rest) {around} =
     let at = level_in (new_level _) (l ∷ around) in
     ap (λ x. x.around) (fold-append _ at items _)
-    ∙ ap (λ x. (fold levels_after (back_to x (fold levels_after at items)) more).around)
-    (around_again p first _ _ ks items inner _)
-    ∙ around_again p first deep l ls more rest around
+    ∙ ap (λ x. (fold levels_after (back_to x (fold levels_after at items)) more).around) (around_again inner) ∙ around_again rest
 
 -- the end of a variation
 abbrev pub close_at : Parts → Levels → Placed
 close_at first end = record { position = here first end; depth = depth end; item = games.close_variation }
 
 -- the items of a variation, and behind it
-pub placed_variation : (p : Profile) (first : Parts) (deep : ℕ) (l : Level) (ks : List Kind) (items more : List Item)
+pub placed_variation : {p : Profile} {first : Parts} (deep : ℕ) (l : Level) {ks : List Kind} {items : List Item} (more : List Item)
     → SpellsText p first (deep + 1) (new_level (without_last l.trail)) ks items → (around : List Level)
     → placed_from first (level_in (new_level (without_last l.trail)) (l ∷ around)) (items ++ games.close_variation ∷ more)
     ≡ placed_from first (level_in (new_level (without_last l.trail)) (l ∷ around)) items
     ++ (close_at first (fold levels_after (level_in (new_level (without_last l.trail)) (l ∷ around)) items) ∷ placed_from first (level_in l around) more)
-placed_variation p first deep l ks items more inner around = grind (arith, placed-append, around_again)
+placed_variation deep l more inner around = grind (arith, placed-append, around_again)
 
 -- What is written in the place of tokens closes its comments if they do.
 abbrev pub InPlaceOf : List Kind → List Kind → Type 0
@@ -66,9 +64,9 @@ no_comment : (k : Kind) → GoesOn k → is_comment k ≡ false → IsLeftOut k
 no_comment k on is c more h =
     let none = plain k c more on is h in rw none.0 none.1
 
-left_out : (p : Profile) (first : Parts) (deep : ℕ) (l : Level) (k : Kind) (ks : List Kind) (items : List Item) (ts : List (List ℕ)) → IsLeftOut k
+left_out : {p : Profile} {first : Parts} {deep : ℕ} {l : Level} {k : Kind} {ks : List Kind} {items : List Item} {ts : List (List ℕ)} → IsLeftOut k
     → Rewritten p first deep l ks items ts → Rewritten p first deep l (k ∷ ks) items ts
-left_out p first deep l k ks items ts out r = record {
+left_out out r = record {
   kinds = r.kinds;
   spells = r.spells;
   shown = r.shown;
@@ -90,10 +88,10 @@ passes (tokens.refused r) true more then f h = tt
 passes _ false more then f h = f false h
 passes _ true more then f h = h
 
-written_again : (p : Profile) (first : Parts) (deep : ℕ) (l : Level) (k : Kind) (ks : List Kind) (item items : List Item) (ts : List (List ℕ))
+written_again : {p : Profile} {first : Parts} {deep : ℕ} {l : Level} {k : Kind} {ks : List Kind} {item items : List Item} {ts : List (List ℕ)}
     → StandsFor k item → IsWritable k → Rewritten p first deep l ks items ts
     → Rewritten p first deep l (k ∷ ks) (item ++ items) (written k ∷ ts)
-written_again p first deep l k ks item items ts stands writable r = record {
+written_again {deep} {l} {k} {item} {items} {ts} stands writable r = record {
   kinds = k ∷ r.kinds;
   spells = token deep l k _ item items stands r.spells;
   shown = next_shown (k ∷ []) r.kinds _ ts (single k) r.shown;
@@ -114,35 +112,35 @@ variation_closes js ks ls ms inner rest false more then f h =
     behind false k = rest false more then f k
     behind true k = absurd k
 
-variation_again : (p : Profile) (first : Parts) (deep : ℕ) (l : Level) (ks ls : List Kind) (items more : List Item) (ts us : List (List ℕ))
+variation_again : {p : Profile} {first : Parts} {deep : ℕ} (l : Level) {ks ls : List Kind} {items : List Item} (more : List Item) {ts : List (List ℕ)} (us : List (List ℕ))
     → IsTrue l.has_own_move → deep < p.depth → Rewritten p first (deep + 1) (new_level (without_last l.trail)) ks items ts → Rewritten p first deep l ls more us
     → Rewritten p first deep l (tokens.left_paren ∷ (ks ++ tokens.right_paren ∷ ls)) (games.open_variation ∷ (items ++ games.close_variation ∷ more))
     (codes "(" ∷ (ts ++ codes ")" ∷ us))
-variation_again p first deep l ks ls items more ts us holds room a b = record {
+variation_again {deep} l {ks} {ls} {items} more us holds room a b = record {
   kinds = tokens.left_paren ∷ (a.kinds ++ tokens.right_paren ∷ b.kinds);
   spells = variation deep l _ _ items more holds room a.spells b.spells;
   shown =
       next_shown _ _ _ _ (single _)
-      (shown-append a.kinds (tokens.right_paren ∷ b.kinds) ts _ a.shown
+      (shown-append a.shown
       (next_shown _ _ _ us (single _) b.shown));
   writable = (tt, All-append IsWritable a.kinds (tokens.right_paren ∷ b.kinds) a.writable (tt, b.writable));
   closes = variation_closes a.kinds ks ls b.kinds a.closes b.closes;
 }
 
 -- its tokens
-tokens_of_variation : (p : Profile) (first : Parts) (deep : ℕ) (l : Level) (ks : List Kind) (items more : List Item)
+tokens_of_variation : {p : Profile} {first : Parts} (deep : ℕ) (l : Level) {ks : List Kind} {items : List Item} (more : List Item)
     → SpellsText p first (deep + 1) (new_level (without_last l.trail)) ks items → (around : List Level) (b : Bool)
     → tokens_from b (placed_from first (level_in l around) (games.open_variation ∷ (items ++ games.close_variation ∷ more)))
     ≡ codes "(" ∷ (tokens_from false (placed_from first (level_in (new_level (without_last l.trail)) (l ∷ around)) items)
     ++ codes ")" ∷ tokens_from false (placed_from first (level_in l around) more))
-tokens_of_variation p first deep l ks items more inner around b = grind (arith, tokens_from-append, placed_variation)
+tokens_of_variation deep l more inner around b = grind (arith, tokens_from-append, placed_variation)
 
 module _ (one_read : TheOneMoveIsRead) (leaves : LeavesPosition) (is_symbol : WrittenMoveIsSymbol) (is_read : WrittenMoveIsRead) (numbers : NumbersAreSymbols) where
   -- A move, with its number.
-  move_again : (p : Profile) (first : Parts) (deep : ℕ) (l : Level) (s : List ℕ) (x : Played) (ks : List Kind) (items : List Item) (ts : List (List ℕ)) (b : Bool)
+  move_again : (p : Profile) {first : Parts} {deep : ℕ} (l : Level) (s : List ℕ) (x : Played) {ks : List Kind} {items : List Item} (ts : List (List ℕ)) (b : Bool)
       → Names (replayed first l.trail) s x → ArePositions first l.trail → Rewritten p first deep (level_after_move x.mv l.trail) ks items ts
       → Rewritten p first deep l (tokens.symbol s ∷ ks) (games.move x.mv ∷ items) (tokens_at b (replayed first l.trail) (games.move x.mv) ++ ts)
-  move_again p first deep l s x ks items ts b names h r =
+  move_again p {first} {deep} l s x {ks} {items} ts b names h r =
       let at = replayed first l.trail in
       let text = text_of_move at x.mv in
       let is_black = is_black_to_move at in
@@ -150,16 +148,16 @@ module _ (one_read : TheOneMoveIsRead) (leaves : LeavesPosition) (is_symbol : Wr
       record {
         kinds = number_kinds one_read leaves is_symbol is_read numbers b is_black at.full ++ tokens.symbol text ∷ r.kinds;
         spells =
-            number_spells one_read leaves is_symbol is_read numbers p first at deep l b is_black (tokens.symbol text ∷ r.kinds) (games.move x.mv ∷ items) here
+            number_spells one_read leaves is_symbol is_read numbers at l b is_black here
             (move deep l text x r.kinds items (names_again one_read leaves is_symbol is_read numbers at s x here names) r.spells);
         shown =
-            (rw (append_assoc _ _ ts) (number_shown one_read leaves is_symbol is_read numbers b is_black at.full (tokens.symbol text ∷ r.kinds) (text ∷ ts)
+            (rw (append_assoc _ _ ts) (number_shown one_read leaves is_symbol is_read numbers b is_black at.full
             (next_shown _ _ text ts (single _) r.shown)));
         writable =
             All-append IsWritable (number_kinds one_read leaves is_symbol is_read numbers b is_black at.full)
             (tokens.symbol text ∷ r.kinds)
             (number_writable one_read leaves is_symbol is_read numbers at b is_black here)
-            (writable_move one_read leaves is_symbol is_read numbers at s x names, r.writable);
+            (writable_move one_read leaves is_symbol is_read numbers at x names, r.writable);
         closes = closes r b is_black at.full text;
       }
     where
@@ -171,37 +169,37 @@ module _ (one_read : TheOneMoveIsRead) (leaves : LeavesPosition) (is_symbol : Wr
           rw (append_assoc kinds (tokens.symbol text ∷ r.kinds) then) (number_closes one_read leaves is_symbol is_read numbers b is_black n (tokens.symbol text ∷ (r.kinds ++ then)) (r.closes false more then f h))
 
   -- All movetext.
-  pub rewritten : (p : Profile) (first : Parts) (deep : ℕ) (l : Level) (ks : List Kind) (items : List Item) → SpellsText p first deep l ks items
+  pub rewritten : {p : Profile} {first : Parts} {deep : ℕ} {l : Level} {ks : List Kind} {items : List Item} → SpellsText p first deep l ks items
       → ArePositions first l.trail → AllByRecursion IsSoundKind ks → (around : List Level) (b : Bool)
       → Rewritten p first deep l ks items (tokens_from b (placed_from first (level_in l around) items))
-  rewritten p first _ _ _ _ (no_more deep l) h sound around b =
+  rewritten (no_more deep l) h sound around b =
       record { kinds = []; spells = no_more deep l; shown = none_shown; writable = tt; closes = λ c more then f k. f c k }
-  rewritten p first _ _ _ _ (token deep l _ ks _ items (number s is) rest) h sound around b =
-      left_out p first deep l _ ks items _ (no_comment (tokens.symbol s) tt refl)
-      (rewritten p first deep l ks items rest h sound.1 around b)
-  rewritten p first _ _ _ _ (token deep l _ ks _ items period rest) h sound around b =
-      left_out p first deep l _ ks items _ (no_comment tokens.period tt refl)
-      (rewritten p first deep l ks items rest h sound.1 around b)
-  rewritten p first _ _ _ _ (token deep l _ ks _ items (glyph n) rest) h sound around b =
-      written_again p first deep l _ ks _ items _ (glyph n) sound.0
-      (rewritten p first deep l ks items rest h sound.1 around false)
-  rewritten p first _ _ _ _ (token deep l _ ks _ items comment_open rest) h sound around b =
-      written_again p first deep l _ ks _ items _ comment_open tt
-      (rewritten p first deep l ks items rest h sound.1 around false)
-  rewritten p first _ _ _ _ (token deep l _ ks _ items (word s) rest) h sound around b =
-      written_again p first deep l _ ks _ items _ (word s) sound.0
-      (rewritten p first deep l ks items rest h sound.1 around false)
-  rewritten p first _ _ _ _ (token deep l _ ks _ items comment_close rest) h sound around b =
-      written_again p first deep l _ ks _ items _ comment_close tt
-      (rewritten p first deep l ks items rest h sound.1 around false)
-  rewritten p first _ _ _ _ (move deep l s x ks items names rest) h sound around b =
-      move_again p first deep l s x ks items _ b names h
-      (rewritten p first deep _ ks items rest (plays_on one_read leaves is_symbol is_read numbers first _ s x names h) sound.1 around true)
-  rewritten p first _ _ _ _ (variation deep l ks ls items more holds room inner rest) h sound around b =
+  rewritten (token deep l _ ks _ items (number s is) rest) h sound around b =
+      left_out (no_comment (tokens.symbol s) tt refl)
+      (rewritten rest h sound.1 around b)
+  rewritten (token deep l _ ks _ items period rest) h sound around b =
+      left_out (no_comment tokens.period tt refl)
+      (rewritten rest h sound.1 around b)
+  rewritten (token deep l _ ks _ items (glyph n) rest) h sound around b =
+      written_again (glyph n) sound.0
+      (rewritten rest h sound.1 around false)
+  rewritten (token deep l _ ks _ items comment_open rest) h sound around b =
+      written_again comment_open tt
+      (rewritten rest h sound.1 around false)
+  rewritten (token deep l _ ks _ items (word s) rest) h sound around b =
+      written_again (word s) sound.0
+      (rewritten rest h sound.1 around false)
+  rewritten (token deep l _ ks _ items comment_close rest) h sound around b =
+      written_again comment_close tt
+      (rewritten rest h sound.1 around false)
+  rewritten {p} {first} (move deep l s x ks items names rest) h sound around b =
+      move_again p l s x _ b names h
+      (rewritten rest (plays_on one_read leaves is_symbol is_read numbers first _ s x names h) sound.1 around true)
+  rewritten {p} {first} (variation deep l ks ls items more holds room inner rest) h sound around b =
       let sound_in = all_front IsSoundKind ks (tokens.right_paren ∷ ls) sound.1 in
       subst
       (Rewritten p first deep l _ _)
-      (sym (tokens_of_variation p first deep l ks items more inner around b))
-      (variation_again p first deep l ks ls items more _ _ holds room
-      (rewritten p first _ _ ks items inner (earlier_positions first _ h) sound_in _ false)
-      (rewritten p first deep l ls more rest h (all_behind IsSoundKind ks (tokens.right_paren ∷ ls) sound.1).1 around false))
+      (sym (tokens_of_variation deep l more inner around b))
+      (variation_again l more _ holds room
+      (rewritten inner (earlier_positions first _ h) sound_in _ false)
+      (rewritten rest h (all_behind IsSoundKind ks (tokens.right_paren ∷ ls) sound.1).1 around false))

@@ -89,18 +89,18 @@ is_set_up_again Reduced m ps fs h same e = let none = no_value_in_reduced m ps f
 
 pub result_again : (mode : Mode) (m : List ℕ) (ps fs : List Pair) → Same_values mode m ps fs
     → value_of fs (codes "Result") ≡ Some (unwrap_or (value_of ps (codes "Result")) m)
-result_again mode m ps fs same = same _ ∙ exported_known mode m ps _ m (result_of m)
+result_again mode m ps fs same = same _ ∙ exported_known mode m ps _ (result_of m)
 
 -- What is asked of pairs.
 differ : (a b : List ℕ) → bytes_eq a b ≡ false → a ≡ b → ⊥
 differ a b e f = false≢true (sym e ∙ bytes_eq-refl a b f)
 
-plain_pair : (mode : Mode) (n v : List ℕ) → IsTrue (list_all in_name n) → length n + length (escaped v) ≤ 249 → bytes_eq n (codes "Result") ≡ false → bytes_eq n (codes "FEN") ≡ false
+plain_pair : {mode : Mode} {n v : List ℕ} → IsTrue (list_all in_name n) → length n + length (escaped v) ≤ 249 → bytes_eq n (codes "Result") ≡ false → bytes_eq n (codes "FEN") ≡ false
     → IsPair mode (record { name = n; value = v })
-plain_pair mode n v name room no_result h6 = search (rules, no_fen, differ)
+plain_pair name room no_result h6 = search (rules, no_fen, differ)
 
-result_pair : (mode : Mode) (m : List ℕ) → is_result m ≡ true → IsPair mode (record { name = codes "Result"; value = m })
-result_pair mode m e = search (rules, marker_room, result_marker, differ)
+result_pair : {mode : Mode} {m : List ℕ} → is_result m ≡ true → IsPair mode (record { name = codes "Result"; value = m })
+result_pair e = search (rules, marker_room, result_marker, differ)
 
 each_of_roster : (mode : Mode) (m : List ℕ) → is_result m ≡ true → AllByRecursion (IsPair mode) (roster m)
 each_of_roster mode m e = search (rules, on_roster, plain_pair, result_pair)
@@ -126,8 +126,8 @@ pub keeps_exported : (p : Profile) (m : List ℕ) (ps : List Pair) → is_result
 keeps_exported p m ps e order each room = search (rules, each_exported, distinct_exported)
 
 -- pairs that are kept have their values and their order by name
-pub by_name_values : (p : Profile) (qs : List Pair) (n : List ℕ) → KeepsTags p qs → value_of (by_name qs) n ≡ value_of qs n
-by_name_values p qs n h = value_of-all p [] qs n (takes p qs h)
+pub by_name_values : (p : Profile) {qs : List Pair} (n : List ℕ) → KeepsTags p qs → value_of (by_name qs) n ≡ value_of qs n
+by_name_values p {qs} n h = value_of-all p [] qs n (takes h)
 
-pub by_name_order : (p : Profile) (qs : List Pair) → KeepsTags p qs → InOrder (by_name qs)
-by_name_order p qs h = order-all p [] qs (takes p qs h) tt
+pub by_name_order : (p : Profile) {qs : List Pair} → KeepsTags p qs → InOrder (by_name qs)
+by_name_order p {qs} h = order-all p [] qs (takes h) tt

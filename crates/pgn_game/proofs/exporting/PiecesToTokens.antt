@@ -19,10 +19,10 @@ pub data AllShown : List Kind → List (List ℕ) → Type 0 where
   none_shown : AllShown [] []
   next_shown : (ks ls : List Kind) (t : List ℕ) (ts : List (List ℕ)) → Shown ks t → AllShown ls ts → AllShown (ks ++ ls) (t ∷ ts)
 
-pub shown-append : (ks ls : List Kind) (ts us : List (List ℕ)) → AllShown ks ts → AllShown ls us → AllShown (ks ++ ls) (ts ++ us)
-shown-append _ ls _ us none_shown more = more
-shown-append _ ls _ us (next_shown ks js t ts first rest) more =
-    rw (append_assoc ks js ls) (next_shown ks _ t _ first (shown-append js ls ts us rest more))
+pub shown-append : {ks ls : List Kind} {ts us : List (List ℕ)} → AllShown ks ts → AllShown ls us → AllShown (ks ++ ls) (ts ++ us)
+shown-append none_shown more = more
+shown-append {ls} (next_shown ks js t ts first rest) more =
+    rw (append_assoc ks js ls) (next_shown ks _ t _ first (shown-append rest more))
 
 -- Pieces of a text, with these kinds. Whatever comes behind them, each is ended.
 pub record PiecesOf (ks : List Kind) (s : List ℕ) : Type 0 where
@@ -48,35 +48,35 @@ no_pieces = record { pieces = []; text = refl; kinds = refl; sound = tt; ended =
 pub line_feed : PiecesOf [] (10 ∷ [])
 line_feed = record { pieces = written.space 10 ∷ []; text = refl; kinds = refl; sound = (refl, tt); ended = λ more h. h }
 
-pub both_pieces : (ks ls : List Kind) (s t : List ℕ) → PiecesOf ks s → PiecesOf ls t → PiecesOf (ks ++ ls) (s ++ t)
-both_pieces ks ls s t a b = search (rules, append_assoc, All-append, text-append, kinds-append)
+pub both_pieces : {ks ls : List Kind} {s t : List ℕ} → PiecesOf ks s → PiecesOf ls t → PiecesOf (ks ++ ls) (s ++ t)
+both_pieces a b = search (rules, append_assoc, All-append, text-append, kinds-append)
 
 -- Movetext on lines.
-at_gap : (f : ℕ → Bool) (b : ℕ) (v : Bool) → f 32 ≡ v → f 10 ≡ v → is_gap b ≡ true → f b ≡ v
-at_gap f b v space line e = grind (arith, or_cases, eqb-true)
+at_gap : (f : ℕ → Bool) (b : ℕ) {v : Bool} → f 32 ≡ v → f 10 ≡ v → is_gap b ≡ true → f b ≡ v
+at_gap f b space line e = grind (arith, or_cases, eqb-true)
 
 gap_is_space : (b : ℕ) → is_gap b ≡ true → IsTrue (is_space b)
-gap_is_space b e = at_gap is_space b true refl refl e
+gap_is_space b e = at_gap is_space b refl refl e
 
 gap_ends : (b : ℕ) (s : List ℕ) (k : Kind) → is_gap b ≡ true → IsEndedBy (b ∷ s) k
 gap_ends b s k e = search (rules, at_gap)
 
-shown_pieces : (ks : List Kind) (t : List ℕ) (b : ℕ) → Shown ks t → AllByRecursion IsWritable ks → is_gap b ≡ true → PiecesOf ks (t ++ b ∷ [])
-shown_pieces _ _ b (single k) h gap = record {
+shown_pieces : {ks : List Kind} {t : List ℕ} (b : ℕ) → Shown ks t → AllByRecursion IsWritable ks → is_gap b ≡ true → PiecesOf ks (t ++ b ∷ [])
+shown_pieces b (single k) h gap = record {
   pieces = written.token k ∷ written.space b ∷ [];
   text = refl;
   kinds = refl;
   sound = (h.0, (gap_is_space b gap, tt));
   ended = λ more rest. (gap_ends b (text_of_pieces more) k gap, rest);
 }
-shown_pieces _ _ b (white n) h gap = record {
+shown_pieces b (white n) h gap = record {
   pieces = written.token _ ∷ written.token _ ∷ written.space b ∷ [];
   text = sym (append_assoc (decimal n) (codes ".") (b ∷ []));
   kinds = refl;
   sound = (h.0, (tt, (gap_is_space b gap, tt)));
   ended = λ more rest. (refl, (tt, rest));
 }
-shown_pieces _ _ b (black n) h gap = record {
+shown_pieces b (black n) h gap = record {
   pieces =
       written.token _ ∷ written.token _ ∷ written.token _ ∷ written.token _ ∷ written.space b ∷ [];
   text = sym (append_assoc (decimal n) (codes "...") (b ∷ []));
@@ -85,15 +85,15 @@ shown_pieces _ _ b (black n) h gap = record {
   ended = λ more rest. (refl, (tt, (tt, (tt, rest))));
 }
 
-pub at_text : (ks : List Kind) (s t : List ℕ) → s ≡ t → PiecesOf ks s → PiecesOf ks t
-at_text ks s t e a = record { pieces = a.pieces; text = a.text ∙ e; kinds = a.kinds; sound = a.sound; ended = a.ended }
+pub at_text : {ks : List Kind} {s t : List ℕ} → s ≡ t → PiecesOf ks s → PiecesOf ks t
+at_text e a = record { pieces = a.pieces; text = a.text ∙ e; kinds = a.kinds; sound = a.sound; ended = a.ended }
 
-pub line_pieces : (ks : List Kind) (ts : List (List ℕ)) (s : List ℕ) → AllShown ks ts → AllByRecursion IsWritable ks → IsTextOf ts s → PiecesOf ks s
-line_pieces _ _ _ none_shown h no_token = no_pieces
-line_pieces _ _ _ (next_shown ks ls _ _ first rest) h (next_token t b ts s gap more) =
-    at_text _ ((t ++ b ∷ []) ++ s) _ (append_assoc t _ s)
-    (both_pieces ks ls (t ++ b ∷ []) s (shown_pieces ks t b first (all_front _ ks ls h) gap)
-    (line_pieces ls ts s rest (all_behind _ ks ls h) more))
+pub line_pieces : {ks : List Kind} {ts : List (List ℕ)} {s : List ℕ} → AllShown ks ts → AllByRecursion IsWritable ks → IsTextOf ts s → PiecesOf ks s
+line_pieces none_shown h no_token = no_pieces
+line_pieces (next_shown ks ls _ _ first rest) h (next_token t b ts s gap more) =
+    at_text (append_assoc t _ s)
+    (both_pieces (shown_pieces b first (all_front _ ks ls h) gap)
+    (line_pieces rest (all_behind _ ks ls h) more))
 
 -- Tag lines.
 pub record IsSoundPair (q : Pair) : Type 0 where
@@ -125,7 +125,7 @@ one_tag q h = record {
 pub tag_pieces : (qs : List Pair) → AllByRecursion IsSoundPair qs → PiecesOf (tag_kinds qs) (tag_lines qs)
 tag_pieces [] h = no_pieces
 tag_pieces (q ∷ qs) h =
-    both_pieces (tokens.left_bracket ∷ tokens.symbol _ ∷ tokens.str _ ∷ tokens.right_bracket ∷ []) (tag_kinds qs) (tag_line _ q.value) (tag_lines qs)
+    both_pieces
     (one_tag q h.0) (tag_pieces qs h.1)
 
 -- they spell the pairs

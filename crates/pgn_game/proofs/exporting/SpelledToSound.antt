@@ -47,8 +47,8 @@ dropped_go_on (x ∷ xs) are =
     let both = and_parts (is_comment x) (list_all is_comment xs) are in
     (comment_goes_on x both.0, dropped_go_on xs both.1)
 
-behind_pair : (ks : List Kind) (q : Pair) (c : Bool) (ls : List Kind) → SpellsPair ks q → CommentsClose c (ks ++ ls) → CommentsClose false ls
-behind_pair _ _ c ls (pair xs ys zs name value d e f) h =
+behind_pair : {ks : List Kind} {q : Pair} (c : Bool) (ls : List Kind) → SpellsPair ks q → CommentsClose c (ks ++ ls) → CommentsClose false ls
+behind_pair c ls (pair xs ys zs name value d e f) h =
     let last = tokens.right_bracket ∷ ls in
     let valued = tokens.str value ∷ (zs ++ last) in
     let named = tokens.symbol name ∷ (ys ++ valued) in
@@ -58,74 +58,74 @@ behind_pair _ _ c ls (pair xs ys zs name value d e f) h =
     let i = behind (tokens.str value ∷ zs) g.0 last (tt, dropped_go_on zs f) g.1 in
     (plain tokens.right_bracket i.0 ls tt refl i.1).1
 
-behind_pairs : (ks : List Kind) (qs : List Pair) (ls : List Kind) → SpellsPairs ks qs → CommentsClose false (ks ++ ls) → CommentsClose false ls
-behind_pairs _ _ ls no_pair h = h
-behind_pairs _ _ ls (next_pair ks js q qs first rest) h =
-    behind_pairs js qs ls rest (behind_pair ks q false (js ++ ls) first (rw (append_assoc ks js ls) at h))
+behind_pairs : {ks : List Kind} {qs : List Pair} (ls : List Kind) → SpellsPairs ks qs → CommentsClose false (ks ++ ls) → CommentsClose false ls
+behind_pairs ls no_pair h = h
+behind_pairs ls (next_pair ks js q qs first rest) h =
+    behind_pairs ls rest (behind_pair false (js ++ ls) first (rw (append_assoc ks js ls) at h))
 
-item_goes_on : (k : Kind) (item : List Item) → StandsFor k item → GoesOn k
-item_goes_on _ _ (number s is) = tt
-item_goes_on _ _ _ = tt
+item_goes_on : {k : Kind} {item : List Item} → StandsFor k item → GoesOn k
+item_goes_on (number s is) = tt
+item_goes_on _ = tt
 
-text_goes_on : (p : Profile) (first : Parts) (deep : ℕ) (l : Level) (ks : List Kind) (items : List Item)
+text_goes_on : {p : Profile} {first : Parts} {deep : ℕ} {l : Level} {ks : List Kind} {items : List Item}
     → SpellsText p first deep l ks items → AllByRecursion GoesOn ks
-text_goes_on p first _ _ _ _ (no_more deep l) = tt
-text_goes_on p first _ _ _ _ (token deep l k ks item items stands rest) =
-    (item_goes_on k item stands, text_goes_on p first deep l ks items rest)
-text_goes_on p first _ _ _ _ (move deep l s x ks items names rest) = (tt, text_goes_on p first deep _ ks items rest)
-text_goes_on p first _ _ _ _ (variation deep l ks js items more holds room inner rest) =
-    let all = All-append GoesOn ks _ (text_goes_on p first _ _ ks items inner)
-    (tt, text_goes_on p first deep l js more rest) in (tt, all)
+text_goes_on (no_more deep l) = tt
+text_goes_on (token deep l k ks item items stands rest) =
+    (item_goes_on stands, text_goes_on rest)
+text_goes_on (move deep l s x ks items names rest) = (tt, text_goes_on rest)
+text_goes_on (variation deep l ks js items more holds room inner rest) =
+    let all = All-append GoesOn ks _ (text_goes_on inner)
+    (tt, text_goes_on rest) in (tt, all)
 
 -- a marker is no comment
-marker_goes_on : (k : Kind) (marker : List ℕ) → marker_of k ≡ Some marker → GoesOn k × (is_comment k ≡ false)
-marker_goes_on k marker is = grind arith
+marker_goes_on : (k : Kind) {marker : List ℕ} → marker_of k ≡ Some marker → GoesOn k × (is_comment k ≡ false)
+marker_goes_on k is = grind arith
 
-marker_plain : (k : Kind) (marker : List ℕ) (c : Bool) (ks : List Kind) → marker_of k ≡ Some marker
+marker_plain : (k : Kind) {marker : List ℕ} (c : Bool) (ks : List Kind) → marker_of k ≡ Some marker
     → CommentsClose c (k ∷ ks)
     → (c ≡ false) × CommentsClose false ks
-marker_plain k marker c ks is h = let on = marker_goes_on k marker is in plain k c ks on.0 on.1 h
+marker_plain k c ks is h = let on = marker_goes_on k is in plain k c ks on.0 on.1 h
 
-pub marker_closed : (k : Kind) (marker : List ℕ) (ks : List Kind) → marker_of k ≡ Some marker → CommentsClose false ks
+pub marker_closed : (k : Kind) {marker : List ℕ} (ks : List Kind) → marker_of k ≡ Some marker → CommentsClose false ks
     → CommentsClose false (k ∷ ks)
-marker_closed k marker ks is h = search rules
+marker_closed k ks is h = search rules
 
-pub marker_opens : (k : Kind) (marker : List ℕ) (c : Bool) (ks ls : List Kind) → marker_of k ≡ Some marker → CommentsClose c (k ∷ ks) → CommentsClose false ls → CommentsClose c (k ∷ ls)
-marker_opens k marker c ks ls is h more =
-    rw ((marker_plain k marker c ks is h).0) (marker_closed k marker ls is more)
+pub marker_opens : (k : Kind) {marker : List ℕ} (c : Bool) (ks ls : List Kind) → marker_of k ≡ Some marker → CommentsClose c (k ∷ ks) → CommentsClose false ls → CommentsClose c (k ∷ ls)
+marker_opens k c ks ls is h more =
+    rw ((marker_plain k c ks is h).0) (marker_closed k ls is more)
 
 -- no comment is open where movetext begins
-bare_text : (ks : List Kind) (c : Bool) (k : Kind) (marker : List ℕ) (ls : List Kind) → AllByRecursion GoesOn ks
+bare_text : (ks : List Kind) (c : Bool) (k : Kind) {marker : List ℕ} (ls : List Kind) → AllByRecursion GoesOn ks
     → BeginsBare ks
     → marker_of k ≡ Some marker → CommentsClose c (ks ++ k ∷ ls) → CommentsClose false (ks ++ k ∷ ls)
-bare_text ks c k marker ls on bare is h = search (rules, plain, marker_plain)
+bare_text ks c k ls on bare is h = search (rules, plain, marker_plain)
 
-before_text : (tags text : List Kind) (given : List Pair) (c : Bool) (k : Kind) (marker : List ℕ) (ls : List Kind)
+before_text : {tags : List Kind} (text : List Kind) {given : List Pair} (c : Bool) (k : Kind) {marker : List ℕ} (ls : List Kind)
     → SpellsPairs tags given → (given ≡ [] → BeginsBare text) → AllByRecursion GoesOn text → marker_of k ≡ Some marker
     → CommentsClose c (tags ++ (text ++ k ∷ ls)) → CommentsClose false (text ++ k ∷ ls)
-before_text _ text _ c k marker ls no_pair bare on is h = bare_text text c k marker ls on (bare refl) is h
-before_text _ text _ c k marker ls (next_pair ks js q qs one rest) bare on is h =
-    behind_pairs js qs (text ++ k ∷ ls) rest
-    (behind_pair ks q c (js ++ (text ++ k ∷ ls)) one (rw (append_assoc ks js (text ++ k ∷ ls)) at h))
+before_text text c k ls no_pair bare on is h = bare_text text c k ls on (bare refl) is h
+before_text text c k ls (next_pair ks js q qs one rest) bare on is h =
+    behind_pairs (text ++ k ∷ ls) rest
+    (behind_pair c (js ++ (text ++ k ∷ ls)) one (rw (append_assoc ks js (text ++ k ∷ ls)) at h))
 
 -- Pairs that sound tokens spell.
-sound_pair : (ks : List Kind) (q : Pair) → SpellsPair ks q → AllByRecursion IsSoundKind ks → IsSoundPair q
-sound_pair ks q h2 sound = search (rules, all_behind)
+sound_pair : {ks : List Kind} {q : Pair} → SpellsPair ks q → AllByRecursion IsSoundKind ks → IsSoundPair q
+sound_pair h2 sound = search (rules, all_behind)
 
 sound_pairs : (ks : List Kind) (qs : List Pair) → SpellsPairs ks qs → AllByRecursion IsSoundKind ks → AllByRecursion IsSoundPair qs
 sound_pairs _ _ no_pair sound = tt
 sound_pairs _ _ (next_pair ks js q qs one rest) sound =
-    (sound_pair ks q one (all_front _ ks js sound), sound_pairs js qs rest (all_behind _ ks js sound))
+    (sound_pair one (all_front _ ks js sound), sound_pairs js qs rest (all_behind _ ks js sound))
 
 -- Markers.
-pub marker_is_result : (k : Kind) (marker : List ℕ) → marker_of k ≡ Some marker → is_result marker ≡ true
-marker_is_result k marker is = grind (arith, score_of)
+pub marker_is_result : (k : Kind) {marker : List ℕ} → marker_of k ≡ Some marker → is_result marker ≡ true
+marker_is_result k is = grind (arith, score_of)
 
-pub marker_written : (k : Kind) (marker : List ℕ) → marker_of k ≡ Some marker → written k ≡ marker
-marker_written k marker is = grind (arith, score_of)
+pub marker_written : (k : Kind) {marker : List ℕ} → marker_of k ≡ Some marker → written k ≡ marker
+marker_written k is = grind (arith, score_of)
 
-pub marker_writable : (k : Kind) (marker : List ℕ) → marker_of k ≡ Some marker → IsSoundKind k → IsWritable k
-marker_writable k marker is sound = search rules
+pub marker_writable : (k : Kind) {marker : List ℕ} → marker_of k ≡ Some marker → IsSoundKind k → IsWritable k
+marker_writable k is sound = search rules
 
 -- A game that is read of sound tokens.
 pub record SoundGame (p : Profile) (g : Game) : Type 0 where
@@ -144,15 +144,15 @@ pub record SoundGame (p : Profile) (g : Game) : Type 0 where
   pub closes : CommentsClose false (text ++ last ∷ later)
   pub result : IsResult p.missing_result (value_of g.pairs (codes "Result")) g.marker
 
-pub sound_game : (p : Profile) (ks ls : List Kind) (g : Game) → SpellsGame p ks g → AllByRecursion IsSoundKind ks → CommentsClose false (ks ++ ls)
+pub sound_game : {p : Profile} {ks : List Kind} (ls : List Kind) {g : Game} → SpellsGame p ks g → AllByRecursion IsSoundKind ks → CommentsClose false (ks ++ ls)
     → SoundGame p g × CommentsClose false ls
-sound_game p ks ls g h sound closes =
+sound_game ls h sound closes =
     let sound_behind = all_behind IsSoundKind h.before (h.tags ++ (h.text ++ h.last ∷ [])) (rw h.tokens at sound) in
     let sound_rest = all_behind IsSoundKind h.tags (h.text ++ h.last ∷ []) sound_behind in
     let some = behind h.before false (h.tags ++ (h.text ++ h.last ∷ ls)) (dropped_go_on h.before h.dropped)
     (simp append_assoc at ((rw (ap (λ xs. xs ++ ls) h.tokens) at closes))) in
-    let on = text_goes_on p (start_of g.pairs) 0 (new_level []) h.text g.items h.items in
-    let text = before_text h.tags h.text h.given some.0 h.last g.marker ls h.pairs h.bare on h.marker some.1 in
+    let on = text_goes_on h.items in
+    let text = before_text h.text some.0 h.last ls h.pairs h.bare on h.marker some.1 in
     let end = behind h.text false (h.last ∷ ls) on text in (
       record {
         given = h.given;
@@ -170,5 +170,5 @@ sound_game p ks ls g h sound closes =
         closes = text;
         result = h.result;
       },
-      (marker_plain h.last g.marker end.0 ls h.marker end.1).1,
+      (marker_plain h.last end.0 ls h.marker end.1).1,
     )

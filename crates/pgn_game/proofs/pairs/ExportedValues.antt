@@ -17,26 +17,26 @@ defaulted value None = None
 defaulted value (Some unknown) = Some (unwrap_or value unknown)
 
 -- the search for a name at a place
-pub value_of-at : (ps : List Pair) (i : ℕ) (p : Pair) (name : List ℕ) (b : Bool) → slice_get ps i ≡ Some p → b ≡ bytes_eq name p.name
+pub value_of-at : (ps : List Pair) (i : ℕ) (p : Pair) (name : List ℕ) {b : Bool} → slice_get ps i ≡ Some p → b ≡ bytes_eq name p.name
     → value_of (drop i ps) name ≡ pick b p.value (value_of (drop (i + 1) ps) name)
-value_of-at ps i p name b e is =
+value_of-at ps i p name e is =
     let h = within_at ps i p e in
     let front : drop i ps ≡ p ∷ drop (i + 1) ps = cc (drop-cons ps i p h.0, add-one i) in
     cc (value_of-cons p (drop (i + 1) ps) name, bytes_eq-sym p.name name)
 
-pick_default : (ps : List Pair) (d name : List ℕ) (v : List ℕ) (b : Bool) (rest : Option (List ℕ)) → (b ≡ true → d ≡ name)
+pick_default : (ps : List Pair) {d name : List ℕ} (v : List ℕ) (b : Bool) (rest : Option (List ℕ)) → (b ≡ true → d ≡ name)
     → pick b (unwrap_or (value_of ps d) v) (defaulted (value_of ps name) rest) ≡ defaulted (value_of ps name) (pick b v rest)
-pick_default ps d name v true rest same = cc (same refl)
-pick_default ps d name v false rest same = refl
+pick_default ps v true rest same = cc (same refl)
+pick_default ps v false rest same = refl
 
 value_of-defaults : (ps ds : List Pair) (name : List ℕ) → value_of (map (with_default ps) ds) name ≡ defaulted (value_of ps name) (value_of ds name)
 value_of-defaults ps [] name = refl
 value_of-defaults ps (d ∷ ds) name =
-    cc (value_of-cons (with_default ps d) (map (with_default ps) ds) name, value_of-defaults ps ds name, pick_default ps d.name name d.value (bytes_eq d.name name) (value_of ds name) (bytes_eq-true d.name name), value_of-cons d ds name)
+    cc (value_of-cons (with_default ps d) (map (with_default ps) ds) name, value_of-defaults ps ds name, pick_default ps d.value (bytes_eq d.name name) (value_of ds name) (bytes_eq-true d.name name), value_of-cons d ds name)
 
-reduced_value : (m : List ℕ) (ps : List Pair) (n : List ℕ) (o : Option (List ℕ)) → value_of (roster m) n ≡ o
+reduced_value : (m : List ℕ) (ps : List Pair) (n : List ℕ) {o : Option (List ℕ)} → value_of (roster m) n ≡ o
     → value_of (roster_pairs m ps) n ≡ defaulted (value_of ps n) o
-reduced_value m ps n o e = cc (value_of-defaults ps (roster m) n)
+reduced_value m ps n e = cc (value_of-defaults ps (roster m) n)
 
 -- whether a name is in a list of pairs, one after another
 abbrev any_named : List ℕ → Bool → List Pair → Bool
@@ -72,69 +72,69 @@ set_up_if b ps = elim b [ true ↦ insert_pair set_up (without_set_up ps) | fals
 pub set_up_gone : (ps : List Pair) → has_pair (without_set_up ps) (codes "SetUp") ≡ false
 set_up_gone ps = ap is_some (value_of-kept _ ps _)
 
-hidden : (b c : Bool) (v : List ℕ) (o : Option (List ℕ)) → c ≡ b → pick b v (cond (not c) o None) ≡ pick b v o
-hidden true c v o e = refl
-hidden false c v o e = cc
+hidden : (b : Bool) {c : Bool} (v : List ℕ) (o : Option (List ℕ)) → c ≡ b → pick b v (cond (not c) o None) ≡ pick b v o
+hidden true v o e = refl
+hidden false v o e = cc
 
 with_one : (ps : List Pair) (n : List ℕ) → value_of (set_up_if true ps) n ≡ pick (bytes_eq (codes "SetUp") n) (codes "1") (value_of ps n)
 with_one ps n =
-    cc (value_of-put set_up (without_set_up ps) n (set_up_gone ps), value_of-kept (λ m. not (bytes_eq m (codes "SetUp"))) ps n, hidden (bytes_eq (codes "SetUp") n) (bytes_eq n (codes "SetUp")) (codes "1") (value_of ps n) (bytes_eq-sym n (codes "SetUp")))
+    cc (value_of-put set_up (without_set_up ps) n (set_up_gone ps), value_of-kept (λ m. not (bytes_eq m (codes "SetUp"))) ps n, hidden (bytes_eq (codes "SetUp") n) (codes "1") (value_of ps n) (bytes_eq-sym n (codes "SetUp")))
 
 pub set_up_values : (ps : List Pair) (n : List ℕ)
     → value_of (with_set_up ps) n ≡ pick (has_pair ps (codes "FEN") && bytes_eq (codes "SetUp") n) (codes "1") (value_of ps n)
 set_up_values ps n = grind (arith, pick, with_one)
 
-set_up_picked : (b c : Bool) (ps : List Pair) (name : List ℕ) → has_pair ps (codes "FEN") ≡ b
+set_up_picked : {b c : Bool} (ps : List Pair) (name : List ℕ) → has_pair ps (codes "FEN") ≡ b
     → bytes_eq name (codes "SetUp") ≡ c
     → value_of (with_set_up ps) name ≡ pick (b && c) (codes "1") (value_of ps name)
-set_up_picked b c ps name some is = cc (set_up_values ps name, some, is, bytes_eq-sym (codes "SetUp") name)
+set_up_picked ps name some is = cc (set_up_values ps name, some, is, bytes_eq-sym (codes "SetUp") name)
 
 pub set_up_one : (ps : List Pair) (name : List ℕ) → bytes_eq name (codes "SetUp") ≡ true → has_pair ps (codes "FEN") ≡ true → value_of (with_set_up ps) name ≡ Some (codes "1")
-set_up_one ps name is some = set_up_picked true true ps name some is
+set_up_one ps name is some = set_up_picked ps name some is
 
 pub no_fen : (ps : List Pair) (name : List ℕ) → has_pair ps (codes "FEN") ≡ false → value_of (with_set_up ps) name ≡ value_of ps name
 no_fen ps name none = cc
 
 pub no_set_up : (ps : List Pair) (name : List ℕ) → bytes_eq name (codes "SetUp") ≡ false → value_of (with_set_up ps) name ≡ value_of ps name
 no_set_up ps name e =
-    cc (set_up_picked (has_pair ps (codes "FEN")) false ps name refl e, and_right (has_pair ps (codes "FEN")) false refl)
+    cc (set_up_picked {b = (has_pair ps (codes "FEN"))} ps name refl e, and_right (has_pair ps (codes "FEN")) false refl)
 
 -- What a name has in the section: in full mode the value of another name is that with SetUp.
 pub other_value : (ps : List Pair) (n : List ℕ)
     → value_of (other_pairs (with_set_up ps)) n ≡ cond (not (in_roster n)) (value_of (with_set_up ps) n) None
 other_value ps n = value_of-kept (λ m. not _) (with_set_up ps) n
 
-full_value : (m : List ℕ) (ps : List Pair) (n : List ℕ) (o : Option (List ℕ)) → value_of (roster m) n ≡ o
+full_value : (m : List ℕ) (ps : List Pair) (n : List ℕ) {o : Option (List ℕ)} → value_of (roster m) n ≡ o
     → value_of (exported Full m ps) n
     ≡ either_of (defaulted (value_of ps n) o) (value_of (other_pairs (with_set_up ps)) n)
-full_value m ps n o e =
-    cc (value_of-append (roster_pairs m ps) (other_pairs (with_set_up ps)) n, reduced_value m ps n o e)
+full_value m ps n e =
+    cc (value_of-append (roster_pairs m ps) (other_pairs (with_set_up ps)) n, reduced_value m ps n e)
 
 -- a name of the roster has its value, or what stands for it
-pub exported_known : (mode : Mode) (m : List ℕ) (ps : List Pair) (n d : List ℕ) → value_of (roster m) n ≡ Some d
+pub exported_known : (mode : Mode) (m : List ℕ) (ps : List Pair) (n : List ℕ) {d : List ℕ} → value_of (roster m) n ≡ Some d
     → value_of (exported mode m ps) n ≡ Some (unwrap_or (value_of ps n) d)
-exported_known Full m ps n d e = full_value m ps n _ e
-exported_known Reduced m ps n d e = reduced_value m ps n _ e
+exported_known Full m ps n e = full_value m ps n e
+exported_known Reduced m ps n e = reduced_value m ps n e
 
 pub exported_other : (m : List ℕ) (ps : List Pair) (n : List ℕ) → in_roster n ≡ false
     → value_of (exported Full m ps) n ≡ value_of (with_set_up ps) n
 exported_other m ps n e =
-    cc (full_value m ps n None (not_of_roster m n e), other_value ps n)
+    cc (full_value m ps n (not_of_roster m n e), other_value ps n)
 
 -- and it has none in reduced mode, where the roster has it not
 pub exported_none : (m : List ℕ) (ps : List Pair) (n : List ℕ) → value_of (roster m) n ≡ None
     → value_of (exported Reduced m ps) n ≡ None
-exported_none m ps n e = reduced_value m ps n None e
+exported_none m ps n e = reduced_value m ps n e
 
 pub no_set_up_of : (m : List ℕ) → value_of (roster m) (codes "SetUp") ≡ None
 unfolding roster
 no_set_up_of m = refl
 
 -- SetUp is not of the roster
-other_than_set_up : (m name unknown : List ℕ) (b : Bool) → value_of (roster m) name ≡ Some unknown
+other_than_set_up : (m name : List ℕ) {unknown : List ℕ} (b : Bool) → value_of (roster m) name ≡ Some unknown
     → bytes_eq name (codes "SetUp") ≡ b → b ≡ false
-other_than_set_up m name unknown false e is = refl
-other_than_set_up m name unknown true e is =
+other_than_set_up m name false e is = refl
+other_than_set_up m name {unknown} true e is =
     let none : None ≡ Some unknown = cc (no_set_up_of m, bytes_eq-true name (codes "SetUp") is) in
     absurd (cc)
 
@@ -146,7 +146,7 @@ exported_by : (mode : Mode) (m : List ℕ) (ps : List Pair) (name : List ℕ) (u
     → value_of (roster m) name ≡ unknown → (unknown ≡ None → mode ≡ Reduced → ⊥)
     → value_of (exported mode m ps) name ≡ either_of (value_of (with_set_up ps) name) unknown
 exported_by mode m ps name (Some u) e some =
-    cc (exported_known mode m ps name u e, no_set_up ps name (other_than_set_up m name u _ e refl), either_unknown (value_of (with_set_up ps) name) u)
+    cc (exported_known mode m ps name e, no_set_up ps name (other_than_set_up m name _ e refl), either_unknown (value_of (with_set_up ps) name) u)
 exported_by Full m ps name None e some =
     cc (exported_other m ps name (in_roster-value m name ∙ ap is_some e), either_none _)
 exported_by Reduced m ps name None e some = absurd (some refl refl)

@@ -6,20 +6,20 @@ use Rattle.pgn_game.proofs.pairs.ValuesByName.{bytes_eq-true, bytes_eq-refl, val
 abbrev goes_first : ℕ → ℕ → Bool → Bool
 goes_first x y rest = nat_lt x y || ((x == y) && rest)
 
-first_cases : (x y : ℕ) (rest : Bool) → goes_first x y rest ≡ true → (x < y) ⊎ ((x ≡ y) × (rest ≡ true))
-first_cases x y rest e = grind (arith, or_cases, and_parts, ltb-true, eqb-true)
+first_cases : (x y : ℕ) {rest : Bool} → goes_first x y rest ≡ true → (x < y) ⊎ ((x ≡ y) × (rest ≡ true))
+first_cases x y e = grind (arith, or_cases, and_parts, ltb-true, eqb-true)
 
 by_byte : (x y : ℕ) (rest : Bool) → x < y → goes_first x y rest ≡ true
 by_byte x y rest h = cc (lt-ltb x y h)
 
-by_rest : (x y : ℕ) (rest : Bool) → x ≡ y → rest ≡ true → goes_first x y rest ≡ true
-by_rest x y rest e f =
+by_rest : (x y : ℕ) {rest : Bool} → x ≡ y → rest ≡ true → goes_first x y rest ≡ true
+by_rest x y e f =
     cc (le-ltb x y (omega (arith, e)), eq-eqb x y e)
 
 never_itself : (a : List ℕ) → comes_before a a ≡ true → ⊥
 never_itself [] e = false≢true e
 never_itself (x ∷ xs) e =
-    elim (first_cases x x _ e) [
+    elim (first_cases x x e) [
       | inl h ↦ absurd (omega arith)
       | inr h ↦ never_itself xs h.1
     ]
@@ -29,20 +29,20 @@ before-trans a [] c e f = absurd (false≢true e)
 before-trans a (y ∷ ys) [] e f = absurd (false≢true f)
 before-trans [] (y ∷ ys) (z ∷ zs) e f = refl
 before-trans (x ∷ xs) (y ∷ ys) (z ∷ zs) e f =
-    by_cases (before-trans xs ys zs) (first_cases x y _ e) (first_cases y z _ f)
+    by_cases (before-trans xs ys zs) (first_cases x y e) (first_cases y z f)
   where
     by_cases : (comes_before xs ys ≡ true → comes_before ys zs ≡ true → comes_before xs zs ≡ true) → (x < y) ⊎ ((x ≡ y) × (comes_before xs ys ≡ true)) → (y < z) ⊎ ((y ≡ z) × (comes_before ys zs ≡ true)) → goes_first x z (comes_before xs zs) ≡ true
     by_cases rest (inl h) (inl k) = by_byte x z (comes_before xs zs) (omega arith)
     by_cases rest (inl h) (inr k) = let e = k.0 in by_byte x z (comes_before xs zs) (omega arith)
     by_cases rest (inr h) (inl k) = let e = h.0 in by_byte x z (comes_before xs zs) (omega arith)
-    by_cases rest (inr h) (inr k) = by_rest x z (comes_before xs zs) (h.0 ∙ k.0) (rest h.1 k.1)
+    by_cases rest (inr h) (inr k) = by_rest x z (h.0 ∙ k.0) (rest h.1 k.1)
 
 -- any two names come one before the other, or are the same
 abbrev Comparable : List ℕ → List ℕ → Type 0
 Comparable a b = (comes_before a b ≡ true) ⊎ ((a ≡ b) ⊎ (comes_before b a ≡ true))
 
-comparable-cons : (x y : ℕ) (xs ys : List ℕ) → x ≡ y → Comparable xs ys → Comparable (x ∷ xs) (y ∷ ys)
-comparable-cons x y xs ys e h5 = search (rules, by_rest)
+comparable-cons : {x y : ℕ} {xs ys : List ℕ} → x ≡ y → Comparable xs ys → Comparable (x ∷ xs) (y ∷ ys)
+comparable-cons e h5 = search (rules, by_rest)
 
 comparable : (a b : List ℕ) → Comparable a b
 comparable [] [] = inr (inl refl)
@@ -50,7 +50,7 @@ comparable [] (y ∷ ys) = inl refl
 comparable (x ∷ xs) [] = inr (inr refl)
 comparable (x ∷ xs) (y ∷ ys) =
     elim (cases_order x y) [
-      | inl e ↦ comparable-cons x y xs ys e (comparable xs ys)
+      | inl e ↦ comparable-cons e (comparable xs ys)
       | inr (inl h) ↦ inl (by_byte x y _ h)
       | inr (inr h) ↦ inr (inr (by_byte y x _ h))
     ]

@@ -1,16 +1,16 @@
 -- A tag section is its lines one by one.
 use Rattle.std.proofs.Math.Bool.{or-false}
-use Rattle.pgn_game.proofs.Words.{◌≡◌, ℕ, ◌+◌, Bool, true, false, cond, List, [], ◌∷◌, ◌++◌, take, drop, refl, ap, sym, subst, ◌∙◌, append_assoc, arith, map, not, ◌||◌, unwrap_or, bytes_eq, codes, false≢true, or_right, tag_line, Mode, Full, Reduced, Pair, value_of, has_pair, comes_before, insert_pair, index_of, roster, in_roster, other_pairs, with_set_up, tag_lines, tag_section, text_by, roster_line, other_line}
+use Rattle.pgn_game.proofs.Words.{◌≡◌, ℕ, ◌+◌, Bool, true, false, cond, List, [], ◌∷◌, ◌++◌, take, drop, refl, ap, sym, ◌∙◌, append_assoc, arith, map, not, ◌||◌, unwrap_or, bytes_eq, codes, false≢true, or_right, tag_line, Mode, Full, Reduced, Pair, value_of, has_pair, comes_before, insert_pair, index_of, roster, in_roster, other_pairs, with_set_up, tag_lines, tag_section, text_by, roster_line, other_line}
 use Rattle.pgn_game.proofs.pairs.ExportedValues.{without_set_up, set_up, set_up_if}
 use Rattle.pgn_game.proofs.pairs.ValuesByName.{bytes_eq-true}
 
 tag_lines-append : (ps qs : List Pair) → tag_lines (ps ++ qs) ≡ tag_lines ps ++ tag_lines qs
 tag_lines-append [] qs = refl
-tag_lines-append (p ∷ ps) qs = ap (λ l. tag_line p.name p.value ++ l) (tag_lines-append ps qs) ∙ sym (append_assoc (tag_line p.name p.value) (tag_lines ps) (tag_lines qs))
+tag_lines-append (p ∷ ps) qs = rw (tag_lines-append ps qs) (sym (append_assoc (tag_line p.name p.value) (tag_lines ps) (tag_lines qs)))
 
 roster_lines : (ps ds : List Pair) → text_by (roster_line ps) ds ≡ tag_lines (map (λ d. record { name = d.name; value = unwrap_or (value_of ps d.name) d.value }) ds)
 roster_lines ps [] = refl
-roster_lines ps (d ∷ ds) = ap (λ l. roster_line ps d ++ l) (roster_lines ps ds)
+roster_lines ps (d ∷ ds) = rw (roster_lines ps ds)
 
 -- the line of a pair, unless it is left out
 abbrev line_unless : Bool → Pair → List ℕ
@@ -35,7 +35,7 @@ beside_line p ps b = grind (arith, or-false, or_right, kept_line)
 -- the lines of the pairs beside the SetUp of a FEN
 beside_lines : (ps : List Pair) → text_by (other_line true) ps ≡ tag_lines (other_pairs (without_set_up ps))
 beside_lines [] = refl
-beside_lines (p ∷ ps) = ap (λ l. other_line true p ++ l) (beside_lines ps) ∙ beside_line p (without_set_up ps) (is_set_up p)
+beside_lines (p ∷ ps) = rw (beside_lines ps) (beside_line p (without_set_up ps) (is_set_up p))
 
 -- the lines with SetUp's after so many pairs
 abbrev pub lines_about : ℕ → List Pair → List ℕ
@@ -54,12 +54,11 @@ set_up_here : (p : Pair) (ps : List Pair) (s b : Bool) → is_set_up p ≡ s →
     → lines_about (index_of (codes "SetUp") ps) ps ≡ tag_lines (other_pairs (insert_pair set_up (without_set_up ps)))
     → lines_about (elim b [ true ↦ 0 | false ↦ 1 + index_of (codes "SetUp") ps ]) (p ∷ ps) ≡ tag_lines (other_pairs (insert_pair set_up (kept s p (without_set_up ps))))
 set_up_here p ps true true is before rest =
-    let same : comes_before (codes "SetUp") (codes "SetUp") ≡ true = subst (λ n. comes_before (codes "SetUp") n ≡ true) (bytes_eq-true p.name (codes "SetUp") is) before in
+    let same : comes_before (codes "SetUp") (codes "SetUp") ≡ true = rw (bytes_eq-true p.name (codes "SetUp") is) at before in
     absurd (false≢true same)
 set_up_here p ps false true is before rest =
     let here : other_pairs (insert_pair set_up (p ∷ without_set_up ps)) ≡ other_pairs (set_up ∷ p ∷ without_set_up ps) = ap (λ b. other_pairs (placed b p (without_set_up ps))) before in
-    ap (λ l. tag_line (codes "SetUp") (codes "1") ++ l) (beside_lines (p ∷ ps) ∙ ap (λ s. tag_lines (other_pairs (kept s p (without_set_up ps)))) is)
-    ∙ ap tag_lines (sym here)
+    rw (beside_lines (p ∷ ps) ∙ ap (λ s. tag_lines (other_pairs (kept s p (without_set_up ps)))) is) (ap tag_lines (sym here))
 set_up_here p ps true false is before rest =
     lines_about-next (index_of (codes "SetUp") ps) p ps
     ∙ ap (λ s. line_unless (in_roster p.name || s) p ++ lines_about (index_of (codes "SetUp") ps) ps) is
@@ -85,7 +84,7 @@ pub others_with_fen : (ps : List Pair) → has_pair ps (codes "FEN") ≡ true �
 others_with_fen ps some = set_up_lines ps ∙ ap (λ b. tag_lines (other_pairs (set_up_if b ps))) (sym some)
 
 pub reduced_section : (result : List ℕ) (ps : List Pair) → text_by (roster_line ps) (roster result) ++ 10 ∷ [] ≡ tag_section Reduced result ps
-reduced_section result ps = ap (λ l. l ++ 10 ∷ []) (roster_lines ps (roster result))
+reduced_section result ps = rw (roster_lines ps (roster result))
 
 pub full_section : (result : List ℕ) (ps : List Pair) → (text_by (roster_line ps) (roster result) ++ tag_lines (other_pairs (with_set_up ps))) ++ 10 ∷ [] ≡ tag_section Full result ps
 full_section result ps = grind (arith, tag_lines-append, roster_lines)

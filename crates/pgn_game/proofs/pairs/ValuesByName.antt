@@ -7,8 +7,8 @@ bytes_eq-true xs ys e = (bytes_eq-Decides xs ys).0 e
 pub bytes_eq-refl : (xs ys : List ℕ) → xs ≡ ys → bytes_eq xs ys ≡ true
 bytes_eq-refl xs ys e = (bytes_eq-Decides xs ys).1 e
 
-same_bool : (a b : Bool) → (a ≡ true → b ≡ true) → (b ≡ true → a ≡ true) → a ≡ b
-same_bool a b there back = grind arith
+same_bool : {a b : Bool} → (a ≡ true → b ≡ true) → (b ≡ true → a ≡ true) → a ≡ b
+same_bool there back = grind arith
 
 -- the tests of equality of texts agree either way round
 pub bytes_eq-sym : (xs ys : List ℕ) → bytes_eq xs ys ≡ bytes_eq ys xs
@@ -39,14 +39,14 @@ pub not_among : (r : Pair) (rs : List Pair) (name : List ℕ) → has_pair (r �
 not_among r rs name e = or_parts _ _ (sym (has-cons r rs name) ∙ e)
 
 -- the pair of a name that has a value
-found_at : (P : Pair → Type 0) (q : Pair) (n v : List ℕ) (o : Option (List ℕ)) (b : Bool) → P q → bytes_eq q.name n ≡ b
+found_at : (P : Pair → Type 0) (q : Pair) (n : List ℕ) {v : List ℕ} {o : Option (List ℕ)} {b : Bool} → P q → bytes_eq q.name n ≡ b
     → (o ≡ Some v → P (record { name = n; value = v })) → pick b q.value o ≡ Some v → P (record { name = n; value = v })
-found_at P q n v o b h is rest e = search (rules, bytes_eq-true)
+found_at P q n h is rest e = search (rules, bytes_eq-true)
 
 pub found : (P : Pair → Type 0) (ps : List Pair) (n v : List ℕ) → AllByRecursion P ps → value_of ps n ≡ Some v → P (record { name = n; value = v })
 found P [] n v h e = absurd (cc)
 found P (q ∷ qs) n v h e =
-    found_at P q n v (value_of qs n) _ h.0 refl (found P qs n v h.1) (sym (value_of-cons q qs n) ∙ e)
+    found_at P q n h.0 refl (found P qs n v h.1) (sym (value_of-cons q qs n) ∙ e)
 
 -- Pairs that are joined.
 abbrev pub either_of : Option (List ℕ) → Option (List ℕ) → Option (List ℕ)
@@ -111,8 +111,8 @@ value_of-insert p qs name e =
     (λ ps. value_of-cons p ps name ∙ ap (λ b. pick b p.value (value_of ps name)) e)
     (λ r rs l e. value_of-cons r l name ∙ ap (pick (bytes_eq _ name) _) e ∙ sym (value_of-cons r rs name)) qs
 
-pick_swap : (b c : Bool) (v w : List ℕ) (o : Option (List ℕ)) → (b ≡ true → c ≡ true → ⊥) → pick b v (pick c w o) ≡ pick c w (pick b v o)
-pick_swap b c v w o apart = grind arith
+pick_swap : {b c : Bool} (v w : List ℕ) (o : Option (List ℕ)) → (b ≡ true → c ≡ true → ⊥) → pick b v (pick c w o) ≡ pick c w (pick b v o)
+pick_swap v w o apart = grind arith
 
 two_names : (r q n : List ℕ) → bytes_eq r q ≡ false → bytes_eq r n ≡ true → bytes_eq q n ≡ true → ⊥
 two_names r q n other e f = false≢true (sym other ∙ bytes_eq-refl r q (bytes_eq-true r n e ∙ sym (bytes_eq-true q n f)))
@@ -125,7 +125,7 @@ value_of-put q qs n =
     (λ ps new. value_of-cons q ps n)
     (λ r rs l more new.
     let apart = not_among r rs _ new in
-    cc (value_of-cons r l n, more apart.1, pick_swap (bytes_eq _ n) (bytes_eq q.name n) r.value q.value (value_of rs n) (two_names _ q.name n apart.0), value_of-cons r rs n)) qs
+    cc (value_of-cons r l n, more apart.1, pick_swap r.value q.value (value_of rs n) (two_names _ q.name n apart.0), value_of-cons r rs n)) qs
 
 pub all-insert : (P : Pair → Type 0) (q : Pair) (qs : List Pair) → P q → AllByRecursion P qs → AllByRecursion P (insert_pair q qs)
 all-insert P q qs h =

@@ -24,18 +24,18 @@ pub number_no_score : (s : List ℕ) → is_number s ≡ true → is_score s ≡
 number_no_score s is = grind (arith, false≢true, score_marker, marker_no_number)
 
 -- A token that stands anywhere.
-pub stands_free : (p : Profile) (ps : List Pair) (name : List ℕ) (items : List Item) (k : Kind) (item : List Item) → StandsFor k item
+pub stands_free : (p : Profile) (ps : List Pair) (name : List ℕ) (items : List Item) {k : Kind} {item : List Item} → StandsFor k item
     → refusal p (at InMovetext ps name items) k ≡ None
 unfolding refusal
-stands_free p ps name items k item h6 = grind (arith, at, text_row, number_free, number_no_score)
+stands_free p ps name items h6 = grind (arith, at, text_row, number_free, number_no_score)
 
-pub stands_leads : (ps : List Pair) (name : List ℕ) (items : List Item) (k : Kind) (item : List Item) → StandsFor k item
+pub stands_leads : (ps : List Pair) (name : List ℕ) (items : List Item) {k : Kind} {item : List Item} → StandsFor k item
     → next (at InMovetext ps name items) k ≡ going (at InMovetext ps name (items ++ item))
-stands_leads ps name items k item h5 = grind (arith, at, number_leads, number_no_score)
+stands_leads ps name items h5 = grind (arith, at, number_leads, number_no_score)
 
-pub stands_levels : (items : List Item) (k : Kind) (item : List Item) → StandsFor k item → levels_of (items ++ item) ≡ levels_of items
-stands_levels items k item h3 = grind (arith, append-nil, levels_more)
+pub stands_levels : (items : List Item) {k : Kind} {item : List Item} → StandsFor k item → levels_of (items ++ item) ≡ levels_of items
+stands_levels items h3 = grind (arith, append-nil, levels_more)
 
-pub stands_goes : (k : Kind) (item : List Item) → StandsFor k item → is_end k ≡ false
-stands_goes _ _ (number s is) = refl
-stands_goes _ _ _ = refl
+pub stands_goes : {k : Kind} {item : List Item} → StandsFor k item → is_end k ≡ false
+stands_goes (number s is) = refl
+stands_goes _ = refl

@@ -1,6 +1,5 @@
 -- Pairs that come one after another, and what is asked of each beside those before it.
-use Rattle.pgn_game.proofs.Words.{◌≡◌, ℕ, suc, ◌+◌, ◌<◌, ◌≤◌, Bool, true, false, List, [], ◌∷◌, length, refl, sym, ap, ◌∙◌, arith, Option, None, IsFalse, bytes_eq, AllByRecursion, or_parts, or_from, Profile, Pair, value_of, has_pair, insert_pair, IsPair, AreDistinct, KeepsTags, rules}
-use Rattle.std.specs.List.{fold}
+use Rattle.pgn_game.proofs.Words.{◌≡◌, ℕ, suc, ◌+◌, ◌<◌, ◌≤◌, Bool, true, false, List, [], ◌∷◌, length, refl, sym, ap, ◌∙◌, arith, Option, None, IsFalse, bytes_eq, AllByRecursion, or_parts, or_from, Profile, Pair, value_of, has_pair, insert_pair, IsPair, AreDistinct, KeepsTags, rules, fold}
 use Rattle.pgn_game.proofs.pairs.NameOrder.{InOrder, order-insert}
 use Rattle.pgn_game.proofs.pairs.ValuesByName.{bytes_eq-true, bytes_eq-sym, either_of, either_none, pick, value_of-cons, value_of-put, has-cons, has-insert, not_among, no_value, by_insert, all-insert}
 
@@ -61,8 +60,8 @@ taken_apart p ps (q ∷ qs) h =
     let less = apart_less q ps qs rest.0 in
     ((h.1, less.0), (less.1, rest.1))
 
-pub taken : (p : Profile) (qs : List Pair) → Takes p [] qs → KeepsTags p qs
-taken p qs h = search (rules, taken_count, taken_each, taken_apart)
+pub taken : {p : Profile} {qs : List Pair} → Takes p [] qs → KeepsTags p qs
+taken h = search (rules, taken_count, taken_each, taken_apart)
 
 -- And back.
 takes_from : (p : Profile) (ps qs : List Pair) → length ps + length qs ≤ p.tags → AllByRecursion (IsPair p.mode) qs → AreDistinct qs → Apart ps qs → Takes p ps qs
@@ -75,8 +74,8 @@ takes_from p ps (q ∷ qs) count each distinct apart =
       takes_from p (insert_pair q ps) qs (omega arith) each.1 distinct.1 (apart_more q ps qs apart.1 distinct.0),
     )
 
-pub takes : (p : Profile) (qs : List Pair) → KeepsTags p qs → Takes p [] qs
-takes p qs h = let count = h.count in takes_from p [] qs (omega arith) h.each h.distinct (apart_from_none qs)
+pub takes : {p : Profile} {qs : List Pair} → KeepsTags p qs → Takes p [] qs
+takes {p} {qs} h = let count = h.count in takes_from p [] qs (omega arith) h.each h.distinct (apart_from_none qs)
 
 -- The values of names in pairs of new names, all put in.
 put_later : (q : Pair) (n : List ℕ) (b : Bool) (o more : Option (List ℕ)) → bytes_eq q.name n ≡ b → (q.name ≡ n → o ≡ None)

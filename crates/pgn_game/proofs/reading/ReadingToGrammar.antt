@@ -24,33 +24,31 @@ data Closes (p : Profile) (first : Parts) : Level → List Level → List Kind �
       → Closes p first m around ls more → Closes p first l (m ∷ around) (ks ++ tokens.right_paren ∷ ls) (items ++ games.close_variation ∷ more)
 
 -- one token more at this level, from where it leads
-add_front : (p : Profile) (first : Parts) (l n : Level) (around : List Level) (k : Kind) (ks : List Kind)
+add_front : (p : Profile) {first : Parts} (l n : Level) (around : List Level) (k : Kind) (ks : List Kind)
     (item items : List Item)
     → ((d : ℕ) (js : List Kind) (is : List Item) → SpellsText p first d n js is
     → SpellsText p first d l (k ∷ js) (item ++ is))
     → Closes p first n around ks items → Closes p first l around (k ∷ ks) (item ++ items)
-add_front p first l _ _ k _ item _ front (outermost n ks items text) =
+add_front p l _ _ k _ item _ front (outermost n ks items text) =
     outermost l _ _ (front 0 ks items text)
-add_front p first l _ _ k _ item _ front (inside n m around ks ls items more text rest) =
+add_front p l _ _ k _ item _ front (inside n m around ks ls items more text rest) =
     rw (append_assoc item items _) at (inside l m around (k ∷ ks) ls (item ++ items) more (front _ ks items text) rest)
 
 -- a variation, with what comes behind it
-add_variation : (p : Profile) (first : Parts) (l : Level) (around : List Level) (ks ls : List Kind) (items more : List Item) → IsTrue l.has_own_move → deep around < p.depth
+add_variation : {p : Profile} {first : Parts} (l : Level) (around : List Level) (ks ls : List Kind) (items more : List Item) → IsTrue l.has_own_move → deep around < p.depth
     → SpellsText p first (deep around + 1) (new_level (without_last l.trail)) ks items → Closes p first l around ls more
     → Closes p first l around (tokens.left_paren ∷ (ks ++ tokens.right_paren ∷ ls)) (games.open_variation ∷ (items ++ games.close_variation ∷ more))
-add_variation p first _ _ ks _ items _ holds room inner (outermost l ls more text) =
+add_variation _ _ ks _ items _ holds room inner (outermost l ls more text) =
     outermost l (tokens.left_paren ∷ (ks ++ tokens.right_paren ∷ ls)) (games.open_variation ∷ (items ++ games.close_variation ∷ more))
     (variation 0 l ks ls items more holds room inner text)
-add_variation p first _ _ ks _ items _ holds room inner (inside l m around ls js more others text rest) =
-    rw (append_assoc ks _ _) at (subst (λ xs. Closes p first l (m ∷ around) (tokens.left_paren ∷ ((ks ++ tokens.right_paren ∷ ls) ++ tokens.right_paren ∷ js)) (games.open_variation ∷ xs))
-    (append_assoc items _ _)
-    (inside l m around (tokens.left_paren ∷ (ks ++ tokens.right_paren ∷ ls)) js (games.open_variation ∷ (items ++ games.close_variation ∷ more)) others
+add_variation _ _ ks _ items _ holds room inner (inside l m around ls js more others text rest) =
+    rw (append_assoc ks _ _) at (rw (append_assoc items _ _) at (inside l m around (tokens.left_paren ∷ (ks ++ tokens.right_paren ∷ ls)) js (games.open_variation ∷ (items ++ games.close_variation ∷ more)) others
     (variation _ l ks ls items more holds room inner text) rest))
 
-add_open : (p : Profile) (first : Parts) (l n : Level) (around : List Level) (ks : List Kind) (items : List Item) → IsTrue l.has_own_move → deep around < p.depth
+add_open : (p : Profile) (first : Parts) (l : Level) {n : Level} (around : List Level) (ks : List Kind) (items : List Item) → IsTrue l.has_own_move → deep around < p.depth
     → n ≡ new_level (without_last l.trail) → Closes p first n (l ∷ around) ks items
     → Closes p first l around (tokens.left_paren ∷ ks) (games.open_variation ∷ items)
-add_open p first l n around ks items holds room e h10 = search (rules, at, add_variation)
+add_open p first l around ks items holds room e h10 = search (rules, at, add_variation)
 
 add_close : (p : Profile) (first : Parts) (l m : Level) (around : List Level) (ks : List Kind) (items : List Item) → Closes p first m around ks items
     → Closes p first l (m ∷ around) (tokens.right_paren ∷ ks) (games.close_variation ∷ items)
@@ -81,9 +79,9 @@ Adds p ps items k new =
     (text : List Kind) (more : List Item) → Closes p (start_of ps) (levels_of (items ++ new)).present (levels_of (items ++ new)).around text more
     → Closes p (start_of ps) (levels_of items).present (levels_of items).around (k ∷ text) (new ++ more)
 
-text_more : (p : Profile) (ps : List Pair) (items new : List Item) (k : Kind) (ks : List Kind) (gs : List Game) → Adds p ps items k new
+text_more : {p : Profile} {ps : List Pair} {items : List Item} (new : List Item) {k : Kind} {ks : List Kind} {gs : List Game} → Adds p ps items k new
     → Text_left p ps (items ++ new) ks gs → Text_left p ps items (k ∷ ks) gs
-text_more p ps items new k ks gs adds h = search (rules, append_assoc)
+text_more new adds h = search (rules, append_assoc)
 
 -- What is left of a game at each stage.
 
@@ -161,21 +159,21 @@ After p (going part) ks gs = Fits part.stage part.pairs part.items → Left p pa
 After p (whole g) ks gs = (later : List Game) × (gs ≡ g ∷ later) × SpellsGames p ks later
 
 -- Movetext, token by token.
-token_step : (p : Profile) (ps : List Pair) (items item : List Item) (k : Kind) (ks : List Kind) (gs : List Game)
+token_step : {p : Profile} {ps : List Pair} {items item : List Item} {k : Kind} {ks : List Kind} {gs : List Game}
     → StandsFor k item
     → Text_left p ps (items ++ item) ks gs → Text_left p ps items (k ∷ ks) gs
-token_step p ps items item k ks gs stands h =
-    text_more p ps items item k ks gs (λ text more c.
+token_step {p} {items} {item} {k} stands h =
+    text_more item (λ text more c.
     let l = (levels_of items).present in
-    add_front p _ l l _ k text item more
+    add_front p l l _ k text item more
     (λ d js is rest. token d l k js item is stands rest)
-    (rw (stands_levels items k item stands) at c)) h
+    (rw (stands_levels items stands) at c)) h
 
 adds_move : (p : Profile) (ps : List Pair) (items : List Item) (s : List ℕ) (played : Played) → Names (here (start_of ps) (levels_of items)) s played
     → Adds p ps items (tokens.symbol s) (games.move played.mv ∷ [])
 adds_move p ps items s played names text more c =
     let l = (levels_of items).present in
-    add_front p _ l (level_after_move _ _) _ _ text
+    add_front p l (level_after_move _ _) _ _ text
     (games.move _ ∷ []) more
     (λ d js is rest. move d l s played js is names rest)
     (rw (levels_more items (games.move played.mv)) at c)
@@ -193,27 +191,27 @@ close_at p first l around text more some c = search (rules, false≢true, add_cl
 adds_close : (p : Profile) (ps : List Pair) (items : List Item) → (depth (levels_of items) == 0) ≡ false → Adds p ps items tokens.right_paren (games.close_variation ∷ [])
 adds_close p ps items some = search (rules, at, levels_more, close_at)
 
-open_step : (p : Profile) (ps : List Pair) (name : List ℕ) (items : List Item) (ks : List Kind) (gs : List Game) → refusal p (at InMovetext ps name items) tokens.left_paren ≡ None
+open_step : (p : Profile) {ps : List Pair} (name : List ℕ) {items : List Item} {ks : List Kind} {gs : List Game} → refusal p (at InMovetext ps name items) tokens.left_paren ≡ None
     → Text_left p ps (items ++ games.open_variation ∷ []) ks gs → Text_left p ps items (tokens.left_paren ∷ ks) gs
-open_step p ps name items ks gs free h =
+open_step p {ps} name {items} free h =
     let e = sym (text_row p (at InMovetext ps name items) _ refl) ∙ free in
     let holds = not-false (levels_of items).present.has_own_move (test_failed _ NoMoveBefore _ e) in
     let room =
-    test_failed _ TooDeep None (rest_passed (not _) NoMoveBefore _ e) in
-    text_more p ps items _ _ ks gs
+    test_failed _ TooDeep None (rest_passed (not _) NoMoveBefore e) in
+    text_more _
     (adds_open p ps items holds (leb-false _ _ room)) h
 
-close_step : (p : Profile) (ps : List Pair) (name : List ℕ) (items : List Item) (ks : List Kind) (gs : List Game) → refusal p (at InMovetext ps name items) tokens.right_paren ≡ None
+close_step : (p : Profile) {ps : List Pair} (name : List ℕ) {items : List Item} {ks : List Kind} {gs : List Game} → refusal p (at InMovetext ps name items) tokens.right_paren ≡ None
     → Text_left p ps (items ++ games.close_variation ∷ []) ks gs → Text_left p ps items (tokens.right_paren ∷ ks) gs
-close_step p ps name items ks gs free h =
-    text_more p ps items _ _ ks gs
+close_step p {ps} name {items} free h =
+    text_more _
     (adds_close p ps items (test_failed _ UnmatchedClose None (sym (text_row p (at InMovetext ps name items) _ refl) ∙ free))) h
 
 -- a marker finishes the game
-marker_step : (p : Profile) (ps : List Pair) (items : List Item) (k : Kind) (marker : List ℕ) (ks : List Kind) (gs : List Game) → marker_of k ≡ Some marker
+marker_step : {p : Profile} {ps : List Pair} {items : List Item} {k : Kind} {marker : List ℕ} {ks : List Kind} {gs : List Game} → marker_of k ≡ Some marker
     → nat_le 1 (depth (levels_of items)) ≡ false → (differs p.missing_result (value_of ps (codes "Result")) marker && (depth (levels_of items) == 0)) ≡ false
     → After p (whole (record { pairs = ps; items = items; marker = marker })) ks gs → Text_left p ps items (k ∷ ks) gs
-marker_step p ps items k marker ks gs is shallow same after =
+marker_step {p} {items} {k} {marker} {ks} is shallow same after =
     let outside : depth (levels_of items) ≡ 0 = omega (arith, leb-false 1 (depth (levels_of items)) shallow) in
     record {
       text = [];
@@ -230,150 +228,150 @@ marker_step p ps items k marker ks gs is shallow same after =
       others = after.2;
     }
 
-symbol_step : (p : Profile) (ps : List Pair) (name : List ℕ) (items : List Item) (s : List ℕ) (ks : List Kind) (gs : List Game)
+symbol_step : {p : Profile} {ps : List Pair} (name : List ℕ) {items : List Item} (s : List ℕ) {ks : List Kind} {gs : List Game}
     → (is_digits score : Bool) (o : Option (Result Played SanFault))
     → is_number s ≡ is_digits → is_score s ≡ score → move_of (here (start_of ps) (levels_of items)) s ≡ o
     → rows_for p (at InMovetext ps name items) s (is_digits || score) score o ≡ None
     → After p (symbol_next (at InMovetext ps name items) s is_digits score o) ks gs → Text_left p ps items (tokens.symbol s ∷ ks) gs
-symbol_step p ps name items s ks gs true false o digits is_marker one free after =
-    token_step p ps items [] (tokens.symbol s) ks gs (number s digits) (after tt)
-symbol_step p ps name items s ks gs false false (Some (Ok played)) digits is_marker one free after =
-    text_more p ps items _ _ ks gs
+symbol_step name s true false o digits is_marker one free after =
+    token_step (number s digits) (after tt)
+symbol_step {p} {ps} name {items} s false false (Some (Ok played)) digits is_marker one free after =
+    text_more _
     (adds_move p ps items s played
     (record { no_number = digits; no_marker = is_marker; one = one; within = test_failed _ MoveLimit _ free })) (after tt)
-symbol_step p ps name items s ks gs false false None digits is_marker one free after = absurd (none-some _ (sym free))
-symbol_step p ps name items s ks gs false false (Some (Err NoMove)) digits is_marker one free after = absurd (none-some _ (sym free))
-symbol_step p ps name items s ks gs false false (Some (Err Ambiguous)) digits is_marker one free after = absurd (none-some _ (sym free))
-symbol_step p ps name items s ks gs true true o digits is_marker one free after =
-    marker_step p ps items _ s ks gs (ap (λ b. marker_if b s) is_marker)
+symbol_step name s false false None digits is_marker one free after = absurd (none-some _ (sym free))
+symbol_step name s false false (Some (Err NoMove)) digits is_marker one free after = absurd (none-some _ (sym free))
+symbol_step name s false false (Some (Err Ambiguous)) digits is_marker one free after = absurd (none-some _ (sym free))
+symbol_step name s true true o digits is_marker one free after =
+    marker_step (ap (λ b. marker_if b s) is_marker)
     (test_failed _ MarkerInVariation _ free)
-    (test_failed _ ResultDiffers None (rest_passed (nat_le 1 _) MarkerInVariation _ free)) after
-symbol_step p ps name items s ks gs false true o digits is_marker one free after =
-    marker_step p ps items _ s ks gs (ap (λ b. marker_if b s) is_marker)
+    (test_failed _ ResultDiffers None (rest_passed (nat_le 1 _) MarkerInVariation free)) after
+symbol_step name s false true o digits is_marker one free after =
+    marker_step (ap (λ b. marker_if b s) is_marker)
     (test_failed _ MarkerInVariation _ free)
-    (test_failed _ ResultDiffers None (rest_passed (nat_le 1 _) MarkerInVariation _ free)) after
+    (test_failed _ ResultDiffers None (rest_passed (nat_le 1 _) MarkerInVariation free)) after
 
-text_step : (p : Profile) (ps : List Pair) (name : List ℕ) (items : List Item) (k : Kind) (ks : List Kind) (gs : List Game) → refusal p (at InMovetext ps name items) k ≡ None
+text_step : {p : Profile} {ps : List Pair} (name : List ℕ) {items : List Item} (k : Kind) {ks : List Kind} {gs : List Game} → refusal p (at InMovetext ps name items) k ≡ None
     → is_end k ≡ false → After p (next (at InMovetext ps name items) k) ks gs → Text_left p ps items (k ∷ ks) gs
 unfolding refusal
-text_step p ps name items tokens.left_paren ks gs free end after = open_step p ps name items ks gs free (after tt)
-text_step p ps name items tokens.right_paren ks gs free end after = close_step p ps name items ks gs free (after tt)
-text_step p ps name items tokens.period ks gs free end after = token_step p ps items [] tokens.period ks gs period (after tt)
-text_step p ps name items (tokens.glyph n) ks gs free end after =
-    token_step p ps items _ _ ks gs (glyph n) (after tt)
-text_step p ps name items tokens.comment_open ks gs free end after =
-    token_step p ps items _ _ ks gs comment_open (after tt)
-text_step p ps name items (tokens.word s) ks gs free end after =
-    token_step p ps items _ _ ks gs (word s) (after tt)
-text_step p ps name items tokens.comment_close ks gs free end after =
-    token_step p ps items _ _ ks gs comment_close (after tt)
-text_step p ps name items tokens.asterisk ks gs free end after =
+text_step {p} name tokens.left_paren free end after = open_step p name free (after tt)
+text_step {p} name tokens.right_paren free end after = close_step p name free (after tt)
+text_step name tokens.period free end after = token_step period (after tt)
+text_step name (tokens.glyph n) free end after =
+    token_step (glyph n) (after tt)
+text_step name tokens.comment_open free end after =
+    token_step comment_open (after tt)
+text_step name (tokens.word s) free end after =
+    token_step (word s) (after tt)
+text_step name tokens.comment_close free end after =
+    token_step comment_close (after tt)
+text_step {p} {ps} name {items} tokens.asterisk free end after =
     let e = sym (text_row p (at InMovetext ps name items) tokens.asterisk refl) ∙ free in
-    marker_step p ps items _ _ ks gs refl (test_failed _ MarkerInVariation _ e)
-    (test_failed _ ResultDiffers None (rest_passed (nat_le 1 _) MarkerInVariation _ e)) after
-text_step p ps name items (tokens.symbol s) ks gs free end after =
+    marker_step refl (test_failed _ MarkerInVariation _ e)
+    (test_failed _ ResultDiffers None (rest_passed (nat_le 1 _) MarkerInVariation e)) after
+text_step {p} {ps} name {items} (tokens.symbol s) free end after =
     let place = here (start_of ps) (levels_of items) in
-    symbol_step p ps name items s ks gs _ _ _ refl refl refl
-    (sym (text_row p (at InMovetext ps name items) (tokens.symbol s) refl ∙ symbol_refusal p (at InMovetext ps name items) s _ _ refl refl) ∙ free) after
-text_step p ps name items tokens.end ks gs free end after = absurd (false≢true (sym end))
-text_step p ps name items _ ks gs free end after = absurd (none-some _ (sym free))
+    symbol_step name s _ _ _ refl refl refl
+    (sym (text_row p (at InMovetext ps name items) (tokens.symbol s) refl ∙ symbol_refusal p (at InMovetext ps name items) s _ refl refl) ∙ free) after
+text_step name tokens.end free end after = absurd (false≢true (sym end))
+text_step name _ free end after = absurd (none-some _ (sym free))
 
 -- Pairs, token by token.
 dropped_more : (k : Kind) (ks : List Kind) → IsTrue (is_comment k) → AreDropped ks → AreDropped (k ∷ ks)
 dropped_more k ks is are = cc
 
-forced : (a b : Bool) → (a && b) ≡ false → a ≡ true → b ≡ false
-forced true b h e = h
-forced false b h e = absurd (cc)
+forced : (a : Bool) {b : Bool} → (a && b) ≡ false → a ≡ true → b ≡ false
+forced true h e = h
+forced false h e = absurd (cc)
 
 position_is : (r : Result Parts FenFault) → is_some (fen_fault_field r) ≡ false → (start : Parts) × (r ≡ Ok start)
 position_is (Ok start) h = (start, refl)
 position_is (Err fault) h = absurd (cc)
 
-is_full : (mode : Mode) (b : Bool) → (is_reduced mode && b) ≡ false → b ≡ true → mode ≡ Full
-is_full Full b h e = refl
-is_full Reduced b h e = absurd (cc)
+is_full : (mode : Mode) {b : Bool} → (is_reduced mode && b) ≡ false → b ≡ true → mode ≡ Full
+is_full Full h e = refl
+is_full Reduced h e = absurd (cc)
 
-one_dropped : (P : List Kind → Type 0) (k : Kind) (ks : List Kind) → IsTrue (is_comment k) → Dropping P ks
+one_dropped : (P : List Kind → Type 0) {k : Kind} {ks : List Kind} → IsTrue (is_comment k) → Dropping P ks
     → Dropping P (k ∷ ks)
-one_dropped P k ks is h =
+one_dropped P {k} is h =
     let kinds = ap (λ xs. k ∷ xs) h.kinds in
     record { front = k ∷ h.front; rest = h.rest; kinds = kinds; dropped = dropped_more k h.front is h.dropped; left = h.left }
 
-none_dropped : (P : List Kind → Type 0) (ks : List Kind) → P ks → Dropping P ks
-none_dropped P ks h = record { front = []; rest = ks; kinds = refl; dropped = refl; left = h }
+none_dropped : (P : List Kind → Type 0) {ks : List Kind} → P ks → Dropping P ks
+none_dropped P {ks} h = record { front = []; rest = ks; kinds = refl; dropped = refl; left = h }
 
-bracket_step : (p : Profile) (ps : List Pair) (name : List ℕ) (items : List Item) (k : Kind) (ks : List Kind) (gs : List Game) → items ≡ []
+bracket_step : {p : Profile} {ps : List Pair} (name : List ℕ) {items : List Item} (k : Kind) {ks : List Kind} {gs : List Game} → items ≡ []
     → refusal p (at AfterValue ps name items) k ≡ None → After p (next (at AfterValue ps name items) k) ks gs → Bracket_left p ps (k ∷ ks) gs
 unfolding refusal
-bracket_step p ps name items tokens.comment_open ks gs none free after =
-    one_dropped _ _ ks refl (after none)
-bracket_step p ps name items (tokens.word s) ks gs none free after = one_dropped _ _ ks refl (after none)
-bracket_step p ps name items tokens.comment_close ks gs none free after =
-    one_dropped _ _ ks refl (after none)
-bracket_step p ps name items tokens.right_bracket ks gs none free after =
-    none_dropped _ _ (record { behind = ks; kinds = refl; tags = after none })
-bracket_step p ps name items _ ks gs none free after = absurd (none-some _ (sym free))
+bracket_step name tokens.comment_open none free after =
+    one_dropped _ refl (after none)
+bracket_step name (tokens.word s) none free after = one_dropped _ refl (after none)
+bracket_step name tokens.comment_close none free after =
+    one_dropped _ refl (after none)
+bracket_step name tokens.right_bracket {ks} none free after =
+    none_dropped _ (record { behind = ks; kinds = refl; tags = after none })
+bracket_step name _ none free after = absurd (none-some _ (sym free))
 
-value_given : (p : Profile) (ps : List Pair) (name : List ℕ) (items : List Item) (s : List ℕ) (ks : List Kind) (gs : List Game)
+value_given : (p : Profile) {ps : List Pair} {name : List ℕ} (items : List Item) (s : List ℕ) {ks : List Kind} {gs : List Game}
     → refusal p (at AfterName ps name items) (tokens.str s) ≡ None → Bracket_left p (insert_pair (record { name = name; value = s }) ps) ks gs
     → Value_left p ps name (tokens.str s ∷ ks) gs
-value_given p ps name items s ks gs free h =
+value_given p {name} items s {ks} free h =
     let e = sym (value_refusal p _ s refl) ∙ free in
-    let f = rest_passed (bytes_eq name _ && not _) BadResult _ e in
+    let f = rest_passed (bytes_eq name _ && not _) BadResult e in
     let is_position = test_failed (bytes_eq name _ && is_some _) (BadFen _) _ f in
     let short =
     test_failed _ TagLineTooLong None
-    (rest_passed (bytes_eq name _ && is_some _) (BadFen _) _ f) in
-    none_dropped _ _ (record {
+    (rest_passed (bytes_eq name _ && is_some _) (BadFen _) f) in
+    none_dropped _ (record {
       value = s;
       behind = ks;
       kinds = refl;
       room = ltb-false 249 _ short;
       result = λ is. not-false _
-          (forced (bytes_eq name _) _ (test_failed (bytes_eq name _ && not _) BadResult _ e) ((bytes_eq-Decides name _).1 is));
-      fen = λ is. position_is _ (forced (bytes_eq name _) _ is_position ((bytes_eq-Decides name _).1 is));
+          (forced (bytes_eq name _) (test_failed (bytes_eq name _ && not _) BadResult _ e) ((bytes_eq-Decides name _).1 is));
+      fen = λ is. position_is _ (forced (bytes_eq name _) is_position ((bytes_eq-Decides name _).1 is));
       bracket = h;
     })
 
-value_step : (p : Profile) (ps : List Pair) (name : List ℕ) (items : List Item) (k : Kind) (ks : List Kind) (gs : List Game) → items ≡ []
+value_step : {p : Profile} {ps : List Pair} {name : List ℕ} {items : List Item} (k : Kind) {ks : List Kind} {gs : List Game} → items ≡ []
     → refusal p (at AfterName ps name items) k ≡ None → After p (next (at AfterName ps name items) k) ks gs → Value_left p ps name (k ∷ ks) gs
 unfolding refusal
-value_step p ps name items tokens.comment_open ks gs none free after =
-    one_dropped _ _ ks refl (after none)
-value_step p ps name items (tokens.word s) ks gs none free after = one_dropped _ _ ks refl (after none)
-value_step p ps name items tokens.comment_close ks gs none free after =
-    one_dropped _ _ ks refl (after none)
-value_step p ps name items (tokens.str s) ks gs none free after = value_given p ps name items s ks gs free (after none)
-value_step p ps name items _ ks gs none free after = absurd (none-some _ (sym free))
+value_step tokens.comment_open none free after =
+    one_dropped _ refl (after none)
+value_step (tokens.word s) none free after = one_dropped _ refl (after none)
+value_step tokens.comment_close none free after =
+    one_dropped _ refl (after none)
+value_step {p} {items} (tokens.str s) none free after = value_given p items s free (after none)
+value_step _ none free after = absurd (none-some _ (sym free))
 
-name_given : (p : Profile) (ps : List Pair) (name : List ℕ) (items : List Item) (s : List ℕ) (ks : List Kind) (gs : List Game)
+name_given : (p : Profile) (ps : List Pair) (name : List ℕ) (items : List Item) (s : List ℕ) (ks : List Kind) {gs : List Game}
     → refusal p (at AfterLeftBracket ps name items) (tokens.symbol s) ≡ None → Value_left p ps s ks gs → Name_left p ps (tokens.symbol s ∷ ks) gs
-name_given p ps name items s ks gs free h =
+name_given p ps name items s ks free h =
     let e = sym (name_refusal p (at _ ps name items) s refl) ∙ free in
-    let f = rest_passed (not (list_all in_name s)) BadTagName _ e in
-    let g = rest_passed (nat_lt 249 (length s)) TagLineTooLong _ (rest_passed (has_pair ps s) DuplicateTag _ f) in
-    none_dropped _ _ (record {
+    let f = rest_passed (not (list_all in_name s)) BadTagName e in
+    let g = rest_passed (nat_lt 249 (length s)) TagLineTooLong (rest_passed (has_pair ps s) DuplicateTag f) in
+    none_dropped _ (record {
       name = s;
       behind = ks;
       kinds = refl;
       fresh = test_failed _ DuplicateTag _ f;
       is_name = not-false _ (test_failed _ BadTagName _ e);
       full = λ is.
-          is_full _ (bytes_eq s _) (test_failed _ ReducedFen None g)
+          is_full _ (test_failed _ ReducedFen None g)
           ((bytes_eq-Decides s _).1 is);
       value = h;
     })
 
-name_step : (p : Profile) (ps : List Pair) (name : List ℕ) (items : List Item) (k : Kind) (ks : List Kind) (gs : List Game) → items ≡ []
+name_step : {p : Profile} {ps : List Pair} (name : List ℕ) {items : List Item} {k : Kind} {ks : List Kind} {gs : List Game} → items ≡ []
     → refusal p (at AfterLeftBracket ps name items) k ≡ None → After p (next (at AfterLeftBracket ps name items) k) ks gs → Name_left p ps (k ∷ ks) gs
 unfolding refusal
-name_step p ps name items k ks gs none free after = search (rules, none-some, one_dropped, name_given)
+name_step name none free after = search (rules, none-some, one_dropped, name_given)
 
 -- a `[`, and a pair
-pair_step : (p : Profile) (ps : List Pair) (ks : List Kind) (gs : List Game) → nat_le p.tags (length ps) ≡ false → Name_left p ps ks gs
+pair_step : (p : Profile) {ps : List Pair} {ks : List Kind} {gs : List Game} → nat_le p.tags (length ps) ≡ false → Name_left p ps ks gs
     → (t : Tags_left p ps (tokens.left_bracket ∷ ks) gs) × (t.given ≡ [] → ⊥)
-pair_step p ps ks gs free dn =
+pair_step p {ps} {ks} free dn =
     let n = dn.left in
     let dv = n.value in
     let v = dv.left in
@@ -405,8 +403,8 @@ pair_step p ps ks gs free dn =
     )
 
 -- movetext in place of a pair
-no_pair_step : (p : Profile) (ps : List Pair) (items : List Item) (ks : List Kind) (gs : List Game) → items ≡ [] → IsSetUp ps → Text_left p ps items ks gs → Tags_left p ps ks gs
-no_pair_step p ps items ks gs none set_up h = record {
+no_pair_step : {p : Profile} {ps : List Pair} {items : List Item} {ks : List Kind} {gs : List Game} → items ≡ [] → IsSetUp ps → Text_left p ps items ks gs → Tags_left p ps ks gs
+no_pair_step {ks} none set_up h = record {
   tags = [];
   given = [];
   behind = ks;
@@ -417,25 +415,25 @@ no_pair_step p ps items ks gs none set_up h = record {
   text = rw none at h;
 }
 
-is_set_up : (o : Option (List ℕ)) (fen : Bool) → (bytes_eq (unwrap_or o []) (codes "1") && not fen) ≡ false → o ≡ Some (codes "1") → fen ≡ true
-is_set_up o fen h e = grind (arith, not-false)
+is_set_up : {o : Option (List ℕ)} {fen : Bool} → (bytes_eq (unwrap_or o []) (codes "1") && not fen) ≡ false → o ≡ Some (codes "1") → fen ≡ true
+is_set_up h e = grind (arith, not-false)
 
-tags_text : (p : Profile) (ps : List Pair) (name : List ℕ) (items : List Item) (k : Kind) (ks : List Kind) (gs : List Game) → items ≡ [] → IsTrue (is_textual k)
+tags_text : (p : Profile) (ps : List Pair) (name : List ℕ) (items : List Item) (k : Kind) {ks : List Kind} {gs : List Game} → items ≡ [] → IsTrue (is_textual k)
     → refusal p (at AfterTags ps name items) k ≡ None → is_end k ≡ false → After p (next (at AfterTags ps name items) k) ks gs → Tags_left p ps (k ∷ ks) gs
-tags_text p ps name items k ks gs none is free end after =
+tags_text p ps name items k none is free end after =
     let e = sym (after_tags p (at AfterTags ps name items) k is) ∙ free in
     let lacks = lacks_fen ps in
-    no_pair_step p ps items _ gs none (is_set_up _ _ (test_failed lacks SetUpWithoutFen _ e))
-    (text_step p ps name items k ks gs (rest_passed lacks SetUpWithoutFen _ e) end (rw (leads_after_tags (at AfterTags ps name items) k is) at after))
+    no_pair_step none (is_set_up (test_failed lacks SetUpWithoutFen _ e))
+    (text_step name k (rest_passed lacks SetUpWithoutFen e) end (rw (leads_after_tags (at AfterTags ps name items) k is) at after))
 
-tags_step : (p : Profile) (ps : List Pair) (name : List ℕ) (items : List Item) (k : Kind) (ks : List Kind) (gs : List Game) → items ≡ []
+tags_step : {p : Profile} {ps : List Pair} (name : List ℕ) {items : List Item} {k : Kind} {ks : List Kind} {gs : List Game} → items ≡ []
     → refusal p (at AfterTags ps name items) k ≡ None → is_end k ≡ false → After p (next (at AfterTags ps name items) k) ks gs → Tags_left p ps (k ∷ ks) gs
 unfolding refusal
-tags_step p ps name items k ks gs none free end after = search (rules, false≢true, none-some, at, test_failed, open_refusal, pair_step, tags_text)
+tags_step name none free end after = search (rules, false≢true, none-some, at, test_failed, open_refusal, pair_step, tags_text)
 
 -- Games.
-game_drops : (p : Profile) (k : Kind) (ks : List Kind) (g : Game) → IsTrue (is_comment k) → SpellsGame p ks g → SpellsGame p (k ∷ ks) g
-game_drops p k ks g is h = record {
+game_drops : {p : Profile} (k : Kind) {ks : List Kind} {g : Game} → IsTrue (is_comment k) → SpellsGame p ks g → SpellsGame p (k ∷ ks) g
+game_drops k is h = record {
   before = k ∷ h.before;
   tags = h.tags;
   text = h.text;
@@ -453,16 +451,16 @@ game_drops p k ks g is h = record {
   result = h.result;
 }
 
-games_drop : (p : Profile) (k : Kind) (ks : List Kind) (gs : List Game) → IsTrue (is_comment k) → SpellsGames p ks gs → SpellsGames p (k ∷ ks) gs
-games_drop p k _ _ is (no_game ks are) = no_game (k ∷ ks) (dropped_more k ks is are)
-games_drop p k _ _ is (next_game ks ls g gs first others) = next_game (k ∷ ks) ls g gs (game_drops p k ks g is first) others
+games_drop : {p : Profile} {k : Kind} {ks : List Kind} {gs : List Game} → IsTrue (is_comment k) → SpellsGames p ks gs → SpellsGames p (k ∷ ks) gs
+games_drop {k} is (no_game ks are) = no_game (k ∷ ks) (dropped_more k ks is are)
+games_drop {k} is (next_game ks ls g gs first others) = next_game (k ∷ ks) ls g gs (game_drops k is first) others
 
-outer_text : (p : Profile) (first : Parts) (l : Level) (ks : List Kind) (items : List Item) → Closes p first l [] ks items → SpellsText p first 0 l ks items
-outer_text p first l _ _ (outermost _ ks items text) = text
+outer_text : {p : Profile} {first : Parts} {l : Level} {ks : List Kind} {items : List Item} → Closes p first l [] ks items → SpellsText p first 0 l ks items
+outer_text (outermost _ ks items text) = text
 
 -- pairs and movetext that begin between games
-game_begins : (p : Profile) (ps : List Pair) (ks : List Kind) (gs : List Game) → ps ≡ [] → (t : Tags_left p ps ks gs) → (t.given ≡ [] → BeginsBare t.text.text) → SpellsGames p ks gs
-game_begins p ps ks gs none t bare =
+game_begins : {p : Profile} {ps : List Pair} {ks : List Kind} {gs : List Game} → ps ≡ [] → (t : Tags_left p ps ks gs) → (t.given ≡ [] → BeginsBare t.text.text) → SpellsGames p ks gs
+game_begins {p} {ps} none t bare =
     let x = t.text in
     let sorted = ap (λ qs. with_pairs qs t.given) none in
     let g : Game = record { pairs = with_pairs ps t.given; items = x.more; marker = x.marker } in
@@ -478,40 +476,40 @@ game_begins p ps ks gs none t bare =
       tokens = refl;
       dropped = refl;
       pairs = t.pairs;
-      keeps = taken p t.given (rw none at t.takes);
+      keeps = taken (rw none at t.takes);
       sorted = sorted;
       set_up = t.set_up;
       bare = bare;
-      items = outer_text p (start_of (with_pairs ps t.given)) (new_level []) x.text x.more x.closes;
+      items = outer_text x.closes;
       marker = x.is_marker;
       result = x.result;
     } in
     rw e (subst (SpellsGames p _) (sym x.games) (next_game front _ g x.later game x.others))
 
-bare_from : (k : Kind) (ks text : List Kind) (last : Kind) (behind : List Kind) → IsFalse (is_comment k) → k ∷ ks ≡ text ++ last ∷ behind → BeginsBare text
-bare_from k ks [] last behind is e = tt
-bare_from k ks (j ∷ js) last behind is e = let same : j ≡ k = cc in cc
+bare_from : {k : Kind} {ks : List Kind} (text : List Kind) (last : Kind) (behind : List Kind) → IsFalse (is_comment k) → k ∷ ks ≡ text ++ last ∷ behind → BeginsBare text
+bare_from [] last behind is e = tt
+bare_from {k} (j ∷ js) last behind is e = let same : j ≡ k = cc in cc
 
-between_text : (p : Profile) (ps : List Pair) (name : List ℕ) (items : List Item) (k : Kind) (ks : List Kind) (gs : List Game) → ps ≡ [] → items ≡ [] → IsTrue (is_textual k)
+between_text : (p : Profile) {ps : List Pair} (name : List ℕ) {items : List Item} (k : Kind) {ks : List Kind} {gs : List Game} → ps ≡ [] → items ≡ [] → IsTrue (is_textual k)
     → IsFalse (is_comment k) → refusal p (at Between ps name items) k ≡ None → is_end k ≡ false → After p (next (at Between ps name items) k) ks gs → SpellsGames p (k ∷ ks) gs
 unfolding no_pair_step
-between_text p ps name items k ks gs no_pairs none is bare free end after =
-    let text = text_step p ps name items k ks gs (sym (between p (at Between ps name items) k is bare) ∙ free) end (rw (leads_between (at Between ps name items) k is bare) at after) in
-    let t = no_pair_step p ps items _ gs none (subst IsSetUp (sym no_pairs) (λ e. absurd (cc))) text in
-    game_begins p ps _ gs no_pairs t (λ given. bare_from k ks t.text.text t.text.last t.text.behind bare t.text.kinds)
+between_text p {ps} name {items} k {ks} {gs} no_pairs none is bare free end after =
+    let text = text_step {p = p} {ps = ps} name {items = items} k {ks = ks} {gs = gs} (sym (between p (at Between ps name items) k is bare) ∙ free) end (rw (leads_between (at Between ps name items) k is bare) at after) in
+    let t = no_pair_step none (subst IsSetUp (sym no_pairs) (λ e. absurd (cc))) text in
+    game_begins no_pairs t (λ given. bare_from t.text.text t.text.last t.text.behind bare t.text.kinds)
 
-between_step : (p : Profile) (ps : List Pair) (name : List ℕ) (items : List Item) (k : Kind) (ks : List Kind) (gs : List Game) → ps ≡ [] → items ≡ []
+between_step : {p : Profile} {ps : List Pair} (name : List ℕ) {items : List Item} (k : Kind) {ks : List Kind} {gs : List Game} → ps ≡ [] → items ≡ []
     → refusal p (at Between ps name items) k ≡ None → is_end k ≡ false → After p (next (at Between ps name items) k) ks gs → SpellsGames p (k ∷ ks) gs
 unfolding refusal
-between_step p ps name items tokens.comment_open ks gs no_pairs none free end after = games_drop p _ ks gs refl (after (no_pairs, none))
-between_step p ps name items (tokens.word s) ks gs no_pairs none free end after = games_drop p _ ks gs refl (after (no_pairs, none))
-between_step p ps name items tokens.comment_close ks gs no_pairs none free end after = games_drop p _ ks gs refl (after (no_pairs, none))
-between_step p ps name items tokens.left_bracket ks gs no_pairs none free end after =
-    let t = pair_step p ps ks gs (test_failed _ TooManyTags None (sym (open_between p (at Between ps name items)) ∙ free)) (after none) in
-    game_begins p ps _ gs no_pairs t.0 (λ e. absurd (t.1 e))
-between_step p ps name items tokens.end ks gs no_pairs none free end after = absurd (false≢true (sym end))
-between_step p ps name items (tokens.refused r) ks gs no_pairs none free end after = absurd (none-some _ (sym free))
-between_step p ps name items k ks gs no_pairs none free end after = between_text p ps name items k ks gs no_pairs none refl refl free end after
+between_step name tokens.comment_open no_pairs none free end after = games_drop refl (after (no_pairs, none))
+between_step name (tokens.word s) no_pairs none free end after = games_drop refl (after (no_pairs, none))
+between_step name tokens.comment_close no_pairs none free end after = games_drop refl (after (no_pairs, none))
+between_step {p} {ps} name {items} tokens.left_bracket no_pairs none free end after =
+    let t = pair_step p (test_failed _ TooManyTags None (sym (open_between p (at Between ps name items)) ∙ free)) (after none) in
+    game_begins no_pairs t.0 (λ e. absurd (t.1 e))
+between_step name tokens.end no_pairs none free end after = absurd (false≢true (sym end))
+between_step name (tokens.refused r) no_pairs none free end after = absurd (none-some _ (sym free))
+between_step {p} name k no_pairs none free end after = between_text p name k no_pairs none refl refl free end after
 
 -- one token more, at any stage
 step : (p : Profile) (stage : Stage) (ps : List Pair) (name : List ℕ) (items : List Item) (k : Kind) (ks : List Kind) (gs : List Game) → Fits stage ps items

@@ -35,30 +35,30 @@ end_leads AfterName ps name items = (at _ ps name items, refl)
 end_leads AfterValue ps name items = (at _ ps name items, refl)
 end_leads _ ps name items = (at _ ps name _, refl)
 
-at_end : (p : Profile) (b : Progress) (place : ℕ) (k : Kind) → IsLast k → (read_from p b (record { at = place; kind = k } ∷ [])).fault ≡ None
+at_end : {p : Profile} {b : Progress} {place : ℕ} (k : Kind) → IsLast k → (read_from p b (record { at = place; kind = k } ∷ [])).fault ≡ None
     → Read_on p b (record { at = place; kind = k } ∷ []) []
 unfolding refusal
-at_end p b place (tokens.refused r) last e = absurd (cc)
-at_end p b place tokens.end last e =
+at_end (tokens.refused r) last e = absurd (cc)
+at_end {p} {b} {place} tokens.end last e =
     let t : Token = record { at = place; kind = tokens.end } in
     let free = first_passes p b t [] e in
     let leads = end_leads b.part.stage b.part.pairs b.part.name b.part.items in
     record {
-      same = (rw (goes_on p b t [] free) (ap (λ (n : Next). (progress_with b.games n).games) leads.1 ∙ sym (append-nil _)));
+      same = (rw (goes_on p b t [] free) (rw leads.1 (sym (append-nil _))));
       runs = ends _ free;
     }
-at_end p b place _ last e = absurd last
+at_end _ last e = absurd last
 
-one_more : (p : Profile) (b : Progress) (t : Token) (ts : List Token) → refusal p b.part t.kind ≡ None → is_end t.kind ≡ false → (n : Next) → next b.part t.kind ≡ n
-    → (gs : List Game) → Read_on p (progress_with b.games n) ts gs → (all : List Game) × Read_on p b (t ∷ ts) all
-one_more p b t ts free end (going to) leads gs rest = (
+one_more : (p : Profile) (b : Progress) (t : Token) {ts : List Token} → refusal p b.part t.kind ≡ None → is_end t.kind ≡ false → (n : Next) → next b.part t.kind ≡ n
+    → {gs : List Game} → Read_on p (progress_with b.games n) ts gs → (all : List Game) × Read_on p b (t ∷ ts) all
+one_more p b t {ts} free end (going to) leads {gs} rest = (
   gs,
   record {
     same = cc (goes_on p b t ts free);
     runs = goes _ to _ _ gs free end leads rest.runs;
   },
 )
-one_more p b t ts free end (whole g) leads gs rest = (
+one_more p b t {ts} free end (whole g) leads {gs} rest = (
   g ∷ gs,
   record {
     same = cc (goes_on p b t ts free, leads, rest.same, append_assoc _ _ gs);
@@ -68,11 +68,11 @@ one_more p b t ts free end (whole g) leads gs rest = (
 
 from_read : (p : Profile) (b : Progress) (ts : List Token) → RisesTo ts → (read_from p b ts).fault ≡ None → (gs : List Game) × Read_on p b ts gs
 from_read p b [] rises e = absurd rises
-from_read p b (t ∷ []) rises e = ([], at_end p b t.at t.kind rises e)
+from_read p b (t ∷ []) rises e = ([], at_end t.kind rises e)
 from_read p b (t ∷ u ∷ us) rises e =
     let free = first_passes p b t (u ∷ us) e in
     let rest = from_read p (progress_after b t) (u ∷ us) rises.2 (rw (sym (goes_on p b t (u ∷ us) free)) (e)) in
-    one_more p b t (u ∷ us) free (not_end _ rises.0) (next _ t.kind) refl rest.0 rest.1
+    one_more p b t free (not_end _ rises.0) (next _ t.kind) refl rest.1
 
 -- From the relation to reading.
 record Read_well (p : Profile) (b : Progress) (ts : List Token) (gs : List Game) : Type 0 where
@@ -82,37 +82,37 @@ record Read_well (p : Profile) (b : Progress) (ts : List Token) (gs : List Game)
 abbrev behind : List Game → Part → Progress
 behind games part = record { games = games; part = part }
 
-read_one : (p : Profile) (b c : Progress) (t : Token) (ts : List Token) (gs all : List Game) → refusal p b.part t.kind ≡ None → progress_after b t ≡ c → c.games ++ gs ≡ b.games ++ all
+read_one : {p : Profile} {b c : Progress} {t : Token} {ts : List Token} {gs all : List Game} → refusal p b.part t.kind ≡ None → progress_after b t ≡ c → c.games ++ gs ≡ b.games ++ all
     → Read_well p c ts gs → Read_well p b (t ∷ ts) all
-read_one p b c t ts gs all free leads same h = search (rules, goes_on)
+read_one free leads same h = search (rules, goes_on)
 
-to_read : (p : Profile) (part : Part) (ks : List Kind) (gs : List Game) → Runs p part ks gs → (ts : List Token) (before : List Game) → kinds ts ≡ ks
+to_read : (p : Profile) {part : Part} {ks : List Kind} {gs : List Game} → Runs p part ks gs → (ts : List Token) (before : List Game) → kinds ts ≡ ks
     → Read_well p (behind before part) ts gs
-to_read p _ _ _ (ends part free) (t ∷ []) before e =
+to_read p (ends part free) (t ∷ []) before e =
     let kind : t.kind ≡ tokens.end = cc in
     let leads = end_leads part.stage part.pairs part.name part.items in
-    read_one p _ (behind before leads.0) t [] [] [] (ap (refusal p part) kind ∙ free)
+    read_one {c = (behind before leads.0)} {gs = []} (ap (refusal p part) kind ∙ free)
     (rw kind (ap (progress_with before) leads.1)) refl
     (record { fault = refl; games = sym (append-nil before) })
-to_read p _ _ _ (goes part to k ks gs free end leads runs) (t ∷ ts) before e =
+to_read p (goes part to k ks gs free end leads runs) (t ∷ ts) before e =
     let kind : t.kind ≡ k = cc in
     let rest : kinds ts ≡ ks = cc in
-    read_one p _ (behind before to) t ts gs gs (ap (refusal p part) kind ∙ free)
+    read_one (ap (refusal p part) kind ∙ free)
     (rw kind (ap (progress_with before) leads)) refl
-    (to_read p to ks gs runs ts before rest)
-to_read p _ _ _ (finishes part k g ks gs free end leads runs) (t ∷ ts) before e =
+    (to_read p runs ts before rest)
+to_read p (finishes part k g ks gs free end leads runs) (t ∷ ts) before e =
     let kind : t.kind ≡ k = cc in
     let rest : kinds ts ≡ ks = cc in
-    read_one p _ (behind _ no_part) t ts gs _ (ap (refusal p part) kind ∙ free)
+    read_one (ap (refusal p part) kind ∙ free)
     (ap (λ j. progress_with before (next part j)) kind ∙ ap (progress_with before) leads) (append_assoc before _ gs)
-    (to_read p no_part ks gs runs ts _ rest)
-to_read p _ _ _ _ _ before e = absurd (cc)
+    (to_read p runs ts _ rest)
+to_read p _ _ before e = absurd (cc)
 
 -- A list of tokens that ends with the one end, or with a rejection, is read to its end exactly if
 -- it runs.
 pub runs_as_read : (p : Profile) (ts : List Token) (gs : List Game) → RisesTo ts
     → Runs p no_part (kinds ts) gs ↔ (((read p ts).fault ≡ None) × ((read p ts).progress.games ≡ gs))
 runs_as_read p ts gs rises = (
-  λ runs. let h = to_read p no_part (kinds ts) gs runs ts [] refl in (h.fault, h.games),
+  λ runs. let h = to_read p {part = no_part} {ks = (kinds ts)} {gs = gs} runs ts [] refl in (h.fault, h.games),
   λ h. let r = from_read p no_progress ts rises h.0 in (rw (sym r.1.same ∙ h.1) at r.1.runs),
 )

@@ -1,6 +1,5 @@
 -- What a reader holds of a part that it agrees with, and where a token of movetext meets its table.
-use Rattle.pgn_game.proofs.Words.{AreSound, subst, ◌≡◌, ℕ, List, [], Bool, false, Option, None, Some, Bor, refl, sym, ◌∙◌, IsTrue, option_copied, All-nil, kind_of, TokenKind, Parts, Mode, Stage, AfterTags, InMovetext, Pair, value_of, has_pair, Item, Part, TagPairs, start_of, is_outside_tag_pairs, lacks_fen, position_in, at_stage, Movetext, HoldsItems, movetext_from, ReaderState, Agrees, HoldsPairs, HoldsText, IsEntry, IsOpen, may_have_movetext, arith, rules}
-use Rattle.std.specs.Option.{is_some}
+use Rattle.pgn_game.proofs.Words.{AreSound, ◌≡◌, ℕ, List, [], Bool, false, Option, None, Some, Bor, refl, sym, ◌∙◌, IsTrue, option_copied, All-nil, kind_of, TokenKind, Parts, Mode, Stage, AfterTags, InMovetext, Pair, value_of, has_pair, Item, Part, TagPairs, start_of, is_outside_tag_pairs, lacks_fen, position_in, at_stage, Movetext, HoldsItems, movetext_from, ReaderState, Agrees, HoldsPairs, HoldsText, IsEntry, IsOpen, may_have_movetext, arith, rules, is_some}
 use Rattle.pgn_game.proofs.refusals.RefusalsByStage.{is_textual, row_in_movetext, next_in_movetext, row_after_tags, next_after_tags}
 
 -- The part is at the reader's stage, and what the reader holds of it there.
@@ -12,7 +11,7 @@ held_at old part stage agrees at = rw at at agrees.pairs
 
 -- where movetext can begin or goes on, no name waits for its value
 pub no_name : (most : ℕ) (old held : ReaderState) → held ≡ old → IsTrue (may_have_movetext old.stage) → AreSound most held.stage held.tags → held.tags.pending_name ≡ None
-no_name most old held is may = by_stage held.stage (subst (λ (r : ReaderState). IsTrue (may_have_movetext r.stage)) (sym is) may)
+no_name most old held is may = by_stage held.stage (rw is may)
   where
     by_stage : (stage : Stage) → IsTrue (may_have_movetext stage) → AreSound most stage held.tags → held.tags.pending_name ≡ None
     by_stage AfterTags may sound = sound
@@ -37,26 +36,26 @@ pub begun_name : (tags : TagPairs) (part : Part) (name : List ℕ) → tags ≡ 
 begun_name tags part name is begun = let e : Some name ≡ Some part.name = cc in cc
 
 -- Movetext that has no item yet is held.
-nothing_held : (mode : Mode) (start : Parts) → HoldsItems mode start [] (movetext_from start) []
-nothing_held mode start = search (rules, All-nil)
+nothing_held : {mode : Mode} {start : Parts} → HoldsItems mode start [] (movetext_from start) []
+nothing_held = search (rules, All-nil)
 
-held_none : (mode : Mode) (start : Parts) (items : List Item) (text : Movetext) (line : List ℕ) → items ≡ [] → text ≡ movetext_from start → line ≡ []
+held_none : {mode : Mode} {start : Parts} {items : List Item} {text : Movetext} (line : List ℕ) → items ≡ [] → text ≡ movetext_from start → line ≡ []
     → HoldsItems mode start items text line
-held_none mode start items text line none begins_game empty = rw (none, begins_game, empty) (nothing_held mode start)
+held_none line none begins_game empty = rw (none, begins_game, empty) (nothing_held)
 
 -- Where movetext can begin or goes on, it is open.
-open_at : (old : ReaderState) (part : Part) (stage : Stage) → Agrees old part → old.stage ≡ stage → IsTrue (may_have_movetext stage) → IsOpen old part
-open_at old part stage agrees at is = search (rules, held_at, text_at, held_none)
+open_at : {old : ReaderState} {part : Part} {stage : Stage} → Agrees old part → old.stage ≡ stage → IsTrue (may_have_movetext stage) → IsOpen old part
+open_at agrees at is = search (rules, held_at, text_at, held_none)
 
-pub open_agrees : (old : ReaderState) (part : Part) → Agrees old part → IsTrue (may_have_movetext old.stage) → IsOpen old part
-open_agrees old part agrees is = open_at old part _ agrees refl is
+pub open_agrees : {old : ReaderState} {part : Part} → Agrees old part → IsTrue (may_have_movetext old.stage) → IsOpen old part
+open_agrees agrees is = open_at agrees refl is
 
 first_held : (old : ReaderState) (part : Part) → part.items ≡ [] → old.text ≡ movetext_from (start_of part.pairs) → old.text.levels.present.present ≡ position_in part
 first_held old part none begins_game = grind arith
 
-pub position_in_pair : (old : ReaderState) (part : Part) (stage : Stage) → Agrees old part → old.stage ≡ stage → is_outside_tag_pairs (at_stage stage part) ≡ false
+pub position_in_pair : {old : ReaderState} {part : Part} {stage : Stage} → Agrees old part → old.stage ≡ stage → is_outside_tag_pairs (at_stage stage part) ≡ false
     → old.text.levels.present.present ≡ position_in part
-position_in_pair old part stage agrees at is = grind (arith, text_at, first_held)
+position_in_pair agrees at is = grind (arith, text_at, first_held)
 
 -- The table and the step of movetext are those of a token in it, and of the first one.
 pub entry_in_movetext : (old : ReaderState) (k : TokenKind) (part : Part) → old.stage ≡ InMovetext → Agrees old part → IsEntry old (kind_of k) part

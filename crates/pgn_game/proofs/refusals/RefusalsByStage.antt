@@ -4,8 +4,8 @@ use Rattle.pgn_lexer.specs.Tokens as tokens
 use Rattle.pgn_lexer.specs.declared.token.TokenKind.TheVariants as token_kinds
 
 -- what holds of a part at a stage holds of each that is there
-at_the_stage : (P : Part → Type 0) (part : Part) (stage : Stage) → part.stage ≡ stage → P (at_stage stage part) → P part
-at_the_stage P part stage e h = rw e h
+at_the_stage : (P : Part → Type 0) (part : Part) {stage : Stage} → part.stage ≡ stage → P (at_stage stage part) → P part
+at_the_stage P part e h = rw e h
 
 pub hit : (test : Bool) (reason : Reason) (rest : Option Reason) → test ≡ true → or_else test reason rest ≡ Some reason
 hit test reason rest e = cc
@@ -17,9 +17,9 @@ pub test_failed : (test : Bool) (reason : Reason) (rest : Option Reason) → or_
 test_failed true reason rest e = absurd (cc)
 test_failed false reason rest e = refl
 
-pub rest_passed : (test : Bool) (reason : Reason) (rest : Option Reason) → or_else test reason rest ≡ None → rest ≡ None
-rest_passed true reason rest e = absurd (cc)
-rest_passed false reason rest e = e
+pub rest_passed : (test : Bool) (reason : Reason) {rest : Option Reason} → or_else test reason rest ≡ None → rest ≡ None
+rest_passed true reason e = absurd (cc)
+rest_passed false reason e = e
 
 -- Comments in a pair and before a game.
 abbrev pub drops_comments : Stage → Bool
@@ -38,46 +38,46 @@ pub comment_free : (p : Profile) (stage : Stage) (part : Part) (k : Kind) → Is
 unfolding refusal
 comment_free p stage part k drops is = grind (arith, false≢true, no_value_rows, reduced_row)
 
-pub comment_stays : (stage : Stage) (part : Part) (k : Kind) → IsTrue (drops_comments stage) → IsTrue (is_comment k) → next (at_stage stage part) k ≡ going (at_stage stage part)
-comment_stays stage part k drops is = grind (arith, false≢true)
+pub comment_stays : {stage : Stage} (part : Part) (k : Kind) → IsTrue (drops_comments stage) → IsTrue (is_comment k) → next (at_stage stage part) k ≡ going (at_stage stage part)
+comment_stays part k drops is = grind (arith, false≢true)
 
 pub comment_goes : (k : Kind) → IsTrue (is_comment k) → is_end k ≡ false
 comment_goes tokens.end is = absurd (false≢true is)
 comment_goes _ is = refl
 
-pub comment_passes : (p : Profile) (part : Part) (k : TokenKind) (stage : Stage) → stage ≡ part.stage → IsTrue (drops_comments stage)
+pub comment_passes : (p : Profile) {part : Part} (k : TokenKind) {stage : Stage} → stage ≡ part.stage → IsTrue (drops_comments stage)
     → true ≡ is_comment (kind_of k) → (refusal p part (kind_of k) ≡ None) × (next part (kind_of k) ≡ going part)
-comment_passes p part k stage at out is =
+comment_passes p {part} k at out is =
     let drops = rw at at out in
-    (comment_free p _ part _ drops (sym is), comment_stays _ part _ drops (sym is))
+    (comment_free p _ part _ drops (sym is), comment_stays part _ drops (sym is))
 
 -- Pairs.
-expected_name_at : (p : Profile) (part : Part) (k : TokenKind) → false ≡ is_comment (kind_of k) → ((text : Bor (List ℕ)) → k ≡ token_kinds.Symbol text → ⊥)
+expected_name_at : (p : Profile) (part : Part) {k : TokenKind} → false ≡ is_comment (kind_of k) → ((text : Bor (List ℕ)) → k ≡ token_kinds.Symbol text → ⊥)
     → refusal p (at_stage AfterLeftBracket part) (kind_of k) ≡ Some ExpectedName
 unfolding refusal
-expected_name_at p part k is other = grind (arith, false≢true)
+expected_name_at p part is other = grind (arith, false≢true)
 
 pub expected_name : (p : Profile) (part : Part) (k : TokenKind) → part.stage ≡ AfterLeftBracket → false ≡ is_comment (kind_of k) → ((text : Bor (List ℕ)) → k ≡ token_kinds.Symbol text → ⊥)
     → refusal p part (kind_of k) ≡ Some ExpectedName
-expected_name p part k at is other = at_the_stage (λ q. refusal p q (kind_of k) ≡ Some ExpectedName) part _ at (expected_name_at p part k is other)
+expected_name p part k at is other = at_the_stage (λ q. refusal p q (kind_of k) ≡ Some ExpectedName) part at (expected_name_at p part is other)
 
-expected_value_at : (p : Profile) (part : Part) (k : TokenKind) → false ≡ is_comment (kind_of k) → ((text : Bor (List ℕ)) → k ≡ token_kinds.Str text → ⊥)
+expected_value_at : (p : Profile) (part : Part) {k : TokenKind} → false ≡ is_comment (kind_of k) → ((text : Bor (List ℕ)) → k ≡ token_kinds.Str text → ⊥)
     → refusal p (at_stage AfterName part) (kind_of k) ≡ Some ExpectedValue
 unfolding refusal
-expected_value_at p part k is other = grind (arith, false≢true)
+expected_value_at p part is other = grind (arith, false≢true)
 
 pub expected_value : (p : Profile) (part : Part) (k : TokenKind) → part.stage ≡ AfterName → false ≡ is_comment (kind_of k) → ((text : Bor (List ℕ)) → k ≡ token_kinds.Str text → ⊥)
     → refusal p part (kind_of k) ≡ Some ExpectedValue
-expected_value p part k at is other = at_the_stage (λ q. refusal p q (kind_of k) ≡ Some ExpectedValue) part _ at (expected_value_at p part k is other)
+expected_value p part k at is other = at_the_stage (λ q. refusal p q (kind_of k) ≡ Some ExpectedValue) part at (expected_value_at p part is other)
 
-expected_bracket_at : (p : Profile) (part : Part) (k : TokenKind) → false ≡ is_comment (kind_of k) → (k ≡ token_kinds.RightBracket → ⊥)
+expected_bracket_at : (p : Profile) (part : Part) {k : TokenKind} → false ≡ is_comment (kind_of k) → (k ≡ token_kinds.RightBracket → ⊥)
     → refusal p (at_stage AfterValue part) (kind_of k) ≡ Some ExpectedBracket
 unfolding refusal
-expected_bracket_at p part k is other = grind (arith, false≢true)
+expected_bracket_at p part is other = grind (arith, false≢true)
 
 pub expected_bracket : (p : Profile) (part : Part) (k : TokenKind) → part.stage ≡ AfterValue → false ≡ is_comment (kind_of k) → (k ≡ token_kinds.RightBracket → ⊥)
     → refusal p part (kind_of k) ≡ Some ExpectedBracket
-expected_bracket p part k at is other = at_the_stage (λ q. refusal p q (kind_of k) ≡ Some ExpectedBracket) part _ at (expected_bracket_at p part k is other)
+expected_bracket p part k at is other = at_the_stage (λ q. refusal p q (kind_of k) ≡ Some ExpectedBracket) part at (expected_bracket_at p part is other)
 
 -- what a name and a value are rejected for, each test before the next
 abbrev pub name_rows : Profile → List Pair → List ℕ → Option Reason
@@ -88,7 +88,7 @@ name_rows p ps s =
 
 pub name_refusal : (p : Profile) (part : Part) (name : List ℕ) → part.stage ≡ AfterLeftBracket → refusal p part (symbol name) ≡ name_rows p part.pairs name
 unfolding refusal
-name_refusal p part name at = at_the_stage (λ q. refusal p q (symbol name) ≡ name_rows p q.pairs name) part _ at refl
+name_refusal p part name at = at_the_stage (λ q. refusal p q (symbol name) ≡ name_rows p q.pairs name) part at refl
 
 pub name_next : (part : Part) (name : List ℕ) → part.stage ≡ AfterLeftBracket → next part (symbol name) ≡ going (record { stage = AfterName; pairs = part.pairs; name = name; items = part.items })
 name_next part name at = cc
@@ -101,7 +101,7 @@ value_rows name s =
 
 pub value_refusal : (p : Profile) (part : Part) (value : List ℕ) → part.stage ≡ AfterName → refusal p part (str value) ≡ value_rows part.name value
 unfolding refusal
-value_refusal p part value at = at_the_stage (λ q. refusal p q (str value) ≡ value_rows q.name value) part _ at refl
+value_refusal p part value at = at_the_stage (λ q. refusal p q (str value) ≡ value_rows q.name value) part at refl
 
 pub value_next : (part : Part) (value : List ℕ) → part.stage ≡ AfterName
     → next part (str value) ≡ going (record { stage = AfterValue; pairs = insert_pair (record { name = part.name; value = value }) part.pairs; name = []; items = part.items })
@@ -109,10 +109,10 @@ value_next part value at = cc
 
 pub close_refusal : (p : Profile) (part : Part) → part.stage ≡ AfterValue → refusal p part right_bracket ≡ None
 unfolding refusal
-close_refusal p part at = at_the_stage (λ q. refusal p q right_bracket ≡ None) part _ at refl
+close_refusal p part at = at_the_stage (λ q. refusal p q right_bracket ≡ None) part at refl
 
 pub close_next : (part : Part) → part.stage ≡ AfterValue → next part right_bracket ≡ going (at_stage AfterTags part)
-close_next part at = at_the_stage (λ q. next q right_bracket ≡ going (at_stage AfterTags q)) part _ at refl
+close_next part at = at_the_stage (λ q. next q right_bracket ≡ going (at_stage AfterTags q)) part at refl
 
 -- what a `[` is rejected for
 pub open_refusal : (p : Profile) (part : Part) → part.stage ≡ AfterTags
@@ -121,7 +121,7 @@ unfolding refusal
 open_refusal p part at = grind (arith, at_the_stage)
 
 pub open_next : (part : Part) → part.stage ≡ AfterTags → next part left_bracket ≡ going (at_stage AfterLeftBracket part)
-open_next part at = at_the_stage (λ q. next q left_bracket ≡ going (at_stage AfterLeftBracket q)) part _ at refl
+open_next part at = at_the_stage (λ q. next q left_bracket ≡ going (at_stage AfterLeftBracket q)) part at refl
 
 pub open_between : (p : Profile) (part : Part) → refusal p (at_stage Between part) left_bracket ≡ or_else (nat_le p.tags (length part.pairs)) TooManyTags None
 unfolding refusal
@@ -174,15 +174,15 @@ no_lexical token_kinds.End = refl
 no_lexical _ = refl
 
 pub row_in_movetext : (p : Profile) (part : Part) (k : TokenKind) → part.stage ≡ InMovetext → refusal p part (kind_of k) ≡ text_refusal p part (kind_of k)
-row_in_movetext p part k at = at_the_stage (λ q. refusal p q (kind_of k) ≡ text_refusal p part (kind_of k)) part _ at (text_row p part _ (no_lexical k))
+row_in_movetext p part k at = at_the_stage (λ q. refusal p q (kind_of k) ≡ text_refusal p part (kind_of k)) part at (text_row p part _ (no_lexical k))
 
 pub next_in_movetext : (part : Part) (k : TokenKind) → part.stage ≡ InMovetext → next part (kind_of k) ≡ in_text part (kind_of k)
-next_in_movetext part k at = at_the_stage (λ q. next q (kind_of k) ≡ in_text part (kind_of k)) part _ at refl
+next_in_movetext part k at = at_the_stage (λ q. next q (kind_of k) ≡ in_text part (kind_of k)) part at refl
 
 pub row_after_tags : (p : Profile) (part : Part) (k : TokenKind) → part.stage ≡ AfterTags → IsTrue (is_textual (kind_of k)) → lacks_fen part.pairs ≡ false
     → refusal p part (kind_of k) ≡ text_refusal p part (kind_of k)
 row_after_tags p part k at is free =
-    at_the_stage (λ q. refusal p q (kind_of k) ≡ text_refusal p part (kind_of k)) part _ at
+    at_the_stage (λ q. refusal p q (kind_of k) ≡ text_refusal p part (kind_of k)) part at
     (after_tags p part _ is ∙ pass _ _ _ free
     ∙ text_row p part _ (no_lexical k))
 
@@ -190,10 +190,10 @@ pub next_after_tags : (part : Part) (k : TokenKind) → part.stage ≡ AfterTags
 next_after_tags part k at is = grind (arith, at_the_stage, leads_after_tags)
 
 -- a comment between games and the end there change nothing
-pub passes_between : (p : Profile) (part : Part) (k : TokenKind) → part.stage ≡ Between → (is_comment (kind_of k) || is_end (kind_of k)) ≡ true
+pub passes_between : (p : Profile) {part : Part} (k : TokenKind) → part.stage ≡ Between → (is_comment (kind_of k) || is_end (kind_of k)) ≡ true
     → (refusal p part (kind_of k) ≡ None) × (next part (kind_of k) ≡ going part)
 unfolding refusal
-passes_between p part k at is = grind (arith, false≢true, at_the_stage)
+passes_between p k at is = grind (arith, false≢true, at_the_stage)
 
 -- A token that begins a game means what it means after pairs, of which there is none.
 pub begins_alike : (p : Profile) (k : TokenKind) → is_comment (kind_of k) ≡ false → is_end (kind_of k) ≡ false
@@ -204,13 +204,13 @@ begins_alike p k comment over = grind (arith, false≢true)
 -- the end after the pairs of a game
 pub end_after_tags : (p : Profile) (part : Part) → part.stage ≡ AfterTags → refusal p part tokens.end ≡ Some UnexpectedEnd
 unfolding refusal
-end_after_tags p part at = at_the_stage (λ q. refusal p q tokens.end ≡ Some UnexpectedEnd) part _ at refl
+end_after_tags p part at = at_the_stage (λ q. refusal p q tokens.end ≡ Some UnexpectedEnd) part at refl
 
 -- a token after the pairs of a game whose SetUp asks for a FEN
 pub refuses_set_up : (p : Profile) (part : Part) (k : TokenKind) → part.stage ≡ AfterTags → IsTrue (is_textual (kind_of k)) → lacks_fen part.pairs ≡ true
     → refusal p part (kind_of k) ≡ Some SetUpWithoutFen
 refuses_set_up p part k at is lacks =
-    at_the_stage (λ q. refusal p q (kind_of k) ≡ Some SetUpWithoutFen) part _ at
+    at_the_stage (λ q. refusal p q (kind_of k) ≡ Some SetUpWithoutFen) part at
     (after_tags p part _ is ∙ hit _ _ _ lacks)
 
 -- What a symbol is rejected for, by what it is: a number, a score, what it comes to as a move,

@@ -16,7 +16,7 @@ depth_is old part is =
     cc (length-map (levels_of_part part).around (stored_level (start_of part.pairs)))
 
 pub position_is : (old : ReaderState) (part : Part) → IsOpen old part → old.text.levels.present.present ≡ position_in part
-position_is old part is = ap (λ ls. ls.present.present) is.held.levels
+position_is old part is = rw is.held.levels
 
 -- Symbols.
 
@@ -41,17 +41,17 @@ rows_for p part s word score r =
     symbol_rows word r (is_at_limit (position_in part)) (depth (levels_of_part part))
     (other_if p.missing_result part.pairs (marker_if score s)) (is_some (marker_if score s))
 
-pub symbol_refusal : (p : Profile) (part : Part) (s : List ℕ) (word score : Bool) → (is_number s || is_score s) ≡ word → is_score s ≡ score
+pub symbol_refusal : (p : Profile) (part : Part) (s : List ℕ) (word : Bool) {score : Bool} → (is_number s || is_score s) ≡ word → is_score s ≡ score
     → text_refusal p part (symbol s) ≡ rows_for p part s word score (move_of (position_in part) s)
-symbol_refusal p part s word score w e = cc
+symbol_refusal p part s word w e = cc
 
 abbrev pub symbol_next : Part → List ℕ → Bool → Bool → MoveReading → Next
 symbol_next part s number score r =
     elim (marker_if score s) [ Some marker ↦ whole (game_of part marker) | None ↦ going (with_items part (elim number [ true ↦ [] | false ↦ move_item r ])) ]
 
-pub symbol_leads : (part : Part) (s : List ℕ) (number score : Bool) → is_number s ≡ number → is_score s ≡ score
+pub symbol_leads : (part : Part) (s : List ℕ) (number : Bool) {score : Bool} → is_number s ≡ number → is_score s ≡ score
     → in_text part (symbol s) ≡ symbol_next part s number score (move_of (position_in part) s)
-symbol_leads part s number score n e = cc
+symbol_leads part s number n e = cc
 
 -- a move is rejected as it is found
 abbrev pub refused_as : Parts → MoveReading → Option Reason
@@ -66,7 +66,7 @@ move_rows p part s _ = refl
 
 pub move_refusal : (p : Profile) (part : Part) (s : List ℕ) → is_number s ≡ false → is_score s ≡ false → text_refusal p part (symbol s) ≡ refused_as (position_in part) (move_of (position_in part) s)
 move_refusal p part s number score =
-    symbol_refusal p part s false false (or_from _ _ number score) score ∙ move_rows p part s _
+    symbol_refusal p part s false (or_from _ _ number score) score ∙ move_rows p part s _
 
 abbrev one_move : Played → MoveReading
 one_move played = Some (Ok played)
@@ -74,54 +74,54 @@ one_move played = Some (Ok played)
 abbrev limited : Bool → Played → Result Played Reason
 limited b one = elim b [ true ↦ Err MoveLimit | false ↦ Ok one ]
 
-found_free : (p : Parts) (r : MoveReading) (played : Played) → found_in p r ≡ Ok played → (refused_as p r ≡ None) × (r ≡ Some (Ok played))
-found_free p r played h3 = grind (arith, pass)
+found_free : (p : Parts) {r : MoveReading} {played : Played} → found_in p r ≡ Ok played → (refused_as p r ≡ None) × (r ≡ Some (Ok played))
+found_free p h3 = grind (arith, pass)
 
 -- a reason of the table is the one that was met
-met : (known reason : Reason) → is_outside_the_table known ≡ false → known ≡ reason → (Some known ≡ Some reason) × (is_outside_the_table reason ≡ false)
-met known reason inside is = (ap Some is, rw is at inside)
+met : {known reason : Reason} → is_outside_the_table known ≡ false → known ≡ reason → (Some known ≡ Some reason) × (is_outside_the_table reason ≡ false)
+met inside is = (ap Some is, rw is at inside)
 
-found_refused : (p : Parts) (r : MoveReading) (reason : Reason) → found_in p r ≡ Err reason → (refused_as p r ≡ Some reason) × (is_outside_the_table reason ≡ false)
-found_refused p None reason e = met _ reason refl (cc)
-found_refused p (Some (Err NoMove)) reason e = met _ reason refl (cc)
-found_refused p (Some (Err Ambiguous)) reason e = met _ reason refl (cc)
-found_refused p (Some (Ok one)) reason e = by_limit _ refl
+found_refused : (p : Parts) (r : MoveReading) {reason : Reason} → found_in p r ≡ Err reason → (refused_as p r ≡ Some reason) × (is_outside_the_table reason ≡ false)
+found_refused p None e = met refl (cc)
+found_refused p (Some (Err NoMove)) e = met refl (cc)
+found_refused p (Some (Err Ambiguous)) e = met refl (cc)
+found_refused p (Some (Ok one)) {reason} e = by_limit _ refl
   where
     by_limit : (b : Bool) → is_at_limit p ≡ b → (refused_as p (one_move one) ≡ Some reason) × (is_outside_the_table reason ≡ false)
     by_limit true is =
         let h : limited true one ≡ Err reason = cc in
-        let limit = met MoveLimit reason refl (cc) in
+        let limit = met {known = MoveLimit} {reason = reason} refl (cc) in
         (hit _ _ None is ∙ limit.0, limit.1)
     by_limit false is =
         let h : limited false one ≡ Err reason = cc in
         absurd (cc)
 
 -- what was found at the reader's position was found at the part's
-found_at : (old : ReaderState) (part : Part) (s : List ℕ) (here : Parts) (r : Result Played Reason) → IsOpen old part → here ≡ old.text.levels.present.present → r ≡ found_in here (move_of here s)
+found_at : (old : ReaderState) (part : Part) (s : List ℕ) {here : Parts} {r : Result Played Reason} → IsOpen old part → here ≡ old.text.levels.present.present → r ≡ found_in here (move_of here s)
     → found_in (position_in part) (move_of (position_in part) s) ≡ r
-found_at old part s here r is same found = cc (position_is old part is)
+found_at old part s is same found = cc (position_is old part is)
 
-pub move_free : (old : ReaderState) (part : Part) (s : List ℕ) (here : Parts) (played : Played) → is_number s ≡ false → is_score s ≡ false → IsOpen old part → here ≡ old.text.levels.present.present
+pub move_free : {old : ReaderState} {part : Part} (s : List ℕ) (here : Parts) {played : Played} → is_number s ≡ false → is_score s ≡ false → IsOpen old part → here ≡ old.text.levels.present.present
     → Ok played ≡ found_in here (move_of here s) → text_refusal old.profile part (symbol s) ≡ None
-move_free old part s here played number score is same found = grind (arith, move_refusal, found_free, found_at)
+move_free s here number score is same found = grind (arith, move_refusal, found_free, found_at)
 
-pub move_refused : (old : ReaderState) (part : Part) (s : List ℕ) (here : Parts) (reason : Reason) → is_number s ≡ false → is_score s ≡ false → IsOpen old part → here ≡ old.text.levels.present.present
+pub move_refused : {old : ReaderState} {part : Part} (s : List ℕ) (here : Parts) {reason : Reason} → is_number s ≡ false → is_score s ≡ false → IsOpen old part → here ≡ old.text.levels.present.present
     → Err reason ≡ found_in here (move_of here s) → text_refusal old.profile part (symbol s) ≡ Some reason
-move_refused old part s here reason number score is same found = grind (arith, move_refusal, found_refused, found_at)
+move_refused s here number score is same found = grind (arith, move_refusal, found_refused, found_at)
 
-pub refused_inside : (here : Parts) (s : List ℕ) (reason : Reason) → Err reason ≡ found_in here (move_of here s) → IsFalse (is_outside_the_table reason)
-refused_inside here s reason found = (found_refused here (move_of here s) reason (sym found)).1
+pub refused_inside : (here : Parts) (s : List ℕ) {reason : Reason} → Err reason ≡ found_in here (move_of here s) → IsFalse (is_outside_the_table reason)
+refused_inside here s found = (found_refused here (move_of here s) (sym found)).1
 
-pub move_leads : (old : ReaderState) (part : Part) (s : List ℕ) (here : Parts) (played : Played) → is_number s ≡ false → is_score s ≡ false → IsOpen old part → here ≡ old.text.levels.present.present
+pub move_leads : {old : ReaderState} {part : Part} (s : List ℕ) (here : Parts) {played : Played} → is_number s ≡ false → is_score s ≡ false → IsOpen old part → here ≡ old.text.levels.present.present
     → Ok played ≡ found_in here (move_of here s) → in_text part (symbol s) ≡ going (with_items part (game.move played.mv ∷ []))
-move_leads old part s here played number score is same found = grind (arith, symbol_leads, found_free, found_at)
+move_leads s here number score is same found = grind (arith, symbol_leads, found_free, found_at)
 
 -- a number is not rejected, and adds no item
 pub number_free : (p : Profile) (part : Part) (s : List ℕ) → is_number s ≡ true → is_score s ≡ false → text_refusal p part (symbol s) ≡ None
 number_free p part s number score = cc
 
 pub number_leads : (part : Part) (s : List ℕ) → is_number s ≡ true → is_score s ≡ false → in_text part (symbol s) ≡ going (with_items part [])
-number_leads part s number score = symbol_leads part s true false number score
+number_leads part s number score = symbol_leads part s true number score
 
 -- Markers.
 
@@ -135,14 +135,14 @@ pub score_of : (s marker : List ℕ) (b : Bool) → is_score s ≡ b → marker_
 score_of s marker true e h = (refl, cc)
 score_of s marker false e h = absurd (cc)
 
-symbol_marker : (p : Profile) (part : Part) (s marker : List ℕ) → marker_of (symbol s) ≡ Some marker → text_refusal p part (symbol s) ≡ marker_rows p part marker
-symbol_marker p part s marker is = grind (arith, or_right, symbol_refusal, score_of)
+symbol_marker : (p : Profile) (part : Part) (s : List ℕ) {marker : List ℕ} → marker_of (symbol s) ≡ Some marker → text_refusal p part (symbol s) ≡ marker_rows p part marker
+symbol_marker p part s is = grind (arith, or_right, symbol_refusal, score_of)
 
-asterisk_marker : (p : Profile) (part : Part) (marker : List ℕ) → codes "*" ≡ marker → text_refusal p part asterisk ≡ marker_rows p part marker
-asterisk_marker p part marker e = cc
+asterisk_marker : (p : Profile) (part : Part) {marker : List ℕ} → codes "*" ≡ marker → text_refusal p part asterisk ≡ marker_rows p part marker
+asterisk_marker p part e = cc
 
-pub marker_refusal : (p : Profile) (part : Part) (k : Kind) (marker : List ℕ) → marker_of k ≡ Some marker → text_refusal p part k ≡ marker_rows p part marker
-marker_refusal p part k marker is = grind (arith, symbol_marker, asterisk_marker)
+pub marker_refusal : (p : Profile) (part : Part) (k : Kind) {marker : List ℕ} → marker_of k ≡ Some marker → text_refusal p part k ≡ marker_rows p part marker
+marker_refusal p part k is = grind (arith, symbol_marker, asterisk_marker)
 
 -- whether a marker differs from the value for Result, or else from this text
 abbrev pub differs : List ℕ → Option (List ℕ) → List ℕ → Bool
@@ -160,12 +160,12 @@ marker_tested p part missing marker inside other within known test =
 
 pub marker_inside : (old : ReaderState) (k : Kind) (marker : List ℕ) (part : Part) → marker_of k ≡ Some marker → nat_le 1 (depth (levels_of_part part)) ≡ true
     → text_refusal old.profile part k ≡ Some MarkerInVariation
-marker_inside old k marker part is within = marker_refusal old.profile part k marker is ∙ hit _ _ _ within
+marker_inside old k marker part is within = marker_refusal old.profile part k is ∙ hit _ _ _ within
 
 pub marker_differs : (old : ReaderState) (k : Kind) (missing marker : List ℕ) (part : Part) → marker_of k ≡ Some marker → depth (levels_of_part part) ≡ 0
     → result_for old.profile.missing_result marker ≡ missing → differs missing (value_of part.pairs (codes "Result")) marker ≡ true → text_refusal old.profile part k ≡ Some ResultDiffers
 marker_differs old k missing marker part is none known test =
-    cc (marker_refusal old.profile part k marker is, marker_tested old.profile part missing marker false true (ap (λ n. nat_le 1 n) none) known test)
+    cc (marker_refusal old.profile part k is, marker_tested old.profile part missing marker false true (ap (λ n. nat_le 1 n) none) known test)
 
 pub marker_free : (old : ReaderState) (k : Kind) (missing marker : List ℕ) (part : Part) → marker_of k ≡ Some marker → depth (levels_of_part part) ≡ 0
     → result_for old.profile.missing_result marker ≡ missing → differs missing (value_of part.pairs (codes "Result")) marker ≡ false → text_refusal old.profile part k ≡ None

@@ -1,13 +1,8 @@
 -- One token that the lexer gave, and what the reader answered to it.
-use Rattle.std.proofs.lemmas.List.Sums.{sum_by-append, sum_by-cons}
-use Rattle.pgn_lexer.specs.declared.token.LexFault.{LexFault}
 use Rattle.pgn_lexer.specs.PartialToken.{refusal as refusal_token}
-use Rattle.pgn_lexer.specs.Scanned.{more, token, fault}
-use Rattle.pgn_game.proofs.Words.{Reason, Lexical, WriteFault, Fault, Profile, Missing, Game, Part, ◌≡◌, ℕ, ◌+◌, ◌*◌, is_some, ◌<◌, ◌≤◌, ◌⊎◌, inl, inr, Bool, false, true, List, [], ◌∷◌, ◌++◌, length, take, drop, Option, None, Some, Result, Ok, Err, refl, sym, ap, subst, ◌∙◌, append_assoc, append-nil, length-append, le_refl, arith, IsTrue, map, sum, ◌||◌, take-append-drop, map-append, list_any-append, or_cases, Appends-nil, Appends, Token, EndsAt, tokens_of, Standing, coming, waiting, StandsAfter, Follows, AfterScan, first, still, Accepted, More, Finished, refusal, position_if_move, position_in, Next, going, whole, next, Progress, progress_with, progress_after, Read, read, position_at_fault, gain, Gains, plies_of, has_move, ReaderState, Agrees, IsKnown, as_written, IsBehind, whole_plies, plies_next, Leads, Answers, AppendsFront, MostTried, Raises, Tries, TriesUnwritten}
+use Rattle.pgn_lexer.specs.Scanned.{token, more, fault}
+use Rattle.pgn_game.proofs.Words.{Reason, Lexical, WriteFault, Fault, Profile, Game, Part, ◌≡◌, ℕ, ◌+◌, ◌*◌, is_some, ◌<◌, ◌≤◌, ◌⊎◌, inl, inr, Bool, false, true, List, [], ◌∷◌, ◌++◌, length, take, drop, Option, None, Some, Result, Ok, Err, refl, sym, ap, subst, ◌∙◌, append_assoc, append-nil, length-append, le_refl, arith, IsTrue, map, sum, ◌||◌, take-append-drop, map-append, list_any-append, or_cases, Appends-nil, Appends, Token, EndsAt, tokens_of, Standing, coming, waiting, StandsAfter, Follows, AfterScan, first, still, Accepted, More, Finished, refusal, position_if_move, position_in, Next, going, whole, next, Progress, progress_with, progress_after, Read, read, position_at_fault, gain, Gains, plies_of, has_move, ReaderState, Agrees, IsKnown, as_written, IsBehind, whole_plies, plies_next, Leads, Answers, AppendsFront, MostTried, Raises, Tries, TriesUnwritten, sum_by-append, sum_by-cons, LexFault, FinishedGame, finished_game_of, Converter, game_in_reader, game_in_reader_if, play_moves, has_played_move, HasRead, Stands, refused_stop as refused, unwritten, AreNext, reported_position, FedToFault, FaultAtEnd, SameGames, OneGame, AfterStep, outcome_at, finished_game, games_after, fault_of_step, StepAdvances, written_so_far as written, due}
 use Rattle.pgn_game.specs.ReaderState as reader_state
-use Rattle.pgn_game.specs.ConverterCalls.{FinishedGame, finished_game_of, Converter, game_in_reader, game_in_reader_if, play_moves, has_played_move, HasRead, Stands, refused, unwritten, AreNext, reported_position, FedToFault}
-use Rattle.pgn_game.specs.ConverterSteps.{FaultAtEnd, SameGames, OneGame, AfterStep, outcome_at, finished_game, games_after, fault_of_step, StepAdvances}
-use Rattle.pgn_game.specs.Progress.{written, due}
 use Rattle.pgn_game.proofs.tokens.PairsTriedForToken.{most_with, most_to_refused, part_probed, raises_none}
 use Rattle.pgn_game.proofs.tokens.OneMoreToken.{read-passes, read-refuses, due-passes, gains_none}
 
@@ -22,7 +17,7 @@ follows_own (x ∷ xs) = refl
 
 -- where a missing Result counts as a text, that is written
 pub written_known : (p : Profile) → IsKnown p → as_written p ≡ p
-written_known p known = ap (λ (m : Missing). record { tags = p.tags; depth = p.depth; mode = p.mode; missing_result = m }) (sym known)
+written_known p known = rw known
 
 -- what a token leads to, with the games before; one that finishes no game counts no move
 leads_more : (nx : Next) (games : List Game) (r : ReaderState) → Leads nx More r
@@ -36,8 +31,8 @@ leads_finished (going part) games r h = absurd h
 leads_finished (whole g) games r h = (g, refl, h.agrees, h, refl)
 
 -- what the reader still holds of the game that it is behind
-finished_behind : (r : ReaderState) (g : Game) → IsBehind r g → game_in_reader r ≡ finished_game_of g
-finished_behind r g h = cc (h.pairs, h.plies, h.position)
+finished_behind : {r : ReaderState} {g : Game} → IsBehind r g → game_in_reader r ≡ finished_game_of g
+finished_behind h = cc (h.pairs, h.plies, h.position)
 
 plies-snoc : (games : List Game) (g : Game) → sum (map plies_of (games ++ g ∷ [])) ≡ sum (map plies_of games) + plies_of g
 plies-snoc games g =
@@ -77,8 +72,8 @@ in_games b h = or_left (play_moves b.games) (has_move b.part.items) h
     or_left false y h = absurd (cc)
 
 -- some pair was tried where a move was played in a game, or in the part
-in_either : (r : ReaderState) (b : Progress) → Agrees r b.part → (IsTrue (play_moves b.games) → 0 < r.most_probes) → IsTrue (has_played_move b) → 0 < r.most_probes
-in_either r b agrees before moves = by_or (play_moves b.games) (has_move b.part.items) before (part_probed r b.part agrees) moves
+in_either : {r : ReaderState} (b : Progress) → Agrees r b.part → (IsTrue (play_moves b.games) → 0 < r.most_probes) → IsTrue (has_played_move b) → 0 < r.most_probes
+in_either {r} b agrees before moves = by_or (play_moves b.games) (has_move b.part.items) before (part_probed r agrees) moves
   where
     by_or : (x y : Bool) → (IsTrue x → 0 < r.most_probes) → (IsTrue y → 0 < r.most_probes) → IsTrue (x || y) → 0 < r.most_probes
     by_or true y left right h = left refl
@@ -100,14 +95,14 @@ module _ (p : Profile) (old : Converter) (given : List Token) (t : Token) (l : S
   -- the most pairs tried, with this token
   most_tried : refusal old.reading.profile b.part t.kind ≡ None → Raises (Tries old.reading.profile b.part t.kind) old.reading.most_probes new.most_probes
       → MostTried p (given ++ t ∷ []) new.most_probes
-  most_tried h tries = most_with p given t old.reading.most_probes new.most_probes has_read.tried has_read.passes (passes h) (raised tries)
+  most_tried h tries = most_with p t has_read.tried has_read.passes (passes h) (raised tries)
 
   probed_before : IsTrue (has_played_move b) → 0 < new.most_probes
   probed_before moves = let some = has_read.probed moves in omega (arith, some, probes)
 
   -- the game goes on
   pub same_games : refusal old.reading.profile b.part t.kind ≡ None → Leads (next b.part t.kind) More new → SameGames p given (given ++ t ∷ [])
-  same_games h leads = ap (λ (r : Read). r.progress.games) (reads h) ∙ (leads_more (next b.part t.kind) b.games new leads).0
+  same_games h leads = rw (reads h) ((leads_more (next b.part t.kind) b.games new leads).0)
 
   pub has_read_more : refusal old.reading.profile b.part t.kind ≡ None → Leads (next b.part t.kind) More new
       → whole_plies new ≡ whole_plies old.reading + plies_next (next b.part t.kind)
@@ -116,16 +111,16 @@ module _ (p : Profile) (old : Converter) (given : List Token) (t : Token) (l : S
       let more = leads_more (next b.part t.kind) b.games new leads in
       let same = same_games h leads in
       let total : whole_plies new ≡ whole_plies old.reading = omega (arith, plies, more.2) in
-      let agrees : Agrees new (read p (given ++ t ∷ [])).progress.part = subst (λ (r : Read). Agrees new r.progress.part) (sym (reads h)) more.1 in
+      let agrees : Agrees new (read p (given ++ t ∷ [])).progress.part = rw (reads h) more.1 in
       record {
         profile = profile ∙ has_read.profile;
         no_fault = refl;
-        passes = ap (λ (r : Read). r.fault) (reads h);
+        passes = rw (reads h);
         agrees = agrees;
         games = has_read.games ∙ ap (length {A = Game}) (sym same);
         plies = total ∙ has_read.plies ∙ ap (λ games. sum (map plies_of games)) (sym same);
-        probed = in_either new (read p (given ++ t ∷ [])).progress agrees
-            (λ moves. probed_before (in_games b (subst (λ games. IsTrue (play_moves games)) same moves)));
+        probed = in_either (read p (given ++ t ∷ [])).progress agrees
+            (λ moves. probed_before (in_games b (rw same at moves)));
         tried = most_tried h tries;
         just_finished = tt;
       }
@@ -135,7 +130,7 @@ module _ (p : Profile) (old : Converter) (given : List Token) (t : Token) (l : S
       → (g : Game) × OneGame p given (given ++ t ∷ []) g × (game_in_reader new ≡ finished_game_of g)
   one_game h leads =
       let done = leads_finished (next b.part t.kind) b.games new leads in
-      (done.0, ap (λ (r : Read). r.progress.games) (reads h) ∙ done.1, finished_behind new done.0 done.3)
+      (done.0, ap (λ (r : Read). r.progress.games) (reads h) ∙ done.1, finished_behind done.3)
 
   pub has_read_game : refusal old.reading.profile b.part t.kind ≡ None → Leads (next b.part t.kind) Finished new
       → whole_plies new ≡ whole_plies old.reading + plies_next (next b.part t.kind)
@@ -145,36 +140,36 @@ module _ (p : Profile) (old : Converter) (given : List Token) (t : Token) (l : S
       let one = ap (λ (r : Read). r.progress.games) (reads h) ∙ done.1 in
       let g : Game = done.0 in
       let behind : IsBehind new g = done.3 in
-      let agrees : Agrees new (read p (given ++ t ∷ [])).progress.part = subst (λ (r : Read). Agrees new r.progress.part) (sym (reads h)) done.2 in
+      let agrees : Agrees new (read p (given ++ t ∷ [])).progress.part = rw (reads h) done.2 in
       record {
         profile = profile ∙ has_read.profile;
         no_fault = refl;
-        passes = ap (λ (r : Read). r.fault) (reads h);
+        passes = rw (reads h);
         agrees = agrees;
-        games = ap (λ n. n + 1) has_read.games ∙ sym (ap (length {A = Game}) one ∙ length-append b.games (g ∷ []));
+        games = rw has_read.games (sym (ap (length {A = Game}) one ∙ length-append b.games (g ∷ [])));
         plies = cc (plies, has_read.plies, done.4, one, plies-snoc b.games g);
-        probed = in_either new (read p (given ++ t ∷ [])).progress agrees
-            (λ moves. elim (moves-snoc b.games g (subst (λ games. IsTrue (play_moves games)) one moves)) [
+        probed = in_either (read p (given ++ t ∷ [])).progress agrees
+            (λ moves. elim (moves-snoc b.games g (rw one at moves)) [
               | inl before ↦ probed_before (in_games b before)
               | inr here ↦ behind.probed here
             ]);
         tried = most_tried h tries;
-        just_finished = (b.games, g, one, finished_behind new g behind);
+        just_finished = (b.games, g, one, finished_behind behind);
       }
 
   -- the token is rejected
-  pub at_refused : (us : List Token) (a c : Option (List ℕ)) (reason : Reason) → refusal old.reading.profile b.part t.kind ≡ Some reason → Appends a c []
+  pub at_refused : (us : List Token) {a c : Option (List ℕ)} {reason : Reason} → refusal old.reading.profile b.part t.kind ≡ Some reason → Appends a c []
       → Raises (Tries old.reading.profile b.part t.kind) old.reading.most_probes new.most_probes → reported_position new reason ≡ position_if_move reason (position_in b.part)
       → FaultAtEnd p given (given ++ t ∷ us) (record { at = t.at; reason = reason }) new a c
-  at_refused us a c reason h wrote tries here =
-      let some = subst (λ q. refusal q b.part t.kind ≡ Some reason) has_read.profile h in
+  at_refused us {reason} h wrote tries here =
+      let some = rw has_read.profile at h in
       let ends = read-refuses p given t us reason has_read.passes some in
       record {
         stops = refused (record { at = t.at; reason = reason }) (ap (λ (r : Read). r.fault) ends)
-            (record { text = []; due_for = ap (λ (r : Read). written p r.progress) ends ∙ sym (append-nil (due p given)); appended = wrote });
+            (record { text = []; due_for = rw ends (sym (append-nil (due p given))); appended = wrote });
         no_game = ap (λ (r : Read). r.progress.games) ends;
         counts = record {
-          tried = most_to_refused p given t us reason old.reading.most_probes new.most_probes has_read.tried has_read.passes some (raised tries);
+          tried = most_to_refused p t us has_read.tried has_read.passes some (raised tries);
           probed = λ moves. probed_before (subst (λ (r : Read). IsTrue (has_played_move r.progress)) ends moves);
         };
         position = here ∙ sym (ap position_at_fault ends);
@@ -185,8 +180,8 @@ module _ (p : Profile) (old : Converter) (given : List Token) (t : Token) (l : S
     shown : as_written old.reading.profile ≡ p
     shown = written ∙ has_read.profile
 
-    pub gains_token : (a c : Option (List ℕ)) → refusal old.reading.profile b.part t.kind ≡ None → Appends a c (gain (as_written old.reading.profile) b.part t.kind) → Gains p given (given ++ t ∷ []) a c
-    gains_token a c h wrote =
+    pub gains_token : {a c : Option (List ℕ)} → refusal old.reading.profile b.part t.kind ≡ None → Appends a c (gain (as_written old.reading.profile) b.part t.kind) → Gains p given (given ++ t ∷ []) a c
+    gains_token {a} {c} h wrote =
         record {
           text = gain p b.part t.kind;
           due_for = due-passes p given t has_read.passes (passes h);
@@ -194,11 +189,11 @@ module _ (p : Profile) (old : Converter) (given : List Token) (t : Token) (l : S
         }
 
     -- a write failed
-    pub at_unwritten : (us : List Token) (a c : Option (List ℕ)) → refusal old.reading.profile b.part t.kind ≡ None
+    pub at_unwritten : (us : List Token) {a c : Option (List ℕ)} → refusal old.reading.profile b.part t.kind ≡ None
         → AppendsFront a c (gain (as_written old.reading.profile) b.part t.kind)
         → Raises (TriesUnwritten old.reading.profile b.part t.kind) old.reading.most_probes new.most_probes
         → FaultAtEnd p given (given ++ t ∷ us) (record { at = t.at; reason = WriteFault }) new a c
-    at_unwritten us a c h (n, short, wrote) tries =
+    at_unwritten us {a} {c} h (n, short, wrote) tries =
         record {
           stops = unwritten t.at (record {
             front = given;
@@ -206,7 +201,7 @@ module _ (p : Profile) (old : Converter) (given : List Token) (t : Token) (l : S
             rest = us;
             cut = refl;
             place = refl;
-            passes = ap (λ (r : Read). r.fault) (reads h);
+            passes = rw (reads h);
             text = gain p b.part t.kind;
             due_for = due-passes p given t has_read.passes (passes h);
             count = n;
@@ -219,21 +214,21 @@ module _ (p : Profile) (old : Converter) (given : List Token) (t : Token) (l : S
             tried = (
               old.reading.most_probes,
               has_read.tried,
-              subst (λ q. Raises (TriesUnwritten q b.part t.kind) old.reading.most_probes new.most_probes) has_read.profile tries,
+              rw has_read.profile at tries,
             );
             probed = probed_before;
           };
           position = refl;
         }
 
-    pub at_fault : (us : List Token) (a c : Option (List ℕ)) (why : Reason) → Answers old.reading b.part t.kind new (Err why) a c
+    pub at_fault : (us : List Token) {a c : Option (List ℕ)} {why : Reason} → Answers old.reading b.part t.kind new (Err why) a c
         → FaultAtEnd p given (given ++ t ∷ us) (record { at = t.at; reason = why }) new a c
-    at_fault us a c why (reader_state.refused reason some wrote tries here) = at_refused us a c reason some wrote tries here
-    at_fault us a c why (reader_state.unwritten none wrote tries) = at_unwritten us a c none wrote tries
+    at_fault us (reader_state.refused reason some wrote tries here) = at_refused us some wrote tries here
+    at_fault us (reader_state.unwritten none wrote tries) = at_unwritten us none wrote tries
 
 -- a text that goes on behind the bytes used goes on behind the piece
-next_in_piece : (l : Standing) (u piece : List ℕ) (used : ℕ) (given : List Token) → StandsAfter l (u ++ take used piece) (first (drop used piece)) given → AreNext (u ++ piece) None given
-next_in_piece l u piece used given stands s follows =
+next_in_piece : (l : Standing) (u piece : List ℕ) (used : ℕ) {given : List Token} → StandsAfter l (u ++ take used piece) (first (drop used piece)) given → AreNext (u ++ piece) None given
+next_in_piece l u piece used stands s follows =
     let rest = drop used piece in
     let whole : (u ++ piece) ++ s ≡ (u ++ take used piece) ++ (rest ++ s) =
     cc (take-append-drop used piece, append_assoc u (take used piece) rest, append_assoc (u ++ take used piece) rest s) in
@@ -248,9 +243,9 @@ still_none-none [] = refl
 still_none-none (x ∷ xs) = refl
 
 -- the tokens at fault are those of the piece
-fed_to : (p : Profile) (u : List ℕ) (given ts : List Token) (piece : List ℕ) (f : Fault) (reading : ReaderState) (a c : Option (List ℕ)) → AreNext (u ++ piece) (still None piece) ts
+fed_to : {p : Profile} {u : List ℕ} {given ts : List Token} {piece : List ℕ} {f : Fault} {reading : ReaderState} {a c : Option (List ℕ)} → AreNext (u ++ piece) (still None piece) ts
     → FaultAtEnd p given ts f reading a c → FedToFault p u None given piece f reading a c
-fed_to p u given ts piece f reading a c next to =
+fed_to {ts} next to =
     record { fed = record { tokens = ts; next = next; stops = to.stops }; no_game = to.no_game; counts = to.counts; position = to.position }
 
 -- What the reader answers to a token of the piece.
@@ -264,8 +259,8 @@ took p old u given piece used t l new finished a c (Ok More) stands scan ends co
   record {
     stands = record { lexer = scan.0; has_read = has_read_more p old given t l new finished stands.has_read profile probes h.free h.leads h.plies h.tried };
     decided = scan.1;
-    ends = subst (EndsAt t.kind t.at) (count ∙ ap (λ n. n + used) stands.lexer.count) ends;
-    gains = gains_token p old given t l new finished stands.has_read profile probes written a c h.free h.appended;
+    ends = subst (EndsAt t.kind t.at) (rw stands.lexer.count at count) ends;
+    gains = gains_token p old given t l new finished stands.has_read profile probes written h.free h.appended;
   },
   same_games p old given t l new finished stands.has_read profile probes h.free h.leads,
 )
@@ -275,15 +270,15 @@ took p old u given piece used t l new finished a c (Ok Finished) stands scan end
       record {
         stands = record { lexer = scan.0; has_read = has_read_game p old given t l new finished stands.has_read profile probes h.free h.leads h.plies h.tried };
         decided = scan.1;
-        ends = subst (EndsAt t.kind t.at) (count ∙ ap (λ n. n + used) stands.lexer.count) ends;
-        gains = gains_token p old given t l new finished stands.has_read profile probes written a c h.free h.appended;
+        ends = subst (EndsAt t.kind t.at) (rw stands.lexer.count at count) ends;
+        gains = gains_token p old given t l new finished stands.has_read profile probes written h.free h.appended;
       },
       (one.0, one.1, ap (λ (finished : FinishedGame). Some finished) one.2),
     )
 took p old u given piece used t l new finished a c (Err why) stands scan ends count profile probes written stopped =
-    fed_to p u given (given ++ t ∷ []) piece _ new a c
-    (subst (λ b. AreNext (u ++ piece) b (given ++ t ∷ [])) (sym (still_none-none piece)) (next_in_piece l u piece used (given ++ t ∷ []) scan.0))
-    (at_fault p old given t l new finished stands.has_read profile probes written [] a c why stopped)
+    fed_to
+    (rw (still_none-none piece) (next_in_piece l u piece used scan.0))
+    (at_fault p old given t l new finished stands.has_read profile probes written [] stopped)
 
 -- no token in the piece
 pub took_none : (p : Profile) (old : Converter) (u : List ℕ) (given : List Token) (piece : List ℕ) (used : ℕ) (l : Standing) (o : Option (List ℕ)) → 0 < length piece
@@ -293,11 +288,11 @@ took_none p old u given piece used l o some stands scan =
     let h = stands.has_read in (
       scan.0,
       record {
-        lexer = subst (λ b. StandsAfter l (u ++ piece) b given) (still_none (first piece) piece some) scan.1;
+        lexer = rw (still_none (first piece) piece some) at scan.1;
         has_read = record { profile = h.profile; no_fault = h.no_fault; passes = h.passes; agrees = h.agrees; games = h.games; plies = h.plies; probed = h.probed; tried = h.tried; just_finished = h.just_finished };
       },
       scan.2 some,
-      gains_none p given o,
+      gains_none,
     )
 
 -- a rejection of the lexer is a row of its own
@@ -306,24 +301,24 @@ unfolding refusal
 lexical-refusal p part f = refl
 
 -- it tries no pair, and rejects no move
-pub at_lexical : (p : Profile) (old : Converter) (given : List Token) (f : LexFault) (reading : ReaderState) (o : Option (List ℕ)) → HasRead p old given → reading ≡ old.reading
+pub at_lexical : {p : Profile} {old : Converter} {given : List Token} (f : LexFault) {reading : ReaderState} {o : Option (List ℕ)} → HasRead p old given → reading ≡ old.reading
     → FaultAtEnd p given (given ++ refusal_token f ∷ []) (record { at = f.at; reason = Lexical f.reason }) reading o o
-at_lexical p old given f reading o has_read same =
+at_lexical {p} {old} {given} f {o} has_read same =
     let part = (read p given).progress.part in
     let some = lexical-refusal old.reading.profile part f in
     subst (λ (r : ReaderState). FaultAtEnd p given (given ++ refusal_token f ∷ []) (record { at = f.at; reason = Lexical f.reason }) r o o) (sym same)
-    (at_refused p old given (refusal_token f) old.lexer old.reading false has_read refl (le_refl old.reading.most_probes) [] o o (Lexical f.reason) some (Appends-nil o)
-    (raises_none old.reading.profile part f.reason (Lexical f.reason) old.reading.most_probes some) refl)
+    (at_refused p old given (refusal_token f) old.lexer old.reading false has_read refl (le_refl old.reading.most_probes) [] some (Appends-nil o)
+    (raises_none some) refl)
 
 pub took_fault : (p : Profile) (old : Converter) (u : List ℕ) (given : List Token) (piece : List ℕ) (used : ℕ) (f : LexFault) (l : Standing) (new : Converter) (o : Option (List ℕ)) → 0 < length piece
     → Stands p old u (first piece) given → AfterScan u (first piece) given piece l used (fault f)
     → new.reading ≡ old.reading → AfterStep p u given piece new used (Err (record { at = f.at; reason = Lexical f.reason })) o o
 took_fault p old u given piece used f l new o some stands scan same =
-    fed_to p u given (given ++ refusal_token f ∷ []) piece _ new.reading o o
+    fed_to
     (λ s follows.
-    let rest = subst (λ b. Follows b s) (still_none-none piece ∙ sym (still_none (first piece) piece some)) follows in
+    let rest = rw (still_none-none piece ∙ sym (still_none (first piece) piece some)) at follows in
     ([], scan.0 s rest ∙ sym (append-nil (given ++ refusal_token f ∷ []))))
-    (at_lexical p old given f new.reading o stands.has_read same)
+    (at_lexical f stands.has_read same)
 
 -- a game is just finished after a step where the step finished one
 pub is_some_held : (b : Bool) (reading : ReaderState) → is_some (game_in_reader_if b reading) ≡ b

@@ -1,10 +1,6 @@
 -- Games read in turn from a source.
-use Rattle.std.specs.Prelude.{IsTrue, is_ok}
-use Rattle.std.specs.Io.KnownBytes.{Consumes, Keeps, IsAtEnd}
-use Rattle.pgn_game.proofs.Words.{Token, ReadFault, Reason, Fault, Profile, Game, no_part, ◌≡◌, ℕ, ◌^◌, ◌≤◌, Bool, true, false, List, [], ◌∷◌, ◌++◌, length, take, drop, Option, None, Some, Result, Ok, Err, refl, sym, ap, subst, ◌∙◌, inl, inr, append-nil, append_assoc, length-append, arith, take-append-drop, Consumes-nil, Consumes-trans, tokens_of, decided, coming, IsDecided, first, refusal, Gains, Games, games_of, ReadsOn, HasReadAll, HaveRead, within, at_end, NextGame, NoGame, StopsAtEnd, NextStops, AfterNext, NextSoFar}
-use Rattle.pgn_game.specs.Text.{text_of}
-use Rattle.pgn_game.specs.Progress.{Next, going, whole, next, Progress, progress_with, no_progress, Read, read, read_from, written, due}
-use Rattle.pgn_game.specs.ConverterCalls.{Converter, finished_game_of, IsLast, HasRead, Stands, AreNext, FedAll, FedGame, FedToFault, StopsIn, at_token, too_long, AfterFinish, Finishes, FinishesToFault}
+use Rattle.std.specs.Io.KnownBytes.{Keeps, IsAtEnd}
+use Rattle.pgn_game.proofs.Words.{Token, ReadFault, Reason, Fault, Profile, Game, no_part, ◌≡◌, ℕ, ◌^◌, ◌≤◌, Bool, true, false, List, [], ◌∷◌, ◌++◌, length, take, drop, Option, None, Some, Result, Ok, Err, refl, sym, ap, subst, ◌∙◌, inl, inr, append-nil, append_assoc, length-append, arith, take-append-drop, Consumes-nil, Consumes-trans, tokens_of, decided, coming, IsDecided, first, refusal, Gains, Games, games_of, HasReadAll, HaveRead, within, at_end, NextGame, NoGame, NextStops, AfterNext, NextSoFar, IsTrue, is_ok, Consumes, text_of_games as text_of, Next, going, whole, next, Progress, progress_with, no_progress, Read, read, read_from, written_so_far as written, Converter, finished_game_of, HasRead, FedAll, FedGame, FedToFault, StopsIn, at_token, too_long, AfterFinish, Finishes, FinishesToFault}
 use Rattle.pgn_game.specs.GamesCalls as games_calls
 use Rattle.pgn_game.proofs.tokens.OneMoreToken.{read-passes, read-refuses, stops_from, torn-none, gains_none, gains_more, stops_more, games_still, counts_still}
 use Rattle.pgn_game.proofs.tokens.StepsInPiece.{decided_at_end, stands_before_any}
@@ -16,8 +12,8 @@ use Rattle.pgn_game.proofs.tokens.WholeInput.{keeps_consumed}
 
 -- ---- the text of a game
 
-pub none_or_some : {A : Type 0} (o : Option A) (x : A) → o ≡ Some x → o ≡ None → ⊥
-none_or_some o x a b = cc
+pub none_or_some : {A : Type 0} {o : Option A} (x : A) → o ≡ Some x → o ≡ None → ⊥
+none_or_some x a b = cc
 
 -- tokens before those that pass do
 pub passes_before : (p : Profile) (ts us : List Token) → (read p (ts ++ us)).fault ≡ None → (read p ts).fault ≡ None
@@ -26,15 +22,15 @@ passes_before p ts us passes = by_fault (read p ts).fault refl
     by_fault : (o : Option Fault) → (read p ts).fault ≡ o → (read p ts).fault ≡ None
     by_fault None is = is
     by_fault (Some f) is =
-        absurd (none_or_some _ f (ap (λ (r : Read). r.fault) (stops_from p no_progress ts us f is) ∙ is) passes)
+        absurd (none_or_some f (rw (stops_from p no_progress ts us is) is) passes)
 
 -- between games all that is due is the text of games
 pub due_between : (p : Profile) (b : Progress) → b.part ≡ no_part → written p b ≡ text_of p b.games
 due_between p b none =
     cc (none, torn-none p.missing_result p.mode, append-nil (text_of p b.games))
 
-pub not_one_more : (gs : List Game) (g : Game) → gs ≡ gs ++ g ∷ [] → ⊥
-not_one_more gs g e = absurd (omega (arith, ap (length {A = Game}) e, length-append gs (g ∷ [])))
+pub not_one_more : {gs : List Game} (g : Game) → gs ≡ gs ++ g ∷ [] → ⊥
+not_one_more {gs} g e = absurd (omega (arith, ap (length {A = Game}) e, length-append gs (g ∷ [])))
 
 -- the token that finishes a game leaves no part of one
 pub none_behind : (p : Profile) (ts : List Token) (t : Token) (g : Game) → (read p (ts ++ t ∷ [])).fault ≡ None
@@ -46,12 +42,12 @@ none_behind p ts t g passes one = by_test (refusal p (read p ts).progress.part t
 
     by_next : (nx : Next) → next (read p ts).progress.part t.kind ≡ nx → (read p (ts ++ t ∷ [])).progress ≡ progress_with (read p ts).progress.games nx
         → (read p (ts ++ t ∷ [])).progress.part ≡ no_part
-    by_next (going part) is reads = absurd (not_one_more (read p ts).progress.games g (sym (ap (λ (b : Progress). b.games) reads) ∙ one))
+    by_next (going part) is reads = absurd (not_one_more g (sym (ap (λ (b : Progress). b.games) reads) ∙ one))
     by_next (whole h) is reads = ap (λ (b : Progress). b.part) reads
 
     by_test : (o : Option Reason) → refusal p (read p ts).progress.part t.kind ≡ o → (read p (ts ++ t ∷ [])).progress.part ≡ no_part
     by_test (Some reason) is =
-        absurd (none_or_some _ _ (ap (λ (r : Read). r.fault) (read-refuses p ts t [] reason before is)) passes)
+        absurd (none_or_some _ (ap (λ (r : Read). r.fault) (read-refuses p ts t [] reason before is)) passes)
     by_test None is =
         by_next (next (read p ts).progress.part t.kind) refl (ap (λ (r : Read). r.progress) (read-passes p ts t before is))
 
@@ -64,9 +60,9 @@ none_yet p u given left now o (within on) not_finished =
       more = [];
       consumed = Consumes-nil left;
       tokens = given;
-      reads_on = subst (λ xs. ReadsOn p xs now given) (sym (append-nil u)) on;
+      reads_on = rw (append-nil u) on;
       no_game = refl;
-      gains = gains_none p given o;
+      gains = gains_none;
     }
 none_yet p u given left now o (at_end all) not_finished = absurd (cc (all.finished))
 
@@ -81,36 +77,36 @@ at_end_again p u given left now new o (at_end all) finished is =
       consumed = Consumes-nil left;
       have_read_all = record {
         at_end = all.at_end;
-        short = subst (λ xs. length xs ≤ 2 ^ 62) (sym (append-nil u)) all.short;
+        short = rw (append-nil u) all.short;
         whole = refl;
-        none_begun = subst (λ ts. due p ts ≡ text_of p (read p ts).progress.games) (sym text) all.none_begun;
-        has_read = subst (HasRead p new) (sym text) (subst (λ (s : Converter). HasRead p s given) (sym is) (let_go p now.converter given all.has_read));
-        finished = ap (λ (s : Converter). s.is_finished) is ∙ all.finished;
+        none_begun = rw text all.none_begun;
+        has_read = subst (HasRead p new) (sym text) (rw is (let_go p now.converter given all.has_read));
+        finished = rw is all.finished;
       };
-      no_game = ap (λ ts. (read p ts).progress.games) text;
-      none_just_finished = ap (λ (s : Converter). s.just_finished) is;
-      gains = subst (λ ts. Gains p given ts o o) (sym text) (gains_none p given o);
+      no_game = rw text;
+      none_just_finished = rw is;
+      gains = rw text (gains_none);
     }
 
 -- what was read of a front of the bytes not used is decided
-front_decided : (p : Profile) (u rest front : List ℕ) (given : List Token) → (front ≡ [] → given ≡ decided u) → (new : Converter) (a c : Option (List ℕ))
+front_decided : {p : Profile} {u : List ℕ} (rest front : List ℕ) {given : List Token} → (front ≡ [] → given ≡ decided u) → {new : Converter} {a c : Option (List ℕ)}
     (fed : FedAll p u (first rest) given front new a c) → fed.tokens ≡ decided (u ++ front)
-front_decided p u rest [] given none new a c fed = fed.empty refl ∙ none refl ∙ ap decided (sym (append-nil u))
-front_decided p u rest (x ∷ xs) given none new a c fed = fed.decided (omega arith)
+front_decided {u} rest [] none fed = fed.empty refl ∙ none refl ∙ ap decided (sym (append-nil u))
+front_decided rest (x ∷ xs) none fed = fed.decided (omega arith)
 
 -- the last of a list
-pub last_is : {A : Type 0} → (xs ys : List A) (x y : A) → xs ++ x ∷ [] ≡ ys ++ y ∷ [] → x ≡ y
-last_is [] [] x y e = cc
-last_is [] (z ∷ zs) x y e = absurd (omega (arith, ap length e, length-append zs (y ∷ [])))
-last_is (z ∷ zs) [] x y e = absurd (omega (arith, ap length e, length-append zs (x ∷ [])))
-last_is (z ∷ zs) (w ∷ ws) x y e = last_is zs ws x y (cc)
+pub last_is : {A : Type 0} → (xs ys : List A) {x y : A} → xs ++ x ∷ [] ≡ ys ++ y ∷ [] → x ≡ y
+last_is [] [] e = cc
+last_is [] (z ∷ zs) {y} e = absurd (omega (arith, ap length e, length-append zs (y ∷ [])))
+last_is (z ∷ zs) [] {x} e = absurd (omega (arith, ap length e, length-append zs (x ∷ [])))
+last_is (z ∷ zs) (w ∷ ws) e = last_is zs ws (cc)
 
 not_true : IsTrue false → ⊥
 not_true h = absurd (cc)
 
-decided_before : (u piece : List ℕ) (ts : List Token) → IsDecided u [] ts → IsDecided u piece ts
-decided_before u piece ts (inl e) = inl e
-decided_before u piece ts (inr (b, e, k)) = absurd (cc)
+decided_before : (u piece : List ℕ) {ts : List Token} → IsDecided u [] ts → IsDecided u piece ts
+decided_before u piece (inl e) = inl e
+decided_before u piece (inr (b, e, k)) = absurd (cc)
 
 -- ---- what a call reads
 
@@ -134,19 +130,19 @@ module _ (p : Profile) (u : List ℕ) (given : List Token) (left_old left : Opti
           not_finished = not_finished;
         });
         game = fed.game;
-        one_game = fed.one_game ∙ ap (λ gs. gs ++ fed.game ∷ []) so.no_game;
+        one_game = rw so.no_game at fed.one_game;
         just_finished = fed.just_finished;
         whole = due_between p (read p ts).progress
-            (none_behind p fed.tokens fed.marker fed.game fed.stands.has_read.passes (fed.one_game ∙ ap (λ gs. gs ++ fed.game ∷ []) (sym fed.no_game)));
-        gains = gains_more p given so.tokens ts a c d so.gains fed.gains;
+            (none_behind p fed.tokens fed.marker fed.game fed.stands.has_read.passes (rw fed.no_game fed.one_game));
+        gains = gains_more so.gains fed.gains;
       }
 
   -- no game was finished
   pub rest_read : (new : Converter) → FedAll p so.reads_on.used (first now.unused) so.tokens now.unused new c d → new.is_finished ≡ false
       → NextSoFar p u given left_old left (games_of new []) a d
   rest_read new fed not_finished =
-      let is = front_decided p so.reads_on.used now.unused now.unused so.tokens
-      (λ none. decided_at_end so.reads_on.used so.tokens (subst (λ xs. IsDecided so.reads_on.used xs so.tokens) none so.reads_on.decided)) new c d fed in
+      let is = front_decided now.unused now.unused
+      (λ none. decided_at_end so.reads_on.used so.tokens (rw none at so.reads_on.decided)) fed in
       record {
         more = so.more;
         consumed = so.consumed;
@@ -154,13 +150,13 @@ module _ (p : Profile) (u : List ℕ) (given : List Token) (left_old left : Opti
         reads_on = record {
           used = so.reads_on.used ++ now.unused;
           bytes = so.reads_on.bytes ∙ sym (append-nil (so.reads_on.used ++ now.unused));
-          stands = subst (λ n. Stands p new (so.reads_on.used ++ now.unused) n fed.tokens) (behind_first now.unused) fed.stands;
+          stands = rw (behind_first now.unused) at fed.stands;
           at_limit = λ h. is;
           decided = inl is;
           not_finished = not_finished;
         };
         no_game = fed.no_game ∙ so.no_game;
-        gains = gains_more p given so.tokens fed.tokens a c d so.gains fed.gains;
+        gains = gains_more so.gains fed.gains;
       }
 
   -- a token was rejected, a write failed, or the input is too long
@@ -172,11 +168,10 @@ module _ (p : Profile) (u : List ℕ) (given : List Token) (left_old left : Opti
   rest_stops new f (at_token h to) =
       games_calls.at_token h so.more so.consumed (record {
         tokens = to.fed.tokens;
-        next = subst (λ xs. AreNext xs None to.fed.tokens) (sym so.reads_on.bytes)
-            (subst (λ n. AreNext (so.reads_on.used ++ now.unused) n to.fed.tokens) (behind_first now.unused) to.fed.next);
-        stops = stops_more p given so.tokens to.fed.tokens h a c d so.gains to.fed.stops;
-        no_game = games_still p given so.tokens to.fed.tokens h a c d so.gains to.fed.stops ∙ to.no_game ∙ so.no_game;
-        counts = counts_still p given so.tokens to.fed.tokens h a c d so.gains to.fed.stops new.reading.most_probes to.counts;
+        next = rw so.reads_on.bytes (rw (behind_first now.unused) at to.fed.next);
+        stops = stops_more so.gains to.fed.stops;
+        no_game = games_still so.gains to.fed.stops ∙ to.no_game ∙ so.no_game;
+        counts = counts_still so.gains to.fed.stops to.counts;
       })
   rest_stops new f (too_long front rest cut place some (n, fed, same)) =
       let full : front ≡ [] → so.tokens ≡ decided so.reads_on.used =
@@ -185,9 +180,9 @@ module _ (p : Profile) (u : List ℕ) (given : List Token) (left_old left : Opti
       (so.reads_on.bytes ∙ ap (λ xs. so.reads_on.used ++ xs) cut ∙ sym (append_assoc so.reads_on.used front rest)) place some (record {
         reads = record {
           tokens = fed.tokens;
-          decided = front_decided p so.reads_on.used now.unused front so.tokens full n c d fed;
+          decided = front_decided now.unused front full fed;
           passes = fed.stands.has_read.passes;
-          gains = gains_more p given so.tokens fed.tokens a c d so.gains fed.gains;
+          gains = gains_more so.gains fed.gains;
         };
         no_game = fed.no_game ∙ so.no_game;
       })
@@ -207,10 +202,10 @@ module _ (p : Profile) (u : List ℕ) (given : List Token) (left_old left left_n
         tokens = so.tokens;
         reads_on = record {
           used = so.reads_on.used;
-          bytes = sym (append_assoc u so.more piece) ∙ ap (λ xs. xs ++ piece) all_used;
-          stands = stands_before_any p now so.reads_on.used (first piece) so.tokens so.reads_on.stands;
+          bytes = rw all_used at (sym (append_assoc u so.more piece));
+          stands = stands_before_any so.reads_on.stands;
           at_limit = so.reads_on.at_limit;
-          decided = decided_before so.reads_on.used piece so.tokens so.reads_on.decided;
+          decided = decided_before so.reads_on.used piece so.reads_on.decided;
           not_finished = so.reads_on.not_finished;
         };
         no_game = so.no_game;
@@ -246,9 +241,9 @@ module _ (p : Profile) (u : List ℕ) (given : List Token) (left_old left left_n
     adds : AddsOne (read p so.tokens).progress.games (read p (tokens_of so.reads_on.used))
     adds = subst (AddsOne (read p so.tokens).progress.games) (sym reads) (left_games p (read p so.tokens).progress now.lexer)
 
-    ended : (is_game : Bool) → Finishes p so.reads_on.used so.tokens new is_game c d → new.is_finished ≡ true → now.lexer.count ≤ 2 ^ 62
+    ended : {is_game : Bool} → Finishes p so.reads_on.used so.tokens new is_game c d → new.is_finished ≡ true → now.lexer.count ≤ 2 ^ 62
         → AfterNext p u given left_old left_new (games_of new []) (Ok is_game) a d
-    ended is_game fed finished few = by_game is_game refl adds
+    ended {is_game} fed finished few = by_game is_game refl adds
       where
         text : tokens_of so.reads_on.used ≡ tokens_of (u ++ so.more)
         text = ap tokens_of (sym all_used)
@@ -259,15 +254,13 @@ module _ (p : Profile) (u : List ℕ) (given : List Token) (left_old left left_n
               at_end = end;
               short = omega (arith, so.reads_on.stands.lexer.count, few, ap (length {A = ℕ}) all_used);
               whole = refl;
-              none_begun = subst (λ ts. due p ts ≡ text_of p (read p ts).progress.games) text
-                  (subst (λ (r : Read). written p r.progress ≡ text_of p r.progress.games) (sym reads)
-                  (left_none_begun p (read p so.tokens).progress now.lexer (ap (λ (r : Read). r.fault) (sym reads) ∙ fed.has_read.passes)));
+              none_begun = rw (← reads, text) at (left_none_begun p (read p so.tokens).progress now.lexer (rw reads at fed.has_read.passes));
               has_read = subst (HasRead p new) text fed.has_read;
               finished = finished;
             }
 
         gains : Gains p given (tokens_of (u ++ so.more)) a d
-        gains = subst (λ ts. Gains p given ts a d) text (gains_more p given so.tokens (tokens_of so.reads_on.used) a c d so.gains fed.gains)
+        gains = subst (λ ts. Gains p given ts a d) text (gains_more so.gains fed.gains)
 
         none : (flag : Bool) → is_game ≡ flag → flag ≡ false → (read p (tokens_of so.reads_on.used)).progress.games ≡ (read p so.tokens).progress.games
             → NoGame p u given left_old left_new (games_of new []) a d
@@ -276,7 +269,7 @@ module _ (p : Profile) (u : List ℕ) (given : List Token) (left_old left left_n
               more = so.more;
               consumed = all;
               have_read_all = read_all;
-              no_game = ap (λ ts. (read p ts).progress.games) (sym text) ∙ same ∙ so.no_game;
+              no_game = rw (← text) (same ∙ so.no_game);
               none_just_finished = fed.none_just_finished (is ∙ ends);
               gains = gains;
             }
@@ -285,16 +278,16 @@ module _ (p : Profile) (u : List ℕ) (given : List Token) (left_old left left_n
             → is_game ≡ true → NextGame p u given left_old left_new (games_of new []) a d
         one g adds_one is =
             let finished_game = fed.just_finished is in
-            let last = subst (λ o. IsLast o (read p (tokens_of so.reads_on.used)).progress.games) finished_game.1 fed.has_read.just_finished in
-            let same : last.1 ≡ g = last_is last.0 (read p so.tokens).progress.games last.1 g (sym last.2 ∙ adds_one) in
+            let last = rw finished_game.1 at fed.has_read.just_finished in
+            let same : last.1 ≡ g = last_is last.0 (read p so.tokens).progress.games (sym last.2 ∙ adds_one) in
             record {
               more = so.more;
               consumed = all;
               tokens = tokens_of (u ++ so.more);
               have_read = at_end read_all;
               game = g;
-              one_game = ap (λ ts. (read p ts).progress.games) (sym text) ∙ adds_one ∙ ap (λ gs. gs ++ g ∷ []) so.no_game;
-              just_finished = finished_game.1 ∙ ap (λ h. Some h) (last.3 ∙ ap finished_game_of same);
+              one_game = rw (← text) (rw so.no_game at adds_one);
+              just_finished = rw (last.3 ∙ ap finished_game_of same) at finished_game.1;
               whole = read_all.none_begun;
               gains = gains;
             }
@@ -303,22 +296,21 @@ module _ (p : Profile) (u : List ℕ) (given : List Token) (left_old left left_n
             → AfterNext p u given left_old left_new (games_of new []) (Ok flag) a d
         by_game false is (inl same) = none false is refl same
         by_game false is (inr (passes, (g, more))) =
-            absurd (not_true (subst (λ b. IsTrue b) is
-            (fed.game.1 (omega (arith, ap (length {A = Game}) more, length-append (read p so.tokens).progress.games (g ∷ []))))))
+            absurd (not_true (rw is at (fed.game.1 (omega (arith, ap (length {A = Game}) more, length-append (read p so.tokens).progress.games (g ∷ []))))))
         by_game true is (inl same) =
-            absurd (omega (arith, fed.game.0 (subst (λ b. IsTrue b) (sym is) (cc)), ap (length {A = Game}) same))
+            absurd (omega (arith, fed.game.0 (rw is (cc)), ap (length {A = Game}) same))
         by_game true is (inr (passes, (g, more))) = one g more is
 
     ended_at_fault : (f : Fault) → FinishesToFault p so.reads_on.used so.tokens new f c d
         → NextStops p u given left_old left_new new.reading.most_probes a d f
     ended_at_fault f fed =
-        games_calls.at_end f so.more all end (subst (λ xs. StopsAtEnd p xs given new.reading.most_probes f a d) (sym all_used) (record {
-          stops = stops_more p given so.tokens (tokens_of so.reads_on.used) f a c d so.gains fed.stops;
-          no_game = games_still p given so.tokens (tokens_of so.reads_on.used) f a c d so.gains fed.stops ∙ fed.no_game ∙ so.no_game;
-          counts = counts_still p given so.tokens (tokens_of so.reads_on.used) f a c d so.gains fed.stops new.reading.most_probes fed.counts;
+        games_calls.at_end f so.more all end (rw all_used (record {
+          stops = stops_more so.gains fed.stops;
+          no_game = games_still so.gains fed.stops ∙ fed.no_game ∙ so.no_game;
+          counts = counts_still so.gains fed.stops fed.counts;
         }))
 
     pub finished : (r : Result Bool Fault) → AfterFinish p so.reads_on.used so.tokens new r c d → new.is_finished ≡ is_ok r → now.lexer.count ≤ 2 ^ 62
         → AfterNext p u given left_old left_new (games_of new []) r a d
-    finished (Ok is_game) fed ends few = ended is_game fed ends few
+    finished (Ok is_game) fed ends few = ended fed ends few
     finished (Err f) fed ends few = ended_at_fault f fed

@@ -1,7 +1,5 @@
 -- Calls of `next` one after another.
-use Rattle.std.proofs.lemmas.List.{append_assoc, append-nil, map-append, length-map}
-use Rattle.std.specs.Prelude.{IfSome}
-use Rattle.pgn_game.proofs.Words.{Profile, Game, ◌≡◌, ℕ, ◌∷◌, ◌++◌, true, false, List, [], length, map, sum, Option, None, Some, Ok, Err, refl, sym, ap, subst, ◌∙◌, Consumes-nil, Consumes-trans, Appends, Consumes, coming, first, Token, tokens_of, plies_of, read, totals, FinishedGame, finished_game_of, Games, HaveRead, ReadSoFar, NextGame, games_read}
+use Rattle.pgn_game.proofs.Words.{Profile, Game, ◌≡◌, ℕ, ◌∷◌, ◌++◌, true, false, List, [], length, map, sum, Option, Some, Ok, Err, refl, sym, ap, subst, ◌∙◌, Consumes-nil, Consumes-trans, Appends, Consumes, coming, first, Token, tokens_of, plies_of, read, totals, FinishedGame, finished_game_of, Games, HaveRead, ReadSoFar, NextGame, games_read, append_assoc, append-nil, map-append, length-map, IfSome}
 use Rattle.pgn_game.specs.GamesCalls as games_calls
 use Rattle.pgn_game.specs.GamesJoined as games_joined
 use Rattle.pgn_game.specs.GamesJoined.{TakesGames, GamesJoin}
@@ -12,23 +10,23 @@ use Rattle.pgn_game.proofs.tokens.WholeInput.{games_stop, verdict_passes, append
 abbrev finished : List Game → List FinishedGame
 finished games = map finished_game_of games
 
-same_game : (o : Option FinishedGame) (x y : FinishedGame) → o ≡ Some x → o ≡ Some y → x ≡ y
-same_game o x y e f = ap (λ (q : Option FinishedGame). elim q [ None ↦ x | Some z ↦ z ]) (sym e ∙ f)
+same_game : {o : Option FinishedGame} {x y : FinishedGame} → o ≡ Some x → o ≡ Some y → x ≡ y
+same_game e f = cc
 
 -- the plies of the games taken are those of the games
 plies_taken : (games : List Game) → map (λ (game : FinishedGame). game.plies) (finished games) ≡ map plies_of games
 plies_taken [] = refl
-plies_taken (g ∷ games) = ap (λ l. plies_of g ∷ l) (plies_taken games)
+plies_taken (g ∷ games) = rw (plies_taken games)
 
 -- the tokens read are the first ones of the text that the source had
-first_of_text : (p : Profile) (left left_new : Option (List ℕ)) (u : List ℕ) (now : Games) (given : List Token)
+first_of_text : {p : Profile} (left : Option (List ℕ)) {left_new : Option (List ℕ)} {u : List ℕ} {now : Games} {given : List Token}
     → Consumes left left_new u → HaveRead p left_new u now given → IfSome left (λ s. (later : List Token) × (tokens_of s ≡ given ++ later))
-first_of_text p left left_new u now given consumed (games_calls.within on) =
+first_of_text left {left_new} {u} {now} {given} consumed (games_calls.within on) =
     known_left left left_new u (λ s. (later : List Token) × (tokens_of s ≡ given ++ later)) consumed (λ rest. (
       coming now.converter.lexer (now.unused ++ rest),
       cc (on.bytes, append_assoc on.used now.unused rest, on.stands.lexer.tokens (now.unused ++ rest) (follows_first now.unused rest)),
     ))
-first_of_text p left left_new u now given consumed (games_calls.at_end all) =
+first_of_text left {left_new} {u} {given} consumed (games_calls.at_end all) =
     known_whole left left_new u (λ s. (later : List Token) × (tokens_of s ≡ given ++ later)) consumed all.at_end
     ([], sym all.whole ∙ sym (append-nil given))
 
@@ -38,22 +36,20 @@ record SoFar (p : Profile) (left before : Option (List ℕ)) (taken : List Finis
   pub games : taken ≡ finished (games_read p reads.tokens)
 
 -- one game more
-taken_more : (p : Profile) (left left_old left_new before out after : Option (List ℕ)) (taken : List FinishedGame) (game : FinishedGame) (old new : Games)
+taken_more : {p : Profile} {left left_old left_new before out after : Option (List ℕ)} {taken : List FinishedGame} (game : FinishedGame) {old new : Games}
     (so : SoFar p left before taken old left_old out)
     (next : NextGame p so.reads.bytes so.reads.tokens left_old left_new new out after) → new.converter.just_finished ≡ Some game
     → taken ++ game ∷ [] ≡ finished (games_read p next.tokens)
-taken_more p left left_old left_new before out after taken game old new so next e =
-    ap (λ l. l ++ game ∷ []) so.games
-    ∙ ap (λ g. finished (games_read p so.reads.tokens) ++ g ∷ []) (same_game new.converter.just_finished game (finished_game_of next.game) e next.just_finished)
-    ∙ sym (map-append finished_game_of (games_read p so.reads.tokens) (next.game ∷ []))
-    ∙ ap finished (sym next.one_game)
+taken_more {p} game so next e =
+    rw so.games (rw (same_game e next.just_finished) (sym (map-append finished_game_of (games_read p so.reads.tokens) (next.game ∷ []))
+    ∙ ap finished (sym next.one_game)))
 
 module _ (p : Profile) (left before : Option (List ℕ)) (first : Games) (begins : HaveRead p left [] first []) where
   so_far : {taken : List FinishedGame} {now : Games} {left_now after : Option (List ℕ)} → TakesGames left before first taken now left_now after
       → SoFar p left before taken now left_now after
   so_far games_joined.none =
       record {
-        reads = record { bytes = []; tokens = []; consumed = Consumes-nil left; have_read = begins; gains = gains_none p [] before };
+        reads = record { bytes = []; tokens = []; consumed = Consumes-nil left; have_read = begins; gains = gains_none };
         games = refl;
       }
   so_far (games_joined.one_more taken game old new source sink calls reads e) =
@@ -65,9 +61,9 @@ module _ (p : Profile) (left before : Option (List ℕ)) (first : Games) (begins
           tokens = next.tokens;
           consumed = Consumes-trans left source.before source.after so.reads.bytes next.more so.reads.consumed next.consumed;
           have_read = next.have_read;
-          gains = gains_more p [] so.reads.tokens next.tokens before sink.before sink.after so.reads.gains next.gains;
+          gains = gains_more so.reads.gains next.gains;
         };
-        games = taken_more p left source.before source.after before sink.before sink.after taken game old new so next e;
+        games = taken_more game so next e;
       }
 
 pub games_join : GamesJoin
@@ -78,11 +74,11 @@ games_join p left before first old new taken (Ok true) source sink begins calls 
       bytes = so.reads.bytes ++ next.more;
       consumed = Consumes-trans left source.before source.after so.reads.bytes next.more so.reads.consumed next.consumed;
       tokens = next.tokens;
-      of_text = first_of_text p left source.after (so.reads.bytes ++ next.more) new next.tokens
+      of_text = first_of_text left
           (Consumes-trans left source.before source.after so.reads.bytes next.more so.reads.consumed next.consumed) next.have_read;
-      games = taken_more p left source.before source.after before sink.before sink.after taken game old new so next e;
+      games = taken_more game so next e;
       written = subst (Appends before sink.after) next.whole
-          (appended p next.tokens before sink.after (gains_more p [] so.reads.tokens next.tokens before sink.before sink.after so.reads.gains next.gains));
+          (appended (gains_more so.reads.gains next.gains));
     }
 games_join p left before first old new taken (Ok false) source sink begins calls reads =
     let so = so_far p left before first begins calls in
@@ -97,10 +93,10 @@ games_join p left before first old new taken (Ok false) source sink begins calls
       counts = verdict_passes (read p (tokens_of text)) end.have_read_all.has_read.passes
           ∙ ap (λ n. totals (record { games = n; plies = sum (map plies_of games) })) (sym (length-map games finished_game_of) ∙ ap length (sym same))
           ∙ ap (λ l. totals (record { games = length taken; plies = sum l })) (sym (plies_taken games) ∙ ap (map (λ (game : FinishedGame). game.plies)) (sym same));
-      written = appended p (tokens_of text) before sink.after
-          (gains_more p [] so.reads.tokens (tokens_of text) before sink.before sink.after so.reads.gains end.gains);
+      written = appended
+          (gains_more so.reads.gains end.gains);
     })
 games_join p left before first old new taken (Err f) source sink begins calls reads =
     let so = so_far p left before first begins calls in
-    games_stop p left source.before source.after old before sink.before sink.after so.reads new.converter.reading.most_probes f
+    games_stop p left source.before source.after old before sink.before sink.after so.reads
     (reads p so.reads.bytes so.reads.tokens so.reads.have_read)

@@ -1,11 +1,7 @@
 -- A text that is converted from the end of a game on.
-use Rattle.std.proofs.lemmas.List.Sums.{sum-map, sum_by-append}
 use Rattle.pgn_lexer.specs.Tokens as tokens
 use Rattle.pgn_lexer.specs.WhiteSpace.{white_space}
-use Rattle.pgn_lexer.specs.Laws.{TextsRestart, CanBeMarker}
-use Rattle.pgn_game.proofs.Words.{Kind, Token, Fault, Profile, Game, Part, no_part, ◌≡◌, ℕ, ◌+◌, false, List, [], ◌∷◌, ◌++◌, length, Option, None, Some, refl, sym, ap, ◌∙◌, append_assoc, append-nil, length-append, arith, map, sum, tokens_of, plies_of, marker_of, games_read, counting_also, GamesRestart}
-use Rattle.pgn_game.specs.Text.{game_text, text_of, torn}
-use Rattle.pgn_game.specs.Progress.{Next, going, whole, next, Progress, progress_with, progress_after, no_progress, Read, read_from, read, written, verdict_of, totals}
+use Rattle.pgn_game.proofs.Words.{Kind, Token, Fault, Profile, Game, Part, no_part, ◌≡◌, ℕ, ◌+◌, false, List, [], ◌∷◌, ◌++◌, length, Option, None, Some, refl, sym, ap, ◌∙◌, append_assoc, append-nil, length-append, arith, map, sum, tokens_of, plies_of, marker_of, games_read, counting_also, GamesRestart, sum-map, sum_by-append, TextsRestart, CanBeMarker, game_text, text_of_games as text_of, torn, Next, going, whole, next, Progress, progress_with, progress_after, no_progress, Read, read_from, read, written_so_far as written, verdict_of, totals}
 use Rattle.pgn_game.proofs.tokens.OneMoreToken.{by_token, goes_on, read_from-test, after_test}
 use Rattle.pgn_game.proofs.tokens.GamesInTurn.{none_behind}
 use Rattle.pgn_game.proofs.tokens.MarkerEndsGame.{games_end_by_marker}
@@ -21,7 +17,7 @@ reads_with_front games r = record { progress = with_front games r.progress; faul
 
 front_of_next : (games : List Game) (b : List Game) (nx : Next) → progress_with (games ++ b) nx ≡ with_front games (progress_with b nx)
 front_of_next games b (going part) = refl
-front_of_next games b (whole g) = ap (λ l. record { games = l; part = no_part }) (append_assoc games b (g ∷ []))
+front_of_next games b (whole g) = rw (append_assoc games b (g ∷ []))
 
 front_stays : (p : Profile) (games : List Game) (b : Progress) (ts : List Token)
     → read_from p (with_front games b) ts ≡ reads_with_front games (read_from p b ts)
@@ -34,11 +30,11 @@ front_stays p games b (t ∷ ts) =
 text_of-append : (p : Profile) (games more : List Game) → text_of p (games ++ more) ≡ text_of p games ++ text_of p more
 text_of-append p [] more = refl
 text_of-append p (g ∷ games) more =
-    ap (λ l. game_text p g ++ l) (text_of-append p games more) ∙ sym (append_assoc (game_text p g) (text_of p games) (text_of p more))
+    rw (text_of-append p games more) (sym (append_assoc (game_text p g) (text_of p games) (text_of p more)))
 
 written_with_front : (p : Profile) (games : List Game) (b : Progress) → written p (with_front games b) ≡ text_of p games ++ written p b
 written_with_front p games b =
-    ap (λ l. l ++ torn p b.part) (text_of-append p games b.games) ∙ append_assoc (text_of p games) (text_of p b.games) (torn p b.part)
+    rw (text_of-append p games b.games) (append_assoc (text_of p games) (text_of p b.games) (torn p b.part))
 
 plies_of_both : (xs ys : List Game) → sum (map plies_of (xs ++ ys)) ≡ sum (map plies_of xs) + sum (map plies_of ys)
 plies_of_both xs ys =
@@ -50,9 +46,8 @@ verdict_with_front games r = by_fault r.fault
     by_fault : (o : Option Fault) → verdict_of (record { progress = with_front games r.progress; fault = o }) ≡ counting_also games (verdict_of (record { progress = r.progress; fault = o }))
     by_fault (Some f) = refl
     by_fault None =
-        ap (λ n. totals (record { games = n; plies = sum (map plies_of (games ++ r.progress.games)) })) (length-append games r.progress.games)
-        ∙ ap (λ n. totals (record { games = length games + length r.progress.games; plies = n }))
-        (plies_of_both games r.progress.games)
+        rw (length-append games r.progress.games) (ap (λ n. totals (record { games = length games + length r.progress.games; plies = n }))
+        (plies_of_both games r.progress.games))
 
 -- ---- A marker
 
@@ -79,6 +74,6 @@ games_restart restart p u s given rest marker cut ends finishes =
     ∙ ap (λ (us : List Token). reads_with_front gs (read p us)) same in
     record {
       same_games = ap (λ (r : Read). r.progress.games) joined;
-      same_output = ap (λ (r : Read). written p r.progress) joined ∙ written_with_front p gs (read p (tokens_of later)).progress;
+      same_output = rw joined (written_with_front p gs (read p (tokens_of later)).progress);
       same_verdict = ap verdict_of joined ∙ verdict_with_front gs (read p (tokens_of later));
     }

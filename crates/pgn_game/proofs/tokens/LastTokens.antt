@@ -1,23 +1,15 @@
 -- The tokens that a lexer has left at the end of the input: they finish at most one game, and if
 -- they pass, they leave none begun.
-use Rattle.std.specs.Prelude.{if◌then◌else◌}
 use Rattle.pgn_lexer.specs.declared.partial_token.Mode.{Mode}
 use Rattle.pgn_lexer.specs.declared.partial_token.Mode.TheVariants as modes
 use Rattle.pgn_lexer.specs.declared.partial_token.SuffixRun.{SuffixRun}
 use Rattle.pgn_lexer.specs.declared.partial_token.SuffixRun.TheVariants as suffix_runs
-use Rattle.pgn_lexer.specs.declared.token.LexReason.{LexReason}
-use Rattle.pgn_lexer.specs.declared.token.LexReason.TheVariants.{SymbolTooLong, WordTooLong, GlyphRange}
-use Rattle.pgn_lexer.specs.Spelling.{gives, stops}
 use Rattle.pgn_lexer.specs.Tokens as tokens
-use Rattle.pgn_lexer.specs.TokensOf.{onto}
-use Rattle.pgn_lexer.specs.PartialToken.{tokens_to_come_in}
-use Rattle.pgn_game.proofs.Words.{Kind, Token, Reason, Profile, Missing, counts_as, takes_the_marker, Stage, Between, AfterLeftBracket, AfterName, AfterValue, AfterTags, InMovetext, Pair, Item, Game, Part, no_part, ◌≡◌, ℕ, ◌<◌, Bool, true, false, List, [], ◌∷◌, ◌++◌, length, nat_le, length-append, Option, None, Some, refl, sym, ap, subst, ◌∙◌, append-nil, arith, inl, inr, ◌⊎◌, IsLast, Standing, coming, refusal}
-use Rattle.pgn_game.specs.Text.{text_of, torn, torn_for}
-use Rattle.pgn_game.specs.Progress.{Progress, Next, Read, progress_after, progress_with, going, next, next_in, read_from, whole, written}
+use Rattle.pgn_game.proofs.Words.{Kind, Token, Reason, Profile, Missing, counts_as, takes_the_marker, Stage, Between, AfterLeftBracket, AfterName, AfterValue, AfterTags, InMovetext, Pair, Item, Game, Part, no_part, ◌≡◌, ℕ, ◌<◌, Bool, true, false, List, [], ◌∷◌, ◌++◌, length, nat_le, length-append, Option, None, Some, refl, sym, ap, subst, ◌∙◌, append-nil, arith, inl, inr, ◌⊎◌, IsLast, Standing, coming, refusal, if◌then◌else◌, LexReason, SymbolTooLong, WordTooLong, GlyphRange, gives, stops, onto, tokens_to_come_in, text_of_games as text_of, torn, Progress, Next, Read, progress_after, progress_with, going, next, next_in, read_from, whole, written_so_far as written}
 use Rattle.pgn_game.proofs.tokens.OneMoreToken.{after_test, by_token, first_passes, goes_on, read_from-test}
 
-reads_on : (p : Profile) (b : Progress) (t : Token) (ts : List Token) (o : Option Reason) → refusal p b.part t.kind ≡ o → read_from p b (t ∷ ts) ≡ after_test p b t ts o
-reads_on p b t ts o is = read_from-test p b t ts ∙ ap (after_test p b t ts) is
+reads_on : (p : Profile) (b : Progress) (t : Token) (ts : List Token) {o : Option Reason} → refusal p b.part t.kind ≡ o → read_from p b (t ∷ ts) ≡ after_test p b t ts o
+reads_on p b t ts is = read_from-test p b t ts ∙ ap (after_test p b t ts) is
 
 -- ---- tokens that finish no game
 
@@ -27,18 +19,18 @@ pub data IsQuiet : Kind → Type 0 where
   close : IsQuiet tokens.comment_close
   refused : (r : LexReason) → IsQuiet (tokens.refused r)
 
-quiet_in : (gs : List Game) (part : Part) (s : Stage) (k : Kind) → IsQuiet k → (progress_with gs (next_in s part k)).games ≡ gs
-quiet_in gs part s _ end =
+quiet_in : (gs : List Game) (part : Part) (s : Stage) {k : Kind} → IsQuiet k → (progress_with gs (next_in s part k)).games ≡ gs
+quiet_in gs part s end =
     elim s as (λ w. (progress_with gs (next_in w part tokens.end)).games ≡ gs) [ Between ↦ refl | AfterLeftBracket ↦ refl | AfterName ↦ refl | AfterValue ↦ refl | AfterTags ↦ refl | InMovetext ↦ refl ]
-quiet_in gs part s _ (word text) =
+quiet_in gs part s (word text) =
     elim s as (λ w. (progress_with gs (next_in w part (tokens.word text))).games ≡ gs) [ Between ↦ refl | AfterLeftBracket ↦ refl | AfterName ↦ refl | AfterValue ↦ refl | AfterTags ↦ refl | InMovetext ↦ refl ]
-quiet_in gs part s _ close =
+quiet_in gs part s close =
     elim s as (λ w. (progress_with gs (next_in w part tokens.comment_close)).games ≡ gs) [ Between ↦ refl | AfterLeftBracket ↦ refl | AfterName ↦ refl | AfterValue ↦ refl | AfterTags ↦ refl | InMovetext ↦ refl ]
-quiet_in gs part s _ (refused r) =
+quiet_in gs part s (refused r) =
     elim s as (λ w. (progress_with gs (next_in w part (tokens.refused r))).games ≡ gs) [ Between ↦ refl | AfterLeftBracket ↦ refl | AfterName ↦ refl | AfterValue ↦ refl | AfterTags ↦ refl | InMovetext ↦ refl ]
 
-quiet_next : (b : Progress) (k : Kind) → IsQuiet k → (progress_with b.games (next b.part k)).games ≡ b.games
-quiet_next b k quiet = quiet_in b.games b.part b.part.stage k quiet
+quiet_next : (b : Progress) {k : Kind} → IsQuiet k → (progress_with b.games (next b.part k)).games ≡ b.games
+quiet_next b quiet = quiet_in b.games b.part b.part.stage quiet
 
 abbrev pub AreQuiet : List Token → Type 0
 AreQuiet [] = Unit {0}
@@ -47,7 +39,7 @@ AreQuiet (t ∷ ts) = IsQuiet t.kind × AreQuiet ts
 pub quiet_games : (p : Profile) (b : Progress) (ts : List Token) → AreQuiet ts → (read_from p b ts).progress.games ≡ b.games
 quiet_games p b [] quiet = refl
 quiet_games p b (t ∷ ts) (here, rest) =
-    by_token p b t ts (λ r. r.progress.games ≡ b.games) (λ reason is. refl) (λ is. quiet_games p (progress_after b t) ts rest ∙ quiet_next b t.kind here)
+    by_token p b t ts (λ r. r.progress.games ≡ b.games) (λ reason is. refl) (λ is. quiet_games p (progress_after b t) ts rest ∙ quiet_next b here)
 
 quiet_front : (xs ys : List Token) → AreQuiet (xs ++ ys) → AreQuiet xs
 quiet_front [] ys q = tt
@@ -75,9 +67,9 @@ end_passes p = refl
 abbrev pub AddsOne : List Game → Read → Type 0
 AddsOne gs r = (r.progress.games ≡ gs) ⊎ ((r.fault ≡ None) × ((g : Game) × (r.progress.games ≡ gs ++ g ∷ [])))
 
-last_games : (p : Profile) (b : Progress) (ts : List Token) → AreLast ts → AddsOne b.games (read_from p b ts)
-last_games p b _ (quiet ts q has) = inl (quiet_games p b ts q)
-last_games p b _ (one t at) = by_token p b t (last ∷ []) (AddsOne b.games) (λ reason is. inl refl) (λ is. by_next (next b.part t.kind))
+last_games : (p : Profile) (b : Progress) {ts : List Token} → AreLast ts → AddsOne b.games (read_from p b ts)
+last_games p b (quiet ts q has) = inl (quiet_games p b ts q)
+last_games p b (one t at) = by_token p b t (last ∷ []) (AddsOne b.games) (λ reason is. inl refl) (λ is. by_next (next b.part t.kind))
   where
     last : Token
     last = record { at = at; kind = tokens.end }
@@ -85,7 +77,7 @@ last_games p b _ (one t at) = by_token p b t (last ∷ []) (AddsOne b.games) (λ
     by_next : (nx : Next) → AddsOne b.games (read_from p (progress_with b.games nx) (last ∷ []))
     by_next (going part) = inl (quiet_games p (progress_with b.games (going part)) (last ∷ []) (end, tt))
     by_next (whole g) =
-        let here = reads_on p (progress_with b.games (whole g)) last [] None (end_passes p) in
+        let here = reads_on p (progress_with b.games (whole g)) last [] (end_passes p) in
         inr (ap (λ (r : Read). r.fault) here, (g, ap (λ (r : Read). r.progress.games) here))
 
 -- ---- the end
@@ -95,8 +87,8 @@ some-none e = cc
 
 torn_between : (missing : Missing) (p : Profile) (ps : List Pair) (name : List ℕ) (items : List Item) → p.missing_result ≡ missing
     → torn p (record { stage = Between; pairs = ps; name = name; items = items }) ≡ []
-torn_between (counts_as text) p ps name items is = ap (λ m. torn_for m p.mode (record { stage = Between; pairs = ps; name = name; items = items })) is
-torn_between takes_the_marker p ps name items is = ap (λ m. torn_for m p.mode (record { stage = Between; pairs = ps; name = name; items = items })) is
+torn_between (counts_as text) p ps name items is = rw is
+torn_between takes_the_marker p ps name items is = rw is
 
 -- the end is accepted only where no game is begun
 end_torn : (p : Profile) (gs : List Game) (stage : Stage) (ps : List Pair) (name : List ℕ) (items : List Item)
@@ -117,11 +109,10 @@ pub none_torn : (p : Profile) (b : Progress) (ts : List Token) → HasLast ts �
 none_torn p b [] has passes = absurd has
 none_torn p b (t ∷ []) has passes =
     let free = first_passes p b t [] passes in
-    ap (λ (r : Read). torn p r.progress.part) (goes_on p b t [] free) ∙ last_torn p b t.at t.kind has free
+    rw (goes_on p b t [] free) (last_torn p b t.at t.kind has free)
 none_torn p b (t ∷ u ∷ ts) has passes =
     let here = goes_on p b t (u ∷ ts) (first_passes p b t (u ∷ ts) passes) in
-    ap (λ (r : Read). torn p r.progress.part) here
-    ∙ none_torn p (progress_after b t) (u ∷ ts) has (ap (λ (r : Read). r.fault) (sym here) ∙ passes)
+    rw here (none_torn p (progress_after b t) (u ∷ ts) has (rw here at passes))
 
 -- ---- what a lexer has left
 
@@ -137,66 +128,66 @@ pub data IsLeft (mode : Mode) (place at : ℕ) (text : List ℕ) : List Token �
   glyph : (n : ℕ) → IsLeft mode place at text (token_at at (tokens.glyph n) ∷ end_at place ∷ [])
   symbol : mode ≡ modes.Symbol → IsLeft mode place at text (token_at at (tokens.symbol (text ++ [])) ∷ end_at place ∷ [])
 
-symbol_left : (place at : ℕ) (text : List ℕ) (fits : Bool)
+symbol_left : {place at : ℕ} {text : List ℕ} (fits : Bool)
     → IsLeft modes.Symbol place at text (onto at (if fits then gives (tokens.symbol (text ++ [])) else stops at SymbolTooLong) (end_at place ∷ []))
-symbol_left place at text true = symbol refl
-symbol_left place at text false = none _ (refused SymbolTooLong, tt) tt
+symbol_left true = symbol refl
+symbol_left false = none _ (refused SymbolTooLong, tt) tt
 
-glyph_left : (mode : Mode) (place at n : ℕ) (text : List ℕ) (fits : Bool)
+glyph_left : {mode : Mode} {place at : ℕ} (n : ℕ) {text : List ℕ} (fits : Bool)
     → IsLeft mode place at text (onto at (if fits then gives (tokens.glyph n) else stops at GlyphRange) (end_at place ∷ []))
-glyph_left mode place at n text true = glyph n
-glyph_left mode place at n text false = none _ (refused GlyphRange, tt) tt
+glyph_left n true = glyph n
+glyph_left n false = none _ (refused GlyphRange, tt) tt
 
-suffix_left : (run : SuffixRun) (place at : ℕ) (text : List ℕ) → IsLeft (modes.Suffix run) place at text (tokens_to_come_in (modes.Suffix run) place at text [])
-suffix_left suffix_runs.Good place at text = glyph _
-suffix_left suffix_runs.Poor place at text = glyph _
-suffix_left suffix_runs.VeryGood place at text = glyph _
-suffix_left suffix_runs.VeryPoor place at text = glyph _
-suffix_left suffix_runs.Speculative place at text = glyph _
-suffix_left suffix_runs.Questionable place at text = glyph _
+suffix_left : (run : SuffixRun) {place at : ℕ} {text : List ℕ} → IsLeft (modes.Suffix run) place at text (tokens_to_come_in (modes.Suffix run) place at text [])
+suffix_left suffix_runs.Good = glyph _
+suffix_left suffix_runs.Poor = glyph _
+suffix_left suffix_runs.VeryGood = glyph _
+suffix_left suffix_runs.VeryPoor = glyph _
+suffix_left suffix_runs.Speculative = glyph _
+suffix_left suffix_runs.Questionable = glyph _
 
-word_left : (mode : Mode) (place at : ℕ) (text run : List ℕ) (fits : Bool) (t : Token) (ts : List Token) → AreQuiet (t ∷ ts) → HasLast (t ∷ ts)
+word_left : {mode : Mode} {place at : ℕ} {text : List ℕ} (run : List ℕ) (fits : Bool) (t : Token) (ts : List Token) → AreQuiet (t ∷ ts) → HasLast (t ∷ ts)
     → IsLeft mode place at text (onto at (if fits then gives (tokens.word run) else stops at WordTooLong) (t ∷ ts))
-word_left mode place at text run true t ts q has = none _ (word run, q) has
-word_left mode place at text run false t ts q has = none _ (refused WordTooLong, tt) tt
+word_left run true t ts q has = none _ (word run, q) has
+word_left run false t ts q has = none _ (refused WordTooLong, tt) tt
 
-pub left_in : (mode : Mode) (place at : ℕ) (text : List ℕ) → IsLeft mode place at text (tokens_to_come_in mode place at text [])
-left_in modes.Start place at text = none _ (end, tt) tt
-left_in modes.AfterEf place at text = none _ (refused _, tt) tt
-left_in modes.AfterEfBb place at text = none _ (refused _, tt) tt
-left_in modes.LineStart place at text = none _ (end, tt) tt
-left_in modes.Outside place at text = none _ (end, tt) tt
-left_in modes.EscapeLine place at text = none _ (end, tt) tt
-left_in modes.Symbol place at text = symbol_left place at text (nat_le (length (text ++ [])) 255)
-left_in modes.Str place at text = none _ (refused _, tt) tt
-left_in modes.AfterBackslash place at text = none _ (refused _, tt) tt
-left_in modes.Dollar place at text = none _ (refused _, tt) tt
-left_in (modes.Glyph n) place at text = glyph_left _ place at _ text _
-left_in (modes.Suffix run) place at text = suffix_left run place at text
-left_in modes.Brace place at text = none _ (refused _, tt) tt
-left_in modes.BraceWord place at text = word_left _ place at text _ _ _ _ (refused _, tt) tt
-left_in modes.Line place at text = none _ (close, (end, tt)) tt
-left_in modes.LineWord place at text = word_left _ place at text _ _ _ _ (close, (end, tt)) tt
-left_in (modes.Failed f) place at text = none _ (refused _, tt) tt
+pub left_in : (mode : Mode) {place at : ℕ} {text : List ℕ} → IsLeft mode place at text (tokens_to_come_in mode place at text [])
+left_in modes.Start = none _ (end, tt) tt
+left_in modes.AfterEf = none _ (refused _, tt) tt
+left_in modes.AfterEfBb = none _ (refused _, tt) tt
+left_in modes.LineStart = none _ (end, tt) tt
+left_in modes.Outside = none _ (end, tt) tt
+left_in modes.EscapeLine = none _ (end, tt) tt
+left_in modes.Symbol {text} = symbol_left (nat_le (length (text ++ [])) 255)
+left_in modes.Str = none _ (refused _, tt) tt
+left_in modes.AfterBackslash = none _ (refused _, tt) tt
+left_in modes.Dollar = none _ (refused _, tt) tt
+left_in (modes.Glyph n) = glyph_left _ _
+left_in (modes.Suffix run) = suffix_left run
+left_in modes.Brace = none _ (refused _, tt) tt
+left_in modes.BraceWord = word_left _ _ _ _ (refused _, tt) tt
+left_in modes.Line = none _ (close, (end, tt)) tt
+left_in modes.LineWord = word_left _ _ _ _ (close, (end, tt)) tt
+left_in (modes.Failed f) = none _ (refused _, tt) tt
 
-left_last : (mode : Mode) (place at : ℕ) (text : List ℕ) (ts : List Token) → IsLeft mode place at text ts → AreLast ts
-left_last mode place at text _ (none ts q has) = quiet ts q has
-left_last mode place at text _ (glyph n) = one _ place
-left_last mode place at text _ (symbol is) = one _ place
+left_last : {mode : Mode} {place at : ℕ} {text : List ℕ} {ts : List Token} → IsLeft mode place at text ts → AreLast ts
+left_last (none ts q has) = quiet ts q has
+left_last {place} (glyph n) = one _ place
+left_last {place} (symbol is) = one _ place
 
 left : (l : Standing) → AreLast (coming l [])
-left l = left_last l.held.mode l.count l.held.at l.held.text _ (left_in l.held.mode l.count l.held.at l.held.text)
+left l = left_last (left_in l.held.mode)
 
 -- with them at most one game is read
 pub left_games : (p : Profile) (b : Progress) (l : Standing) → AddsOne b.games (read_from p b (coming l []))
-left_games p b l = last_games p b (coming l []) (left l)
+left_games p b l = last_games p b (left l)
 
 -- if they pass, all that is due is the text of games
 pub left_none_begun : (p : Profile) (b : Progress) (l : Standing) → (read_from p b (coming l [])).fault ≡ None
     → written p (read_from p b (coming l [])).progress ≡ text_of p (read_from p b (coming l [])).progress.games
 left_none_begun p b l passes =
     let after = (read_from p b (coming l [])).progress in
-    ap (λ text. text_of p after.games ++ text) (none_torn p b (coming l []) (has_last (left l)) passes) ∙ append-nil (text_of p after.games)
+    rw (none_torn p b (coming l []) (has_last (left l)) passes) (append-nil (text_of p after.games))
   where
     has_last : {ts : List Token} → AreLast ts → HasLast ts
     has_last (quiet ts q has) = has
@@ -230,12 +221,10 @@ none_finished_before p b l front token rest cut passes more = by_last front (com
     by_last (m ∷ []) _ (one t at) cut passes more =
         let free = first_passes p b m (token ∷ []) passes in
         let here = goes_on p b m (token ∷ []) free in
-        let there = goes_on p (progress_after b m) token [] (first_passes p (progress_after b m) token [] (ap (λ (r : Read). r.fault) (sym here) ∙ passes)) in
+        let there = goes_on p (progress_after b m) token [] (first_passes p (progress_after b m) token [] (rw here at passes)) in
         let before = goes_on p b m [] free in
         let is : token ≡ record { at = at; kind = tokens.end } = cc in
-        ap (λ (r : Read). r.progress.games) before
-        ∙ by_next m token (next b.part m.kind) (ap (λ (t : Token). t.kind) is) refl
-        (subst (λ (r : Read). length (written p (progress_after b m)) < length (written p r.progress)) (here ∙ there)
-        (subst (λ (r : Read). length (written p r.progress) < length (written p (read_from p b (m ∷ token ∷ [])).progress)) before more))
+        rw before (by_next m token (next b.part m.kind) (ap (λ (t : Token). t.kind) is) refl
+        (rw (here ∙ there) at (rw before at more)))
     by_last (m ∷ n ∷ mid) _ (one t at) cut passes more =
         absurd (omega (arith, ap (length {A = Token}) cut, length-append mid (token ∷ rest)))

@@ -1,7 +1,6 @@
 -- The token that finishes a game is its marker, which is the Result of its tag section.
 use Rattle.pgn_lexer.specs.Tokens as tokens
-use Rattle.pgn_game.proofs.Words.{Kind, Token, Reason, MarkerInVariation, ResultDiffers, SetUpWithoutFen, Stage, Between, AfterLeftBracket, AfterName, AfterValue, AfterTags, InMovetext, Profile, value_of, Game, Part, ◌≡◌, ℕ, false, ◌&&◌, not, nat_le, List, [], ◌∷◌, ◌++◌, Option, None, Some, refl, sym, ap, subst, ◌∙◌, ◌==◌, bytes_eq, codes, unwrap_or, IsTrue, IsFalse, not-false, bytes_eq-Decides, refusal, marker_of, is_comment, levels_of_part, lacks_fen, result_for, depth, text_refusal, Next, going, whole, next, next_in, in_text, items_of, at_stage, Progress, progress_with, Read, read, games_read, FinishesGame}
-use Rattle.pgn_game.specs.GameEnds.{EndsByMarker, GamesEndByMarker}
+use Rattle.pgn_game.proofs.Words.{Kind, Token, Reason, MarkerInVariation, ResultDiffers, SetUpWithoutFen, Stage, Between, AfterLeftBracket, AfterName, AfterValue, AfterTags, InMovetext, Profile, value_of, Game, Part, ◌≡◌, ℕ, false, ◌&&◌, not, nat_le, List, [], ◌∷◌, ◌++◌, Option, None, Some, refl, sym, ap, subst, ◌∙◌, ◌==◌, bytes_eq, codes, unwrap_or, IsTrue, IsFalse, not-false, bytes_eq-Decides, refusal, marker_of, is_comment, levels_of_part, lacks_fen, result_for, depth, text_refusal, Next, going, whole, next, next_in, in_text, items_of, at_stage, Progress, progress_with, Read, read, games_read, FinishesGame, EndsByMarker, GamesEndByMarker}
 use Rattle.pgn_game.proofs.exporting.PairsExportedAgain.{result_of}
 use Rattle.pgn_game.proofs.pairs.ExportedValues.{exported_known}
 use Rattle.pgn_game.proofs.refusals.RefusalsByStage.{is_textual, is_lexical, after_tags, between, rest_passed, test_failed, text_row}
@@ -80,19 +79,19 @@ passes_in_text p AfterLeftBracket part k g is free leads = absurd (none_in_name 
 passes_in_text p AfterName part k g is free leads = absurd (none_in_value part k g leads)
 passes_in_text p AfterValue part k g is free leads = absurd (none_behind_value part k g leads)
 passes_in_text p AfterTags part k g is free leads =
-    sym (text_row p part k is.sound) ∙ rest_passed (lacks_fen part.pairs) SetUpWithoutFen _ (sym (after_tags p part k is.textual) ∙ free)
+    sym (text_row p part k is.sound) ∙ rest_passed (lacks_fen part.pairs) SetUpWithoutFen (sym (after_tags p part k is.textual) ∙ free)
 passes_in_text p InMovetext part k g is free leads = sym (text_row p part k is.sound) ∙ free
 
 same_result : (p : Profile) (part : Part) (k : Kind) (marker : List ℕ) → marker_of k ≡ Some marker → text_refusal p part k ≡ None
     → marker ≡ unwrap_or (value_of part.pairs (codes "Result")) (result_for p.missing_result marker)
 same_result p part k marker is free =
-    let rows = sym (marker_refusal p part k marker is) ∙ free in
+    let rows = sym (marker_refusal p part k is) ∙ free in
     let value = unwrap_or (value_of part.pairs (codes "Result")) (result_for p.missing_result marker) in
     let deep = depth (levels_of_part part) in
     let same : not (bytes_eq marker value) ≡ false =
     same_at_zero (not (bytes_eq marker value)) deep (test_failed (nat_le 1 deep) MarkerInVariation _ rows)
     (test_failed (other_if p.missing_result part.pairs (Some marker) && (deep == 0)) ResultDiffers None
-    (rest_passed (nat_le 1 deep) MarkerInVariation _ rows)) in
+    (rest_passed (nat_le 1 deep) MarkerInVariation rows)) in
     (bytes_eq-Decides marker value).0 (not-false (bytes_eq marker value) same)
 
 -- ---- A game that was read
@@ -108,13 +107,13 @@ module _ (p : Profile) (given : List Token) (marker : Token) (finishes : Finishe
       → EndsByMarker p given marker finishes.game
   of_game g free leads same =
       let led : Leads marker.kind part (whole g) = subst (Leads marker.kind part) leads (leads_in part.stage part marker.kind) in
-      let kind : marker_of marker.kind ≡ Some finishes.game.marker = led.0 ∙ ap (λ (h : Game). Some h.marker) same in
+      let kind : marker_of marker.kind ≡ Some finishes.game.marker = rw same at led.0 in
       let text_free = passes_in_text p part.stage part marker.kind g (plain marker.kind g.marker led.0) free leads in
       let result = same_result p part marker.kind finishes.game.marker kind text_free in
       let known = result_for p.missing_result finishes.game.marker in
       record {
         is_marker = kind;
-        result = exported_known p.mode known finishes.game.pairs (codes "Result") known (result_of known)
+        result = exported_known p.mode known finishes.game.pairs (codes "Result") (result_of known)
             ∙ ap (λ ps. Some (unwrap_or (value_of ps (codes "Result")) known)) (ap (λ (h : Game). h.pairs) (sym same) ∙ led.1)
             ∙ ap Some (sym result);
         whole = due_between p (read p (given ++ marker ∷ [])).progress (none_behind p given marker finishes.game finishes.passes finishes.one_more);
@@ -123,14 +122,14 @@ module _ (p : Profile) (given : List Token) (marker : Token) (finishes : Finishe
   by_next : (nx : Next) → refusal p part marker.kind ≡ None → next part marker.kind ≡ nx
       → (read p (given ++ marker ∷ [])).progress ≡ progress_with (games_read p given) nx → EndsByMarker p given marker finishes.game
   by_next (going to) free leads after =
-      absurd (not_one_more (games_read p given) finishes.game (sym (ap (λ (b : Progress). b.games) after) ∙ finishes.one_more))
+      absurd (not_one_more finishes.game (sym (ap (λ (b : Progress). b.games) after) ∙ finishes.one_more))
   by_next (whole g) free leads after =
       of_game g free leads
-      (last_is (games_read p given) (games_read p given) g finishes.game (sym (ap (λ (b : Progress). b.games) after) ∙ finishes.one_more))
+      (last_is (games_read p given) (games_read p given) (sym (ap (λ (b : Progress). b.games) after) ∙ finishes.one_more))
 
   by_test : (o : Option Reason) → refusal p part marker.kind ≡ o → EndsByMarker p given marker finishes.game
   by_test (Some reason) is =
-      absurd (none_or_some _ _ (ap (λ (r : Read). r.fault) (read-refuses p given marker [] reason before is)) finishes.passes)
+      absurd (none_or_some _ (ap (λ (r : Read). r.fault) (read-refuses p given marker [] reason before is)) finishes.passes)
   by_test None is =
       by_next (next part marker.kind) is refl (ap (λ (r : Read). r.progress) (read-passes p given marker before is))
 

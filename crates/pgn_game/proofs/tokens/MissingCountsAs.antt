@@ -1,6 +1,5 @@
 -- A converter that has read no token, where a missing Result counts as another marker from now on.
-use Rattle.pgn_game.proofs.Words.{Fault, Profile, ◌≡◌, Bool, true, false, [], ℕ, Option, refl, ap, Standing, Marker, no_part, marker_text, counting, ReaderState, Converter, CountsMissingAs, IsSound, counting_missing_as, game_in_reader_if}
-use Rattle.pgn_game.specs.MostTried.{MostTried, none}
+use Rattle.pgn_game.proofs.Words.{Fault, Profile, ◌≡◌, Bool, true, false, [], ℕ, Option, refl, Standing, Marker, no_part, marker_text, counting, ReaderState, Converter, CountsMissingAs, IsSound, counting_missing_as, game_in_reader_if, MostTried, none}
 use Rattle.pgn_game.proofs.twice.MarkerCounts.{agrees_under}
 
 -- the reader by the other profile
@@ -13,8 +12,8 @@ finished_alike true marker r = refl
 finished_alike false marker r = refl
 
 -- for no token no pair is tried
-none_tried : (p q : Profile) (n : ℕ) → MostTried p [] n → MostTried q [] n
-none_tried p q n (none b) = none b
+none_tried : {p q : Profile} {n : ℕ} → MostTried p [] n → MostTried q [] n
+none_tried (none b) = none b
 
 pub stands_counting : (marker : Marker) (c : Converter) → CountsMissingAs marker c (counting_missing_as marker c)
 stands_counting marker c p u b stands =
@@ -23,14 +22,14 @@ stands_counting marker c p u b stands =
     record {
       lexer = stands.lexer;
       has_read = record {
-        profile = ap (λ (q : Profile). counting q (marker_text marker)) h.profile;
+        profile = rw h.profile;
         no_fault = h.no_fault;
         passes = refl;
         agrees = agrees_under (counting c.reading.profile (marker_text marker)) c.reading no_part refl h.agrees;
         games = h.games;
         plies = h.plies;
         probed = h.probed;
-        tried = none_tried p q c.reading.most_probes h.tried;
+        tried = none_tried h.tried;
         just_finished = h.just_finished;
       };
     }

@@ -1,7 +1,6 @@
 -- A token takes nothing back: what stands written of a game begins what stands written of it a
 -- token later.
-use Rattle.pgn_layout.specs.Lines.{lines_of, text_of as text_of_lines}
-use Rattle.pgn_game.proofs.Words.{Kind, Mode, Stage, InMovetext, Profile, Missing, counts_as, takes_the_marker, Pair, Item, Part, ◌≡◌, ℕ, List, [], ◌∷◌, ◌++◌, length, drop, None, Some, refl, sym, ap, subst, ◌∙◌, append_assoc, drop-append_seam, start_of, marker_of, tag_section, tokens_out, torn, going, whole, next, next_in, items_of, text_next, IsPrefix}
+use Rattle.pgn_game.proofs.Words.{Kind, Mode, Stage, InMovetext, Profile, Missing, counts_as, takes_the_marker, Pair, Item, Part, ◌≡◌, ℕ, List, [], ◌∷◌, ◌++◌, length, drop, None, Some, refl, sym, ap, subst, ◌∙◌, append_assoc, drop-append_seam, start_of, marker_of, tag_section, tokens_out, torn, going, whole, next, next_in, items_of, text_next, IsPrefix, lines_of, text_of as text_of_lines}
 use Rattle.pgn_game.proofs.putting.ItemsAppended.{full_text_grows, full_text_marker}
 
 -- a text in front of both
@@ -43,4 +42,4 @@ next_grows p part k = stage_grows p.tags p.depth p.mode part.pairs part.name par
 pub next_is : (p : Profile) (part : Part) (k : Kind) → text_next p (next part k) ≡ torn p part ++ drop (length (torn p part)) (text_next p (next part k))
 next_is p part k =
     let h = next_grows p part k in
-    h.1 ∙ ap (λ l. torn p part ++ l) (sym (ap (drop (length (torn p part))) h.1 ∙ drop-append_seam (torn p part) h.0))
+    rw (ap (drop (length (torn p part))) h.1 ∙ drop-append_seam (torn p part) h.0) h.1

@@ -1,7 +1,5 @@
 -- Behind the last piece no game is finished before a token that is rejected, or a write that fails.
-use Rattle.pgn_game.proofs.Words.{Token, Fault, Profile, ◌≡◌, ℕ, ◌+◌, ◌<◌, List, [], ◌∷◌, ◌++◌, length, Option, None, refl, sym, ap, subst, ◌∙◌, inl, inr, ◌⊎◌, append-nil, append_assoc, length-append, arith, tokens_of, Standing, coming, HasLeft}
-use Rattle.pgn_game.specs.Progress.{Progress, progress_after, no_progress, Read, read, read_from, written, due}
-use Rattle.pgn_game.specs.ConverterCalls.{Stops, refused, unwritten, StopsWriting, games_before}
+use Rattle.pgn_game.proofs.Words.{Token, Fault, Profile, ◌≡◌, ℕ, ◌+◌, ◌<◌, List, [], ◌∷◌, ◌++◌, length, Option, None, refl, sym, ap, subst, ◌∙◌, inl, inr, ◌⊎◌, append-nil, append_assoc, length-append, arith, tokens_of, Standing, coming, HasLeft, Progress, progress_after, no_progress, Read, read, read_from, due, Stops, refused_stop as refused, unwritten, StopsWriting, games_before}
 use Rattle.pgn_game.proofs.tokens.OneMoreToken.{first_passes, goes_on, due_grows}
 use Rattle.pgn_game.proofs.tokens.LastTokens.{AddsOne, left_games, none_finished_before}
 
@@ -21,10 +19,10 @@ abbrev Parted : List Token → List Token → List Token → List Token → Type
 Parted xs ys behind_xs behind_ys =
     ((mid : List Token) × (ys ≡ xs ++ mid) × (behind_xs ≡ mid ++ behind_ys)) ⊎ ((mid : List Token) × (xs ≡ ys ++ mid) × (behind_ys ≡ mid ++ behind_xs))
 
-parted : (xs ys behind_xs behind_ys : List Token) → xs ++ behind_xs ≡ ys ++ behind_ys → Parted xs ys behind_xs behind_ys
-parted [] ys behind_xs behind_ys e = inl (ys, refl, e)
-parted (x ∷ xs) [] behind_xs behind_ys e = inr (x ∷ xs, refl, sym e)
-parted (x ∷ xs) (y ∷ ys) behind_xs behind_ys e = further (parted xs ys behind_xs behind_ys (cc))
+parted : (xs ys : List Token) {behind_xs behind_ys : List Token} → xs ++ behind_xs ≡ ys ++ behind_ys → Parted xs ys behind_xs behind_ys
+parted [] ys e = inl (ys, refl, e)
+parted (x ∷ xs) [] e = inr (x ∷ xs, refl, sym e)
+parted (x ∷ xs) (y ∷ ys) {behind_xs} {behind_ys} e = further (parted xs ys (cc))
   where
     head_same : x ≡ y
     head_same = cc
@@ -45,21 +43,19 @@ module _ (p : Profile) (given : List Token) (l : Standing) (ts : List Token) (pa
       let start = (read p given).progress in
       let front : read p writing.front ≡ read_from p start mid = ap (read p) is ∙ reads_behind p no_progress given mid passes in
       let more : read p (writing.front ++ writing.token ∷ []) ≡ read_from p start (mid ++ writing.token ∷ []) =
-      ap (λ ts. read p (ts ++ writing.token ∷ [])) is ∙ ap (read p) (append_assoc given mid (writing.token ∷ []))
-      ∙ reads_behind p no_progress given (mid ++ writing.token ∷ []) passes in
+      rw is (ap (read p) (append_assoc given mid (writing.token ∷ []))
+      ∙ reads_behind p no_progress given (mid ++ writing.token ∷ []) passes) in
       let grows : length (due p writing.front) < length (due p (writing.front ++ writing.token ∷ [])) =
       omega (arith, longer, writing.least, writing.short) in
-      ap (λ (r : Read). r.progress.games) front
-      ∙ none_finished_before p start l mid writing.token writing.rest parts (ap (λ (r : Read). r.fault) (sym more) ∙ writing.passes)
-      (subst (λ (r : Read). length (written p r.progress) < length (written p (read_from p start (mid ++ writing.token ∷ [])).progress)) front
-      (subst (λ (r : Read). length (due p writing.front) < length (written p r.progress)) more grows))
+      rw front (none_finished_before p start l mid writing.token writing.rest parts (rw more at writing.passes)
+      (rw front at (rw more at grows)))
 
   head : {t u : Token} {ts us : List Token} → t ∷ ts ≡ u ∷ us → t ≡ u
   head e = cc
 
   by_parts : Parted given writing.front (coming l []) (writing.token ∷ writing.rest) → (read p writing.front).progress.games ≡ (read p given).progress.games
   by_parts (inl (mid, is, parts)) = behind_given mid is parts
-  by_parts (inr ([], is, parts)) = ap (λ ts. (read p ts).progress.games) (sym (is ∙ append-nil writing.front))
+  by_parts (inr ([], is, parts)) = rw (is ∙ append-nil writing.front)
   by_parts (inr (m ∷ mid, is, parts)) =
       let all : given ≡ (writing.front ++ writing.token ∷ []) ++ mid =
       is ∙ ap (λ x. writing.front ++ x ∷ mid) (sym (head parts)) ∙ sym (append_assoc writing.front (writing.token ∷ []) mid) in
@@ -75,11 +71,11 @@ module _ (p : Profile) (given : List Token) (l : Standing) (ts : List Token) (pa
 -- ---- both
 
 -- u is the whole text, and of its tokens the lexer has left those behind the given ones
-pub none_before_fault : (p : Profile) (u : List ℕ) (given : List Token) (l : Standing) → HasLeft l u given → (read p given).fault ≡ None → (a b : Option (List ℕ)) {f : Fault} (stops : Stops p given (tokens_of u) a b f)
+pub none_before_fault : (p : Profile) (u : List ℕ) {given : List Token} (l : Standing) → HasLeft l u given → (read p given).fault ≡ None → {a b : Option (List ℕ)} {f : Fault} (stops : Stops p given (tokens_of u) a b f)
     → games_before stops ≡ (read p given).progress.games
-none_before_fault p u given l left passes a b (unwritten at writing) =
-    by_parts p given l (tokens_of u) passes left at a b writing (parted given writing.front (coming l []) (writing.token ∷ writing.rest) (sym left ∙ writing.cut))
-none_before_fault p u given l left passes a b (refused f fault gains) =
+none_before_fault p u {given} l left passes {a} {b} (unwritten at writing) =
+    by_parts p given l (tokens_of u) passes left at a b writing (parted given writing.front (sym left ∙ writing.cut))
+none_before_fault p u {given} l left passes (refused f fault gains) =
     by_games (subst (AddsOne (read p given).progress.games) (sym reads) (left_games p (read p given).progress l))
   where
     reads : read p (tokens_of u) ≡ read_from p (read p given).progress (coming l [])

@@ -1,9 +1,5 @@
 -- One token more: what was read, and what is due for it.
-use Rattle.pgn_game.proofs.Words.{Kind, Token, Reason, Fault, Mode, Profile, Missing, counts_as, takes_the_marker, Game, Part, no_part, ◌≡◌, ℕ, ◌+◌, List, [], ◌∷◌, ◌++◌, length, Option, None, Some, refl, sym, ap, subst, ◌∙◌, append_assoc, append-nil, length-append, arith, take-append-add, Appends-trans, Appends-nil, Appends, refusal, text_next, gain, Gains}
-use Rattle.pgn_game.specs.Text.{game_text, text_of, torn, torn_for}
-use Rattle.pgn_game.specs.Progress.{Next, going, whole, next, Progress, progress_with, progress_after, no_progress, Read, read_from, read, written, due}
-use Rattle.pgn_game.specs.Laws.{IsPrefix, DueGrows}
-use Rattle.pgn_game.specs.ConverterCalls.{Stops, refused, unwritten, StopsWriting, games_before, position_at_stop, ProbesAtStop}
+use Rattle.pgn_game.proofs.Words.{Kind, Token, Reason, Fault, Mode, Profile, Missing, counts_as, takes_the_marker, Game, Part, no_part, ◌≡◌, ℕ, ◌+◌, List, [], ◌∷◌, ◌++◌, length, Option, None, Some, refl, sym, ap, subst, ◌∙◌, append_assoc, append-nil, length-append, arith, take-append-add, Appends-trans, Appends-nil, Appends, refusal, text_next, gain, Gains, game_text, text_of_games as text_of, torn, torn_for, Next, going, whole, next, Progress, progress_with, progress_after, no_progress, Read, read_from, read, written_so_far as written, due, IsPrefix, DueGrows, Stops, refused_stop as refused, unwritten, StopsWriting, games_before, position_at_stop, ProbesAtStop}
 use Rattle.pgn_game.proofs.tokens.NextGrows.{next_is}
 
 abbrev read_as : Progress → Option Fault → Read
@@ -37,7 +33,7 @@ passed p b t ts (Some reason) e = absurd (cc)
 passed p b t ts None e = refl
 
 pub first_passes : (p : Profile) (b : Progress) (t : Token) (ts : List Token) → (read_from p b (t ∷ ts)).fault ≡ None → refusal p b.part t.kind ≡ None
-first_passes p b t ts e = passed p b t ts (refusal p b.part t.kind) (ap (λ (r : Read). r.fault) (sym (read_from-test p b t ts)) ∙ e)
+first_passes p b t ts e = passed p b t ts (refusal p b.part t.kind) (rw (read_from-test p b t ts) at e)
 
 pub goes_on : (p : Profile) (b : Progress) (t : Token) (ts : List Token) → refusal p b.part t.kind ≡ None → read_from p b (t ∷ ts) ≡ read_from p (progress_after b t) ts
 goes_on p b t ts none = read_from-test p b t ts ∙ ap (after_test p b t ts) none
@@ -48,7 +44,7 @@ after_those p b [] t us e = read_from-test p b t us
 after_those p b (x ∷ xs) t us e =
     let none = first_passes p b x xs e in
     let here : read_from p b (x ∷ xs) ≡ read_from p (progress_after b x) xs = goes_on p b x xs none in
-    cc (goes_on p b x (xs ++ t ∷ us) none, after_those p (progress_after b x) xs t us (ap (λ (r : Read). r.fault) (sym here) ∙ e), here)
+    cc (goes_on p b x (xs ++ t ∷ us) none, after_those p (progress_after b x) xs t us (rw here at e), here)
 
 -- a token that is not rejected
 pub read-passes : (p : Profile) (given : List Token) (t : Token) → (read p given).fault ≡ None → refusal p (read p given).progress.part t.kind ≡ None
@@ -62,7 +58,7 @@ read-refuses p given t us reason e some = after_those p no_progress given t us e
 
 pub text_of-snoc : (p : Profile) (games : List Game) (g : Game) → text_of p (games ++ g ∷ []) ≡ text_of p games ++ game_text p g
 text_of-snoc p [] g = append-nil (game_text p g)
-text_of-snoc p (x ∷ xs) g = ap (λ l. game_text p x ++ l) (text_of-snoc p xs g) ∙ sym (append_assoc (game_text p x) (text_of p xs) (game_text p g))
+text_of-snoc p (x ∷ xs) g = rw (text_of-snoc p xs g) (sym (append_assoc (game_text p x) (text_of p xs) (game_text p g)))
 
 -- where no game is begun, nothing stands written of one
 pub torn-none : (missing : Missing) (mode : Mode) → torn_for missing mode no_part ≡ []
@@ -73,7 +69,7 @@ torn-none takes_the_marker mode = refl
 written_with : (p : Profile) (games : List Game) (nx : Next) → written p (progress_with games nx) ≡ text_of p games ++ text_next p nx
 written_with p games (going after) = refl
 written_with p games (whole g) =
-    ap (λ l. text_of p (games ++ g ∷ []) ++ l) (torn-none p.missing_result p.mode) ∙ append-nil (text_of p (games ++ g ∷ [])) ∙ text_of-snoc p games g
+    rw (torn-none p.missing_result p.mode) (append-nil (text_of p (games ++ g ∷ [])) ∙ text_of-snoc p games g)
 
 -- what a token adds to what was written
 written-next : (p : Profile) (games : List Game) (part : Part) (k : Kind)
@@ -86,19 +82,19 @@ pub due-passes : (p : Profile) (given : List Token) (t : Token) → (read p give
 due-passes p given t e none =
     cc (read-passes p given t e none, written-next p (read p given).progress.games (read p given).progress.part t.kind)
 
-pub gains_none : (p : Profile) (given : List Token) (o : Option (List ℕ)) → Gains p given given o o
-gains_none p given o = record { text = []; due_for = sym (append-nil (due p given)); appended = Appends-nil o }
+pub gains_none : {p : Profile} {given : List Token} {o : Option (List ℕ)} → Gains p given given o o
+gains_none {p} {given} {o} = record { text = []; due_for = sym (append-nil (due p given)); appended = Appends-nil o }
 
-pub gains_more : (p : Profile) (x y z : List Token) (a b c : Option (List ℕ)) → Gains p x y a b → Gains p y z b c → Gains p x z a c
-gains_more p x y z a b c first more =
+pub gains_more : {p : Profile} {x y z : List Token} {a b c : Option (List ℕ)} → Gains p x y a b → Gains p y z b c → Gains p x z a c
+gains_more {p} {x} {a} {b} {c} first more =
     record {
       text = first.text ++ more.text;
       due_for = more.due_for ∙ ap (λ l. l ++ more.text) first.due_for ∙ append_assoc (due p x) first.text more.text;
       appended = Appends-trans a b c _ _ first.appended more.appended;
     }
 
-writing_more : (p : Profile) (x y tokens : List Token) (at : ℕ) (a b c : Option (List ℕ)) → Gains p x y a b → StopsWriting p y tokens at b c → StopsWriting p x tokens at a c
-writing_more p x y tokens at a b c first more =
+writing_more : (p : Profile) (x : List Token) {y tokens : List Token} {at : ℕ} (a b c : Option (List ℕ)) → Gains p x y a b → StopsWriting p y tokens at b c → StopsWriting p x tokens at a c
+writing_more p x a b c first more =
     record {
       front = more.front;
       token = more.token;
@@ -115,38 +111,38 @@ writing_more p x y tokens at a b c first more =
     }
 
 -- tokens were read, and then reading stopped
-pub stops_more : (p : Profile) (x y tokens : List Token) (f : Fault) (a b c : Option (List ℕ)) → Gains p x y a b → Stops p y tokens b c f → Stops p x tokens a c f
-stops_more p x y tokens f a b c first (refused g fault gains) = refused g fault (gains_more p x y tokens a b c first gains)
-stops_more p x y tokens f a b c first (unwritten at writing) = unwritten at (writing_more p x y tokens at a b c first writing)
+pub stops_more : {p : Profile} {x y tokens : List Token} {f : Fault} {a b c : Option (List ℕ)} → Gains p x y a b → Stops p y tokens b c f → Stops p x tokens a c f
+stops_more first (refused g fault gains) = refused g fault (gains_more first gains)
+stops_more {p} {x} {a} {b} {c} first (unwritten at writing) = unwritten at (writing_more p x a b c first writing)
 
 -- where reading stops is not moved by what was read before
-pub games_still : (p : Profile) (x y tokens : List Token) (f : Fault) (a b c : Option (List ℕ)) (first : Gains p x y a b) (stops : Stops p y tokens b c f)
-    → games_before (stops_more p x y tokens f a b c first stops) ≡ games_before stops
+pub games_still : {p : Profile} {x y tokens : List Token} {f : Fault} {a b c : Option (List ℕ)} (first : Gains p x y a b) (stops : Stops p y tokens b c f)
+    → games_before (stops_more first stops) ≡ games_before stops
 unfolding stops_more writing_more
-games_still p x y tokens f a b c first (refused g fault gains) = refl
-games_still p x y tokens f a b c first (unwritten at writing) = refl
+games_still first (refused g fault gains) = refl
+games_still first (unwritten at writing) = refl
 
 -- and the count there stays as it is
-pub counts_still : (p : Profile) (x y tokens : List Token) (f : Fault) (a b c : Option (List ℕ)) (first : Gains p x y a b) (stops : Stops p y tokens b c f) (most : ℕ)
-    → ProbesAtStop stops most → ProbesAtStop (stops_more p x y tokens f a b c first stops) most
+pub counts_still : {p : Profile} {x y tokens : List Token} {f : Fault} {a b c : Option (List ℕ)} (first : Gains p x y a b) (stops : Stops p y tokens b c f) {most : ℕ}
+    → ProbesAtStop stops most → ProbesAtStop (stops_more first stops) most
 unfolding stops_more writing_more
-counts_still p x y tokens f a b c first (refused g fault gains) most h = record { tried = h.tried; probed = h.probed }
-counts_still p x y tokens f a b c first (unwritten at writing) most h = record { tried = h.tried; probed = h.probed }
+counts_still first (refused g fault gains) h = record { tried = h.tried; probed = h.probed }
+counts_still first (unwritten at writing) h = record { tried = h.tried; probed = h.probed }
 
 -- and so does the position there
-pub position_still : (p : Profile) (x y tokens : List Token) (f : Fault) (a b c : Option (List ℕ)) (first : Gains p x y a b) (stops : Stops p y tokens b c f)
-    → position_at_stop (stops_more p x y tokens f a b c first stops) ≡ position_at_stop stops
+pub position_still : {p : Profile} {x y tokens : List Token} {f : Fault} {a b c : Option (List ℕ)} (first : Gains p x y a b) (stops : Stops p y tokens b c f)
+    → position_at_stop (stops_more first stops) ≡ position_at_stop stops
 unfolding stops_more
-position_still p x y tokens f a b c first (refused g fault gains) = refl
-position_still p x y tokens f a b c first (unwritten at writing) = refl
+position_still first (refused g fault gains) = refl
+position_still first (unwritten at writing) = refl
 
 -- behind a token that is rejected nothing is read
-pub stops_from : (p : Profile) (b : Progress) (ts us : List Token) (f : Fault) → (read_from p b ts).fault ≡ Some f → read_from p b (ts ++ us) ≡ read_from p b ts
-stops_from p b [] us f e = absurd (cc)
-stops_from p b (t ∷ ts) us f e =
+pub stops_from : (p : Profile) (b : Progress) (ts us : List Token) {f : Fault} → (read_from p b ts).fault ≡ Some f → read_from p b (ts ++ us) ≡ read_from p b ts
+stops_from p b [] us e = absurd (cc)
+stops_from p b (t ∷ ts) us {f} e =
     by_token p b t ts (λ r. r.fault ≡ Some f → read_from p b (t ∷ ts ++ us) ≡ r)
     (λ reason is fault. read_from-test p b t (ts ++ us) ∙ ap (after_test p b t (ts ++ us)) is)
-    (λ is fault. goes_on p b t (ts ++ us) is ∙ stops_from p (progress_after b t) ts us f fault) e
+    (λ is fault. goes_on p b t (ts ++ us) is ∙ stops_from p (progress_after b t) ts us fault) e
 
 pub also : (xs ys zs : List ℕ) → IsPrefix xs ys → IsPrefix ys zs → IsPrefix xs zs
 also xs ys zs h k = (h.0 ++ k.0, k.1 ∙ ap (λ l. l ++ k.0) h.1 ∙ append_assoc xs h.0 k.0)
@@ -164,7 +160,7 @@ grows : (p : Profile) (b : Progress) (ts us : List Token) → IsPrefix (written 
 grows p b [] us = grows_from p b us
 grows p b (t ∷ ts) us =
     by_token p b t ts (λ r. IsPrefix (written p r.progress) (written p (read_from p b (t ∷ ts ++ us)).progress)) (λ reason is. grows_from p b (t ∷ ts ++ us))
-    (λ is. subst (λ (r : Read). IsPrefix (written p (read_from p (progress_after b t) ts).progress) (written p r.progress)) (sym (goes_on p b t (ts ++ us) is)) (grows p (progress_after b t) ts us))
+    (λ is. rw (goes_on p b t (ts ++ us) is) (grows p (progress_after b t) ts us))
 
 pub due_grows : DueGrows
 due_grows p ts us = grows p no_progress ts us

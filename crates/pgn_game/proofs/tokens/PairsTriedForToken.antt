@@ -1,11 +1,9 @@
 -- How many pairs were tried for a token: from what the reader counts to what is said of tokens.
 use Rattle.pgn_lexer.specs.Tokens as tokens
-use Rattle.pgn_lexer.specs.declared.token.LexReason.{LexReason}
 use Rattle.pgn_lexer.specs.declared.token.TokenKind.TheVariants as token_kinds
-use Rattle.pgn_game.specs.declared.annotation.Annotation.{Annotation}
 use Rattle.pgn_game.specs.declared.annotation.Annotation.TheVariants as annotations
-use Rattle.pgn_game.proofs.Words.{Parts, Kind, Token, Mode, Full, Reduced, Reason, Stage, Between, AfterTags, InMovetext, Profile, ◌≡◌, ◌⊎◌, inl, ℕ, ◌<◌, max, Bool, true, false, ◌&&◌, ◌||◌, not, List, [], ◌∷◌, ◌++◌, length, drop, Option, None, Some, is_some, Result, Ok, Err, refl, sym, ap, subst, ◌∙◌, arith, IsTrue, drop-append_seam, drop-length, and_right, or_right, false≢true, Move, kind_of, TokenKind, Accepted, depth, refusal, is_at, is_number, is_outside_tag_pairs, is_score, levels_of_part, marker_of, position_in, Next, going, next, at_stage, Progress, no_progress, progress_after, Read, read_from, read, Costs, CostsIf, CostsToFind, is_sought, is_written, CostsToWrite, added, CostsToAdd, CostsUnlessRefused, Tries, MostFrom, MostTried, Raises, has_move, ReaderState, Agrees, IsOpen, may_have_movetext, model_item, with_items, TriesItem, writes}
-use Rattle.pgn_game.specs.Game.{Item, Part, move}
+use Rattle.pgn_game.proofs.Words.{Parts, Kind, Token, Mode, Full, Reduced, Reason, Stage, Between, AfterTags, InMovetext, Profile, ◌≡◌, ◌⊎◌, inl, ℕ, ◌<◌, max, Bool, true, false, ◌&&◌, ◌||◌, not, List, [], ◌∷◌, ◌++◌, length, drop, Option, None, Some, is_some, Result, Ok, Err, refl, sym, ap, subst, ◌∙◌, arith, IsTrue, drop-append_seam, drop-length, and_right, or_right, false≢true, Move, kind_of, TokenKind, Accepted, depth, refusal, is_at, is_number, is_outside_tag_pairs, is_score, levels_of_part, marker_of, position_in, Next, going, at_stage, Progress, progress_after, read_from, read, Costs, CostsIf, CostsToFind, is_sought, is_written, CostsToWrite, added, CostsToAdd, Tries, MostFrom, MostTried, Raises, has_move, ReaderState, Agrees, IsOpen, may_have_movetext, model_item, with_items, TriesItem, writes, LexReason, Annotation, Item, Part}
+use Rattle.pgn_game.specs.Game.{move}
 use Rattle.pgn_game.specs.MostTried as most_tried
 use Rattle.pgn_game.proofs.tokens.OneMoreToken.{first_passes, goes_on}
 use Rattle.pgn_game.proofs.refusals.RefusalsInMovetext.{depth_is, position_is}
@@ -13,58 +11,58 @@ use Rattle.pgn_game.proofs.refusals.ReaderToPart.{held_at, text_at}
 
 -- Tokens in turn.
 -- what is tried for tokens, and for those behind them
-most_then : (p : Profile) (b : Progress) (ts : List Token) (most : ℕ) → MostFrom p b ts most → (us : List Token) (n : ℕ)
+most_then : (p : Profile) {b : Progress} {ts : List Token} {most : ℕ} → MostFrom p b ts most → (us : List Token) (n : ℕ)
     → (read_from p b ts).fault ≡ None → MostFrom p (read_from p b ts).progress us n
     → MostFrom p b (ts ++ us) (max most n)
-most_then p b ts most (most_tried.none c) us n clear then = let most_of_one : n ≡ max 0 n = omega arith in subst (MostFrom p c us) most_of_one then
-most_then p b ts most (most_tried.refused c x xs m reason some h) us n clear then =
+most_then p (most_tried.none c) us n clear then = let most_of_one : n ≡ max 0 n = omega arith in subst (MostFrom p c us) most_of_one then
+most_then p (most_tried.refused c x xs m reason some h) us n clear then =
     let none = first_passes p c x xs clear in absurd (cc)
-most_then p b ts most (most_tried.passes c x xs m rest is h more) us n clear then =
+most_then p (most_tried.passes c x xs m rest is h more) us n clear then =
     let same : read_from p c (x ∷ xs) ≡ read_from p (progress_after c x) xs = goes_on p c x xs is in
     let again : max m (max rest n) ≡ max (max m rest) n = omega arith in
     subst (MostFrom p c (x ∷ xs ++ us)) again
     (most_tried.passes c x (xs ++ us) m (max rest n) is h
-    (most_then p (progress_after c x) xs rest more us n (ap (λ (r : Read). r.fault) (sym same) ∙ clear)
-    (subst (λ (r : Read). MostFrom p r.progress us n) same then)))
+    (most_then p more us n (rw same at clear)
+    (rw same at then)))
 
 -- so from the start on: a token more, and one that is rejected, whatever comes behind it
-pub most_with : (p : Profile) (given : List Token) (t : Token) (old new : ℕ) → MostTried p given old → (read p given).fault ≡ None
+pub most_with : (p : Profile) {given : List Token} (t : Token) {old new : ℕ} → MostTried p given old → (read p given).fault ≡ None
     → refusal p (read p given).progress.part t.kind ≡ None → Raises (Tries p (read p given).progress.part t.kind) old new → MostTried p (given ++ t ∷ []) new
-most_with p given t old new before clear free raised =
+most_with p {given} t before clear free raised =
     let b = (read p given).progress in
     let one = most_tried.passes b t [] raised.tried 0 free raised.allowed (most_tried.none (progress_after b t)) in
     let least : max raised.tried 0 ≡ raised.tried = omega arith in
     let then = subst (MostFrom p b (t ∷ [])) least one in
     subst (MostTried p (given ++ t ∷ [])) (sym raised.most)
-    (most_then p no_progress given old before (t ∷ []) raised.tried clear then)
+    (most_then p before (t ∷ []) raised.tried clear then)
 
-pub most_to_refused : (p : Profile) (given : List Token) (t : Token) (us : List Token) (why : Reason) (old new : ℕ) → MostTried p given old → (read p given).fault ≡ None
+pub most_to_refused : (p : Profile) {given : List Token} (t : Token) (us : List Token) {why : Reason} {old new : ℕ} → MostTried p given old → (read p given).fault ≡ None
     → refusal p (read p given).progress.part t.kind ≡ Some why → Raises (Tries p (read p given).progress.part t.kind) old new → MostTried p (given ++ t ∷ us) new
-most_to_refused p given t us why old new before clear is raised =
+most_to_refused p {given} t us {why} before clear is raised =
     let then = most_tried.refused (read p given).progress t us raised.tried why is raised.allowed in
     subst (MostTried p (given ++ t ∷ us)) (sym raised.most)
-    (most_then p no_progress given old before (t ∷ us) raised.tried clear then)
+    (most_then p before (t ∷ us) raised.tried clear then)
 
 -- nothing is tried for a rejection of the lexer
-pub raises_none : (p : Profile) (part : Part) (r : LexReason) (why : Reason) (most : ℕ) → refusal p part (tokens.refused r) ≡ Some why
+pub raises_none : {p : Profile} {part : Part} {r : LexReason} {why : Reason} {most : ℕ} → refusal p part (tokens.refused r) ≡ Some why
     → Raises (Tries p part (tokens.refused r)) most most
-raises_none p part r why most is =
+raises_none {most} is =
     record {
       tried = 0;
       allowed = record {
         found = 0;
         finds = refl;
-        writes = subst (λ (o : Option Reason). CostsUnlessRefused o p.mode (depth (levels_of_part part)) (position_in part) (added part (next part (tokens.refused r))) 0 0) (sym is) refl;
+        writes = rw is;
       };
       most = omega arith;
     }
 
 -- some pair was tried if a move is in the part
-pub part_probed : (r : ReaderState) (part : Part) → Agrees r part → IsTrue (has_move part.items) → 0 < r.most_probes
-part_probed r part agrees = by_stage r.stage refl
+pub part_probed : (r : ReaderState) {part : Part} → Agrees r part → IsTrue (has_move part.items) → 0 < r.most_probes
+part_probed r {part} agrees = by_stage r.stage refl
   where
     no_item : part.items ≡ [] → IsTrue (has_move part.items) → 0 < r.most_probes
-    no_item none has = let h : IsTrue (has_move []) = subst (λ (is : List Item). IsTrue (has_move is)) none has in absurd (cc)
+    no_item none has = let h : IsTrue (has_move []) = rw none at has in absurd (cc)
 
     by_stage : (stage : Stage) → r.stage ≡ stage → IsTrue (has_move part.items) → 0 < r.most_probes
     by_stage Between at = no_item (ap (λ (q : Part). q.items) (held_at r part Between agrees at))
@@ -72,24 +70,24 @@ part_probed r part agrees = by_stage r.stage refl
     by_stage stage at = no_item (text_at r part stage agrees at).0
 
 -- No pair is tried for a symbol in a tag pair, nor for a number and a marker.
-costs_nothing : (sought : Bool) (place : Parts) (s : List ℕ) → sought ≡ false → CostsIf sought place s 0
-costs_nothing sought place s none = subst (λ (b : Bool). CostsIf b place s 0) (sym none) refl
+costs_nothing : {sought : Bool} (place : Parts) (s : List ℕ) → sought ≡ false → CostsIf sought place s 0
+costs_nothing place s none = subst (λ (b : Bool). CostsIf b place s 0) (sym none) refl
 
 pub untried_in_pair : (part : Part) (k : Kind) → is_outside_tag_pairs part ≡ false → CostsToFind part k 0
 untried_in_pair part (tokens.symbol s) inside =
-    costs_nothing (is_sought part s) (position_in part) s (ap (λ (b : Bool). b && not (is_score s || is_number s)) inside)
+    costs_nothing (position_in part) s (ap (λ (b : Bool). b && not (is_score s || is_number s)) inside)
 untried_in_pair part _ inside = refl
 
 pub plain_untried : (part : Part) (s : List ℕ) → (is_score s || is_number s) ≡ true → CostsToFind part (tokens.symbol s) 0
 plain_untried part s plain =
-    costs_nothing (is_sought part s) (position_in part) s (and_right (is_outside_tag_pairs part) (not (is_score s || is_number s)) (ap not plain))
+    costs_nothing (position_in part) s (and_right (is_outside_tag_pairs part) (not (is_score s || is_number s)) (ap not plain))
 
 pub number_untried : (part : Part) (s : List ℕ) → is_number s ≡ true → CostsToFind part (tokens.symbol s) 0
 number_untried part s number = plain_untried part s (or_right (is_score s) (is_number s) number)
 
 pub marker_untried : (part : Part) (k : TokenKind) → IsTrue (is_some (marker_of (kind_of k))) → CostsToFind part (kind_of k) 0
 marker_untried part (token_kinds.Symbol s) is =
-    costs_nothing (is_sought part s.now) (position_in part) s.now
+    costs_nothing (position_in part) s.now
     (and_right (is_outside_tag_pairs part) (not (is_score s.now || is_number s.now)) (ap (λ (b : Bool). not (b || is_number s.now)) (score_by (is_score s.now) s.now is)))
   where
     score_by : (b : Bool) (s : List ℕ) → IsTrue (is_some (elim b as (λ x. Option (List ℕ)) [ true ↦ Some s | false ↦ None ])) → b ≡ true
@@ -98,10 +96,10 @@ marker_untried part (token_kinds.Symbol s) is =
 marker_untried part _ is = refl
 
 -- The move of another symbol is sought where movetext can begin or goes on.
-pub costs_found : (r : ReaderState) (part : Part) (s : List ℕ) (n : ℕ) → IsOpen r part → IsTrue (may_have_movetext r.stage) → is_number s ≡ false → is_score s ≡ false
+pub costs_found : {r : ReaderState} {part : Part} (s : List ℕ) (n : ℕ) → IsOpen r part → IsTrue (may_have_movetext r.stage) → is_number s ≡ false → is_score s ≡ false
     → Costs r.text.levels.present.present s n → CostsToFind part (tokens.symbol s) n
-costs_found r part s n is at number score costs =
-    subst (λ (b : Bool). CostsIf b (position_in part) s n) (sym sought) (subst (λ (p : Parts). Costs p s n) (position_is r part is) costs)
+costs_found {r} {part} s n is at number score costs =
+    rw sought (rw (position_is r part is) at costs)
   where
     outside : (stage : Stage) → IsTrue (may_have_movetext stage) → is_outside_tag_pairs (at_stage stage part) ≡ true
     outside AfterTags at = refl
@@ -110,30 +108,29 @@ costs_found r part s n is at number score costs =
 
     sought : is_sought part s ≡ true
     sought =
-        ap (λ (b : Bool). is_outside_tag_pairs part && not (b || is_number s)) score ∙ ap (λ (b : Bool). is_outside_tag_pairs part && not b) number
-        ∙ ap (λ (b : Bool). b && true) (outside part.stage (subst (λ (x : Stage). IsTrue (may_have_movetext x)) is.stage at))
+        rw score (rw number (ap (λ (b : Bool). b && true) (outside part.stage (rw is.stage at at))))
 
 -- An item is written at the cost that its place has.
 written_alike : (mode : Mode) (deep : ℕ) (i : Item) → writes mode deep i ≡ is_written mode deep i
 written_alike Full deep i = refl
 written_alike Reduced deep i = refl
 
-item_held : (r : ReaderState) (to : Part) (i : Item) (n k : ℕ) → IsOpen r to → TriesItem r.profile.mode r.text i n k
+item_held : (r : ReaderState) {to : Part} (i : Item) (n k : ℕ) → IsOpen r to → TriesItem r.profile.mode r.text i n k
     → CostsToWrite (is_written r.profile.mode (depth (levels_of_part to)) i) (position_in to) i n k
-item_held r to i n k is h =
+item_held r {to} i n k is h =
     subst (λ (b : Bool). CostsToWrite b (position_in to) i n k)
-    (ap (λ deep. writes r.profile.mode deep i) (depth_is r to is) ∙ written_alike r.profile.mode (depth (levels_of_part to)) i)
-    (subst (λ (p : Parts). CostsToWrite (writes r.profile.mode (length r.text.levels.around) i) p i n k) (position_is r to is) h)
+    (rw (depth_is r to is) (written_alike r.profile.mode (depth (levels_of_part to)) i))
+    (rw (position_is r to is) at h)
 
 -- for an item other than a move no pair is tried
-untried : (b : Bool) (place : Parts) (i : Annotation) (n k : ℕ) → k ≡ n → CostsToWrite b place (model_item i) n k
-untried true place (annotations.Glyph glyph) n k h = h
-untried true place annotations.CommentOpen n k h = h
-untried true place (annotations.Word text) n k h = h
-untried true place annotations.CommentClose n k h = h
-untried true place annotations.Open n k h = h
-untried true place annotations.Close n k h = h
-untried false place i n k h = h
+untried : (b : Bool) (place : Parts) (i : Annotation) {n k : ℕ} → k ≡ n → CostsToWrite b place (model_item i) n k
+untried true place (annotations.Glyph glyph) h = h
+untried true place annotations.CommentOpen h = h
+untried true place (annotations.Word text) h = h
+untried true place annotations.CommentClose h = h
+untried true place annotations.Open h = h
+untried true place annotations.Close h = h
+untried false place i h = h
 
 -- The pairs tried before what is written of a token, and after. Where a write of the tag section
 -- failed, none was tried.
@@ -158,7 +155,7 @@ pub adds_none : (p : Profile) (part : Part) → CostsToPut p part (going (with_i
 adds_none p part = adds_items p part [] 0 0 refl
 
 pub adds_item : (p : Profile) (i : Annotation) (part : Part) → CostsToPut p part (going (with_items part (model_item i ∷ []))) 0 0
-adds_item p i part = adds_items p part (model_item i ∷ []) 0 0 (untried (is_written p.mode (depth (levels_of_part part)) (model_item i)) (position_in part) i 0 0 refl)
+adds_item p i part = adds_items p part (model_item i ∷ []) 0 0 (untried (is_written p.mode (depth (levels_of_part part)) (model_item i)) (position_in part) i {n = 0} {k = 0} refl)
 
 pub adds_same : (p : Profile) (part : Part) (to : Part) → to.items ≡ part.items → CostsToPut p part (going to) 0 0
 adds_same p part to same =
@@ -168,4 +165,4 @@ adds_same p part to same =
 -- a move
 pub adds_move : (r : ReaderState) (part : Part) (m : Move) (n k : ℕ) → IsOpen r part → TriesItem r.profile.mode r.text (move m) n k
     → CostsToPut r.profile part (going (with_items part (move m ∷ []))) n k
-adds_move r part m n k is tries = adds_items r.profile part (move m ∷ []) n k (item_held r part (move m) n k is tries)
+adds_move r part m n k is tries = adds_items r.profile part (move m ∷ []) n k (item_held r (move m) n k is tries)

@@ -1,12 +1,10 @@
 -- From what putting a token results in, and from its row of the table, to what the reader answers.
 use Rattle.std.proofs.Math.Nat.{le-max_left}
 use Rattle.pgn_lexer.specs.declared.token.TokenKind.TheVariants as token_kinds
-use Rattle.pgn_game.specs.declared.annotation.Annotation.{Annotation}
 use Rattle.pgn_game.specs.Game.{move}
-use Rattle.pgn_game.proofs.Words.{Parts, Played, Kind, IllegalMove, Reason, Stage, Between, AfterTags, InMovetext, Profile, Item, Part, no_part, ◌≡◌, ◌⊎◌, inl, inr, ℕ, ◌+◌, ◌<◌, max, true, false, ◌||◌, [], ◌∷◌, List, length, drop, Option, None, Some, Bor, Result, Ok, Err, IsFalse, IsTrue, is_some, refl, sym, ap, subst, ◌∙◌, arith, false≢true, or_parts, ok_or, Move, legal, with_next, Appends, Appends-nil, AppendsFront, Device, kind_of, TokenKind, symbol, Accepted, More, Finished, Marker, marker_text, move_of, found_in, torn, refusal, is_at, is_comment, is_end, is_number, is_outside_tag_pairs, is_score, levels_of_part, marker_of, position_if_move, position_in, depth, Next, going, at_stage, in_text, next, gain, text_next, CostsToFind, CostsUnlessRefused, Tries, TriesUnwritten, added, ReaderState, Agrees, Answers, as_written, IsStopped, CountsStop, is_outside_the_table, Stays, FinishesAtMarker, Leads, plies_behind, plies_next, whole_plies, IsEntry, IsOpen, may_have_movetext, model_item, text_refusal, with_items}
+use Rattle.pgn_game.proofs.Words.{Parts, Played, Kind, IllegalMove, Reason, Stage, Between, AfterTags, InMovetext, Profile, Item, Part, no_part, ◌≡◌, ◌⊎◌, inl, inr, ℕ, ◌+◌, ◌<◌, max, true, false, ◌||◌, [], ◌∷◌, List, length, drop, Option, None, Some, Bor, Result, Ok, Err, IsFalse, IsTrue, is_some, refl, sym, ap, subst, ◌∙◌, arith, false≢true, or_parts, ok_or, Move, legal, with_next, Appends, Appends-nil, AppendsFront, Device, kind_of, TokenKind, symbol, Accepted, More, Finished, Marker, marker_text, move_of, found_in, torn, refusal, is_at, is_comment, is_end, is_number, is_outside_tag_pairs, is_score, marker_of, position_if_move, position_in, Next, going, at_stage, in_text, next, gain, text_next, CostsToFind, Tries, TriesUnwritten, ReaderState, Agrees, Answers, as_written, IsStopped, is_outside_the_table, Stays, FinishesAtMarker, plies_behind, plies_next, whole_plies, IsEntry, IsOpen, may_have_movetext, model_item, text_refusal, with_items, Annotation, CountsMove, EntersMovetext, Finds, FinishesNone, GoesTo, PutResult, PutsItems, Takes, TakesEntry, TakesOutside, TakesToken, TakesUnwritten, at_game_start, counting_probes, unused}
 use Rattle.pgn_game.specs.MostTried as most_tried
 use Rattle.pgn_game.specs.ReaderState as reader_state
-use Rattle.pgn_game.specs.PutResult.{CountsMove, EntersMovetext, Finds, FinishesNone, GoesTo, PutResult, PutsItems, Takes, TakesEntry, TakesOutside, TakesToken, TakesUnwritten, at_game_start, counting_probes, unused}
 use Rattle.pgn_game.proofs.refusals.RefusalsByStage.{begins_alike, comment_passes, drops_comments, passes_between}
 use Rattle.pgn_game.proofs.refusals.RefusalsInMovetext.{marker_whole, move_free, move_leads, move_refused as move_row_refused, position_is, refused_inside}
 use Rattle.pgn_game.proofs.refusals.ReaderToPart.{held_at, open_agrees, part_stage, position_in_pair, text_at}
@@ -32,19 +30,19 @@ refused_after old new IsOf k reason n o m counted inside why costs here = record
         allowed = record {
           found = n;
           finds = costs part is;
-          writes = subst (λ (x : Option Reason). CostsUnlessRefused x old.profile.mode (depth (levels_of_part part)) (position_in part) (added part (next part k)) n n) (sym (why part is)) refl;
+          writes = rw (why part is);
         };
-        most = ap (λ (r : ReaderState). r.most_probes) counted;
+        most = rw counted;
       })
-      (ap (λ (r : ReaderState). position_if_move reason r.text.levels.present.present) counted ∙ here part is);
+      (rw counted (here part is));
   keeps = record {
-    profile = ap (λ (r : ReaderState). r.profile) counted;
+    profile = rw counted;
     plies = omega (arith, ap (λ (r : ReaderState). r.earlier_plies) counted, ap (λ (r : ReaderState). r.text.plies) counted);
     probes = omega (arith, ap (λ (r : ReaderState). r.most_probes) counted, le-max_left old.most_probes n);
   };
   stays = tt;
   finished = tt;
-  counted = subst (λ b. CountsStop b reason m m) (sym inside) refl;
+  counted = rw inside;
 }
 
 -- in movetext, where no pair was tried
@@ -61,15 +59,13 @@ module _ (old counted new : ReaderState) (part : Part) (k : Kind) (to : Next) (d
     (says : (refusal old.profile part k ≡ None) × (next part k ≡ to)) (finds : CostsToFind part k n) (most : new.most_probes ≡ max old.most_probes more) where
   gain_is : drop (length (torn (as_written counted.profile) part)) (text_next (as_written counted.profile) to) ≡ gain (as_written old.profile) part k
   gain_is =
-      ap (λ (r : ReaderState). drop (length (torn (as_written r.profile) part)) (text_next (as_written r.profile) to)) same
-      ∙ ap (λ (x : Next). drop (length (torn (as_written old.profile) part)) (text_next (as_written old.profile) x)) (sym says.1)
+      rw same (ap (λ (x : Next). drop (length (torn (as_written old.profile) part)) (text_next (as_written old.profile) x)) (sym says.1))
 
   tries : CostsToPut old.profile part to n more → Tries old.profile part k more
   tries costs = record {
     found = n;
     finds = finds;
-    writes = subst (λ (o : Option Reason). CostsUnlessRefused o old.profile.mode (depth (levels_of_part part)) (position_in part) (added part (next part k)) n more) (sym says.0)
-        (subst (λ (x : Next). CostsToPut old.profile part x n more) (sym says.1) costs);
+    writes = rw says.0 (rw says.1 costs);
   }
 
   unwritten : CostsToPut old.profile part to n more ⊎ ((is_at InMovetext part ≡ false) × (more ≡ n)) → TriesUnwritten old.profile part k more
@@ -79,7 +75,7 @@ module _ (old counted new : ReaderState) (part : Part) (k : Kind) (to : Next) (d
   answers : (r : Result Accepted Reason) → GoesTo counted part to new r d → TriesPut old.profile part to r n more → Answers old part k new r d.before d.after
   answers (Ok accepted) goes costs = record {
     free = says.0;
-    leads = subst (λ (x : Next). Leads x accepted new) (sym says.1) goes.leads;
+    leads = rw says.1 goes.leads;
     plies = goes.plies ∙ ap (λ n. n + plies_next to) (ap whole_plies same) ∙ ap (λ (x : Next). whole_plies old + plies_next x) (sym says.1);
     appended = subst (Appends d.before d.after) gain_is goes.appended;
     tried = record { tried = more; allowed = tries costs; most = most };
@@ -89,15 +85,15 @@ module _ (old counted new : ReaderState) (part : Part) (k : Kind) (to : Next) (d
       (reader_state.unwritten says.0 (subst (AppendsFront d.before d.after) gain_is front) (record { tried = more; allowed = unwritten costs; most = most }))
 
 -- so for each part
-pub takes_put : (old counted new : ReaderState) (IsOf IsPut : Part → Type 0) (k : Kind) (to : Part → Next) (r : Result Accepted Reason) (d : Device) (n more : ℕ)
+pub takes_put : (old : ReaderState) {counted new : ReaderState} (IsOf IsPut : Part → Type 0) (k : Kind) {to : Part → Next} {r : Result Accepted Reason} {d : Device} (n more : ℕ)
     → counted ≡ counting_probes old n → PutResult counted IsPut to new r d → FinishesAtMarker k new r → (counted.stage ≡ Between → counted ≡ old)
     → new.most_probes ≡ max old.most_probes more → ((part : Part) → IsOf part → IsPut part)
     → ((part : Part) → IsOf part → (refusal old.profile part k ≡ None) × (next part k ≡ to part))
     → ((part : Part) → IsOf part → CostsToFind part k n) → ((part : Part) → IsOf part → TriesPut old.profile part (to part) r n more) → Takes old IsOf k new r d
-takes_put old counted new IsOf IsPut k to r d n more same puts finished closed most sub says finds costs = record {
+takes_put old {counted} {new} IsOf IsPut k {to} {r} {d} n more same puts finished closed most sub says finds costs = record {
   accepts = λ part is. answers old counted new part k (to part) d n more same (says part is) (finds part is) most r (puts.goes part (sub part is)) (costs part is);
   keeps = record {
-    profile = puts.keeps.profile ∙ ap (λ (r : ReaderState). r.profile) same;
+    profile = rw same at puts.keeps.profile;
     plies = omega (arith, puts.keeps.plies, ap (λ (r : ReaderState). r.earlier_plies) same, ap (λ (r : ReaderState). r.text.plies) same);
     probes = omega (arith, puts.keeps.probes, ap (λ (r : ReaderState). r.most_probes) same, le-max_left old.most_probes n);
   };
@@ -107,7 +103,7 @@ takes_put old counted new IsOf IsPut k to r d n more same puts finished closed m
 }
   where
     stays_with : (r : Result Accepted Reason) → Stays counted new r → Stays old new r
-    stays_with (Ok More) stays = λ at. let then = stays at in then ∙ closed (ap (λ (r : ReaderState). r.stage) (sym then) ∙ at)
+    stays_with (Ok More) stays = λ at. let then = stays at in then ∙ closed (rw then at at)
     stays_with (Ok Finished) stays = tt
     stays_with (Err reason) stays = tt
 
@@ -122,18 +118,18 @@ pub takes_step : (old new : ReaderState) (k : Kind) (to : Part → Next) (o : Op
     → new.most_probes ≡ old.most_probes → ((part : Part) → Agrees old part → (refusal old.profile part k ≡ None) × (next part k ≡ to part))
     → ((part : Part) → Agrees old part → CostsToFind part k 0) → ((part : Part) → CostsToPut old.profile part (to part) 0 0) → TakesToken old k new (Ok More) (unused o m)
 takes_step old new k to o m puts most says finds costs =
-    takes_put old old new (Agrees old) (Agrees old) k to (Ok More) (unused o m) 0 0 (counting_none old) puts tt (λ at. refl) (omega (arith, most)) (λ part is. is) says finds
+    takes_put old (Agrees old) (Agrees old) k 0 0 (counting_none old) puts tt (λ at. refl) (omega (arith, most)) (λ part is. is) says finds
     (λ part is. costs part)
 
 -- Tokens of a tag pair, at one of its stages.
 module _ (old new : ReaderState) (k : Kind) (stage : Stage) (at : old.stage ≡ stage) (inside : (q : Part) → is_outside_tag_pairs (at_stage stage q) ≡ false) where
   untried : (part : Part) → Agrees old part → CostsToFind part k 0
-  untried part agrees = untried_in_pair part k (ap (λ (s : Stage). is_outside_tag_pairs (at_stage s part)) (part_stage old part stage agrees at) ∙ inside part)
+  untried part agrees = untried_in_pair part k (rw (part_stage old part stage agrees at) (inside part))
 
   pub refused_in_pair : (reason : Reason) → new ≡ old → IsFalse (is_outside_the_table reason) → ((part : Part) → Agrees old part → refusal old.profile part k ≡ Some reason)
       → TakesUnwritten old k new (Err reason)
   refused_in_pair reason same in_table why o m = refused_after old new (Agrees old) k reason 0 o m (same ∙ counting_none old) in_table why untried
-      (λ part agrees. ap (position_if_move reason) (position_in_pair old part stage agrees at (inside part)))
+      (λ part agrees. ap (position_if_move reason) (position_in_pair agrees at (inside part)))
 
   pub step_in_pair : (to : Part → Next) → ((o : Option (List ℕ)) (m : ℕ) → PutResult old (Agrees old) to new (Ok More) (unused o m)) → new.most_probes ≡ old.most_probes
       → ((part : Part) → CostsToPut old.profile part (to part) 0 0) → ((part : Part) → Agrees old part → (refusal old.profile part k ≡ None) × (next part k ≡ to part))
@@ -145,27 +141,27 @@ pub comment_in_pair : (old new : ReaderState) (k : TokenKind) (stage : Stage) �
 comment_in_pair old new k stage at inside same drops is =
     subst (λ (r : ReaderState). TakesUnwritten old (kind_of k) r (Ok More)) (sym same)
     (step_in_pair old old (kind_of k) stage at inside going (puts_nothing old) refl (λ part. adds_same old.profile part part refl)
-    (λ part agrees. comment_passes old.profile part k stage (sym at ∙ agrees.stage) drops is))
+    (λ part agrees. comment_passes old.profile k (sym at ∙ agrees.stage) drops is))
 
 -- Items other than moves, and none.
-puts_entry : (old new : ReaderState) (k : Kind) (items : List Item) (r : Result Accepted Reason) (d : Device) → PutsItems old items new r d
+puts_entry : {old new : ReaderState} (k : Kind) {items : List Item} {r : Result Accepted Reason} {d : Device} → PutsItems old items new r d
     → ((p : Profile) (part : Part) → CostsToPut p part (going (with_items part items)) 0 0)
     → ((part : Part) → IsOpen old part → (text_refusal old.profile part k ≡ None) × (in_text part k ≡ going (with_items part items))) → ((part : Part) → CostsToFind part k 0)
     → TakesEntry old k new r d
-puts_entry old new k items r d put costs says finds =
-    takes_put old old new (IsEntry old k) (IsOpen old) k (λ part. going (with_items part items)) r d 0 0 (counting_none old) put.puts (finishes_none k new r put.goes_on) (λ at. refl)
+puts_entry {old} {new} k {items} {r} put costs says finds =
+    takes_put old (IsEntry old k) (IsOpen old) k 0 0 (counting_none old) put.puts (finishes_none k new r put.goes_on) (λ at. refl)
     (omega (arith, put.probes)) (λ part is. is.is_open) (λ part is. (is.row ∙ (says part is.is_open).0, is.leads ∙ (says part is.is_open).1)) (λ part is. finds part)
     (λ part is. tries_put old.profile part (going (with_items part items)) r 0 0 (costs old.profile part))
 
 pub passes_entry : (old new : ReaderState) (k : Kind) (r : Result Accepted Reason) (d : Device) → PutsItems old [] new r d
     → ((part : Part) → IsOpen old part → (text_refusal old.profile part k ≡ None) × (in_text part k ≡ going (with_items part []))) → ((part : Part) → CostsToFind part k 0)
     → TakesEntry old k new r d
-passes_entry old new k r d put says finds = puts_entry old new k [] r d put adds_none says finds
+passes_entry old new k r d put says finds = puts_entry k put adds_none says finds
 
 pub item_entry : (old new : ReaderState) (k : Kind) (i : Annotation) (r : Result Accepted Reason) (d : Device) → PutsItems old (model_item i ∷ []) new r d
     → ((part : Part) → IsOpen old part → (text_refusal old.profile part k ≡ None) × (in_text part k ≡ going (with_items part (model_item i ∷ [])))) → ((part : Part) → CostsToFind part k 0)
     → TakesEntry old k new r d
-item_entry old new k i r d put says finds = puts_entry old new k (model_item i ∷ []) r d put (λ p part. adds_item p i part) says finds
+item_entry old new k i r d put says finds = puts_entry k put (λ p part. adds_item p i part) says finds
 
 -- A token that belongs to movetext at the stage of the reader.
 pub enters : (old : ReaderState) (k : TokenKind) → IsTrue (may_have_movetext old.stage) → ((part : Part) → Agrees old part → IsEntry old (kind_of k) part) → EntersMovetext old (kind_of k) old
@@ -185,41 +181,38 @@ finds_alike : (k : TokenKind) (n : ℕ) → CostsToFind no_pairs (kind_of k) n �
 finds_alike _ n h = h
 
 module _ (p : Profile) (k : TokenKind) (row : refusal p no_pairs (kind_of k) ≡ refusal p no_part (kind_of k)) (leads : next no_pairs (kind_of k) ≡ next no_part (kind_of k)) where
-  tries_alike : (n : ℕ) → Tries p no_pairs (kind_of k) n → Tries p no_part (kind_of k) n
-  tries_alike n t = record {
+  tries_alike : {n : ℕ} → Tries p no_pairs (kind_of k) n → Tries p no_part (kind_of k) n
+  tries_alike t = record {
     found = t.found;
     finds = finds_alike k t.found t.finds;
-    writes = subst (λ (x : Next). CostsUnlessRefused (refusal p no_part (kind_of k)) p.mode (depth (levels_of_part no_part)) (position_in no_part) (added no_part x) t.found n) leads
-        (subst (λ (o : Option Reason). CostsUnlessRefused o p.mode (depth (levels_of_part no_part)) (position_in no_part) (added no_part (next no_pairs (kind_of k))) t.found n) row t.writes);
+    writes = rw leads at (rw row at t.writes);
   }
 
-  unwritten_alike : (n : ℕ) → TriesUnwritten p no_pairs (kind_of k) n → TriesUnwritten p no_part (kind_of k) n
-  unwritten_alike n (most_tried.at_token t) = most_tried.at_token (tries_alike n t)
-  unwritten_alike n (most_tried.in_section before finds) = most_tried.in_section refl (finds_alike k n finds)
+  unwritten_alike : {n : ℕ} → TriesUnwritten p no_pairs (kind_of k) n → TriesUnwritten p no_part (kind_of k) n
+  unwritten_alike (most_tried.at_token t) = most_tried.at_token (tries_alike t)
+  unwritten_alike {n} (most_tried.in_section before finds) = most_tried.in_section refl (finds_alike k n finds)
 
   gain_alike : gain (as_written p) no_pairs (kind_of k) ≡ gain (as_written p) no_part (kind_of k)
   gain_alike =
       let w = as_written p in
-      ap (λ (t : List ℕ). drop (length t) (text_next w (next no_pairs (kind_of k))))
-      (no_torn w no_pairs AfterTags refl (λ e. absurd (cc)) ∙ sym (no_torn w no_part Between refl (λ e. absurd (cc))))
-      ∙ ap (λ (x : Next). drop (length (torn w no_part)) (text_next w x)) leads
+      rw (no_torn w no_pairs AfterTags refl (λ e. absurd (cc)) ∙ sym (no_torn w no_part Between refl (λ e. absurd (cc)))) (ap (λ (x : Next). drop (length (torn w no_part)) (text_next w x)) leads)
 
 answers_alike : (old new : ReaderState) (k : TokenKind) (r : Result Accepted Reason) (a b : Option (List ℕ)) → old.stage ≡ Between
     → refusal old.profile no_pairs (kind_of k) ≡ refusal old.profile no_part (kind_of k) → next no_pairs (kind_of k) ≡ next no_part (kind_of k)
     → Answers (at_game_start old) no_pairs (kind_of k) new r a b → Answers old no_part (kind_of k) new r a b
 answers_alike old new k (Ok accepted) a b at row leads h = record {
   free = sym row ∙ h.free;
-  leads = subst (λ (x : Next). Leads x accepted new) leads h.leads;
+  leads = rw leads at h.leads;
   plies = h.plies ∙ ap (λ (s : ℕ). s + plies_next (next no_pairs (kind_of k))) (sym (ap (λ (s : Stage). plies_behind s old.earlier_plies old.text.plies) at))
       ∙ ap (λ (x : Next). whole_plies old + plies_next x) leads;
   appended = subst (Appends a b) (gain_alike old.profile k row leads) h.appended;
-  tried = record { tried = h.tried.tried; allowed = tries_alike old.profile k row leads h.tried.tried h.tried.allowed; most = h.tried.most };
+  tried = record { tried = h.tried.tried; allowed = tries_alike old.profile k row leads h.tried.allowed; most = h.tried.most };
 }
 answers_alike old new k (Err reason) a b at row leads (reader_state.refused why is none t here) =
-    reader_state.refused why (sym row ∙ is) none (record { tried = t.tried; allowed = tries_alike old.profile k row leads t.tried t.allowed; most = t.most }) here
+    reader_state.refused why (sym row ∙ is) none (record { tried = t.tried; allowed = tries_alike old.profile k row leads t.allowed; most = t.most }) here
 answers_alike old new k (Err reason) a b at row leads (reader_state.unwritten free front t) =
     reader_state.unwritten (sym row ∙ free) (subst (AppendsFront a b) (gain_alike old.profile k row leads) front)
-    (record { tried = t.tried; allowed = unwritten_alike old.profile k row leads t.tried t.allowed; most = t.most })
+    (record { tried = t.tried; allowed = unwritten_alike old.profile k row leads t.allowed; most = t.most })
 
 pub takes_first : (old new : ReaderState) (k : TokenKind) (r : Result Accepted Reason) (d : Device) → old.stage ≡ Between → is_comment (kind_of k) ≡ false → is_end (kind_of k) ≡ false
     → TakesToken (at_game_start old) (kind_of k) new r d → TakesToken old (kind_of k) new r d
@@ -227,8 +220,7 @@ takes_first old new k r d at comment over t =
     let (row, leads) = begins_alike old.profile k comment over in
     record {
       accepts = λ part agrees.
-          subst (λ (q : Part). Answers old q (kind_of k) new r d.before d.after) (sym (held_at old part Between agrees at))
-          (answers_alike old new k r d.before d.after at row leads (t.accepts no_pairs (record { stage = refl; pairs = refl; text = (refl, refl, text_at old part Between agrees at) })));
+          rw (held_at old part Between agrees at) (answers_alike old new k r d.before d.after at row leads (t.accepts no_pairs (record { stage = refl; pairs = refl; text = (refl, refl, text_at old part Between agrees at) })));
       keeps = record { profile = t.keeps.profile; plies = omega (arith, t.keeps.plies); probes = t.keeps.probes };
       stays = stays_first r t.stays;
       finished = t.finished;
@@ -236,7 +228,7 @@ takes_first old new k r d at comment over t =
     }
   where
     stays_first : (r : Result Accepted Reason) → Stays (at_game_start old) new r → Stays old new r
-    stays_first (Ok More) stays = λ there. let h : Between ≡ AfterTags = sym there ∙ ap (λ (r : ReaderState). r.stage) (stays there) in absurd (cc)
+    stays_first (Ok More) stays = λ there. let h : Between ≡ AfterTags = rw (stays there) at (sym there) in absurd (cc)
     stays_first (Ok Finished) stays = tt
     stays_first (Err reason) stays = tt
 
@@ -245,15 +237,15 @@ pub takes_marker : (old new : ReaderState) (k : TokenKind) (marker : Marker) (r 
     → FinishesAtMarker (kind_of k) new r → new.most_probes ≡ old.most_probes → marker_of (kind_of k) ≡ Some (marker_text marker)
     → ((part : Part) → IsOpen old part → text_refusal old.profile part (kind_of k) ≡ None) → TakesEntry old (kind_of k) new r d
 takes_marker old new k marker r d puts finished most is free =
-    takes_put old old new (IsEntry old (kind_of k)) (IsOpen old) (kind_of k) (to_game marker) r d 0 0 (counting_none old) puts finished (λ at. refl) (omega (arith, most)) (λ part at. at.is_open)
+    takes_put old (IsEntry old (kind_of k)) (IsOpen old) (kind_of k) 0 0 (counting_none old) puts finished (λ at. refl) (omega (arith, most)) (λ part at. at.is_open)
     (λ part at. (at.row ∙ free part at.is_open, at.leads ∙ marker_whole part (kind_of k) (marker_text marker) is)) (λ part at. marker_untried part k (ap is_some is))
     (λ part at. tries_put old.profile part (to_game marker part) r 0 0 refl)
 
 -- Moves.
 
 -- a reader that counts more probes holds the same part
-open_counted : (old : ReaderState) (n : ℕ) (part : Part) → IsOpen old part → IsOpen (counting_probes old n) part
-open_counted old n part is = record {
+open_counted : {old : ReaderState} (n : ℕ) {part : Part} → IsOpen old part → IsOpen (counting_probes old n) part
+open_counted {old} n is = record {
   stage = is.stage;
   pairs = is.pairs;
   fresh = is.fresh;
@@ -270,8 +262,8 @@ module _ (old found : ReaderState) (s : List ℕ) (n : ℕ) (at : IsTrue (may_ha
   pub move_refused : (reason : Reason) (o : Option (List ℕ)) (m : ℕ) → Finds old s found (Err reason) n → TakesEntry old (symbol s) found (Err reason) (unused o m)
   move_refused reason o m finds =
       let here = old.text.levels.present.present in
-      refused_after old found (IsEntry old (symbol s)) (symbol s) reason n o m finds.counted (refused_inside here s reason finds.found)
-      (λ part is. is.row ∙ move_row_refused old part s here reason number score is.is_open refl finds.found) (λ part is. costs_found old part s n is.is_open at number score finds.tried)
+      refused_after old found (IsEntry old (symbol s)) (symbol s) reason n o m finds.counted (refused_inside here s finds.found)
+      (λ part is. is.row ∙ move_row_refused s here number score is.is_open refl finds.found) (λ part is. costs_found s n is.is_open at number score finds.tried)
       (λ part is. ap (position_if_move reason) (position_is old part is.is_open))
 
   pub takes_move : (new : ReaderState) (mv : Move) (r : Result Accepted Reason) (d : Device) (more : ℕ) → Finds old s found (Ok mv) n
@@ -282,17 +274,17 @@ module _ (old found : ReaderState) (s : List ℕ) (n : ℕ) (at : IsTrue (may_ha
       let (q, leads) = next_of (legal here mv) finds.legal in
       let played : Played = record { mv = mv; next = q } in
       let is_found : Ok played ≡ found_in here (move_of here s) = sym (ap (λ (o : Option Parts). ok_or (with_next mv o) IllegalMove) leads) ∙ finds.found in
-      takes_put old found new (IsEntry old (symbol s)) (IsOpen found) (symbol s) (to_items (move mv ∷ [])) r d n more finds.counted puts (finishes_none (symbol s) new r none)
-      (λ between. not_between (subst (λ (x : ReaderState). x.stage ≡ Between) finds.counted between)) most
-      (λ part is. subst (λ (x : ReaderState). IsOpen x part) (sym finds.counted) (open_counted old n part is.is_open))
+      takes_put old (IsEntry old (symbol s)) (IsOpen found) (symbol s) n more finds.counted puts (finishes_none (symbol s) new r none)
+      (λ between. not_between (rw finds.counted at between)) most
+      (λ part is. rw finds.counted (open_counted n is.is_open))
       (λ part is. (
-        is.row ∙ move_free old part s here played number score is.is_open refl is_found,
-        is.leads ∙ move_leads old part s here played number score is.is_open refl is_found,
+        is.row ∙ move_free s here number score is.is_open refl is_found,
+        is.leads ∙ move_leads s here number score is.is_open refl is_found,
       ))
-      (λ part is. costs_found old part s n is.is_open at number score finds.tried) (λ part is. costs part is.is_open)
+      (λ part is. costs_found s n is.is_open at number score finds.tried) (λ part is. costs part is.is_open)
     where
       not_between : old.stage ≡ Between → found ≡ old
-      not_between between = let h : IsTrue (may_have_movetext Between) = subst (λ (x : Stage). IsTrue (may_have_movetext x)) between at in absurd (cc)
+      not_between between = let h : IsTrue (may_have_movetext Between) = rw between at at in absurd (cc)
 
 -- A token between games that begins none.
 bare_untried : (k : TokenKind) (part : Part) → (is_comment (kind_of k) || is_end (kind_of k)) ≡ true → CostsToFind part (kind_of k) 0
@@ -303,7 +295,7 @@ pub passes_first : (old new : ReaderState) (k : TokenKind) (o : Option (List ℕ
     → TakesToken old (kind_of k) new (Ok More) (unused o m)
 passes_first old new k o m same at is =
     subst (λ (r : ReaderState). TakesToken old (kind_of k) r (Ok More) (unused o m)) (sym same)
-    (takes_step old old (kind_of k) going o m (puts_nothing old o m) refl (λ part agrees. passes_between old.profile part k (part_stage old part Between agrees at) is)
+    (takes_step old old (kind_of k) going o m (puts_nothing old o m) refl (λ part agrees. passes_between old.profile k (part_stage old part Between agrees at) is)
     (λ part agrees. bare_untried k part is) (λ part. adds_same old.profile part part refl))
 
 -- The move of a token that SetUp rejects.
@@ -318,7 +310,7 @@ pub move_counted : (old found : ReaderState) (s : List ℕ) (r : Result Move Rea
 move_counted old found s r n at plain finds =
     let may = ap may_have_movetext at in
     let tests = or_parts (is_score s) (is_number s) plain in
-    record { pairs = n; counted = finds.counted; tried = λ part agrees. costs_found old part s n (open_agrees old part agrees may) may tests.1 tests.0 finds.tried }
+    record { pairs = n; counted = finds.counted; tried = λ part agrees. costs_found s n (open_agrees agrees may) may tests.1 tests.0 finds.tried }
 
 -- The first token of a game is taken as after pairs, of which there is none.
 pub takes_outside_first : (old new : ReaderState) (k : TokenKind) (o : Option (Result Accepted Reason)) → old.stage ≡ Between → is_comment (kind_of k) ≡ false → is_end (kind_of k) ≡ false

@@ -1,8 +1,7 @@
 -- How many tokens come without another byte, and the counts before the first byte.
-use Rattle.pgn_game.proofs.Words.{◌≡◌, ◌≤◌, ◌^◌, false, None, arith, Standing, waiting, IsKnown, ReaderState, IsSound}
+use Rattle.pgn_game.proofs.Words.{◌≡◌, ◌≤◌, ◌^◌, false, None, arith, Standing, waiting, IsKnown, ReaderState, IsSound, pending_in}
 use Rattle.pgn_lexer.specs.declared.partial_token.Mode.{Mode}
 use Rattle.pgn_lexer.specs.declared.partial_token.Mode.TheVariants.{LineWord, Symbol, Glyph, Suffix, BraceWord, Line}
-use Rattle.pgn_lexer.specs.PartialToken.{pending_in}
 
 few_waiting_in : (m : Mode) → pending_in m ≤ 2
 few_waiting_in Symbol = omega arith

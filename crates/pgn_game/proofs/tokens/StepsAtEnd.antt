@@ -1,9 +1,7 @@
 -- Steps behind the last piece.
-use Rattle.pgn_lexer.specs.declared.token.LexFault.{LexFault}
 use Rattle.pgn_lexer.specs.Tokens as tokens
 use Rattle.pgn_lexer.specs.PartialToken.{refusal as refusal_token}
-use Rattle.pgn_game.proofs.Words.{Kind, Token, Stage, Between, Reason, Lexical, ReadFault, WriteFault, InputTooLong, Changed, Fault, Profile, Pair, Item, Game, ◌≡◌, ℕ, ◌+◌, ◌<◌, ◌≤◌, Bool, true, false, List, [], ◌∷◌, ◌++◌, length, Option, None, Some, Result, Ok, Err, refl, sym, ap, subst, ◌∙◌, append-nil, append_assoc, length-append, le_refl, arith, ◌*◌, ◌^◌, IsTrue, is_some, ◌↔◌, Device, IsStill, tokens_of, Standing, coming, waiting, HasLeft, IsNext, FinishGivesToken, Follows, Accepted, More, Finished, refusal, is_end, marker_of, next, progress_with, Progress, read, Gains, ReaderState, Answers, IsKnown, as_written, Stays, FinishesAtMarker, CountsStop, CountsWrites, is_outside_the_table, SameGames, FaultAtEnd, AfterStepAtEnd, StepAtEndAdvances, AtEndSoFar, StaysBetween, outcome_at, is_ended, games_after, none_at_end, fault_of_step}
-use Rattle.pgn_game.specs.ConverterCalls.{Converter, IsSound, game_in_reader, game_in_reader_if, IsLast, HasRead, Stands, Finishes, FinishesToFault, CountsFault, CountsReason}
+use Rattle.pgn_game.proofs.Words.{Kind, Token, Stage, Between, Reason, Lexical, ReadFault, WriteFault, InputTooLong, Changed, Fault, Profile, Pair, Item, Game, ◌≡◌, ℕ, ◌+◌, ◌<◌, ◌≤◌, Bool, true, false, List, [], ◌∷◌, ◌++◌, length, Option, None, Some, Result, Ok, Err, refl, sym, ap, subst, ◌∙◌, append-nil, append_assoc, length-append, le_refl, arith, ◌*◌, ◌^◌, IsTrue, is_some, ◌↔◌, Device, IsStill, tokens_of, Standing, coming, waiting, HasLeft, IsNext, FinishGivesToken, Follows, Accepted, More, Finished, refusal, is_end, marker_of, next, progress_with, Progress, read, ReaderState, Answers, IsKnown, as_written, Stays, FinishesAtMarker, CountsStop, CountsWrites, is_outside_the_table, SameGames, FaultAtEnd, AfterStepAtEnd, StepAtEndAdvances, AtEndSoFar, StaysBetween, outcome_at, is_ended, games_after, none_at_end, fault_of_step, LexFault, Converter, IsSound, game_in_reader, game_in_reader_if, IsLastGame as IsLast, HasRead, Stands, Finishes, FinishesToFault, CountsFault, CountsReason}
 use Rattle.pgn_game.proofs.tokens.OneMoreToken.{gains_none, gains_more, stops_more, games_still, counts_still, position_still, read-passes}
 use Rattle.pgn_game.proofs.tokens.NoneBeforeFault.{none_before_fault}
 use Rattle.pgn_game.proofs.tokens.AcceptedToConverter.{stepped, gains_token, same_games, has_read_more, one_game, has_read_game, at_fault, at_lexical}
@@ -46,9 +44,9 @@ unfolding refusal
 end_at p Between ps name items h = refl
 end_at p _ ps name items h = absurd (cc)
 
-between_after : (s : Stage) (ps : List Pair) (name : List ℕ) (items : List Item) (games : List Game) → s ≡ Between
+between_after : {s : Stage} (ps : List Pair) (name : List ℕ) (items : List Item) (games : List Game) → s ≡ Between
     → (progress_with games (next (record { stage = s; pairs = ps; name = name; items = items }) tokens.end)).part.stage ≡ Between
-between_after s ps name items games e =
+between_after {s} ps name items games e =
     subst (λ s. (progress_with games (next (record { stage = s; pairs = ps; name = name; items = items }) tokens.end)).part.stage ≡ Between) (sym e) refl
 
 pub is_the_end : (k : Kind) → is_end k ≡ true → k ≡ tokens.end
@@ -59,8 +57,8 @@ pub end_passes : (p : Profile) (b : Progress) (k : Kind) → is_end k ≡ true �
 end_passes p b k e none =
     let k_is = is_the_end k e in
     subst (λ j. (progress_with b.games (next b.part j)).part.stage ≡ Between) (sym k_is)
-    (between_after b.part.stage b.part.pairs b.part.name b.part.items b.games
-    (end_at p b.part.stage b.part.pairs b.part.name b.part.items (subst (λ j. refusal p b.part j ≡ None) k_is none)))
+    (between_after b.part.pairs b.part.name b.part.items b.games
+    (end_at p b.part.stage b.part.pairs b.part.name b.part.items (rw k_is at none)))
 
 -- the game just finished is let go
 pub let_go : (p : Profile) (c : Converter) (given : List Token) → HasRead p c given → HasRead p (record c { just_finished = None }) given
@@ -77,14 +75,14 @@ pub closes : (p : Profile) (old : Converter) (u : List ℕ) (given : List Token)
     → AfterStepAtEnd p u given old (closed l new old.games finished (outcome_at t.at r)) (none_at_end e (outcome_at t.at r)) a c
 closes p old u given t l new finished a c true (Ok More) is_e has_read left profile probes written h stays at_marker =
     let more = has_read_more p old given t l new finished has_read profile probes h.free h.leads h.plies h.tried in
-    let passes = subst (λ q. refusal q (read p given).progress.part t.kind ≡ None) has_read.profile h.free in (
+    let passes = rw has_read.profile at h.free in (
       t,
       record {
         whole = left;
         has_read = let_go p _ _ more;
         between = cc (more.agrees.stage, read-passes p given t has_read.passes passes, end_passes p (read p given).progress t.kind is_e passes);
         same = same_games p old given t l new finished has_read profile probes h.free h.leads;
-        gains = gains_token p old given t l new finished has_read profile probes written a c h.free h.appended;
+        gains = gains_token p old given t l new finished has_read profile probes written h.free h.appended;
       },
       stays,
     )
@@ -93,7 +91,7 @@ closes p old u given t l new finished a c false (Ok More) is_e has_read left pro
   record {
     left = left;
     has_read = let_go p _ _ (has_read_more p old given t l new finished has_read profile probes h.free h.leads h.plies h.tried);
-    gains = gains_token p old given t l new finished has_read profile probes written a c h.free h.appended;
+    gains = gains_token p old given t l new finished has_read profile probes written h.free h.appended;
   },
   same_games p old given t l new finished has_read profile probes h.free h.leads,
   stays,
@@ -105,19 +103,19 @@ closes p old u given t l new finished a c false (Ok Finished) is_e has_read left
   record {
     left = left;
     has_read = let_go p _ _ (has_read_game p old given t l new finished has_read profile probes h.free h.leads h.plies h.tried);
-    gains = gains_token p old given t l new finished has_read profile probes written a c h.free h.appended;
+    gains = gains_token p old given t l new finished has_read profile probes written h.free h.appended;
   },
   one_game p old given t l new finished has_read profile probes h.free h.leads,
 )
 closes p old u given t l new finished a c e (Err why) is_e has_read left profile probes written stopped stays at_marker =
     let rest = tokens_left u given e l t left in
     subst (λ ts. FaultAtEnd p given ts (record { at = t.at; reason = why }) new a c) (sym rest.1)
-    (at_fault p old given t l new finished has_read profile probes written rest.0 a c why stopped)
+    (at_fault p old given t l new finished has_read profile probes written rest.0 stopped)
 
 pub closes_fault : (p : Profile) (old new : Converter) (u : List ℕ) (given : List Token) (f : LexFault) (o : Option (List ℕ)) → HasRead p old given
     → tokens_of u ≡ given ++ refusal_token f ∷ [] → new.reading ≡ old.reading → AfterStepAtEnd p u given old new (Err (record { at = f.at; reason = Lexical f.reason })) o o
 closes_fault p old new u given f o has_read whole same =
-    subst (λ ts. FaultAtEnd p given ts (record { at = f.at; reason = Lexical f.reason }) new.reading o o) (sym whole) (at_lexical p old given f new.reading o has_read same)
+    subst (λ ts. FaultAtEnd p given ts (record { at = f.at; reason = Lexical f.reason }) new.reading o o) (sym whole) (at_lexical f has_read same)
 
 -- the end has neither a fault of its own nor a failure
 pub fault_of_closed : (e : Bool) (outcome : Result (Option Accepted) Fault) → fault_of_step outcome ≡ fault_of_step (none_at_end e outcome)
@@ -230,7 +228,7 @@ closed_none p old u b given o stands =
       no_fewer = le_refl (length (read p given).progress.games);
       game = (λ h. absurd (cc), λ h. absurd (omega (arith, h)));
       last = λ h. absurd (cc);
-      gains = gains_none p given o;
+      gains = gains_none;
     }
 
 module _ (p : Profile) (u : List ℕ) (given : List Token) (now new : Converter) (finished_game : Bool) (a c d : Option (List ℕ)) (so : AtEndSoFar p u given now finished_game a c) where
@@ -243,8 +241,7 @@ module _ (p : Profile) (u : List ℕ) (given : List Token) (now new : Converter)
   held_still ts same stays h between =
       let kept = stays between in
       subst (λ gs. IsLast (Some (game_in_reader new.reading)) gs) (sym same)
-      (subst (λ (r : ReaderState). IsLast (Some (game_in_reader r)) (read p so.tokens).progress.games) (sym kept)
-      (so.last h (ap (λ (r : ReaderState). r.stage) (sym kept) ∙ between)))
+      (rw kept (so.last h (rw kept at between)))
 
   pub closed_more : AfterStepAtEnd p u so.tokens now new (Ok (Some More)) c d → AtEndSoFar p u given new finished_game a d
   closed_more (t, took, same, stays) =
@@ -252,10 +249,10 @@ module _ (p : Profile) (u : List ℕ) (given : List Token) (now new : Converter)
         tokens = so.tokens ++ t ∷ [];
         left = took.left;
         has_read = took.has_read;
-        no_fewer = subst (λ gs. length (read p given).progress.games ≤ length {A = Game} gs) (sym same) so.no_fewer;
+        no_fewer = rw same so.no_fewer;
         game = same_length _ same;
         last = held_still _ same stays;
-        gains = gains_more p given so.tokens _ a c d so.gains took.gains;
+        gains = gains_more so.gains took.gains;
       }
 
   pub closed_game : AfterStepAtEnd p u so.tokens now new (Ok (Some Finished)) c d → AtEndSoFar p u given new true a d
@@ -269,7 +266,7 @@ module _ (p : Profile) (u : List ℕ) (given : List Token) (now new : Converter)
         no_fewer = omega (arith, count, so.no_fewer);
         game = (λ h. omega (arith, count, so.no_fewer), λ h. refl);
         last = λ h between. ((read p so.tokens).progress.games, g, one, held);
-        gains = gains_more p given so.tokens _ a c d so.gains took.gains;
+        gains = gains_more so.gains took.gains;
       }
 
   pub closed_end : (flag : Bool) → AfterStepAtEnd p u so.tokens now new (Ok None) c d → (new.reading.stage ≡ Between → flag ≡ finished_game)
@@ -280,10 +277,10 @@ module _ (p : Profile) (u : List ℕ) (given : List Token) (now new : Converter)
       let held = hands (so.tokens ++ t ∷ []) flag (λ h. held_still _ took.same stays (subst IsTrue same_flag h) took.between) in
       record {
         has_read = subst (HasRead p _) (sym took.whole) (record { profile = h.profile; no_fault = h.no_fault; passes = h.passes; agrees = h.agrees; games = h.games; plies = h.plies; probed = h.probed; tried = h.tried; just_finished = held });
-        game = subst (λ ts. IsTrue finished_game ↔ (length (read p given).progress.games < length (read p ts).progress.games)) (sym took.whole) (same_length _ took.same);
+        game = rw took.whole (same_length _ took.same);
         just_finished = λ is. (game_in_reader new.reading, ap (λ b. game_in_reader_if b new.reading) (same_flag ∙ is));
         none_just_finished = λ is. ap (λ b. game_in_reader_if b new.reading) (same_flag ∙ is);
-        gains = subst (λ ts. Gains p given ts a d) (sym took.whole) (gains_more p given so.tokens _ a c d so.gains took.gains);
+        gains = rw took.whole (gains_more so.gains took.gains);
       }
     where
       hands : (ts : List Token) (b : Bool) → (IsTrue b → IsLast (Some (game_in_reader new.reading)) (read p ts).progress.games) → IsLast (game_in_reader_if b new.reading) (read p ts).progress.games
@@ -293,13 +290,13 @@ module _ (p : Profile) (u : List ℕ) (given : List Token) (now new : Converter)
   pub closed_fault : (f : Fault) (l : Standing) → HasLeft l u given → (read p given).fault ≡ None → AfterStepAtEnd p u so.tokens now new (Err f) c d → new.games ≡ now.games
       → FinishesToFault p u given new f a d
   closed_fault f l left passes to same =
-      let stops = stops_more p given so.tokens (tokens_of u) f a c d so.gains to.stops in
+      let stops = stops_more so.gains to.stops in
       record {
         stops = stops;
-        no_game = none_before_fault p u given l left passes a d stops;
-        games = same ∙ so.has_read.games ∙ sym (ap (length {A = Game}) (games_still p given so.tokens (tokens_of u) f a c d so.gains to.stops ∙ to.no_game));
-        counts = counts_still p given so.tokens (tokens_of u) f a c d so.gains to.stops new.reading.most_probes to.counts;
-        position = to.position ∙ sym (position_still p given so.tokens (tokens_of u) f a c d so.gains to.stops);
+        no_game = none_before_fault p u l left passes stops;
+        games = same ∙ so.has_read.games ∙ sym (ap (length {A = Game}) (games_still so.gains to.stops ∙ to.no_game));
+        counts = counts_still so.gains to.stops to.counts;
+        position = to.position ∙ sym (position_still so.gains to.stops);
       }
 
 -- behind the last piece a token was waiting, unless it is the end

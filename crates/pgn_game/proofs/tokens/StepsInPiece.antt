@@ -1,8 +1,6 @@
 -- Steps in turn in a piece.
-use Rattle.std.proofs.Common.{◌≡◌, ℕ, ◌+◌, ◌-◌, ◌<◌, ◌≤◌, ◌^◌, zero, suc, List, [], ◌∷◌, ◌++◌, length, take, drop, Option, None, Some, refl, sym, ap, subst, ◌∙◌, append_assoc, append-nil, length-append, length-drop, length-take, length-take-le, le_refl, take_all, drop_of_length-le, inl, inr, arith, Ok, Err}
-use Rattle.std.proofs.Math.Seq.{take-add}
-use Rattle.pgn_game.proofs.Words.{Reason, InputTooLong, Fault, Profile, take-append-drop, take-take, drop-take, drop-drop, Token, EndsAt, tokens_of, decided, Follows, IsDecided, first, still, More, Finished, ReaderState, Converter, Stands, AreNext, FedAll, FedGame, FedToFault, StopsIn, too_long, CountsReason}
-use Rattle.pgn_game.specs.ConverterSteps.{AfterStep, next_at, SoFar}
+use Rattle.std.proofs.Common.{length-take-le, take_all}
+use Rattle.pgn_game.proofs.Words.{Reason, InputTooLong, Fault, Profile, take-append-drop, take-take, drop-take, drop-drop, Token, EndsAt, tokens_of, decided, Follows, IsDecided, first, still, More, Finished, ReaderState, Converter, Stands, FedAll, FedGame, FedToFault, StopsIn, too_long, CountsReason, ◌≡◌, ℕ, ◌+◌, ◌-◌, ◌<◌, ◌≤◌, ◌^◌, zero, suc, List, [], ◌∷◌, ◌++◌, length, take, drop, Option, None, Some, refl, sym, ap, subst, ◌∙◌, append_assoc, append-nil, length-append, length-drop, length-take, le_refl, drop_of_length-le, inl, inr, arith, Ok, Err, take-add, AfterStep, next_at, SoFar}
 use Rattle.pgn_game.proofs.tokens.OneMoreToken.{gains_none, gains_more, stops_more, games_still, counts_still, position_still}
 use Rattle.pgn_game.proofs.tokens.AcceptedToConverter.{still_none, still_none-none}
 
@@ -18,9 +16,9 @@ follows_from None x xs s h k = tt
 follows_from (Some c) x xs [] h k = tt
 follows_from (Some c) x xs (y ∷ ys) h k = k ∙ h
 
-pub begins_with : (p : Profile) (c : Converter) (u : List ℕ) (b : Option ℕ) (given : List Token) (piece : List ℕ) → Stands p c u b given → Follows b piece → Stands p c u (next_at b piece 0) given
-begins_with p c u b given [] stands follows = stands
-begins_with p c u b given (x ∷ xs) stands follows =
+pub begins_with : {p : Profile} {c : Converter} {u : List ℕ} {b : Option ℕ} {given : List Token} (piece : List ℕ) → Stands p c u b given → Follows b piece → Stands p c u (next_at b piece 0) given
+begins_with [] stands follows = stands
+begins_with {b} (x ∷ xs) stands follows =
     record {
       lexer = record { count = stands.lexer.count; before = stands.lexer.before; tokens = λ s k. stands.lexer.tokens s (follows_from b x xs s follows k) };
       has_read = stands.has_read;
@@ -32,11 +30,11 @@ pub so_far_none : (p : Profile) (old : Converter) (u : List ℕ) (b : Option ℕ
 so_far_none p old u b given piece o stands follows =
     record {
       tokens = given;
-      stands = subst (λ xs. Stands p old xs (next_at b piece 0) given) (sym (append-nil u)) (begins_with p old u b given piece stands follows);
+      stands = rw (append-nil u) (begins_with piece stands follows);
       decided = λ h. absurd (omega arith);
       empty = λ h. refl;
       no_game = refl;
-      gains = gains_none p given o;
+      gains = gains_none;
     }
 
 pub next_within : (b : Option ℕ) (piece : List ℕ) (at : ℕ) → 0 < length piece → next_at b piece at ≡ first (drop at piece)
@@ -48,31 +46,30 @@ next_behind b [] = refl
 next_behind b (x ∷ xs) = ap first (drop_of_length-le (x ∷ xs) (le_refl (length (x ∷ xs))))
 
 pub further : (u piece : List ℕ) (at used : ℕ) → (u ++ take at piece) ++ take used (drop at piece) ≡ u ++ take (at + used) piece
-further u piece at used = append_assoc u (take at piece) (take used (drop at piece)) ∙ ap (λ xs. u ++ xs) (sym (take-add at used piece))
+further u piece at used = rw (take-add at used piece) (append_assoc u (take at piece) (take used (drop at piece)))
 
 pub whole_piece : (u piece : List ℕ) (at : ℕ) → (u ++ take at piece) ++ drop at piece ≡ u ++ piece
-whole_piece u piece at = append_assoc u (take at piece) (drop at piece) ∙ ap (λ xs. u ++ xs) (take-append-drop at piece)
+whole_piece u piece at = rw (take-append-drop at piece) at (append_assoc u (take at piece) (drop at piece))
 
 -- with no byte behind, the tokens are those decided
 pub decided_at_end : (u : List ℕ) (ts : List Token) → IsDecided u [] ts → ts ≡ decided u
 decided_at_end u ts (inl e) = e
 decided_at_end u ts (inr (c, e, k)) = absurd (cc)
 
-decided_behind : (u piece : List ℕ) (ts : List Token) → IsDecided (u ++ take (length piece) piece) (drop (length piece) piece) ts → ts ≡ decided (u ++ piece)
-decided_behind u piece ts h =
-    let here = subst (λ xs. IsDecided (u ++ xs) (drop (length piece) piece) ts) (take_all (length piece) piece (le_refl (length piece))) h in
-    decided_at_end (u ++ piece) ts (subst (λ xs. IsDecided (u ++ piece) xs ts) (drop_of_length-le piece (le_refl (length piece))) here)
+decided_behind : (u piece : List ℕ) {ts : List Token} → IsDecided (u ++ take (length piece) piece) (drop (length piece) piece) ts → ts ≡ decided (u ++ piece)
+decided_behind u piece {ts} h =
+    let here = rw (take_all (length piece) piece (le_refl (length piece))) at h in
+    decided_at_end (u ++ piece) ts (rw (drop_of_length-le piece (le_refl (length piece))) at here)
 
 -- the piece is used whole, and no token ends in it
 pub fed_behind : (p : Profile) (u : List ℕ) (b : Option ℕ) (given : List Token) (piece : List ℕ) (at : ℕ) (now : Converter) (a c : Option (List ℕ)) → SoFar p u b given piece at now a c
     → at ≡ length piece → now.just_finished ≡ None → FedAll p u b given piece now a c
 fed_behind p u b given piece at now a c so end finished =
-    let stands = subst (λ n. Stands p now (u ++ take n piece) (next_at b piece n) so.tokens) end so.stands in
+    let stands = rw end at so.stands in
     record {
       tokens = so.tokens;
-      stands = subst (λ n. Stands p now (u ++ piece) n so.tokens) (next_behind b piece)
-          (subst (λ xs. Stands p now (u ++ xs) (next_at b piece (length piece)) so.tokens) (take_all (length piece) piece (le_refl (length piece))) stands);
-      decided = λ some. decided_behind u piece so.tokens (subst (λ n. IsDecided (u ++ take n piece) (drop n piece) so.tokens) end (so.decided (omega (arith, some, end))));
+      stands = rw (next_behind b piece) at (rw (take_all (length piece) piece (le_refl (length piece))) at stands);
+      decided = λ some. decided_behind u piece (rw end at (so.decided (omega (arith, some, end))));
       empty = so.empty;
       no_game = so.no_game;
       none_just_finished = finished;
@@ -89,28 +86,28 @@ module _ (p : Profile) (u : List ℕ) (b : Option ℕ) (given : List Token) (pie
   some : 0 < length piece
   some = omega arith
 
-  stands_further : (new : Converter) (used : ℕ) (ts : List Token) → Stands p new ((u ++ take at piece) ++ take used (drop at piece)) (first (drop used (drop at piece))) ts
+  stands_further : {new : Converter} (used : ℕ) {ts : List Token} → Stands p new ((u ++ take at piece) ++ take used (drop at piece)) (first (drop used (drop at piece))) ts
       → Stands p new (u ++ take (at + used) piece) (first (drop (at + used) piece)) ts
-  stands_further new used ts stands =
+  stands_further {new} used {ts} stands =
       subst (λ xs. Stands p new (u ++ take (at + used) piece) (first xs) ts) (drop-drop used at piece)
-      (subst (λ xs. Stands p new xs (first (drop used (drop at piece))) ts) (further u piece at used) stands)
+      (rw (further u piece at used) at stands)
 
-  decided_further : (used : ℕ) (ts : List Token) → IsDecided ((u ++ take at piece) ++ take used (drop at piece)) (drop used (drop at piece)) ts
+  decided_further : (used : ℕ) {ts : List Token} → IsDecided ((u ++ take at piece) ++ take used (drop at piece)) (drop used (drop at piece)) ts
       → IsDecided (u ++ take (at + used) piece) (drop (at + used) piece) ts
-  decided_further used ts h =
+  decided_further used {ts} h =
       subst (λ xs. IsDecided (u ++ take (at + used) piece) xs ts) (drop-drop used at piece)
-      (subst (λ xs. IsDecided xs (drop used (drop at piece)) ts) (further u piece at used) h)
+      (rw (further u piece at used) at h)
 
   -- one token more
   pub so_far_more : (new : Converter) (used : ℕ) → AfterStep p (u ++ take at piece) so.tokens (drop at piece) new used (Ok (Some More)) c d → SoFar p u b given piece (at + used) new a d
   so_far_more new used (t, took, same) =
       record {
         tokens = so.tokens ++ t ∷ [];
-        stands = subst (λ n. Stands p new (u ++ take (at + used) piece) n (so.tokens ++ t ∷ [])) (sym (next_within b piece (at + used) some)) (stands_further new used _ took.stands);
-        decided = λ h. decided_further used _ took.decided;
+        stands = rw (next_within b piece (at + used) some) (stands_further used took.stands);
+        decided = λ h. decided_further used took.decided;
         empty = λ none. absurd (omega (arith, none));
         no_game = same ∙ so.no_game;
-        gains = gains_more p given so.tokens (so.tokens ++ t ∷ []) a c d so.gains took.gains;
+        gains = gains_more so.gains took.gains;
       }
 
   -- no token more
@@ -118,12 +115,12 @@ module _ (p : Profile) (u : List ℕ) (b : Option ℕ) (given : List Token) (pie
   fed_all new used (all, stands, is_decided, gains) finished =
       record {
         tokens = so.tokens;
-        stands = subst (λ n. Stands p new (u ++ piece) n so.tokens) (sym (still_none b piece some)) (subst (λ xs. Stands p new xs None so.tokens) (whole_piece u piece at) stands);
+        stands = rw (still_none b piece some) (rw (whole_piece u piece at) at stands);
         decided = λ h. is_decided ∙ ap decided (whole_piece u piece at);
         empty = so.empty;
         no_game = so.no_game;
         none_just_finished = finished;
-        gains = gains_more p given so.tokens so.tokens a c d so.gains gains;
+        gains = gains_more so.gains gains;
       }
 
   -- a marker
@@ -136,15 +133,15 @@ module _ (p : Profile) (u : List ℕ) (b : Option ℕ) (given : List Token) (pie
         tokens = so.tokens;
         marker = t;
         game = g;
-        stands = stands_further new used _ took.stands;
+        stands = stands_further used took.stands;
         at_limit = λ h. decided_at_end (u ++ take (at + used) piece) _ (subst (λ xs. IsDecided (u ++ take (at + used) piece) xs (so.tokens ++ t ∷ []))
-            (drop_of_length-le piece (omega (arith, h, short, length-append u (take (at + used) piece), length-take (at + used) piece))) (decided_further used _ took.decided));
-        decided = decided_further used _ took.decided;
+            (drop_of_length-le piece (omega (arith, h, short, length-append u (take (at + used) piece), length-take (at + used) piece))) (decided_further used took.decided));
+        decided = decided_further used took.decided;
         ends = subst (EndsAt t.kind t.at) place took.ends;
         no_game = so.no_game;
-        one_game = one ∙ ap (λ games. games ++ g ∷ []) so.no_game;
+        one_game = rw so.no_game at one;
         just_finished = finished;
-        gains = gains_more p given so.tokens (so.tokens ++ t ∷ []) a c d so.gains took.gains;
+        gains = gains_more so.gains took.gains;
       }
 
   -- a fault
@@ -154,13 +151,12 @@ module _ (p : Profile) (u : List ℕ) (b : Option ℕ) (given : List Token) (pie
       record {
         fed = record {
           tokens = fed.tokens;
-          next = subst (λ n. AreNext (u ++ piece) n fed.tokens) (still_none-none (drop at piece) ∙ sym (still_none b piece some))
-              (subst (λ xs. AreNext xs (still None (drop at piece)) fed.tokens) (whole_piece u piece at) fed.next);
-          stops = stops_more p given so.tokens fed.tokens f a c d so.gains fed.stops;
+          next = rw (still_none-none (drop at piece) ∙ sym (still_none b piece some)) at (rw (whole_piece u piece at) at fed.next);
+          stops = stops_more so.gains fed.stops;
         };
-        no_game = games_still p given so.tokens fed.tokens f a c d so.gains fed.stops ∙ to_fault.no_game ∙ so.no_game;
-        counts = counts_still p given so.tokens fed.tokens f a c d so.gains fed.stops new.reading.most_probes to_fault.counts;
-        position = to_fault.position ∙ sym (position_still p given so.tokens fed.tokens f a c d so.gains fed.stops);
+        no_game = games_still so.gains fed.stops ∙ to_fault.no_game ∙ so.no_game;
+        counts = counts_still so.gains fed.stops to_fault.counts;
+        position = to_fault.position ∙ sym (position_still so.gains fed.stops);
       }
 
 -- ---- a front of the piece
@@ -172,22 +168,22 @@ follows_front (Some c) (x ∷ xs) zero h = tt
 follows_front (Some c) (x ∷ xs) (suc n) h = h
 
 -- a converter that stands before any byte stands before this one
-pub stands_before_any : (p : Profile) (c : Converter) (u : List ℕ) (b : Option ℕ) (given : List Token) → Stands p c u None given → Stands p c u b given
-stands_before_any p c u b given stands =
+pub stands_before_any : {p : Profile} {c : Converter} {u : List ℕ} {b : Option ℕ} {given : List Token} → Stands p c u None given → Stands p c u b given
+stands_before_any stands =
     record {
       lexer = record { count = stands.lexer.count; before = stands.lexer.before; tokens = λ s k. stands.lexer.tokens s tt };
       has_read = stands.has_read;
     }
 
-before_more : (p : Profile) (c : Converter) (u : List ℕ) (given : List Token) (xs : List ℕ) (n : ℕ) → Stands p c u (first (take n xs)) given → Stands p c u (first xs) given
-before_more p c u given [] n stands = subst (λ ys. Stands p c u (first ys) given) (take_all n [] (omega arith)) stands
-before_more p c u given (x ∷ xs) zero stands = stands_before_any p c u (Some x) given stands
-before_more p c u given (x ∷ xs) (suc n) stands = stands
+before_more : {p : Profile} {c : Converter} {u : List ℕ} {given : List Token} (xs : List ℕ) (n : ℕ) → Stands p c u (first (take n xs)) given → Stands p c u (first xs) given
+before_more {p} {c} {u} {given} [] n stands = subst (λ ys. Stands p c u (first ys) given) (take_all n [] (omega arith)) stands
+before_more (x ∷ xs) zero stands = stands_before_any stands
+before_more (x ∷ xs) (suc n) stands = stands
 
-decided_before : (u : List ℕ) (given : List Token) (xs : List ℕ) (n : ℕ) → IsDecided u (take n xs) given → IsDecided u xs given
-decided_before u given [] n h = subst (λ ys. IsDecided u ys given) (take_all n [] (omega arith)) h
-decided_before u given (x ∷ xs) zero h = inl (decided_at_end u given h)
-decided_before u given (x ∷ xs) (suc n) h = h
+decided_before : (u : List ℕ) {given : List Token} (xs : List ℕ) (n : ℕ) → IsDecided u (take n xs) given → IsDecided u xs given
+decided_before u {given} [] n h = subst (λ ys. IsDecided u ys given) (take_all n [] (omega arith)) h
+decided_before u {given} (x ∷ xs) zero h = inl (decided_at_end u given h)
+decided_before u (x ∷ xs) (suc n) h = h
 
 -- it is shorter than the piece
 pub limit_left : (piece : List ℕ) (n : ℕ) → length (take n piece) < length piece → n < length piece
@@ -213,13 +209,11 @@ module _ (p : Profile) (u : List ℕ) (b : Option ℕ) (given : List Token) (pie
         tokens = fed.tokens;
         marker = fed.marker;
         game = fed.game;
-        stands = before_more p new (u ++ take used piece) ts (drop used piece) (n - used)
-            (subst (λ xs. Stands p new (u ++ take used piece) (first xs) ts) rest
-            (subst (λ xs. Stands p new (u ++ xs) (first (drop used (take n piece))) ts) same fed.stands));
+        stands = before_more (drop used piece) (n - used)
+            (rw rest at (rw same at fed.stands));
         at_limit = λ h. fed.at_limit (ap (λ xs. length (u ++ xs)) same ∙ h) ∙ ap (λ xs. decided (u ++ xs)) same;
-        decided = decided_before (u ++ take used piece) ts (drop used piece) (n - used)
-            (subst (λ xs. IsDecided (u ++ take used piece) xs ts) rest
-            (subst (λ xs. IsDecided (u ++ xs) (drop used (take n piece)) ts) same fed.decided));
+        decided = decided_before (u ++ take used piece) (drop used piece) (n - used)
+            (rw rest at (rw same at fed.decided));
         ends = fed.ends;
         no_game = fed.no_game;
         one_game = fed.one_game;
@@ -263,4 +257,4 @@ module _ (p : Profile) (u : List ℕ) (b : Option ℕ) (given : List Token) (pie
 
 -- what a step counts, after steps that counted nothing
 pub counts_step : (r : Reason) (x y z : ℕ) → y ≡ x → CountsReason r y z → CountsReason r x z
-counts_step r x y z same h = subst (λ n. CountsReason r n z) same h
+counts_step r x y z same h = rw same at h

@@ -1,17 +1,8 @@
 -- A game that the end of a text finishes: its marker is a symbol that ends with the text.
-use Rattle.std.specs.Prelude.{if◌then◌else◌}
-use Rattle.std.proofs.lemmas.List.{drop_at, drop-append-le, drop-drop, length-drop}
 use Rattle.pgn_lexer.specs.declared.partial_token.Mode.TheVariants as modes
-use Rattle.pgn_lexer.specs.declared.token.LexReason.TheVariants.{SymbolTooLong}
-use Rattle.pgn_lexer.specs.Spelling.{gives, stops}
 use Rattle.pgn_lexer.specs.Tokens as tokens
-use Rattle.pgn_lexer.specs.TokensOf.{onto, tokens_of}
-use Rattle.pgn_lexer.specs.PartialToken.{tokens_to_come_in}
-use Rattle.pgn_lexer.specs.Laws.{BeginsWithToken, RisesTo, SymbolsStandInText, TokensRise}
 use Rattle.pgn_game.proofs.MarkerTexts.{score_marker, marker_short}
-use Rattle.pgn_game.proofs.Words.{Token, Profile, Game, ◌≡◌, ℕ, ◌+◌, ◌<◌, ◌≤◌, Bool, true, false, List, [], ◌∷◌, ◌++◌, length, nat_le, None, refl, sym, ap, subst, ◌∙◌, inl, inr, drop, append-nil, append_assoc, length-append, arith, le-leb, EndsAt, Standing, coming, is_score, no_progress, Read, read, read_from, Converter, Stands, games_read, FinishesGame}
-use Rattle.pgn_game.specs.Text.{text_of}
-use Rattle.pgn_game.specs.GameEnds.{GamesEndByMarker, LastGame, TextsEndBehindMarker, TextsEndBetweenGames}
+use Rattle.pgn_game.proofs.Words.{Token, Profile, Game, ◌≡◌, ℕ, ◌+◌, ◌<◌, ◌≤◌, Bool, true, false, List, [], ◌∷◌, ◌++◌, length, nat_le, None, refl, sym, ap, subst, ◌∙◌, inl, inr, drop, append-nil, append_assoc, length-append, arith, le-leb, EndsAt, Standing, coming, is_score, no_progress, Read, read, read_from, Converter, Stands, games_read, FinishesGame, if◌then◌else◌, drop_at, drop-append-le, drop-drop, length-drop, SymbolTooLong, gives, stops, onto, tokens_of, tokens_to_come_in, BeginsWithToken, RisesTo, SymbolsStandInText, TokensRise, text_of_games as text_of, GamesEndByMarker, LastGame, TextsEndBehindMarker, TextsEndBetweenGames}
 use Rattle.pgn_game.proofs.tokens.GamesInTurn.{passes_before}
 use Rattle.pgn_game.proofs.tokens.NoneBeforeFault.{reads_behind}
 use Rattle.pgn_game.proofs.refusals.RefusalsInMovetext.{score_of}
@@ -26,8 +17,7 @@ has_last (t ∷ u ∷ ts) h = has_last (u ∷ ts) h.2
 
 pub between_games : TokensRise → TextsEndBetweenGames
 between_games rise p u passes =
-    ap (λ l. text_of p (games_read p (tokens_of u)) ++ l) (none_torn p no_progress (tokens_of u) (has_last (tokens_of u) (rise u)) passes)
-    ∙ append-nil (text_of p (games_read p (tokens_of u)))
+    rw (none_torn p no_progress (tokens_of u) (has_last (tokens_of u) (rise u)) passes) (append-nil (text_of p (games_read p (tokens_of u))))
 
 -- ---- A symbol that goes on to the end
 
@@ -101,10 +91,9 @@ module _ (stand : SymbolsStandInText) (ends : GamesEndByMarker) (p : Profile) (c
       by_games : AddsOne (games_read p given) (read p (tokens_of u)) → Finished t
       by_games (inl same) = absurd (omega (arith, more, ap (length {A = Game}) same))
       by_games (inr (passes, (g, one))) =
-          let before = passes_before p (given ++ t ∷ []) (end_at place ∷ []) (ap (λ ts. (read p ts).fault) (sym cut) ∙ passes) in
+          let before = passes_before p (given ++ t ∷ []) (end_at place ∷ []) (rw cut at passes) in
           let none_more : games_read p (tokens_of u) ≡ games_read p (given ++ t ∷ []) =
-          ap (λ ts. games_read p ts) cut
-          ∙ ap (λ (r : Read). r.progress.games) (reads_behind p no_progress (given ++ t ∷ []) (end_at place ∷ []) before)
+          ap (games_read p) cut ∙ ap (λ (r : Read). r.progress.games) (reads_behind p no_progress (given ++ t ∷ []) (end_at place ∷ []) before)
           ∙ quiet_games p (read p (given ++ t ∷ [])).progress (end_at place ∷ []) (end, tt) in
           record { game = record { passes = before; game = g; one_more = sym none_more ∙ one }; passes = passes; same = none_more }
 
@@ -146,7 +135,7 @@ module _ (stand : SymbolsStandInText) (ends : GamesEndByMarker) (p : Profile) (c
   by_left _ is (symbol mode) = of_symbol mode is
 
   last_game : LastGame p u given
-  last_game = by_left (coming l []) refl (left_in l.held.mode l.count l.held.at l.held.text)
+  last_game = by_left (coming l []) refl (left_in l.held.mode)
 
 pub behind_marker : SymbolsStandInText → GamesEndByMarker → TextsEndBehindMarker
 behind_marker stand ends p c u given stands more = last_game stand ends p c u given stands more

@@ -1,84 +1,81 @@
 -- Conversions of whole inputs.
-use Rattle.std.specs.Io.KnownBytes.{Appends, Consumes, Keeps, IsAtEnd}
-use Rattle.pgn_game.proofs.Words.{Token, InputTooLong, Fault, Profile, ◌≡◌, ℕ, false, inl, ◌^◌, ◌<◌, ◌≤◌, List, [], ◌∷◌, ◌++◌, length, Option, None, Some, Result, Ok, Err, IfSome, refl, sym, ap, subst, ◌∙◌, append-nil, append_assoc, map, sum, Consumes-nil, Consumes-trans, tokens_of, decided, Follows, plies_of, whole_plies, Gains, MostTried, IsConverted, IsTotalled, MostProbes, ReadsNoMore, FailsOn, Fails, AfterEnd, AfterConversion, AfterSlice, verdict_in, Games, games_of, HaveRead, within, NextGame, NoGame, NextStops, ReadSoFar}
-use Rattle.pgn_game.specs.declared.conversion.Totals.{Totals}
-use Rattle.pgn_game.specs.Progress.{no_progress, Read, read, written, due, refused as is_refused, totals, verdict, verdict_of}
-use Rattle.pgn_game.specs.ConverterCalls.{Converter, HasRead, Stands, Stops, refused, unwritten, StopsWriting, StopsIn, at_token, too_long, FedFault, FedWhole, ReadsUpTo, Finishes}
+use Rattle.std.specs.Io.KnownBytes.{Keeps, IsAtEnd}
+use Rattle.pgn_game.proofs.Words.{Token, InputTooLong, Fault, Profile, ◌≡◌, ℕ, false, inl, ◌^◌, ◌≤◌, List, [], ◌∷◌, ◌++◌, length, Option, None, Some, Result, Ok, Err, IfSome, refl, sym, ap, subst, ◌∙◌, append-nil, append_assoc, map, sum, Consumes-nil, Consumes-trans, tokens_of, decided, plies_of, whole_plies, Gains, MostTried, IsConverted, IsTotalled, MostProbes, ReadsNoMore, FailsOn, Fails, AfterEnd, AfterConversion, AfterSlice, verdict_in, Games, games_of, HaveRead, within, NextGame, NoGame, NextStops, ReadSoFar, Appends, Consumes, Totals, no_progress, Read, read, due, refused as is_refused, totals, verdict, verdict_of, Converter, HasRead, Stands, Stops, refused_stop as refused, unwritten, StopsWriting, StopsIn, at_token, too_long, FedFault, FedWhole, ReadsUpTo, Finishes}
 use Rattle.pgn_game.specs.GamesCalls as games_calls
 use Rattle.pgn_game.specs.Conversion as conversion
 use Rattle.pgn_game.proofs.tokens.OneMoreToken.{torn-none, gains_none, gains_more, stops_more, stops_from}
 use Rattle.pgn_game.proofs.tokens.AcceptedToConverter.{in_games, still_none-none}
 
 pub verdict_passes : (r : Read) → r.fault ≡ None → verdict_of r ≡ totals (record { games = length r.progress.games; plies = sum (map plies_of r.progress.games) })
-verdict_passes r e = ap (λ (o : Option Fault). elim o [ Some f ↦ is_refused f | None ↦ totals (record { games = length r.progress.games; plies = sum (map plies_of r.progress.games) }) ]) e
+verdict_passes r e = rw e
 
-verdict_refused : (r : Read) (f : Fault) → r.fault ≡ Some f → verdict_of r ≡ is_refused f
-verdict_refused r f e = ap (λ (o : Option Fault). elim o [ Some f ↦ is_refused f | None ↦ totals (record { games = length r.progress.games; plies = sum (map plies_of r.progress.games) }) ]) e
+verdict_refused : (r : Read) {f : Fault} → r.fault ≡ Some f → verdict_of r ≡ is_refused f
+verdict_refused r e = rw e
 
 -- the counts of a converter that has read the whole text are those of the text
-pub totalled : (p : Profile) (s : List ℕ) (c : Converter) (t : Totals) → HasRead p c (tokens_of s) → t.games ≡ c.games → t.plies ≡ whole_plies c.reading
+pub totalled : {p : Profile} {s : List ℕ} {c : Converter} (t : Totals) → HasRead p c (tokens_of s) → t.games ≡ c.games → t.plies ≡ whole_plies c.reading
     → t.most_probes ≡ c.reading.most_probes → t.most_probes ≤ 1040 → (verdict p s ≡ verdict_in t) × MostProbes p s t.most_probes
-totalled p s c t has games plies probes bound = (
+totalled {p} {s} t has games plies probes bound = (
   verdict_passes (read p (tokens_of s)) has.passes
       ∙ ap (λ n. totals (record { games = n; plies = sum (map plies_of (read p (tokens_of s)).progress.games) })) (sym (games ∙ has.games))
       ∙ ap (λ n. totals (record { games = t.games; plies = n })) (sym (plies ∙ has.plies)),
   record {
     most = bound;
-    some = λ moves. subst (λ n. 0 < n) (sym probes) (has.probed (in_games (read p (tokens_of s)).progress moves));
+    some = λ moves. rw probes (has.probed (in_games (read p (tokens_of s)).progress moves));
     tried = subst (MostTried p (tokens_of s)) (sym probes) has.tried;
   },
 )
 
-pub ended : (p : Profile) (u : List ℕ) (given : List Token) (new : Converter) (finished_game : _) (t : Totals) (a c : Option (List ℕ)) → Finishes p u given new finished_game a c
+pub ended : {p : Profile} {u : List ℕ} {given : List Token} {new : Converter} {finished_game : _} (t : Totals) {a c : Option (List ℕ)} → Finishes p u given new finished_game a c
     → t.games ≡ new.games → t.plies ≡ whole_plies new.reading → t.most_probes ≡ new.reading.most_probes → t.most_probes ≤ 1040 → AfterEnd p u given (Ok t) a c
-ended p u given new finished_game t a c done games plies probes bound =
-    let (is_verdict, most) = totalled p u new t done.has_read games plies probes bound in
+ended t done games plies probes bound =
+    let (is_verdict, most) = totalled t done.has_read games plies probes bound in
     (is_verdict, most, done.gains)
 
 -- what was due from the start on
-pub appended : (p : Profile) (tokens : List Token) (a c : Option (List ℕ)) → Gains p [] tokens a c → Appends a c (due p tokens)
-appended p tokens a c gains =
-    let whole : due p tokens ≡ gains.text = gains.due_for ∙ ap (λ l. l ++ gains.text) (torn-none p.missing_result p.mode) in
+pub appended : {p : Profile} {tokens : List Token} {a c : Option (List ℕ)} → Gains p [] tokens a c → Appends a c (due p tokens)
+appended {p} {tokens} {a} {c} gains =
+    let whole : due p tokens ≡ gains.text = rw (torn-none p.missing_result p.mode) at gains.due_for in
     subst (Appends a c) (sym whole) gains.appended
 
 -- games that have read nothing
-pub none_read : (p : Profile) (c : Converter) (left : Option (List ℕ)) → Stands p c [] None [] → c.is_finished ≡ false → HaveRead p left [] (games_of c []) []
-none_read p c left stands not_finished =
+pub none_read : {p : Profile} {c : Converter} {left : Option (List ℕ)} → Stands p c [] None [] → c.is_finished ≡ false → HaveRead p left [] (games_of c []) []
+none_read stands not_finished =
     within (record { used = []; bytes = refl; stands = stands; at_limit = λ h. refl; decided = inl refl; not_finished = not_finished })
 
-pub read_none : (p : Profile) (now : Games) (left o : Option (List ℕ)) → HaveRead p left [] now [] → ReadSoFar p left left now o o
-read_none p now left o have =
-    record { bytes = []; tokens = []; consumed = Consumes-nil left; have_read = have; gains = gains_none p [] o }
+pub read_none : {p : Profile} {now : Games} (left : Option (List ℕ)) {o : Option (List ℕ)} → HaveRead p left [] now [] → ReadSoFar p left left now o o
+read_none left have =
+    record { bytes = []; tokens = []; consumed = Consumes-nil left; have_read = have; gains = gains_none }
 
 pub keeps_consumed : (o m n : Option (List ℕ)) (u : List ℕ) → Consumes o m u → Keeps m n → Consumes o n u
 keeps_consumed None m n u h k = tt
 keeps_consumed (Some xs) None n u h k = absurd h
 keeps_consumed (Some xs) (Some ys) None u h k = absurd k
-keeps_consumed (Some xs) (Some ys) (Some zs) u h k = h ∙ ap (λ l. u ++ l) (sym k)
+keeps_consumed (Some xs) (Some ys) (Some zs) u h k = rw k h
 
-no_more : (p : Profile) (u : List ℕ) (tokens : List Token) (a c : Option (List ℕ)) → tokens ≡ decided u → (read p tokens).fault ≡ None → Gains p [] tokens a c → ReadsNoMore p u a c
-no_more p u tokens a c is_decided passes gains =
+no_more : {p : Profile} {u : List ℕ} {tokens : List Token} {a c : Option (List ℕ)} → tokens ≡ decided u → (read p tokens).fault ≡ None → Gains p [] tokens a c → ReadsNoMore p u a c
+no_more is_decided passes gains =
     record {
-      passes = subst (λ ts. (read p ts).fault ≡ None) is_decided passes;
-      appended = subst (λ ts. Appends a c (due p ts)) is_decided (appended p tokens a c gains);
+      passes = rw is_decided at passes;
+      appended = rw is_decided at (appended gains);
     }
 
 -- the tokens up to a rejected one decide the verdict
-refused_text : (p : Profile) (s : List ℕ) (tokens more : List Token) (f : Fault) (a c : Option (List ℕ)) → tokens_of s ≡ tokens ++ more → (read p tokens).fault ≡ Some f → Gains p [] tokens a c
+refused_text : {p : Profile} (s : List ℕ) {tokens : List Token} (more : List Token) {f : Fault} {a c : Option (List ℕ)} → tokens_of s ≡ tokens ++ more → (read p tokens).fault ≡ Some f → Gains p [] tokens a c
     → IsConverted p s (is_refused f) a c
-refused_text p s tokens more f a c cut fault gains =
-    let same : read p (tokens_of s) ≡ read p tokens = ap (read p) cut ∙ stops_from p no_progress tokens more f fault in (
-      ap verdict_of same ∙ verdict_refused (read p tokens) f fault,
-      subst (λ (r : Read). Appends a c (written p r.progress)) (sym same) (appended p tokens a c gains),
+refused_text {p} s {tokens} more cut fault gains =
+    let same : read p (tokens_of s) ≡ read p tokens = ap (read p) cut ∙ stops_from p no_progress tokens more fault in (
+      ap verdict_of same ∙ verdict_refused (read p tokens) fault,
+      rw same (appended gains),
     )
 
-further_writing : (p : Profile) (given tokens more : List Token) (at : ℕ) (a c : Option (List ℕ)) → StopsWriting p given tokens at a c → StopsWriting p given (tokens ++ more) at a c
-further_writing p given tokens more at a c w =
+further_writing : {p : Profile} {given tokens : List Token} (more : List Token) {at : ℕ} {a c : Option (List ℕ)} → StopsWriting p given tokens at a c → StopsWriting p given (tokens ++ more) at a c
+further_writing more w =
     record {
       front = w.front;
       token = w.token;
       rest = w.rest ++ more;
-      cut = ap (λ ts. ts ++ more) w.cut ∙ append_assoc w.front (w.token ∷ w.rest) more;
+      cut = rw w.cut (append_assoc w.front (w.token ∷ w.rest) more);
       place = w.place;
       passes = w.passes;
       text = w.text;
@@ -107,82 +104,82 @@ module _ (p : Profile) (left_old left left_new : Option (List ℕ)) (now : Games
   all more consumed = Consumes-trans left_old left left_new so.bytes more so.consumed consumed
 
   -- a game more
-  pub games_more : (new : Games) → NextGame p so.bytes so.tokens left left_new new c d → ReadSoFar p left_old left_new new a d
-  games_more new game =
+  pub games_more : {new : Games} → NextGame p so.bytes so.tokens left left_new new c d → ReadSoFar p left_old left_new new a d
+  games_more game =
       record {
         bytes = so.bytes ++ game.more;
         tokens = game.tokens;
         consumed = all game.more game.consumed;
         have_read = game.have_read;
-        gains = gains_more p [] so.tokens game.tokens a c d so.gains game.gains;
+        gains = gains_more so.gains game.gains;
       }
 
   -- all games
-  pub games_end : (new : Games) (t : Totals) → NoGame p so.bytes so.tokens left left_new new c d → t.games ≡ new.converter.games → t.plies ≡ whole_plies new.converter.reading
+  pub games_end : {new : Games} (t : Totals) → NoGame p so.bytes so.tokens left left_new new c d → t.games ≡ new.converter.games → t.plies ≡ whole_plies new.converter.reading
       → t.most_probes ≡ new.converter.reading.most_probes → t.most_probes ≤ 1040 → AfterConversion p left_old left_new (Ok t) a d
-  games_end new t end games plies probes bound =
+  games_end t end games plies probes bound =
       let text = so.bytes ++ end.more in
-      let (is_verdict, most) = totalled p text new.converter t end.have_read_all.has_read games plies probes bound in
+      let (is_verdict, most) = totalled t end.have_read_all.has_read games plies probes bound in
       known_whole left_old left_new text (λ s. IsTotalled p s t a d) (all end.more end.consumed) end.have_read_all.at_end
-      (record { converted = (is_verdict, appended p (tokens_of text) a d (gains_more p [] so.tokens (tokens_of text) a c d so.gains end.gains)); probes = most })
+      (record { converted = (is_verdict, appended (gains_more so.gains end.gains)); probes = most })
 
-  pub games_short : (new : Games) → NoGame p so.bytes so.tokens left left_new new c d → IfSome left_old (λ s. length s ≤ 2 ^ 62)
-  games_short new end =
+  pub games_short : {new : Games} → NoGame p so.bytes so.tokens left left_new new c d → IfSome left_old (λ s. length s ≤ 2 ^ 62)
+  games_short end =
       known_whole left_old left_new (so.bytes ++ end.more) (λ s. length s ≤ 2 ^ 62) (all end.more end.consumed) end.have_read_all.at_end end.have_read_all.short
 
   -- a call stopped
-  pub games_stop : (most : ℕ) (f : Fault) → NextStops p so.bytes so.tokens left left_new most c d f → Fails p left_old left_new a d f
-  games_stop most f (games_calls.at_token g more consumed to) = by_stops (stops_more p [] so.tokens to.tokens g a c d so.gains to.stops)
+  pub games_stop : {most : ℕ} {f : Fault} → NextStops p so.bytes so.tokens left left_new most c d f → Fails p left_old left_new a d f
+  games_stop (games_calls.at_token g more consumed to) = by_stops (stops_more so.gains to.stops)
     where
       by_stops : {h : Fault} → Stops p [] to.tokens a d h → Fails p left_old left_new a d h
       by_stops (refused h fault gains) =
           conversion.refused h (known_left left_old left_new (so.bytes ++ more) (λ s. IsConverted p s (is_refused h) a d) (all more consumed)
-          (λ rest. refused_text p ((so.bytes ++ more) ++ rest) to.tokens (to.next rest tt).0 h a d (to.next rest tt).1 fault gains))
+          (λ rest. refused_text ((so.bytes ++ more) ++ rest) (to.next rest tt).0 (to.next rest tt).1 fault gains))
       by_stops (unwritten at writing) =
           let here = to.next [] tt in
           let cut : tokens_of (so.bytes ++ more) ≡ to.tokens ++ here.0 = ap tokens_of (sym (append-nil (so.bytes ++ more))) ∙ here.1 in
-          conversion.unwritten (so.bytes ++ more) at (all more consumed) (subst (λ ts. StopsWriting p [] ts at a d) (sym cut) (further_writing p [] to.tokens here.0 at a d writing))
-  games_stop most f (games_calls.at_end g more consumed end to) = by_stops (stops_more p [] so.tokens (tokens_of (so.bytes ++ more)) g a c d so.gains to.stops)
+          conversion.unwritten (so.bytes ++ more) at (all more consumed) (rw cut (further_writing here.0 writing))
+  games_stop (games_calls.at_end g more consumed end to) = by_stops (stops_more so.gains to.stops)
     where
       by_stops : {h : Fault} → Stops p [] (tokens_of (so.bytes ++ more)) a d h → Fails p left_old left_new a d h
       by_stops (refused h fault gains) =
           conversion.refused h (known_whole left_old left_new (so.bytes ++ more) (λ s. IsConverted p s (is_refused h) a d) (all more consumed) end
-          (refused_text p (so.bytes ++ more) (tokens_of (so.bytes ++ more)) [] h a d (sym (append-nil (tokens_of (so.bytes ++ more)))) fault gains))
+          (refused_text (so.bytes ++ more) [] (sym (append-nil (tokens_of (so.bytes ++ more)))) fault gains))
       by_stops (unwritten at writing) = conversion.unwritten (so.bytes ++ more) at (all more consumed) writing
-  games_stop most f (games_calls.unread more consumed none) =
+  games_stop (games_calls.unread more consumed none) =
       conversion.unread (so.bytes ++ more) (all more consumed)
-      (no_more p (so.bytes ++ more) none.reads.tokens a d none.reads.decided none.reads.passes (gains_more p [] so.tokens none.reads.tokens a c d so.gains none.reads.gains))
-  games_stop most f (games_calls.too_long more front rest consumed cut place some none) =
+      (no_more none.reads.decided none.reads.passes (gains_more so.gains none.reads.gains))
+  games_stop (games_calls.too_long more front rest consumed cut place some none) =
       subst (λ n. Fails p left_old left_new a d (record { at = n; reason = InputTooLong })) place
       (conversion.too_long front rest (subst (Consumes left_old left_new) cut (all more consumed)) place some
-      (no_more p front none.reads.tokens a d none.reads.decided none.reads.passes (gains_more p [] so.tokens none.reads.tokens a c d so.gains none.reads.gains)))
+      (no_more none.reads.decided none.reads.passes (gains_more so.gains none.reads.gains)))
 
 -- a slice, fed from the start on
-pub slice_stops : (p : Profile) (f : Fault) (text : List ℕ) (a c : Option (List ℕ))
+pub slice_stops : (p : Profile) {f : Fault} {text : List ℕ} (a c : Option (List ℕ))
     → StopsIn [] text (λ fault. FedFault p [] None [] text fault a c) (λ front. ReadsUpTo p [] front a c) f → FailsOn p text a c f
-slice_stops p f text a c (at_token g fed) = by_stops fed.stops
+slice_stops p {text} a c (at_token g fed) = by_stops fed.stops
   where
     goes : (s : List ℕ) → (rest : List Token) × (tokens_of (text ++ s) ≡ fed.tokens ++ rest)
-    goes s = fed.next s (subst (λ b. Follows b s) (sym (still_none-none text)) tt)
+    goes s = fed.next s (rw (still_none-none text) tt)
 
     here : (rest : List Token) × (tokens_of text ≡ fed.tokens ++ rest)
     here = ((goes []).0, ap tokens_of (sym (append-nil text)) ∙ (goes []).1)
 
     by_stops : {h : Fault} → Stops p [] fed.tokens a c h → FailsOn p text a c h
-    by_stops (refused h fault gains) = conversion.FailsOn.refused h (refused_text p text fed.tokens here.0 h a c here.1 fault gains)
+    by_stops (refused h fault gains) = conversion.FailsOn.refused h (refused_text text here.0 here.1 fault gains)
     by_stops (unwritten at writing) =
-        conversion.FailsOn.unwritten at (subst (λ ts. StopsWriting p [] ts at a c) (sym here.1) (further_writing p [] fed.tokens here.0 at a c writing))
-slice_stops p f text a c (too_long front rest cut place some before) =
+        conversion.FailsOn.unwritten at (rw here.1 (further_writing here.0 writing))
+slice_stops p {text} a c (too_long front rest cut place some before) =
     subst (λ n. FailsOn p text a c (record { at = n; reason = InputTooLong })) place
-    (conversion.FailsOn.too_long front rest cut place some (no_more p front before.tokens a c before.decided before.passes before.gains))
+    (conversion.FailsOn.too_long front rest cut place some (no_more before.decided before.passes before.gains))
 
-pub slice_ends : (p : Profile) (text : List ℕ) (now : Converter) (a c d : Option (List ℕ)) (r : Result Totals Fault) (fed : FedWhole p [] [] text now a c) → AfterEnd p text fed.tokens r c d
+pub slice_ends : {p : Profile} {text : List ℕ} {now : Converter} {a c : Option (List ℕ)} (d : Option (List ℕ)) (r : Result Totals Fault) (fed : FedWhole p [] [] text now a c) → AfterEnd p text fed.tokens r c d
     → AfterSlice p text r a d
-slice_ends p text now a c d (Ok t) fed (is_verdict, probes, gains) =
-    record { converted = (is_verdict, appended p (tokens_of text) a d (gains_more p [] fed.tokens (tokens_of text) a c d fed.gains gains)); probes = probes }
-slice_ends p text now a c d (Err f) fed stops = by_stops (stops_more p [] fed.tokens (tokens_of text) f a c d fed.gains stops)
+slice_ends d (Ok t) fed (is_verdict, probes, gains) =
+    record { converted = (is_verdict, appended (gains_more fed.gains gains)); probes = probes }
+slice_ends {p} {text} {a} d (Err f) fed stops = by_stops (stops_more fed.gains stops)
   where
     by_stops : {h : Fault} → Stops p [] (tokens_of text) a d h → FailsOn p text a d h
     by_stops (refused h fault gains) =
-        conversion.FailsOn.refused h (refused_text p text (tokens_of text) [] h a d (sym (append-nil (tokens_of text))) fault gains)
+        conversion.FailsOn.refused h (refused_text text [] (sym (append-nil (tokens_of text))) fault gains)
     by_stops (unwritten at writing) = conversion.FailsOn.unwritten at writing

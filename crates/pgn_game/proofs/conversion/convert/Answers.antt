@@ -1,4 +1,4 @@
-use Rattle.pgn_game.proofs.Words.{[], refl, ap, ◌∙◌, Ok, err_from_is_err_and, games_of}
+use Rattle.pgn_game.proofs.Words.{refl, ap, ◌∙◌, Ok, err_from_is_err_and, games_of}
 use Rattle.pgn_game.proofs.tokens.WholeInput.{none_read, read_none, games_more, games_end, games_short, games_stop}
 use Rattle.pgn_game.proofs.conversion.convert.Goals as goal
 
@@ -9,7 +9,7 @@ loop-init g c =
       source = refl;
       sink = refl;
       read = rw c.new-buffer.ensures
-          (read_none _ (games_of c.new-converter.result []) _ _ (none_read _ c.new-converter.result _ c.new-converter.ensures.stands c.new-converter.ensures.not_finished));
+          (read_none _ (none_read c.new-converter.ensures.stands c.new-converter.ensures.not_finished));
     }
 
 pub loop-smaller : goal.loop-smaller
@@ -24,7 +24,7 @@ loop-preserved g c =
       fault = c.in_ok-next_game.ensures.fault;
       source = counted.0 ∙ c.loop.invariant.source;
       sink = counted.1 ∙ c.loop.invariant.sink;
-      read = games_more _ _ _ _ (games_of c.loop.converter c.loop.buffer) _ _ _ so _ (next _ _ _ so.have_read);
+      read = games_more _ _ _ _ (games_of c.loop.converter c.loop.buffer) _ _ _ so (next _ _ _ so.have_read);
     }
 
 pub returns-in_err-next_game : goal.returns-in_err-next_game
@@ -34,7 +34,7 @@ returns-in_err-next_game g c =
       converts =
           let so = c.loop.invariant.read in
           let e = err_from_is_err_and c.from_residual.result c.from_residual.ensures.1 in
-          rw (e.1, e.2) (games_stop _ _ _ _ (games_of c.loop.converter c.loop.buffer) _ _ _ so _ _ (c.in_err-next_game.ensures.reads _ _ _ so.have_read));
+          rw (e.1, e.2) (games_stop _ _ _ _ (games_of c.loop.converter c.loop.buffer) _ _ _ so (c.in_err-next_game.ensures.reads _ _ _ so.have_read));
       short = rw e.1 tt;
       counted = rw (e.1, e.2, ← c.loop.invariant.source, ← c.loop.invariant.sink) (c.in_err-next_game.ensures.counted c.loop.invariant.fault);
     }
@@ -45,9 +45,9 @@ returns g c =
     let next = rw c.if-branch.false at c.in_ok-next_game.ensures.reads in
     record {
       converts =
-          games_end _ _ _ _ (games_of c.loop.converter c.loop.buffer) _ _ _ so _ c.totals_of.result (next _ _ _ so.have_read) c.totals_of.ensures.games c.totals_of.ensures.plies
+          games_end _ _ _ _ (games_of c.loop.converter c.loop.buffer) _ _ _ so c.totals_of.result (next _ _ _ so.have_read) c.totals_of.ensures.games c.totals_of.ensures.plies
           c.totals_of.ensures.probes c.totals_of.ensures.bound;
-      short = games_short _ _ _ _ (games_of c.loop.converter c.loop.buffer) _ _ _ so _ (next _ _ _ so.have_read);
+      short = games_short _ _ _ _ (games_of c.loop.converter c.loop.buffer) _ _ _ so (next _ _ _ so.have_read);
       counted =
           let counted = c.in_ok-next_game.ensures.counted c.loop.invariant.fault in
           (counted.0 ∙ c.loop.invariant.source, counted.1 ∙ c.loop.invariant.sink);

@@ -1,17 +1,16 @@
-use Rattle.std.proofs.Common.{refl}
-use Rattle.std.proofs.lemmas.Result.{err_from_is_err_and}
+use Rattle.pgn_game.proofs.Words.{refl, err_from_is_err_and}
 use Rattle.pgn_game.proofs.tokens.WholeInput.{slice_stops, slice_ends}
 use Rattle.pgn_game.proofs.conversion.convert_slice.Goals as goal
 
 pub returns-in_err-feed_all-clause-converts : goal.returns-in_err-feed_all-clause-converts
 returns-in_err-feed_all-clause-converts g c =
     let e = err_from_is_err_and c.from_residual.result c.from_residual.ensures.1 in
-    rw (e.1, e.2) (slice_stops _ _ c.args.text.now _ _ (c.in_err-feed_all.ensures.feeds _ _ _ c.new-converter.ensures.stands refl))
+    rw (e.1, e.2) (slice_stops _ _ _ (c.in_err-feed_all.ensures.feeds _ _ _ c.new-converter.ensures.stands refl))
 
 pub returns-clause-converts : goal.returns-clause-converts
 returns-clause-converts g c =
     let fed = c.in_ok-feed_all.ensures.feeds _ _ _ c.new-converter.ensures.stands refl in
-    slice_ends _ c.args.text.now _ _ _ _ c.end.result fed (c.end.ensures.ends _ _ _ fed.stands)
+    slice_ends _ c.end.result fed (c.end.ensures.ends _ _ _ fed.stands)
 
 pub new-converter-requires : goal.new-converter-requires
 new-converter-requires g c = (c.requires.memory, c.requires.levels)

@@ -1,5 +1,5 @@
+use Rattle.pgn_game.proofs.Words.{err_from_is_err_and}
 use Rattle.pgn_game.proofs.ReaderFitsInMemory.{fits_alike}
-use Rattle.std.proofs.lemmas.Result.{err_from_is_err_and}
 use Rattle.pgn_game.proofs.tokens.WholeInput.{ended}
 use Rattle.pgn_game.proofs.conversion.end.Goals as goal
 
@@ -15,7 +15,7 @@ pub returns : goal.returns
 returns g c =
     record {
       ends = λ p u given stands.
-          ended p u given c.finish.new.self _ c.totals_of.result _ _ (c.in_ok-finish.ensures.ends p u _ given stands) c.totals_of.ensures.games c.totals_of.ensures.plies
+          ended c.totals_of.result (c.in_ok-finish.ensures.ends p u _ given stands) c.totals_of.ensures.games c.totals_of.ensures.plies
           c.totals_of.ensures.probes c.totals_of.ensures.bound;
       counted = c.in_ok-finish.ensures.counted c.requires.no_fault;
     }

@@ -1,4 +1,4 @@
-use Rattle.pgn_game.proofs.Words.{◌≡◌, ℕ, ◌+◌, List, ◌∙◌, take, subst, Option, Some, slice_get, unwrap_or, ap, err_from_is_err_and, take_all, Appends, AppendsFront, one_more, tag_line, missing_of, known_result, Pair, value_of, roster_line, text_by, roster, rules}
+use Rattle.pgn_game.proofs.Words.{◌≡◌, ℕ, ◌+◌, List, ◌∙◌, take, Option, Some, slice_get, unwrap_or, ap, err_from_is_err_and, take_all, Appends, AppendsFront, one_more, tag_line, missing_of, known_result, Pair, value_of, roster_line, text_by, roster, rules}
 use Rattle.pgn_game.proofs.pairs.ExportedValues.{seven}
 use Rattle.pgn_game.proofs.putting.WritesInTurn.{next_text, next_front, within_at}
 use Rattle.pgn_game.proofs.section.write_roster.Goals as goal
@@ -9,14 +9,14 @@ next_line : (result : List ℕ) (held : List Pair) (i : ℕ) (name unknown value
     → Appends a c (text_by (roster_line held) (take (i + 1) (roster result)))
 next_line result held i name unknown value a b c at is done next =
     let p = within_at (roster result) i (record { name = name; value = unknown }) at in
-    next_text (roster_line held) (roster result) i (record { name = name; value = unknown }) a b c p.0 p.1 done (subst (λ v. Appends b c (tag_line name v)) is next)
+    next_text (roster_line held) (roster result) i (record { name = name; value = unknown }) a b c p.0 p.1 done (rw is at next)
 
 front_of_line : (result : List ℕ) (held : List Pair) (i : ℕ) (name unknown value : List ℕ) (a b c : Option (List ℕ)) → slice_get (roster result) i ≡ Some (record { name = name; value = unknown })
     → value ≡ unwrap_or (value_of held name) unknown → Appends a b (text_by (roster_line held) (take i (roster result))) → AppendsFront b c (tag_line name value)
     → AppendsFront a c (text_by (roster_line held) (roster result))
 front_of_line result held i name unknown value a b c at is done next =
     let p = within_at (roster result) i (record { name = name; value = unknown }) at in
-    next_front (roster_line held) (roster result) i (record { name = name; value = unknown }) a b c p.0 p.1 done (subst (λ v. AppendsFront b c (tag_line name v)) is next)
+    next_front (roster_line held) (roster result) i (record { name = name; value = unknown }) a b c p.0 p.1 done (rw is at next)
 
 pub returns-in_err-write_tag : goal.returns-in_err-write_tag
 returns-in_err-write_tag g c =

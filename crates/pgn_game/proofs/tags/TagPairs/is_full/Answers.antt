@@ -4,9 +4,9 @@ use Rattle.pgn_game.proofs.tags.TagPairs.is_full.Goals as goal
 
 pub returns-clause-full : goal.returns-clause-full
 returns-clause-full g c =
-    rw (held-count g.row.T c.self.inside.pairs.items c.self.inside.count c.self.inside.has_pending_name c.args.self.now c.self.invariant c.self.view_is c.requires) (grind (arith, nat_tests))
+    rw (held-count c.self.invariant c.self.view_is c.requires) (grind (arith, nat_tests))
 
 pub returns-clause-room : goal.returns-clause-room
 returns-clause-room g c =
-    rw (held-count g.row.T c.self.inside.pairs.items c.self.inside.count c.self.inside.has_pending_name c.args.self.now c.self.invariant c.self.view_is c.requires)
+    rw (held-count c.self.invariant c.self.view_is c.requires)
     (omega (arith, c.self.invariant.room, c.self.invariant.within))
