@@ -1,7 +1,6 @@
 -- An export text is read as its games with their defaults filled in, so it is written again as it
 -- is.
-use Rattle.pgn_game.proofs.Words.{◌≡◌, ℕ, ◌+◌, ◌≤◌, ◌^◌, inl, inr, Bool, true, false, List, [], ◌∷◌, ◌++◌, length, map, refl, sym, ap, subst, ◌∙◌, arith, length-append, append-nil, Option, None, Some, sum, IfSome, Ok, Err, filter, not, bytes_eq, codes, Appends, Consumes, length-map, length-filter, count_by-le-length, IsLast, RisesTo, TokensRise, tokens_of, Kind, Token, Fault, Between, Game, Part, Mode, Full, Reduced, Pair, has_pair, Profile, Progress, progress_after, read_from, read, output, verdict, Counted, refused as is_refused, totals, refusal, is_end, filled, AreExportable, SameText, counted, IsWrittenAgain, SliceIsKept, SourceIsKept, FixedPoint, ExportIsKept, ExportIsKeptOfSource, games_in, IsExportable, ExportingTwice, SameOutput, FewPairsHaveRoom, plies_of, roster, in_roster, roster_pairs, with_set_up, other_pairs, exported, Spells, FailsOn, Fails, Totals, text_of_games as text_of}
-use Rattle.pgn_lexer.specs.Tokens as tokens
+use Rattle.pgn_game.proofs.Words.{◌≡◌, ℕ, ◌+◌, ◌≤◌, ◌^◌, inl, inr, Bool, true, List, [], ◌∷◌, ◌++◌, length, map, refl, sym, ap, subst, ◌∙◌, arith, length-append, append-nil, Option, None, Some, sum, IfSome, Err, filter, Consumes, length-map, length-filter, count_by-le-length, IsLast, RisesTo, TokensRise, tokens_of, Kind, Token, Fault, Between, Game, Part, Mode, Pair, Profile, Progress, progress_after, read_from, output, verdict, refused as is_refused, totals, refusal, is_end, filled, AreExportable, SameText, counted, IsWrittenAgain, SliceIsKept, SourceIsKept, FixedPoint, ExportIsKept, ExportIsKeptOfSource, games_in, IsExportable, ExportingTwice, SameOutput, FewPairsHaveRoom, plies_of, roster, roster_pairs, with_set_up, exported, Spells, FailsOn, Fails, Totals, text_of_games as text_of, rules}
 use Rattle.pgn_game.specs.Conversion as conversion
 use Rattle.pgn_game.proofs.exporting.ExportToGames.{ExportedGames}
 use Rattle.pgn_game.proofs.reading.PairsInTurn.{length-insert}
@@ -15,9 +14,7 @@ use Rattle.pgn_game.proofs.tokens.WholeInput.{verdict_passes}
 -- Where all is read without a fault, reading ends between games.
 passing_last : (p : Profile) (part : Part) (k : Kind) → IsLast k → refusal p part k ≡ None → is_end k ≡ true
 unfolding refusal
-passing_last p part tokens.end last free = refl
-passing_last p part (tokens.refused r) last free = absurd (cc)
-passing_last p part _ last free = absurd last
+passing_last p part k h1 h2 = search rules
 
 ends_between : (p : Profile) (b : Progress) (ts : List Token) → RisesTo ts → (read_from p b ts).fault ≡ None → (read_from p b ts).progress.part.stage ≡ Between
 ends_between p b [] rises e = absurd rises
@@ -31,17 +28,10 @@ ends_between p b (t ∷ u ∷ us) rises e =
 module _ (unique : UniqueReading) (rise : TokensRise) where
   -- a text that spells games is converted to theirs
   pub output_is : (p : Profile) (s : List ℕ) (gs : List Game) → Spells p (tokens_of s) gs → output p s ≡ text_of p gs
-  output_is p s gs spelled =
-      let was_read = (unique p s gs).0 spelled in
-      let part = (read p (tokens_of s)).progress.part in
-      let none = no_torn p part Between (ends_between p _ (tokens_of s) (rise s) was_read.0) (λ e. absurd (cc)) in
-      rw none (append-nil _
-      ∙ ap (text_of p) was_read.1)
+  output_is p s gs spelled = search (rules, append-nil, ends_between, no_torn)
 
   pub verdict_is : (p : Profile) (s : List ℕ) (gs : List Game) → Spells p (tokens_of s) gs → verdict p s ≡ totals (counted gs)
-  verdict_is p s gs spelled =
-      let was_read = (unique p s gs).0 spelled in
-      cc (verdict_passes (read p (tokens_of s)) was_read.0)
+  verdict_is p s gs spelled = search (rules, verdict_passes)
 
 -- What a conversion of a text without a fault does.
 no_fault : (p : Profile) (s : List ℕ) (gs : List Game) (f : Fault) → verdict p s ≡ totals (counted gs) → verdict p s ≡ is_refused f → ⊥
@@ -49,15 +39,11 @@ no_fault p s gs f e h = cc
 
 same_totals : (t : Totals) (gs : List Game) → totals (counted gs) ≡ totals (record { games = t.games; plies = t.plies })
     → (t.games ≡ length gs) × (t.plies ≡ sum (map plies_of gs))
-same_totals t gs e =
-    let counts : counted gs ≡ record { games = t.games; plies = t.plies } = cc in
-    (sym (ap (λ (c : Counted). c.games) counts), sym (ap (λ (c : Counted). c.plies) counts))
+same_totals t gs e = search rules
 
 written_again : (p : Profile) (s : List ℕ) (gs : List Game) (t : Totals) (before after : Option (List ℕ)) → output p s ≡ text_of p gs → verdict p s ≡ totals (counted gs)
     → conversion.IsTotalled p s t before after → IsWrittenAgain p gs t before after
-written_again p s gs t before after out ver h =
-    let numbers = same_totals t gs (sym ver ∙ h.converted.0) in
-    (numbers.0, numbers.1, subst (Appends before after) out h.converted.1)
+written_again p s gs t before after out ver h = search (rules, same_totals)
 
 slice_fails : (p : Profile) (s : List ℕ) (gs : List Game) (f : Fault) (before after : Option (List ℕ)) → verdict p s ≡ totals (counted gs) → length s ≤ 2 ^ 62
     → FailsOn p s before after f → SliceIsKept p gs (Err f) before after
@@ -70,11 +56,7 @@ some_text : (o : Option (List ℕ)) (s : List ℕ) (P : List ℕ → Type 0) →
 some_text o s P e h = let Q : Option (List ℕ) → Type 0 = λ x. IfSome x P in subst Q e h
 
 consumed_fits : (o n : Option (List ℕ)) (s u : List ℕ) → o ≡ Some s → Consumes o n u → length u ≤ length s
-consumed_fits o n s u e h = by_rest n (let Q : Option (List ℕ) → Type 0 = λ x. Consumes x n u in subst Q e h)
-  where
-    by_rest : (m : Option (List ℕ)) → Consumes (Some s) m u → length u ≤ length s
-    by_rest None k = absurd k
-    by_rest (Some rest) k = let same = ap length k in omega (arith, length-append u rest)
+consumed_fits o n s u e h = search (rules, length-append)
 
 source_fails : (p : Profile) (s : List ℕ) (gs : List Game) (f : Fault) (left_old left_new before after : Option (List ℕ)) → verdict p s ≡ totals (counted gs) → length s ≤ 2 ^ 62
     → left_old ≡ Some s → Fails p left_old left_new before after f → SourceIsKept p gs (Err f) before after
@@ -89,38 +71,20 @@ source_fails p s gs _ left_old left_new before after ver short left (conversion.
 module _ (unique : UniqueReading) (rise : TokensRise) (exported_games : (p : Profile) (gs : List Game) → AreExportable p gs → ExportedGames p gs) where
   -- the games that the text spells are the only ones
   pub same_text : SameText
-  same_text p gs hs h k = (
-    λ e.
-        let one = ((unique p (text_of p gs) _).0 (exported_games p gs h).spells).1 in
-        let other = ((unique p (text_of p hs) _).0 (exported_games p hs k).spells).1 in
-        sym one ∙ ap (λ s. (read p (tokens_of s)).progress.games) e ∙ other,
-    λ e. sym (exported_games p gs h).again ∙ ap (text_of p) e ∙ (exported_games p hs k).again,
-  )
+  same_text p gs hs h k = search rules
 
   counted_again : (p : Profile) (gs : List Game) → AreExportable p gs → counted (map (filled p.mode) gs) ≡ counted gs
-  counted_again p gs h =
-      rw (length-map gs _) (ap (λ ns. record { games = length gs; plies = sum ns }) (exported_games p gs h).plies)
+  counted_again p gs h = search (rules, length-map)
 
   pub fixed_point : FixedPoint
-  fixed_point p gs h =
-      let e = exported_games p gs h in (
-        output_is unique rise p (text_of p gs) _ e.spells ∙ e.again,
-        verdict_is unique rise p (text_of p gs) (map _ gs) e.spells ∙ ap totals (counted_again p gs h),
-      )
+  fixed_point p gs h = search (rules, counted_again, output_is, verdict_is)
 
 -- Converting an export text.
 pub slice_is_kept : FixedPoint → ExportIsKept
-slice_is_kept fixed p gs (Ok t) before after h short done =
-    let f = fixed p gs h in written_again p _ gs t before after f.0 f.1 done
-slice_is_kept fixed p gs (Err f) before after h short fails = slice_fails p _ gs f before after (fixed p gs h).1 short fails
+slice_is_kept h1 = search (rules, slice_fails, written_again)
 
 pub source_is_kept : FixedPoint → ExportIsKeptOfSource
-source_is_kept fixed p gs (Ok t) left_old left_new before after h short left done =
-    let f = fixed p gs h in
-    written_again p (text_of p gs) gs t before after f.0 f.1
-    (some_text _ _ _ left done)
-source_is_kept fixed p gs (Err f) left_old left_new before after h short left fails =
-    source_fails p _ gs f _ _ before after (fixed p gs h).1 short left fails
+source_is_kept h1 = search (rules, some_text, source_fails, written_again)
 
 -- The same of inputs: each without a fault is the text of its games.
 module _ (unique : UniqueReading) (rise : TokensRise) where
@@ -143,37 +107,21 @@ module _ (unique : UniqueReading) (rise : TokensRise) where
       (ap (output p) out ∙ again.0 ∙ sym out, ap (verdict p) out ∙ again.1 ∙ sym (verdict_of_games p s h))
 
   pub same_output : SameText → SameOutput
-  same_output same p s t h k =
-      let texts = same p _ _ (exportable p s h) (exportable p t k) in (
-        λ e. texts.0 (sym (output_of p s h) ∙ e ∙ output_of p t k),
-        λ e. output_of p s h ∙ texts.1 e ∙ sym (output_of p t k),
-      )
+  same_output same p s t h k = search (rules, exportable, output_of)
 
 -- Room for tag lines.
 filter_shortens : (f : Pair → Bool) (ps : List Pair) → length (filter f ps) ≤ length ps
 filter_shortens f ps = omega (arith, length-filter f ps, count_by-le-length f ps)
 
 one_set_up : (ps : List Pair) → length (with_set_up ps) ≤ length ps + 1
-one_set_up ps =
-    elim (has_pair ps (codes "FEN")) as (λ b. length (set_up_if b ps) ≤ length ps + 1) [
-      | true ↦
-          let more = length-insert set_up (without_set_up ps) in
-          let fewer = filter_shortens (λ p. not (bytes_eq p.name (codes "SetUp"))) ps in
-          omega arith
-      | false ↦ omega arith
-    ]
+one_set_up ps = search (rules, filter_shortens, length-insert, set_up, set_up_if, without_set_up)
 
 seven_lines : (m : List ℕ) (ps : List Pair) → length (roster_pairs m ps) ≡ 7
 unfolding roster
 seven_lines m ps = refl
 
 exported_length : (mode : Mode) (m : List ℕ) (ps : List Pair) → length (exported mode m ps) ≤ length ps + 8
-exported_length Full m ps =
-    let seven = seven_lines m ps in
-    let others = filter_shortens (λ p. not (in_roster p.name)) (with_set_up ps) in
-    let one = one_set_up ps in
-    omega (arith, length-append (roster_pairs m ps) (other_pairs (with_set_up ps)))
-exported_length Reduced m ps = let seven = seven_lines m ps in omega arith
+exported_length mode m ps = search (rules, filter_shortens, length-append, one_set_up, seven_lines)
 
 pub few_pairs_have_room : FewPairsHaveRoom
 few_pairs_have_room p g few = let lines = exported_length p.mode g.marker g.pairs in omega arith

@@ -1,5 +1,5 @@
 -- The text of a move that a game has: a symbol that names the same move again, after its number.
-use Rattle.pgn_game.proofs.Words.{◌≡◌, ℕ, ◌<◌, ◌≤◌, ◌^◌, Bool, true, false, List, [], ◌∷◌, ◌++◌, refl, ap, arith, None, Some, ◌||◌, not, ◌==◌, decimal, bytes_eq, is_none, unwrap_or, IsTrue, IsFalse, Ok, if◌then◌else◌, AllByRecursion, list_all, false≢true, or_parts, and_parts, and_from, leb-true, Move, LeavesPosition, is_position, TheOneMoveIsRead, is_letter, is_move_byte, begins_with_letter, IsMoveSymbol, WrittenMoveIsSymbol, WrittenMoveIsRead, is_digit, starts_symbol, continues_symbol, NumbersAreSymbols, begins_with, IsSymbol, CommentsClose, move_of, text_of_move, play, is_number, is_score, Parts, Played, Kind, Item, Profile, Level, replayed, without_last, Names, SpellsText, token, number, period, number_before, rules}
+use Rattle.pgn_game.proofs.Words.{◌≡◌, ℕ, ◌<◌, ◌≤◌, ◌^◌, Bool, true, false, List, [], ◌∷◌, ◌++◌, refl, ap, arith, None, Some, ◌||◌, not, decimal, bytes_eq, is_none, unwrap_or, IsTrue, IsFalse, Ok, if◌then◌else◌, AllByRecursion, list_all, false≢true, or_parts, and_parts, and_from, leb-true, Move, LeavesPosition, is_position, TheOneMoveIsRead, is_move_byte, begins_with_letter, IsMoveSymbol, WrittenMoveIsSymbol, WrittenMoveIsRead, starts_symbol, continues_symbol, NumbersAreSymbols, begins_with, IsSymbol, CommentsClose, move_of, text_of_move, play, is_number, is_score, Parts, Played, Kind, Item, Profile, Level, replayed, without_last, Names, SpellsText, token, number, period, number_before, rules}
 use Rattle.chess_rules.specs.declared.position.PositionFault.TheVariants.{Kings, PawnOnEdge, KingCapturable, TargetRank, NumberRange}
 use Rattle.pgn_lexer.specs.Tokens as tokens
 use Rattle.pgn_game.proofs.putting.PlayedMovesAreLegal.{named_is_legal}
@@ -35,11 +35,10 @@ each_of f g (c ∷ s) h e = let both = and_parts (f c) (list_all f s) e in and_f
 continues : (letter digit underscore plus hash equals colon hyphen slash : Bool)
     → (letter || digit || plus || hash || equals || hyphen) ≡ true
     → ((letter || digit) || underscore || plus || hash || equals || colon || hyphen || slash) ≡ true
-continues false false false false false false false false s i = absurd (false≢true i)
-continues _ _ _ _ _ _ _ _ s i = refl
+continues letter digit underscore plus hash equals colon hyphen slash h1 = search (rules, false≢true)
 
 move_byte : (c : ℕ) → is_move_byte c ≡ true → continues_symbol c ≡ true
-move_byte c = continues (is_letter c) (is_digit c) (c == 95) (c == 43) (c == 35) (c == 61) (c == 58) (c == 45) (c == 47)
+move_byte c = search (rules, continues)
 
 begins : (s : List ℕ) → IsTrue (begins_with_letter s) → IsTrue (begins_with starts_symbol s)
 begins [] e = absurd (false≢true e)

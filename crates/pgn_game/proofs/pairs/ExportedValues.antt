@@ -107,8 +107,7 @@ other_value ps n = value_of-kept (λ m. not _) (with_set_up ps) n
 full_value : (m : List ℕ) (ps : List Pair) (n : List ℕ) {o : Option (List ℕ)} → value_of (roster m) n ≡ o
     → value_of (exported Full m ps) n
     ≡ either_of (defaulted (value_of ps n) o) (value_of (other_pairs (with_set_up ps)) n)
-full_value m ps n e =
-    cc (value_of-append (roster_pairs m ps) (other_pairs (with_set_up ps)) n, reduced_value m ps n e)
+full_value m ps n e = search (rules, reduced_value, value_of-append)
 
 -- a name of the roster has its value, or what stands for it
 pub exported_known : (mode : Mode) (m : List ℕ) (ps : List Pair) (n : List ℕ) {d : List ℕ} → value_of (roster m) n ≡ Some d
@@ -133,10 +132,7 @@ no_set_up_of m = refl
 -- SetUp is not of the roster
 other_than_set_up : (m name : List ℕ) {unknown : List ℕ} (b : Bool) → value_of (roster m) name ≡ Some unknown
     → bytes_eq name (codes "SetUp") ≡ b → b ≡ false
-other_than_set_up m name false e is = refl
-other_than_set_up m name {unknown} true e is =
-    let none : None ≡ Some unknown = cc (no_set_up_of m, bytes_eq-true name (codes "SetUp") is) in
-    absurd (cc)
+other_than_set_up m name b h1 h2 = search (rules, bytes_eq-true, no_set_up_of)
 
 either_unknown : (value : Option (List ℕ)) (unknown : List ℕ) → Some (unwrap_or value unknown) ≡ either_of value (Some unknown)
 either_unknown (Some v) unknown = refl
@@ -165,8 +161,7 @@ pub on_roster : (P : Pair → Type 0) (m : List ℕ) → P (record { name = code
     → P (record { name = codes "White"; value = codes "?" }) → P (record { name = codes "Black"; value = codes "?" })
     → P (record { name = codes "Result"; value = m }) → AllByRecursion P (roster m)
 unfolding roster
-on_roster P m event site date round white black result =
-    (event, (site, (date, (round, (white, (black, (result, tt)))))))
+on_roster P m event site date round white black result = search rules
 
 all-default : (P : Pair → Type 0) (ps ds : List Pair) → AllByRecursion P ps → AllByRecursion P ds
     → AllByRecursion P (map (with_default ps) ds)

@@ -91,8 +91,7 @@ order-filter f (q ∷ qs) h =
 
 -- a name before all others is none of them
 other_name : (name next : List ℕ) → comes_before name next ≡ true → (b : Bool) → bytes_eq next name ≡ b → b ≡ false
-other_name name next e true is = absurd (never_itself name (ap (comes_before name) (sym (bytes_eq-true next name is)) ∙ e))
-other_name name next e false is = refl
+other_name name next h1 b h2 = search (rules, bytes_eq-true, never_itself)
 
 absent : (name : List ℕ) (qs : List Pair) → AllAfter name qs → value_of qs name ≡ None
 absent name [] h = refl

@@ -1,6 +1,6 @@
 -- A tag section is its lines one by one.
 use Rattle.std.proofs.Math.Bool.{or-false}
-use Rattle.pgn_game.proofs.Words.{◌≡◌, ℕ, ◌+◌, Bool, true, false, cond, List, [], ◌∷◌, ◌++◌, take, drop, refl, ap, sym, ◌∙◌, append_assoc, arith, map, not, ◌||◌, unwrap_or, bytes_eq, codes, false≢true, or_right, tag_line, Mode, Full, Reduced, Pair, value_of, has_pair, comes_before, insert_pair, index_of, roster, in_roster, other_pairs, with_set_up, tag_lines, tag_section, text_by, roster_line, other_line}
+use Rattle.pgn_game.proofs.Words.{◌≡◌, ℕ, ◌+◌, Bool, true, false, cond, List, [], ◌∷◌, ◌++◌, take, drop, refl, ap, sym, ◌∙◌, append_assoc, arith, map, not, ◌||◌, unwrap_or, bytes_eq, codes, false≢true, or_right, tag_line, Mode, Full, Reduced, Pair, value_of, has_pair, comes_before, insert_pair, index_of, roster, in_roster, other_pairs, with_set_up, tag_lines, tag_section, text_by, roster_line, other_line, rules}
 use Rattle.pgn_game.proofs.pairs.ExportedValues.{without_set_up, set_up, set_up_if}
 use Rattle.pgn_game.proofs.pairs.ValuesByName.{bytes_eq-true}
 
@@ -53,24 +53,7 @@ placed b p ps = elim b [ true ↦ set_up ∷ p ∷ ps | false ↦ p ∷ insert_p
 set_up_here : (p : Pair) (ps : List Pair) (s b : Bool) → is_set_up p ≡ s → comes_before (codes "SetUp") p.name ≡ b
     → lines_about (index_of (codes "SetUp") ps) ps ≡ tag_lines (other_pairs (insert_pair set_up (without_set_up ps)))
     → lines_about (elim b [ true ↦ 0 | false ↦ 1 + index_of (codes "SetUp") ps ]) (p ∷ ps) ≡ tag_lines (other_pairs (insert_pair set_up (kept s p (without_set_up ps))))
-set_up_here p ps true true is before rest =
-    let same : comes_before (codes "SetUp") (codes "SetUp") ≡ true = rw (bytes_eq-true p.name (codes "SetUp") is) at before in
-    absurd (false≢true same)
-set_up_here p ps false true is before rest =
-    let here : other_pairs (insert_pair set_up (p ∷ without_set_up ps)) ≡ other_pairs (set_up ∷ p ∷ without_set_up ps) = ap (λ b. other_pairs (placed b p (without_set_up ps))) before in
-    rw (beside_lines (p ∷ ps) ∙ ap (λ s. tag_lines (other_pairs (kept s p (without_set_up ps)))) is) (ap tag_lines (sym here))
-set_up_here p ps true false is before rest =
-    lines_about-next (index_of (codes "SetUp") ps) p ps
-    ∙ ap (λ s. line_unless (in_roster p.name || s) p ++ lines_about (index_of (codes "SetUp") ps) ps) is
-    ∙ ap (λ l. line_unless (in_roster p.name || true) p ++ l) rest
-    ∙ beside_line p (insert_pair set_up (without_set_up ps)) true
-set_up_here p ps false false is before rest =
-    let here : other_pairs (insert_pair set_up (p ∷ without_set_up ps)) ≡ other_pairs (p ∷ insert_pair set_up (without_set_up ps)) = ap (λ b. other_pairs (placed b p (without_set_up ps))) before in
-    lines_about-next (index_of (codes "SetUp") ps) p ps
-    ∙ ap (λ s. line_unless (in_roster p.name || s) p ++ lines_about (index_of (codes "SetUp") ps) ps) is
-    ∙ ap (λ l. line_unless (in_roster p.name || false) p ++ l) rest
-    ∙ beside_line p (insert_pair set_up (without_set_up ps)) false
-    ∙ ap tag_lines (sym here)
+set_up_here p ps s b h1 h2 h3 = search (rules, beside_line, beside_lines, bytes_eq-true, false≢true, lines_about-next, set_up, without_set_up)
 
 set_up_lines : (ps : List Pair) → lines_about (index_of (codes "SetUp") ps) ps ≡ tag_lines (other_pairs (insert_pair set_up (without_set_up ps)))
 set_up_lines [] = refl

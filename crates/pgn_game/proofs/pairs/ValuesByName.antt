@@ -70,13 +70,7 @@ value_of-append (p ∷ ps) qs name =
 -- Pairs whose names pass a test.
 kept_or_not : (f : List ℕ → Bool) (p : Pair) (n : List ℕ) (k b : Bool) (F : List Pair) (o : Option (List ℕ)) → f p.name ≡ k → bytes_eq p.name n ≡ b
     → value_of F n ≡ cond (f n) o None → value_of (cond k (p ∷ F) F) n ≡ cond (f n) (pick b p.value o) None
-kept_or_not f p n true true F o e is rest =
-    cc (value_of-cons p F n, bytes_eq-true p.name n is)
-kept_or_not f p n true false F o e is rest = cc (value_of-cons p F n)
-kept_or_not f p n false true F o e is rest =
-    let out : f n ≡ false = cc (bytes_eq-true p.name n is) in
-    cc
-kept_or_not f p n false false F o e is rest = rest
+kept_or_not f p n k b F o h1 h2 h3 = search (rules, bytes_eq-true, value_of-cons)
 
 pub value_of-kept : (f : List ℕ → Bool) (ps : List Pair) (n : List ℕ) → value_of (filter (λ p. f p.name) ps) n ≡ cond (f n) (value_of ps n) None
 value_of-kept f [] n = elim (f n) as (λ c. None ≡ cond {A = Option (List ℕ)} c None None) [ true ↦ refl | false ↦ refl ]
@@ -115,7 +109,7 @@ pick_swap : {b c : Bool} (v w : List ℕ) (o : Option (List ℕ)) → (b ≡ tru
 pick_swap v w o apart = grind arith
 
 two_names : (r q n : List ℕ) → bytes_eq r q ≡ false → bytes_eq r n ≡ true → bytes_eq q n ≡ true → ⊥
-two_names r q n other e f = false≢true (sym other ∙ bytes_eq-refl r q (bytes_eq-true r n e ∙ sym (bytes_eq-true q n f)))
+two_names r q n other e f = search (rules, bytes_eq-refl, bytes_eq-true, false≢true)
 
 -- a pair of a new name
 pub value_of-put : (q : Pair) (qs : List Pair) (n : List ℕ) → has_pair qs q.name ≡ false

@@ -1,5 +1,5 @@
 -- Worked rows of the grammar: what some inputs spell, and what they don't.
-use Rattle.pgn_game.proofs.Words.{◌≡◌, ℕ, ◌<◌, List, [], ◌∷◌, ◌++◌, Kind, map, refl, ap, inl, arith, codes, tokens_of, RisesTo, Played, Full, Profile, counts_as, Pair, Item, Game, first_position, refusal, Spells, SpellsText, Names, pair, no_pair, next_pair, no_game, next_game, no_more, token, move, variation, number, period, comment_open, word, comment_close, new_level, level_after_move}
+use Rattle.pgn_game.proofs.Words.{◌≡◌, ℕ, ◌<◌, List, [], ◌∷◌, ◌++◌, Kind, refl, inl, arith, codes, tokens_of, RisesTo, Played, Full, Profile, counts_as, Pair, Item, Game, first_position, refusal, Spells, SpellsText, Names, pair, no_pair, next_pair, no_game, next_game, no_more, token, move, variation, number, period, comment_open, word, comment_close, new_level, level_after_move, rules}
 use Rattle.pgn_lexer.specs.Tokens as tokens
 use Rattle.pgn_game.specs.Game as games
 use Rattle.pgn_game.proofs.reading.RunsToEnd.{kinds, runs_as_read}
@@ -69,7 +69,7 @@ replaces s t played other room one two =
 -- Nothing else is spelled: a comment that begins movetext without pairs is dropped, and a marker
 -- that differs from a missing Result spells nothing.
 has_no_item : {x : Item} {xs : List Item} → game [] [] ∷ [] ≡ game [] (x ∷ xs) ∷ [] → ⊥
-has_no_item {x} {xs} e = let items : ([] ∷ []) ≡ ((x ∷ xs) ∷ []) = ap (map (λ (g : Game). g.items)) e in absurd (cc)
+has_no_item e = search rules
 
 comment_is_dropped : Spells plain (tokens_of (codes ";\n*")) (game [] (games.comment_open ∷ games.comment_close ∷ []) ∷ []) → ⊥
 unfolding refusal
@@ -80,7 +80,4 @@ comment_is_dropped h =
 
 marker_differs : (gs : List Game) → Spells plain (tokens_of (codes "1-0")) gs → ⊥
 unfolding refusal
-marker_differs gs h =
-    let rises : RisesTo (tokens_of (codes "1-0")) = (λ x. x, inl (omega arith), tt) in
-    let was_read = (runs_as_read plain (tokens_of (codes "1-0")) gs rises).0 (games_run plain (kinds (tokens_of (codes "1-0"))) gs h) in
-    absurd (let free = was_read.0 in cc)
+marker_differs gs h = search (rules, games_run, kinds, runs_as_read)

@@ -11,12 +11,7 @@ held_at old part stage agrees at = rw at at agrees.pairs
 
 -- where movetext can begin or goes on, no name waits for its value
 pub no_name : (most : ℕ) (old held : ReaderState) → held ≡ old → IsTrue (may_have_movetext old.stage) → AreSound most held.stage held.tags → held.tags.pending_name ≡ None
-no_name most old held is may = by_stage held.stage (rw is may)
-  where
-    by_stage : (stage : Stage) → IsTrue (may_have_movetext stage) → AreSound most stage held.tags → held.tags.pending_name ≡ None
-    by_stage AfterTags may sound = sound
-    by_stage InMovetext may sound = sound
-    by_stage _ may sound = absurd (cc)
+no_name most old held is may = search rules
 
 pub text_at : (old : ReaderState) (part : Part) (stage : Stage) → Agrees old part → old.stage ≡ stage → HoldsText stage old part
 text_at old part stage agrees at = rw (← at) agrees.text

@@ -1,5 +1,5 @@
 -- What the tokens of movetext are rejected for, and where they lead, for a part that is open.
-use Rattle.pgn_game.proofs.Words.{leb-false, ◌≡◌, IsFalse, ℕ, Bool, true, false, ◌&&◌, ◌||◌, not, List, [], ◌∷◌, length, nat_le, Option, None, Some, Bor, refl, sym, ap, ◌∙◌, arith, is_some, ◌==◌, Result, Ok, Err, bytes_eq, codes, unwrap_or, length-map, or_right, or_from, option_copied, NoMove, Ambiguous, Kind, asterisk, symbol, Parts, Played, SanFault, Reason, NotAMove, IllegalMove, AmbiguousMove, MoveLimit, MarkerInVariation, ResultDiffers, Profile, Missing, Pair, value_of, Part, move_of, Level as ModelLevel, depth, start_of, marker_of, is_number, is_score, is_at_limit, levels_of_part, position_in, result_for, Next, going, whole, in_text, move_item, before_last, stored_level, ReaderState, is_outside_the_table, IsOpen, game_of, or_else, text_refusal, with_items, found_in}
+use Rattle.pgn_game.proofs.Words.{leb-false, ◌≡◌, IsFalse, ℕ, Bool, true, false, ◌&&◌, ◌||◌, not, List, [], ◌∷◌, length, nat_le, Option, None, Some, Bor, refl, sym, ap, ◌∙◌, arith, is_some, ◌==◌, Result, Ok, Err, bytes_eq, codes, unwrap_or, length-map, or_right, or_from, option_copied, NoMove, Ambiguous, Kind, asterisk, symbol, Parts, Played, SanFault, Reason, NotAMove, IllegalMove, AmbiguousMove, MoveLimit, MarkerInVariation, ResultDiffers, Profile, Missing, Pair, value_of, Part, move_of, Level as ModelLevel, depth, start_of, marker_of, is_number, is_score, is_at_limit, levels_of_part, position_in, result_for, Next, going, whole, in_text, move_item, before_last, stored_level, ReaderState, is_outside_the_table, IsOpen, game_of, or_else, text_refusal, with_items, found_in, rules}
 use Rattle.pgn_game.specs.Game as game
 use Rattle.pgn_game.proofs.refusals.RefusalsByStage.{hit, pass, symbol_rows}
 
@@ -65,8 +65,7 @@ move_rows p part s (Some (Err NoMove)) = refl
 move_rows p part s _ = refl
 
 pub move_refusal : (p : Profile) (part : Part) (s : List ℕ) → is_number s ≡ false → is_score s ≡ false → text_refusal p part (symbol s) ≡ refused_as (position_in part) (move_of (position_in part) s)
-move_refusal p part s number score =
-    symbol_refusal p part s false (or_from _ _ number score) score ∙ move_rows p part s _
+move_refusal p part s number score = search (rules, move_rows, or_from, symbol_refusal)
 
 abbrev one_move : Played → MoveReading
 one_move played = Some (Ok played)
@@ -82,19 +81,7 @@ met : {known reason : Reason} → is_outside_the_table known ≡ false → known
 met inside is = (ap Some is, rw is at inside)
 
 found_refused : (p : Parts) (r : MoveReading) {reason : Reason} → found_in p r ≡ Err reason → (refused_as p r ≡ Some reason) × (is_outside_the_table reason ≡ false)
-found_refused p None e = met refl (cc)
-found_refused p (Some (Err NoMove)) e = met refl (cc)
-found_refused p (Some (Err Ambiguous)) e = met refl (cc)
-found_refused p (Some (Ok one)) {reason} e = by_limit _ refl
-  where
-    by_limit : (b : Bool) → is_at_limit p ≡ b → (refused_as p (one_move one) ≡ Some reason) × (is_outside_the_table reason ≡ false)
-    by_limit true is =
-        let h : limited true one ≡ Err reason = cc in
-        let limit = met {known = MoveLimit} {reason = reason} refl (cc) in
-        (hit _ _ None is ∙ limit.0, limit.1)
-    by_limit false is =
-        let h : limited false one ≡ Err reason = cc in
-        absurd (cc)
+found_refused p r h1 = search (rules, hit, met)
 
 -- what was found at the reader's position was found at the part's
 found_at : (old : ReaderState) (part : Part) (s : List ℕ) {here : Parts} {r : Result Played Reason} → IsOpen old part → here ≡ old.text.levels.present.present → r ≡ found_in here (move_of here s)
@@ -155,8 +142,7 @@ other_is p ps missing marker known = cc
 marker_tested : (p : Profile) (part : Part) (missing marker : List ℕ) (inside other : Bool) → nat_le 1 (depth (levels_of_part part)) ≡ inside → result_for p.missing_result marker ≡ missing
     → differs missing (value_of part.pairs (codes "Result")) marker ≡ other
     → marker_rows p part marker ≡ or_else inside MarkerInVariation (or_else (other && (depth (levels_of_part part) == 0)) ResultDiffers None)
-marker_tested p part missing marker inside other within known test =
-    cc (other_is p part.pairs missing marker known)
+marker_tested p part missing marker inside other within known test = cc
 
 pub marker_inside : (old : ReaderState) (k : Kind) (marker : List ℕ) (part : Part) → marker_of k ≡ Some marker → nat_le 1 (depth (levels_of_part part)) ≡ true
     → text_refusal old.profile part k ≡ Some MarkerInVariation
@@ -164,8 +150,7 @@ marker_inside old k marker part is within = marker_refusal old.profile part k is
 
 pub marker_differs : (old : ReaderState) (k : Kind) (missing marker : List ℕ) (part : Part) → marker_of k ≡ Some marker → depth (levels_of_part part) ≡ 0
     → result_for old.profile.missing_result marker ≡ missing → differs missing (value_of part.pairs (codes "Result")) marker ≡ true → text_refusal old.profile part k ≡ Some ResultDiffers
-marker_differs old k missing marker part is none known test =
-    cc (marker_refusal old.profile part k is, marker_tested old.profile part missing marker false true (ap (λ n. nat_le 1 n) none) known test)
+marker_differs old k missing marker part is none known test = search (rules, marker_refusal, marker_tested)
 
 pub marker_free : (old : ReaderState) (k : Kind) (missing marker : List ℕ) (part : Part) → marker_of k ≡ Some marker → depth (levels_of_part part) ≡ 0
     → result_for old.profile.missing_result marker ≡ missing → differs missing (value_of part.pairs (codes "Result")) marker ≡ false → text_refusal old.profile part k ≡ None

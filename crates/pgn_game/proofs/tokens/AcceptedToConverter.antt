@@ -1,7 +1,7 @@
 -- One token that the lexer gave, and what the reader answered to it.
 use Rattle.pgn_lexer.specs.PartialToken.{refusal as refusal_token}
 use Rattle.pgn_lexer.specs.Scanned.{token, more, fault}
-use Rattle.pgn_game.proofs.Words.{Reason, Lexical, WriteFault, Fault, Profile, Game, Part, ◌≡◌, ℕ, ◌+◌, ◌*◌, is_some, ◌<◌, ◌≤◌, ◌⊎◌, inl, inr, Bool, false, true, List, [], ◌∷◌, ◌++◌, length, take, drop, Option, None, Some, Result, Ok, Err, refl, sym, ap, subst, ◌∙◌, append_assoc, append-nil, length-append, le_refl, arith, IsTrue, map, sum, ◌||◌, take-append-drop, map-append, list_any-append, or_cases, Appends-nil, Appends, Token, EndsAt, tokens_of, Standing, coming, waiting, StandsAfter, Follows, AfterScan, first, still, Accepted, More, Finished, refusal, position_if_move, position_in, Next, going, whole, next, Progress, progress_with, progress_after, Read, read, position_at_fault, gain, Gains, plies_of, has_move, ReaderState, Agrees, IsKnown, as_written, IsBehind, whole_plies, plies_next, Leads, Answers, AppendsFront, MostTried, Raises, Tries, TriesUnwritten, sum_by-append, sum_by-cons, LexFault, FinishedGame, finished_game_of, Converter, game_in_reader, game_in_reader_if, play_moves, has_played_move, HasRead, Stands, refused_stop as refused, unwritten, AreNext, reported_position, FedToFault, FaultAtEnd, SameGames, OneGame, AfterStep, outcome_at, finished_game, games_after, fault_of_step, StepAdvances, written_so_far as written, due}
+use Rattle.pgn_game.proofs.Words.{Reason, Lexical, WriteFault, Fault, Profile, Game, Part, ◌≡◌, ℕ, ◌+◌, ◌*◌, is_some, ◌<◌, ◌≤◌, ◌⊎◌, inl, inr, Bool, false, true, List, [], ◌∷◌, ◌++◌, length, take, drop, Option, None, Some, Result, Ok, Err, refl, sym, ap, subst, ◌∙◌, append_assoc, append-nil, length-append, le_refl, arith, IsTrue, map, sum, take-append-drop, map-append, list_any-append, or_cases, Appends-nil, Appends, Token, EndsAt, tokens_of, Standing, coming, waiting, StandsAfter, Follows, AfterScan, first, still, Accepted, More, Finished, refusal, position_if_move, position_in, Next, going, whole, next, Progress, progress_with, progress_after, Read, read, position_at_fault, gain, Gains, plies_of, has_move, ReaderState, Agrees, IsKnown, as_written, IsBehind, whole_plies, plies_next, Leads, Answers, AppendsFront, MostTried, Raises, Tries, TriesUnwritten, sum_by-append, sum_by-cons, LexFault, FinishedGame, finished_game_of, Converter, game_in_reader, game_in_reader_if, play_moves, has_played_move, HasRead, Stands, refused_stop as refused, unwritten, AreNext, reported_position, FedToFault, FaultAtEnd, SameGames, OneGame, AfterStep, outcome_at, finished_game, games_after, fault_of_step, StepAdvances, written_so_far as written, due, rules}
 use Rattle.pgn_game.specs.ReaderState as reader_state
 use Rattle.pgn_game.proofs.tokens.PairsTriedForToken.{most_with, most_to_refused, part_probed, raises_none}
 use Rattle.pgn_game.proofs.tokens.OneMoreToken.{read-passes, read-refuses, due-passes, gains_none}
@@ -35,21 +35,11 @@ finished_behind : {r : ReaderState} {g : Game} → IsBehind r g → game_in_read
 finished_behind h = cc (h.pairs, h.plies, h.position)
 
 plies-snoc : (games : List Game) (g : Game) → sum (map plies_of (games ++ g ∷ [])) ≡ sum (map plies_of games) + plies_of g
-plies-snoc games g =
-    let one : sum (plies_of g ∷ []) ≡ plies_of g = omega (arith, sum_by-cons (λ n. n) (plies_of g) []) in
-    ap sum (map-append plies_of games (g ∷ [])) ∙ sum_by-append (λ n. n) (map plies_of games) (plies_of g ∷ []) ∙ ap (λ n. sum (map plies_of games) + n) one
+plies-snoc games g = search (rules, map-append, sum_by-append, sum_by-cons)
 
 -- a move is in the games before, or in the last one
 moves-snoc : (games : List Game) (g : Game) → IsTrue (play_moves (games ++ g ∷ [])) → IsTrue (play_moves games) ⊎ IsTrue (has_move g.items)
-moves-snoc games g h =
-    elim (or_cases (play_moves games) (play_moves (g ∷ [])) (sym (list_any-append (λ (g : Game). has_move g.items) games (g ∷ [])) ∙ h)) [
-      | inl e ↦ inl e
-      | inr e ↦ inr (only (has_move g.items) e)
-    ]
-  where
-    only : (b : Bool) → (b || false) ≡ true → b ≡ true
-    only true e = refl
-    only false e = absurd (cc)
+moves-snoc games g h = search (rules, list_any-append, or_cases)
 
 -- a converter after a step
 abbrev pub stepped : Standing → ReaderState → ℕ → Bool → Result (Option Accepted) Fault → Converter
@@ -65,19 +55,11 @@ stepped l r games finished outcome =
 
 -- a move in one of the games was played
 pub in_games : (b : Progress) → IsTrue (play_moves b.games) → IsTrue (has_played_move b)
-in_games b h = or_left (play_moves b.games) (has_move b.part.items) h
-  where
-    or_left : (x y : Bool) → IsTrue x → IsTrue (x || y)
-    or_left true y h = refl
-    or_left false y h = absurd (cc)
+in_games b h = search rules
 
 -- some pair was tried where a move was played in a game, or in the part
 in_either : {r : ReaderState} (b : Progress) → Agrees r b.part → (IsTrue (play_moves b.games) → 0 < r.most_probes) → IsTrue (has_played_move b) → 0 < r.most_probes
-in_either {r} b agrees before moves = by_or (play_moves b.games) (has_move b.part.items) before (part_probed r agrees) moves
-  where
-    by_or : (x y : Bool) → (IsTrue x → 0 < r.most_probes) → (IsTrue y → 0 < r.most_probes) → IsTrue (x || y) → 0 < r.most_probes
-    by_or true y left right h = left refl
-    by_or false y left right h = right h
+in_either b agrees before moves = search (rules, part_probed)
 
 module _ (p : Profile) (old : Converter) (given : List Token) (t : Token) (l : Standing) (new : ReaderState) (finished : Bool) (has_read : HasRead p old given) (profile : new.profile ≡ old.reading.profile) (probes : old.reading.most_probes ≤ new.most_probes) where
   abbrev b : Progress
@@ -128,9 +110,7 @@ module _ (p : Profile) (old : Converter) (given : List Token) (t : Token) (l : S
   -- the game is whole
   pub one_game : refusal old.reading.profile b.part t.kind ≡ None → Leads (next b.part t.kind) Finished new
       → (g : Game) × OneGame p given (given ++ t ∷ []) g × (game_in_reader new ≡ finished_game_of g)
-  one_game h leads =
-      let done = leads_finished (next b.part t.kind) b.games new leads in
-      (done.0, ap (λ (r : Read). r.progress.games) (reads h) ∙ done.1, finished_behind done.3)
+  one_game h leads = search (rules, finished_behind, leads_finished, reads)
 
   pub has_read_game : refusal old.reading.profile b.part t.kind ≡ None → Leads (next b.part t.kind) Finished new
       → whole_plies new ≡ whole_plies old.reading + plies_next (next b.part t.kind)
@@ -181,12 +161,7 @@ module _ (p : Profile) (old : Converter) (given : List Token) (t : Token) (l : S
     shown = written ∙ has_read.profile
 
     pub gains_token : {a c : Option (List ℕ)} → refusal old.reading.profile b.part t.kind ≡ None → Appends a c (gain (as_written old.reading.profile) b.part t.kind) → Gains p given (given ++ t ∷ []) a c
-    gains_token {a} {c} h wrote =
-        record {
-          text = gain p b.part t.kind;
-          due_for = due-passes p given t has_read.passes (passes h);
-          appended = subst (λ q. Appends a c (gain q b.part t.kind)) shown wrote;
-        }
+    gains_token h wrote = search (rules, due-passes, passes, shown)
 
     -- a write failed
     pub at_unwritten : (us : List Token) {a c : Option (List ℕ)} → refusal old.reading.profile b.part t.kind ≡ None
@@ -284,16 +259,7 @@ took p old u given piece used t l new finished a c (Err why) stands scan ends co
 pub took_none : (p : Profile) (old : Converter) (u : List ℕ) (given : List Token) (piece : List ℕ) (used : ℕ) (l : Standing) (o : Option (List ℕ)) → 0 < length piece
     → Stands p old u (first piece) given → AfterScan u (first piece) given piece l used more
     → AfterStep p u given piece (record old { lexer = l }) used (Ok None) o o
-took_none p old u given piece used l o some stands scan =
-    let h = stands.has_read in (
-      scan.0,
-      record {
-        lexer = rw (still_none (first piece) piece some) at scan.1;
-        has_read = record { profile = h.profile; no_fault = h.no_fault; passes = h.passes; agrees = h.agrees; games = h.games; plies = h.plies; probed = h.probed; tried = h.tried; just_finished = h.just_finished };
-      },
-      scan.2 some,
-      gains_none,
-    )
+took_none p old u given piece used l o some stands scan = search (rules, gains_none, passes, still_none)
 
 -- a rejection of the lexer is a row of its own
 pub lexical-refusal : (p : Profile) (part : Part) (f : LexFault) → refusal p part (refusal_token f).kind ≡ Some (Lexical f.reason)
@@ -327,5 +293,4 @@ is_some_held false reading = refl
 
 pub advances_token : (old : Standing) (piece : List ℕ) (new : Standing) (used at : ℕ) (r : Result Accepted Reason) → waiting new < 2 * used + waiting old
     → StepAdvances old piece new used (outcome_at at r)
-advances_token old piece new used at (Ok accepted) sooner = sooner
-advances_token old piece new used at (Err reason) sooner = tt
+advances_token old piece new used at r h1 = search rules

@@ -1,6 +1,6 @@
 -- Games read in turn from a source.
 use Rattle.std.specs.Io.KnownBytes.{Keeps, IsAtEnd}
-use Rattle.pgn_game.proofs.Words.{Token, ReadFault, Reason, Fault, Profile, Game, no_part, ◌≡◌, ℕ, ◌^◌, ◌≤◌, Bool, true, false, List, [], ◌∷◌, ◌++◌, length, take, drop, Option, None, Some, Result, Ok, Err, refl, sym, ap, subst, ◌∙◌, inl, inr, append-nil, append_assoc, length-append, arith, take-append-drop, Consumes-nil, Consumes-trans, tokens_of, decided, coming, IsDecided, first, refusal, Gains, Games, games_of, HasReadAll, HaveRead, within, at_end, NextGame, NoGame, NextStops, AfterNext, NextSoFar, IsTrue, is_ok, Consumes, text_of_games as text_of, Next, going, whole, next, Progress, progress_with, no_progress, Read, read, read_from, written_so_far as written, Converter, finished_game_of, HasRead, FedAll, FedGame, FedToFault, StopsIn, at_token, too_long, AfterFinish, Finishes, FinishesToFault}
+use Rattle.pgn_game.proofs.Words.{Token, ReadFault, Fault, Profile, Game, no_part, ◌≡◌, ℕ, ◌^◌, ◌≤◌, Bool, true, false, List, [], ◌∷◌, ◌++◌, length, take, drop, Option, None, Some, Result, Ok, Err, refl, sym, ap, subst, ◌∙◌, inl, inr, append-nil, append_assoc, length-append, arith, take-append-drop, Consumes-nil, Consumes-trans, tokens_of, decided, coming, IsDecided, first, Gains, Games, games_of, HasReadAll, HaveRead, within, at_end, NextGame, NoGame, NextStops, AfterNext, NextSoFar, IsTrue, is_ok, Consumes, text_of_games as text_of, whole, next, Progress, read, read_from, written_so_far as written, Converter, finished_game_of, HasRead, FedAll, FedGame, FedToFault, StopsIn, at_token, too_long, AfterFinish, Finishes, FinishesToFault, rules}
 use Rattle.pgn_game.specs.GamesCalls as games_calls
 use Rattle.pgn_game.proofs.tokens.OneMoreToken.{read-passes, read-refuses, stops_from, torn-none, gains_none, gains_more, stops_more, games_still, counts_still}
 use Rattle.pgn_game.proofs.tokens.StepsInPiece.{decided_at_end, stands_before_any}
@@ -17,12 +17,7 @@ none_or_some x a b = cc
 
 -- tokens before those that pass do
 pub passes_before : (p : Profile) (ts us : List Token) → (read p (ts ++ us)).fault ≡ None → (read p ts).fault ≡ None
-passes_before p ts us passes = by_fault (read p ts).fault refl
-  where
-    by_fault : (o : Option Fault) → (read p ts).fault ≡ o → (read p ts).fault ≡ None
-    by_fault None is = is
-    by_fault (Some f) is =
-        absurd (none_or_some f (rw (stops_from p no_progress ts us is) is) passes)
+passes_before p ts us passes = search (rules, none_or_some, stops_from)
 
 -- between games all that is due is the text of games
 pub due_between : (p : Profile) (b : Progress) → b.part ≡ no_part → written p b ≡ text_of p b.games
@@ -35,21 +30,7 @@ not_one_more {gs} g e = absurd (omega (arith, ap (length {A = Game}) e, length-a
 -- the token that finishes a game leaves no part of one
 pub none_behind : (p : Profile) (ts : List Token) (t : Token) (g : Game) → (read p (ts ++ t ∷ [])).fault ≡ None
     → (read p (ts ++ t ∷ [])).progress.games ≡ (read p ts).progress.games ++ g ∷ [] → (read p (ts ++ t ∷ [])).progress.part ≡ no_part
-none_behind p ts t g passes one = by_test (refusal p (read p ts).progress.part t.kind) refl
-  where
-    before : (read p ts).fault ≡ None
-    before = passes_before p ts (t ∷ []) passes
-
-    by_next : (nx : Next) → next (read p ts).progress.part t.kind ≡ nx → (read p (ts ++ t ∷ [])).progress ≡ progress_with (read p ts).progress.games nx
-        → (read p (ts ++ t ∷ [])).progress.part ≡ no_part
-    by_next (going part) is reads = absurd (not_one_more g (sym (ap (λ (b : Progress). b.games) reads) ∙ one))
-    by_next (whole h) is reads = ap (λ (b : Progress). b.part) reads
-
-    by_test : (o : Option Reason) → refusal p (read p ts).progress.part t.kind ≡ o → (read p (ts ++ t ∷ [])).progress.part ≡ no_part
-    by_test (Some reason) is =
-        absurd (none_or_some _ (ap (λ (r : Read). r.fault) (read-refuses p ts t [] reason before is)) passes)
-    by_test None is =
-        by_next (next (read p ts).progress.part t.kind) refl (ap (λ (r : Read). r.progress) (read-passes p ts t before is))
+none_behind p ts t g passes one = search (rules, none_or_some, not_one_more, passes_before, read-passes, read-refuses)
 
 -- ---- one call
 
@@ -69,30 +50,12 @@ none_yet p u given left now o (at_end all) not_finished = absurd (cc (all.finish
 -- what a call at the end finds
 pub at_end_again : (p : Profile) (u : List ℕ) (given : List Token) (left : Option (List ℕ)) (now : Games) (new : Converter) (o : Option (List ℕ)) → HaveRead p left u now given
     → now.converter.is_finished ≡ true → new ≡ record now.converter { just_finished = None } → NoGame p u given left left (games_of new now.unused) o o
-at_end_again p u given left now new o (within on) finished is = absurd (cc (on.not_finished))
-at_end_again p u given left now new o (at_end all) finished is =
-    let text : tokens_of (u ++ []) ≡ given = ap tokens_of (append-nil u) ∙ sym all.whole in
-    record {
-      more = [];
-      consumed = Consumes-nil left;
-      have_read_all = record {
-        at_end = all.at_end;
-        short = rw (append-nil u) all.short;
-        whole = refl;
-        none_begun = rw text all.none_begun;
-        has_read = subst (HasRead p new) (sym text) (rw is (let_go p now.converter given all.has_read));
-        finished = rw is all.finished;
-      };
-      no_game = rw text;
-      none_just_finished = rw is;
-      gains = rw text (gains_none);
-    }
+at_end_again p u given left now new o h1 h2 h3 = grind (arith, Consumes-nil, append-nil, gains_none, let_go)
 
 -- what was read of a front of the bytes not used is decided
 front_decided : {p : Profile} {u : List ℕ} (rest front : List ℕ) {given : List Token} → (front ≡ [] → given ≡ decided u) → {new : Converter} {a c : Option (List ℕ)}
     (fed : FedAll p u (first rest) given front new a c) → fed.tokens ≡ decided (u ++ front)
-front_decided {u} rest [] none fed = fed.empty refl ∙ none refl ∙ ap decided (sym (append-nil u))
-front_decided rest (x ∷ xs) none fed = fed.decided (omega arith)
+front_decided rest front h1 fed = search (rules, append-nil)
 
 -- the last of a list
 pub last_is : {A : Type 0} → (xs ys : List A) {x y : A} → xs ++ x ∷ [] ≡ ys ++ y ∷ [] → x ≡ y
@@ -230,16 +193,16 @@ module _ (p : Profile) (u : List ℕ) (given : List Token) (left_old left left_n
   -- the source has ended
   module _ (consumed : Consumes left left_new []) (end : IsAtEnd left_new) (new : Converter) (d : Option (List ℕ)) where
     all : Consumes left_old left_new so.more
-    all = subst (Consumes left_old left_new) (append-nil so.more) (Consumes-trans left_old left left_new so.more [] so.consumed consumed)
+    all = search (rules, Consumes-trans, append-nil)
 
     left_over : tokens_of so.reads_on.used ≡ so.tokens ++ coming now.lexer []
     left_over = ap tokens_of (sym (append-nil so.reads_on.used)) ∙ so.reads_on.stands.lexer.tokens [] tt
 
     reads : read p (tokens_of so.reads_on.used) ≡ read_from p (read p so.tokens).progress (coming now.lexer [])
-    reads = ap (read p) left_over ∙ reads_behind p no_progress so.tokens (coming now.lexer []) so.reads_on.stands.has_read.passes
+    reads = search (rules, left_over, reads_behind)
 
     adds : AddsOne (read p so.tokens).progress.games (read p (tokens_of so.reads_on.used))
-    adds = subst (AddsOne (read p so.tokens).progress.games) (sym reads) (left_games p (read p so.tokens).progress now.lexer)
+    adds = search (rules, AddsOne, left_games, reads)
 
     ended : {is_game : Bool} → Finishes p so.reads_on.used so.tokens new is_game c d → new.is_finished ≡ true → now.lexer.count ≤ 2 ^ 62
         → AfterNext p u given left_old left_new (games_of new []) (Ok is_game) a d

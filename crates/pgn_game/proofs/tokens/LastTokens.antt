@@ -5,7 +5,7 @@ use Rattle.pgn_lexer.specs.declared.partial_token.Mode.TheVariants as modes
 use Rattle.pgn_lexer.specs.declared.partial_token.SuffixRun.{SuffixRun}
 use Rattle.pgn_lexer.specs.declared.partial_token.SuffixRun.TheVariants as suffix_runs
 use Rattle.pgn_lexer.specs.Tokens as tokens
-use Rattle.pgn_game.proofs.Words.{Kind, Token, Reason, Profile, Missing, counts_as, takes_the_marker, Stage, Between, AfterLeftBracket, AfterName, AfterValue, AfterTags, InMovetext, Pair, Item, Game, Part, no_part, ◌≡◌, ℕ, ◌<◌, Bool, true, false, List, [], ◌∷◌, ◌++◌, length, nat_le, length-append, Option, None, Some, refl, sym, ap, subst, ◌∙◌, append-nil, arith, inl, inr, ◌⊎◌, IsLast, Standing, coming, refusal, if◌then◌else◌, LexReason, SymbolTooLong, WordTooLong, GlyphRange, gives, stops, onto, tokens_to_come_in, text_of_games as text_of, torn, Progress, Next, Read, progress_after, progress_with, going, next, next_in, read_from, whole, written_so_far as written}
+use Rattle.pgn_game.proofs.Words.{Kind, Token, Reason, Profile, Missing, counts_as, takes_the_marker, Stage, Between, Pair, Item, Game, Part, no_part, ◌≡◌, ℕ, ◌<◌, Bool, true, false, List, [], ◌∷◌, ◌++◌, length, nat_le, length-append, Option, None, Some, refl, sym, ap, subst, ◌∙◌, append-nil, arith, inl, inr, ◌⊎◌, IsLast, Standing, coming, refusal, if◌then◌else◌, LexReason, SymbolTooLong, WordTooLong, GlyphRange, gives, stops, onto, tokens_to_come_in, text_of_games as text_of, torn, Progress, Next, Read, progress_after, progress_with, going, next, next_in, read_from, whole, written_so_far as written, rules}
 use Rattle.pgn_game.proofs.tokens.OneMoreToken.{after_test, by_token, first_passes, goes_on, read_from-test}
 
 reads_on : (p : Profile) (b : Progress) (t : Token) (ts : List Token) {o : Option Reason} → refusal p b.part t.kind ≡ o → read_from p b (t ∷ ts) ≡ after_test p b t ts o
@@ -20,14 +20,7 @@ pub data IsQuiet : Kind → Type 0 where
   refused : (r : LexReason) → IsQuiet (tokens.refused r)
 
 quiet_in : (gs : List Game) (part : Part) (s : Stage) {k : Kind} → IsQuiet k → (progress_with gs (next_in s part k)).games ≡ gs
-quiet_in gs part s end =
-    elim s as (λ w. (progress_with gs (next_in w part tokens.end)).games ≡ gs) [ Between ↦ refl | AfterLeftBracket ↦ refl | AfterName ↦ refl | AfterValue ↦ refl | AfterTags ↦ refl | InMovetext ↦ refl ]
-quiet_in gs part s (word text) =
-    elim s as (λ w. (progress_with gs (next_in w part (tokens.word text))).games ≡ gs) [ Between ↦ refl | AfterLeftBracket ↦ refl | AfterName ↦ refl | AfterValue ↦ refl | AfterTags ↦ refl | InMovetext ↦ refl ]
-quiet_in gs part s close =
-    elim s as (λ w. (progress_with gs (next_in w part tokens.comment_close)).games ≡ gs) [ Between ↦ refl | AfterLeftBracket ↦ refl | AfterName ↦ refl | AfterValue ↦ refl | AfterTags ↦ refl | InMovetext ↦ refl ]
-quiet_in gs part s (refused r) =
-    elim s as (λ w. (progress_with gs (next_in w part (tokens.refused r))).games ≡ gs) [ Between ↦ refl | AfterLeftBracket ↦ refl | AfterName ↦ refl | AfterValue ↦ refl | AfterTags ↦ refl | InMovetext ↦ refl ]
+quiet_in gs part s h1 = search rules
 
 quiet_next : (b : Progress) {k : Kind} → IsQuiet k → (progress_with b.games (next b.part k)).games ≡ b.games
 quiet_next b quiet = quiet_in b.games b.part b.part.stage quiet
@@ -95,15 +88,12 @@ end_torn : (p : Profile) (gs : List Game) (stage : Stage) (ps : List Pair) (name
     → refusal p (record { stage = stage; pairs = ps; name = name; items = items }) tokens.end ≡ None
     → torn p (progress_with gs (next (record { stage = stage; pairs = ps; name = name; items = items }) tokens.end)).part ≡ []
 unfolding refusal
-end_torn p gs Between ps name items free = torn_between p.missing_result p ps name items refl
-end_torn p gs _ ps name items free = absurd (some-none free)
+end_torn p gs stage ps name items h1 = search (rules, some-none, torn_between)
 
 last_torn : (p : Profile) (b : Progress) (place : ℕ) (k : Kind) → IsLast k → refusal p b.part k ≡ None
     → torn p (progress_after b (record { at = place; kind = k })).part ≡ []
 unfolding refusal
-last_torn p b place (tokens.refused r) last free = absurd (some-none free)
-last_torn p b place tokens.end last free = end_torn p b.games b.part.stage b.part.pairs b.part.name b.part.items free
-last_torn p b place _ last free = absurd last
+last_torn p b place k h1 h2 = search (rules, end_torn, some-none)
 
 pub none_torn : (p : Profile) (b : Progress) (ts : List Token) → HasLast ts → (read_from p b ts).fault ≡ None → torn p (read_from p b ts).progress.part ≡ []
 none_torn p b [] has passes = absurd has
@@ -185,13 +175,7 @@ left_games p b l = last_games p b (left l)
 -- if they pass, all that is due is the text of games
 pub left_none_begun : (p : Profile) (b : Progress) (l : Standing) → (read_from p b (coming l [])).fault ≡ None
     → written p (read_from p b (coming l [])).progress ≡ text_of p (read_from p b (coming l [])).progress.games
-left_none_begun p b l passes =
-    let after = (read_from p b (coming l [])).progress in
-    rw (none_torn p b (coming l []) (has_last (left l)) passes) (append-nil (text_of p after.games))
-  where
-    has_last : {ts : List Token} → AreLast ts → HasLast ts
-    has_last (quiet ts q has) = has
-    has_last (one t at) = tt
+left_none_begun p b l passes = search (rules, append-nil, left, none_torn)
 
 -- ---- a write that fails among them
 

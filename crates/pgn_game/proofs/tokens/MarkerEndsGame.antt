@@ -1,6 +1,6 @@
 -- The token that finishes a game is its marker, which is the Result of its tag section.
 use Rattle.pgn_lexer.specs.Tokens as tokens
-use Rattle.pgn_game.proofs.Words.{Kind, Token, Reason, MarkerInVariation, ResultDiffers, SetUpWithoutFen, Stage, Between, AfterLeftBracket, AfterName, AfterValue, AfterTags, InMovetext, Profile, value_of, Game, Part, ◌≡◌, ℕ, false, ◌&&◌, not, nat_le, List, [], ◌∷◌, ◌++◌, Option, None, Some, refl, sym, ap, subst, ◌∙◌, ◌==◌, bytes_eq, codes, unwrap_or, IsTrue, IsFalse, not-false, bytes_eq-Decides, refusal, marker_of, is_comment, levels_of_part, lacks_fen, result_for, depth, text_refusal, Next, going, whole, next, next_in, in_text, items_of, at_stage, Progress, progress_with, Read, read, games_read, FinishesGame, EndsByMarker, GamesEndByMarker}
+use Rattle.pgn_game.proofs.Words.{Kind, Token, Reason, Stage, AfterLeftBracket, AfterName, AfterValue, Profile, value_of, Game, Part, ◌≡◌, ℕ, false, List, [], ◌∷◌, ◌++◌, Option, None, Some, refl, sym, ap, subst, ◌∙◌, codes, unwrap_or, IsTrue, IsFalse, not-false, bytes_eq-Decides, refusal, marker_of, is_comment, result_for, text_refusal, Next, going, whole, next, next_in, in_text, at_stage, progress_with, read, games_read, FinishesGame, EndsByMarker, GamesEndByMarker, rules}
 use Rattle.pgn_game.proofs.exporting.PairsExportedAgain.{result_of}
 use Rattle.pgn_game.proofs.pairs.ExportedValues.{exported_known}
 use Rattle.pgn_game.proofs.refusals.RefusalsByStage.{is_textual, is_lexical, after_tags, between, rest_passed, test_failed, text_row}
@@ -16,33 +16,10 @@ Leads k part (going to) = Unit {0}
 Leads k part (whole g) = (marker_of k ≡ Some g.marker) × (g.pairs ≡ part.pairs)
 
 text_leads : (part : Part) (k : Kind) → Leads k part (in_text part k)
-text_leads part tokens.asterisk = (refl, refl)
-text_leads part (tokens.symbol s) = by_marker (marker_of (tokens.symbol s)) refl
-  where
-    by_marker : (o : Option (List ℕ)) → marker_of (tokens.symbol s) ≡ o → Leads (tokens.symbol s) part (elim o [
-      | Some marker ↦ whole (record { pairs = part.pairs; items = part.items; marker = marker })
-      | None ↦ going (record { stage = InMovetext; pairs = part.pairs; name = part.name; items = part.items ++ items_of part (tokens.symbol s) })
-    ])
-    by_marker (Some marker) is = (is, refl)
-    by_marker None is = tt
-text_leads part _ = tt
+text_leads part k = search rules
 
 leads_in : (stage : Stage) (part : Part) (k : Kind) → Leads k part (next_in stage part k)
-leads_in Between part tokens.left_bracket = tt
-leads_in Between part tokens.comment_open = tt
-leads_in Between part (tokens.word text) = tt
-leads_in Between part tokens.comment_close = tt
-leads_in Between part tokens.end = tt
-leads_in Between part k = text_leads part k
-leads_in AfterLeftBracket part (tokens.symbol name) = tt
-leads_in AfterLeftBracket part k = tt
-leads_in AfterName part (tokens.str value) = tt
-leads_in AfterName part k = tt
-leads_in AfterValue part tokens.right_bracket = tt
-leads_in AfterValue part k = tt
-leads_in AfterTags part tokens.left_bracket = tt
-leads_in AfterTags part k = text_leads part k
-leads_in InMovetext part k = text_leads part k
+leads_in stage part k = search (rules, text_leads)
 
 -- inside a pair none is
 none_in_name : (part : Part) (k : Kind) (g : Game) → next_in AfterLeftBracket part k ≡ whole g → ⊥
@@ -66,33 +43,16 @@ record IsPlain (k : Kind) : Type 0 where
   sound : is_lexical k ≡ false
 
 plain : (k : Kind) (marker : List ℕ) → marker_of k ≡ Some marker → IsPlain k
-plain tokens.asterisk marker is = record { textual = refl; bare = refl; sound = refl }
-plain (tokens.symbol s) marker is = record { textual = refl; bare = refl; sound = refl }
-plain _ marker is = absurd (cc)
+plain k marker h1 = search rules
 
 -- it passes as in movetext
 passes_in_text : (p : Profile) (stage : Stage) (part : Part) (k : Kind) (g : Game) → IsPlain k → refusal p (at_stage stage part) k ≡ None → next_in stage part k ≡ whole g
     → text_refusal p part k ≡ None
-passes_in_text p Between part k g is free leads =
-    sym (text_row p part k is.sound) ∙ sym (between p part k is.textual is.bare) ∙ free
-passes_in_text p AfterLeftBracket part k g is free leads = absurd (none_in_name part k g leads)
-passes_in_text p AfterName part k g is free leads = absurd (none_in_value part k g leads)
-passes_in_text p AfterValue part k g is free leads = absurd (none_behind_value part k g leads)
-passes_in_text p AfterTags part k g is free leads =
-    sym (text_row p part k is.sound) ∙ rest_passed (lacks_fen part.pairs) SetUpWithoutFen (sym (after_tags p part k is.textual) ∙ free)
-passes_in_text p InMovetext part k g is free leads = sym (text_row p part k is.sound) ∙ free
+passes_in_text p stage part k g h1 h2 h3 = search (rules, after_tags, between, none_behind_value, none_in_name, none_in_value, rest_passed, text_row)
 
 same_result : (p : Profile) (part : Part) (k : Kind) (marker : List ℕ) → marker_of k ≡ Some marker → text_refusal p part k ≡ None
     → marker ≡ unwrap_or (value_of part.pairs (codes "Result")) (result_for p.missing_result marker)
-same_result p part k marker is free =
-    let rows = sym (marker_refusal p part k is) ∙ free in
-    let value = unwrap_or (value_of part.pairs (codes "Result")) (result_for p.missing_result marker) in
-    let deep = depth (levels_of_part part) in
-    let same : not (bytes_eq marker value) ≡ false =
-    same_at_zero (not (bytes_eq marker value)) deep (test_failed (nat_le 1 deep) MarkerInVariation _ rows)
-    (test_failed (other_if p.missing_result part.pairs (Some marker) && (deep == 0)) ResultDiffers None
-    (rest_passed (nat_le 1 deep) MarkerInVariation rows)) in
-    (bytes_eq-Decides marker value).0 (not-false (bytes_eq marker value) same)
+same_result p part k marker is free = search (rules, bytes_eq-Decides, marker_refusal, not-false, other_if, rest_passed, same_at_zero, test_failed)
 
 -- ---- A game that was read
 
@@ -121,17 +81,10 @@ module _ (p : Profile) (given : List Token) (marker : Token) (finishes : Finishe
 
   by_next : (nx : Next) → refusal p part marker.kind ≡ None → next part marker.kind ≡ nx
       → (read p (given ++ marker ∷ [])).progress ≡ progress_with (games_read p given) nx → EndsByMarker p given marker finishes.game
-  by_next (going to) free leads after =
-      absurd (not_one_more finishes.game (sym (ap (λ (b : Progress). b.games) after) ∙ finishes.one_more))
-  by_next (whole g) free leads after =
-      of_game g free leads
-      (last_is (games_read p given) (games_read p given) (sym (ap (λ (b : Progress). b.games) after) ∙ finishes.one_more))
+  by_next nx h1 h2 h3 = search (rules, last_is, not_one_more, of_game)
 
   by_test : (o : Option Reason) → refusal p part marker.kind ≡ o → EndsByMarker p given marker finishes.game
-  by_test (Some reason) is =
-      absurd (none_or_some _ (ap (λ (r : Read). r.fault) (read-refuses p given marker [] reason before is)) finishes.passes)
-  by_test None is =
-      by_next (next part marker.kind) is refl (ap (λ (r : Read). r.progress) (read-passes p given marker before is))
+  by_test o h1 = search (rules, before, by_next, none_or_some, read-passes, read-refuses)
 
 pub games_end_by_marker : GamesEndByMarker
 games_end_by_marker p given marker finishes = by_test p given marker finishes (refusal p (read p given).progress.part marker.kind) refl

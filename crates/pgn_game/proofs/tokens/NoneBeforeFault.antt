@@ -1,5 +1,5 @@
 -- Behind the last piece no game is finished before a token that is rejected, or a write that fails.
-use Rattle.pgn_game.proofs.Words.{Token, Fault, Profile, ◌≡◌, ℕ, ◌+◌, ◌<◌, List, [], ◌∷◌, ◌++◌, length, Option, None, refl, sym, ap, subst, ◌∙◌, inl, inr, ◌⊎◌, append-nil, append_assoc, length-append, arith, tokens_of, Standing, coming, HasLeft, Progress, progress_after, no_progress, Read, read, read_from, due, Stops, refused_stop as refused, unwritten, StopsWriting, games_before}
+use Rattle.pgn_game.proofs.Words.{Token, Fault, Profile, ◌≡◌, ℕ, ◌+◌, List, [], ◌∷◌, ◌++◌, length, Option, None, refl, sym, ap, subst, ◌∙◌, inl, inr, ◌⊎◌, append-nil, append_assoc, length-append, arith, tokens_of, Standing, coming, HasLeft, Progress, progress_after, no_progress, Read, read, read_from, due, Stops, refused_stop as refused, unwritten, StopsWriting, games_before, rules}
 use Rattle.pgn_game.proofs.tokens.OneMoreToken.{first_passes, goes_on, due_grows}
 use Rattle.pgn_game.proofs.tokens.LastTokens.{AddsOne, left_games, none_finished_before}
 
@@ -39,16 +39,7 @@ module _ (p : Profile) (given : List Token) (l : Standing) (ts : List Token) (pa
 
   behind_given : (mid : List Token) → writing.front ≡ given ++ mid → coming l [] ≡ mid ++ writing.token ∷ writing.rest
       → (read p writing.front).progress.games ≡ (read p given).progress.games
-  behind_given mid is parts =
-      let start = (read p given).progress in
-      let front : read p writing.front ≡ read_from p start mid = ap (read p) is ∙ reads_behind p no_progress given mid passes in
-      let more : read p (writing.front ++ writing.token ∷ []) ≡ read_from p start (mid ++ writing.token ∷ []) =
-      rw is (ap (read p) (append_assoc given mid (writing.token ∷ []))
-      ∙ reads_behind p no_progress given (mid ++ writing.token ∷ []) passes) in
-      let grows : length (due p writing.front) < length (due p (writing.front ++ writing.token ∷ [])) =
-      omega (arith, longer, writing.least, writing.short) in
-      rw front (none_finished_before p start l mid writing.token writing.rest parts (rw more at writing.passes)
-      (rw front at (rw more at grows)))
+  behind_given mid is parts = search (rules, append_assoc, longer, none_finished_before, reads_behind)
 
   head : {t u : Token} {ts us : List Token} → t ∷ ts ≡ u ∷ us → t ≡ u
   head e = cc

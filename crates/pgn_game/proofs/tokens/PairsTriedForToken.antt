@@ -1,8 +1,6 @@
 -- How many pairs were tried for a token: from what the reader counts to what is said of tokens.
 use Rattle.pgn_lexer.specs.Tokens as tokens
-use Rattle.pgn_lexer.specs.declared.token.TokenKind.TheVariants as token_kinds
-use Rattle.pgn_game.specs.declared.annotation.Annotation.TheVariants as annotations
-use Rattle.pgn_game.proofs.Words.{Parts, Kind, Token, Mode, Full, Reduced, Reason, Stage, Between, AfterTags, InMovetext, Profile, ◌≡◌, ◌⊎◌, inl, ℕ, ◌<◌, max, Bool, true, false, ◌&&◌, ◌||◌, not, List, [], ◌∷◌, ◌++◌, length, drop, Option, None, Some, is_some, Result, Ok, Err, refl, sym, ap, subst, ◌∙◌, arith, IsTrue, drop-append_seam, drop-length, and_right, or_right, false≢true, Move, kind_of, TokenKind, Accepted, depth, refusal, is_at, is_number, is_outside_tag_pairs, is_score, levels_of_part, marker_of, position_in, Next, going, at_stage, Progress, progress_after, read_from, read, Costs, CostsIf, CostsToFind, is_sought, is_written, CostsToWrite, added, CostsToAdd, Tries, MostFrom, MostTried, Raises, has_move, ReaderState, Agrees, IsOpen, may_have_movetext, model_item, with_items, TriesItem, writes, LexReason, Annotation, Item, Part}
+use Rattle.pgn_game.proofs.Words.{Parts, Kind, Token, Mode, Full, Reduced, Reason, InMovetext, Profile, ◌≡◌, ◌⊎◌, inl, ℕ, ◌<◌, max, Bool, true, false, ◌||◌, List, [], ◌∷◌, ◌++◌, None, Some, is_some, Result, Ok, Err, refl, sym, subst, arith, IsTrue, drop-append_seam, drop-length, and_right, or_right, false≢true, Move, kind_of, TokenKind, Accepted, depth, refusal, is_at, is_number, is_outside_tag_pairs, is_score, levels_of_part, marker_of, position_in, Next, going, Progress, progress_after, read_from, read, Costs, CostsIf, CostsToFind, is_written, CostsToWrite, added, CostsToAdd, Tries, MostFrom, MostTried, Raises, has_move, ReaderState, Agrees, IsOpen, may_have_movetext, model_item, with_items, TriesItem, writes, LexReason, Annotation, Item, Part, rules}
 use Rattle.pgn_game.specs.Game.{move}
 use Rattle.pgn_game.specs.MostTried as most_tried
 use Rattle.pgn_game.proofs.tokens.OneMoreToken.{first_passes, goes_on}
@@ -46,69 +44,32 @@ most_to_refused p {given} t us {why} before clear is raised =
 -- nothing is tried for a rejection of the lexer
 pub raises_none : {p : Profile} {part : Part} {r : LexReason} {why : Reason} {most : ℕ} → refusal p part (tokens.refused r) ≡ Some why
     → Raises (Tries p part (tokens.refused r)) most most
-raises_none {most} is =
-    record {
-      tried = 0;
-      allowed = record {
-        found = 0;
-        finds = refl;
-        writes = rw is;
-      };
-      most = omega arith;
-    }
+raises_none is = search rules
 
 -- some pair was tried if a move is in the part
 pub part_probed : (r : ReaderState) {part : Part} → Agrees r part → IsTrue (has_move part.items) → 0 < r.most_probes
-part_probed r {part} agrees = by_stage r.stage refl
-  where
-    no_item : part.items ≡ [] → IsTrue (has_move part.items) → 0 < r.most_probes
-    no_item none has = let h : IsTrue (has_move []) = rw none at has in absurd (cc)
-
-    by_stage : (stage : Stage) → r.stage ≡ stage → IsTrue (has_move part.items) → 0 < r.most_probes
-    by_stage Between at = no_item (ap (λ (q : Part). q.items) (held_at r part Between agrees at))
-    by_stage InMovetext at = (text_at r part InMovetext agrees at).1
-    by_stage stage at = no_item (text_at r part stage agrees at).0
+part_probed r agrees = search (rules, held_at, text_at)
 
 -- No pair is tried for a symbol in a tag pair, nor for a number and a marker.
 costs_nothing : {sought : Bool} (place : Parts) (s : List ℕ) → sought ≡ false → CostsIf sought place s 0
 costs_nothing place s none = subst (λ (b : Bool). CostsIf b place s 0) (sym none) refl
 
 pub untried_in_pair : (part : Part) (k : Kind) → is_outside_tag_pairs part ≡ false → CostsToFind part k 0
-untried_in_pair part (tokens.symbol s) inside =
-    costs_nothing (position_in part) s (ap (λ (b : Bool). b && not (is_score s || is_number s)) inside)
-untried_in_pair part _ inside = refl
+untried_in_pair part k h1 = search (rules, costs_nothing)
 
 pub plain_untried : (part : Part) (s : List ℕ) → (is_score s || is_number s) ≡ true → CostsToFind part (tokens.symbol s) 0
-plain_untried part s plain =
-    costs_nothing (position_in part) s (and_right (is_outside_tag_pairs part) (not (is_score s || is_number s)) (ap not plain))
+plain_untried part s plain = search (rules, and_right, costs_nothing)
 
 pub number_untried : (part : Part) (s : List ℕ) → is_number s ≡ true → CostsToFind part (tokens.symbol s) 0
 number_untried part s number = plain_untried part s (or_right (is_score s) (is_number s) number)
 
 pub marker_untried : (part : Part) (k : TokenKind) → IsTrue (is_some (marker_of (kind_of k))) → CostsToFind part (kind_of k) 0
-marker_untried part (token_kinds.Symbol s) is =
-    costs_nothing (position_in part) s.now
-    (and_right (is_outside_tag_pairs part) (not (is_score s.now || is_number s.now)) (ap (λ (b : Bool). not (b || is_number s.now)) (score_by (is_score s.now) s.now is)))
-  where
-    score_by : (b : Bool) (s : List ℕ) → IsTrue (is_some (elim b as (λ x. Option (List ℕ)) [ true ↦ Some s | false ↦ None ])) → b ≡ true
-    score_by true s is = refl
-    score_by false s is = absurd (false≢true is)
-marker_untried part _ is = refl
+marker_untried part k h1 = search (rules, and_right, costs_nothing, false≢true)
 
 -- The move of another symbol is sought where movetext can begin or goes on.
 pub costs_found : {r : ReaderState} {part : Part} (s : List ℕ) (n : ℕ) → IsOpen r part → IsTrue (may_have_movetext r.stage) → is_number s ≡ false → is_score s ≡ false
     → Costs r.text.levels.present.present s n → CostsToFind part (tokens.symbol s) n
-costs_found {r} {part} s n is at number score costs =
-    rw sought (rw (position_is r part is) at costs)
-  where
-    outside : (stage : Stage) → IsTrue (may_have_movetext stage) → is_outside_tag_pairs (at_stage stage part) ≡ true
-    outside AfterTags at = refl
-    outside InMovetext at = refl
-    outside _ at = absurd (false≢true at)
-
-    sought : is_sought part s ≡ true
-    sought =
-        rw score (rw number (ap (λ (b : Bool). b && true) (outside part.stage (rw is.stage at at))))
+costs_found s n is at number score costs = search (rules, false≢true, position_is)
 
 -- An item is written at the cost that its place has.
 written_alike : (mode : Mode) (deep : ℕ) (i : Item) → writes mode deep i ≡ is_written mode deep i
@@ -117,20 +78,11 @@ written_alike Reduced deep i = refl
 
 item_held : (r : ReaderState) {to : Part} (i : Item) (n k : ℕ) → IsOpen r to → TriesItem r.profile.mode r.text i n k
     → CostsToWrite (is_written r.profile.mode (depth (levels_of_part to)) i) (position_in to) i n k
-item_held r {to} i n k is h =
-    subst (λ (b : Bool). CostsToWrite b (position_in to) i n k)
-    (rw (depth_is r to is) (written_alike r.profile.mode (depth (levels_of_part to)) i))
-    (rw (position_is r to is) at h)
+item_held r i n k is h = search (rules, depth_is, position_is, written_alike)
 
 -- for an item other than a move no pair is tried
 untried : (b : Bool) (place : Parts) (i : Annotation) {n k : ℕ} → k ≡ n → CostsToWrite b place (model_item i) n k
-untried true place (annotations.Glyph glyph) h = h
-untried true place annotations.CommentOpen h = h
-untried true place (annotations.Word text) h = h
-untried true place annotations.CommentClose h = h
-untried true place annotations.Open h = h
-untried true place annotations.Close h = h
-untried false place i h = h
+untried b place i h1 = search rules
 
 -- The pairs tried before what is written of a token, and after. Where a write of the tag section
 -- failed, none was tried.
@@ -148,19 +100,16 @@ tries_put p part to (Err reason) n k costs = inl costs
 -- an item other than a move, and none; and a token that leaves the items as they are
 adds_items : (p : Profile) (part : Part) (items : List Item) (n k : ℕ) → CostsToAdd p.mode (depth (levels_of_part part)) (position_in part) items n k
     → CostsToPut p part (going (with_items part items)) n k
-adds_items p part items n k costs =
-    subst (λ (l : List Item). CostsToAdd p.mode (depth (levels_of_part part)) (position_in part) l n k) (sym (drop-append_seam part.items items)) costs
+adds_items p part items n k costs = search (rules, drop-append_seam)
 
 pub adds_none : (p : Profile) (part : Part) → CostsToPut p part (going (with_items part [])) 0 0
 adds_none p part = adds_items p part [] 0 0 refl
 
 pub adds_item : (p : Profile) (i : Annotation) (part : Part) → CostsToPut p part (going (with_items part (model_item i ∷ []))) 0 0
-adds_item p i part = adds_items p part (model_item i ∷ []) 0 0 (untried (is_written p.mode (depth (levels_of_part part)) (model_item i)) (position_in part) i {n = 0} {k = 0} refl)
+adds_item p i part = search (rules, adds_items, untried)
 
 pub adds_same : (p : Profile) (part : Part) (to : Part) → to.items ≡ part.items → CostsToPut p part (going to) 0 0
-adds_same p part to same =
-    subst (λ (l : List Item). CostsToAdd p.mode (depth (levels_of_part part)) (position_in part) l 0 0)
-    (sym (ap (drop (length part.items)) same ∙ drop-length part.items)) refl
+adds_same p part to same = search (rules, drop-length)
 
 -- a move
 pub adds_move : (r : ReaderState) (part : Part) (m : Move) (n k : ℕ) → IsOpen r part → TriesItem r.profile.mode r.text (move m) n k

@@ -1,7 +1,7 @@
 -- Steps behind the last piece.
 use Rattle.pgn_lexer.specs.Tokens as tokens
 use Rattle.pgn_lexer.specs.PartialToken.{refusal as refusal_token}
-use Rattle.pgn_game.proofs.Words.{Kind, Token, Stage, Between, Reason, Lexical, ReadFault, WriteFault, InputTooLong, Changed, Fault, Profile, Pair, Item, Game, ◌≡◌, ℕ, ◌+◌, ◌<◌, ◌≤◌, Bool, true, false, List, [], ◌∷◌, ◌++◌, length, Option, None, Some, Result, Ok, Err, refl, sym, ap, subst, ◌∙◌, append-nil, append_assoc, length-append, le_refl, arith, ◌*◌, ◌^◌, IsTrue, is_some, ◌↔◌, Device, IsStill, tokens_of, Standing, coming, waiting, HasLeft, IsNext, FinishGivesToken, Follows, Accepted, More, Finished, refusal, is_end, marker_of, next, progress_with, Progress, read, ReaderState, Answers, IsKnown, as_written, Stays, FinishesAtMarker, CountsStop, CountsWrites, is_outside_the_table, SameGames, FaultAtEnd, AfterStepAtEnd, StepAtEndAdvances, AtEndSoFar, StaysBetween, outcome_at, is_ended, games_after, none_at_end, fault_of_step, LexFault, Converter, IsSound, game_in_reader, game_in_reader_if, IsLastGame as IsLast, HasRead, Stands, Finishes, FinishesToFault, CountsFault, CountsReason}
+use Rattle.pgn_game.proofs.Words.{Kind, Token, Stage, Between, Reason, Lexical, Fault, Profile, Pair, Item, Game, ◌≡◌, ℕ, ◌+◌, ◌<◌, ◌≤◌, Bool, true, false, List, [], ◌∷◌, ◌++◌, length, Option, None, Some, Result, Ok, Err, refl, sym, ap, subst, ◌∙◌, append-nil, append_assoc, length-append, le_refl, arith, ◌*◌, ◌^◌, IsTrue, is_some, ◌↔◌, Device, tokens_of, Standing, waiting, HasLeft, IsNext, FinishGivesToken, Accepted, More, Finished, refusal, is_end, marker_of, next, progress_with, Progress, read, ReaderState, Answers, IsKnown, as_written, Stays, FinishesAtMarker, CountsWrites, SameGames, FaultAtEnd, AfterStepAtEnd, StepAtEndAdvances, AtEndSoFar, StaysBetween, outcome_at, is_ended, games_after, none_at_end, fault_of_step, LexFault, Converter, IsSound, game_in_reader, game_in_reader_if, IsLastGame as IsLast, HasRead, Stands, Finishes, FinishesToFault, CountsFault, CountsReason, rules}
 use Rattle.pgn_game.proofs.tokens.OneMoreToken.{gains_none, gains_more, stops_more, games_still, counts_still, position_still, read-passes}
 use Rattle.pgn_game.proofs.tokens.NoneBeforeFault.{none_before_fault}
 use Rattle.pgn_game.proofs.tokens.AcceptedToConverter.{stepped, gains_token, same_games, has_read_more, one_game, has_read_game, at_fault, at_lexical}
@@ -34,8 +34,7 @@ no_marker_at_end k is_e marker = let none = marker_or_end k marker in absurd (cc
 
 -- the tokens of the text begin so in either case
 pub tokens_left : (u : List ℕ) (given : List Token) (e : Bool) (l : Standing) (t : Token) → Left u given e l t → (us : List Token) × (tokens_of u ≡ given ++ t ∷ us)
-tokens_left u given true l t h = ([], h)
-tokens_left u given false l t h = (coming l [], h ∙ append_assoc given (t ∷ []) (coming l []))
+tokens_left u given e l t h1 = search (rules, append_assoc)
 
 -- the end is passed between games alone
 pub end_at : (p : Profile) (s : Stage) (ps : List Pair) (name : List ℕ) (items : List Item)
@@ -46,8 +45,7 @@ end_at p _ ps name items h = absurd (cc)
 
 between_after : {s : Stage} (ps : List Pair) (name : List ℕ) (items : List Item) (games : List Game) → s ≡ Between
     → (progress_with games (next (record { stage = s; pairs = ps; name = name; items = items }) tokens.end)).part.stage ≡ Between
-between_after {s} ps name items games e =
-    subst (λ s. (progress_with games (next (record { stage = s; pairs = ps; name = name; items = items }) tokens.end)).part.stage ≡ Between) (sym e) refl
+between_after ps name items games e = cc
 
 pub is_the_end : (k : Kind) → is_end k ≡ true → k ≡ tokens.end
 is_the_end tokens.end h = refl
@@ -62,7 +60,7 @@ end_passes p b k e none =
 
 -- the game just finished is let go
 pub let_go : (p : Profile) (c : Converter) (given : List Token) → HasRead p c given → HasRead p (record c { just_finished = None }) given
-let_go p c given h = record { profile = h.profile; no_fault = h.no_fault; passes = h.passes; agrees = h.agrees; games = h.games; plies = h.plies; probed = h.probed; tried = h.tried; just_finished = tt }
+let_go p c given h = search rules
 
 -- a converter after a step behind the last piece
 abbrev pub closed : Standing → ReaderState → ℕ → Bool → Result (Option Accepted) Fault → Converter
@@ -114,8 +112,7 @@ closes p old u given t l new finished a c e (Err why) is_e has_read left profile
 
 pub closes_fault : (p : Profile) (old new : Converter) (u : List ℕ) (given : List Token) (f : LexFault) (o : Option (List ℕ)) → HasRead p old given
     → tokens_of u ≡ given ++ refusal_token f ∷ [] → new.reading ≡ old.reading → AfterStepAtEnd p u given old new (Err (record { at = f.at; reason = Lexical f.reason })) o o
-closes_fault p old new u given f o has_read whole same =
-    subst (λ ts. FaultAtEnd p given ts (record { at = f.at; reason = Lexical f.reason }) new.reading o o) (sym whole) (at_lexical f has_read same)
+closes_fault p old new u given f o has_read whole same = search (rules, at_lexical)
 
 -- the end has neither a fault of its own nor a failure
 pub fault_of_closed : (e : Bool) (outcome : Result (Option Accepted) Fault) → fault_of_step outcome ≡ fault_of_step (none_at_end e outcome)
@@ -126,23 +123,11 @@ fault_of_closed e (Err f) = refl
 -- a token that finishes no game is counted as none, and the end is no marker
 pub games_of_closed : (k : Kind) (after : ReaderState) (at : ℕ) (e : Bool) (r : Result Accepted Reason) (games : ℕ) → is_end k ≡ e → FinishesAtMarker k after r
     → games_after (outcome_at at r) games ≡ games_after (none_at_end e (outcome_at at r)) games
-games_of_closed k after at true (Ok Finished) games is_e marker = absurd (no_marker_at_end k is_e marker.0)
-games_of_closed k after at true (Ok More) games is_e marker = refl
-games_of_closed k after at false (Ok accepted) games is_e marker = refl
-games_of_closed k after at e (Err reason) games is_e marker = refl
+games_of_closed k after at e r games h1 h2 = search (rules, no_marker_at_end)
 
 -- an error of the reader counts as the fault that it is
 counts_reason : (r : Reason) (sink : Device) → CountsWrites (Err r) sink → CountsReason r sink.failures sink.failures_after
-counts_reason (Lexical x) sink h = by_test (is_outside_the_table (Lexical x)) h
-  where
-    by_test : (b : Bool) → CountsStop b (Lexical x) sink.failures sink.failures_after → IsStill sink
-    by_test false h = h
-    by_test true h = let is = h.0 in absurd (cc)
-counts_reason WriteFault sink h = h.1
-counts_reason ReadFault sink h = let is = h.0 in absurd (cc)
-counts_reason InputTooLong sink h = let is = h.0 in absurd (cc)
-counts_reason Changed sink h = let is = h.0 in absurd (cc)
-counts_reason _ sink h = h
+counts_reason r sink h1 = search rules
 
 pub counts_token : (at : ℕ) (r : Result Accepted Reason) (sink : Device) → CountsWrites r sink → CountsFault (outcome_at at r) sink
 counts_token at (Ok accepted) sink h = h
@@ -155,16 +140,7 @@ counts_closed e (Err f) sink h = h
 
 -- after a fault a converter owes nothing
 pub sound_behind_fault : (lexer : Standing) (reading : ReaderState) (games : ℕ) (is_finished : Bool) (f : Fault) → IsKnown reading.profile → IsSound lexer reading games false is_finished (Some f)
-sound_behind_fault lexer reading games is_finished f known =
-    record {
-      known = known;
-      count = λ none. absurd (cc);
-      few = λ none. absurd (cc);
-      few_plies = λ none. absurd (cc);
-      fewer_plies = λ none is. absurd (cc);
-      between = λ is. absurd (cc);
-      no_fault = λ is. absurd (cc);
-    }
+sound_behind_fault lexer reading games is_finished f known = search rules
 
 -- a token finishes one game at most
 one_more : (accepted : Accepted) (games : ℕ) → games_after (Ok (Some accepted)) games ≤ games + 1
@@ -178,32 +154,7 @@ pub sound_behind : (old new : Standing) (before after : ReaderState) (games at :
     → before.earlier_plies + before.text.plies + waiting old ≤ 2 * old.count + 2
     → after.earlier_plies + after.text.plies ≤ before.earlier_plies + before.text.plies + 1 → IsKnown after.profile
     → IsSound new after (games_after (outcome_at at r) games) false (is_ended (none_at_end e (outcome_at at r))) (fault_of_step (outcome_at at r))
-sound_behind old new before after games at k true (Ok More) is_e near marker count few plies more known =
-    let still = ap waiting near in
-    let place = ap (λ (l : Standing). l.count) near in
-    record {
-      known = known;
-      count = λ none. omega (arith, count, place);
-      few = λ none. omega (arith, few, still, place);
-      few_plies = λ none. omega (arith, plies, more, still, place);
-      fewer_plies = λ none is. absurd (cc);
-      between = λ is. absurd (cc);
-      no_fault = λ is. absurd (cc);
-    }
-sound_behind old new before after games at k true (Ok Finished) is_e near marker count few plies more known =
-    absurd (no_marker_at_end k is_e marker.0)
-sound_behind old new before after games at k false (Ok accepted) is_e near marker count few plies more known =
-    let counted = one_more accepted games in
-    record {
-      known = known;
-      count = λ none. omega (arith, count, near.1);
-      few = λ none. omega (arith, few, near.0, near.1, counted);
-      few_plies = λ none. omega (arith, plies, more, near.0, near.1);
-      fewer_plies = λ none is. omega (arith, plies, more, near.0, near.1);
-      between = λ is. absurd (cc);
-      no_fault = λ is. absurd (cc);
-    }
-sound_behind old new before after games at k e (Err reason) is_e near marker count few plies more known = sound_behind_fault new after games _ _ known
+sound_behind old new before after games at k e r h1 h2 h3 h4 h5 h6 h7 h8 = search (rules, no_marker_at_end, one_more, sound_behind_fault)
 
 pub not_just_finished : (b : Bool) (r : ReaderState) → game_in_reader_if b r ≡ None → b ≡ false
 not_just_finished true r h = absurd (cc)
@@ -211,37 +162,21 @@ not_just_finished false r h = refl
 
 -- what the lexer has left behind the last piece
 pub left_of : (p : Profile) (old : Converter) (u : List ℕ) (b : Option ℕ) (given : List Token) → Stands p old u b given → HasLeft old.lexer u given
-left_of p old u b given stands = ap tokens_of (sym (append-nil u)) ∙ stands.lexer.tokens [] (follows_end b)
-  where
-    follows_end : (b : Option ℕ) → Follows b []
-    follows_end None = tt
-    follows_end (Some x) = tt
+left_of p old u b given stands = search (rules, append-nil)
 
 -- before the first step behind the last piece
 pub closed_none : (p : Profile) (old : Converter) (u : List ℕ) (b : Option ℕ) (given : List Token) (o : Option (List ℕ)) → Stands p old u b given
     → AtEndSoFar p u given (record old { just_finished = None }) false o o
-closed_none p old u b given o stands =
-    record {
-      tokens = given;
-      left = left_of p old u b given stands;
-      has_read = let_go p old given stands.has_read;
-      no_fewer = le_refl (length (read p given).progress.games);
-      game = (λ h. absurd (cc), λ h. absurd (omega (arith, h)));
-      last = λ h. absurd (cc);
-      gains = gains_none;
-    }
+closed_none p old u b given o stands = search (rules, gains_none, le_refl, left_of, let_go)
 
 module _ (p : Profile) (u : List ℕ) (given : List Token) (now new : Converter) (finished_game : Bool) (a c d : Option (List ℕ)) (so : AtEndSoFar p u given now finished_game a c) where
   same_length : (ts : List Token) → SameGames p so.tokens ts
       → IsTrue finished_game ↔ (length (read p given).progress.games < length (read p ts).progress.games)
-  same_length ts same = subst (λ gs. IsTrue finished_game ↔ (length (read p given).progress.games < length {A = Game} gs)) (sym same) so.game
+  same_length ts same = search rules
 
   held_still : (ts : List Token) → SameGames p so.tokens ts → StaysBetween now new
       → IsTrue finished_game → new.reading.stage ≡ Between → IsLast (Some (game_in_reader new.reading)) (read p ts).progress.games
-  held_still ts same stays h between =
-      let kept = stays between in
-      subst (λ gs. IsLast (Some (game_in_reader new.reading)) gs) (sym same)
-      (rw kept (so.last h (rw kept at between)))
+  held_still ts same stays h between = search rules
 
   pub closed_more : AfterStepAtEnd p u so.tokens now new (Ok (Some More)) c d → AtEndSoFar p u given new finished_game a d
   closed_more (t, took, same, stays) =
@@ -256,18 +191,7 @@ module _ (p : Profile) (u : List ℕ) (given : List Token) (now new : Converter)
       }
 
   pub closed_game : AfterStepAtEnd p u so.tokens now new (Ok (Some Finished)) c d → AtEndSoFar p u given new true a d
-  closed_game (t, took, (g, one, held)) =
-      let count : length (read p (so.tokens ++ t ∷ [])).progress.games ≡ length (read p so.tokens).progress.games + 1 =
-      ap (length {A = Game}) one ∙ length-append (read p so.tokens).progress.games (g ∷ []) in
-      record {
-        tokens = so.tokens ++ t ∷ [];
-        left = took.left;
-        has_read = took.has_read;
-        no_fewer = omega (arith, count, so.no_fewer);
-        game = (λ h. omega (arith, count, so.no_fewer), λ h. refl);
-        last = λ h between. ((read p so.tokens).progress.games, g, one, held);
-        gains = gains_more so.gains took.gains;
-      }
+  closed_game h1 = search (rules, gains_more, length-append)
 
   pub closed_end : (flag : Bool) → AfterStepAtEnd p u so.tokens now new (Ok None) c d → (new.reading.stage ≡ Between → flag ≡ finished_game)
       → Finishes p u given (record { lexer = new.lexer; reading = new.reading; games = new.games; just_finished = game_in_reader_if flag new.reading; is_finished = new.is_finished; fault = new.fault }) finished_game a d
@@ -302,21 +226,9 @@ module _ (p : Profile) (u : List ℕ) (given : List Token) (now new : Converter)
 -- behind the last piece a token was waiting, unless it is the end
 pub closes_sooner : (old new : Standing) (after : ReaderState) (at : ℕ) (k : Kind) (e : Bool) (r : Result Accepted Reason) → is_end k ≡ e → Nearer e old new
     → FinishesAtMarker k after r → StepAtEndAdvances old new (none_at_end e (outcome_at at r))
-closes_sooner old new after at k true (Ok More) is_e near marker = tt
-closes_sooner old new after at k true (Ok Finished) is_e near marker = absurd (no_marker_at_end k is_e marker.0)
-closes_sooner old new after at k false (Ok accepted) is_e near marker = near.0
-closes_sooner old new after at k e (Err reason) is_e near marker = tt
+closes_sooner old new after at k e r h1 h2 h3 = search (rules, no_marker_at_end)
 
 -- while no game is just finished a converter owes no more
 pub sound_at_none : (lexer : Standing) (reading : ReaderState) (games : ℕ) (has_finished_game is_finished : Bool) (fault : Option Fault) → IsSound lexer reading games has_finished_game is_finished fault
     → IsSound lexer reading games false is_finished fault
-sound_at_none lexer reading games has_finished_game is_finished fault sound =
-    record {
-      known = sound.known;
-      count = sound.count;
-      few = sound.few;
-      few_plies = sound.few_plies;
-      fewer_plies = sound.fewer_plies;
-      between = λ is. absurd (cc);
-      no_fault = λ is. absurd (cc);
-    }
+sound_at_none lexer reading games has_finished_game is_finished fault sound = search rules

@@ -1,41 +1,24 @@
 -- Steps in turn in a piece.
 use Rattle.std.proofs.Common.{length-take-le, take_all}
-use Rattle.pgn_game.proofs.Words.{Reason, InputTooLong, Fault, Profile, take-append-drop, take-take, drop-take, drop-drop, Token, EndsAt, tokens_of, decided, Follows, IsDecided, first, still, More, Finished, ReaderState, Converter, Stands, FedAll, FedGame, FedToFault, StopsIn, too_long, CountsReason, ◌≡◌, ℕ, ◌+◌, ◌-◌, ◌<◌, ◌≤◌, ◌^◌, zero, suc, List, [], ◌∷◌, ◌++◌, length, take, drop, Option, None, Some, refl, sym, ap, subst, ◌∙◌, append_assoc, append-nil, length-append, length-drop, length-take, le_refl, drop_of_length-le, inl, inr, arith, Ok, Err, take-add, AfterStep, next_at, SoFar}
+use Rattle.pgn_game.proofs.Words.{Reason, InputTooLong, Fault, Profile, take-append-drop, take-take, drop-take, drop-drop, Token, EndsAt, tokens_of, decided, Follows, IsDecided, first, still, More, Finished, ReaderState, Converter, Stands, FedAll, FedGame, FedToFault, StopsIn, too_long, CountsReason, ◌≡◌, ℕ, ◌+◌, ◌-◌, ◌<◌, ◌≤◌, ◌^◌, zero, suc, List, [], ◌∷◌, ◌++◌, length, take, drop, Option, None, Some, refl, sym, ap, subst, ◌∙◌, append_assoc, append-nil, length-append, length-drop, length-take, le_refl, drop_of_length-le, inl, inr, arith, Ok, Err, take-add, AfterStep, next_at, SoFar, rules}
 use Rattle.pgn_game.proofs.tokens.OneMoreToken.{gains_none, gains_more, stops_more, games_still, counts_still, position_still}
 use Rattle.pgn_game.proofs.tokens.AcceptedToConverter.{still_none, still_none-none}
 
 -- the game just finished is let go
 pub lets_go : (p : Profile) (old : Converter) (u : List ℕ) (b : Option ℕ) (given : List Token) → Stands p old u b given → Stands p (record old { just_finished = None }) u b given
-lets_go p old u b given stands =
-    let h = stands.has_read in
-    record { lexer = stands.lexer; has_read = record { profile = h.profile; no_fault = h.no_fault; passes = h.passes; agrees = h.agrees; games = h.games; plies = h.plies; probed = h.probed; tried = h.tried; just_finished = tt } }
+lets_go p old u b given stands = search rules
 
 -- what follows the first byte of the piece follows the byte known
 follows_from : (b : Option ℕ) (x : ℕ) (xs s : List ℕ) → Follows b (x ∷ xs) → Follows (Some x) s → Follows b s
-follows_from None x xs s h k = tt
-follows_from (Some c) x xs [] h k = tt
-follows_from (Some c) x xs (y ∷ ys) h k = k ∙ h
+follows_from b x xs s h1 h2 = search rules
 
 pub begins_with : {p : Profile} {c : Converter} {u : List ℕ} {b : Option ℕ} {given : List Token} (piece : List ℕ) → Stands p c u b given → Follows b piece → Stands p c u (next_at b piece 0) given
-begins_with [] stands follows = stands
-begins_with {b} (x ∷ xs) stands follows =
-    record {
-      lexer = record { count = stands.lexer.count; before = stands.lexer.before; tokens = λ s k. stands.lexer.tokens s (follows_from b x xs s follows k) };
-      has_read = stands.has_read;
-    }
+begins_with piece h1 h2 = search (rules, follows_from)
 
 -- before the first step
 pub so_far_none : (p : Profile) (old : Converter) (u : List ℕ) (b : Option ℕ) (given : List Token) (piece : List ℕ) (o : Option (List ℕ)) → Stands p old u b given → Follows b piece
     → SoFar p u b given piece 0 old o o
-so_far_none p old u b given piece o stands follows =
-    record {
-      tokens = given;
-      stands = rw (append-nil u) (begins_with piece stands follows);
-      decided = λ h. absurd (omega arith);
-      empty = λ h. refl;
-      no_game = refl;
-      gains = gains_none;
-    }
+so_far_none p old u b given piece o stands follows = search (rules, append-nil, begins_with, gains_none)
 
 pub next_within : (b : Option ℕ) (piece : List ℕ) (at : ℕ) → 0 < length piece → next_at b piece at ≡ first (drop at piece)
 next_within b [] at h = absurd (omega arith)
@@ -57,30 +40,17 @@ decided_at_end u ts (inl e) = e
 decided_at_end u ts (inr (c, e, k)) = absurd (cc)
 
 decided_behind : (u piece : List ℕ) {ts : List Token} → IsDecided (u ++ take (length piece) piece) (drop (length piece) piece) ts → ts ≡ decided (u ++ piece)
-decided_behind u piece {ts} h =
-    let here = rw (take_all (length piece) piece (le_refl (length piece))) at h in
-    decided_at_end (u ++ piece) ts (rw (drop_of_length-le piece (le_refl (length piece))) at here)
+decided_behind u piece h = search (rules, decided_at_end, drop_of_length-le, le_refl, take_all)
 
 -- the piece is used whole, and no token ends in it
 pub fed_behind : (p : Profile) (u : List ℕ) (b : Option ℕ) (given : List Token) (piece : List ℕ) (at : ℕ) (now : Converter) (a c : Option (List ℕ)) → SoFar p u b given piece at now a c
     → at ≡ length piece → now.just_finished ≡ None → FedAll p u b given piece now a c
-fed_behind p u b given piece at now a c so end finished =
-    let stands = rw end at so.stands in
-    record {
-      tokens = so.tokens;
-      stands = rw (next_behind b piece) at (rw (take_all (length piece) piece (le_refl (length piece))) at stands);
-      decided = λ some. decided_behind u piece (rw end at (so.decided (omega (arith, some, end))));
-      empty = so.empty;
-      no_game = so.no_game;
-      none_just_finished = finished;
-      gains = so.gains;
-    }
+fed_behind p u b given piece at now a c so end finished = search (rules, decided_behind, le_refl, next_behind, take_all)
 
 -- a converter in the piece stands before the rest
 pub stands_here : (p : Profile) (u : List ℕ) (b : Option ℕ) (given : List Token) (piece : List ℕ) (at : ℕ) (now : Converter) (a c : Option (List ℕ)) (so : SoFar p u b given piece at now a c)
     → at < length piece → Stands p now (u ++ take at piece) (first (drop at piece)) so.tokens
-stands_here p u b given piece at now a c so within =
-    subst (λ n. Stands p now (u ++ take at piece) n so.tokens) (next_within b piece at (omega arith)) so.stands
+stands_here p u b given piece at now a c so within = search (rules, next_within)
 
 module _ (p : Profile) (u : List ℕ) (b : Option ℕ) (given : List Token) (piece : List ℕ) (at : ℕ) (now : Converter) (a c d : Option (List ℕ)) (so : SoFar p u b given piece at now a c) (within : at < length piece) where
   some : 0 < length piece
@@ -88,15 +58,11 @@ module _ (p : Profile) (u : List ℕ) (b : Option ℕ) (given : List Token) (pie
 
   stands_further : {new : Converter} (used : ℕ) {ts : List Token} → Stands p new ((u ++ take at piece) ++ take used (drop at piece)) (first (drop used (drop at piece))) ts
       → Stands p new (u ++ take (at + used) piece) (first (drop (at + used) piece)) ts
-  stands_further {new} used {ts} stands =
-      subst (λ xs. Stands p new (u ++ take (at + used) piece) (first xs) ts) (drop-drop used at piece)
-      (rw (further u piece at used) at stands)
+  stands_further used stands = search (rules, drop-drop, further)
 
   decided_further : (used : ℕ) {ts : List Token} → IsDecided ((u ++ take at piece) ++ take used (drop at piece)) (drop used (drop at piece)) ts
       → IsDecided (u ++ take (at + used) piece) (drop (at + used) piece) ts
-  decided_further used {ts} h =
-      subst (λ xs. IsDecided (u ++ take (at + used) piece) xs ts) (drop-drop used at piece)
-      (rw (further u piece at used) at h)
+  decided_further used h = search (rules, drop-drop, further)
 
   -- one token more
   pub so_far_more : (new : Converter) (used : ℕ) → AfterStep p (u ++ take at piece) so.tokens (drop at piece) new used (Ok (Some More)) c d → SoFar p u b given piece (at + used) new a d
@@ -162,18 +128,11 @@ module _ (p : Profile) (u : List ℕ) (b : Option ℕ) (given : List Token) (pie
 -- ---- a front of the piece
 
 pub follows_front : (b : Option ℕ) (piece : List ℕ) (n : ℕ) → Follows b piece → Follows b (take n piece)
-follows_front None piece n h = tt
-follows_front (Some c) [] n h = subst (Follows (Some c)) (sym (take_all n [] (omega arith))) tt
-follows_front (Some c) (x ∷ xs) zero h = tt
-follows_front (Some c) (x ∷ xs) (suc n) h = h
+follows_front b piece n h1 = search (rules, take_all)
 
 -- a converter that stands before any byte stands before this one
 pub stands_before_any : {p : Profile} {c : Converter} {u : List ℕ} {b : Option ℕ} {given : List Token} → Stands p c u None given → Stands p c u b given
-stands_before_any stands =
-    record {
-      lexer = record { count = stands.lexer.count; before = stands.lexer.before; tokens = λ s k. stands.lexer.tokens s tt };
-      has_read = stands.has_read;
-    }
+stands_before_any stands = search rules
 
 before_more : {p : Profile} {c : Converter} {u : List ℕ} {given : List Token} (xs : List ℕ) (n : ℕ) → Stands p c u (first (take n xs)) given → Stands p c u (first xs) given
 before_more {p} {c} {u} {given} [] n stands = subst (λ ys. Stands p c u (first ys) given) (take_all n [] (omega arith)) stands

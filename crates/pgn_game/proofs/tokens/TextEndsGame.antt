@@ -2,7 +2,7 @@
 use Rattle.pgn_lexer.specs.declared.partial_token.Mode.TheVariants as modes
 use Rattle.pgn_lexer.specs.Tokens as tokens
 use Rattle.pgn_game.proofs.MarkerTexts.{score_marker, marker_short}
-use Rattle.pgn_game.proofs.Words.{Token, Profile, Game, ◌≡◌, ℕ, ◌+◌, ◌<◌, ◌≤◌, Bool, true, false, List, [], ◌∷◌, ◌++◌, length, nat_le, None, refl, sym, ap, subst, ◌∙◌, inl, inr, drop, append-nil, append_assoc, length-append, arith, le-leb, EndsAt, Standing, coming, is_score, no_progress, Read, read, read_from, Converter, Stands, games_read, FinishesGame, if◌then◌else◌, drop_at, drop-append-le, drop-drop, length-drop, SymbolTooLong, gives, stops, onto, tokens_of, tokens_to_come_in, BeginsWithToken, RisesTo, SymbolsStandInText, TokensRise, text_of_games as text_of, GamesEndByMarker, LastGame, TextsEndBehindMarker, TextsEndBetweenGames}
+use Rattle.pgn_game.proofs.Words.{Token, Profile, Game, ◌≡◌, ℕ, ◌+◌, ◌<◌, ◌≤◌, Bool, true, false, List, [], ◌∷◌, ◌++◌, length, nat_le, None, refl, sym, ap, subst, ◌∙◌, inl, inr, drop, append-nil, append_assoc, length-append, arith, le-leb, EndsAt, Standing, coming, is_score, no_progress, Read, read, read_from, Converter, Stands, games_read, FinishesGame, if◌then◌else◌, drop_at, drop-append-le, drop-drop, length-drop, SymbolTooLong, gives, stops, onto, tokens_of, tokens_to_come_in, BeginsWithToken, RisesTo, SymbolsStandInText, TokensRise, GamesEndByMarker, LastGame, TextsEndBehindMarker, TextsEndBetweenGames, rules}
 use Rattle.pgn_game.proofs.tokens.GamesInTurn.{passes_before}
 use Rattle.pgn_game.proofs.tokens.NoneBeforeFault.{reads_behind}
 use Rattle.pgn_game.proofs.refusals.RefusalsInMovetext.{score_of}
@@ -16,8 +16,7 @@ has_last (t ∷ []) h = h
 has_last (t ∷ u ∷ ts) h = has_last (u ∷ ts) h.2
 
 pub between_games : TokensRise → TextsEndBetweenGames
-between_games rise p u passes =
-    rw (none_torn p no_progress (tokens_of u) (has_last (tokens_of u) (rise u)) passes) (append-nil (text_of p (games_read p (tokens_of u))))
+between_games rise p u passes = search (rules, append-nil, has_last, none_torn)
 
 -- ---- A symbol that goes on to the end
 

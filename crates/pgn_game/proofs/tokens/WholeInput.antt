@@ -1,6 +1,6 @@
 -- Conversions of whole inputs.
 use Rattle.std.specs.Io.KnownBytes.{Keeps, IsAtEnd}
-use Rattle.pgn_game.proofs.Words.{Token, InputTooLong, Fault, Profile, ◌≡◌, ℕ, false, inl, ◌^◌, ◌≤◌, List, [], ◌∷◌, ◌++◌, length, Option, None, Some, Result, Ok, Err, IfSome, refl, sym, ap, subst, ◌∙◌, append-nil, append_assoc, map, sum, Consumes-nil, Consumes-trans, tokens_of, decided, plies_of, whole_plies, Gains, MostTried, IsConverted, IsTotalled, MostProbes, ReadsNoMore, FailsOn, Fails, AfterEnd, AfterConversion, AfterSlice, verdict_in, Games, games_of, HaveRead, within, NextGame, NoGame, NextStops, ReadSoFar, Appends, Consumes, Totals, no_progress, Read, read, due, refused as is_refused, totals, verdict, verdict_of, Converter, HasRead, Stands, Stops, refused_stop as refused, unwritten, StopsWriting, StopsIn, at_token, too_long, FedFault, FedWhole, ReadsUpTo, Finishes}
+use Rattle.pgn_game.proofs.Words.{Token, InputTooLong, Fault, Profile, ◌≡◌, ℕ, false, ◌^◌, ◌≤◌, List, [], ◌++◌, length, Option, None, Some, Result, Ok, Err, IfSome, sym, ap, subst, ◌∙◌, append-nil, append_assoc, map, sum, Consumes-nil, Consumes-trans, tokens_of, decided, plies_of, whole_plies, Gains, IsConverted, IsTotalled, MostProbes, ReadsNoMore, FailsOn, Fails, AfterEnd, AfterConversion, AfterSlice, verdict_in, Games, games_of, HaveRead, NextGame, NoGame, NextStops, ReadSoFar, Appends, Consumes, Totals, no_progress, Read, read, due, refused as is_refused, totals, verdict, verdict_of, Converter, HasRead, Stands, Stops, refused_stop as refused, unwritten, StopsWriting, StopsIn, at_token, too_long, FedFault, FedWhole, ReadsUpTo, Finishes, rules}
 use Rattle.pgn_game.specs.GamesCalls as games_calls
 use Rattle.pgn_game.specs.Conversion as conversion
 use Rattle.pgn_game.proofs.tokens.OneMoreToken.{torn-none, gains_none, gains_more, stops_more, stops_from}
@@ -15,50 +15,28 @@ verdict_refused r e = rw e
 -- the counts of a converter that has read the whole text are those of the text
 pub totalled : {p : Profile} {s : List ℕ} {c : Converter} (t : Totals) → HasRead p c (tokens_of s) → t.games ≡ c.games → t.plies ≡ whole_plies c.reading
     → t.most_probes ≡ c.reading.most_probes → t.most_probes ≤ 1040 → (verdict p s ≡ verdict_in t) × MostProbes p s t.most_probes
-totalled {p} {s} t has games plies probes bound = (
-  verdict_passes (read p (tokens_of s)) has.passes
-      ∙ ap (λ n. totals (record { games = n; plies = sum (map plies_of (read p (tokens_of s)).progress.games) })) (sym (games ∙ has.games))
-      ∙ ap (λ n. totals (record { games = t.games; plies = n })) (sym (plies ∙ has.plies)),
-  record {
-    most = bound;
-    some = λ moves. rw probes (has.probed (in_games (read p (tokens_of s)).progress moves));
-    tried = subst (MostTried p (tokens_of s)) (sym probes) has.tried;
-  },
-)
+totalled t has games plies probes bound = search (rules, in_games, verdict_passes)
 
 pub ended : {p : Profile} {u : List ℕ} {given : List Token} {new : Converter} {finished_game : _} (t : Totals) {a c : Option (List ℕ)} → Finishes p u given new finished_game a c
     → t.games ≡ new.games → t.plies ≡ whole_plies new.reading → t.most_probes ≡ new.reading.most_probes → t.most_probes ≤ 1040 → AfterEnd p u given (Ok t) a c
-ended t done games plies probes bound =
-    let (is_verdict, most) = totalled t done.has_read games plies probes bound in
-    (is_verdict, most, done.gains)
+ended t done games plies probes bound = search (rules, totalled)
 
 -- what was due from the start on
 pub appended : {p : Profile} {tokens : List Token} {a c : Option (List ℕ)} → Gains p [] tokens a c → Appends a c (due p tokens)
-appended {p} {tokens} {a} {c} gains =
-    let whole : due p tokens ≡ gains.text = rw (torn-none p.missing_result p.mode) at gains.due_for in
-    subst (Appends a c) (sym whole) gains.appended
+appended gains = search (rules, torn-none)
 
 -- games that have read nothing
 pub none_read : {p : Profile} {c : Converter} {left : Option (List ℕ)} → Stands p c [] None [] → c.is_finished ≡ false → HaveRead p left [] (games_of c []) []
-none_read stands not_finished =
-    within (record { used = []; bytes = refl; stands = stands; at_limit = λ h. refl; decided = inl refl; not_finished = not_finished })
+none_read stands not_finished = search rules
 
 pub read_none : {p : Profile} {now : Games} (left : Option (List ℕ)) {o : Option (List ℕ)} → HaveRead p left [] now [] → ReadSoFar p left left now o o
-read_none left have =
-    record { bytes = []; tokens = []; consumed = Consumes-nil left; have_read = have; gains = gains_none }
+read_none left have = search (rules, Consumes-nil, gains_none)
 
 pub keeps_consumed : (o m n : Option (List ℕ)) (u : List ℕ) → Consumes o m u → Keeps m n → Consumes o n u
-keeps_consumed None m n u h k = tt
-keeps_consumed (Some xs) None n u h k = absurd h
-keeps_consumed (Some xs) (Some ys) None u h k = absurd k
-keeps_consumed (Some xs) (Some ys) (Some zs) u h k = rw k h
+keeps_consumed o m n u h1 h2 = search rules
 
 no_more : {p : Profile} {u : List ℕ} {tokens : List Token} {a c : Option (List ℕ)} → tokens ≡ decided u → (read p tokens).fault ≡ None → Gains p [] tokens a c → ReadsNoMore p u a c
-no_more is_decided passes gains =
-    record {
-      passes = rw is_decided at passes;
-      appended = rw is_decided at (appended gains);
-    }
+no_more is_decided passes gains = search (rules, appended)
 
 -- the tokens up to a rejected one decide the verdict
 refused_text : {p : Profile} (s : List ℕ) {tokens : List Token} (more : List Token) {f : Fault} {a c : Option (List ℕ)} → tokens_of s ≡ tokens ++ more → (read p tokens).fault ≡ Some f → Gains p [] tokens a c
@@ -70,32 +48,14 @@ refused_text {p} s {tokens} more cut fault gains =
     )
 
 further_writing : {p : Profile} {given tokens : List Token} (more : List Token) {at : ℕ} {a c : Option (List ℕ)} → StopsWriting p given tokens at a c → StopsWriting p given (tokens ++ more) at a c
-further_writing more w =
-    record {
-      front = w.front;
-      token = w.token;
-      rest = w.rest ++ more;
-      cut = rw w.cut (append_assoc w.front (w.token ∷ w.rest) more);
-      place = w.place;
-      passes = w.passes;
-      text = w.text;
-      due_for = w.due_for;
-      count = w.count;
-      least = w.least;
-      short = w.short;
-      appended = w.appended;
-    }
+further_writing more w = search (rules, append_assoc, appended)
 
 -- what is left, when it is known
 pub known_left : (o n : Option (List ℕ)) (u : List ℕ) (P : List ℕ → Type 0) → Consumes o n u → ((rest : List ℕ) → P (u ++ rest)) → IfSome o P
-known_left None n u P h all = tt
-known_left (Some s) None u P h all = absurd h
-known_left (Some s) (Some rest) u P h all = subst P (sym h) (all rest)
+known_left o n u P h1 h2 = search rules
 
 pub known_whole : (o n : Option (List ℕ)) (u : List ℕ) (P : List ℕ → Type 0) → Consumes o n u → IsAtEnd n → P u → IfSome o P
-known_whole None n u P h end here = tt
-known_whole (Some s) None u P h end here = absurd h
-known_whole (Some s) (Some rest) u P h end here = subst P (sym (h ∙ ap (λ l. u ++ l) end ∙ append-nil u)) here
+known_whole o n u P h1 h2 h3 = search (rules, append-nil)
 
 -- ---- games read in turn
 
@@ -105,14 +65,7 @@ module _ (p : Profile) (left_old left left_new : Option (List ℕ)) (now : Games
 
   -- a game more
   pub games_more : {new : Games} → NextGame p so.bytes so.tokens left left_new new c d → ReadSoFar p left_old left_new new a d
-  games_more game =
-      record {
-        bytes = so.bytes ++ game.more;
-        tokens = game.tokens;
-        consumed = all game.more game.consumed;
-        have_read = game.have_read;
-        gains = gains_more so.gains game.gains;
-      }
+  games_more game = search (rules, all, gains_more)
 
   -- all games
   pub games_end : {new : Games} (t : Totals) → NoGame p so.bytes so.tokens left left_new new c d → t.games ≡ new.converter.games → t.plies ≡ whole_plies new.converter.reading
@@ -124,8 +77,7 @@ module _ (p : Profile) (left_old left left_new : Option (List ℕ)) (now : Games
       (record { converted = (is_verdict, appended (gains_more so.gains end.gains)); probes = most })
 
   pub games_short : {new : Games} → NoGame p so.bytes so.tokens left left_new new c d → IfSome left_old (λ s. length s ≤ 2 ^ 62)
-  games_short end =
-      known_whole left_old left_new (so.bytes ++ end.more) (λ s. length s ≤ 2 ^ 62) (all end.more end.consumed) end.have_read_all.at_end end.have_read_all.short
+  games_short end = search (rules, all, known_whole)
 
   -- a call stopped
   pub games_stop : {most : ℕ} {f : Fault} → NextStops p so.bytes so.tokens left left_new most c d f → Fails p left_old left_new a d f
