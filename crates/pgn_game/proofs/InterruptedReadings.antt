@@ -1,5 +1,5 @@
 -- Two readings of one text, of which one stops early or a write fails: what is written is a prefix.
-use Rattle.pgn_game.proofs.Words.{◌≡◌, ℕ, List, [], ◌∷◌, ◌++◌, take, drop, ◌⊎◌, inl, inr, None, refl, sym, ap, subst, ◌∙◌, append_assoc, append-nil, take-append-drop, tokens_of, TokensRise, Token, Profile, takes_the_marker, game_text, torn, torn_for, Next, going, whole, next, Progress, no_progress, progress_with, progress_after, Read, read, read_from, IsPrefix, rules, Mark, mark_at, marks_from, Comparison, compared_from, compared, written_by, with_mark, decided, DecidedIsPrefix, text_of_games as text_of, written_so_far as written, due, AreWritten, AreWrittenWithin, InterruptedReadings}
+use Rattle.pgn_game.proofs.Words.{◌≡◌, ℕ, List, [], ◌∷◌, ◌++◌, take, drop, ◌⊎◌, inl, inr, None, refl, sym, ap, subst, ◌∙◌, append_assoc, append-nil, take-append-drop, tokens_of, TokensRise, Token, Profile, takes_the_marker, game_text, torn, torn_for, Next, going, whole, next, Progress, no_progress, progress_with, progress_after, Read, read_from, IsPrefix, rules, Mark, mark_at, marks_from, Comparison, compared_from, compared, written_by, with_mark, decided, DecidedIsPrefix, text_of_games as text_of, written_so_far as written, due, AreWritten, AreWrittenWithin, InterruptedReadings}
 use Rattle.pgn_game.proofs.tokens.OneMoreToken.{by_token, goes_on, also, grows_from, due_grows, text_of-snoc}
 use Rattle.pgn_game.proofs.tokens.NextGrows.{behind, next_grows}
 use Rattle.pgn_game.proofs.EqualReadings.{Ends, ends, rest_ends, after_marks, marks_test, SeesGames, same_token, rejected_token, compared_same, written_same}
@@ -19,8 +19,8 @@ longer [] ys vs ws same = inl (ys, refl)
 longer (x ∷ xs) [] vs ws same = inr (x ∷ xs, refl)
 longer (x ∷ xs) (y ∷ ys) vs ws same =
     elim (longer xs ys vs ws cc) [
-      | inl h ↦ inl (h.0, cc (h.1, same))
-      | inr h ↦ inr (h.0, cc (h.1, same))
+      | inl h ↦ inl (h.0, cc)
+      | inr h ↦ inr (h.0, cc)
     ]
 
 module _ (p : Profile) (takes : p.missing_result ≡ takes_the_marker) where
@@ -55,7 +55,7 @@ module _ (p : Profile) (takes : p.missing_result ≡ takes_the_marker) where
   torn_ahead b [] m ms is = absurd (cc)
   torn_ahead b (t ∷ ts) m ms is =
       by_token p b t ts (Ahead b m)
-      (λ reason rejects. let none : marks_from p b (t ∷ ts) ≡ [] = marks_test p b t ts ∙ ap (after_marks p b t ts) rejects in absurd (cc))
+      (λ reason rejects. let none : marks_from p b (t ∷ ts) ≡ [] = cc in absurd (cc))
       (λ free.
       torn_at_mark b t ts m (next b.part t.kind) refl (sym (marks_test p b t ts ∙ ap (after_marks p b t ts) free) ∙ is)
       (torn_ahead (progress_after b t) ts m ms))
@@ -83,7 +83,7 @@ module _ (p : Profile) (takes : p.missing_result ≡ takes_the_marker) where
   -- The first reading has the tokens of the second, and more.
   compared_within : (b : Progress) (us more : List Token) → Ends (us ++ more)
       → Within (read_from p b us).progress (read_from p b (us ++ more)).progress (compared_from p (marks_from p b (us ++ more)) b us)
-  compared_within b [] more last = waits b more (marks_from p b more) refl
+  compared_within b [] more last = search (rules, waits)
   compared_within b (t ∷ us) more last =
       by_token p b t us (λ r. ForToken b t us more r (read_from p b (t ∷ us ++ more)))
       (λ reason is. subst (Within b _) (sym (rejected_token p b t (us ++ more) us is)) (none_written (games_grow b (t ∷ us ++ more))))
@@ -102,7 +102,7 @@ module _ (p : Profile) (takes : p.missing_result ≡ takes_the_marker) where
       let so = compared_within no_progress us more last in
       record {
         fault = so.fault;
-        least = rw (whole_games (read p us).progress) so.least;
+        least = search (rules, whole_games);
         most = so.most;
       }
 
@@ -114,7 +114,7 @@ module _ (p : Profile) (takes : p.missing_result ≡ takes_the_marker) where
       by_length : ((z : List Token) × (us ≡ ts ++ z)) ⊎ ((z : List Token) × (ts ≡ us ++ z)) → AreWrittenWithin p (compared p ts us) (due p us) (due p (us ++ more))
       by_length (inl h) =
           let none : (compared p ts us).marks_left ≡ [] =
-          rw h.1 ((first_stops ts h.0 (subst Ends h.1 (front_ends us more last))).no_mark_left) in
+          search (rules, Ends, first_stops, front_ends) in
           absurd (cc (none, ahead))
       by_length (inr h) =
           let so = second_stops us h.0 (subst Ends h.1 (front_ends ts rest (subst Ends same last))) in
@@ -132,7 +132,7 @@ module _ (p : Profile) (takes : p.missing_result ≡ takes_the_marker) where
       by_length : ((z : List Token) × (us ≡ ts ++ z)) ⊎ ((z : List Token) × (ts ≡ us ++ z)) → IsPrefix (written_by p (compared p ts us)) (due p (ts ++ rest))
       by_length (inl h) =
           let so = first_stops ts h.0 (subst Ends h.1 (front_ends us more (subst Ends same last))) in
-          let is : written_by p (compared p ts us) ≡ due p ts = rw h.1 so.written in
+          let is : written_by p (compared p ts us) ≡ due p ts = cc in
           subst (λ (l : List ℕ). IsPrefix l (due p (ts ++ rest))) (sym is) (due_grows p ts rest)
       by_length (inr h) =
           let so = second_stops us h.0 (subst Ends h.1 (front_ends ts rest last)) in

@@ -19,8 +19,7 @@ passing_last p part k h1 h2 = search rules
 ends_between : (p : Profile) (b : Progress) (ts : List Token) → RisesTo ts → (read_from p b ts).fault ≡ None → (read_from p b ts).progress.part.stage ≡ Between
 ends_between p b [] rises e = absurd rises
 ends_between p b (t ∷ []) rises e =
-    let free = first_passes p b t [] e in
-    rw (goes_on p b t [] free) (end_passes p b _ (passing_last p _ _ rises free) free)
+    search (rules, end_passes, first_passes, goes_on, passing_last)
 ends_between p b (t ∷ u ∷ us) rises e =
     let here = goes_on p b t (u ∷ us) (first_passes p b t (u ∷ us) e) in
     rw here (ends_between p (progress_after b t) (u ∷ us) rises.2 (rw here at e))
@@ -47,7 +46,7 @@ written_again p s gs t before after out ver h = search (rules, same_totals)
 
 slice_fails : (p : Profile) (s : List ℕ) (gs : List Game) (f : Fault) (before after : Option (List ℕ)) → verdict p s ≡ totals (counted gs) → length s ≤ 2 ^ 62
     → FailsOn p s before after f → SliceIsKept p gs (Err f) before after
-slice_fails p s gs _ before after ver short (conversion.FailsOn.refused f h) = absurd (no_fault p s gs f ver h.0)
+slice_fails p s gs _ before after ver short (conversion.FailsOn.refused f h) = absurd (cc)
 slice_fails p s gs _ before after ver short (conversion.FailsOn.unwritten at stops) = refl
 slice_fails p s gs _ before after ver short (conversion.FailsOn.too_long u rest e long some none) =
     absurd (let sum = ap length e in omega (arith, length-append u rest))

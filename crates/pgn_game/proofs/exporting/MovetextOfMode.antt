@@ -74,7 +74,7 @@ main {first} (move deep l s x ks items names rest) sound =
       spells = move deep l s x r.kinds (main_items first _ items) names r.spells;
       sound = (sound.0, r.sound);
       closes = r.closes;
-      placed = rw r.placed;
+      placed = cc;
       levels = r.levels;
     }
 main (variation deep l ks ls items more holds room inner rest) sound =
@@ -122,7 +122,7 @@ module _ (one_read : TheOneMoveIsRead) (leaves : LeavesPosition) (is_symbol : Wr
         shown = r.shown;
         writable = r.writable;
         closes = λ more then f h. r.closes false more then f;
-        again = ap (tokens_out Full first) same;
+        again = cc;
         moves = ap main_moves same;
       }
   kept_text Reduced first items start text sound =

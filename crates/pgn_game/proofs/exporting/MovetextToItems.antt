@@ -1,5 +1,5 @@
 -- The movetext that is written of a game spells the same items again.
-use Rattle.pgn_game.proofs.Words.{◌≡◌, ℕ, ◌+◌, ◌<◌, Bool, true, false, List, [], ◌∷◌, ◌++◌, refl, sym, ap, subst, ◌∙◌, append_assoc, codes, filter, fold, IsTrue, All-append, AllByRecursion, fold-append, LeavesPosition, TheOneMoveIsRead, WrittenMoveIsSymbol, WrittenMoveIsRead, NumbersAreSymbols, IsSoundKind, CommentsClose, written, text_of_move, is_black_to_move, is_comment, Parts, Kind, Played, Item, Profile, Level, Levels, levels_after, back_to, depth, here, without_last, replayed, StandsFor, Names, SpellsText, no_more, token, move, variation, number, period, glyph, comment_open, word, comment_close, new_level, level_after_move, Placed, placed_from, is_main_move, tokens_from, tokens_at, arith}
+use Rattle.pgn_game.proofs.Words.{◌≡◌, ℕ, ◌+◌, ◌<◌, Bool, true, false, List, [], ◌∷◌, ◌++◌, refl, sym, ap, subst, ◌∙◌, append_assoc, codes, filter, fold, IsTrue, All-append, AllByRecursion, fold-append, LeavesPosition, TheOneMoveIsRead, WrittenMoveIsSymbol, WrittenMoveIsRead, NumbersAreSymbols, IsSoundKind, CommentsClose, written, text_of_move, is_black_to_move, is_comment, Parts, Kind, Played, Item, Profile, Level, Levels, levels_after, back_to, depth, here, without_last, replayed, StandsFor, Names, SpellsText, no_more, token, move, variation, number, period, glyph, comment_open, word, comment_close, new_level, level_after_move, Placed, placed_from, is_main_move, tokens_from, tokens_at, arith, rules}
 use Rattle.pgn_lexer.specs.Tokens as tokens
 use Rattle.pgn_game.specs.Game as games
 use Rattle.pgn_game.proofs.AllOfJoined.{all_front, all_behind}
@@ -123,8 +123,8 @@ variation_again {deep} l {ks} {ls} {items} more us holds room a b = record {
       next_shown _ _ _ _ (single _)
       (shown-append a.shown
       (next_shown _ _ _ us (single _) b.shown));
-  writable = (tt, All-append IsWritable a.kinds (tokens.right_paren ∷ b.kinds) a.writable (tt, b.writable));
-  closes = variation_closes a.kinds ks ls b.kinds a.closes b.closes;
+  writable = search (rules, All-append, IsWritable);
+  closes = search (rules, variation_closes);
 }
 
 -- its tokens
@@ -154,10 +154,7 @@ module _ (one_read : TheOneMoveIsRead) (leaves : LeavesPosition) (is_symbol : Wr
             (rw (append_assoc _ _ ts) (number_shown one_read leaves is_symbol is_read numbers b is_black at.full
             (next_shown _ _ text ts (single _) r.shown)));
         writable =
-            All-append IsWritable (number_kinds one_read leaves is_symbol is_read numbers b is_black at.full)
-            (tokens.symbol text ∷ r.kinds)
-            (number_writable one_read leaves is_symbol is_read numbers at b is_black here)
-            (writable_move one_read leaves is_symbol is_read numbers at x names, r.writable);
+            search (rules, All-append, IsWritable, number_kinds, number_writable, writable_move);
         closes = closes r b is_black at.full text;
       }
     where

@@ -14,10 +14,10 @@ by_byte x y rest h = cc (lt-ltb x y h)
 
 by_rest : (x y : ℕ) {rest : Bool} → x ≡ y → rest ≡ true → goes_first x y rest ≡ true
 by_rest x y e f =
-    cc (le-ltb x y (omega (arith, e)), eq-eqb x y e)
+    cc (le-ltb x y (omega arith), eq-eqb x y e)
 
 never_itself : (a : List ℕ) → comes_before a a ≡ true → ⊥
-never_itself [] e = false≢true e
+never_itself [] e = cc
 never_itself (x ∷ xs) e =
     elim (first_cases x x e) [
       | inl h ↦ absurd (omega arith)
@@ -25,8 +25,8 @@ never_itself (x ∷ xs) e =
     ]
 
 before-trans : (a b c : List ℕ) → comes_before a b ≡ true → comes_before b c ≡ true → comes_before a c ≡ true
-before-trans a [] c e f = absurd (false≢true e)
-before-trans a (y ∷ ys) [] e f = absurd (false≢true f)
+before-trans a [] c e f = absurd (cc)
+before-trans a (y ∷ ys) [] e f = absurd (cc)
 before-trans [] (y ∷ ys) (z ∷ zs) e f = refl
 before-trans (x ∷ xs) (y ∷ ys) (z ∷ zs) e f =
     by_cases (before-trans xs ys zs) (first_cases x y e) (first_cases y z f)
@@ -113,7 +113,7 @@ same_behind p q ps qs n h k same e = by_test _ refl
   where
     by_test : (b : Bool) → bytes_eq p.name n ≡ b → value_of ps n ≡ value_of qs n
     by_test true is = let here = bytes_eq-true _ n is in cc (here, same, absent _ ps h, absent _ qs k)
-    by_test false is = cc (is, same, value_of-cons p ps n, value_of-cons q qs n, e)
+    by_test false is = cc
 
 pub same_pairs : (ps qs : List Pair) → InOrder ps → InOrder qs → ((name : List ℕ) → value_of ps name ≡ value_of qs name) → ps ≡ qs
 same_pairs [] [] h k e = refl

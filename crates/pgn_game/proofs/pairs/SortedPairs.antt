@@ -1,5 +1,5 @@
 -- The order of names, and places in it.
-use Rattle.pgn_game.proofs.Words.{◌≡◌, ℕ, suc, ◌+◌, ◌-◌, ◌<◌, ◌≤◌, Bool, true, false, List, [], ◌∷◌, ◌++◌, length, refl, sym, ap, subst, ◌∙◌, arith, Option, None, Some, insert, IsTrue, IsSome, is_some, IfSome, IsSomeAnd, take, set, get_or, refill, take-append_seam, take-suc, length-take-le, length-set, take_more_set, take-append-le, nat_tests, Pair, comes_before, insert_pair, TagPairs, FitsPairStore, index_of, last_name, but_last, pairs_seen, rules, length-append}
+use Rattle.pgn_game.proofs.Words.{◌≡◌, ℕ, suc, ◌+◌, ◌-◌, ◌<◌, ◌≤◌, Bool, true, false, List, [], ◌∷◌, ◌++◌, length, refl, sym, ap, ◌∙◌, arith, Option, None, Some, insert, IsTrue, IsSome, IfSome, IsSomeAnd, take, set, get_or, refill, take-append_seam, take-suc, length-take-le, length-set, take_more_set, take-append-le, nat_tests, Pair, comes_before, insert_pair, TagPairs, FitsPairStore, index_of, last_name, but_last, pairs_seen, rules, length-append}
 use Rattle.std.specs.Ordering.{nat_cmp, is_lt, is_some_and}
 use Rattle.std.specs.Cmp.Lexicographic.{slice_partial_cmp}
 use Rattle.std.proofs.lemmas.Cmp.{same_from_slice_cmp_tested}
@@ -42,7 +42,7 @@ some_last p (q ∷ ps) e = some_last q ps e
 
 -- with no pair begun, all are whole
 pub whole-held : (ps : List Pair) (b : Bool) {t : TagPairs} → pairs_seen ps b ≡ t → t.pending_name ≡ None → (IsTrue b → 0 < length ps) → ps ≡ t.held
-whole-held ps false e none some = ap (λ s. s.held) e
+whole-held ps false e none some = cc
 whole-held [] true e none some = absurd (omega (arith, some refl))
 whole-held (p ∷ ps) true e none some = absurd (some_last p ps (ap (λ s. s.pending_name) e ∙ none))
 
@@ -80,12 +80,10 @@ pub begun-last : {most : ℕ} {ps : List Pair} {n : ℕ} (b : Bool) {t : TagPair
     → p ≡ get_or ps (n - 1) p → IsSome t.pending_name → t.pending_name ≡ Some p.name
 begun-last {ps} {n} true {p} fits e at begun =
     let more : n ≡ suc (n - 1) = omega (arith, fits.some refl) in
-    let split : take n ps ≡ take (n - 1) ps ++ p ∷ [] = cc (more, take-suc ps (n - 1) p (omega (arith, fits.some refl, fits.within)), at) in
+    let split : take n ps ≡ take (n - 1) ps ++ p ∷ [] = cc (more, take-suc ps (n - 1) p (omega arith), at) in
     rw (← e) (ap last_name split ∙ last_name-snoc (take (n - 1) ps) p)
 begun-last {ps} {n} false fits e at begun =
-    let Q : TagPairs → Type 0 = λ u. IsSome u.pending_name in
-    let none : is_some (pairs_seen (take n ps) false).pending_name ≡ true = subst Q (sym e) begun in
-    absurd (cc)
+    cc
 
 -- a slice that is as long takes the place of all items
 pub refill-all : (items : List Pair) {new : List Pair} → length new ≡ length items → refill (length items) items new ≡ new

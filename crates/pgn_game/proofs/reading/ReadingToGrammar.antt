@@ -1,5 +1,5 @@
 -- From reading to the grammar: tokens that run to their end spell the games that they finish.
-use Rattle.pgn_game.proofs.Words.{◌≡◌, ℕ, ◌+◌, ◌<◌, ◌≤◌, Bool, true, false, ◌&&◌, ◌||◌, not, List, [], ◌∷◌, ◌++◌, length, nat_lt, nat_le, refl, sym, ap, subst, ◌∙◌, arith, append_assoc, append-nil, Option, None, Some, ◌==◌, codes, bytes_eq, is_some, unwrap_or, IsTrue, IsFalse, Result, Ok, Err, list_all, bytes_eq-Decides, false≢true, not-false, leb-false, ltb-false, none-some, FenFault, NoMove, Ambiguous, escaped, Parts, Played, SanFault, Kind, Mode, Full, Reduced, BadTagName, DuplicateTag, TooManyTags, BadResult, BadFen, TagLineTooLong, SetUpWithoutFen, ReducedFen, MoveLimit, NoMoveBefore, TooDeep, UnmatchedClose, MarkerInVariation, ResultDiffers, Stage, Between, AfterLeftBracket, AfterName, AfterValue, AfterTags, InMovetext, Profile, Pair, value_of, has_pair, insert_pair, Item, Game, Part, no_part, position_of, move_of, Level, levels_of, levels_after, depth, here, without_last, start_of, refusal, is_comment, in_name, is_result, is_score, is_number, is_end, is_reduced, fen_fault_field, marker_of, lacks_fen, Next, next, going, whole, AreDropped, pair, SpellsPairs, no_pair, next_pair, IsSetUp, StandsFor, number, period, glyph, comment_open, word, comment_close, Names, new_level, level_after_move, SpellsText, no_more, token, move, variation, BeginsBare, IsResult, SpellsGame, SpellsGames, no_game, next_game, rules}
+use Rattle.pgn_game.proofs.Words.{◌≡◌, ℕ, ◌+◌, ◌<◌, ◌≤◌, Bool, true, false, ◌&&◌, ◌||◌, not, List, [], ◌∷◌, ◌++◌, length, nat_lt, nat_le, refl, sym, ap, subst, ◌∙◌, arith, append_assoc, append-nil, Option, None, Some, ◌==◌, codes, bytes_eq, is_some, unwrap_or, IsTrue, IsFalse, Result, Ok, Err, list_all, bytes_eq-Decides, false≢true, not-false, leb-false, ltb-false, none-some, FenFault, NoMove, Ambiguous, escaped, Parts, Played, SanFault, Kind, Mode, Full, Reduced, BadTagName, DuplicateTag, TooManyTags, BadResult, BadFen, TagLineTooLong, SetUpWithoutFen, NoMoveBefore, TooDeep, UnmatchedClose, MarkerInVariation, ResultDiffers, Stage, Between, AfterLeftBracket, AfterName, AfterValue, AfterTags, InMovetext, Profile, Pair, value_of, has_pair, insert_pair, Item, Game, Part, no_part, position_of, move_of, Level, levels_of, levels_after, depth, here, without_last, start_of, refusal, is_comment, in_name, is_result, is_score, is_number, is_end, is_reduced, fen_fault_field, marker_of, lacks_fen, Next, next, going, whole, AreDropped, pair, SpellsPairs, no_pair, next_pair, IsSetUp, StandsFor, number, period, glyph, comment_open, word, comment_close, Names, new_level, level_after_move, SpellsText, no_more, token, move, variation, BeginsBare, IsResult, SpellsGame, SpellsGames, no_game, next_game, rules}
 use Rattle.pgn_lexer.specs.Tokens as tokens
 use Rattle.pgn_game.specs.Game as games
 use Rattle.pgn_game.proofs.reading.RunsToEnd.{at, Runs, ends, goes, finishes}
@@ -56,7 +56,7 @@ add_close p first l m around ks items rest = inside l m around [] ks [] items (n
 
 nothing_left : (p : Profile) (first : Parts) (l : Level) (around : List Level) → length around ≡ 0 → Closes p first l around [] []
 nothing_left p first l [] e = outermost l [] [] (no_more 0 l)
-nothing_left p first l (m ∷ around) e = absurd (omega (arith, e))
+nothing_left p first l (m ∷ around) e = absurd (cc)
 
 -- What is left of a game in its movetext, and the games behind it.
 record Text_left (p : Profile) (ps : List Pair) (items : List Item) (ks : List Kind) (gs : List Game) : Type 0 where
@@ -223,7 +223,7 @@ marker_step {p} {items} {k} {marker} {ks} is shallow same after =
       kinds = refl;
       closes = nothing_left p _ _ _ outside;
       is_marker = is;
-      result = result_is _ _ marker (same_at_zero _ _ shallow same);
+      result = search (rules, result_is, same_at_zero);
       games = cc (append-nil items);
       others = after.2;
     }
@@ -236,26 +236,20 @@ symbol_step : {p : Profile} {ps : List Pair} (name : List ℕ) {items : List Ite
 symbol_step name s true false o digits is_marker one free after =
     token_step (number s digits) (after tt)
 symbol_step {p} {ps} name {items} s false false (Some (Ok played)) digits is_marker one free after =
-    text_more _
-    (adds_move p ps items s played
-    (record { no_number = digits; no_marker = is_marker; one = one; within = test_failed _ MoveLimit _ free })) (after tt)
-symbol_step name s false false None digits is_marker one free after = absurd (none-some _ (sym free))
-symbol_step name s false false (Some (Err NoMove)) digits is_marker one free after = absurd (none-some _ (sym free))
-symbol_step name s false false (Some (Err Ambiguous)) digits is_marker one free after = absurd (none-some _ (sym free))
+    search (rules, adds_move, test_failed, text_more)
+symbol_step name s false false None digits is_marker one free after = absurd (cc)
+symbol_step name s false false (Some (Err NoMove)) digits is_marker one free after = absurd (cc)
+symbol_step name s false false (Some (Err Ambiguous)) digits is_marker one free after = absurd (cc)
 symbol_step name s true true o digits is_marker one free after =
-    marker_step (ap (λ b. marker_if b s) is_marker)
-    (test_failed _ MarkerInVariation _ free)
-    (test_failed _ ResultDiffers None (rest_passed (nat_le 1 _) MarkerInVariation free)) after
+    search (rules, marker_if, marker_step, rest_passed, test_failed)
 symbol_step name s false true o digits is_marker one free after =
-    marker_step (ap (λ b. marker_if b s) is_marker)
-    (test_failed _ MarkerInVariation _ free)
-    (test_failed _ ResultDiffers None (rest_passed (nat_le 1 _) MarkerInVariation free)) after
+    search (rules, marker_if, marker_step, rest_passed, test_failed)
 
 text_step : {p : Profile} {ps : List Pair} (name : List ℕ) {items : List Item} (k : Kind) {ks : List Kind} {gs : List Game} → refusal p (at InMovetext ps name items) k ≡ None
     → is_end k ≡ false → After p (next (at InMovetext ps name items) k) ks gs → Text_left p ps items (k ∷ ks) gs
 unfolding refusal
-text_step {p} name tokens.left_paren free end after = open_step p name free (after tt)
-text_step {p} name tokens.right_paren free end after = close_step p name free (after tt)
+text_step {p} name tokens.left_paren free end after = search (rules, open_step)
+text_step {p} name tokens.right_paren free end after = search (rules, close_step)
 text_step name tokens.period free end after = token_step period (after tt)
 text_step name (tokens.glyph n) free end after =
     token_step (glyph n) (after tt)
@@ -273,8 +267,8 @@ text_step {p} {ps} name {items} (tokens.symbol s) free end after =
     let place = here (start_of ps) (levels_of items) in
     symbol_step name s _ _ _ refl refl refl
     (sym (text_row p (at InMovetext ps name items) (tokens.symbol s) refl ∙ symbol_refusal p (at InMovetext ps name items) s _ refl refl) ∙ free) after
-text_step name tokens.end free end after = absurd (false≢true (sym end))
-text_step name _ free end after = absurd (none-some _ (sym free))
+text_step name tokens.end free end after = absurd (cc)
+text_step name _ free end after = absurd (cc)
 
 -- Pairs, token by token.
 dropped_more : (k : Kind) (ks : List Kind) → IsTrue (is_comment k) → AreDropped ks → AreDropped (k ∷ ks)
@@ -296,7 +290,7 @@ one_dropped : (P : List Kind → Type 0) {k : Kind} {ks : List Kind} → IsTrue 
     → Dropping P (k ∷ ks)
 one_dropped P {k} is h =
     let kinds = ap (λ xs. k ∷ xs) h.kinds in
-    record { front = k ∷ h.front; rest = h.rest; kinds = kinds; dropped = dropped_more k h.front is h.dropped; left = h.left }
+    record { front = k ∷ h.front; rest = h.rest; kinds = kinds; dropped = cc; left = h.left }
 
 none_dropped : (P : List Kind → Type 0) {ks : List Kind} → P ks → Dropping P ks
 none_dropped P {ks} h = record { front = []; rest = ks; kinds = refl; dropped = refl; left = h }
@@ -310,8 +304,8 @@ bracket_step name (tokens.word s) none free after = one_dropped _ refl (after no
 bracket_step name tokens.comment_close none free after =
     one_dropped _ refl (after none)
 bracket_step name tokens.right_bracket {ks} none free after =
-    none_dropped _ (record { behind = ks; kinds = refl; tags = after none })
-bracket_step name _ none free after = absurd (none-some _ (sym free))
+    search (rules, none_dropped)
+bracket_step name _ none free after = absurd (cc)
 
 value_given : (p : Profile) {ps : List Pair} {name : List ℕ} (items : List Item) (s : List ℕ) {ks : List Kind} {gs : List Game}
     → refusal p (at AfterName ps name items) (tokens.str s) ≡ None → Bracket_left p (insert_pair (record { name = name; value = s }) ps) ks gs
@@ -328,9 +322,8 @@ value_given p {name} items s {ks} free h =
       behind = ks;
       kinds = refl;
       room = ltb-false 249 _ short;
-      result = λ is. not-false _
-          (forced (bytes_eq name _) (test_failed (bytes_eq name _ && not _) BadResult _ e) ((bytes_eq-Decides name _).1 is));
-      fen = λ is. position_is _ (forced (bytes_eq name _) is_position ((bytes_eq-Decides name _).1 is));
+      result = search (rules, bytes_eq-Decides, forced, not-false, test_failed);
+      fen = search (rules, bytes_eq-Decides, forced, position_is);
       bracket = h;
     })
 
@@ -342,8 +335,8 @@ value_step tokens.comment_open none free after =
 value_step (tokens.word s) none free after = one_dropped _ refl (after none)
 value_step tokens.comment_close none free after =
     one_dropped _ refl (after none)
-value_step {p} {items} (tokens.str s) none free after = value_given p items s free (after none)
-value_step _ none free after = absurd (none-some _ (sym free))
+value_step {p} {items} (tokens.str s) none free after = search (rules, value_given)
+value_step _ none free after = absurd (cc)
 
 name_given : (p : Profile) (ps : List Pair) (name : List ℕ) (items : List Item) (s : List ℕ) (ks : List Kind) {gs : List Game}
     → refusal p (at AfterLeftBracket ps name items) (tokens.symbol s) ≡ None → Value_left p ps s ks gs → Name_left p ps (tokens.symbol s ∷ ks) gs
@@ -357,9 +350,7 @@ name_given p ps name items s ks free h =
       kinds = refl;
       fresh = test_failed _ DuplicateTag _ f;
       is_name = not-false _ (test_failed _ BadTagName _ e);
-      full = λ is.
-          is_full _ (test_failed _ ReducedFen None g)
-          ((bytes_eq-Decides s _).1 is);
+      full = search (rules, bytes_eq-Decides, is_full, test_failed);
       value = h;
     })
 
@@ -383,19 +374,14 @@ pair_step p {ps} {ks} free dn =
     let zs = db.front in
     let q : Pair = record { name = n.name; value = v.value } in
     let whole : ks ≡ xs ++ tokens.symbol n.name ∷ (ys ++ tokens.str v.value ∷ (zs ++ tokens.right_bracket ∷ (t.tags ++ t.behind))) =
-    cc (dn.kinds, n.kinds, dv.kinds, v.kinds, db.kinds, b.kinds, t.kinds) in (
+    cc in (
       record {
         tags = (tokens.left_bracket ∷ (xs ++ tokens.symbol n.name ∷ (ys ++ tokens.str v.value ∷ (zs ++ tokens.right_bracket ∷ [])))) ++ t.tags;
         given = q ∷ t.given;
         behind = t.behind;
         kinds = (rw whole (simp append_assoc));
         pairs = next_pair _ t.tags q t.given (pair xs ys zs _ _ dn.dropped dv.dropped db.dropped) t.pairs;
-        takes = (
-          leb-false p.tags (length ps) free,
-          n.fresh,
-          record { name = n.is_name; room = v.room; result = v.result; fen = λ is. let h = v.fen is in (n.full is, h.0, h.1) },
-          t.takes,
-        );
+        takes = search (rules, leb-false);
         set_up = t.set_up;
         text = t.text;
       },
@@ -440,7 +426,7 @@ game_drops k is h = record {
   last = h.last;
   given = h.given;
   tokens = cc;
-  dropped = dropped_more k h.before is h.dropped;
+  dropped = cc;
   pairs = h.pairs;
   keeps = h.keeps;
   sorted = h.sorted;
@@ -488,7 +474,7 @@ game_begins {p} {ps} none t bare =
 
 bare_from : {k : Kind} {ks : List Kind} (text : List Kind) (last : Kind) (behind : List Kind) → IsFalse (is_comment k) → k ∷ ks ≡ text ++ last ∷ behind → BeginsBare text
 bare_from [] last behind is e = tt
-bare_from {k} (j ∷ js) last behind is e = let same : j ≡ k = cc in cc
+bare_from {k} (j ∷ js) last behind is e = cc
 
 between_text : (p : Profile) {ps : List Pair} (name : List ℕ) {items : List Item} (k : Kind) {ks : List Kind} {gs : List Game} → ps ≡ [] → items ≡ [] → IsTrue (is_textual k)
     → IsFalse (is_comment k) → refusal p (at Between ps name items) k ≡ None → is_end k ≡ false → After p (next (at Between ps name items) k) ks gs → SpellsGames p (k ∷ ks) gs
@@ -501,15 +487,15 @@ between_text p {ps} name {items} k {ks} {gs} no_pairs none is bare free end afte
 between_step : {p : Profile} {ps : List Pair} (name : List ℕ) {items : List Item} (k : Kind) {ks : List Kind} {gs : List Game} → ps ≡ [] → items ≡ []
     → refusal p (at Between ps name items) k ≡ None → is_end k ≡ false → After p (next (at Between ps name items) k) ks gs → SpellsGames p (k ∷ ks) gs
 unfolding refusal
-between_step name tokens.comment_open no_pairs none free end after = games_drop refl (after (no_pairs, none))
-between_step name (tokens.word s) no_pairs none free end after = games_drop refl (after (no_pairs, none))
-between_step name tokens.comment_close no_pairs none free end after = games_drop refl (after (no_pairs, none))
+between_step name tokens.comment_open no_pairs none free end after = search (rules, games_drop)
+between_step name (tokens.word s) no_pairs none free end after = search (rules, games_drop)
+between_step name tokens.comment_close no_pairs none free end after = search (rules, games_drop)
 between_step {p} {ps} name {items} tokens.left_bracket no_pairs none free end after =
     let t = pair_step p (test_failed _ TooManyTags None (sym (open_between p (at Between ps name items)) ∙ free)) (after none) in
     game_begins no_pairs t.0 (λ e. absurd (t.1 e))
-between_step name tokens.end no_pairs none free end after = absurd (false≢true (sym end))
-between_step name (tokens.refused r) no_pairs none free end after = absurd (none-some _ (sym free))
-between_step {p} name k no_pairs none free end after = between_text p name k no_pairs none refl refl free end after
+between_step name tokens.end no_pairs none free end after = absurd (cc)
+between_step name (tokens.refused r) no_pairs none free end after = absurd (cc)
+between_step {p} name k no_pairs none free end after = search (rules, between_text)
 
 -- one token more, at any stage
 step : (p : Profile) (stage : Stage) (ps : List Pair) (name : List ℕ) (items : List Item) (k : Kind) (ks : List Kind) (gs : List Game) → Fits stage ps items
@@ -521,7 +507,7 @@ at_end : (p : Profile) (stage : Stage) (ps : List Pair) (name : List ℕ) (items
     → Left p stage ps name items (tokens.end ∷ []) []
 unfolding refusal
 at_end p Between ps name items free = no_game [] refl
-at_end p _ ps name items free = absurd (none-some _ (sym free))
+at_end p _ ps name items free = absurd (cc)
 
 left : (p : Profile) (part : Part) (ks : List Kind) (gs : List Game) → Runs p part ks gs → Fits part.stage part.pairs part.items
     → Left p part.stage part.pairs part.name part.items ks gs

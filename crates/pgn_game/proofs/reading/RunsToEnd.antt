@@ -44,7 +44,7 @@ at_end {p} {b} {place} tokens.end last e =
     let free = first_passes p b t [] e in
     let leads = end_leads b.part.stage b.part.pairs b.part.name b.part.items in
     record {
-      same = (rw (goes_on p b t [] free) (rw leads.1 (sym (append-nil _))));
+      same = search (rules, append-nil, goes_on);
       runs = ends _ free;
     }
 at_end _ last e = absurd last
@@ -54,7 +54,7 @@ one_more : (p : Profile) (b : Progress) (t : Token) {ts : List Token} → refusa
 one_more p b t {ts} free end (going to) leads {gs} rest = (
   gs,
   record {
-    same = cc (goes_on p b t ts free);
+    same = cc;
     runs = goes _ to _ _ gs free end leads rest.runs;
   },
 )
@@ -89,11 +89,7 @@ read_one free leads same h = search (rules, goes_on)
 to_read : (p : Profile) {part : Part} {ks : List Kind} {gs : List Game} → Runs p part ks gs → (ts : List Token) (before : List Game) → kinds ts ≡ ks
     → Read_well p (behind before part) ts gs
 to_read p (ends part free) (t ∷ []) before e =
-    let kind : t.kind ≡ tokens.end = cc in
-    let leads = end_leads part.stage part.pairs part.name part.items in
-    read_one {c = (behind before leads.0)} {gs = []} (ap (refusal p part) kind ∙ free)
-    (rw kind (ap (progress_with before) leads.1)) refl
-    (record { fault = refl; games = sym (append-nil before) })
+    search (rules, append-nil, end_leads, read_one)
 to_read p (goes part to k ks gs free end leads runs) (t ∷ ts) before e =
     let kind : t.kind ≡ k = cc in
     let rest : kinds ts ≡ ks = cc in

@@ -20,9 +20,9 @@ module _ (p : Profile) (u : List ℕ) (given : List Token) (piece : List ℕ) (a
       let ts = fed.tokens ++ fed.marker ∷ [] in
       record {
         tokens = ts;
-        stands = rw (drop-drop used at piece) at (rw (further u piece at used) at fed.stands);
-        at_limit = λ h. fed.at_limit (ap (length {A = ℕ}) (further u piece at used) ∙ h) ∙ ap decided (further u piece at used);
-        decided = rw (drop-drop used at piece) at (rw (further u piece at used) at fed.decided);
+        stands = search (rules, drop-drop, further);
+        at_limit = search (rules, further);
+        decided = search (rules, drop-drop, further);
         gains = gains_more so.gains fed.gains;
       }
 
@@ -31,7 +31,7 @@ module _ (p : Profile) (u : List ℕ) (given : List Token) (piece : List ℕ) (a
   all_fed new fed =
       record {
         tokens = fed.tokens;
-        stands = rw (behind_first (drop at piece)) at (rw (whole_piece u piece at) at fed.stands);
+        stands = search (rules, behind_first, whole_piece);
         decided = which (drop at piece) refl;
         gains = gains_more so.gains fed.gains;
       }
@@ -67,7 +67,7 @@ module _ (p : Profile) (u : List ℕ) (given : List Token) (piece : List ℕ) (a
 
       which : (xs : List ℕ) → front ≡ xs → fed.tokens ≡ decided (u ++ (take at piece ++ front))
       which [] e =
-          let here : (u ++ take at piece) ++ front ≡ u ++ take at piece = rw e (append-nil (u ++ take at piece)) in
+          let here : (u ++ take at piece) ++ front ≡ u ++ take at piece = search (rules, append-nil) in
           fed.empty (ap (length {A = ℕ}) e) ∙ so.at_limit (sym (ap (length {A = ℕ}) here) ∙ end) ∙ ap decided (sym here ∙ text)
       which (x ∷ xs) e = fed.decided (rw e (omega arith)) ∙ ap decided text
 

@@ -1,5 +1,5 @@
 -- Calls of `next` one after another.
-use Rattle.pgn_game.proofs.Words.{Profile, Game, ◌≡◌, ℕ, ◌∷◌, ◌++◌, true, false, List, [], length, map, sum, Option, Some, Ok, Err, refl, sym, ap, subst, ◌∙◌, Consumes-nil, Consumes-trans, Appends, Consumes, coming, first, Token, tokens_of, plies_of, read, totals, FinishedGame, finished_game_of, Games, HaveRead, ReadSoFar, NextGame, games_read, append_assoc, append-nil, map-append, length-map, IfSome, rules}
+use Rattle.pgn_game.proofs.Words.{Profile, Game, ◌≡◌, ℕ, ◌∷◌, ◌++◌, true, false, List, [], map, Option, Some, Ok, Err, refl, subst, Consumes-nil, Consumes-trans, Appends, Consumes, coming, first, Token, tokens_of, plies_of, FinishedGame, finished_game_of, Games, HaveRead, ReadSoFar, NextGame, games_read, append_assoc, append-nil, map-append, length-map, IfSome, rules}
 use Rattle.pgn_game.specs.GamesCalls as games_calls
 use Rattle.pgn_game.specs.GamesJoined as games_joined
 use Rattle.pgn_game.specs.GamesJoined.{TakesGames, GamesJoin}
@@ -27,8 +27,7 @@ first_of_text left {left_new} {u} {now} {given} consumed (games_calls.within on)
       cc (on.bytes, append_assoc on.used now.unused rest, on.stands.lexer.tokens (now.unused ++ rest) (follows_first now.unused rest)),
     ))
 first_of_text left {left_new} {u} {given} consumed (games_calls.at_end all) =
-    known_whole left left_new u (λ s. (later : List Token) × (tokens_of s ≡ given ++ later)) consumed all.at_end
-    ([], sym all.whole ∙ sym (append-nil given))
+    search (rules, append-nil, known_whole)
 
 -- what was read and written so far; the games taken are those read
 record SoFar (p : Profile) (left before : Option (List ℕ)) (taken : List FinishedGame) (now : Games) (left_now after : Option (List ℕ)) : Type 0 where
@@ -57,9 +56,9 @@ module _ (p : Profile) (left before : Option (List ℕ)) (first : Games) (begins
         reads = record {
           bytes = so.reads.bytes ++ next.more;
           tokens = next.tokens;
-          consumed = Consumes-trans left source.before source.after so.reads.bytes next.more so.reads.consumed next.consumed;
+          consumed = search (rules, Consumes-trans);
           have_read = next.have_read;
-          gains = gains_more so.reads.gains next.gains;
+          gains = search (rules, gains_more);
         };
         games = taken_more game so next e;
       }
@@ -70,7 +69,7 @@ games_join p left before first old new taken (Ok true) source sink begins calls 
     let next = reads p so.reads.bytes so.reads.tokens so.reads.have_read in
     record {
       bytes = so.reads.bytes ++ next.more;
-      consumed = Consumes-trans left source.before source.after so.reads.bytes next.more so.reads.consumed next.consumed;
+      consumed = search (rules, Consumes-trans);
       tokens = next.tokens;
       of_text = first_of_text left
           (Consumes-trans left source.before source.after so.reads.bytes next.more so.reads.consumed next.consumed) next.have_read;
@@ -82,17 +81,14 @@ games_join p left before first old new taken (Ok false) source sink begins calls
     let so = so_far p left before first begins calls in
     let end = reads p so.reads.bytes so.reads.tokens so.reads.have_read in
     let text = so.reads.bytes ++ end.more in
-    let same : taken ≡ finished (games_read p (tokens_of text)) = so.games ∙ ap finished (sym end.no_game) in
+    let same : taken ≡ finished (games_read p (tokens_of text)) = cc in
     let games = games_read p (tokens_of text) in
     known_whole left source.after text (λ s. games_joined.TookAll p s taken before sink.after)
     (Consumes-trans left source.before source.after so.reads.bytes end.more so.reads.consumed end.consumed) end.have_read_all.at_end
     (record {
       games = same;
-      counts = verdict_passes (read p (tokens_of text)) end.have_read_all.has_read.passes
-          ∙ ap (λ n. totals (record { games = n; plies = sum (map plies_of games) })) (sym (length-map games finished_game_of) ∙ ap length (sym same))
-          ∙ ap (λ l. totals (record { games = length taken; plies = sum l })) (sym (plies_taken games) ∙ ap (map (λ (game : FinishedGame). game.plies)) (sym same));
-      written = appended
-          (gains_more so.reads.gains end.gains);
+      counts = search (rules, length-map, plies_taken, verdict_passes);
+      written = search (rules, appended, gains_more);
     })
 games_join p left before first old new taken (Err f) source sink begins calls reads =
     let so = so_far p left before first begins calls in

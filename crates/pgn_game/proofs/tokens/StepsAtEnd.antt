@@ -1,7 +1,7 @@
 -- Steps behind the last piece.
 use Rattle.pgn_lexer.specs.Tokens as tokens
 use Rattle.pgn_lexer.specs.PartialToken.{refusal as refusal_token}
-use Rattle.pgn_game.proofs.Words.{Kind, Token, Stage, Between, Reason, Lexical, Fault, Profile, Pair, Item, Game, ◌≡◌, ℕ, ◌+◌, ◌<◌, ◌≤◌, Bool, true, false, List, [], ◌∷◌, ◌++◌, length, Option, None, Some, Result, Ok, Err, refl, sym, ap, subst, ◌∙◌, append-nil, append_assoc, length-append, le_refl, arith, ◌*◌, ◌^◌, IsTrue, is_some, ◌↔◌, Device, tokens_of, Standing, waiting, HasLeft, IsNext, FinishGivesToken, Accepted, More, Finished, refusal, is_end, marker_of, next, progress_with, Progress, read, ReaderState, Answers, IsKnown, as_written, Stays, FinishesAtMarker, CountsWrites, SameGames, FaultAtEnd, AfterStepAtEnd, StepAtEndAdvances, AtEndSoFar, StaysBetween, outcome_at, is_ended, games_after, none_at_end, fault_of_step, LexFault, Converter, IsSound, game_in_reader, game_in_reader_if, IsLastGame as IsLast, HasRead, Stands, Finishes, FinishesToFault, CountsFault, CountsReason, rules}
+use Rattle.pgn_game.proofs.Words.{Kind, Token, Stage, Between, Reason, Lexical, Fault, Profile, Pair, Item, Game, ◌≡◌, ℕ, ◌+◌, ◌<◌, ◌≤◌, Bool, true, false, List, [], ◌∷◌, ◌++◌, length, Option, None, Some, Result, Ok, Err, refl, sym, subst, append-nil, append_assoc, length-append, le_refl, arith, ◌*◌, ◌^◌, IsTrue, is_some, ◌↔◌, Device, tokens_of, Standing, waiting, HasLeft, IsNext, FinishGivesToken, Accepted, More, Finished, refusal, is_end, marker_of, next, progress_with, Progress, read, ReaderState, Answers, IsKnown, as_written, Stays, FinishesAtMarker, CountsWrites, SameGames, AfterStepAtEnd, StepAtEndAdvances, AtEndSoFar, StaysBetween, outcome_at, is_ended, games_after, none_at_end, fault_of_step, LexFault, Converter, IsSound, game_in_reader, game_in_reader_if, IsLastGame as IsLast, HasRead, Stands, Finishes, FinishesToFault, CountsFault, CountsReason, rules}
 use Rattle.pgn_game.proofs.tokens.OneMoreToken.{gains_none, gains_more, stops_more, games_still, counts_still, position_still, read-passes}
 use Rattle.pgn_game.proofs.tokens.NoneBeforeFault.{none_before_fault}
 use Rattle.pgn_game.proofs.tokens.AcceptedToConverter.{stepped, gains_token, same_games, has_read_more, one_game, has_read_game, at_fault, at_lexical}
@@ -80,7 +80,7 @@ closes p old u given t l new finished a c true (Ok More) is_e has_read left prof
         has_read = let_go p _ _ more;
         between = cc (more.agrees.stage, read-passes p given t has_read.passes passes, end_passes p (read p given).progress t.kind is_e passes);
         same = same_games p old given t l new finished has_read profile probes h.free h.leads;
-        gains = gains_token p old given t l new finished has_read profile probes written h.free h.appended;
+        gains = search (rules, gains_token);
       },
       stays,
     )
@@ -88,8 +88,8 @@ closes p old u given t l new finished a c false (Ok More) is_e has_read left pro
   t,
   record {
     left = left;
-    has_read = let_go p _ _ (has_read_more p old given t l new finished has_read profile probes h.free h.leads h.plies h.tried);
-    gains = gains_token p old given t l new finished has_read profile probes written h.free h.appended;
+    has_read = search (rules, has_read_more, let_go);
+    gains = search (rules, gains_token);
   },
   same_games p old given t l new finished has_read profile probes h.free h.leads,
   stays,
@@ -106,9 +106,7 @@ closes p old u given t l new finished a c false (Ok Finished) is_e has_read left
   one_game p old given t l new finished has_read profile probes h.free h.leads,
 )
 closes p old u given t l new finished a c e (Err why) is_e has_read left profile probes written stopped stays at_marker =
-    let rest = tokens_left u given e l t left in
-    subst (λ ts. FaultAtEnd p given ts (record { at = t.at; reason = why }) new a c) (sym rest.1)
-    (at_fault p old given t l new finished has_read profile probes written rest.0 stopped)
+    search (rules, at_fault, tokens_left)
 
 pub closes_fault : (p : Profile) (old new : Converter) (u : List ℕ) (given : List Token) (f : LexFault) (o : Option (List ℕ)) → HasRead p old given
     → tokens_of u ≡ given ++ refusal_token f ∷ [] → new.reading ≡ old.reading → AfterStepAtEnd p u given old new (Err (record { at = f.at; reason = Lexical f.reason })) o o
@@ -184,7 +182,7 @@ module _ (p : Profile) (u : List ℕ) (given : List Token) (now new : Converter)
         tokens = so.tokens ++ t ∷ [];
         left = took.left;
         has_read = took.has_read;
-        no_fewer = rw same so.no_fewer;
+        no_fewer = search rules;
         game = same_length _ same;
         last = held_still _ same stays;
         gains = gains_more so.gains took.gains;
@@ -200,11 +198,11 @@ module _ (p : Profile) (u : List ℕ) (given : List Token) (now new : Converter)
       let same_flag = e took.between in
       let held = hands (so.tokens ++ t ∷ []) flag (λ h. held_still _ took.same stays (subst IsTrue same_flag h) took.between) in
       record {
-        has_read = subst (HasRead p _) (sym took.whole) (record { profile = h.profile; no_fault = h.no_fault; passes = h.passes; agrees = h.agrees; games = h.games; plies = h.plies; probed = h.probed; tried = h.tried; just_finished = held });
-        game = rw took.whole (same_length _ took.same);
-        just_finished = λ is. (game_in_reader new.reading, ap (λ b. game_in_reader_if b new.reading) (same_flag ∙ is));
-        none_just_finished = λ is. ap (λ b. game_in_reader_if b new.reading) (same_flag ∙ is);
-        gains = rw took.whole (gains_more so.gains took.gains);
+        has_read = search rules;
+        game = search (rules, same_length);
+        just_finished = search rules;
+        none_just_finished = search rules;
+        gains = search (rules, gains_more);
       }
     where
       hands : (ts : List Token) (b : Bool) → (IsTrue b → IsLast (Some (game_in_reader new.reading)) (read p ts).progress.games) → IsLast (game_in_reader_if b new.reading) (read p ts).progress.games
@@ -217,10 +215,10 @@ module _ (p : Profile) (u : List ℕ) (given : List Token) (now new : Converter)
       let stops = stops_more so.gains to.stops in
       record {
         stops = stops;
-        no_game = none_before_fault p u l left passes stops;
-        games = same ∙ so.has_read.games ∙ sym (ap (length {A = Game}) (games_still so.gains to.stops ∙ to.no_game));
-        counts = counts_still so.gains to.stops to.counts;
-        position = to.position ∙ sym (position_still so.gains to.stops);
+        no_game = search (rules, none_before_fault);
+        games = search (rules, games_still);
+        counts = search (rules, counts_still);
+        position = search (rules, position_still);
       }
 
 -- behind the last piece a token was waiting, unless it is the end

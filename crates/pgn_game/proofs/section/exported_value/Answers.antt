@@ -1,4 +1,4 @@
-use Rattle.pgn_game.proofs.Words.{rules, ◌≡◌, Bool, true, false, not, Option, List, ℕ, None, Some, refl, sym, ◌∙◌, ap, Bor, option_copied, false≢true, is_some}
+use Rattle.pgn_game.proofs.Words.{rules, ◌≡◌, Bool, true, false, not, Option, List, ℕ, None, Some, refl, Bor, option_copied, false≢true, is_some}
 use Rattle.pgn_game.proofs.pairs.ExportedValues.{exported_either, exported_none}
 use Rattle.pgn_game.proofs.pairs.ValuesByName.{either_of}
 use Rattle.pgn_game.proofs.section.exported_value.Goals as goal
@@ -7,10 +7,10 @@ use Rattle.pgn_game.proofs.section.exported_value.Goals.{else-is_none-via-then-i
 -- an unknown value that is none
 none_copied : (o : Option (Bor (List ℕ))) (t : Bool) → is_some o ≡ not t → t ≡ true → option_copied o ≡ None
 none_copied None t is e = refl
-none_copied (Some v) t is e = absurd (false≢true (sym (ap not e) ∙ sym is))
+none_copied (Some v) t is e = absurd (cc)
 
 some_copied : (o : Option (Bor (List ℕ))) (t : Bool) → is_some o ≡ not t → t ≡ false → option_copied o ≡ None → ⊥
-some_copied None t is e none = absurd (false≢true (is ∙ ap not e))
+some_copied None t is e none = absurd (cc)
 some_copied (Some v) t is e none = absurd (cc)
 
 pub returns-then-eq : goal.returns-then-eq
