@@ -1,6 +1,6 @@
 -- An export text is read as its games with their defaults filled in, so it is written again as it
 -- is.
-use Rattle.pgn_game.proofs.Words.{◌≡◌, ℕ, ◌+◌, ◌≤◌, ◌^◌, inl, inr, Bool, true, List, [], ◌∷◌, ◌++◌, length, map, refl, sym, ap, subst, ◌∙◌, arith, length-append, append-nil, Option, None, Some, sum, IfSome, Err, filter, Consumes, length-map, length-filter, count_by-le-length, IsLast, RisesTo, TokensRise, tokens_of, Kind, Token, Fault, Between, Game, Part, Mode, Pair, Profile, Progress, progress_after, read_from, output, verdict, refused as is_refused, totals, refusal, is_end, filled, AreExportable, SameText, counted, IsWrittenAgain, SliceIsKept, SourceIsKept, FixedPoint, ExportIsKept, ExportIsKeptOfSource, games_in, IsExportable, ExportingTwice, SameOutput, FewPairsHaveRoom, plies_of, roster, roster_pairs, with_set_up, exported, Spells, FailsOn, Fails, Totals, text_of_games as text_of, rules}
+use Rattle.pgn_game.proofs.Words.{◌≡◌, ℕ, ◌+◌, ◌≤◌, ◌^◌, inl, inr, Bool, true, List, [], ◌∷◌, ◌++◌, length, map, refl, sym, ap, subst, ◌∙◌, arith, length-append, append-nil, Option, None, Some, sum, IfSome, Err, filter, Consumes, length-map, length-filter, count_by-le-length, IsLast, RisesTo, TokensRise, tokens_of, Kind, Token, Fault, Between, Game, Part, Mode, Pair, Profile, Progress, progress_after, read_from, output, verdict, refused as is_refused, totals, refusal, is_end, filled, AreExportable, SameText, counted, IsWrittenAgain, SliceIsKept, SourceIsKept, FixedPoint, ExportIsKept, ExportIsKeptOfSource, games_in, IsExportable, ExportingTwice, SameOutput, FewPairsHaveRoom, plies_of, roster, roster_pairs, with_set_up, exported, Spells, FailsOn, Fails, Totals, text_of_games as text_of, rules, Ok}
 use Rattle.pgn_game.specs.Conversion as conversion
 use Rattle.pgn_game.proofs.exporting.ExportToGames.{ExportedGames}
 use Rattle.pgn_game.proofs.reading.PairsInTurn.{length-insert}
@@ -76,14 +76,25 @@ module _ (unique : UniqueReading) (rise : TokensRise) (exported_games : (p : Pro
   counted_again p gs h = search (rules, length-map)
 
   pub fixed_point : FixedPoint
-  fixed_point p gs h = search (rules, counted_again, output_is, verdict_is)
+  fixed_point p gs h =
+      let e = exported_games p gs h in (
+        output_is unique rise p (text_of p gs) _ e.spells ∙ e.again,
+        verdict_is unique rise p (text_of p gs) (map _ gs) e.spells ∙ ap totals (counted_again p gs h),
+      )
 
 -- Converting an export text.
 pub slice_is_kept : FixedPoint → ExportIsKept
-slice_is_kept h1 = search (rules, slice_fails, written_again)
+slice_is_kept fixed p gs (Ok t) before after h short done =
+    let f = fixed p gs h in written_again p _ gs t before after f.0 f.1 done
+slice_is_kept fixed p gs (Err f) before after h short fails = slice_fails p _ gs f before after (fixed p gs h).1 short fails
 
 pub source_is_kept : FixedPoint → ExportIsKeptOfSource
-source_is_kept h1 = search (rules, some_text, source_fails, written_again)
+source_is_kept fixed p gs (Ok t) left_old left_new before after h short left done =
+    let f = fixed p gs h in
+    written_again p (text_of p gs) gs t before after f.0 f.1
+    (some_text _ _ _ left done)
+source_is_kept fixed p gs (Err f) left_old left_new before after h short left fails =
+    source_fails p _ gs f _ _ before after (fixed p gs h).1 short left fails
 
 -- The same of inputs: each without a fault is the text of its games.
 module _ (unique : UniqueReading) (rise : TokensRise) where

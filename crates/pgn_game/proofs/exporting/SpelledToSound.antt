@@ -161,11 +161,11 @@ sound_game ls h sound closes =
         keeps = h.keeps;
         sorted = h.sorted;
         set_up = h.set_up;
-        sound_pairs = search (rules, all_front, sound_pairs);
+        sound_pairs = sound_pairs h.tags h.given h.pairs (all_front IsSoundKind h.tags (h.text ++ h.last ∷ []) sound_behind);
         items = h.items;
-        sound_text = search (rules, all_front);
+        sound_text = all_front IsSoundKind h.text (h.last ∷ []) sound_rest;
         marker = h.marker;
-        sound_marker = search (rules, all_behind);
+        sound_marker = (all_behind IsSoundKind h.text (h.last ∷ []) sound_rest).0;
         closes = text;
         result = h.result;
       },

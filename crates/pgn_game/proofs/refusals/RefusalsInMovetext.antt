@@ -81,7 +81,19 @@ met : {known reason : Reason} → is_outside_the_table known ≡ false → known
 met inside is = (ap Some is, rw is at inside)
 
 found_refused : (p : Parts) (r : MoveReading) {reason : Reason} → found_in p r ≡ Err reason → (refused_as p r ≡ Some reason) × (is_outside_the_table reason ≡ false)
-found_refused p r h1 = search (rules, hit, met)
+found_refused p None e = met refl (cc)
+found_refused p (Some (Err NoMove)) e = met refl (cc)
+found_refused p (Some (Err Ambiguous)) e = met refl (cc)
+found_refused p (Some (Ok one)) {reason} e = by_limit _ refl
+  where
+    by_limit : (b : Bool) → is_at_limit p ≡ b → (refused_as p (one_move one) ≡ Some reason) × (is_outside_the_table reason ≡ false)
+    by_limit true is =
+        let h : limited true one ≡ Err reason = cc in
+        let limit = met {known = MoveLimit} {reason = reason} refl (cc) in
+        (hit _ _ None is ∙ limit.0, limit.1)
+    by_limit false is =
+        let h : limited false one ≡ Err reason = cc in
+        absurd (cc)
 
 -- what was found at the reader's position was found at the part's
 found_at : (old : ReaderState) (part : Part) (s : List ℕ) {here : Parts} {r : Result Played Reason} → IsOpen old part → here ≡ old.text.levels.present.present → r ≡ found_in here (move_of here s)
@@ -150,7 +162,8 @@ marker_inside old k marker part is within = marker_refusal old.profile part k is
 
 pub marker_differs : (old : ReaderState) (k : Kind) (missing marker : List ℕ) (part : Part) → marker_of k ≡ Some marker → depth (levels_of_part part) ≡ 0
     → result_for old.profile.missing_result marker ≡ missing → differs missing (value_of part.pairs (codes "Result")) marker ≡ true → text_refusal old.profile part k ≡ Some ResultDiffers
-marker_differs old k missing marker part is none known test = search (rules, marker_refusal, marker_tested)
+marker_differs old k missing marker part is none known test =
+    cc (marker_refusal old.profile part k is, marker_tested old.profile part missing marker false true (ap (λ n. nat_le 1 n) none) known test)
 
 pub marker_free : (old : ReaderState) (k : Kind) (missing marker : List ℕ) (part : Part) → marker_of k ≡ Some marker → depth (levels_of_part part) ≡ 0
     → result_for old.profile.missing_result marker ≡ missing → differs missing (value_of part.pairs (codes "Result")) marker ≡ false → text_refusal old.profile part k ≡ None

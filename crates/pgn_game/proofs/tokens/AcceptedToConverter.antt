@@ -1,7 +1,7 @@
 -- One token that the lexer gave, and what the reader answered to it.
 use Rattle.pgn_lexer.specs.PartialToken.{refusal as refusal_token}
 use Rattle.pgn_lexer.specs.Scanned.{token, more, fault}
-use Rattle.pgn_game.proofs.Words.{Reason, Lexical, WriteFault, Fault, Profile, Game, Part, ◌≡◌, ℕ, ◌+◌, ◌*◌, is_some, ◌<◌, ◌≤◌, ◌⊎◌, Bool, false, true, List, [], ◌∷◌, ◌++◌, length, take, drop, Option, None, Some, Result, Ok, Err, refl, sym, ap, subst, ◌∙◌, append_assoc, append-nil, length-append, le_refl, arith, IsTrue, map, sum, take-append-drop, map-append, list_any-append, or_cases, Appends-nil, Appends, Token, EndsAt, tokens_of, Standing, coming, waiting, StandsAfter, Follows, AfterScan, first, still, Accepted, More, Finished, refusal, position_if_move, position_in, Next, going, whole, next, Progress, progress_with, progress_after, Read, read, gain, Gains, plies_of, has_move, ReaderState, Agrees, IsKnown, as_written, IsBehind, whole_plies, plies_next, Leads, Answers, AppendsFront, MostTried, Raises, Tries, TriesUnwritten, sum_by-append, sum_by-cons, LexFault, FinishedGame, finished_game_of, Converter, game_in_reader, game_in_reader_if, play_moves, has_played_move, HasRead, Stands, refused_stop as refused, unwritten, AreNext, reported_position, FedToFault, FaultAtEnd, SameGames, OneGame, AfterStep, outcome_at, finished_game, games_after, fault_of_step, StepAdvances, written_so_far as written, rules}
+use Rattle.pgn_game.proofs.Words.{Reason, Lexical, WriteFault, Fault, Profile, Game, Part, ◌≡◌, ℕ, ◌+◌, ◌*◌, is_some, ◌<◌, ◌≤◌, ◌⊎◌, Bool, false, true, List, [], ◌∷◌, ◌++◌, length, take, drop, Option, None, Some, Result, Ok, Err, refl, sym, ap, subst, ◌∙◌, append_assoc, append-nil, length-append, le_refl, arith, IsTrue, map, sum, take-append-drop, map-append, list_any-append, or_cases, Appends-nil, Appends, Token, EndsAt, tokens_of, Standing, coming, waiting, StandsAfter, Follows, AfterScan, first, still, Accepted, More, Finished, refusal, position_if_move, position_in, Next, going, whole, next, Progress, progress_with, progress_after, Read, read, gain, Gains, plies_of, has_move, ReaderState, Agrees, IsKnown, as_written, IsBehind, whole_plies, plies_next, Leads, Answers, AppendsFront, MostTried, Raises, Tries, TriesUnwritten, sum_by-append, sum_by-cons, LexFault, FinishedGame, finished_game_of, Converter, game_in_reader, game_in_reader_if, play_moves, has_played_move, HasRead, Stands, refused_stop as refused, unwritten, AreNext, reported_position, FedToFault, FaultAtEnd, SameGames, OneGame, AfterStep, outcome_at, finished_game, games_after, fault_of_step, StepAdvances, written_so_far as written, rules, inl, inr}
 use Rattle.pgn_game.specs.ReaderState as reader_state
 use Rattle.pgn_game.proofs.tokens.PairsTriedForToken.{most_with, most_to_refused, part_probed, raises_none}
 use Rattle.pgn_game.proofs.tokens.OneMoreToken.{read-passes, read-refuses, due-passes, gains_none}
@@ -92,16 +92,17 @@ module _ (p : Profile) (old : Converter) (given : List Token) (t : Token) (l : S
   has_read_more h leads plies tries =
       let more = leads_more (next b.part t.kind) b.games new leads in
       let same = same_games h leads in
-      let total : whole_plies new ≡ whole_plies old.reading = omega arith in
+      let total : whole_plies new ≡ whole_plies old.reading = omega (arith, plies, more.2) in
       let agrees : Agrees new (read p (given ++ t ∷ [])).progress.part = rw (reads h) more.1 in
       record {
-        profile = cc;
+        profile = profile ∙ has_read.profile;
         no_fault = refl;
         passes = rw (reads h);
         agrees = agrees;
-        games = cc;
-        plies = cc;
-        probed = search (rules, in_either, in_games, probed_before);
+        games = has_read.games ∙ ap (length {A = Game}) (sym same);
+        plies = total ∙ has_read.plies ∙ ap (λ games. sum (map plies_of games)) (sym same);
+        probed = in_either (read p (given ++ t ∷ [])).progress agrees
+            (λ moves. probed_before (in_games b (rw same at moves)));
         tried = most_tried h tries;
         just_finished = tt;
       }
@@ -109,7 +110,9 @@ module _ (p : Profile) (old : Converter) (given : List Token) (t : Token) (l : S
   -- the game is whole
   pub one_game : refusal old.reading.profile b.part t.kind ≡ None → Leads (next b.part t.kind) Finished new
       → (g : Game) × OneGame p given (given ++ t ∷ []) g × (game_in_reader new ≡ finished_game_of g)
-  one_game h leads = search (rules, finished_behind, leads_finished, reads)
+  one_game h leads =
+      let done = leads_finished (next b.part t.kind) b.games new leads in
+      (done.0, ap (λ (r : Read). r.progress.games) (reads h) ∙ done.1, finished_behind done.3)
 
   pub has_read_game : refusal old.reading.profile b.part t.kind ≡ None → Leads (next b.part t.kind) Finished new
       → whole_plies new ≡ whole_plies old.reading + plies_next (next b.part t.kind)
@@ -121,15 +124,19 @@ module _ (p : Profile) (old : Converter) (given : List Token) (t : Token) (l : S
       let behind : IsBehind new g = done.3 in
       let agrees : Agrees new (read p (given ++ t ∷ [])).progress.part = rw (reads h) done.2 in
       record {
-        profile = cc;
+        profile = profile ∙ has_read.profile;
         no_fault = refl;
         passes = rw (reads h);
         agrees = agrees;
-        games = search (rules, length-append);
+        games = rw has_read.games (sym (ap (length {A = Game}) one ∙ length-append b.games (g ∷ [])));
         plies = cc (plies, has_read.plies, done.4, one, plies-snoc b.games g);
-        probed = search (rules, in_either, in_games, moves-snoc, probed_before);
+        probed = in_either (read p (given ++ t ∷ [])).progress agrees
+            (λ moves. elim (moves-snoc b.games g (rw one at moves)) [
+              | inl before ↦ probed_before (in_games b before)
+              | inr here ↦ behind.probed here
+            ]);
         tried = most_tried h tries;
-        just_finished = search (rules, finished_behind);
+        just_finished = (b.games, g, one, finished_behind behind);
       }
 
   -- the token is rejected

@@ -20,9 +20,9 @@ module _ (p : Profile) (u : List ℕ) (given : List Token) (piece : List ℕ) (a
       let ts = fed.tokens ++ fed.marker ∷ [] in
       record {
         tokens = ts;
-        stands = search (rules, drop-drop, further);
-        at_limit = search (rules, further);
-        decided = search (rules, drop-drop, further);
+        stands = rw (drop-drop used at piece) at (rw (further u piece at used) at fed.stands);
+        at_limit = λ h. fed.at_limit (ap (length {A = ℕ}) (further u piece at used) ∙ h) ∙ ap decided (further u piece at used);
+        decided = rw (drop-drop used at piece) at (rw (further u piece at used) at fed.decided);
         gains = gains_more so.gains fed.gains;
       }
 

@@ -1,6 +1,6 @@
 -- Games read in turn from a source.
 use Rattle.std.specs.Io.KnownBytes.{Keeps, IsAtEnd}
-use Rattle.pgn_game.proofs.Words.{Token, ReadFault, Fault, Profile, Game, no_part, ◌≡◌, ℕ, ◌^◌, ◌≤◌, Bool, true, false, List, [], ◌∷◌, ◌++◌, length, drop, Option, None, Some, Result, Ok, Err, refl, sym, ap, subst, ◌∙◌, inl, inr, append-nil, append_assoc, length-append, arith, take-append-drop, Consumes-nil, Consumes-trans, tokens_of, decided, coming, IsDecided, first, Gains, Games, games_of, HasReadAll, HaveRead, within, at_end, NextGame, NoGame, NextStops, AfterNext, NextSoFar, IsTrue, is_ok, Consumes, text_of_games as text_of, whole, next, Progress, read, read_from, written_so_far as written, Converter, FedAll, FedGame, FedToFault, StopsIn, at_token, too_long, AfterFinish, Finishes, FinishesToFault, rules}
+use Rattle.pgn_game.proofs.Words.{Token, ReadFault, Fault, Profile, Game, no_part, ◌≡◌, ℕ, ◌^◌, ◌≤◌, Bool, true, false, List, [], ◌∷◌, ◌++◌, length, drop, Option, None, Some, Result, Ok, Err, refl, sym, ap, subst, ◌∙◌, inl, inr, append-nil, append_assoc, length-append, arith, take-append-drop, Consumes-nil, Consumes-trans, tokens_of, decided, coming, IsDecided, first, Gains, Games, games_of, HasReadAll, HaveRead, within, at_end, NextGame, NoGame, NextStops, AfterNext, NextSoFar, IsTrue, is_ok, Consumes, text_of_games as text_of, whole, next, Progress, read, read_from, written_so_far as written, Converter, FedAll, FedGame, FedToFault, StopsIn, at_token, too_long, AfterFinish, Finishes, FinishesToFault, rules, Reason, refusal, Next, going, progress_with, Read}
 use Rattle.pgn_game.specs.GamesCalls as games_calls
 use Rattle.pgn_game.proofs.tokens.OneMoreToken.{read-passes, read-refuses, stops_from, torn-none, gains_none, gains_more, stops_more, games_still, counts_still}
 use Rattle.pgn_game.proofs.tokens.StepsInPiece.{decided_at_end, stands_before_any}
@@ -30,7 +30,21 @@ not_one_more {gs} g e = absurd (omega (arith, ap (length {A = Game}) e, length-a
 -- the token that finishes a game leaves no part of one
 pub none_behind : (p : Profile) (ts : List Token) (t : Token) (g : Game) → (read p (ts ++ t ∷ [])).fault ≡ None
     → (read p (ts ++ t ∷ [])).progress.games ≡ (read p ts).progress.games ++ g ∷ [] → (read p (ts ++ t ∷ [])).progress.part ≡ no_part
-none_behind p ts t g passes one = search (rules, none_or_some, not_one_more, passes_before, read-passes, read-refuses)
+none_behind p ts t g passes one = by_test (refusal p (read p ts).progress.part t.kind) refl
+  where
+    before : (read p ts).fault ≡ None
+    before = passes_before p ts (t ∷ []) passes
+
+    by_next : (nx : Next) → next (read p ts).progress.part t.kind ≡ nx → (read p (ts ++ t ∷ [])).progress ≡ progress_with (read p ts).progress.games nx
+        → (read p (ts ++ t ∷ [])).progress.part ≡ no_part
+    by_next (going part) is reads = absurd (not_one_more g (sym (ap (λ (b : Progress). b.games) reads) ∙ one))
+    by_next (whole h) is reads = ap (λ (b : Progress). b.part) reads
+
+    by_test : (o : Option Reason) → refusal p (read p ts).progress.part t.kind ≡ o → (read p (ts ++ t ∷ [])).progress.part ≡ no_part
+    by_test (Some reason) is =
+        absurd (none_or_some _ (ap (λ (r : Read). r.fault) (read-refuses p ts t [] reason before is)) passes)
+    by_test None is =
+        by_next (next (read p ts).progress.part t.kind) refl (ap (λ (r : Read). r.progress) (read-passes p ts t before is))
 
 -- ---- one call
 

@@ -1,6 +1,6 @@
 -- The token that finishes a game is its marker, which is the Result of its tag section.
 use Rattle.pgn_lexer.specs.Tokens as tokens
-use Rattle.pgn_game.proofs.Words.{Kind, Token, Reason, Stage, AfterLeftBracket, AfterName, AfterValue, Profile, value_of, Game, Part, ◌≡◌, ℕ, false, List, [], ◌∷◌, ◌++◌, Option, None, Some, refl, codes, unwrap_or, IsTrue, IsFalse, not-false, bytes_eq-Decides, refusal, marker_of, is_comment, result_for, text_refusal, Next, going, whole, next, next_in, in_text, at_stage, progress_with, read, games_read, FinishesGame, EndsByMarker, GamesEndByMarker, rules}
+use Rattle.pgn_game.proofs.Words.{Kind, Token, Reason, Stage, AfterLeftBracket, AfterName, AfterValue, Profile, value_of, Game, Part, ◌≡◌, ℕ, false, List, [], ◌∷◌, ◌++◌, Option, None, Some, refl, codes, unwrap_or, IsTrue, IsFalse, not-false, bytes_eq-Decides, refusal, marker_of, is_comment, result_for, text_refusal, Next, going, whole, next, next_in, in_text, at_stage, progress_with, read, games_read, FinishesGame, EndsByMarker, GamesEndByMarker, rules, MarkerInVariation, ResultDiffers, SetUpWithoutFen, Between, AfterTags, InMovetext, ◌&&◌, not, nat_le, sym, ◌∙◌, ◌==◌, bytes_eq, levels_of_part, lacks_fen, depth}
 use Rattle.pgn_game.proofs.exporting.PairsExportedAgain.{result_of}
 use Rattle.pgn_game.proofs.pairs.ExportedValues.{exported_known}
 use Rattle.pgn_game.proofs.refusals.RefusalsByStage.{is_textual, is_lexical, after_tags, between, rest_passed, test_failed, text_row}
@@ -48,11 +48,26 @@ plain k marker h1 = search rules
 -- it passes as in movetext
 passes_in_text : (p : Profile) (stage : Stage) (part : Part) (k : Kind) (g : Game) → IsPlain k → refusal p (at_stage stage part) k ≡ None → next_in stage part k ≡ whole g
     → text_refusal p part k ≡ None
-passes_in_text p stage part k g h1 h2 h3 = search (rules, after_tags, between, none_behind_value, none_in_name, none_in_value, rest_passed, text_row)
+passes_in_text p Between part k g is free leads =
+    sym (text_row p part k is.sound) ∙ sym (between p part k is.textual is.bare) ∙ free
+passes_in_text p AfterLeftBracket part k g is free leads = absurd (none_in_name part k g leads)
+passes_in_text p AfterName part k g is free leads = absurd (none_in_value part k g leads)
+passes_in_text p AfterValue part k g is free leads = absurd (none_behind_value part k g leads)
+passes_in_text p AfterTags part k g is free leads =
+    sym (text_row p part k is.sound) ∙ rest_passed (lacks_fen part.pairs) SetUpWithoutFen (sym (after_tags p part k is.textual) ∙ free)
+passes_in_text p InMovetext part k g is free leads = sym (text_row p part k is.sound) ∙ free
 
 same_result : (p : Profile) (part : Part) (k : Kind) (marker : List ℕ) → marker_of k ≡ Some marker → text_refusal p part k ≡ None
     → marker ≡ unwrap_or (value_of part.pairs (codes "Result")) (result_for p.missing_result marker)
-same_result p part k marker is free = search (rules, bytes_eq-Decides, marker_refusal, not-false, other_if, rest_passed, same_at_zero, test_failed)
+same_result p part k marker is free =
+    let rows = sym (marker_refusal p part k is) ∙ free in
+    let value = unwrap_or (value_of part.pairs (codes "Result")) (result_for p.missing_result marker) in
+    let deep = depth (levels_of_part part) in
+    let same : not (bytes_eq marker value) ≡ false =
+    same_at_zero (not (bytes_eq marker value)) deep (test_failed (nat_le 1 deep) MarkerInVariation _ rows)
+    (test_failed (other_if p.missing_result part.pairs (Some marker) && (deep == 0)) ResultDiffers None
+    (rest_passed (nat_le 1 deep) MarkerInVariation rows)) in
+    (bytes_eq-Decides marker value).0 (not-false (bytes_eq marker value) same)
 
 -- ---- A game that was read
 

@@ -1,7 +1,7 @@
 -- Steps behind the last piece.
 use Rattle.pgn_lexer.specs.Tokens as tokens
 use Rattle.pgn_lexer.specs.PartialToken.{refusal as refusal_token}
-use Rattle.pgn_game.proofs.Words.{Kind, Token, Stage, Between, Reason, Lexical, Fault, Profile, Pair, Item, Game, ◌≡◌, ℕ, ◌+◌, ◌<◌, ◌≤◌, Bool, true, false, List, [], ◌∷◌, ◌++◌, length, Option, None, Some, Result, Ok, Err, refl, sym, subst, append-nil, append_assoc, length-append, le_refl, arith, ◌*◌, ◌^◌, IsTrue, is_some, ◌↔◌, Device, tokens_of, Standing, waiting, HasLeft, IsNext, FinishGivesToken, Accepted, More, Finished, refusal, is_end, marker_of, next, progress_with, Progress, read, ReaderState, Answers, IsKnown, as_written, Stays, FinishesAtMarker, CountsWrites, SameGames, AfterStepAtEnd, StepAtEndAdvances, AtEndSoFar, StaysBetween, outcome_at, is_ended, games_after, none_at_end, fault_of_step, LexFault, Converter, IsSound, game_in_reader, game_in_reader_if, IsLastGame as IsLast, HasRead, Stands, Finishes, FinishesToFault, CountsFault, CountsReason, rules}
+use Rattle.pgn_game.proofs.Words.{Kind, Token, Stage, Between, Reason, Lexical, Fault, Profile, Pair, Item, Game, ◌≡◌, ℕ, ◌+◌, ◌<◌, ◌≤◌, Bool, true, false, List, [], ◌∷◌, ◌++◌, length, Option, None, Some, Result, Ok, Err, refl, sym, subst, append-nil, append_assoc, length-append, le_refl, arith, ◌*◌, ◌^◌, IsTrue, is_some, ◌↔◌, Device, tokens_of, Standing, waiting, HasLeft, IsNext, FinishGivesToken, Accepted, More, Finished, refusal, is_end, marker_of, next, progress_with, Progress, read, ReaderState, Answers, IsKnown, as_written, Stays, FinishesAtMarker, CountsWrites, SameGames, AfterStepAtEnd, StepAtEndAdvances, AtEndSoFar, StaysBetween, outcome_at, is_ended, games_after, none_at_end, fault_of_step, LexFault, Converter, IsSound, game_in_reader, game_in_reader_if, IsLastGame as IsLast, HasRead, Stands, Finishes, FinishesToFault, CountsFault, CountsReason, rules, ap, ◌∙◌, coming}
 use Rattle.pgn_game.proofs.tokens.OneMoreToken.{gains_none, gains_more, stops_more, games_still, counts_still, position_still, read-passes}
 use Rattle.pgn_game.proofs.tokens.NoneBeforeFault.{none_before_fault}
 use Rattle.pgn_game.proofs.tokens.AcceptedToConverter.{stepped, gains_token, same_games, has_read_more, one_game, has_read_game, at_fault, at_lexical}
@@ -34,7 +34,8 @@ no_marker_at_end k is_e marker = let none = marker_or_end k marker in absurd (cc
 
 -- the tokens of the text begin so in either case
 pub tokens_left : (u : List ℕ) (given : List Token) (e : Bool) (l : Standing) (t : Token) → Left u given e l t → (us : List Token) × (tokens_of u ≡ given ++ t ∷ us)
-tokens_left u given e l t h1 = search (rules, append_assoc)
+tokens_left u given true l t h = ([], h)
+tokens_left u given false l t h = (coming l [], h ∙ append_assoc given (t ∷ []) (coming l []))
 
 -- the end is passed between games alone
 pub end_at : (p : Profile) (s : Stage) (ps : List Pair) (name : List ℕ) (items : List Item)
@@ -189,7 +190,18 @@ module _ (p : Profile) (u : List ℕ) (given : List Token) (now new : Converter)
       }
 
   pub closed_game : AfterStepAtEnd p u so.tokens now new (Ok (Some Finished)) c d → AtEndSoFar p u given new true a d
-  closed_game h1 = search (rules, gains_more, length-append)
+  closed_game (t, took, (g, one, held)) =
+      let count : length (read p (so.tokens ++ t ∷ [])).progress.games ≡ length (read p so.tokens).progress.games + 1 =
+      ap (length {A = Game}) one ∙ length-append (read p so.tokens).progress.games (g ∷ []) in
+      record {
+        tokens = so.tokens ++ t ∷ [];
+        left = took.left;
+        has_read = took.has_read;
+        no_fewer = omega (arith, count, so.no_fewer);
+        game = (λ h. omega (arith, count, so.no_fewer), λ h. refl);
+        last = λ h between. ((read p so.tokens).progress.games, g, one, held);
+        gains = gains_more so.gains took.gains;
+      }
 
   pub closed_end : (flag : Bool) → AfterStepAtEnd p u so.tokens now new (Ok None) c d → (new.reading.stage ≡ Between → flag ≡ finished_game)
       → Finishes p u given (record { lexer = new.lexer; reading = new.reading; games = new.games; just_finished = game_in_reader_if flag new.reading; is_finished = new.is_finished; fault = new.fault }) finished_game a d
@@ -198,11 +210,11 @@ module _ (p : Profile) (u : List ℕ) (given : List Token) (now new : Converter)
       let same_flag = e took.between in
       let held = hands (so.tokens ++ t ∷ []) flag (λ h. held_still _ took.same stays (subst IsTrue same_flag h) took.between) in
       record {
-        has_read = search rules;
-        game = search (rules, same_length);
-        just_finished = search rules;
-        none_just_finished = search rules;
-        gains = search (rules, gains_more);
+        has_read = subst (HasRead p _) (sym took.whole) (record { profile = h.profile; no_fault = h.no_fault; passes = h.passes; agrees = h.agrees; games = h.games; plies = h.plies; probed = h.probed; tried = h.tried; just_finished = held });
+        game = rw took.whole (same_length _ took.same);
+        just_finished = λ is. (game_in_reader new.reading, ap (λ b. game_in_reader_if b new.reading) (same_flag ∙ is));
+        none_just_finished = λ is. ap (λ b. game_in_reader_if b new.reading) (same_flag ∙ is);
+        gains = rw took.whole (gains_more so.gains took.gains);
       }
     where
       hands : (ts : List Token) (b : Bool) → (IsTrue b → IsLast (Some (game_in_reader new.reading)) (read p ts).progress.games) → IsLast (game_in_reader_if b new.reading) (read p ts).progress.games

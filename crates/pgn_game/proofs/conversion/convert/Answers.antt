@@ -1,4 +1,4 @@
-use Rattle.pgn_game.proofs.Words.{refl, ap, ◌∙◌, Ok, err_from_is_err_and, games_of, rules}
+use Rattle.pgn_game.proofs.Words.{refl, ap, ◌∙◌, Ok, err_from_is_err_and, games_of}
 use Rattle.pgn_game.proofs.tokens.WholeInput.{none_read, read_none, games_more, games_end, games_short, games_stop}
 use Rattle.pgn_game.proofs.conversion.convert.Goals as goal
 
@@ -36,7 +36,7 @@ returns-in_err-next_game g c =
           let e = err_from_is_err_and c.from_residual.result c.from_residual.ensures.1 in
           rw (e.1, e.2) (games_stop _ _ _ _ (games_of c.loop.converter c.loop.buffer) _ _ _ so (c.in_err-next_game.ensures.reads _ _ _ so.have_read));
       short = rw e.1 tt;
-      counted = search rules;
+      counted = rw (e.1, e.2, ← c.loop.invariant.source, ← c.loop.invariant.sink) (c.in_err-next_game.ensures.counted c.loop.invariant.fault);
     }
 
 pub returns : goal.returns

@@ -1,4 +1,4 @@
-use Rattle.pgn_game.proofs.Words.{err_from_is_err_and, rules}
+use Rattle.pgn_game.proofs.Words.{err_from_is_err_and}
 use Rattle.pgn_game.proofs.ReaderFitsInMemory.{fits_alike}
 use Rattle.pgn_game.proofs.tokens.WholeInput.{ended}
 use Rattle.pgn_game.proofs.conversion.end.Goals as goal
@@ -8,7 +8,7 @@ returns-in_err-finish g c =
     let e = err_from_is_err_and c.from_residual.result c.from_residual.ensures.1 in
     record {
       ends = rw (e.1, e.2) (λ p u given stands. (c.in_err-finish.ensures.ends p u _ given stands).stops);
-      counted = search rules;
+      counted = rw (e.1, e.2) (c.in_err-finish.ensures.counted c.requires.no_fault);
     }
 
 pub returns : goal.returns
