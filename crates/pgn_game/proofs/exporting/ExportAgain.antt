@@ -1,6 +1,6 @@
 -- An export text is read as its games with their defaults filled in, so it is written again as it
 -- is.
-use Rattle.pgn_game.proofs.Words.{◌≡◌, ℕ, ◌+◌, ◌≤◌, ◌^◌, inl, inr, Bool, true, List, [], ◌∷◌, ◌++◌, length, map, refl, sym, ap, subst, ◌∙◌, arith, length-append, append-nil, Option, None, Some, sum, IfSome, Err, filter, Consumes, length-map, length-filter, count_by-le-length, IsLast, RisesTo, TokensRise, tokens_of, Kind, Token, Fault, Between, Game, Part, Mode, Pair, Profile, Progress, progress_after, read_from, output, verdict, refused as is_refused, totals, refusal, is_end, filled, AreExportable, SameText, counted, IsWrittenAgain, SliceIsKept, SourceIsKept, FixedPoint, ExportIsKept, ExportIsKeptOfSource, games_in, IsExportable, ExportingTwice, SameOutput, FewPairsHaveRoom, plies_of, roster, roster_pairs, with_set_up, exported, Spells, FailsOn, Fails, Totals, text_of_games as text_of, rules, Ok}
+use Rattle.pgn_game.proofs.Words.{◌≡◌, ℕ, ◌+◌, ◌≤◌, ◌^◌, inl, inr, Bool, true, List, [], ◌∷◌, ◌++◌, length, map, refl, sym, ap, subst, ◌∙◌, arith, length-append, append-nil, Option, None, Some, sum, IfSome, Err, filter, Consumes, length-map, length-filter, count_by-le-length, IsLast, RisesTo, TokensRise, tokens_of, Kind, Token, Fault, Between, Game, Part, Mode, Pair, Profile, Progress, progress_after, read_from, output, verdict, refused as is_refused, totals, refusal, is_end, filled, AreExportable, SameText, counted, IsWrittenAgain, SliceIsKept, SourceIsKept, FixedPoint, ExportIsKept, ExportIsKeptOfSource, games_in, IsExportable, ExportingTwice, SameOutput, FewPairsHaveRoom, plies_of, roster, roster_pairs, with_set_up, exported, Spells, FailsOn, Fails, Totals, text_of_games as text_of, rules, Ok, read}
 use Rattle.pgn_game.specs.Conversion as conversion
 use Rattle.pgn_game.proofs.exporting.ExportToGames.{ExportedGames}
 use Rattle.pgn_game.proofs.reading.PairsInTurn.{length-insert}
@@ -70,7 +70,13 @@ source_fails p s gs _ left_old left_new before after ver short left (conversion.
 module _ (unique : UniqueReading) (rise : TokensRise) (exported_games : (p : Profile) (gs : List Game) → AreExportable p gs → ExportedGames p gs) where
   -- the games that the text spells are the only ones
   pub same_text : SameText
-  same_text p gs hs h k = search rules
+  same_text p gs hs h k = (
+    λ e.
+        let one = ((unique p (text_of p gs) _).0 (exported_games p gs h).spells).1 in
+        let other = ((unique p (text_of p hs) _).0 (exported_games p hs k).spells).1 in
+        sym one ∙ ap (λ s. (read p (tokens_of s)).progress.games) e ∙ other,
+    λ e. sym (exported_games p gs h).again ∙ ap (text_of p) e ∙ (exported_games p hs k).again,
+  )
 
   counted_again : (p : Profile) (gs : List Game) → AreExportable p gs → counted (map (filled p.mode) gs) ≡ counted gs
   counted_again p gs h = search (rules, length-map)

@@ -487,15 +487,15 @@ between_text p {ps} name {items} k {ks} {gs} no_pairs none is bare free end afte
 between_step : {p : Profile} {ps : List Pair} (name : List ℕ) {items : List Item} (k : Kind) {ks : List Kind} {gs : List Game} → ps ≡ [] → items ≡ []
     → refusal p (at Between ps name items) k ≡ None → is_end k ≡ false → After p (next (at Between ps name items) k) ks gs → SpellsGames p (k ∷ ks) gs
 unfolding refusal
-between_step name tokens.comment_open no_pairs none free end after = search (rules, games_drop)
-between_step name (tokens.word s) no_pairs none free end after = search (rules, games_drop)
-between_step name tokens.comment_close no_pairs none free end after = search (rules, games_drop)
+between_step name tokens.comment_open no_pairs none free end after = games_drop refl (after (no_pairs, none))
+between_step name (tokens.word s) no_pairs none free end after = games_drop refl (after (no_pairs, none))
+between_step name tokens.comment_close no_pairs none free end after = games_drop refl (after (no_pairs, none))
 between_step {p} {ps} name {items} tokens.left_bracket no_pairs none free end after =
     let t = pair_step p (test_failed _ TooManyTags None (sym (open_between p (at Between ps name items)) ∙ free)) (after none) in
     game_begins no_pairs t.0 (λ e. absurd (t.1 e))
-between_step name tokens.end no_pairs none free end after = absurd (cc)
-between_step name (tokens.refused r) no_pairs none free end after = absurd (cc)
-between_step {p} name k no_pairs none free end after = search (rules, between_text)
+between_step name tokens.end no_pairs none free end after = absurd (false≢true (sym end))
+between_step name (tokens.refused r) no_pairs none free end after = absurd (none-some _ (sym free))
+between_step {p} name k no_pairs none free end after = between_text p name k no_pairs none refl refl free end after
 
 -- one token more, at any stage
 step : (p : Profile) (stage : Stage) (ps : List Pair) (name : List ℕ) (items : List Item) (k : Kind) (ks : List Kind) (gs : List Game) → Fits stage ps items

@@ -1,6 +1,6 @@
 -- The token that finishes a game is its marker, which is the Result of its tag section.
 use Rattle.pgn_lexer.specs.Tokens as tokens
-use Rattle.pgn_game.proofs.Words.{Kind, Token, Reason, Stage, AfterLeftBracket, AfterName, AfterValue, Profile, value_of, Game, Part, ◌≡◌, ℕ, false, List, [], ◌∷◌, ◌++◌, Option, None, Some, refl, codes, unwrap_or, IsTrue, IsFalse, not-false, bytes_eq-Decides, refusal, marker_of, is_comment, result_for, text_refusal, Next, going, whole, next, next_in, in_text, at_stage, progress_with, read, games_read, FinishesGame, EndsByMarker, GamesEndByMarker, rules, MarkerInVariation, ResultDiffers, SetUpWithoutFen, Between, AfterTags, InMovetext, ◌&&◌, not, nat_le, sym, ◌∙◌, ◌==◌, bytes_eq, levels_of_part, lacks_fen, depth}
+use Rattle.pgn_game.proofs.Words.{Kind, Token, Reason, Stage, AfterLeftBracket, AfterName, AfterValue, Profile, value_of, Game, Part, ◌≡◌, ℕ, false, List, [], ◌∷◌, ◌++◌, Option, None, Some, refl, codes, unwrap_or, IsTrue, IsFalse, not-false, bytes_eq-Decides, refusal, marker_of, is_comment, result_for, text_refusal, Next, going, whole, next, next_in, in_text, at_stage, progress_with, read, games_read, FinishesGame, EndsByMarker, GamesEndByMarker, rules, MarkerInVariation, ResultDiffers, SetUpWithoutFen, Between, AfterTags, InMovetext, ◌&&◌, not, nat_le, sym, ◌∙◌, ◌==◌, bytes_eq, levels_of_part, lacks_fen, depth, ap, Read}
 use Rattle.pgn_game.proofs.exporting.PairsExportedAgain.{result_of}
 use Rattle.pgn_game.proofs.pairs.ExportedValues.{exported_known}
 use Rattle.pgn_game.proofs.refusals.RefusalsByStage.{is_textual, is_lexical, after_tags, between, rest_passed, test_failed, text_row}
@@ -97,7 +97,10 @@ module _ (p : Profile) (given : List Token) (marker : Token) (finishes : Finishe
   by_next nx h1 h2 h3 = search (rules, last_is, not_one_more, of_game)
 
   by_test : (o : Option Reason) → refusal p part marker.kind ≡ o → EndsByMarker p given marker finishes.game
-  by_test o h1 = search (rules, before, by_next, none_or_some, read-passes, read-refuses)
+  by_test (Some reason) is =
+      absurd (none_or_some _ (ap (λ (r : Read). r.fault) (read-refuses p given marker [] reason before is)) finishes.passes)
+  by_test None is =
+      by_next (next part marker.kind) is refl (ap (λ (r : Read). r.progress) (read-passes p given marker before is))
 
 pub games_end_by_marker : GamesEndByMarker
 games_end_by_marker p given marker finishes = by_test p given marker finishes (refusal p (read p given).progress.part marker.kind) refl

@@ -2,7 +2,7 @@
 use Rattle.std.proofs.Math.Nat.{le-max_left}
 use Rattle.pgn_lexer.specs.declared.token.TokenKind.TheVariants as token_kinds
 use Rattle.pgn_game.specs.Game.{move}
-use Rattle.pgn_game.proofs.Words.{Parts, Played, Kind, Reason, Stage, Between, AfterTags, InMovetext, Profile, Item, Part, no_part, ◌≡◌, ◌⊎◌, ℕ, max, true, false, ◌||◌, [], ◌∷◌, List, length, drop, Option, None, Some, Bor, Result, Ok, Err, IsFalse, IsTrue, is_some, refl, sym, ap, subst, ◌∙◌, arith, or_parts, Move, legal, Appends-nil, AppendsFront, Device, kind_of, TokenKind, symbol, Accepted, More, Marker, marker_text, move_of, found_in, torn, refusal, is_at, is_comment, is_end, is_number, is_outside_tag_pairs, is_score, marker_of, position_if_move, position_in, Next, going, at_stage, in_text, next, gain, text_next, CostsToFind, Tries, TriesUnwritten, ReaderState, Agrees, Answers, as_written, IsStopped, is_outside_the_table, FinishesAtMarker, IsEntry, IsOpen, may_have_movetext, model_item, text_refusal, with_items, Annotation, CountsMove, EntersMovetext, Finds, FinishesNone, GoesTo, PutResult, PutsItems, Takes, TakesEntry, TakesOutside, TakesToken, TakesUnwritten, at_game_start, counting_probes, unused, rules}
+use Rattle.pgn_game.proofs.Words.{Parts, Played, Kind, Reason, Stage, Between, AfterTags, InMovetext, Profile, Item, Part, no_part, ◌≡◌, ◌⊎◌, ℕ, max, true, false, ◌||◌, [], ◌∷◌, List, length, drop, Option, None, Some, Bor, Result, Ok, Err, IsFalse, IsTrue, is_some, refl, sym, ap, subst, ◌∙◌, arith, or_parts, Move, legal, Appends-nil, AppendsFront, Device, kind_of, TokenKind, symbol, Accepted, More, Marker, marker_text, move_of, found_in, torn, refusal, is_at, is_comment, is_end, is_number, is_outside_tag_pairs, is_score, marker_of, position_if_move, position_in, Next, going, at_stage, in_text, next, gain, text_next, CostsToFind, Tries, TriesUnwritten, ReaderState, Agrees, Answers, as_written, IsStopped, is_outside_the_table, FinishesAtMarker, IsEntry, IsOpen, may_have_movetext, model_item, text_refusal, with_items, Annotation, CountsMove, EntersMovetext, Finds, FinishesNone, GoesTo, PutResult, PutsItems, Takes, TakesEntry, TakesOutside, TakesToken, TakesUnwritten, at_game_start, counting_probes, unused, rules, inl, inr}
 use Rattle.pgn_game.specs.ReaderState as reader_state
 use Rattle.pgn_game.proofs.refusals.RefusalsByStage.{begins_alike, comment_passes, drops_comments, passes_between}
 use Rattle.pgn_game.proofs.refusals.RefusalsInMovetext.{marker_whole, move_free, move_leads, move_refused as move_row_refused, position_is, refused_inside}
@@ -11,6 +11,7 @@ use Rattle.pgn_game.proofs.putting.ItemToReader.{to_items}
 use Rattle.pgn_game.proofs.putting.MarkerToReader.{to_game}
 use Rattle.pgn_game.proofs.putting.PairStepToReader.{puts_nothing}
 use Rattle.pgn_game.proofs.tokens.PairsTriedForToken.{CostsToPut, TriesPut, adds_item, adds_none, adds_same, costs_found, marker_untried, plain_untried, tries_put, untried_in_pair}
+use Rattle.pgn_game.specs.MostTried as most_tried
 
 -- where no pair is tried, the count stays
 pub counting_none : (old : ReaderState) → old ≡ counting_probes old 0
@@ -67,7 +68,8 @@ module _ (old counted new : ReaderState) (part : Part) (k : Kind) (to : Next) (d
   }
 
   unwritten : CostsToPut old.profile part to n more ⊎ ((is_at InMovetext part ≡ false) × (more ≡ n)) → TriesUnwritten old.profile part k more
-  unwritten h1 = search (rules, tries)
+  unwritten (inl costs) = most_tried.at_token (tries costs)
+  unwritten (inr (before, none)) = most_tried.in_section before (subst (CostsToFind part k) (sym none) finds)
 
   answers : (r : Result Accepted Reason) → GoesTo counted part to new r d → TriesPut old.profile part to r n more → Answers old part k new r d.before d.after
   answers (Ok accepted) goes costs = record {
@@ -155,7 +157,8 @@ module _ (p : Profile) (k : TokenKind) (row : refusal p no_pairs (kind_of k) ≡
   tries_alike t = search (rules, finds_alike)
 
   unwritten_alike : {n : ℕ} → TriesUnwritten p no_pairs (kind_of k) n → TriesUnwritten p no_part (kind_of k) n
-  unwritten_alike h1 = search (rules, finds_alike, tries_alike)
+  unwritten_alike (most_tried.at_token t) = most_tried.at_token (tries_alike t)
+  unwritten_alike {n} (most_tried.in_section before finds) = most_tried.in_section refl (finds_alike k n finds)
 
   gain_alike : gain (as_written p) no_pairs (kind_of k) ≡ gain (as_written p) no_part (kind_of k)
   gain_alike = cc
