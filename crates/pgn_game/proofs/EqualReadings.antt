@@ -42,7 +42,6 @@ same_place n = elim (eqb_tells n n) [ inl h ↦ h.0 | inr h ↦ absurd (h.1 refl
 same_mark : (g : Game) (t : Token) → is_other (record { text = g.marker; at = t.at }) (whole g) t ≡ false
 same_mark g t = grind (arith, bytes_eq-Decides, same_place)
 
--- behind the last mark nothing is read
 pub no_mark : (p : Profile) (b : Progress) (ts : List Token) → compared_from p [] b ts ≡ record { progress = b; marks_left = []; fault = None }
 no_mark p b [] = refl
 no_mark p b (t ∷ ts) = refl
@@ -77,7 +76,6 @@ module _ (P : Comparison → Type 0) (sees : SeesGames P) (p : Profile) (b : Pro
   pub same_token : P (compared_from p (marks_from p b (t ∷ ts)) b (t ∷ us))
   same_token = rw (marks_test p b t ts ∙ ap (after_marks p b t ts) free) (by_next (next b.part t.kind) refl)
 
--- a token that both readings have and that is rejected
 pub rejected_token : (p : Profile) (b : Progress) (t : Token) (ts us : List Token) {reason : Reason} → refusal p b.part t.kind ≡ Some reason
     → compared_from p (marks_from p b (t ∷ ts)) b (t ∷ us) ≡ record { progress = b; marks_left = []; fault = None }
 rejected_token p b t ts us is = cc

@@ -40,8 +40,7 @@ module _ (p : Profile) (takes : p.missing_result ≡ takes_the_marker) where
       → (marks_from p (progress_with b.games n) ts ≡ m ∷ ms → Ahead (progress_with b.games n) m (read_from p (progress_with b.games n) ts))
       → Ahead b m (read_from p (progress_with b.games n) ts)
   torn_at_mark b t ts m (going part) leads is further =
-      also _ _ _ (behind (text_of p b.games) _ _ (rw leads at (next_grows (with_mark p m) b.part t.kind)))
-      (further is)
+      also _ _ _ (behind (text_of p b.games) _ _ (rw leads at (next_grows (with_mark p m) b.part t.kind))) (further is)
   torn_at_mark b t ts m (whole g) leads is further =
       let c : Progress = progress_with b.games (whole g) in
       let same : m ≡ record { text = g.marker; at = t.at } = cc in
@@ -54,8 +53,7 @@ module _ (p : Profile) (takes : p.missing_result ≡ takes_the_marker) where
   torn_ahead : (b : Progress) (ts : List Token) (m : Mark) (ms : List Mark) → marks_from p b ts ≡ m ∷ ms → Ahead b m (read_from p b ts)
   torn_ahead b [] m ms is = absurd (cc)
   torn_ahead b (t ∷ ts) m ms is =
-      by_token p b t ts (Ahead b m)
-      (λ reason rejects. let none : marks_from p b (t ∷ ts) ≡ [] = cc in absurd (cc))
+      by_token p b t ts (Ahead b m) (λ reason rejects. let none : marks_from p b (t ∷ ts) ≡ [] = cc in absurd (cc))
       (λ free.
       torn_at_mark b t ts m (next b.part t.kind) refl (sym (marks_test p b t ts ∙ ap (after_marks p b t ts) free) ∙ is)
       (torn_ahead (progress_after b t) ts m ms))
@@ -100,11 +98,7 @@ module _ (p : Profile) (takes : p.missing_result ≡ takes_the_marker) where
   pub second_stops : (us more : List Token) → Ends (us ++ more) → AreWrittenWithin p (compared p (us ++ more) us) (due p us) (due p (us ++ more))
   second_stops us more last =
       let so = compared_within no_progress us more last in
-      record {
-        fault = so.fault;
-        least = search (rules, whole_games);
-        most = so.most;
-      }
+      record { fault = so.fault; least = search (rules, whole_games); most = so.most }
 
   -- The same where `first` has given the tokens ts, of which a mark is ahead.
   pub before_mark : (us more ts rest : List Token) {m : Mark} {ms : List Mark} → Ends (us ++ more) → us ++ more ≡ ts ++ rest → (compared p ts us).marks_left ≡ m ∷ ms

@@ -18,8 +18,7 @@ passing_last p part k h1 h2 = search rules
 
 ends_between : (p : Profile) (b : Progress) (ts : List Token) → RisesTo ts → (read_from p b ts).fault ≡ None → (read_from p b ts).progress.part.stage ≡ Between
 ends_between p b [] rises e = absurd rises
-ends_between p b (t ∷ []) rises e =
-    search (rules, end_passes, first_passes, goes_on, passing_last)
+ends_between p b (t ∷ []) rises e = search (rules, end_passes, first_passes, goes_on, passing_last)
 ends_between p b (t ∷ u ∷ us) rises e =
     let here = goes_on p b t (u ∷ us) (first_passes p b t (u ∷ us) e) in
     rw here (ends_between p (progress_after b t) (u ∷ us) rises.2 (rw here at e))
@@ -32,7 +31,6 @@ module _ (unique : UniqueReading) (rise : TokensRise) where
   pub verdict_is : (p : Profile) (s : List ℕ) (gs : List Game) → Spells p (tokens_of s) gs → verdict p s ≡ totals (counted gs)
   verdict_is p s gs spelled = search (rules, verdict_passes)
 
--- What a conversion of a text without a fault does.
 no_fault : (p : Profile) (s : List ℕ) (gs : List Game) (f : Fault) → verdict p s ≡ totals (counted gs) → verdict p s ≡ is_refused f → ⊥
 no_fault p s gs f e h = cc
 
@@ -66,7 +64,6 @@ source_fails p s gs _ left_old left_new before after ver short left (conversion.
 source_fails p s gs _ left_old left_new before after ver short left (conversion.Fails.too_long u rest consumed long some none) =
     absurd (let fits = consumed_fits left_old left_new s (u ++ rest) left consumed in omega (arith, length-append u rest))
 
--- The laws.
 module _ (unique : UniqueReading) (rise : TokensRise) (exported_games : (p : Profile) (gs : List Game) → AreExportable p gs → ExportedGames p gs) where
   -- the games that the text spells are the only ones
   pub same_text : SameText
@@ -125,7 +122,6 @@ module _ (unique : UniqueReading) (rise : TokensRise) where
   pub same_output : SameText → SameOutput
   same_output same p s t h k = search (rules, exportable, output_of)
 
--- Room for tag lines.
 filter_shortens : (f : Pair → Bool) (ps : List Pair) → length (filter f ps) ≤ length ps
 filter_shortens f ps = omega (arith, length-filter f ps, count_by-le-length f ps)
 

@@ -11,7 +11,6 @@ use Rattle.pgn_game.proofs.exporting.PiecesToTokens.{AllShown, none_shown, next_
 use Rattle.pgn_game.proofs.reading.RunsToEnd.{kinds}
 use Rattle.pgn_game.proofs.exporting.SpelledToSound.{SoundGame, sound_game, marker_opens, marker_closed, marker_written, marker_writable}
 
--- The text of one game.
 pub record WrittenGame (p : Profile) (g : Game) : Type 0 where
   pub kinds : List Kind
   pub spells : SpellsGame p kinds (filled p.mode g)
@@ -37,8 +36,7 @@ with_feed {ks} a = with_kinds (append-nil ks) (both_pieces a line_feed)
 
 -- the pieces of a tag section, of lines and of the empty line
 section_pieces : {tags text : List Kind} {a b : List ℕ} → PiecesOf tags a → PiecesOf text b → PiecesOf (tags ++ text) ((a ++ 10 ∷ []) ++ b ++ 10 ∷ [])
-section_pieces h k =
-    with_feed (both_pieces (with_feed h) k)
+section_pieces h k = with_feed (both_pieces (with_feed h) k)
 
 -- What is shown of exportable games: their text spells them again, it is their text again, and they
 -- have as many plies.
@@ -58,11 +56,8 @@ module _ (one_read : TheOneMoveIsRead) (leaves : LeavesPosition) (is_symbol : Wr
       let text = k.kinds ++ h.last ∷ [] in
       at_text
       (ap (λ ps. (tag_lines ps ++ 10 ∷ []) ++ lines ++ 10 ∷ []) (sym (exported_result _ p.missing_result _ _ h.result)))
-      (section_pieces (tag_pieces _ e.sound)
-      (line_pieces
-      (shown-append k.shown (marker_shown _ h.marker))
-      (All-append _ k.kinds _ k.writable (marker_writable _ h.marker h.sound_marker, tt))
-      (lines_keep _)))
+      (section_pieces (tag_pieces _ e.sound) (line_pieces (shown-append k.shown (marker_shown _ h.marker))
+      (All-append _ k.kinds _ k.writable (marker_writable _ h.marker h.sound_marker, tt)) (lines_keep _)))
 
   result_meets : (p : Profile) (g : Game) → SoundGame p g → ExportedPairs p g
       → IsResult p.missing_result (value_of (by_name (exported_pairs p.mode g)) (codes "Result")) g.marker
@@ -88,8 +83,7 @@ module _ (one_read : TheOneMoveIsRead) (leaves : LeavesPosition) (is_symbol : Wr
     sorted = refl;
     set_up = is_set_up_again p.mode g.marker g.pairs (by_name (exported_pairs _ g)) h.set_up e.same;
     bare = search (rules, some_exported);
-    items =
-        rw (same_start p g e) k.spells;
+    items = rw (same_start p g e) k.spells;
     marker = h.marker;
     result = result_meets p g h e;
   }
@@ -97,8 +91,7 @@ module _ (one_read : TheOneMoveIsRead) (leaves : LeavesPosition) (is_symbol : Wr
   game_closed : {p : Profile} (g : Game) (h : SoundGame p g) (k : KeptText p.mode p (start_of g.pairs) h.text g.items) (more : List Kind) → CommentsClose false more
       → CommentsClose false ((tag_kinds (exported_pairs p.mode g) ++ (k.kinds ++ h.last ∷ [])) ++ more)
   game_closed g h k more closes =
-      simp append_assoc
-      (tags_close (exported_pairs _ g) (k.kinds ++ h.last ∷ more)
+      simp append_assoc (tags_close (exported_pairs _ g) (k.kinds ++ h.last ∷ more)
       (k.closes (h.last ∷ h.later) _ (λ d c. marker_opens _ d _ more h.marker c closes)
       (marker_closed _ more h.marker closes) h.closes))
 
@@ -119,7 +112,6 @@ module _ (one_read : TheOneMoveIsRead) (leaves : LeavesPosition) (is_symbol : Wr
         plies = cc;
       }
 
-  -- Games, one after another.
   pub record WrittenGames (p : Profile) (gs : List Game) : Type 0 where
     pub kinds : List Kind
     pub spells : SpellsGames p (kinds ++ tokens.end ∷ []) (map (filled p.mode) gs)

@@ -44,14 +44,9 @@ unknown_pair {name} is = record { name = is; value = data_of refl (omega arith) 
 
 sound_roster : (m : List ℕ) → is_result m ≡ true → AllByRecursion IsSoundPair (roster m)
 sound_roster m is =
-    on_roster _ m (unknown_pair (symbol_of refl refl (omega arith)))
-    (unknown_pair (symbol_of refl refl (omega arith)))
-    (record {
-      name = search (rules, symbol_of);
-      value = data_of refl (omega arith);
-    })
-    (unknown_pair (symbol_of refl refl (omega arith)))
-    (unknown_pair (symbol_of refl refl (omega arith)))
+    on_roster _ m (unknown_pair (symbol_of refl refl (omega arith))) (unknown_pair (symbol_of refl refl (omega arith)))
+    (record { name = search (rules, symbol_of); value = data_of refl (omega arith) })
+    (unknown_pair (symbol_of refl refl (omega arith))) (unknown_pair (symbol_of refl refl (omega arith)))
     (unknown_pair (symbol_of refl refl (omega arith)))
     (record { name = search (rules, symbol_of); value = let marker = result_marker m is in rw marker.1 (marker_data marker.0) })
 
@@ -63,7 +58,6 @@ unfolding roster
 some_exported Full m ps e = cc
 some_exported Reduced m ps e = cc
 
--- Where a game begins is a position.
 first_is_position : IsTrue (is_position first_position)
 unfolding first_position squares
 first_is_position = refl
@@ -76,7 +70,6 @@ module _ (reads_fen : ReadingIsSpelling) where
   pub start_is_position : (mode : Mode) (ps : List Pair) → AllByRecursion (IsPair mode) ps → IsTrue (is_position (start_of ps))
   start_is_position mode ps each = grind (arith, found, first_is_position, fen_is_position)
 
--- What is known of the pairs.
 pub record ExportedPairs (p : Profile) (g : Game) : Type 0 where
   pub keeps : KeepsTags p (exported_pairs p.mode g)
   pub sound : AllByRecursion IsSoundPair (exported_pairs p.mode g)

@@ -51,6 +51,5 @@ pub result_of : (p : Profile) (part : Part) (k : Kind) (marker : List ℕ) → m
 result_of p part k marker is free =
     result_is _ _ marker (sym (ap (other_if p.missing_result part.pairs) is) ∙ not_other p part k is free)
 
--- each marker is one of the four
 pub one_of_four : (k : Kind) (text : List ℕ) → marker_of k ≡ Some text → (m : Marker) × (marker_of k ≡ Some (marker_text m))
 one_of_four k text is = grind (arith, score_of, score_marker)

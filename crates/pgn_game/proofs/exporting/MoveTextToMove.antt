@@ -59,7 +59,6 @@ module _ (one_read : TheOneMoveIsRead) (leaves : LeavesPosition) (is_symbol : Wr
       let is_legal = named_is_legal one_read at s x names.one in
       (rw (ap (λ o. unwrap_or o at) is_legal) (leaves at x.next x.mv (last_position first trail h) is_legal), h)
 
-  -- the text that is written for it
   pub move_symbol : (at : Parts) {s : List ℕ} (x : Played) → Names at s x → IsMoveSymbol (text_of_move at x.mv)
   unfolding text_of_move
   move_symbol at x names = search (rules, named_is_legal)
@@ -81,7 +80,6 @@ module _ (one_read : TheOneMoveIsRead) (leaves : LeavesPosition) (is_symbol : Wr
         within = names.within;
       }
 
-  -- its number
   number_is_symbol : (at : Parts) → IsTrue (is_position at) → IsSymbol (decimal at.full) × IsTrue (is_number (decimal at.full))
   number_is_symbol at h = let fits = full_fits at h in let small : at.full < 2 ^ 64 = omega arith in numbers _ small
 
@@ -96,11 +94,9 @@ module _ (one_read : TheOneMoveIsRead) (leaves : LeavesPosition) (is_symbol : Wr
   pub number_spells : {p : Profile} {first : Parts} (at : Parts) {deep : ℕ} (l : Level) (b is_black : Bool) {ks : List Kind} {items : List Item} → IsTrue (is_position at)
       → SpellsText p first deep l ks items → SpellsText p first deep l (number_kinds b is_black at.full ++ ks) items
   number_spells at {deep} l b false {ks} {items} h text =
-      token deep l _ _ [] items (number _ (number_is_symbol at h).1)
-      (token deep l _ ks [] items period text)
+      token deep l _ _ [] items (number _ (number_is_symbol at h).1) (token deep l _ ks [] items period text)
   number_spells at {deep} l false true {ks} {items} h text =
-      token deep l _ _ [] items (number _ (number_is_symbol at h).1)
-      (token deep l _ _ [] items period
+      token deep l _ _ [] items (number _ (number_is_symbol at h).1) (token deep l _ _ [] items period
       (token deep l _ _ [] items period (token deep l _ ks [] items period text)))
   number_spells at l true true h text = text
 

@@ -23,8 +23,7 @@ none_main {first} (variation deep l ks ls items more holds room inner rest) m ar
     ap (filter is_main_move) (placed_variation deep l more inner _)
     ∙ filter-append is_main_move (placed_from first at items) (close_at first end ∷ placed_from first (level_in l _) more)
     ∙ ap (λ xs. xs ++ filter is_main_move (placed_from first (level_in l (m ∷ around)) more))
-    (none_main inner l (m ∷ around))
-    ∙ none_main rest m around
+    (none_main inner l (m ∷ around)) ∙ none_main rest m around
 
 -- The moves outside variations.
 abbrev placed_main : Parts → Level → List Item → List Placed
@@ -78,11 +77,9 @@ main {first} (move deep l s x ks items names rest) sound =
       levels = r.levels;
     }
 main (variation deep l ks ls items more holds room inner rest) sound =
-    main_same more
-    (main_variation deep l more inner) (levels_variation deep l more inner)
+    main_same more (main_variation deep l more inner) (levels_variation deep l more inner)
     (main rest (all_behind IsSoundKind ks (tokens.right_paren ∷ ls) sound.1).1)
 
--- What is kept of items, in either mode.
 abbrev pub kept : Mode → Parts → List Item → List Item
 kept mode first items = map (λ i. i.item) (written_items mode (placed_from first first_level items))
 
@@ -134,7 +131,6 @@ module _ (one_read : TheOneMoveIsRead) (leaves : LeavesPosition) (is_symbol : Wr
         shown = subst (AllShown _) (ap (tokens_from false) m.placed) r.shown;
         writable = r.writable;
         closes = λ more then f h k. r.closes false then then (λ d x. x) (m.closes then h);
-        again =
-            cc (m.placed, filter_again (placed_from first _ items));
+        again = cc (m.placed, filter_again (placed_from first _ items));
         moves = ap (λ ls. (outermost ls.present ls.around).trail) m.levels;
       }

@@ -30,11 +30,9 @@ around_again (variation deep l ks ls items more holds room inner rest) {around} 
     ap (λ x. x.around) (fold-append _ at items _)
     ∙ ap (λ x. (fold levels_after (back_to x (fold levels_after at items)) more).around) (around_again inner) ∙ around_again rest
 
--- the end of a variation
 abbrev pub close_at : Parts → Levels → Placed
 close_at first end = record { position = here first end; depth = depth end; item = games.close_variation }
 
--- the items of a variation, and behind it
 pub placed_variation : {p : Profile} {first : Parts} (deep : ℕ) (l : Level) {ks : List Kind} {items : List Item} (more : List Item)
     → SpellsText p first (deep + 1) (new_level (without_last l.trail)) ks items → (around : List Level)
     → placed_from first (level_in (new_level (without_last l.trail)) (l ∷ around)) (items ++ games.close_variation ∷ more)
@@ -99,7 +97,6 @@ written_again {deep} {l} {k} {item} {items} {ts} stands writable r = record {
   closes = λ c more then f h. passes k c _ _ (λ d. r.closes d more then f) h;
 }
 
--- A variation.
 variation_closes : (js ks ls ms : List Kind) → InPlaceOf js ks → InPlaceOf ms ls
     → InPlaceOf (tokens.left_paren ∷ (js ++ tokens.right_paren ∷ ms)) (tokens.left_paren ∷ (ks ++ tokens.right_paren ∷ ls))
 variation_closes js ks ls ms inner rest true more then f h = absurd h
@@ -119,15 +116,11 @@ variation_again : {p : Profile} {first : Parts} {deep : ℕ} (l : Level) {ks ls 
 variation_again {deep} l {ks} {ls} {items} more us holds room a b = record {
   kinds = tokens.left_paren ∷ (a.kinds ++ tokens.right_paren ∷ b.kinds);
   spells = variation deep l _ _ items more holds room a.spells b.spells;
-  shown =
-      next_shown _ _ _ _ (single _)
-      (shown-append a.shown
-      (next_shown _ _ _ us (single _) b.shown));
+  shown = next_shown _ _ _ _ (single _) (shown-append a.shown (next_shown _ _ _ us (single _) b.shown));
   writable = search (rules, All-append, IsWritable);
   closes = search (rules, variation_closes);
 }
 
--- its tokens
 tokens_of_variation : {p : Profile} {first : Parts} (deep : ℕ) (l : Level) {ks : List Kind} {items : List Item} (more : List Item)
     → SpellsText p first (deep + 1) (new_level (without_last l.trail)) ks items → (around : List Level) (b : Bool)
     → tokens_from b (placed_from first (level_in l around) (games.open_variation ∷ (items ++ games.close_variation ∷ more)))
@@ -136,7 +129,6 @@ tokens_of_variation : {p : Profile} {first : Parts} (deep : ℕ) (l : Level) {ks
 tokens_of_variation deep l more inner around b = grind (arith, tokens_from-append, placed_variation)
 
 module _ (one_read : TheOneMoveIsRead) (leaves : LeavesPosition) (is_symbol : WrittenMoveIsSymbol) (is_read : WrittenMoveIsRead) (numbers : NumbersAreSymbols) where
-  -- A move, with its number.
   move_again : (p : Profile) {first : Parts} {deep : ℕ} (l : Level) (s : List ℕ) (x : Played) {ks : List Kind} {items : List Item} (ts : List (List ℕ)) (b : Bool)
       → Names (replayed first l.trail) s x → ArePositions first l.trail → Rewritten p first deep (level_after_move x.mv l.trail) ks items ts
       → Rewritten p first deep l (tokens.symbol s ∷ ks) (games.move x.mv ∷ items) (tokens_at b (replayed first l.trail) (games.move x.mv) ++ ts)
@@ -150,11 +142,9 @@ module _ (one_read : TheOneMoveIsRead) (leaves : LeavesPosition) (is_symbol : Wr
         spells =
             number_spells one_read leaves is_symbol is_read numbers at l b is_black here
             (move deep l text x r.kinds items (names_again one_read leaves is_symbol is_read numbers at s x here names) r.spells);
-        shown =
-            (rw (append_assoc _ _ ts) (number_shown one_read leaves is_symbol is_read numbers b is_black at.full
+        shown = (rw (append_assoc _ _ ts) (number_shown one_read leaves is_symbol is_read numbers b is_black at.full
             (next_shown _ _ text ts (single _) r.shown)));
-        writable =
-            search (rules, All-append, IsWritable, number_kinds, number_writable, writable_move);
+        writable = search (rules, All-append, IsWritable, number_kinds, number_writable, writable_move);
         closes = closes r b is_black at.full text;
       }
     where
@@ -165,38 +155,28 @@ module _ (one_read : TheOneMoveIsRead) (leaves : LeavesPosition) (is_symbol : Wr
           let kinds = number_kinds one_read leaves is_symbol is_read numbers b is_black n in
           rw (append_assoc kinds (tokens.symbol text ∷ r.kinds) then) (number_closes one_read leaves is_symbol is_read numbers b is_black n (tokens.symbol text ∷ (r.kinds ++ then)) (r.closes false more then f h))
 
-  -- All movetext.
   pub rewritten : {p : Profile} {first : Parts} {deep : ℕ} {l : Level} {ks : List Kind} {items : List Item} → SpellsText p first deep l ks items
       → ArePositions first l.trail → AllByRecursion IsSoundKind ks → (around : List Level) (b : Bool)
       → Rewritten p first deep l ks items (tokens_from b (placed_from first (level_in l around) items))
   rewritten (no_more deep l) h sound around b =
       record { kinds = []; spells = no_more deep l; shown = none_shown; writable = tt; closes = λ c more then f k. f c k }
   rewritten (token deep l _ ks _ items (number s is) rest) h sound around b =
-      left_out (no_comment (tokens.symbol s) tt refl)
-      (rewritten rest h sound.1 around b)
+      left_out (no_comment (tokens.symbol s) tt refl) (rewritten rest h sound.1 around b)
   rewritten (token deep l _ ks _ items period rest) h sound around b =
-      left_out (no_comment tokens.period tt refl)
-      (rewritten rest h sound.1 around b)
+      left_out (no_comment tokens.period tt refl) (rewritten rest h sound.1 around b)
   rewritten (token deep l _ ks _ items (glyph n) rest) h sound around b =
-      written_again (glyph n) sound.0
-      (rewritten rest h sound.1 around false)
+      written_again (glyph n) sound.0 (rewritten rest h sound.1 around false)
   rewritten (token deep l _ ks _ items comment_open rest) h sound around b =
-      written_again comment_open tt
-      (rewritten rest h sound.1 around false)
+      written_again comment_open tt (rewritten rest h sound.1 around false)
   rewritten (token deep l _ ks _ items (word s) rest) h sound around b =
-      written_again (word s) sound.0
-      (rewritten rest h sound.1 around false)
+      written_again (word s) sound.0 (rewritten rest h sound.1 around false)
   rewritten (token deep l _ ks _ items comment_close rest) h sound around b =
-      written_again comment_close tt
-      (rewritten rest h sound.1 around false)
+      written_again comment_close tt (rewritten rest h sound.1 around false)
   rewritten {p} {first} (move deep l s x ks items names rest) h sound around b =
       move_again p l s x _ b names h
       (rewritten rest (plays_on one_read leaves is_symbol is_read numbers first _ s x names h) sound.1 around true)
   rewritten {p} {first} (variation deep l ks ls items more holds room inner rest) h sound around b =
       let sound_in = all_front IsSoundKind ks (tokens.right_paren ∷ ls) sound.1 in
-      subst
-      (Rewritten p first deep l _ _)
-      (sym (tokens_of_variation deep l more inner around b))
-      (variation_again l more _ holds room
-      (rewritten inner (earlier_positions first _ h) sound_in _ false)
+      subst (Rewritten p first deep l _ _) (sym (tokens_of_variation deep l more inner around b))
+      (variation_again l more _ holds room (rewritten inner (earlier_positions first _ h) sound_in _ false)
       (rewritten rest h (all_behind IsSoundKind ks (tokens.right_paren ∷ ls) sound.1).1 around false))

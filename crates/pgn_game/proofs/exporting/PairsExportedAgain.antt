@@ -13,7 +13,6 @@ order_set_up ps h = search (rules, without_set_up, set_up, set_up_if, set_up_gon
 order_others : (ps : List Pair) → InOrder ps → InOrder (other_pairs (with_set_up ps))
 order_others ps h = order-filter (λ p. not _) (with_set_up ps) (order_set_up ps h)
 
--- Exporting again.
 abbrev Same_values : Mode → List ℕ → List Pair → List Pair → Type 0
 Same_values mode m ps fs = (n : List ℕ) → value_of fs n ≡ value_of (exported mode m ps) n
 
@@ -108,7 +107,6 @@ each_of_roster mode m e = search (rules, on_roster, plain_pair, result_pair)
 each_exported : (mode : Mode) (m : List ℕ) (ps : List Pair) → is_result m ≡ true → AllByRecursion (IsPair mode) ps → AllByRecursion (IsPair mode) (exported mode m ps)
 each_exported mode m ps e h = search (rules, all-exported, plain_pair, each_of_roster)
 
--- no name is exported twice
 roster_distinct : (m : List ℕ) (ps others : List Pair) → ((n : List ℕ) → in_roster n ≡ true → IsFalse (has_pair others n)) → AreDistinct others
     → AreDistinct (roster_pairs m ps ++ others)
 unfolding roster

@@ -77,8 +77,7 @@ shown_pieces b (white n) h gap = record {
   ended = λ more rest. (refl, (tt, rest));
 }
 shown_pieces b (black n) h gap = record {
-  pieces =
-      written.token _ ∷ written.token _ ∷ written.token _ ∷ written.token _ ∷ written.space b ∷ [];
+  pieces = written.token _ ∷ written.token _ ∷ written.token _ ∷ written.token _ ∷ written.space b ∷ [];
   text = search (rules, append_assoc);
   kinds = refl;
   sound = search (rules, gap_is_space);
@@ -91,8 +90,7 @@ at_text e a = record { pieces = a.pieces; text = cc; kinds = a.kinds; sound = a.
 pub line_pieces : {ks : List Kind} {ts : List (List ℕ)} {s : List ℕ} → AllShown ks ts → AllByRecursion IsWritable ks → IsTextOf ts s → PiecesOf ks s
 line_pieces none_shown h no_token = no_pieces
 line_pieces (next_shown ks ls _ _ first rest) h (next_token t b ts s gap more) =
-    at_text (append_assoc t _ s)
-    (both_pieces (shown_pieces b first (all_front _ ks ls h) gap)
+    at_text (append_assoc t _ s) (both_pieces (shown_pieces b first (all_front _ ks ls h) gap)
     (line_pieces rest (all_behind _ ks ls h) more))
 
 -- Tag lines.
@@ -124,11 +122,8 @@ one_tag q h = record {
 
 pub tag_pieces : (qs : List Pair) → AllByRecursion IsSoundPair qs → PiecesOf (tag_kinds qs) (tag_lines qs)
 tag_pieces [] h = no_pieces
-tag_pieces (q ∷ qs) h =
-    both_pieces
-    (one_tag q h.0) (tag_pieces qs h.1)
+tag_pieces (q ∷ qs) h = both_pieces (one_tag q h.0) (tag_pieces qs h.1)
 
--- they spell the pairs
 pub tags_spell : (qs : List Pair) → SpellsPairs (tag_kinds qs) qs
 tags_spell [] = no_pair
 tags_spell (q ∷ qs) =

@@ -70,20 +70,16 @@ item_goes_on _ = tt
 text_goes_on : {p : Profile} {first : Parts} {deep : ℕ} {l : Level} {ks : List Kind} {items : List Item}
     → SpellsText p first deep l ks items → AllByRecursion GoesOn ks
 text_goes_on (no_more deep l) = tt
-text_goes_on (token deep l k ks item items stands rest) =
-    (item_goes_on stands, text_goes_on rest)
+text_goes_on (token deep l k ks item items stands rest) = (item_goes_on stands, text_goes_on rest)
 text_goes_on (move deep l s x ks items names rest) = (tt, text_goes_on rest)
 text_goes_on (variation deep l ks js items more holds room inner rest) =
-    let all = All-append GoesOn ks _ (text_goes_on inner)
-    (tt, text_goes_on rest) in (tt, all)
+    let all = All-append GoesOn ks _ (text_goes_on inner) (tt, text_goes_on rest) in (tt, all)
 
--- a marker is no comment
 marker_goes_on : (k : Kind) {marker : List ℕ} → marker_of k ≡ Some marker → GoesOn k × (is_comment k ≡ false)
 marker_goes_on k is = grind arith
 
 marker_plain : (k : Kind) {marker : List ℕ} (c : Bool) (ks : List Kind) → marker_of k ≡ Some marker
-    → CommentsClose c (k ∷ ks)
-    → (c ≡ false) × CommentsClose false ks
+    → CommentsClose c (k ∷ ks) → (c ≡ false) × CommentsClose false ks
 marker_plain k c ks is h = let on = marker_goes_on k is in plain k c ks on.0 on.1 h
 
 pub marker_closed : (k : Kind) {marker : List ℕ} (ks : List Kind) → marker_of k ≡ Some marker → CommentsClose false ks
@@ -91,8 +87,7 @@ pub marker_closed : (k : Kind) {marker : List ℕ} (ks : List Kind) → marker_o
 marker_closed k ks is h = search rules
 
 pub marker_opens : (k : Kind) {marker : List ℕ} (c : Bool) (ks ls : List Kind) → marker_of k ≡ Some marker → CommentsClose c (k ∷ ks) → CommentsClose false ls → CommentsClose c (k ∷ ls)
-marker_opens k c ks ls is h more =
-    rw ((marker_plain k c ks is h).0) (marker_closed k ls is more)
+marker_opens k c ks ls is h more = rw ((marker_plain k c ks is h).0) (marker_closed k ls is more)
 
 -- no comment is open where movetext begins
 bare_text : (ks : List Kind) (c : Bool) (k : Kind) {marker : List ℕ} (ls : List Kind) → AllByRecursion GoesOn ks
@@ -107,7 +102,6 @@ before_text text c k ls no_pair bare on is h = search (rules, bare_text)
 before_text text c k ls (next_pair ks js q qs one rest) bare on is h =
     search (rules, append_assoc, behind_pair, behind_pairs)
 
--- Pairs that sound tokens spell.
 sound_pair : {ks : List Kind} {q : Pair} → SpellsPair ks q → AllByRecursion IsSoundKind ks → IsSoundPair q
 sound_pair h2 sound = search (rules, all_behind)
 
@@ -126,7 +120,6 @@ marker_written k is = grind (arith, score_of)
 pub marker_writable : (k : Kind) {marker : List ℕ} → marker_of k ≡ Some marker → IsSoundKind k → IsWritable k
 marker_writable k is sound = search rules
 
--- A game that is read of sound tokens.
 pub record SoundGame (p : Profile) (g : Game) : Type 0 where
   pub given : List Pair
   pub text : List Kind

@@ -3,7 +3,6 @@ use Rattle.pgn_game.proofs.Words.{◌≡◌, ℕ, ◌+◌, length, Bool, true, f
 use Rattle.pgn_game.proofs.putting.WritesInTurn.{within_at}
 use Rattle.pgn_game.proofs.pairs.ValuesByName.{bytes_eq-true, bytes_eq-sym, pick, value_of-cons, value_of-append, value_of-kept, value_of-put, has-cons, no_value, either_of, either_none, found, all-insert}
 
--- the value with a default, of a pair of the roster
 abbrev pub with_default : List Pair → Pair → Pair
 with_default ps d = record { name = d.name; value = unwrap_or (value_of ps d.name) d.value }
 
@@ -16,7 +15,6 @@ abbrev defaulted : Option (List ℕ) → Option (List ℕ) → Option (List ℕ)
 defaulted value None = None
 defaulted value (Some unknown) = Some (unwrap_or value unknown)
 
--- the search for a name at a place
 pub value_of-at : (ps : List Pair) (i : ℕ) (p : Pair) (name : List ℕ) {b : Bool} → slice_get ps i ≡ Some p → b ≡ bytes_eq name p.name
     → value_of (drop i ps) name ≡ pick b p.value (value_of (drop (i + 1) ps) name)
 value_of-at ps i p name e is =
@@ -117,8 +115,7 @@ exported_known Reduced m ps n e = reduced_value m ps n e
 
 pub exported_other : (m : List ℕ) (ps : List Pair) (n : List ℕ) → in_roster n ≡ false
     → value_of (exported Full m ps) n ≡ value_of (with_set_up ps) n
-exported_other m ps n e =
-    cc (full_value m ps n (not_of_roster m n e), other_value ps n)
+exported_other m ps n e = cc (full_value m ps n (not_of_roster m n e), other_value ps n)
 
 -- and it has none in reduced mode, where the roster has it not
 pub exported_none : (m : List ℕ) (ps : List Pair) (n : List ℕ) → value_of (roster m) n ≡ None
@@ -129,7 +126,6 @@ pub no_set_up_of : (m : List ℕ) → value_of (roster m) (codes "SetUp") ≡ No
 unfolding roster
 no_set_up_of m = refl
 
--- SetUp is not of the roster
 other_than_set_up : (m name : List ℕ) {unknown : List ℕ} (b : Bool) → value_of (roster m) name ≡ Some unknown
     → bytes_eq name (codes "SetUp") ≡ b → b ≡ false
 other_than_set_up m name b h1 h2 = search (rules, bytes_eq-true, no_set_up_of)

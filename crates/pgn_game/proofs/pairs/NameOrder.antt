@@ -13,8 +13,7 @@ by_byte : (x y : ℕ) (rest : Bool) → x < y → goes_first x y rest ≡ true
 by_byte x y rest h = cc (lt-ltb x y h)
 
 by_rest : (x y : ℕ) {rest : Bool} → x ≡ y → rest ≡ true → goes_first x y rest ≡ true
-by_rest x y e f =
-    cc (le-ltb x y (omega arith), eq-eqb x y e)
+by_rest x y e f = cc (le-ltb x y (omega arith), eq-eqb x y e)
 
 never_itself : (a : List ℕ) → comes_before a a ≡ true → ⊥
 never_itself [] e = cc
@@ -37,7 +36,6 @@ before-trans (x ∷ xs) (y ∷ ys) (z ∷ zs) e f =
     by_cases rest (inr h) (inl k) = let e = h.0 in by_byte x z (comes_before xs zs) (omega arith)
     by_cases rest (inr h) (inr k) = by_rest x z (h.0 ∙ k.0) (rest h.1 k.1)
 
--- any two names come one before the other, or are the same
 abbrev Comparable : List ℕ → List ℕ → Type 0
 Comparable a b = (comes_before a b ≡ true) ⊎ ((a ≡ b) ⊎ (comes_before b a ≡ true))
 
@@ -89,7 +87,6 @@ order-filter f (q ∷ qs) h =
     let more = order-filter f qs h.1 in
     elim (f q) as (λ b. InOrder (cond b (q ∷ filter f qs) (filter f qs))) [ true ↦ (all_kept_by f _ qs h.0, more) | false ↦ more ]
 
--- a name before all others is none of them
 other_name : (name next : List ℕ) → comes_before name next ≡ true → (b : Bool) → bytes_eq next name ≡ b → b ≡ false
 other_name name next h1 b h2 = search (rules, bytes_eq-true, never_itself)
 
@@ -98,7 +95,6 @@ absent name [] h = refl
 absent name (q ∷ qs) h =
     cc (value_of-cons q qs name, other_name name q.name h.0 (bytes_eq q.name name) refl, absent name qs h.1)
 
--- names in order are distinct
 pub distinct_in_order : (ps : List Pair) → InOrder ps → AreDistinct ps
 distinct_in_order [] h = tt
 distinct_in_order (q ∷ qs) h = (ap is_some (absent _ qs h.0), distinct_in_order qs h.1)

@@ -12,7 +12,6 @@ is_position : (value : List ℕ) → read_text value ≡ position_of value
 unfolding position_of
 is_position value = refl
 
--- what a FEN tells, once its value is read
 pub told_read : (name value : List ℕ) (read : Result Parts FenFault) → not (bytes_eq name (codes "FEN")) ≡ false → read ≡ read_text value → fen_position name value ≡ told_by true read
 told_read name value read named reads =
     cc (not-false (bytes_eq name (codes "FEN")) named, is_position value)
@@ -24,7 +23,6 @@ found_by : {is : Bool} {read : Result Parts FenFault} (name value : List ℕ) (p
     → has_pair ps name ≡ false → told_by is read ≡ Ok (Some start) → start_of (with_pair name value ps) ≡ start
 found_by name value ps named reads none told = grind (arith, pick, value_of-put, bytes_eq-true, bytes_eq-refl)
 
--- a FEN is where its game begins
 pub start_found : (name value : List ℕ) (ps : List Pair) (start : Parts) → has_pair ps name ≡ false → fen_position name value ≡ Ok (Some start)
     → start_of (with_pair name value ps) ≡ start
 start_found name value ps start none told = found_by name value ps refl refl none told
@@ -48,7 +46,6 @@ faults_by : (is : Bool) (read : Result Parts FenFault) {field : ℕ} → told_by
 faults_by true (Err fault) told = (refl, cc)
 faults_by _ _ told = absurd (cc)
 
--- a FEN at fault is rejected for the field
 pub start_faults : (name value : List ℕ) (field : ℕ) → fen_position name value ≡ Err field
     → ((bytes_eq name (codes "FEN") && is_some (fen_field value)) ≡ true) × (unwrap_or (fen_field value) 0 ≡ field)
 start_faults name value field told = faults_by _ _ told

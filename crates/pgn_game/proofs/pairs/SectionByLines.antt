@@ -12,7 +12,6 @@ roster_lines : (ps ds : List Pair) → text_by (roster_line ps) ds ≡ tag_lines
 roster_lines ps [] = refl
 roster_lines ps (d ∷ ds) = rw (roster_lines ps ds)
 
--- the line of a pair, unless it is left out
 abbrev line_unless : Bool → Pair → List ℕ
 line_unless b p = elim b [ true ↦ [] | false ↦ tag_line p.name p.value ]
 
@@ -20,7 +19,6 @@ kept_line : (p : Pair) (ps : List Pair) (b : Bool) → line_unless b p ++ tag_li
 kept_line p ps true = refl
 kept_line p ps false = refl
 
--- the lines of the pairs, where there is no FEN
 plain_lines : (ps : List Pair) → text_by (other_line false) ps ≡ tag_lines (other_pairs ps)
 plain_lines [] = refl
 plain_lines (p ∷ ps) =
@@ -59,7 +57,6 @@ set_up_lines : (ps : List Pair) → lines_about (index_of (codes "SetUp") ps) ps
 set_up_lines [] = refl
 set_up_lines (p ∷ ps) = set_up_here p ps (is_set_up p) (comes_before (codes "SetUp") p.name) refl refl (set_up_lines ps)
 
--- what is written of the others, without a FEN and with one
 pub others_without_fen : (ps : List Pair) → has_pair ps (codes "FEN") ≡ false → text_by (other_line false) ps ≡ tag_lines (other_pairs (with_set_up ps))
 others_without_fen ps none = plain_lines ps ∙ ap (λ b. tag_lines (other_pairs (set_up_if b ps))) (sym none)
 
@@ -72,7 +69,6 @@ reduced_section result ps = rw (roster_lines ps (roster result))
 pub full_section : (result : List ℕ) (ps : List Pair) → (text_by (roster_line ps) (roster result) ++ tag_lines (other_pairs (with_set_up ps))) ++ 10 ∷ [] ≡ tag_section Full result ps
 full_section result ps = grind (arith, tag_lines-append, roster_lines)
 
--- the roster stands first in both modes
 pub roster_first : (result : List ℕ) (mode : Mode) (ps : List Pair) → (rest : List ℕ) × (tag_section mode result ps ≡ text_by (roster_line ps) (roster result) ++ rest)
 roster_first result Reduced ps = (10 ∷ [], sym (reduced_section result ps))
 roster_first result Full ps = (

@@ -7,7 +7,6 @@ use Rattle.std.proofs.lemmas.Cmp.{same_from_slice_cmp_tested}
 pub is_comes_before : (xs ys : List ℕ) (r : Bool) → r ≡ is_some_and is_lt (slice_partial_cmp (λ x y. Some (nat_cmp x y)) xs ys) → r ≡ comes_before xs ys
 is_comes_before = same_from_slice_cmp_tested nat_cmp is_lt comes_before refl (λ _ _. refl) (λ _ _. refl) (λ x y xs ys o h. grind (arith, nat_tests))
 
--- the pair goes to its place
 pub insert-place : (p : Pair) (qs : List Pair) → insert qs (index_of p.name qs) p ≡ insert_pair p qs
 insert-place p [] = refl
 insert-place p (q ∷ qs) =
@@ -32,7 +31,6 @@ but_last-snoc (q ∷ r ∷ ps) p = rw (but_last-snoc (r ∷ ps) p)
 abbrev seen : List Pair → Option (List ℕ) → TagPairs
 seen held begun = record { held = held; pending_name = begun }
 
--- a pair that has begun
 pub pairs_seen-snoc : {ps : List Pair} (p : Pair) → pairs_seen (ps ++ p ∷ []) true ≡ seen ps (Some p.name)
 pairs_seen-snoc p = grind (arith, last_name-snoc, but_last-snoc)
 
@@ -40,7 +38,6 @@ some_last : (p : Pair) (ps : List Pair) → last_name (p ∷ ps) ≡ None → �
 some_last p [] e = cc
 some_last p (q ∷ ps) e = some_last q ps e
 
--- with no pair begun, all are whole
 pub whole-held : (ps : List Pair) (b : Bool) {t : TagPairs} → pairs_seen ps b ≡ t → t.pending_name ≡ None → (IsTrue b → 0 < length ps) → ps ≡ t.held
 whole-held ps false e none some = cc
 whole-held [] true e none some = absurd (omega (arith, some refl))
@@ -53,7 +50,6 @@ first-held fits e none = grind (arith, length-take-le, whole-held)
 pub held-count : {most : ℕ} {ps : List Pair} {n : ℕ} {b : Bool} {t : TagPairs} → FitsPairStore most ps n b → pairs_seen (take n ps) b ≡ t → t.pending_name ≡ None → length t.held ≡ n
 held-count {ps} {n} fits e none = ap (length {A = Pair}) (sym (first-held fits e none)) ∙ length-take-le n ps fits.within
 
--- the name that has begun is the last pair's
 pub named-last : (ps : List Pair) (b : Bool) {t : TagPairs} (P : List ℕ → Type 0) → pairs_seen ps b ≡ t → IsSomeAnd t.pending_name P → IsSomeAnd (last_name ps) P
 named-last ps b P e h = search rules
 
@@ -82,8 +78,7 @@ begun-last {ps} {n} true {p} fits e at begun =
     let more : n ≡ suc (n - 1) = omega (arith, fits.some refl) in
     let split : take n ps ≡ take (n - 1) ps ++ p ∷ [] = cc (more, take-suc ps (n - 1) p (omega arith), at) in
     rw (← e) (ap last_name split ∙ last_name-snoc (take (n - 1) ps) p)
-begun-last {ps} {n} false fits e at begun =
-    cc
+begun-last {ps} {n} false fits e at begun = cc
 
 -- a slice that is as long takes the place of all items
 pub refill-all : (items : List Pair) {new : List Pair} → length new ≡ length items → refill (length items) items new ≡ new
@@ -102,7 +97,6 @@ pub place-of-new : {most : ℕ} (ps more : List Pair) {n : ℕ} {held : List Pai
     → HasPlace most more n held
 place-of-new ps more p is same all room = search (rules, take-append-le, length-append)
 
--- a pair is put there
 pub put-in-place : {most : ℕ} {ps : List Pair} {n : ℕ} {held : List Pair} (p : Pair) → HasPlace most ps n held
     → take (n + 1) (refill (length ps) ps (set ps n p)) ≡ held ++ p ∷ []
 put-in-place p has = grind (arith, length-set, take_more_set, refill-all)

@@ -34,7 +34,6 @@ pub has-cons : (q : Pair) (ps : List Pair) (name : List ℕ)
     → has_pair (q ∷ ps) name ≡ (bytes_eq q.name name || has_pair ps name)
 has-cons q ps name = cc (value_of-cons q ps name, some_pick (bytes_eq q.name name) q.value (value_of ps name))
 
--- a name that no pair has
 pub not_among : (r : Pair) (rs : List Pair) (name : List ℕ) → has_pair (r ∷ rs) name ≡ false → (bytes_eq r.name name ≡ false) × (has_pair rs name ≡ false)
 not_among r rs name e = or_parts _ _ (sym (has-cons r rs name) ∙ e)
 
@@ -45,8 +44,7 @@ found_at P q n h is rest e = search (rules, bytes_eq-true)
 
 pub found : (P : Pair → Type 0) (ps : List Pair) (n v : List ℕ) → AllByRecursion P ps → value_of ps n ≡ Some v → P (record { name = n; value = v })
 found P [] n v h e = absurd (cc)
-found P (q ∷ qs) n v h e =
-    found_at P q n h.0 refl (found P qs n v h.1) (sym (value_of-cons q qs n) ∙ e)
+found P (q ∷ qs) n v h e = found_at P q n h.0 refl (found P qs n v h.1) (sym (value_of-cons q qs n) ∙ e)
 
 -- Pairs that are joined.
 abbrev pub either_of : Option (List ℕ) → Option (List ℕ) → Option (List ℕ)
@@ -111,13 +109,11 @@ pick_swap v w o apart = grind arith
 two_names : (r q n : List ℕ) → bytes_eq r q ≡ false → bytes_eq r n ≡ true → bytes_eq q n ≡ true → ⊥
 two_names r q n other e f = search (rules, bytes_eq-refl, bytes_eq-true, false≢true)
 
--- a pair of a new name
 pub value_of-put : (q : Pair) (qs : List Pair) (n : List ℕ) → has_pair qs q.name ≡ false
     → value_of (insert_pair q qs) n ≡ pick (bytes_eq q.name n) q.value (value_of qs n)
 value_of-put q qs n =
     by_insert (λ ps l. has_pair ps q.name ≡ false → value_of l n ≡ pick (bytes_eq q.name n) q.value (value_of ps n)) q
-    (λ ps new. value_of-cons q ps n)
-    (λ r rs l more new.
+    (λ ps new. value_of-cons q ps n) (λ r rs l more new.
     let apart = not_among r rs _ new in
     cc (value_of-cons r l n, more apart.1, pick_swap r.value q.value (value_of rs n) (two_names _ q.name n apart.0), value_of-cons r rs n)) qs
 

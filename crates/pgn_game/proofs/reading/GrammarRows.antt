@@ -38,18 +38,13 @@ comments =
       tokens = refl;
       dropped = refl;
       pairs = next_pair _ [] one_pair [] (pair [] b c (codes "A") (codes "1") refl refl refl) no_pair;
-      keeps = record {
-        count = omega arith;
-        each = search rules;
-        distinct = (refl, tt);
-      };
+      keeps = record { count = omega arith; each = search rules; distinct = (refl, tt) };
       sorted = refl;
       set_up = λ e. absurd (cc);
       bare = λ e. absurd (cc);
       items =
           let l = new_level [] in
-          token 0 l _ _ [] _ (number (codes "1") refl)
-          (token 0 l _ _ [] _ period
+          token 0 l _ _ [] _ (number (codes "1") refl) (token 0 l _ _ [] _ period
           (token 0 l _ _ (games.comment_open ∷ []) _ comment_open (token 0 l _ _ (games.word (codes "d") ∷ []) _ (word (codes "d")) (token 0 l _ _ (games.comment_close ∷ []) _ comment_close (no_more 0 l)))));
       marker = refl;
       result = refl;

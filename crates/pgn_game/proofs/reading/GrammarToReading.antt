@@ -8,7 +8,6 @@ use Rattle.pgn_game.proofs.reading.PairsInTurn.{with_pairs, Takes, takes}
 use Rattle.pgn_game.proofs.refusals.RefusalsInMovetext.{move_refusal, marker_refusal}
 use Rattle.pgn_game.proofs.reading.MovetextTokens.{levels_more, result_meets, stands_free, stands_leads, stands_levels, stands_goes}
 
--- Comments that are dropped.
 dropped_run : (p : Profile) (stage : Stage) (ps : List Pair) (name : List ℕ) (items : List Item) → IsTrue (drops_comments stage)
     → (ks rest : List Kind) (gs : List Game) → AreDropped ks → Runs p (at stage ps name items) rest gs → Runs p (at stage ps name items) (ks ++ rest) gs
 dropped_run p stage ps name items drops [] rest gs are runs = runs
@@ -35,7 +34,6 @@ value_passes : (p : Profile) (ps : List Pair) (items : List Item) {q : Pair} →
     → refusal p (at AfterName ps q.name items) (tokens.str q.value) ≡ None
 value_passes p ps items h = grind (arith, bytes_eq-Decides, nat_tests, pass, value_refusal, guarded)
 
--- the tokens of a pair, and those behind it
 pair_run : (p : Profile) (ps : List Pair) (name : List ℕ) {ks : List Kind} (rest : List Kind) {q : Pair} (gs : List Game) → SpellsPair ks q
     → length ps < p.tags → IsFalse (has_pair ps q.name) → IsPair p.mode q
     → Runs p (at AfterTags (insert_pair q ps) [] []) rest gs → Runs p (at AfterTags ps name []) (ks ++ rest) gs
@@ -84,7 +82,6 @@ closes_free p ps name items some =
 abbrev leveled : Level → List Level → Levels
 leveled l around = record { present = l; around = around }
 
--- movetext, and what comes behind it
 abbrev Further : Profile → List Pair → List ℕ → List Item → List Level → List Kind → List Game → Type 0
 Further p ps name all around rest gs = (m : Level) → levels_of all ≡ leveled m around → Runs p (at InMovetext ps name all) rest gs
 
@@ -102,10 +99,8 @@ text_run {p} ps name (token _ _ k ks item items stands text) before all rest gs 
 text_run {p} ps name {l} (move _ _ s played ks items names text) before all rest gs at_level at_depth same further =
     let placed : replayed (start_of ps) l.trail ≡ here (start_of ps) (levels_of before) = cc in
     let named : Names (here (start_of ps) (levels_of before)) s played = rw placed at names in
-    goes _ _ _ _ gs (move_free p ps name before s played named) refl
-    (move_leads ps name before s played named)
-    (text_run ps name text _ all rest gs
-    (rw at_level at (levels_more before (games.move played.mv))) at_depth
+    goes _ _ _ _ gs (move_free p ps name before s played named) refl (move_leads ps name before s played named)
+    (text_run ps name text _ all rest gs (rw at_level at (levels_more before (games.move played.mv))) at_depth
     (append_assoc before _ items ∙ same) further)
 text_run {p} ps name {deep} {l} (variation _ _ ks ls items more holds room inner text) before all {around} rest gs at_level at_depth same further =
     let opened : levels_of (before ++ games.open_variation ∷ []) ≡ leveled (new_level (without_last l.trail)) (l ∷ around) =
@@ -114,18 +109,12 @@ text_run {p} ps name {deep} {l} (variation _ _ ks ls items more holds room inner
     let holding : (levels_of before).present.has_own_move ≡ true = cc in
     let deepness : depth (levels_of before) ≡ deep = cc in
     let deeper : depth (levels_of before) < p.depth = omega arith in
-    rw (append_assoc ks (tokens.right_paren ∷ ls) rest)
-    (goes _ _ _ _ gs
-    (opens_free p ps name before holding deeper) refl refl
-    (text_run ps name inner _ middle _ gs
-    opened (omega arith) refl
-    (λ m inside.
+    rw (append_assoc ks (tokens.right_paren ∷ ls) rest) (goes _ _ _ _ gs
+    (opens_free p ps name before holding deeper) refl refl (text_run ps name inner _ middle _ gs
+    opened (omega arith) refl (λ m inside.
     let some : 0 < depth (levels_of middle) = search rules in
-    goes _ _ _ _ gs
-    (closes_free p ps name middle some) refl refl
-    (text_run ps name text _ all rest gs
-    (rw inside at (levels_more middle games.close_variation)) at_depth
-    (joined before items more ∙ same) further))))
+    goes _ _ _ _ gs (closes_free p ps name middle some) refl refl (text_run ps name text _ all rest gs
+    (rw inside at (levels_more middle games.close_variation)) at_depth (joined before items more ∙ same) further))))
   where
     joined : (xs ys zs : List Item)
         → (((xs ++ games.open_variation ∷ []) ++ ys) ++ games.close_variation ∷ []) ++ zs ≡ xs ++ games.open_variation ∷ (ys ++ games.close_variation ∷ zs)
@@ -135,7 +124,6 @@ text_run {p} ps name {deep} {l} (variation _ _ ks ls items more holds room inner
 abbrev finished : List Pair → List Item → List ℕ → Game
 finished ps items marker = record { pairs = ps; items = items; marker = marker }
 
--- a marker in its place is let pass, and finishes the game
 record Finishes (p : Profile) (ps : List Pair) (name : List ℕ) (items : List Item) (k : Kind) (marker : List ℕ) : Type 0 where
   free : refusal p (at InMovetext ps name items) k ≡ None
   goes : is_end k ≡ false
@@ -168,13 +156,11 @@ runs_alike : (p : Profile) (part other : Part) (ks : List Kind) (gs : List Game)
     → Runs p part ks gs → Runs p other ks gs
 runs_alike p part other ks gs alike h6 = search (rules, ends, goes, finishes)
 
--- what is let pass within movetext is a token of it
 textual : (p : Profile) (ps : List Pair) (name : List ℕ) (items : List Item) (k : Kind) → refusal p (at InMovetext ps name items) k ≡ None → IsTrue (is_textual k)
 unfolding refusal
 textual p ps name items tokens.left_bracket free = absurd (cc)
 textual p ps name items _ free = cc
 
--- movetext begins behind the pairs
 begins_after_tags : (p : Profile) (ps : List Pair) (name : List ℕ) (items : List Item) (ks : List Kind) (gs : List Game) → lacks_fen ps ≡ false
     → Runs p (at InMovetext ps name items) ks gs → Runs p (at AfterTags ps name items) ks gs
 begins_after_tags p ps name items ks gs has =
@@ -184,7 +170,6 @@ begins_after_tags p ps name items ks gs has =
       leads_after_tags (at InMovetext ps name items) k is,
     ))
 
--- and without pairs
 begins_between : (p : Profile) (ps : List Pair) (name : List ℕ) (items : List Item) (ks : List Kind) (gs : List Game) → BeginsBare ks
     → Runs p (at InMovetext ps name items) ks gs → Runs p (at Between ps name items) ks gs
 begins_between p ps name items ks gs bare =
@@ -193,7 +178,6 @@ begins_between p ps name items ks gs bare =
     let plain = subst BeginsBare e bare in
     (between p (at InMovetext ps name items) k is plain ∙ free, leads_between (at InMovetext ps name items) k is plain))
 
--- the movetext of a game, its marker, and the games behind it
 whole_text_run : (p : Profile) (ps : List Pair) (name : List ℕ) {text : List Kind} (rest : List Kind) {items : List Item} (last : Kind) {marker : List ℕ} (gs : List Game)
     → SpellsText p (start_of ps) 0 (new_level []) text items → marker_of last ≡ Some marker → IsResult p.missing_result (value_of ps (codes "Result")) marker
     → Runs p no_part rest gs → Runs p (at InMovetext ps name []) (text ++ last ∷ rest) (finished ps items marker ∷ gs)
@@ -203,7 +187,6 @@ whole_text_run p ps name rest {items} last {marker} gs spells is result runs =
     let h = marker_finishes p ps name items last is (ap (λ x. depth x) outside) result in
     finishes _ last _ rest gs h.free h.goes h.leads runs)
 
--- the first pair opens as any other
 opens_between : (p : Profile) (ps : List Pair) (name : List ℕ) (ks : List Kind) (gs : List Game)
     → Runs p (at AfterTags ps name []) (tokens.left_bracket ∷ ks) gs → Runs p (at Between ps name []) (tokens.left_bracket ∷ ks) gs
 opens_between p ps name ks gs h5 = search (rules, at, goes, finishes, open_refusal, open_between)
@@ -214,7 +197,6 @@ has_fen h = grind (arith, bytes_eq-Decides, guarded)
 bare_with : (text : List Kind) (last : Kind) (rest : List Kind) {marker : List ℕ} → marker_of last ≡ Some marker → BeginsBare text → BeginsBare (text ++ last ∷ rest)
 bare_with text last rest is bare = search rules
 
--- pairs and what comes behind them, or what comes in place of pairs
 tags_run : (p : Profile) {tags : List Kind} {given : List Pair} (rest : List Kind) (gs : List Game) → SpellsPairs tags given → Takes p [] given → IsSetUp (with_pairs [] given)
     → (given ≡ [] → BeginsBare rest) → ((n : List ℕ) → Runs p (at InMovetext (with_pairs [] given) n []) rest gs) → Runs p no_part (tags ++ rest) gs
 tags_run p rest gs h5 h6 set_up bare runs = search (rules, with_pairs, takes, pairs_run, begins_after_tags, begins_between, opens_between, has_fen)

@@ -5,7 +5,6 @@ use Rattle.pgn_game.proofs.reading.RunsToEnd.{at}
 use Rattle.pgn_game.proofs.refusals.RefusalsByStage.{text_row}
 use Rattle.pgn_game.proofs.refusals.RefusalsInMovetext.{number_free, number_leads}
 
--- the levels behind one item more
 pub levels_more : (items : List Item) (x : Item) → levels_of (items ++ x ∷ []) ≡ levels_after (levels_of items) x
 levels_more items x = fold-append _ _ items _
 
@@ -19,7 +18,6 @@ result_is missing o marker h = search (rules, not-false, bytes_eq-Decides)
 pub result_meets : (missing : Missing) (o : Option (List ℕ)) (marker : List ℕ) → IsResult missing o marker → IsFalse (differs missing o marker)
 result_meets missing o marker h = grind (arith, bytes_eq-Decides)
 
--- no number is a score
 pub number_no_score : (s : List ℕ) → is_number s ≡ true → is_score s ≡ false
 number_no_score s is = grind (arith, false≢true, score_marker, marker_no_number)
 

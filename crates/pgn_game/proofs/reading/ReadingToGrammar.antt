@@ -25,16 +25,13 @@ data Closes (p : Profile) (first : Parts) : Level → List Level → List Kind �
 
 -- one token more at this level, from where it leads
 add_front : (p : Profile) {first : Parts} (l n : Level) (around : List Level) (k : Kind) (ks : List Kind)
-    (item items : List Item)
-    → ((d : ℕ) (js : List Kind) (is : List Item) → SpellsText p first d n js is
+    (item items : List Item) → ((d : ℕ) (js : List Kind) (is : List Item) → SpellsText p first d n js is
     → SpellsText p first d l (k ∷ js) (item ++ is))
     → Closes p first n around ks items → Closes p first l around (k ∷ ks) (item ++ items)
-add_front p l _ _ k _ item _ front (outermost n ks items text) =
-    outermost l _ _ (front 0 ks items text)
+add_front p l _ _ k _ item _ front (outermost n ks items text) = outermost l _ _ (front 0 ks items text)
 add_front p l _ _ k _ item _ front (inside n m around ks ls items more text rest) =
     rw (append_assoc item items _) at (inside l m around (k ∷ ks) ls (item ++ items) more (front _ ks items text) rest)
 
--- a variation, with what comes behind it
 add_variation : {p : Profile} {first : Parts} (l : Level) (around : List Level) (ks ls : List Kind) (items more : List Item) → IsTrue l.has_own_move → deep around < p.depth
     → SpellsText p first (deep around + 1) (new_level (without_last l.trail)) ks items → Closes p first l around ls more
     → Closes p first l around (tokens.left_paren ∷ (ks ++ tokens.right_paren ∷ ls)) (games.open_variation ∷ (items ++ games.close_variation ∷ more))
@@ -85,7 +82,6 @@ text_more new adds h = search (rules, append_assoc)
 
 -- What is left of a game at each stage.
 
--- pairs, and movetext
 record Tags_left (p : Profile) (ps : List Pair) (ks : List Kind) (gs : List Game) : Type 0 where
   tags : List Kind
   given : List Pair
@@ -104,7 +100,6 @@ record Dropping (P : List Kind → Type 0) (ks : List Kind) : Type 0 where
   dropped : AreDropped front
   left : P rest
 
--- the end of a pair
 record Bracket (p : Profile) (ps : List Pair) (gs : List Game) (ks : List Kind) : Type 0 where
   behind : List Kind
   kinds : ks ≡ tokens.right_bracket ∷ behind
@@ -113,7 +108,6 @@ record Bracket (p : Profile) (ps : List Pair) (gs : List Game) (ks : List Kind) 
 abbrev Bracket_left : Profile → List Pair → List Kind → List Game → Type 0
 Bracket_left p ps ks gs = Dropping (Bracket p ps gs) ks
 
--- a value, and that
 record Value (p : Profile) (ps : List Pair) (name : List ℕ) (gs : List Game) (ks : List Kind) : Type 0 where
   value : List ℕ
   behind : List Kind
@@ -126,7 +120,6 @@ record Value (p : Profile) (ps : List Pair) (name : List ℕ) (gs : List Game) (
 abbrev Value_left : Profile → List Pair → List ℕ → List Kind → List Game → Type 0
 Value_left p ps name ks gs = Dropping (Value p ps name gs) ks
 
--- a name, and that
 record Name (p : Profile) (ps : List Pair) (gs : List Game) (ks : List Kind) : Type 0 where
   name : List ℕ
   behind : List Kind
@@ -153,30 +146,25 @@ Fits Between ps items = (ps ≡ []) × (items ≡ [])
 Fits InMovetext ps items = Unit {0}
 Fits _ ps items = items ≡ []
 
--- what is left behind a token
 abbrev After : Profile → Next → List Kind → List Game → Type 0
 After p (going part) ks gs = Fits part.stage part.pairs part.items → Left p part.stage part.pairs part.name part.items ks gs
 After p (whole g) ks gs = (later : List Game) × (gs ≡ g ∷ later) × SpellsGames p ks later
 
 -- Movetext, token by token.
 token_step : {p : Profile} {ps : List Pair} {items item : List Item} {k : Kind} {ks : List Kind} {gs : List Game}
-    → StandsFor k item
-    → Text_left p ps (items ++ item) ks gs → Text_left p ps items (k ∷ ks) gs
+    → StandsFor k item → Text_left p ps (items ++ item) ks gs → Text_left p ps items (k ∷ ks) gs
 token_step {p} {items} {item} {k} stands h =
     text_more item (λ text more c.
     let l = (levels_of items).present in
-    add_front p l l _ k text item more
-    (λ d js is rest. token d l k js item is stands rest)
+    add_front p l l _ k text item more (λ d js is rest. token d l k js item is stands rest)
     (rw (stands_levels items stands) at c)) h
 
 adds_move : (p : Profile) (ps : List Pair) (items : List Item) (s : List ℕ) (played : Played) → Names (here (start_of ps) (levels_of items)) s played
     → Adds p ps items (tokens.symbol s) (games.move played.mv ∷ [])
 adds_move p ps items s played names text more c =
     let l = (levels_of items).present in
-    add_front p l (level_after_move _ _) _ _ text
-    (games.move _ ∷ []) more
-    (λ d js is rest. move d l s played js is names rest)
-    (rw (levels_more items (games.move played.mv)) at c)
+    add_front p l (level_after_move _ _) _ _ text (games.move _ ∷ []) more
+    (λ d js is rest. move d l s played js is names rest) (rw (levels_more items (games.move played.mv)) at c)
 
 adds_open : (p : Profile) (ps : List Pair) (items : List Item) → IsTrue (levels_of items).present.has_own_move → depth (levels_of items) < p.depth
     → Adds p ps items tokens.left_paren (games.open_variation ∷ [])
@@ -198,8 +186,7 @@ open_step p {ps} name {items} free h =
     let holds = not-false (levels_of items).present.has_own_move (test_failed _ NoMoveBefore _ e) in
     let room =
     test_failed _ TooDeep None (rest_passed (not _) NoMoveBefore e) in
-    text_more _
-    (adds_open p ps items holds (leb-false _ _ room)) h
+    text_more _ (adds_open p ps items holds (leb-false _ _ room)) h
 
 close_step : (p : Profile) {ps : List Pair} (name : List ℕ) {items : List Item} {ks : List Kind} {gs : List Game} → refusal p (at InMovetext ps name items) tokens.right_paren ≡ None
     → Text_left p ps (items ++ games.close_variation ∷ []) ks gs → Text_left p ps items (tokens.right_paren ∷ ks) gs
@@ -207,7 +194,6 @@ close_step p {ps} name {items} free h =
     text_more _
     (adds_close p ps items (test_failed _ UnmatchedClose None (sym (text_row p (at InMovetext ps name items) _ refl) ∙ free))) h
 
--- a marker finishes the game
 marker_step : {p : Profile} {ps : List Pair} {items : List Item} {k : Kind} {marker : List ℕ} {ks : List Kind} {gs : List Game} → marker_of k ≡ Some marker
     → nat_le 1 (depth (levels_of items)) ≡ false → (differs p.missing_result (value_of ps (codes "Result")) marker && (depth (levels_of items) == 0)) ≡ false
     → After p (whole (record { pairs = ps; items = items; marker = marker })) ks gs → Text_left p ps items (k ∷ ks) gs
@@ -233,8 +219,7 @@ symbol_step : {p : Profile} {ps : List Pair} (name : List ℕ) {items : List Ite
     → is_number s ≡ is_digits → is_score s ≡ score → move_of (here (start_of ps) (levels_of items)) s ≡ o
     → rows_for p (at InMovetext ps name items) s (is_digits || score) score o ≡ None
     → After p (symbol_next (at InMovetext ps name items) s is_digits score o) ks gs → Text_left p ps items (tokens.symbol s ∷ ks) gs
-symbol_step name s true false o digits is_marker one free after =
-    token_step (number s digits) (after tt)
+symbol_step name s true false o digits is_marker one free after = token_step (number s digits) (after tt)
 symbol_step {p} {ps} name {items} s false false (Some (Ok played)) digits is_marker one free after =
     search (rules, adds_move, test_failed, text_more)
 symbol_step name s false false None digits is_marker one free after = absurd (cc)
@@ -251,14 +236,10 @@ unfolding refusal
 text_step {p} name tokens.left_paren free end after = search (rules, open_step)
 text_step {p} name tokens.right_paren free end after = search (rules, close_step)
 text_step name tokens.period free end after = token_step period (after tt)
-text_step name (tokens.glyph n) free end after =
-    token_step (glyph n) (after tt)
-text_step name tokens.comment_open free end after =
-    token_step comment_open (after tt)
-text_step name (tokens.word s) free end after =
-    token_step (word s) (after tt)
-text_step name tokens.comment_close free end after =
-    token_step comment_close (after tt)
+text_step name (tokens.glyph n) free end after = token_step (glyph n) (after tt)
+text_step name tokens.comment_open free end after = token_step comment_open (after tt)
+text_step name (tokens.word s) free end after = token_step (word s) (after tt)
+text_step name tokens.comment_close free end after = token_step comment_close (after tt)
 text_step {p} {ps} name {items} tokens.asterisk free end after =
     let e = sym (text_row p (at InMovetext ps name items) tokens.asterisk refl) ∙ free in
     marker_step refl (test_failed _ MarkerInVariation _ e)
@@ -298,13 +279,10 @@ none_dropped P {ks} h = record { front = []; rest = ks; kinds = refl; dropped = 
 bracket_step : {p : Profile} {ps : List Pair} (name : List ℕ) {items : List Item} (k : Kind) {ks : List Kind} {gs : List Game} → items ≡ []
     → refusal p (at AfterValue ps name items) k ≡ None → After p (next (at AfterValue ps name items) k) ks gs → Bracket_left p ps (k ∷ ks) gs
 unfolding refusal
-bracket_step name tokens.comment_open none free after =
-    one_dropped _ refl (after none)
+bracket_step name tokens.comment_open none free after = one_dropped _ refl (after none)
 bracket_step name (tokens.word s) none free after = one_dropped _ refl (after none)
-bracket_step name tokens.comment_close none free after =
-    one_dropped _ refl (after none)
-bracket_step name tokens.right_bracket {ks} none free after =
-    search (rules, none_dropped)
+bracket_step name tokens.comment_close none free after = one_dropped _ refl (after none)
+bracket_step name tokens.right_bracket {ks} none free after = search (rules, none_dropped)
 bracket_step name _ none free after = absurd (cc)
 
 value_given : (p : Profile) {ps : List Pair} {name : List ℕ} (items : List Item) (s : List ℕ) {ks : List Kind} {gs : List Game}
@@ -315,8 +293,7 @@ value_given p {name} items s {ks} free h =
     let f = rest_passed (bytes_eq name _ && not _) BadResult e in
     let is_position = test_failed (bytes_eq name _ && is_some _) (BadFen _) _ f in
     let short =
-    test_failed _ TagLineTooLong None
-    (rest_passed (bytes_eq name _ && is_some _) (BadFen _) f) in
+    test_failed _ TagLineTooLong None (rest_passed (bytes_eq name _ && is_some _) (BadFen _) f) in
     none_dropped _ (record {
       value = s;
       behind = ks;
@@ -330,11 +307,9 @@ value_given p {name} items s {ks} free h =
 value_step : {p : Profile} {ps : List Pair} {name : List ℕ} {items : List Item} (k : Kind) {ks : List Kind} {gs : List Game} → items ≡ []
     → refusal p (at AfterName ps name items) k ≡ None → After p (next (at AfterName ps name items) k) ks gs → Value_left p ps name (k ∷ ks) gs
 unfolding refusal
-value_step tokens.comment_open none free after =
-    one_dropped _ refl (after none)
+value_step tokens.comment_open none free after = one_dropped _ refl (after none)
 value_step (tokens.word s) none free after = one_dropped _ refl (after none)
-value_step tokens.comment_close none free after =
-    one_dropped _ refl (after none)
+value_step tokens.comment_close none free after = one_dropped _ refl (after none)
 value_step {p} {items} (tokens.str s) none free after = search (rules, value_given)
 value_step _ none free after = absurd (cc)
 
@@ -359,7 +334,6 @@ name_step : {p : Profile} {ps : List Pair} (name : List ℕ) {items : List Item}
 unfolding refusal
 name_step name none free after = search (rules, none-some, one_dropped, name_given)
 
--- a `[`, and a pair
 pair_step : (p : Profile) {ps : List Pair} {ks : List Kind} {gs : List Game} → nat_le p.tags (length ps) ≡ false → Name_left p ps ks gs
     → (t : Tags_left p ps (tokens.left_bracket ∷ ks) gs) × (t.given ≡ [] → ⊥)
 pair_step p {ps} {ks} free dn =
@@ -388,7 +362,6 @@ pair_step p {ps} {ks} free dn =
       λ e. absurd (cc),
     )
 
--- movetext in place of a pair
 no_pair_step : {p : Profile} {ps : List Pair} {items : List Item} {ks : List Kind} {gs : List Game} → items ≡ [] → IsSetUp ps → Text_left p ps items ks gs → Tags_left p ps ks gs
 no_pair_step {ks} none set_up h = record {
   tags = [];
@@ -444,7 +417,6 @@ games_drop {k} is (next_game ks ls g gs first others) = next_game (k ∷ ks) ls 
 outer_text : {p : Profile} {first : Parts} {l : Level} {ks : List Kind} {items : List Item} → Closes p first l [] ks items → SpellsText p first 0 l ks items
 outer_text (outermost _ ks items text) = text
 
--- pairs and movetext that begin between games
 game_begins : {p : Profile} {ps : List Pair} {ks : List Kind} {gs : List Game} → ps ≡ [] → (t : Tags_left p ps ks gs) → (t.given ≡ [] → BeginsBare t.text.text) → SpellsGames p ks gs
 game_begins {p} {ps} none t bare =
     let x = t.text in
@@ -497,12 +469,10 @@ between_step name tokens.end no_pairs none free end after = absurd (false≢true
 between_step name (tokens.refused r) no_pairs none free end after = absurd (none-some _ (sym free))
 between_step {p} name k no_pairs none free end after = between_text p name k no_pairs none refl refl free end after
 
--- one token more, at any stage
 step : (p : Profile) (stage : Stage) (ps : List Pair) (name : List ℕ) (items : List Item) (k : Kind) (ks : List Kind) (gs : List Game) → Fits stage ps items
     → refusal p (at stage ps name items) k ≡ None → is_end k ≡ false → After p (next (at stage ps name items) k) ks gs → Left p stage ps name items (k ∷ ks) gs
 step p stage ps name items k ks gs fits free end after = search (rules, text_step, bracket_step, value_step, name_step, tags_step, between_step)
 
--- the end is between games
 at_end : (p : Profile) (stage : Stage) (ps : List Pair) (name : List ℕ) (items : List Item) → refusal p (at stage ps name items) tokens.end ≡ None
     → Left p stage ps name items (tokens.end ∷ []) []
 unfolding refusal

@@ -43,20 +43,14 @@ at_end {p} {b} {place} tokens.end last e =
     let t : Token = record { at = place; kind = tokens.end } in
     let free = first_passes p b t [] e in
     let leads = end_leads b.part.stage b.part.pairs b.part.name b.part.items in
-    record {
-      same = search (rules, append-nil, goes_on);
-      runs = ends _ free;
-    }
+    record { same = search (rules, append-nil, goes_on); runs = ends _ free }
 at_end _ last e = absurd last
 
 one_more : (p : Profile) (b : Progress) (t : Token) {ts : List Token} → refusal p b.part t.kind ≡ None → is_end t.kind ≡ false → (n : Next) → next b.part t.kind ≡ n
     → {gs : List Game} → Read_on p (progress_with b.games n) ts gs → (all : List Game) × Read_on p b (t ∷ ts) all
 one_more p b t {ts} free end (going to) leads {gs} rest = (
   gs,
-  record {
-    same = cc;
-    runs = goes _ to _ _ gs free end leads rest.runs;
-  },
+  record { same = cc; runs = goes _ to _ _ gs free end leads rest.runs },
 )
 one_more p b t {ts} free end (whole g) leads {gs} rest = (
   g ∷ gs,
@@ -88,13 +82,11 @@ read_one free leads same h = search (rules, goes_on)
 
 to_read : (p : Profile) {part : Part} {ks : List Kind} {gs : List Game} → Runs p part ks gs → (ts : List Token) (before : List Game) → kinds ts ≡ ks
     → Read_well p (behind before part) ts gs
-to_read p (ends part free) (t ∷ []) before e =
-    search (rules, append-nil, end_leads, read_one)
+to_read p (ends part free) (t ∷ []) before e = search (rules, append-nil, end_leads, read_one)
 to_read p (goes part to k ks gs free end leads runs) (t ∷ ts) before e =
     let kind : t.kind ≡ k = cc in
     let rest : kinds ts ≡ ks = cc in
-    read_one (ap (refusal p part) kind ∙ free)
-    (rw kind (ap (progress_with before) leads)) refl
+    read_one (ap (refusal p part) kind ∙ free) (rw kind (ap (progress_with before) leads)) refl
     (to_read p runs ts before rest)
 to_read p (finishes part k g ks gs free end leads runs) (t ∷ ts) before e =
     let kind : t.kind ≡ k = cc in

@@ -26,11 +26,9 @@ has_pair_found ps qs name (Some x) b same copied is = cc
 pub lacks_of : (old : ReaderState) (part : Part) (lacks : Bool) → Agrees old part → old.stage ≡ AfterTags → lacks_fen old.tags.held ≡ lacks → lacks_fen part.pairs ≡ lacks
 lacks_of old part lacks agrees at is = cc (held_at old part AfterTags agrees at)
 
--- the name that has begun is the part's
 pub begun_name : (tags : TagPairs) (part : Part) (name : List ℕ) → tags ≡ record { held = part.pairs; pending_name = Some part.name } → tags.pending_name ≡ Some name → name ≡ part.name
 begun_name tags part name is begun = let e : Some name ≡ Some part.name = cc in cc
 
--- Movetext that has no item yet is held.
 nothing_held : {mode : Mode} {start : Parts} → HoldsItems mode start [] (movetext_from start) []
 nothing_held = search (rules, All-nil)
 
@@ -38,7 +36,6 @@ held_none : {mode : Mode} {start : Parts} {items : List Item} {text : Movetext} 
     → HoldsItems mode start items text line
 held_none line none begins_game empty = rw (none, begins_game, empty) (nothing_held)
 
--- Where movetext can begin or goes on, it is open.
 open_at : {old : ReaderState} {part : Part} {stage : Stage} → Agrees old part → old.stage ≡ stage → IsTrue (may_have_movetext stage) → IsOpen old part
 open_at agrees at is = search (rules, held_at, text_at, held_none)
 

@@ -114,7 +114,6 @@ close_refusal p part at = at_the_stage (λ q. refusal p q right_bracket ≡ None
 pub close_next : (part : Part) → part.stage ≡ AfterValue → next part right_bracket ≡ going (at_stage AfterTags part)
 close_next part at = at_the_stage (λ q. next q right_bracket ≡ going (at_stage AfterTags q)) part at refl
 
--- what a `[` is rejected for
 pub open_refusal : (p : Profile) (part : Part) → part.stage ≡ AfterTags
     → refusal p part left_bracket ≡ or_else (nat_le p.tags (length part.pairs)) TooManyTags None
 unfolding refusal
@@ -129,7 +128,6 @@ open_between p part = refl
 
 -- Movetext.
 
--- what may be a token of movetext
 abbrev pub is_textual : Kind → Bool
 is_textual tokens.left_bracket = false
 is_textual tokens.end = false
@@ -144,7 +142,6 @@ is_lexical _ = false
 pub textual : (k : TokenKind) → (k ≡ token_kinds.LeftBracket → ⊥) → (k ≡ token_kinds.End → ⊥) → IsTrue (is_textual (kind_of k))
 textual k bracket over = grind arith
 
--- behind the pairs of a game
 pub after_tags : (p : Profile) (part : Part) (k : Kind) → IsTrue (is_textual k)
     → refusal p (at_stage AfterTags part) k ≡ or_else (lacks_fen part.pairs) SetUpWithoutFen (refusal p (at_stage InMovetext part) k)
 unfolding refusal
@@ -156,7 +153,6 @@ after_tags p part _ is = refl
 pub leads_after_tags : (part : Part) (k : Kind) → IsTrue (is_textual k) → next (at_stage AfterTags part) k ≡ next (at_stage InMovetext part) k
 leads_after_tags part k is = grind (arith, false≢true)
 
--- without pairs
 pub between : (p : Profile) (part : Part) (k : Kind) → IsTrue (is_textual k) → IsFalse (is_comment k) → refusal p (at_stage Between part) k ≡ refusal p (at_stage InMovetext part) k
 unfolding refusal
 between p part k is bare = grind (arith, false≢true)
@@ -183,13 +179,11 @@ pub row_after_tags : (p : Profile) (part : Part) (k : TokenKind) → part.stage 
     → refusal p part (kind_of k) ≡ text_refusal p part (kind_of k)
 row_after_tags p part k at is free =
     at_the_stage (λ q. refusal p q (kind_of k) ≡ text_refusal p part (kind_of k)) part at
-    (after_tags p part _ is ∙ pass _ _ _ free
-    ∙ text_row p part _ (no_lexical k))
+    (after_tags p part _ is ∙ pass _ _ _ free ∙ text_row p part _ (no_lexical k))
 
 pub next_after_tags : (part : Part) (k : TokenKind) → part.stage ≡ AfterTags → IsTrue (is_textual (kind_of k)) → next part (kind_of k) ≡ in_text part (kind_of k)
 next_after_tags part k at is = grind (arith, at_the_stage, leads_after_tags)
 
--- a comment between games and the end there change nothing
 pub passes_between : (p : Profile) {part : Part} (k : TokenKind) → part.stage ≡ Between → (is_comment (kind_of k) || is_end (kind_of k)) ≡ true
     → (refusal p part (kind_of k) ≡ None) × (next part (kind_of k) ≡ going part)
 unfolding refusal
@@ -201,7 +195,6 @@ pub begins_alike : (p : Profile) (k : TokenKind) → is_comment (kind_of k) ≡ 
 unfolding refusal
 begins_alike p k comment over = grind (arith, false≢true)
 
--- the end after the pairs of a game
 pub end_after_tags : (p : Profile) (part : Part) → part.stage ≡ AfterTags → refusal p part tokens.end ≡ Some UnexpectedEnd
 unfolding refusal
 end_after_tags p part at = at_the_stage (λ q. refusal p q tokens.end ≡ Some UnexpectedEnd) part at refl

@@ -53,7 +53,6 @@ pub symbol_leads : (part : Part) (s : List ℕ) (number : Bool) {score : Bool} �
     → in_text part (symbol s) ≡ symbol_next part s number score (move_of (position_in part) s)
 symbol_leads part s number n e = cc
 
--- a move is rejected as it is found
 abbrev pub refused_as : Parts → MoveReading → Option Reason
 refused_as p None = Some NotAMove
 refused_as p (Some (Err NoMove)) = Some IllegalMove
@@ -115,7 +114,6 @@ pub move_leads : {old : ReaderState} {part : Part} (s : List ℕ) (here : Parts)
     → Ok played ≡ found_in here (move_of here s) → in_text part (symbol s) ≡ going (with_items part (game.move played.mv ∷ []))
 move_leads s here number score is same found = grind (arith, symbol_leads, found_free, found_at)
 
--- a number is not rejected, and adds no item
 pub number_free : (p : Profile) (part : Part) (s : List ℕ) → is_number s ≡ true → is_score s ≡ false → text_refusal p part (symbol s) ≡ None
 number_free p part s number score = cc
 
@@ -124,7 +122,6 @@ number_leads part s number score = symbol_leads part s true number score
 
 -- Markers.
 
--- what a marker is rejected for
 abbrev pub marker_rows : Profile → Part → List ℕ → Option Reason
 marker_rows p part marker =
     or_else (nat_le 1 (depth (levels_of_part part))) MarkerInVariation

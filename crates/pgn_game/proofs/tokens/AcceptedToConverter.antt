@@ -10,7 +10,6 @@ pub follows_first : (xs s : List ℕ) → Follows (first xs) (xs ++ s)
 follows_first [] s = tt
 follows_first (x ∷ xs) s = refl
 
--- a piece goes on with its own first byte
 pub follows_own : (xs : List ℕ) → Follows (first xs) xs
 follows_own [] = tt
 follows_own (x ∷ xs) = refl
@@ -41,7 +40,6 @@ plies-snoc games g = search (rules, map-append, sum_by-append, sum_by-cons)
 moves-snoc : (games : List Game) (g : Game) → IsTrue (play_moves (games ++ g ∷ [])) → IsTrue (play_moves games) ⊎ IsTrue (has_move g.items)
 moves-snoc games g h = search (rules, list_any-append, or_cases)
 
--- a converter after a step
 abbrev pub stepped : Standing → ReaderState → ℕ → Bool → Result (Option Accepted) Fault → Converter
 stepped l r games finished outcome =
     record {
@@ -53,7 +51,6 @@ stepped l r games finished outcome =
       fault = fault_of_step outcome;
     }
 
--- a move in one of the games was played
 pub in_games : (b : Progress) → IsTrue (play_moves b.games) → IsTrue (has_played_move b)
 in_games b h = search rules
 
@@ -74,7 +71,6 @@ module _ (p : Profile) (old : Converter) (given : List Token) (t : Token) (l : S
   raised : Raises (Tries old.reading.profile b.part t.kind) old.reading.most_probes new.most_probes → Raises (Tries p b.part t.kind) old.reading.most_probes new.most_probes
   raised h = subst (λ q. Raises (Tries q b.part t.kind) old.reading.most_probes new.most_probes) has_read.profile h
 
-  -- the most pairs tried, with this token
   most_tried : refusal old.reading.profile b.part t.kind ≡ None → Raises (Tries old.reading.profile b.part t.kind) old.reading.most_probes new.most_probes
       → MostTried p (given ++ t ∷ []) new.most_probes
   most_tried h tries = most_with p t has_read.tried has_read.passes (passes h) (raised tries)
@@ -82,7 +78,6 @@ module _ (p : Profile) (old : Converter) (given : List Token) (t : Token) (l : S
   probed_before : IsTrue (has_played_move b) → 0 < new.most_probes
   probed_before moves = let some = has_read.probed moves in omega arith
 
-  -- the game goes on
   pub same_games : refusal old.reading.profile b.part t.kind ≡ None → Leads (next b.part t.kind) More new → SameGames p given (given ++ t ∷ [])
   same_games h leads = rw (reads h) ((leads_more (next b.part t.kind) b.games new leads).0)
 
@@ -107,7 +102,6 @@ module _ (p : Profile) (old : Converter) (given : List Token) (t : Token) (l : S
         just_finished = tt;
       }
 
-  -- the game is whole
   pub one_game : refusal old.reading.profile b.part t.kind ≡ None → Leads (next b.part t.kind) Finished new
       → (g : Game) × OneGame p given (given ++ t ∷ []) g × (game_in_reader new ≡ finished_game_of g)
   one_game h leads =
@@ -139,7 +133,6 @@ module _ (p : Profile) (old : Converter) (given : List Token) (t : Token) (l : S
         just_finished = (b.games, g, one, finished_behind behind);
       }
 
-  -- the token is rejected
   pub at_refused : (us : List Token) {a c : Option (List ℕ)} {reason : Reason} → refusal old.reading.profile b.part t.kind ≡ Some reason → Appends a c []
       → Raises (Tries old.reading.profile b.part t.kind) old.reading.most_probes new.most_probes → reported_position new reason ≡ position_if_move reason (position_in b.part)
       → FaultAtEnd p given (given ++ t ∷ us) (record { at = t.at; reason = reason }) new a c
@@ -150,10 +143,7 @@ module _ (p : Profile) (old : Converter) (given : List Token) (t : Token) (l : S
         stops = refused (record { at = t.at; reason = reason }) (ap (λ (r : Read). r.fault) ends)
             (record { text = []; due_for = search (rules, append-nil); appended = wrote });
         no_game = cc;
-        counts = record {
-          tried = search (rules, most_to_refused, raised);
-          probed = search (rules, probed_before);
-        };
+        counts = record { tried = search (rules, most_to_refused, raised); probed = search (rules, probed_before) };
         position = cc;
       }
 
@@ -165,7 +155,6 @@ module _ (p : Profile) (old : Converter) (given : List Token) (t : Token) (l : S
     pub gains_token : {a c : Option (List ℕ)} → refusal old.reading.profile b.part t.kind ≡ None → Appends a c (gain (as_written old.reading.profile) b.part t.kind) → Gains p given (given ++ t ∷ []) a c
     gains_token h wrote = search (rules, due-passes, passes, shown)
 
-    -- a write failed
     pub at_unwritten : (us : List Token) {a c : Option (List ℕ)} → refusal old.reading.profile b.part t.kind ≡ None
         → AppendsFront a c (gain (as_written old.reading.profile) b.part t.kind)
         → Raises (TriesUnwritten old.reading.profile b.part t.kind) old.reading.most_probes new.most_probes
@@ -187,10 +176,7 @@ module _ (p : Profile) (old : Converter) (given : List Token) (t : Token) (l : S
             appended = search (rules, shown);
           });
           no_game = refl;
-          counts = record {
-            tried = search rules;
-            probed = probed_before;
-          };
+          counts = record { tried = search rules; probed = probed_before };
           position = refl;
         }
 
@@ -249,11 +235,9 @@ took p old u given piece used t l new finished a c (Ok Finished) stands scan end
       (one.0, one.1, ap (λ (finished : FinishedGame). Some finished) one.2),
     )
 took p old u given piece used t l new finished a c (Err why) stands scan ends count profile probes written stopped =
-    fed_to
-    (rw (still_none-none piece) (next_in_piece l u piece used scan.0))
+    fed_to (rw (still_none-none piece) (next_in_piece l u piece used scan.0))
     (at_fault p old given t l new finished stands.has_read profile probes written [] stopped)
 
--- no token in the piece
 pub took_none : (p : Profile) (old : Converter) (u : List ℕ) (given : List Token) (piece : List ℕ) (used : ℕ) (l : Standing) (o : Option (List ℕ)) → 0 < length piece
     → Stands p old u (first piece) given → AfterScan u (first piece) given piece l used more
     → AfterStep p u given piece (record old { lexer = l }) used (Ok None) o o
@@ -278,11 +262,9 @@ pub took_fault : (p : Profile) (old : Converter) (u : List ℕ) (given : List To
     → Stands p old u (first piece) given → AfterScan u (first piece) given piece l used (fault f)
     → new.reading ≡ old.reading → AfterStep p u given piece new used (Err (record { at = f.at; reason = Lexical f.reason })) o o
 took_fault p old u given piece used f l new o some stands scan same =
-    fed_to
-    (λ s follows.
+    fed_to (λ s follows.
     let rest = rw (still_none-none piece ∙ sym (still_none (first piece) piece some)) at follows in
-    ([], scan.0 s rest ∙ sym (append-nil (given ++ refusal_token f ∷ []))))
-    (at_lexical f stands.has_read same)
+    ([], scan.0 s rest ∙ sym (append-nil (given ++ refusal_token f ∷ [])))) (at_lexical f stands.has_read same)
 
 -- a game is just finished after a step where the step finished one
 pub is_some_held : (b : Bool) (reading : ReaderState) → is_some (game_in_reader_if b reading) ≡ b

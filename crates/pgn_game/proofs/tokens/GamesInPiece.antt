@@ -21,7 +21,6 @@ behind_first [] = refl
 behind_first (x ∷ xs) = refl
 
 module _ (p : Profile) (u : List ℕ) (given : List Token) (piece : List ℕ) (at : ℕ) (now : Converter) (a c d : Option (List ℕ)) (so : AllSoFar p u given piece at now a c) where
-  -- a game more
   pub all_more : (new : Converter) (used : ℕ) → FedGame p (u ++ take at piece) so.tokens (drop at piece) used new c d → AllSoFar p u given piece (at + used) new a d
   all_more new used fed =
       let ts = fed.tokens ++ fed.marker ∷ [] in
@@ -33,7 +32,6 @@ module _ (p : Profile) (u : List ℕ) (given : List Token) (piece : List ℕ) (a
         gains = gains_more so.gains fed.gains;
       }
 
-  -- all of it
   pub all_fed : (new : Converter) → FedAll p (u ++ take at piece) (first (drop at piece)) so.tokens (drop at piece) new c d → FedWhole p u given piece new a d
   all_fed new fed =
       record {
@@ -58,7 +56,6 @@ module _ (p : Profile) (u : List ℕ) (given : List Token) (piece : List ℕ) (a
         stops = stops_more so.gains fed.stops;
       }
 
-  -- before place 2^62
   all_before : {front : List ℕ} {n : Converter} → length ((u ++ take at piece) ++ front) ≡ 2 ^ 62 → FedAll p (u ++ take at piece) (first (drop at piece)) so.tokens front n c d
       → ReadsUpTo p given (u ++ (take at piece ++ front)) a d
   all_before {front} end fed =
@@ -78,8 +75,7 @@ module _ (p : Profile) (u : List ℕ) (given : List Token) (piece : List ℕ) (a
           fed.empty (ap (length {A = ℕ}) e) ∙ so.at_limit (sym (ap (length {A = ℕ}) here) ∙ end) ∙ ap decided (sym here ∙ text)
       which (x ∷ xs) e = fed.decided (rw e (omega arith)) ∙ ap decided text
 
-  pub all_stops : (new : Converter) (f : Fault)
-      → StopsIn (u ++ take at piece) (drop at piece)
+  pub all_stops : (new : Converter) (f : Fault) → StopsIn (u ++ take at piece) (drop at piece)
       (λ fault. FedToFault p (u ++ take at piece) (first (drop at piece)) so.tokens (drop at piece) fault new.reading c d)
       (λ front. (n : Converter) × FedAll p (u ++ take at piece) (first (drop at piece)) so.tokens front n c d × (new.reading ≡ n.reading)) f
       → StopsIn u piece (λ fault. FedFault p u None given piece fault a d) (λ front. ReadsUpTo p given (u ++ front) a d) f

@@ -15,7 +15,6 @@ use Rattle.pgn_game.proofs.tokens.WholeInput.{keeps_consumed}
 pub none_or_some : {A : Type 0} {o : Option A} (x : A) → o ≡ Some x → o ≡ None → ⊥
 none_or_some x a b = cc
 
--- tokens before those that pass do
 pub passes_before : (p : Profile) (ts us : List Token) → (read p (ts ++ us)).fault ≡ None → (read p ts).fault ≡ None
 passes_before p ts us passes = search (rules, none_or_some, stops_from)
 
@@ -61,7 +60,6 @@ none_yet p u given left now o (within on) not_finished =
     }
 none_yet p u given left now o (at_end all) not_finished = absurd (cc)
 
--- what a call at the end finds
 pub at_end_again : (p : Profile) (u : List ℕ) (given : List Token) (left : Option (List ℕ)) (now : Games) (new : Converter) (o : Option (List ℕ)) → HaveRead p left u now given
     → now.converter.is_finished ≡ true → new ≡ record now.converter { just_finished = None } → NoGame p u given left left (games_of new now.unused) o o
 at_end_again p u given left now new o h1 h2 h3 = grind (arith, Consumes-nil, append-nil, gains_none, let_go)
@@ -89,7 +87,6 @@ decided_before u piece (inr (b, e, k)) = absurd (cc)
 
 module _ (p : Profile) (u : List ℕ) (given : List Token) (left_old left : Option (List ℕ)) (now : Games) (a c : Option (List ℕ)) (so : NextSoFar p u given left_old left now a c)
     (d : Option (List ℕ)) where
-  -- a game was finished
   pub game_read : (new : Converter) (used : ℕ) → FedGame p so.reads_on.used so.tokens now.unused used new c d → new.is_finished ≡ false
       → NextGame p u given left_old left (games_of new (drop used now.unused)) a d
   game_read new used fed not_finished =
@@ -106,7 +103,6 @@ module _ (p : Profile) (u : List ℕ) (given : List Token) (left_old left : Opti
         gains = gains_more so.gains fed.gains;
       }
 
-  -- no game was finished
   pub rest_read : (new : Converter) → FedAll p so.reads_on.used (first now.unused) so.tokens now.unused new c d → new.is_finished ≡ false
       → NextSoFar p u given left_old left (games_of new []) a d
   rest_read new fed not_finished =
@@ -129,8 +125,7 @@ module _ (p : Profile) (u : List ℕ) (given : List Token) (left_old left : Opti
       }
 
   -- a token was rejected, a write failed, or the input is too long
-  pub rest_stops : (new : Converter) (f : Fault)
-      → StopsIn so.reads_on.used now.unused
+  pub rest_stops : (new : Converter) (f : Fault) → StopsIn so.reads_on.used now.unused
       (λ fault. FedToFault p so.reads_on.used (first now.unused) so.tokens now.unused fault new.reading c d)
       (λ front. (n : Converter) × FedAll p so.reads_on.used (first now.unused) so.tokens front n c d × (new.reading ≡ n.reading)) f
       → NextStops p u given left_old left new.reading.most_probes a d f
@@ -162,7 +157,6 @@ module _ (p : Profile) (u : List ℕ) (given : List Token) (left_old left left_n
   all_used : u ++ so.more ≡ so.reads_on.used
   all_used = so.reads_on.bytes ∙ append-nil so.reads_on.used
 
-  -- more bytes were read
   pub filled : (piece : List ℕ) → Consumes left left_new piece → NextSoFar p u given left_old left_new (games_of now piece) a c
   filled piece consumed =
       record {
@@ -181,7 +175,6 @@ module _ (p : Profile) (u : List ℕ) (given : List Token) (left_old left left_n
         gains = so.gains;
       }
 
-  -- a read failed
   pub unread : (f : Fault) (most : ℕ) → Keeps left left_new → f ≡ record { at = now.lexer.count; reason = ReadFault } → NextStops p u given left_old left_new most a c f
   unread f most keeps is =
       let place : now.lexer.count ≡ length (u ++ so.more) = search (rules, all_used) in
@@ -266,8 +259,7 @@ module _ (p : Profile) (u : List ℕ) (given : List Token) (left_old left left_n
         by_game false is (inl same) = none false is refl same
         by_game false is (inr (passes, (g, more))) =
             absurd (not_true (rw is at (fed.game.1 (omega (arith, ap (length {A = Game}) more, length-append (read p so.tokens).progress.games (g ∷ []))))))
-        by_game true is (inl same) =
-            absurd (omega (arith, fed.game.0 (rw is (cc)), ap (length {A = Game}) same))
+        by_game true is (inl same) = absurd (omega (arith, fed.game.0 (rw is (cc)), ap (length {A = Game}) same))
         by_game true is (inr (passes, (g, more))) = one g more is
 
     ended_at_fault : (f : Fault) → FinishesToFault p so.reads_on.used so.tokens new f c d

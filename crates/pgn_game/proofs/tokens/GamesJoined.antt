@@ -13,7 +13,6 @@ finished games = map finished_game_of games
 same_game : {o : Option FinishedGame} {x y : FinishedGame} → o ≡ Some x → o ≡ Some y → x ≡ y
 same_game e f = cc
 
--- the plies of the games taken are those of the games
 plies_taken : (games : List Game) → map (λ (game : FinishedGame). game.plies) (finished games) ≡ map plies_of games
 plies_taken [] = refl
 plies_taken (g ∷ games) = rw (plies_taken games)
@@ -26,15 +25,13 @@ first_of_text left {left_new} {u} {now} {given} consumed (games_calls.within on)
       coming now.converter.lexer (now.unused ++ rest),
       cc (on.bytes, append_assoc on.used now.unused rest, on.stands.lexer.tokens (now.unused ++ rest) (follows_first now.unused rest)),
     ))
-first_of_text left {left_new} {u} {given} consumed (games_calls.at_end all) =
-    search (rules, append-nil, known_whole)
+first_of_text left {left_new} {u} {given} consumed (games_calls.at_end all) = search (rules, append-nil, known_whole)
 
 -- what was read and written so far; the games taken are those read
 record SoFar (p : Profile) (left before : Option (List ℕ)) (taken : List FinishedGame) (now : Games) (left_now after : Option (List ℕ)) : Type 0 where
   pub reads : ReadSoFar p left left_now now before after
   pub games : taken ≡ finished (games_read p reads.tokens)
 
--- one game more
 taken_more : {p : Profile} {left left_old left_new before out after : Option (List ℕ)} {taken : List FinishedGame} (game : FinishedGame) {old new : Games}
     (so : SoFar p left before taken old left_old out)
     (next : NextGame p so.reads.bytes so.reads.tokens left_old left_new new out after) → new.converter.just_finished ≡ Some game
@@ -74,8 +71,7 @@ games_join p left before first old new taken (Ok true) source sink begins calls 
       of_text = first_of_text left
           (Consumes-trans left source.before source.after so.reads.bytes next.more so.reads.consumed next.consumed) next.have_read;
       games = taken_more game so next e;
-      written = subst (Appends before sink.after) next.whole
-          (appended (gains_more so.reads.gains next.gains));
+      written = subst (Appends before sink.after) next.whole (appended (gains_more so.reads.gains next.gains));
     }
 games_join p left before first old new taken (Ok false) source sink begins calls reads =
     let so = so_far p left before first begins calls in

@@ -61,8 +61,7 @@ games_restart restart p u s given rest marker cut ends finishes =
     ap (read p) (cut ∙ sym (append_assoc given (marker ∷ []) rest))
     ∙ reads_behind p no_progress ts rest finishes.passes
     ∙ ap (λ (c : Progress). read_from p c rest) (progress ∙ ap (λ (l : List Game). record { games = l; part = no_part }) (sym (append-nil gs)))
-    ∙ front_stays p gs no_progress rest
-    ∙ ap (λ (us : List Token). reads_with_front gs (read p us)) same in
+    ∙ front_stays p gs no_progress rest ∙ ap (λ (us : List Token). reads_with_front gs (read p us)) same in
     record {
       same_games = search rules;
       same_output = search (rules, written_with_front);

@@ -40,7 +40,6 @@ quiet_front (x ∷ xs) ys (here, rest) = (here, quiet_front xs ys rest)
 
 -- ---- the last tokens
 
--- the last one is the end or an error
 abbrev pub HasLast : List Token → Type 0
 HasLast [] = ⊥
 HasLast (t ∷ []) = IsLast t.kind
@@ -51,12 +50,10 @@ data AreLast : List Token → Type 0 where
   quiet : (ts : List Token) → AreQuiet ts → HasLast ts → AreLast ts
   one : (t : Token) (at : ℕ) → AreLast (t ∷ record { at = at; kind = tokens.end } ∷ [])
 
--- the end between games is no fault
 end_passes : (p : Profile) → refusal p no_part tokens.end ≡ None
 unfolding refusal
 end_passes p = refl
 
--- no game more, or one and no fault
 abbrev pub AddsOne : List Game → Read → Type 0
 AddsOne gs r = (r.progress.games ≡ gs) ⊎ ((r.fault ≡ None) × ((g : Game) × (r.progress.games ≡ gs ++ g ∷ [])))
 
@@ -97,8 +94,7 @@ last_torn p b place k h1 h2 = search (rules, end_torn, some-none)
 
 pub none_torn : (p : Profile) (b : Progress) (ts : List Token) → HasLast ts → (read_from p b ts).fault ≡ None → torn p (read_from p b ts).progress.part ≡ []
 none_torn p b [] has passes = absurd has
-none_torn p b (t ∷ []) has passes =
-    search (rules, first_passes, goes_on, last_torn)
+none_torn p b (t ∷ []) has passes = search (rules, first_passes, goes_on, last_torn)
 none_torn p b (t ∷ u ∷ ts) has passes =
     let here = goes_on p b t (u ∷ ts) (first_passes p b t (u ∷ ts) passes) in
     rw here (none_torn p (progress_after b t) (u ∷ ts) has (rw here at passes))
@@ -167,7 +163,6 @@ left_last {place} (symbol is) = one _ place
 left : (l : Standing) → AreLast (coming l [])
 left l = left_last (left_in l.held.mode)
 
--- with them at most one game is read
 pub left_games : (p : Profile) (b : Progress) (l : Standing) → AddsOne b.games (read_from p b (coming l []))
 left_games p b l = last_games p b (left l)
 

@@ -21,7 +21,6 @@ text_leads part k = search rules
 leads_in : (stage : Stage) (part : Part) (k : Kind) → Leads k part (next_in stage part k)
 leads_in stage part k = search (rules, text_leads)
 
--- inside a pair none is
 none_in_name : (part : Part) (k : Kind) (g : Game) → next_in AfterLeftBracket part k ≡ whole g → ⊥
 none_in_name part (tokens.symbol name) g e = absurd (cc)
 none_in_name part k g e = absurd (cc)
@@ -45,7 +44,6 @@ record IsPlain (k : Kind) : Type 0 where
 plain : (k : Kind) (marker : List ℕ) → marker_of k ≡ Some marker → IsPlain k
 plain k marker h1 = search rules
 
--- it passes as in movetext
 passes_in_text : (p : Profile) (stage : Stage) (part : Part) (k : Kind) (g : Game) → IsPlain k → refusal p (at_stage stage part) k ≡ None → next_in stage part k ≡ whole g
     → text_refusal p part k ≡ None
 passes_in_text p Between part k g is free leads =

@@ -2,16 +2,13 @@
 use Rattle.pgn_game.proofs.Words.{Fault, Profile, ◌≡◌, Bool, true, false, [], ℕ, Option, refl, Standing, Marker, marker_text, counting, ReaderState, Converter, CountsMissingAs, IsSound, counting_missing_as, game_in_reader_if, MostTried, none, rules}
 use Rattle.pgn_game.proofs.twice.MarkerCounts.{agrees_under}
 
--- the reader by the other profile
 abbrev pub reader_counting : Marker → ReaderState → ReaderState
 reader_counting marker r = record r { profile = counting r.profile (marker_text marker) }
 
--- the game just finished is the same
 pub finished_alike : (finished : Bool) (marker : Marker) (r : ReaderState) → game_in_reader_if finished (reader_counting marker r) ≡ game_in_reader_if finished r
 finished_alike true marker r = refl
 finished_alike false marker r = refl
 
--- for no token no pair is tried
 none_tried : {p q : Profile} {n : ℕ} → MostTried p [] n → MostTried q [] n
 none_tried (none b) = none b
 

@@ -3,7 +3,6 @@
 use Rattle.pgn_game.proofs.Words.{Kind, Mode, Stage, InMovetext, Profile, Missing, counts_as, takes_the_marker, Pair, Item, Part, ◌≡◌, ℕ, List, [], ◌∷◌, ◌++◌, length, drop, None, Some, refl, sym, ap, subst, ◌∙◌, append_assoc, drop-append_seam, start_of, marker_of, tag_section, tokens_out, torn, going, whole, next, next_in, items_of, text_next, IsPrefix, lines_of, text_of as text_of_lines}
 use Rattle.pgn_game.proofs.putting.ItemsAppended.{full_text_grows, full_text_marker}
 
--- a text in front of both
 pub behind : (xs ys zs : List ℕ) → IsPrefix ys zs → IsPrefix (xs ++ ys) (xs ++ zs)
 behind xs ys zs h = (h.0, ap (λ l. xs ++ l) h.1 ∙ sym (append_assoc xs ys h.0))
 

@@ -37,12 +37,10 @@ after_those p b (x ∷ xs) t us e =
     let here : read_from p b (x ∷ xs) ≡ read_from p (progress_after b x) xs = cc in
     cc (goes_on p b x (xs ++ t ∷ us) none, after_those p (progress_after b x) xs t us (rw here at e), here)
 
--- a token that is not rejected
 pub read-passes : (p : Profile) (given : List Token) (t : Token) → (read p given).fault ≡ None → refusal p (read p given).progress.part t.kind ≡ None
     → read p (given ++ t ∷ []) ≡ read_as (progress_after (read p given).progress t) None
 read-passes p given t e none = search (rules, after_those)
 
--- a token that is rejected, whatever comes after it
 pub read-refuses : (p : Profile) (given : List Token) (t : Token) (us : List Token) (reason : Reason) → (read p given).fault ≡ None → refusal p (read p given).progress.part t.kind ≡ Some reason
     → read p (given ++ t ∷ us) ≡ read_as (read p given).progress (Some (record { at = t.at; reason = reason }))
 read-refuses p given t us reason e some = search (rules, after_those)
@@ -60,7 +58,6 @@ torn-none takes_the_marker mode = refl
 written_with : (p : Profile) (games : List Game) (nx : Next) → written p (progress_with games nx) ≡ text_of p games ++ text_next p nx
 written_with p games nx = search (rules, append-nil, text_of-snoc, torn-none)
 
--- what a token adds to what was written
 written-next : (p : Profile) (games : List Game) (part : Part) (k : Kind)
     → written p (progress_with games (next part k)) ≡ written p (record { games = games; part = part }) ++ gain p part k
 written-next p games part k = search (rules, append_assoc, next_is, written_with)
@@ -92,7 +89,6 @@ writing_more p x a b c first more =
       appended = search (rules, Appends-trans, take-append-add);
     }
 
--- tokens were read, and then reading stopped
 pub stops_more : {p : Profile} {x y tokens : List Token} {f : Fault} {a b c : Option (List ℕ)} → Gains p x y a b → Stops p y tokens b c f → Stops p x tokens a c f
 stops_more first (refused g fault gains) = refused g fault (gains_more first gains)
 stops_more {p} {x} {a} {b} {c} first (unwritten at writing) = unwritten at (writing_more p x a b c first writing)
@@ -104,14 +100,12 @@ unfolding stops_more writing_more
 games_still first (refused g fault gains) = refl
 games_still first (unwritten at writing) = refl
 
--- and the count there stays as it is
 pub counts_still : {p : Profile} {x y tokens : List Token} {f : Fault} {a b c : Option (List ℕ)} (first : Gains p x y a b) (stops : Stops p y tokens b c f) {most : ℕ}
     → ProbesAtStop stops most → ProbesAtStop (stops_more first stops) most
 unfolding stops_more writing_more
 counts_still first (refused g fault gains) h = record { tried = h.tried; probed = h.probed }
 counts_still first (unwritten at writing) h = record { tried = h.tried; probed = h.probed }
 
--- and so does the position there
 pub position_still : {p : Profile} {x y tokens : List Token} {f : Fault} {a b c : Option (List ℕ)} (first : Gains p x y a b) (stops : Stops p y tokens b c f)
     → position_at_stop (stops_more first stops) ≡ position_at_stop stops
 unfolding stops_more

@@ -12,15 +12,12 @@ most_then : (p : Profile) {b : Progress} {ts : List Token} {most : ℕ} → Most
     → (read_from p b ts).fault ≡ None → MostFrom p (read_from p b ts).progress us n
     → MostFrom p b (ts ++ us) (max most n)
 most_then p (most_tried.none c) us n clear then = search rules
-most_then p (most_tried.refused c x xs m reason some h) us n clear then =
-    cc
+most_then p (most_tried.refused c x xs m reason some h) us n clear then = cc
 most_then p (most_tried.passes c x xs m rest is h more) us n clear then =
     let same : read_from p c (x ∷ xs) ≡ read_from p (progress_after c x) xs = cc in
     let again : max m (max rest n) ≡ max (max m rest) n = omega arith in
-    subst (MostFrom p c (x ∷ xs ++ us)) again
-    (most_tried.passes c x (xs ++ us) m (max rest n) is h
-    (most_then p more us n (rw same at clear)
-    (rw same at then)))
+    subst (MostFrom p c (x ∷ xs ++ us)) again (most_tried.passes c x (xs ++ us) m (max rest n) is h
+    (most_then p more us n (rw same at clear) (rw same at then)))
 
 -- so from the start on: a token more, and one that is rejected, whatever comes behind it
 pub most_with : (p : Profile) {given : List Token} (t : Token) {old new : ℕ} → MostTried p given old → (read p given).fault ≡ None
@@ -30,17 +27,14 @@ most_with p {given} t before clear free raised =
     let one = most_tried.passes b t [] raised.tried 0 free raised.allowed (most_tried.none (progress_after b t)) in
     let least : max raised.tried 0 ≡ raised.tried = omega arith in
     let then = subst (MostFrom p b (t ∷ [])) least one in
-    subst (MostTried p (given ++ t ∷ [])) (sym raised.most)
-    (most_then p before (t ∷ []) raised.tried clear then)
+    subst (MostTried p (given ++ t ∷ [])) (sym raised.most) (most_then p before (t ∷ []) raised.tried clear then)
 
 pub most_to_refused : (p : Profile) {given : List Token} (t : Token) (us : List Token) {why : Reason} {old new : ℕ} → MostTried p given old → (read p given).fault ≡ None
     → refusal p (read p given).progress.part t.kind ≡ Some why → Raises (Tries p (read p given).progress.part t.kind) old new → MostTried p (given ++ t ∷ us) new
 most_to_refused p {given} t us {why} before clear is raised =
     let then = most_tried.refused (read p given).progress t us raised.tried why is raised.allowed in
-    subst (MostTried p (given ++ t ∷ us)) (sym raised.most)
-    (most_then p before (t ∷ us) raised.tried clear then)
+    subst (MostTried p (given ++ t ∷ us)) (sym raised.most) (most_then p before (t ∷ us) raised.tried clear then)
 
--- nothing is tried for a rejection of the lexer
 pub raises_none : {p : Profile} {part : Part} {r : LexReason} {why : Reason} {most : ℕ} → refusal p part (tokens.refused r) ≡ Some why
     → Raises (Tries p part (tokens.refused r)) most most
 raises_none is = search rules
@@ -79,7 +73,6 @@ item_held : (r : ReaderState) {to : Part} (i : Item) (n k : ℕ) → IsOpen r to
     → CostsToWrite (is_written r.profile.mode (depth (levels_of_part to)) i) (position_in to) i n k
 item_held r i n k is h = search (rules, depth_is, position_is, written_alike)
 
--- for an item other than a move no pair is tried
 untried : (b : Bool) (place : Parts) (i : Annotation) {n k : ℕ} → k ≡ n → CostsToWrite b place (model_item i) n k
 untried b place i h1 = search rules
 
@@ -110,7 +103,6 @@ adds_item p i part = search (rules, adds_items, untried)
 pub adds_same : (p : Profile) (part : Part) (to : Part) → to.items ≡ part.items → CostsToPut p part (going to) 0 0
 adds_same p part to same = search (rules, drop-length)
 
--- a move
 pub adds_move : (r : ReaderState) (part : Part) (m : Move) (n k : ℕ) → IsOpen r part → TriesItem r.profile.mode r.text (move m) n k
     → CostsToPut r.profile part (going (with_items part (move m ∷ []))) n k
 adds_move r part m n k is tries = adds_items r.profile part (move m ∷ []) n k (item_held r (move m) n k is tries)

@@ -13,7 +13,6 @@ use Rattle.pgn_game.proofs.putting.PairStepToReader.{puts_nothing}
 use Rattle.pgn_game.proofs.tokens.PairsTriedForToken.{CostsToPut, TriesPut, adds_item, adds_none, adds_same, costs_found, marker_untried, plain_untried, tries_put, untried_in_pair}
 use Rattle.pgn_game.specs.MostTried as most_tried
 
--- where no pair is tried, the count stays
 pub counting_none : (old : ReaderState) → old ≡ counting_probes old 0
 counting_none old = let same : old.most_probes ≡ max old.most_probes 0 = omega arith in ap (λ (n : ℕ). record old { most_probes = n }) same
 
@@ -27,14 +26,9 @@ refused_after old new IsOf k reason n o m counted inside why costs here = record
       reader_state.refused reason (why part is) (Appends-nil o)
       (record {
         tried = n;
-        allowed = record {
-          found = n;
-          finds = costs part is;
-          writes = rw (why part is);
-        };
+        allowed = record { found = n; finds = costs part is; writes = rw (why part is) };
         most = cc;
-      })
-      (rw counted (here part is));
+      }) (rw counted (here part is));
   keeps = record {
     profile = cc;
     plies = omega (arith, ap (λ (r : ReaderState). r.earlier_plies) counted, ap (λ (r : ReaderState). r.text.plies) counted);
@@ -61,11 +55,7 @@ module _ (old counted new : ReaderState) (part : Part) (k : Kind) (to : Next) (d
   gain_is = cc
 
   tries : CostsToPut old.profile part to n more → Tries old.profile part k more
-  tries costs = record {
-    found = n;
-    finds = finds;
-    writes = search rules;
-  }
+  tries costs = record { found = n; finds = finds; writes = search rules }
 
   unwritten : CostsToPut old.profile part to n more ⊎ ((is_at InMovetext part ≡ false) × (more ≡ n)) → TriesUnwritten old.profile part k more
   unwritten (inl costs) = most_tried.at_token (tries costs)
@@ -83,7 +73,6 @@ module _ (old counted new : ReaderState) (part : Part) (k : Kind) (to : Next) (d
       subst (λ (r : Reason). IsStopped old part k new d.before d.after r) (sym is)
       (reader_state.unwritten says.0 (subst (AppendsFront d.before d.after) gain_is front) (record { tried = more; allowed = unwritten costs; most = most }))
 
--- so for each part
 pub takes_put : (old : ReaderState) {counted new : ReaderState} (IsOf IsPut : Part → Type 0) (k : Kind) {to : Part → Next} {r : Result Accepted Reason} {d : Device} (n more : ℕ)
     → counted ≡ counting_probes old n → PutResult counted IsPut to new r d → FinishesAtMarker k new r → (counted.stage ≡ Between → counted ≡ old)
     → new.most_probes ≡ max old.most_probes more → ((part : Part) → IsOf part → IsPut part)
@@ -91,7 +80,6 @@ pub takes_put : (old : ReaderState) {counted new : ReaderState} (IsOf IsPut : Pa
     → ((part : Part) → IsOf part → CostsToFind part k n) → ((part : Part) → IsOf part → TriesPut old.profile part (to part) r n more) → Takes old IsOf k new r d
 takes_put old IsOf IsPut k n more same puts finished closed most sub says finds costs = search (rules, answers, le-max_left)
 
--- only a marker finishes a game
 finishes_none : (k : Kind) (new : ReaderState) (r : Result Accepted Reason) → FinishesNone r → FinishesAtMarker k new r
 finishes_none k new r h1 = search rules
 
@@ -221,12 +209,10 @@ module _ (old found : ReaderState) (s : List ℕ) (n : ℕ) (at : IsTrue (may_ha
       let is_found : Ok played ≡ found_in here (move_of here s) = cc in
       takes_put old (IsEntry old (symbol s)) (IsOpen found) (symbol s) n more finds.counted puts (finishes_none (symbol s) new r none)
       (λ between. not_between (rw finds.counted at between)) most
-      (λ part is. rw finds.counted (open_counted n is.is_open))
-      (λ part is. (
+      (λ part is. rw finds.counted (open_counted n is.is_open)) (λ part is. (
         is.row ∙ move_free s here number score is.is_open refl is_found,
         is.leads ∙ move_leads s here number score is.is_open refl is_found,
-      ))
-      (λ part is. costs_found s n is.is_open at number score finds.tried) (λ part is. costs part is.is_open)
+      )) (λ part is. costs_found s n is.is_open at number score finds.tried) (λ part is. costs part is.is_open)
     where
       not_between : old.stage ≡ Between → found ≡ old
       not_between between = let h : IsTrue (may_have_movetext Between) = cc in absurd (cc)

@@ -24,7 +24,6 @@ pub nearer_by : (k : Kind) (old new : Standing) (t : Token) → FinishGivesToken
 nearer_by tokens.end old new t h = h.1
 nearer_by _ old new t h = (h.1, h.2)
 
--- the end is no marker
 pub marker_or_end : (k : Kind) → IsTrue (is_some (marker_of k)) → is_end k ≡ false
 marker_or_end tokens.end h = absurd (cc)
 marker_or_end _ h = refl
@@ -37,7 +36,6 @@ pub tokens_left : (u : List ℕ) (given : List Token) (e : Bool) (l : Standing) 
 tokens_left u given true l t h = ([], h)
 tokens_left u given false l t h = (coming l [], h ∙ append_assoc given (t ∷ []) (coming l []))
 
--- the end is passed between games alone
 pub end_at : (p : Profile) (s : Stage) (ps : List Pair) (name : List ℕ) (items : List Item)
     → refusal p (record { stage = s; pairs = ps; name = name; items = items }) tokens.end ≡ None → s ≡ Between
 unfolding refusal
@@ -59,11 +57,9 @@ end_passes p b k e none =
     (between_after b.part.pairs b.part.name b.part.items b.games
     (end_at p b.part.stage b.part.pairs b.part.name b.part.items (rw k_is at none)))
 
--- the game just finished is let go
 pub let_go : (p : Profile) (c : Converter) (given : List Token) → HasRead p c given → HasRead p (record c { just_finished = None }) given
 let_go p c given h = search rules
 
--- a converter after a step behind the last piece
 abbrev pub closed : Standing → ReaderState → ℕ → Bool → Result (Option Accepted) Fault → Converter
 closed l r games finished outcome = record (stepped l r games finished outcome) { just_finished = None }
 
@@ -87,11 +83,7 @@ closes p old u given t l new finished a c true (Ok More) is_e has_read left prof
     )
 closes p old u given t l new finished a c false (Ok More) is_e has_read left profile probes written h stays at_marker = (
   t,
-  record {
-    left = left;
-    has_read = search (rules, has_read_more, let_go);
-    gains = search (rules, gains_token);
-  },
+  record { left = left; has_read = search (rules, has_read_more, let_go); gains = search (rules, gains_token) },
   same_games p old given t l new finished has_read profile probes h.free h.leads,
   stays,
 )
@@ -141,7 +133,6 @@ counts_closed e (Err f) sink h = h
 pub sound_behind_fault : (lexer : Standing) (reading : ReaderState) (games : ℕ) (is_finished : Bool) (f : Fault) → IsKnown reading.profile → IsSound lexer reading games false is_finished (Some f)
 sound_behind_fault lexer reading games is_finished f known = search rules
 
--- a token finishes one game at most
 one_more : (accepted : Accepted) (games : ℕ) → games_after (Ok (Some accepted)) games ≤ games + 1
 one_more More games = omega arith
 one_more Finished games = omega arith
@@ -159,7 +150,6 @@ pub not_just_finished : (b : Bool) (r : ReaderState) → game_in_reader_if b r �
 not_just_finished true r h = absurd (cc)
 not_just_finished false r h = refl
 
--- what the lexer has left behind the last piece
 pub left_of : (p : Profile) (old : Converter) (u : List ℕ) (b : Option ℕ) (given : List Token) → Stands p old u b given → HasLeft old.lexer u given
 left_of p old u b given stands = search (rules, append-nil)
 

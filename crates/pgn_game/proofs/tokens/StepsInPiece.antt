@@ -4,7 +4,6 @@ use Rattle.pgn_game.proofs.Words.{Reason, InputTooLong, Fault, Profile, take-app
 use Rattle.pgn_game.proofs.tokens.OneMoreToken.{gains_none, gains_more, stops_more, games_still, counts_still, position_still}
 use Rattle.pgn_game.proofs.tokens.AcceptedToConverter.{still_none, still_none-none}
 
--- the game just finished is let go
 pub lets_go : (p : Profile) (old : Converter) (u : List ℕ) (b : Option ℕ) (given : List Token) → Stands p old u b given → Stands p (record old { just_finished = None }) u b given
 lets_go p old u b given stands = search rules
 
@@ -15,7 +14,6 @@ follows_from b x xs s h1 h2 = search rules
 pub begins_with : {p : Profile} {c : Converter} {u : List ℕ} {b : Option ℕ} {given : List Token} (piece : List ℕ) → Stands p c u b given → Follows b piece → Stands p c u (next_at b piece 0) given
 begins_with piece h1 h2 = search (rules, follows_from)
 
--- before the first step
 pub so_far_none : (p : Profile) (old : Converter) (u : List ℕ) (b : Option ℕ) (given : List Token) (piece : List ℕ) (o : Option (List ℕ)) → Stands p old u b given → Follows b piece
     → SoFar p u b given piece 0 old o o
 so_far_none p old u b given piece o stands follows = search (rules, append-nil, begins_with, gains_none)
@@ -64,7 +62,6 @@ module _ (p : Profile) (u : List ℕ) (b : Option ℕ) (given : List Token) (pie
       → IsDecided (u ++ take (at + used) piece) (drop (at + used) piece) ts
   decided_further used h = search (rules, drop-drop, further)
 
-  -- one token more
   pub so_far_more : (new : Converter) (used : ℕ) → AfterStep p (u ++ take at piece) so.tokens (drop at piece) new used (Ok (Some More)) c d → SoFar p u b given piece (at + used) new a d
   so_far_more new used (t, took, same) =
       record {
@@ -76,7 +73,6 @@ module _ (p : Profile) (u : List ℕ) (b : Option ℕ) (given : List Token) (pie
         gains = gains_more so.gains took.gains;
       }
 
-  -- no token more
   pub fed_all : (new : Converter) (used : ℕ) → AfterStep p (u ++ take at piece) so.tokens (drop at piece) new used (Ok None) c d → new.just_finished ≡ None → FedAll p u b given piece new a d
   fed_all new used (all, stands, is_decided, gains) finished =
       record {
@@ -89,7 +85,6 @@ module _ (p : Profile) (u : List ℕ) (b : Option ℕ) (given : List Token) (pie
         gains = gains_more so.gains gains;
       }
 
-  -- a marker
   pub fed_game : (new : Converter) (used : ℕ) → length u + length piece ≤ 2 ^ 62
       → AfterStep p (u ++ take at piece) so.tokens (drop at piece) new used (Ok (Some Finished)) c d → FedGame p u given piece (at + used) new a d
   fed_game new used short (t, took, (g, one, finished)) =
@@ -110,7 +105,6 @@ module _ (p : Profile) (u : List ℕ) (b : Option ℕ) (given : List Token) (pie
         gains = gains_more so.gains took.gains;
       }
 
-  -- a fault
   pub fed_fault : (new : Converter) (used : ℕ) (f : Fault) → AfterStep p (u ++ take at piece) so.tokens (drop at piece) new used (Err f) c d → FedToFault p u b given piece f new.reading a d
   fed_fault new used f to_fault =
       let fed = to_fault.fed in
@@ -168,8 +162,7 @@ module _ (p : Profile) (u : List ℕ) (b : Option ℕ) (given : List Token) (pie
         tokens = fed.tokens;
         marker = fed.marker;
         game = fed.game;
-        stands = before_more (drop used piece) (n - used)
-            (rw rest at (rw same at fed.stands));
+        stands = before_more (drop used piece) (n - used) (rw rest at (rw same at fed.stands));
         at_limit = search rules;
         decided = decided_before (u ++ take used piece) (drop used piece) (n - used)
             (rw rest at (rw same at fed.decided));

@@ -117,8 +117,7 @@ module _ (stand : SymbolsStandInText) (ends : GamesEndByMarker) (p : Profile) (c
       let short_enough : length text ≤ 254 = omega (arith, short, length-append text []) in
       let one : GoesOn l.count l.held.at text 49 = search (rules, fits_digit, symbol_given) in
       let two : GoesOn l.count l.held.at text 50 = search (rules, fits_digit, symbol_given) in
-      last t is
-      (ends_with_text u l.held.at text
+      last t is (ends_with_text u l.held.at text
       (stand (u ++ 49 ∷ []) given one.0 (token_at l.held.at (tokens.symbol (text ++ 49 ∷ [])))
       (stands.lexer.tokens (49 ∷ []) tt ∙ ap (λ m. given ++ tokens_to_come_in m l.count l.held.at text (49 ∷ [])) mode ∙ ap (λ ts. given ++ ts) one.1))
       (stand (u ++ 50 ∷ []) given two.0 (token_at l.held.at (tokens.symbol (text ++ 50 ∷ [])))

@@ -21,11 +21,9 @@ pub ended : {p : Profile} {u : List ℕ} {given : List Token} {new : Converter} 
     → t.games ≡ new.games → t.plies ≡ whole_plies new.reading → t.most_probes ≡ new.reading.most_probes → t.most_probes ≤ 1040 → AfterEnd p u given (Ok t) a c
 ended t done games plies probes bound = search (rules, totalled)
 
--- what was due from the start on
 pub appended : {p : Profile} {tokens : List Token} {a c : Option (List ℕ)} → Gains p [] tokens a c → Appends a c (due p tokens)
 appended gains = search (rules, torn-none)
 
--- games that have read nothing
 pub none_read : {p : Profile} {c : Converter} {left : Option (List ℕ)} → Stands p c [] None [] → c.is_finished ≡ false → HaveRead p left [] (games_of c []) []
 none_read stands not_finished = search rules
 
@@ -50,7 +48,6 @@ refused_text {p} s {tokens} more cut fault gains =
 further_writing : {p : Profile} {given tokens : List Token} (more : List Token) {at : ℕ} {a c : Option (List ℕ)} → StopsWriting p given tokens at a c → StopsWriting p given (tokens ++ more) at a c
 further_writing more w = search (rules, append_assoc, appended)
 
--- what is left, when it is known
 pub known_left : (o n : Option (List ℕ)) (u : List ℕ) (P : List ℕ → Type 0) → Consumes o n u → ((rest : List ℕ) → P (u ++ rest)) → IfSome o P
 known_left o n u P h1 h2 = search rules
 
@@ -63,11 +60,9 @@ module _ (p : Profile) (left_old left left_new : Option (List ℕ)) (now : Games
   all : (more : List ℕ) → Consumes left left_new more → Consumes left_old left_new (so.bytes ++ more)
   all more consumed = Consumes-trans left_old left left_new so.bytes more so.consumed consumed
 
-  -- a game more
   pub games_more : {new : Games} → NextGame p so.bytes so.tokens left left_new new c d → ReadSoFar p left_old left_new new a d
   games_more game = search (rules, all, gains_more)
 
-  -- all games
   pub games_end : {new : Games} (t : Totals) → NoGame p so.bytes so.tokens left left_new new c d → t.games ≡ new.converter.games → t.plies ≡ whole_plies new.converter.reading
       → t.most_probes ≡ new.converter.reading.most_probes → t.most_probes ≤ 1040 → AfterConversion p left_old left_new (Ok t) a d
   games_end t end games plies probes bound =
@@ -79,7 +74,6 @@ module _ (p : Profile) (left_old left left_new : Option (List ℕ)) (now : Games
   pub games_short : {new : Games} → NoGame p so.bytes so.tokens left left_new new c d → IfSome left_old (λ s. length s ≤ 2 ^ 62)
   games_short end = search (rules, all, known_whole)
 
-  -- a call stopped
   pub games_stop : {most : ℕ} {f : Fault} → NextStops p so.bytes so.tokens left left_new most c d f → Fails p left_old left_new a d f
   games_stop (games_calls.at_token g more consumed to) = by_stops (stops_more so.gains to.stops)
     where
@@ -119,8 +113,7 @@ slice_stops p {text} a c (at_token g fed) = by_stops fed.stops
 
     by_stops : {h : Fault} → Stops p [] fed.tokens a c h → FailsOn p text a c h
     by_stops (refused h fault gains) = conversion.FailsOn.refused h (refused_text text here.0 here.1 fault gains)
-    by_stops (unwritten at writing) =
-        conversion.FailsOn.unwritten at (rw here.1 (further_writing here.0 writing))
+    by_stops (unwritten at writing) = conversion.FailsOn.unwritten at (rw here.1 (further_writing here.0 writing))
 slice_stops p {text} a c (too_long front rest cut place some before) =
     subst (λ n. FailsOn p text a c (record { at = n; reason = InputTooLong })) place
     (conversion.FailsOn.too_long front rest cut place some (no_more before.decided before.passes before.gains))

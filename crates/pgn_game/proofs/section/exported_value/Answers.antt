@@ -4,7 +4,6 @@ use Rattle.pgn_game.proofs.pairs.ValuesByName.{either_of}
 use Rattle.pgn_game.proofs.section.exported_value.Goals as goal
 use Rattle.pgn_game.proofs.section.exported_value.Goals.{else-is_none-via-then-is_none+else-eq, else-is_none-via-else-is_none}
 
--- an unknown value that is none
 none_copied : (o : Option (Bor (List ℕ))) (t : Bool) → is_some o ≡ not t → t ≡ true → option_copied o ≡ None
 none_copied None t is e = refl
 none_copied (Some v) t is e = absurd (cc)

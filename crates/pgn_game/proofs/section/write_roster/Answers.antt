@@ -3,7 +3,6 @@ use Rattle.pgn_game.proofs.pairs.ExportedValues.{seven}
 use Rattle.pgn_game.proofs.putting.WritesInTurn.{next_text, next_front, within_at}
 use Rattle.pgn_game.proofs.section.write_roster.Goals as goal
 
--- the line of the pair at a place of the roster
 next_line : (result : List ℕ) (held : List Pair) (i : ℕ) (name unknown value : List ℕ) (a b c : Option (List ℕ)) → slice_get (roster result) i ≡ Some (record { name = name; value = unknown })
     → value ≡ unwrap_or (value_of held name) unknown → Appends a b (text_by (roster_line held) (take i (roster result))) → Appends b c (tag_line name value)
     → Appends a c (text_by (roster_line held) (take (i + 1) (roster result)))
