@@ -34,7 +34,7 @@ pub use Rattle.chess_rules.specs.Legal.{is_legal, legal}
 pub use Rattle.chess_rules.specs.Position.{initial, is_position}
 pub use Rattle.chess_rules.specs.declared.position.Move.{Move}
 pub use Rattle.chess_text.specs.Laws.{ReadingIsSpelling, TheOneMoveIsRead}
-pub use Rattle.chess_text.specs.WrittenMove.{IsMoveSymbol, WrittenMoveIsRead, WrittenMoveIsSymbol, begins_with_letter, is_letter, is_move_byte}
+pub use Rattle.chess_text.specs.WrittenMove.{IsMoveSymbol, WrittenMoveIsRead, WrittenMoveIsSymbol, begins_with_letter, is_move_byte}
 pub use Rattle.chess_text.specs.declared.fen.FenFault.{FenFault}
 pub use Rattle.chess_text.specs.declared.resolution.SanFault.TheVariants.{Ambiguous, NoMove}
 pub use Rattle.pgn_game.specs.Chess.{is_black_to_move}
@@ -48,9 +48,9 @@ pub use Rattle.pgn_game.specs.ItemResult.{Adds, GoesOn, Plays, PutsTokens, Tries
 pub use Rattle.pgn_game.specs.Levels.{Level, Levels, back_to, depth, first_level, here, last_position, levels_after, levels_of, main_moves, outermost, plies_of, replayed, start_of, without_last}
 pub use Rattle.pgn_game.specs.Markers.{marker_text, missing_of}
 pub use Rattle.pgn_game.specs.Movetext.{AreThere, ClosesLevel, FitsLevelStore, HoldsItems, Movetext, StoredLevel, StoredLevels, before_last, code_levels, ends_in_move, inside, level_at, level_of, movetext_after_fen, movetext_from, only_level, stored_level, stored_levels}
-pub use Rattle.pgn_game.specs.Progress.{Counted, Next, Progress, Read, at_stage, going, in_text, items_of, move_item, next, next_in, no_progress, output, progress_after, progress_with, read, read_from, refused, totals, verdict, whole, position_at_fault, due, verdict_of, written as written_so_far}
+pub use Rattle.pgn_game.specs.Progress.{Next, Progress, Read, at_stage, going, in_text, items_of, move_item, next, next_in, no_progress, output, progress_after, progress_with, read, read_from, refused, totals, verdict, whole, due, verdict_of, written as written_so_far}
 pub use Rattle.pgn_game.specs.PutResult.{BeginsText, Goes, Keeps, PutResult, PutsItems, TakesOutside, TakesToken, at_game_start, gain_to, section_due, section_due_of, CountsMove, EntersMovetext, Finds, FinishesNone, GoesTo, Takes, TakesEntry, TakesUnwritten, counting_probes, unused}
-pub use Rattle.pgn_game.specs.ReaderState.{Accepts, Agrees, AreSound, CountsWrites, FinishesAtMarker, HoldsPairs, HoldsText, IsBehind, ReaderState, Stays, as_written, is_outside_the_table, plies_behind, whole_plies, Answers, CountsStop, IsAccepted, IsKnown, IsStopped, Leads, plies_next}
+pub use Rattle.pgn_game.specs.ReaderState.{Accepts, Agrees, AreSound, CountsWrites, FinishesAtMarker, HoldsPairs, HoldsText, IsBehind, ReaderState, Stays, as_written, is_outside_the_table, plies_behind, whole_plies, Answers, IsAccepted, IsKnown, IsStopped, Leads, plies_next}
 pub use Rattle.pgn_game.specs.SectionLines.{other_line, roster_line, text_by}
 pub use Rattle.pgn_game.specs.Spells.{AreDistinct, AreDropped, BeginsBare, IsPair, IsResult, IsSetUp, KeepsTags, Names, Spells, SpellsGame, SpellsGames, SpellsPair, SpellsPairs, SpellsText, StandsFor, by_name, comment_close, comment_open, glyph, level_after_move, move, new_level, next_game, next_pair, no_game, no_more, no_pair, number, pair, period, token, variation, word}
 pub use Rattle.pgn_game.specs.StoredPairs.{FitsPairStore, TagPairs, but_last, index_of, last_name, pairs_seen}
@@ -65,8 +65,8 @@ pub use Rattle.pgn_layout.specs.Device.{AppendsFront, Counts, Device, Writes, Wr
 pub use Rattle.pgn_layout.specs.Layout.{EndGame, Put, ended, laid_from, line_at, line_put, text_at, text_put}
 pub use Rattle.pgn_layout.specs.Lines.{IsToken, full_lines, has_room, last_line, lines_from, lines_of, text_of}
 pub use Rattle.pgn_layout.specs.TagLine.{escape_of, escaped, needs_escape, tag_line}
-pub use Rattle.pgn_lexer.specs.Bytes.{continues_symbol, is_digit, is_space, starts_symbol}
-pub use Rattle.pgn_lexer.specs.Laws.{IsLast, KindsAreReadBack, NumbersAreSymbols, RisesTo, TokensAreSound, TokensRise, TextsRestart, CanBeMarker, BeginsWithToken, SymbolsStandInText, DecidedIsPrefix}
+pub use Rattle.pgn_lexer.specs.Bytes.{continues_symbol, is_space, starts_symbol}
+pub use Rattle.pgn_lexer.specs.Laws.{IsLast, KindsAreReadBack, NumbersAreSymbols, RisesTo, TokensAreSound, TokensRise, TextsRestart, CanBeMarker, BeginsWithToken, SymbolsStandInText}
 pub use Rattle.pgn_lexer.specs.Scanned.{kind_of}
 pub use Rattle.pgn_lexer.specs.Sound.{CommentsClose, IsData, IsSoundKind, IsSymbol, begins_with}
 pub use Rattle.pgn_lexer.specs.Tokens.{asterisk, left_bracket, right_bracket, str, symbol}
@@ -84,8 +84,8 @@ pub use Rattle.pgn_game.specs.ConverterCalls.{AreNext, Converter, CountsFault, C
 pub use Rattle.pgn_lexer.specs.Standing.{Standing, coming, waiting}
 pub use Rattle.pgn_lexer.specs.Stands.{AfterScan, FinishGivesToken, Follows, HasLeft, IsDecided, IsNext, StandsAfter, first, still}
 pub use Rattle.pgn_game.specs.Pass.{BothSoFar, HasMarked, HasMatched, IsGoing, Pass, changed_reason, marks_differ, part_after, profile_under, reading_under, steps_left}
-pub use Rattle.pgn_game.specs.MostTried.{CostsIf, CostsToAdd, CostsToFind, CostsToWrite, CostsUnlessRefused, MostFrom, MostTried, Raises, Tries, TriesUnwritten, added, is_sought, is_written, none}
-pub use Rattle.pgn_game.specs.GamesCalls.{AfterNext, CountsNext, Games, HasReadAll, HaveRead, NextGame, NextStops, NoGame, ReadSoFar, ReadsOn, StopsAtEnd, at_end, games_of, most_left, within}
+pub use Rattle.pgn_game.specs.MostTried.{CostsIf, CostsToAdd, CostsToFind, CostsToWrite, CostsUnlessRefused, MostFrom, MostTried, Raises, Tries, TriesUnwritten, added, is_written, none}
+pub use Rattle.pgn_game.specs.GamesCalls.{AfterNext, CountsNext, Games, HasReadAll, HaveRead, NextGame, NextStops, NoGame, ReadSoFar, at_end, games_of, most_left, within}
 pub use Rattle.pgn_game.specs.Due.{Gains, gain, text_next}
 pub use Rattle.pgn_game.specs.ConverterSteps.{AfterStepAtEnd, AllSoFar, AtEndSoFar, FaultAtEnd, FeedsAllSoFar, FeedsSoFar, FinishesSoFar, SameGames, StaysBetween, StepAtEndAdvances, fault_of_step, games_after, is_ended, none_at_end, outcome_at, AfterStep, next_at, SoFar, OneGame, finished_game, StepAdvances}
 pub use Rattle.pgn_game.specs.Checked.{Comparison, Mark, checked_profile, compared, compared_from, earlier_fault, is_changed, is_other, mark_at, marks, marks_after, marks_from, torn_before, with_mark, written_by}
@@ -102,4 +102,3 @@ pub use Rattle.pgn_lexer.specs.PartialToken.{pending_in, tokens_to_come_in}
 pub use Rattle.pgn_lexer.specs.declared.token.LexReason.{LexReason}
 pub use Rattle.pgn_lexer.specs.declared.token.LexReason.TheVariants.{SymbolTooLong, WordTooLong, GlyphRange}
 pub use Rattle.pgn_lexer.specs.Spelling.{gives, stops}
-pub use Rattle.pgn_game.specs.EqualReadings.{AreWritten, AreWrittenWithin, InterruptedReadings, EqualReadings}

@@ -19,9 +19,6 @@ pub record WrittenGame (p : Profile) (g : Game) : Type 0 where
   pub again : game_text p (filled p.mode g) ≡ game_text p g
   pub plies : plies_of (filled p.mode g) ≡ plies_of g
 
-abbrev game_pairs : Profile → Game → List ℕ
-game_pairs p g = tag_lines (exported_pairs p.mode g)
-
 abbrev game_tokens : Profile → Game → List (List ℕ)
 game_tokens p g = tokens_out p.mode (start_of g.pairs) g.items ++ g.marker ∷ []
 

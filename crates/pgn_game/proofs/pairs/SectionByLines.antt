@@ -45,9 +45,6 @@ lines_about-next n p ps = grind (arith, append_assoc)
 abbrev kept : Bool → Pair → List Pair → List Pair
 kept b p ps = cond (not b) (p ∷ ps) ps
 
-abbrev placed : Bool → Pair → List Pair → List Pair
-placed b p ps = elim b [ true ↦ set_up ∷ p ∷ ps | false ↦ p ∷ insert_pair set_up ps ]
-
 set_up_here : (p : Pair) (ps : List Pair) (s b : Bool) → is_set_up p ≡ s → comes_before (codes "SetUp") p.name ≡ b
     → lines_about (index_of (codes "SetUp") ps) ps ≡ tag_lines (other_pairs (insert_pair set_up (without_set_up ps)))
     → lines_about (elim b [ true ↦ 0 | false ↦ 1 + index_of (codes "SetUp") ps ]) (p ∷ ps) ≡ tag_lines (other_pairs (insert_pair set_up (kept s p (without_set_up ps))))

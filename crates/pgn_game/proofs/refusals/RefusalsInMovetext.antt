@@ -144,10 +144,6 @@ marker_refusal p part k is = grind (arith, symbol_marker, asterisk_marker)
 abbrev pub differs : List ℕ → Option (List ℕ) → List ℕ → Bool
 differs missing value marker = not (bytes_eq marker (unwrap_or value missing))
 
-other_is : (p : Profile) (ps : List Pair) (missing marker : List ℕ) → result_for p.missing_result marker ≡ missing
-    → other_if p.missing_result ps (Some marker) ≡ differs missing (value_of ps (codes "Result")) marker
-other_is p ps missing marker known = cc
-
 marker_tested : (p : Profile) (part : Part) (missing marker : List ℕ) (inside other : Bool) → nat_le 1 (depth (levels_of_part part)) ≡ inside → result_for p.missing_result marker ≡ missing
     → differs missing (value_of part.pairs (codes "Result")) marker ≡ other
     → marker_rows p part marker ≡ or_else inside MarkerInVariation (or_else (other && (depth (levels_of_part part) == 0)) ResultDiffers None)
