@@ -1,36 +1,43 @@
 -- What a class says of a byte, and what a test says of its class.
-use Rattle.std.proofs.lemmas.Grind.{common_steps}
-use Rattle.pgn_lexer.proofs.Words.{◌≡◌, ℕ, ◌<◌, Bool, true, false, refl, arith, ◌||◌, not, ◌==◌, if◌then◌else◌, eqb-true, agree_below_at, StrayByte, ControlByte, Reserved, Class, LineEnd, Space, Percent, SymbolStart, Quote, Dollar, Suffix, OpenBrace, Semicolon, Alone, Refused, CommentClass, is_line_end, is_blank, is_control, starts_symbol, is_suffix, class, comment_class, is_stray, or_cases}
-use Rattle.pgn_lexer.specs.declared.class.Single.TheVariants as singles
-use Rattle.pgn_lexer.specs.declared.class.CommentClass.TheVariants as comment_classes
+use Rattle.pgn_lexer.proofs.Words.{◌≡◌, ℕ, ◌<◌, Bool, true, false, refl, arith, ◌||◌, not, ◌==◌, if◌then◌else◌, eqb-true, agree_below_at, StrayByte, ControlByte, Reserved, Class, LineEnd, Space, Percent, SymbolStart, Quote, Dollar, Suffix, OpenBrace, Semicolon, Alone, Refused, CommentClass, is_line_end, is_blank, is_control, starts_symbol, is_suffix, class, comment_class, is_stray, or_cases, Single, common_steps}
 
 -- from a class to what is said of the byte; the tests are those of `class`, in its order
-abbrev Says : (symbol line_end blank suffix percent quote dollar brace semicolon lb rb lp rp period asterisk reserved control : Bool) → Class
-    → Type 0
-Says sy le bl su pe qu da br se lb rb lp rp pd ast re co LineEnd = le ≡ true
-Says sy le bl su pe qu da br se lb rb lp rp pd ast re co Space = (le ≡ false) × (bl ≡ true)
-Says sy le bl su pe qu da br se lb rb lp rp pd ast re co Percent = pe ≡ true
-Says sy le bl su pe qu da br se lb rb lp rp pd ast re co SymbolStart = sy ≡ true
-Says sy le bl su pe qu da br se lb rb lp rp pd ast re co Quote = qu ≡ true
-Says sy le bl su pe qu da br se lb rb lp rp pd ast re co Dollar = da ≡ true
-Says sy le bl su pe qu da br se lb rb lp rp pd ast re co Suffix = su ≡ true
-Says sy le bl su pe qu da br se lb rb lp rp pd ast re co OpenBrace = br ≡ true
-Says sy le bl su pe qu da br se lb rb lp rp pd ast re co Semicolon = se ≡ true
-Says sy le bl su pe qu da br se lb rb lp rp pd ast re co (Alone singles.LeftBracket) = lb ≡ true
-Says sy le bl su pe qu da br se lb rb lp rp pd ast re co (Alone singles.RightBracket) = rb ≡ true
-Says sy le bl su pe qu da br se lb rb lp rp pd ast re co (Alone singles.LeftParen) = lp ≡ true
-Says sy le bl su pe qu da br se lb rb lp rp pd ast re co (Alone singles.RightParen) = rp ≡ true
-Says sy le bl su pe qu da br se lb rb lp rp pd ast re co (Alone singles.Period) = pd ≡ true
-Says sy le bl su pe qu da br se lb rb lp rp pd ast re co (Alone singles.Asterisk) = ast ≡ true
-Says sy le bl su pe qu da br se lb rb lp rp pd ast re co (Refused Reserved) = re ≡ true
-Says sy le bl su pe qu da br se lb rb lp rp pd ast re co (Refused ControlByte) = co ≡ true
-Says sy le bl su pe qu da br se lb rb lp rp pd ast re co (Refused StrayByte) =
-    not (sy || le || bl || su || pe || qu || da || br || se || lb || rb || lp || rp || pd || ast || re || co) ≡ true
-Says sy le bl su pe qu da br se lb rb lp rp pd ast re co (Refused _) = ⊥
+module _ (sy le bl su pe qu da br se lb rb lp rp pd ast re co : Bool) where
+  abbrev Says : Class → Type 0
+  Says LineEnd = le ≡ true
+  Says Space = (le ≡ false) × (bl ≡ true)
+  Says Percent = pe ≡ true
+  Says SymbolStart = sy ≡ true
+  Says Quote = qu ≡ true
+  Says Dollar = da ≡ true
+  Says Suffix = su ≡ true
+  Says OpenBrace = br ≡ true
+  Says Semicolon = se ≡ true
+  Says (Alone Single.LeftBracket) = lb ≡ true
+  Says (Alone Single.RightBracket) = rb ≡ true
+  Says (Alone Single.LeftParen) = lp ≡ true
+  Says (Alone Single.RightParen) = rp ≡ true
+  Says (Alone Single.Period) = pd ≡ true
+  Says (Alone Single.Asterisk) = ast ≡ true
+  Says (Refused Reserved) = re ≡ true
+  Says (Refused ControlByte) = co ≡ true
+  Says (Refused StrayByte) = not (sy || le || bl || su || pe || qu || da || br || se || lb || rb || lp || rp || pd || ast || re || co) ≡ true
+  Says (Refused _) = ⊥
 
-says_of : (sy le bl su pe qu da br se lb rb lp rp pd ast re co : Bool)
-    → Says sy le bl su pe qu da br se lb rb lp rp pd ast re co (if sy then SymbolStart else (if le then LineEnd else (if bl then Space else (if su then Suffix else (if pe then Percent else (if qu then Quote else (if da then Dollar else (if br then OpenBrace else (if se then Semicolon else (if lb then Alone singles.LeftBracket else (if rb then Alone singles.RightBracket else (if lp then Alone singles.LeftParen else (if rp then Alone singles.RightParen else (if pd then Alone singles.Period else (if ast then Alone singles.Asterisk else (if re then Refused Reserved else (if co then Refused ControlByte else Refused StrayByte)))))))))))))))))
-says_of sy le bl su pe qu da br se lb rb lp rp pd ast re co = grind arith
+  abbrev by_tests : Class
+  by_tests =
+      if sy then SymbolStart else (if le then LineEnd else (if bl then Space else (if su then Suffix else (if pe then Percent
+      else (if qu then Quote else (if da then Dollar else (if br then OpenBrace else (if se then Semicolon
+      else (if lb then Alone Single.LeftBracket else (if rb then Alone Single.RightBracket else (if lp then Alone Single.LeftParen
+      else (if rp then Alone Single.RightParen else (if pd then Alone Single.Period else (if ast then Alone Single.Asterisk
+      else (if re then Refused Reserved else (if co then Refused ControlByte else Refused StrayByte))))))))))))))))
+
+  says_of : Says by_tests
+  says_of = grind arith
+
+  -- a byte of which no test holds
+  stray_of : Says (Refused StrayByte) → by_tests ≡ Refused StrayByte
+  stray_of h1 = grind arith
 
 -- what the class of a byte says
 abbrev pub ClassSays : ℕ → Class → Type 0
@@ -39,13 +46,6 @@ ClassSays b c =
 
 pub class_says : (b : ℕ) → ClassSays b (class b)
 class_says b = says_of _ _ _ _ _ _ _ _ _ _ _ _ _ _ _ _ _
-
--- a byte of which no test holds
-stray_of : (sy le bl su pe qu da br se lb rb lp rp pd ast re co : Bool)
-    → not (sy || le || bl || su || pe || qu || da || br || se || lb || rb || lp || rp || pd || ast || re || co) ≡ true
-    → (if sy then SymbolStart else (if le then LineEnd else (if bl then Space else (if su then Suffix else (if pe then Percent else (if qu then Quote else (if da then Dollar else (if br then OpenBrace else (if se then Semicolon else (if lb then Alone singles.LeftBracket else (if rb then Alone singles.RightBracket else (if lp then Alone singles.LeftParen else (if rp then Alone singles.RightParen else (if pd then Alone singles.Period else (if ast then Alone singles.Asterisk else (if re then Refused Reserved else (if co then Refused ControlByte else Refused StrayByte)))))))))))))))))
-    ≡ Refused StrayByte
-stray_of sy le bl su pe qu da br se lb rb lp rp pd ast re co h1 = grind arith
 
 pub stray_class : (b : ℕ) → is_stray b ≡ true → class b ≡ Refused StrayByte
 stray_class b e = stray_of _ _ _ _ _ _ _ _ _ _ _ _ _ _ _ _ _ e
@@ -63,11 +63,11 @@ line_end_class b e = of_line_end (λ b. class b ≡ LineEnd) b e refl refl
 pub blank_class : (b : ℕ) → is_blank b ≡ true → (class b ≡ Space) × (is_line_end b ≡ false)
 blank_class b e = grind (arith, common_steps, of_blank)
 
-pub line_end_comment : (b : ℕ) → is_line_end b ≡ true → comment_class b ≡ comment_classes.LineEnd
-line_end_comment b e = of_line_end (λ b. comment_class b ≡ comment_classes.LineEnd) b e refl refl
+pub line_end_comment : (b : ℕ) → is_line_end b ≡ true → comment_class b ≡ CommentClass.LineEnd
+line_end_comment b e = of_line_end (λ b. comment_class b ≡ CommentClass.LineEnd) b e refl refl
 
-pub blank_comment : (b : ℕ) → is_blank b ≡ true → comment_class b ≡ comment_classes.Space
-blank_comment b e = of_blank (λ b. comment_class b ≡ comment_classes.Space) b e refl refl refl refl
+pub blank_comment : (b : ℕ) → is_blank b ≡ true → comment_class b ≡ CommentClass.Space
+blank_comment b e = of_blank (λ b. comment_class b ≡ CommentClass.Space) b e refl refl refl refl
 
 pub suffix_class : (b : ℕ) → is_suffix b ≡ true → class b ≡ Suffix
 suffix_class b e = grind (arith, or_cases, eqb-true)
@@ -81,13 +81,13 @@ tells_control (Refused ControlByte) = true
 tells_control _ = false
 
 abbrev pub tells_control_in_comment : CommentClass → Bool
-tells_control_in_comment comment_classes.Control = true
+tells_control_in_comment CommentClass.Control = true
 tells_control_in_comment _ = false
 
 told_control : (c : Class) → tells_control c ≡ true → c ≡ Refused ControlByte
 told_control c h1 = grind arith
 
-told_control_in_comment : (c : CommentClass) → tells_control_in_comment c ≡ true → c ≡ comment_classes.Control
+told_control_in_comment : (c : CommentClass) → tells_control_in_comment c ≡ true → c ≡ CommentClass.Control
 told_control_in_comment c h1 = grind arith
 
 control_small : (b : ℕ) → is_control b ≡ true → b < 128
@@ -96,5 +96,5 @@ control_small b e = grind arith
 pub control_class : (b : ℕ) → is_control b ≡ true → class b ≡ Refused ControlByte
 control_class b e = grind (arith, common_steps, told_control, agree_below_at, control_small)
 
-pub control_comment : (b : ℕ) → is_control b ≡ true → comment_class b ≡ comment_classes.Control
+pub control_comment : (b : ℕ) → is_control b ≡ true → comment_class b ≡ CommentClass.Control
 control_comment b e = grind (arith, common_steps, told_control_in_comment, agree_below_at, control_small)

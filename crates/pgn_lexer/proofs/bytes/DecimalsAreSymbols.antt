@@ -1,5 +1,5 @@
 -- Numbers in decimal.
-use Rattle.pgn_lexer.proofs.Words.{◌≡◌, ℕ, ◌+◌, ◌-◌, ◌/◌, ◌%◌, ◌^◌, ◌<◌, ◌≤◌, Bool, true, List, [], ◌∷◌, ◌++◌, length, refl, arith, length-append, decimal, both_true, list_all, le-leb, fold-append, is_digit, starts_symbol, continues_symbol, NumbersAreSymbols, IsSymbol, number_of, and_parts}
+use Rattle.pgn_lexer.proofs.Words.{◌≡◌, ℕ, ◌+◌, ◌/◌, ◌%◌, ◌^◌, ◌<◌, ◌≤◌, Bool, true, List, [], ◌∷◌, ◌++◌, length, refl, arith, length-append, decimal, both_true, list_all, le-leb, fold-append, is_digit, starts_symbol, continues_symbol, NumbersAreSymbols, IsSymbol, number_of, and_parts}
 use Rattle.std.proofs.lemmas.Fmt.{decimal_by_steps, length-decimal-le}
 use Rattle.pgn_lexer.proofs.cutting.TokensAreSound.{start_continues}
 

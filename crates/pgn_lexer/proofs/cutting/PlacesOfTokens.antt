@@ -1,13 +1,11 @@
 -- Where tokens stand.
-use Rattle.pgn_lexer.proofs.Words.{◌≡◌, ℕ, ◌+◌, ◌<◌, ◌≤◌, Bool, true, false, cond, List, [], ◌∷◌, ◌++◌, refl, ap, ◌∙◌, arith, take_while, nat_lt, if◌then◌else◌, AllByRecursion, lt-ltb, Single, Class, CommentClass, StringClass, StringTooLong, UnclosedString, ControlByte, LexReason, Kind, Token, IsLast, RisesTo, TokensRise, kind_of_single, string_class, Found, gives, stops, Reading, closed, broken, datum, reading, glyph_at, suffix_at, string_at, Within, begins_class, begins_first, begins_after, begins_brace, begins_line, begins, next, onto, at_end, tokens_from, take_while-cons}
-use Rattle.pgn_lexer.specs.declared.class.Class.TheVariants as classes
-use Rattle.pgn_lexer.specs.declared.class.StringClass.TheVariants as string_classes
-use Rattle.pgn_lexer.specs.Spelling as spelling
+use Rattle.pgn_lexer.proofs.stepping.ByteInString.{read_plain, read_escaped}
+use Rattle.pgn_lexer.proofs.Words.{◌≡◌, ℕ, ◌+◌, ◌<◌, ◌≤◌, Bool, true, false, cond, List, [], ◌∷◌, ◌++◌, refl, ap, ◌∙◌, arith, take_while, nat_lt, if◌then◌else◌, AllByRecursion, lt-ltb, Single, Class, CommentClass, StringClass, LexReason, Kind, Token, IsLast, RisesTo, TokensRise, kind_of_single, Found, gives, stops, Reading, closed, broken, reading, glyph_at, suffix_at, string_at, Within, begins_class, begins_first, begins_after, begins_brace, begins_line, begins, next, onto, at_end, tokens_from, take_while-cons}
 
 -- What begins at a place stands there or further on, and is a rejection or a token that is not the
 -- last.
 abbrev FoundFrom : ℕ → Found → Type 0
-FoundFrom at spelling.nothing = Unit {0}
+FoundFrom at Found.nothing = Unit {0}
 FoundFrom at (gives k) = IsLast k → ⊥
 FoundFrom at (stops place r) = at ≤ place
 
@@ -15,35 +13,21 @@ abbrev ReadingFrom : ℕ → Reading → Type 0
 ReadingFrom at (closed text) = Unit {0}
 ReadingFrom at (broken place r) = at ≤ place
 
+plain_from : (start at n b : ℕ) (bs : List ℕ) (c : StringClass) → start ≤ at → ReadingFrom start (reading start (at + 1) n true bs)
+    → ReadingFrom start (reading start (at + 1) (n + 1) false bs) → ReadingFrom start (read_plain start at n b bs c)
+plain_from start at n b bs c h1 h2 h3 = grind arith
+
+escaped_from : (start at n b : ℕ) (bs : List ℕ) (c : StringClass) → start ≤ at → ReadingFrom start (reading start (at + 1) (n + 1) false bs)
+    → ReadingFrom start (reading start (at + 1) (n + 2) false bs) → ReadingFrom start (read_escaped start at n b bs c)
+escaped_from start at n b bs c h1 h2 h3 = grind arith
+
 reading_from : (start at n : ℕ) (e : Bool) (s : List ℕ) → start ≤ at → ReadingFrom start (reading start at n e s)
 reading_from start at n false [] after = omega arith
 reading_from start at n true [] after = omega arith
 reading_from start at n false (b ∷ bs) after =
-    by_class (string_class b) (nat_lt n 255) (reading_from start (at + 1) n true bs (omega arith)) (reading_from start (at + 1) (n + 1) false bs (omega arith))
-  where
-    by_class : (c : StringClass) (d : Bool) → ReadingFrom start (reading start (at + 1) n true bs)
-        → ReadingFrom start (reading start (at + 1) (n + 1) false bs)
-        → ReadingFrom start (elim c [
-          | string_classes.Quote ↦ closed []
-          | string_classes.LineEnd ↦ broken start UnclosedString
-          | string_classes.Control ↦ broken at ControlByte
-          | string_classes.Backslash ↦ elim d [ true ↦ reading start (at + 1) n true bs | false ↦ broken start StringTooLong ]
-          | string_classes.Plain ↦ elim d [ true ↦ datum b (reading start (at + 1) (n + 1) false bs) | false ↦ broken start StringTooLong ]
-        ])
-    by_class c d h1 h2 = grind arith
+    plain_from start at n b bs _ after (reading_from start (at + 1) n true bs (omega arith)) (reading_from start (at + 1) (n + 1) false bs (omega arith))
 reading_from start at n true (b ∷ bs) after =
-    by_class _ _ (reading_from start _ _ false bs (omega arith)) (reading_from start _ _ false bs (omega arith))
-  where
-    by_class : (c : StringClass) (d : Bool) → ReadingFrom start (reading start (at + 1) (n + 1) false bs)
-        → ReadingFrom start (reading start (at + 1) (n + 2) false bs)
-        → ReadingFrom start (elim c [
-          | string_classes.Quote ↦ datum b (reading start (at + 1) (n + 1) false bs)
-          | string_classes.LineEnd ↦ broken start UnclosedString
-          | string_classes.Control ↦ broken at ControlByte
-          | string_classes.Backslash ↦ datum b (reading start (at + 1) (n + 1) false bs)
-          | string_classes.Plain ↦ elim d [ true ↦ datum 92 (datum b (reading start (at + 1) (n + 2) false bs)) | false ↦ broken start StringTooLong ]
-        ])
-    by_class c d h1 h2 = grind arith
+    escaped_from start at n b bs _ after (reading_from start (at + 1) (n + 1) false bs (omega arith)) (reading_from start (at + 1) (n + 2) false bs (omega arith))
 
 string_from : (at : ℕ) (r : Reading) → ReadingFrom at r → FoundFrom at (string_at r)
 string_from at r h1 = grind arith
@@ -65,7 +49,7 @@ class_from : (at : ℕ) (c : Class) (b : ℕ) (bs : List ℕ) → FoundFrom at (
 class_from at c b bs = grind (arith, found_if, string_from, reading_from, glyph_from, suffix_from, single_other)
 
 first_from : (at : ℕ) (c : Class) (b : ℕ) (bs : List ℕ) → FoundFrom at (begins_first at c b bs)
-first_from at classes.Percent b bs = tt
+first_from at Class.Percent b bs = tt
 first_from at c b bs = class_from at c b bs
 
 after_from : (at : ℕ) (goes : Bool) (c : Class) (b : ℕ) (bs : List ℕ) → FoundFrom at (begins_after goes at c b bs)

@@ -1,10 +1,5 @@
 -- How a text is cut, and its tokens.
-use Rattle.std.proofs.lemmas.Grind.{common_steps}
-use Rattle.pgn_lexer.proofs.Words.{◌≡◌, ℕ, ◌+◌, ◌<◌, ◌≤◌, Bool, true, false, List, [], ◌∷◌, ◌++◌, length, refl, sym, ap, ◌∙◌, append-nil, append_assoc, arith, length-append, ◌||◌, not, take_while, list_all, false≢true, LexReason, ControlByte, BadSuffix, Class, CommentClass, is_line_end, is_space, is_control, is_digit, starts_symbol, continues_symbol, is_suffix, continues_word, Kind, Token, class, comment_class, symbol_at, word_at, glyph_at, suffix_at, Within, begins_class, begins_brace, begins_line, after_class, after_brace, after_line, onto, tokens_from, StopsAt, IsRun, IsSingle, IsSuffix, SpellsToken, Refuses, Where, Cuts, both_true, string_at, reading, with_front, Data, or_cases, and_parts, not-true}
-use Rattle.pgn_lexer.specs.declared.class.Class.TheVariants as classes
-use Rattle.pgn_lexer.specs.declared.class.CommentClass.TheVariants as comment_classes
-use Rattle.pgn_lexer.specs.Tokens as tokens
-use Rattle.pgn_lexer.specs.TokensOf as tokens_of
+use Rattle.pgn_lexer.proofs.Words.{◌≡◌, ℕ, ◌+◌, ◌<◌, ◌≤◌, Bool, true, false, List, [], ◌∷◌, ◌++◌, length, refl, sym, ap, ◌∙◌, append-nil, append_assoc, arith, length-append, ◌||◌, not, take_while, list_all, false≢true, LexReason, ControlByte, BadSuffix, Class, CommentClass, is_line_end, is_space, is_control, is_digit, starts_symbol, continues_symbol, is_suffix, continues_word, Kind, Token, class, comment_class, symbol_at, word_at, glyph_at, suffix_at, Within, begins_class, begins_brace, begins_line, after_class, after_brace, after_line, onto, tokens_from, StopsAt, IsRun, IsSingle, IsSuffix, SpellsToken, Refuses, Where, Cuts, both_true, string_at, reading, with_front, Data, or_cases, and_parts, not-true, common_steps, outside, column, in_suffix, in_escape_line, line, quotes, begins_first, after_first, refused, comment_close, str, glyph}
 use Rattle.pgn_lexer.specs.Lexes as lexes
 use Rattle.pgn_lexer.proofs.stepping.RunOfBytes.{take_while-true, take_while-false, suffix_goes}
 use Rattle.pgn_lexer.proofs.bytes.ClassToTest.{stray_class, line_end_class, blank_class, line_end_comment, blank_comment, suffix_class, reserved_class, control_class, control_comment}
@@ -15,10 +10,20 @@ use Rattle.pgn_lexer.proofs.stepping.ByteInGlyph.{number_fits, number_long}
 
 -- what a place is within
 abbrev pub within_of : Where → Within
-within_of (lexes.outside true) = tokens_of.column
-within_of (lexes.outside false) = tokens_of.outside
-within_of (lexes.comment true) = tokens_of.brace
-within_of (lexes.comment false) = tokens_of.line
+within_of (lexes.outside true) = column
+within_of (lexes.outside false) = outside
+within_of (lexes.comment true) = Within.brace
+within_of (lexes.comment false) = line
+
+-- the tokens from a place outside comments, in the first column or not, and those in a comment
+abbrev pub outer : Bool → ℕ → List ℕ → List Token
+outer first at s = tokens_from at (within_of (lexes.outside first)) s
+
+abbrev inner : Bool → ℕ → List ℕ → List Token
+inner braces at s = tokens_from at (within_of (lexes.comment braces)) s
+
+abbrev placed : ℕ → Kind → Token
+placed at kind = record { at = at; kind = kind }
 
 -- a run is as long as possible
 pub take_run : (p : ℕ → Bool) (run s : List ℕ) → list_all p run ≡ true → StopsAt p s → take_while p (run ++ s) ≡ run
@@ -36,78 +41,69 @@ module _ (within out : Within) (p : ℕ → Bool) (goes : (at b : ℕ) (s : List
       let same : at + 1 + length run ≡ at + length (b ∷ run) = omega arith in
       goes at b (run ++ s) (and_parts _ _ all).0 ∙ skips (at + 1) run s (and_parts _ _ all).1 stop ∙ ap (λ n. tokens_from n out s) same
 
-suffix_stops : (at : ℕ) (s : List ℕ) → StopsAt is_suffix s → tokens_from at tokens_of.in_suffix s ≡ tokens_from at tokens_of.outside s
+suffix_stops : (at : ℕ) (s : List ℕ) → StopsAt is_suffix s → tokens_from at in_suffix s ≡ tokens_from at outside s
 suffix_stops at s h1 = grind arith
 
 -- outside strings and comments, where no escape line begins
-from_class : (first : Bool) (at b : ℕ) (s : List ℕ) (c : Class) → class b ≡ c → (c ≡ classes.Percent → ⊥)
-    → tokens_from at (within_of (lexes.outside first)) (b ∷ s) ≡ onto at (begins_class at c b s) (tokens_from (at + 1) (after_class c) s)
+from_class : (first : Bool) (at b : ℕ) (s : List ℕ) (c : Class) → class b ≡ c → (c ≡ Class.Percent → ⊥)
+    → outer first at (b ∷ s) ≡ onto at (begins_class at c b s) (tokens_from (at + 1) (after_class c) s)
 from_class false at b s c e other = grind arith
 from_class true at b s c e other =
-    ap (λ c. onto at (tokens_of.begins_first at c b s) (tokens_from (at + 1) (tokens_of.after_first c) s)) e ∙ in_column c other
+    ap (λ c. onto at (begins_first at c b s) (tokens_from (at + 1) (after_first c) s)) e ∙ in_column c other
   where
-    in_column : (c : Class) → (c ≡ classes.Percent → ⊥)
-        → onto at (tokens_of.begins_first at c b s) (tokens_from (at + 1) (tokens_of.after_first c) s)
+    in_column : (c : Class) → (c ≡ Class.Percent → ⊥)
+        → onto at (begins_first at c b s) (tokens_from (at + 1) (after_first c) s)
         ≡ onto at (begins_class at c b s) (tokens_from (at + 1) (after_class c) s)
-    in_column classes.Percent other = absurd (other refl)
-    in_column classes.LineEnd other = refl
-    in_column classes.Space other = refl
-    in_column classes.SymbolStart other = refl
-    in_column classes.Quote other = refl
-    in_column classes.Dollar other = refl
-    in_column classes.Suffix other = refl
-    in_column classes.OpenBrace other = refl
-    in_column classes.Semicolon other = refl
-    in_column (classes.Alone k) other = refl
-    in_column (classes.Refused r) other = refl
+    in_column Class.Percent other = absurd (other refl)
+    in_column c other = refl
 
 pub space_skips : (first : Bool) (at b : ℕ) (s : List ℕ) → is_space b ≡ true
-    → tokens_from at (within_of (lexes.outside first)) (b ∷ s) ≡ tokens_from (at + 1) (within_of (lexes.outside (is_line_end b))) s
+    → outer first at (b ∷ s) ≡ outer (is_line_end b) (at + 1) s
 space_skips first at b s e = grind (arith, or_cases, from_class, line_end_class, blank_class)
 
 pub symbol_cut : (first : Bool) (at b : ℕ) (run s : List ℕ) → starts_symbol b ≡ true → list_all continues_symbol run ≡ true
     → StopsAt continues_symbol s
-    → tokens_from at (within_of (lexes.outside first)) (b ∷ (run ++ s))
-    ≡ onto at (symbol_at at (b ∷ run)) (tokens_from (at + 1 + length run) tokens_of.outside s)
+    → outer first at (b ∷ (run ++ s))
+    ≡ onto at (symbol_at at (b ∷ run)) (tokens_from (at + 1 + length run) outside s)
 symbol_cut first at b run s e all stop = grind (arith, take_run, skips)
 
 pub glyph_cut : (first : Bool) (at : ℕ) (run s : List ℕ) → list_all is_digit run ≡ true → StopsAt is_digit s
-    → tokens_from at (within_of (lexes.outside first)) (36 ∷ (run ++ s))
-    ≡ onto at (glyph_at at run) (tokens_from (at + 1 + length run) tokens_of.outside s)
+    → outer first at (36 ∷ (run ++ s))
+    ≡ onto at (glyph_at at run) (tokens_from (at + 1 + length run) outside s)
 glyph_cut first at run s all stop = grind (arith, take_run, skips)
 
 pub suffix_cut : (first : Bool) (at b : ℕ) (run s : List ℕ) → is_suffix b ≡ true → list_all is_suffix run ≡ true → StopsAt is_suffix s
-    → tokens_from at (within_of (lexes.outside first)) (b ∷ (run ++ s))
-    ≡ onto at (suffix_at at (b ∷ run)) (tokens_from (at + 1 + length run) tokens_of.outside s)
+    → outer first at (b ∷ (run ++ s))
+    ≡ onto at (suffix_at at (b ∷ run)) (tokens_from (at + 1 + length run) outside s)
 suffix_cut first at b run s e all stop =
-    from_class first at b _ classes.Suffix (suffix_class b e) (λ e. cc)
-    ∙ ap (λ r. onto at (suffix_at at (b ∷ r)) (tokens_from (at + 1) tokens_of.in_suffix (run ++ s))) (take_run _ run s all stop)
-    ∙ ap (onto at (suffix_at at (b ∷ run))) (skips tokens_of.in_suffix tokens_of.outside _ suffix_goes suffix_stops (at + 1) run s all stop)
+    from_class first at b _ Class.Suffix (suffix_class b e) (λ e. cc)
+    ∙ ap (λ r. onto at (suffix_at at (b ∷ r)) (tokens_from (at + 1) in_suffix (run ++ s))) (take_run _ run s all stop)
+    ∙ ap (onto at (suffix_at at (b ∷ run))) (skips in_suffix outside _ suffix_goes suffix_stops (at + 1) run s all stop)
 
 -- an escape line
 escape_line_goes : (at b : ℕ) (s : List ℕ) → not (is_line_end b) ≡ true
-    → tokens_from at tokens_of.in_escape_line (b ∷ s) ≡ tokens_from (at + 1) tokens_of.in_escape_line s
+    → tokens_from at in_escape_line (b ∷ s) ≡ tokens_from (at + 1) in_escape_line s
 escape_line_goes at b s e = grind arith
 
 escape_line_stops : (at : ℕ) (s : List ℕ) → StopsAt (λ b. not (is_line_end b)) s
-    → tokens_from at tokens_of.in_escape_line s ≡ tokens_from at tokens_of.outside s
+    → tokens_from at in_escape_line s ≡ tokens_from at outside s
 escape_line_stops at s h1 = grind arith
 
 pub escape_line_cut : (at : ℕ) (run s : List ℕ) → list_all (λ b. not (is_line_end b)) run ≡ true → StopsAt (λ b. not (is_line_end b)) s
-    → tokens_from at tokens_of.column (37 ∷ (run ++ s)) ≡ tokens_from (at + 1 + length run) tokens_of.outside s
+    → tokens_from at column (37 ∷ (run ++ s)) ≡ tokens_from (at + 1 + length run) outside s
 escape_line_cut at run s all stop = skips _ _ _ escape_line_goes escape_line_stops _ run s all stop
 
 -- in a comment
 abbrev pub word_within : Bool → Within
-word_within true = tokens_of.brace_word
-word_within false = tokens_of.line_word
+word_within true = Within.brace_word
+word_within false = Within.line_word
 
 comment_tokens : Bool → ℕ → Bool → ℕ → List ℕ → CommentClass → List Token
 comment_tokens true at goes b s c = onto at (begins_brace at goes c b s) (tokens_from (at + 1) (after_brace c) s)
 comment_tokens false at goes b s c = onto at (begins_line at goes c b s) (tokens_from (at + 1) (after_line c) s)
 
 from_comment : (braces : Bool) (at b : ℕ) (s : List ℕ) (c : CommentClass) → comment_class b ≡ c
-    → tokens_from at (within_of (lexes.comment braces)) (b ∷ s) ≡ comment_tokens braces at false b s c
+    → inner braces at (b ∷ s) ≡ comment_tokens braces at false b s c
 unfolding comment_tokens
 from_comment braces at b s c h1 = grind arith
 
@@ -117,104 +113,97 @@ unfolding comment_tokens
 word_goes braces at b s h1 = grind arith
 
 word_stops : (braces : Bool) (at : ℕ) (s : List ℕ) → StopsAt continues_word s
-    → tokens_from at (word_within braces) s ≡ tokens_from at (within_of (lexes.comment braces)) s
+    → tokens_from at (word_within braces) s ≡ inner braces at s
 word_stops braces at s h1 = grind (arith, brace_ends, word_class, line_ends)
 
 letter_first : (braces : Bool) (at b : ℕ) (s : List ℕ) → continues_word b ≡ true
-    → tokens_from at (within_of (lexes.comment braces)) (b ∷ s)
+    → inner braces at (b ∷ s)
     ≡ onto at (word_at at (b ∷ take_while continues_word s)) (tokens_from (at + 1) (word_within braces) s)
 unfolding comment_tokens
 letter_first braces at b s h1 = grind arith
 
 pub word_cut : (braces : Bool) (at b : ℕ) (run s : List ℕ) → continues_word b ≡ true → list_all continues_word run ≡ true
     → StopsAt continues_word s
-    → tokens_from at (within_of (lexes.comment braces)) (b ∷ (run ++ s))
-    ≡ onto at (word_at at (b ∷ run)) (tokens_from (at + 1 + length run) (within_of (lexes.comment braces)) s)
+    → inner braces at (b ∷ (run ++ s))
+    ≡ onto at (word_at at (b ∷ run)) (inner braces (at + 1 + length run) s)
 word_cut braces at b run s e all stop =
     letter_first braces at b _ e
     ∙ ap (λ r. onto at (word_at at (b ∷ r)) (tokens_from (at + 1) (word_within braces) (run ++ s))) (take_run _ run s all stop)
     ∙ ap (onto at (word_at at (b ∷ run))) (skips (word_within braces) (within_of (lexes.comment braces)) _ (word_goes braces) (word_stops braces) (at + 1) run s all stop)
 
 pub blank_in_comment : (braces : Bool) (at b : ℕ) (s : List ℕ) → is_space b ≡ true → (braces || not (is_line_end b)) ≡ true
-    → tokens_from at (within_of (lexes.comment braces)) (b ∷ s) ≡ tokens_from (at + 1) (within_of (lexes.comment braces)) s
+    → inner braces at (b ∷ s) ≡ inner braces (at + 1) s
 unfolding comment_tokens
 blank_in_comment braces at b s h1 h2 =
     grind (arith, or_cases, common_steps, from_comment, line_end_comment, blank_comment, false≢true, not-true)
 
 pub control_in_comment : (braces : Bool) (at b : ℕ) (s : List ℕ) → is_control b ≡ true
-    → tokens_from at (within_of (lexes.comment braces)) (b ∷ s) ≡ record { at = at; kind = tokens.refused ControlByte } ∷ []
+    → inner braces at (b ∷ s) ≡ placed at (refused ControlByte) ∷ []
 unfolding comment_tokens
 control_in_comment braces at b s h1 = grind (arith, from_comment, control_comment)
 
 pub line_closes : (at b : ℕ) (s : List ℕ) → is_line_end b ≡ true
-    → tokens_from at tokens_of.line (b ∷ s) ≡ record { at = at; kind = tokens.comment_close } ∷ tokens_from (at + 1) tokens_of.column s
+    → tokens_from at line (b ∷ s) ≡ placed at comment_close ∷ tokens_from (at + 1) column s
 unfolding comment_tokens
-line_closes at b s e = from_comment false at b s comment_classes.LineEnd (line_end_comment b e)
+line_closes at b s e = from_comment false at b s CommentClass.LineEnd (line_end_comment b e)
 
 -- a token that is spelled is given
 module _ (first : Bool) (at : ℕ) where
   moved : (k : Kind) (m n : ℕ) (s : List ℕ) → m ≡ n
-      → record { at = at; kind = k } ∷ tokens_from m tokens_of.outside s ≡ record { at = at; kind = k } ∷ tokens_from n tokens_of.outside s
-  moved k m n s e = ap (λ n. record { at = at; kind = k } ∷ tokens_from n tokens_of.outside s) e
+      → placed at k ∷ tokens_from m outside s ≡ placed at k ∷ tokens_from n outside s
+  moved k m n s e = ap (λ n. placed at k ∷ tokens_from n outside s) e
 
   single_is : (b : ℕ) (s : List ℕ) (k : Kind) → IsSingle b k
-      → tokens_from at (within_of (lexes.outside first)) (b ∷ s) ≡ record { at = at; kind = k } ∷ tokens_from (at + 1) tokens_of.outside s
-  single_is _ s _ lexes.left_bracket = from_class first at 91 s _ refl (λ e. cc)
-  single_is _ s _ lexes.right_bracket = from_class first at 93 s _ refl (λ e. cc)
-  single_is _ s _ lexes.left_paren = from_class first at 40 s _ refl (λ e. cc)
-  single_is _ s _ lexes.right_paren = from_class first at 41 s _ refl (λ e. cc)
-  single_is _ s _ lexes.period = from_class first at 46 s _ refl (λ e. cc)
-  single_is _ s _ lexes.asterisk = from_class first at 42 s _ refl (λ e. cc)
+      → outer first at (b ∷ s) ≡ placed at k ∷ tokens_from (at + 1) outside s
+  single_is _ s _ lexes.left_bracket = from_class first at _ s _ refl (λ e. cc)
+  single_is _ s _ _ = from_class first at _ s _ refl (λ e. cc)
 
   suffix_is : (run s : List ℕ) (n : ℕ) → IsSuffix run n → StopsAt is_suffix s
-      → tokens_from at (within_of (lexes.outside first)) (run ++ s)
-      ≡ record { at = at; kind = tokens.glyph n } ∷ tokens_from (at + length run) tokens_of.outside s
+      → outer first at (run ++ s)
+      ≡ placed at (glyph n) ∷ tokens_from (at + length run) outside s
   suffix_is _ s _ lexes.good stop = grind arith
   suffix_is _ s _ lexes.poor stop = grind arith
-  suffix_is _ s _ lexes.very_good stop = grind (arith, suffix_cut first at 33 (33 ∷ []) s refl refl stop, moved)
-  suffix_is _ s _ lexes.very_poor stop = grind (arith, suffix_cut first at 63 (63 ∷ []) s refl refl stop, moved)
-  suffix_is _ s _ lexes.speculative stop = grind (arith, suffix_cut first at 33 (63 ∷ []) s refl refl stop, moved)
-  suffix_is _ s _ lexes.questionable stop = grind (arith, suffix_cut first at 63 (33 ∷ []) s refl refl stop, moved)
+  suffix_is _ s _ _ stop = suffix_cut first at _ (_ ∷ []) s refl refl stop ∙ moved _ _ _ s (omega arith)
 
   -- what a string comes to, by its data and what comes after them
   string_reads : (raw text rest : List ℕ) → Data raw text rest → length text ≤ 255
-      → tokens_from at (within_of (lexes.outside first)) (34 ∷ (raw ++ rest))
-      ≡ onto at (string_at (with_front text (reading at (at + 1 + length raw) (length text) false rest))) (tokens_from (at + 1) tokens_of.quotes (raw ++ rest))
+      → outer first at (34 ∷ (raw ++ rest))
+      ≡ onto at (string_at (with_front text (reading at (at + 1 + length raw) (length text) false rest))) (tokens_from (at + 1) quotes (raw ++ rest))
   string_reads raw text rest data' fits =
       let none : 0 + length text ≡ length text = omega arith in
       from_class first at 34 _ _ refl (λ e. cc)
-      ∙ ap (λ r. onto at (string_at r) (tokens_from (at + 1) tokens_of.quotes (raw ++ rest)))
+      ∙ ap (λ r. onto at (string_at r) (tokens_from (at + 1) quotes (raw ++ rest)))
       (reads_data at _ 0 raw text rest data' (omega arith) ∙ ap (λ n. with_front text (reading at (at + 1 + length raw) n false rest)) none)
 
   pub spells_is : (run s : List ℕ) (k : Kind) → SpellsToken run s k
-      → tokens_from at (within_of (lexes.outside first)) (run ++ s)
-      ≡ record { at = at; kind = k } ∷ tokens_from (at + length run) tokens_of.outside s
+      → outer first at (run ++ s)
+      ≡ placed at k ∷ tokens_from (at + length run) outside s
   spells_is _ _ _ (lexes.symbol b run s e long fits) =
       let same : at + 1 + length run ≡ at + length (b ∷ run) = omega arith in
       symbol_cut first at b run s e long.0 long.1
-      ∙ ap (λ f. onto at f (tokens_from (at + 1 + length run) tokens_of.outside s)) (symbol_fits at _ fits) ∙ moved _ _ _ s same
+      ∙ ap (λ f. onto at f (tokens_from (at + 1 + length run) outside s)) (symbol_fits at _ fits) ∙ moved _ _ _ s same
   spells_is _ _ _ (lexes.string raw text s data' fits) =
       let same : at + 1 + length raw + 1 ≡ at + length (34 ∷ (raw ++ 34 ∷ [])) = omega (arith, length-append raw (34 ∷ [])) in
-      ap (λ l. tokens_from at (within_of (lexes.outside first)) (34 ∷ l)) (append_assoc raw (34 ∷ []) s)
+      ap (λ l. outer first at (34 ∷ l)) (append_assoc raw (34 ∷ []) s)
       ∙ string_reads raw text _ data' fits
-      ∙ ap (λ t. record { at = at; kind = tokens.str t } ∷ tokens_from (at + 1) tokens_of.quotes (raw ++ 34 ∷ s)) (append-nil text)
-      ∙ ap (λ ts. record { at = at; kind = tokens.str text } ∷ ts) (quotes_skip _ raw text _ s data' refl ∙ ap (λ n. tokens_from n tokens_of.outside s) same)
+      ∙ ap (λ t. placed at (str t) ∷ tokens_from (at + 1) quotes (raw ++ 34 ∷ s)) (append-nil text)
+      ∙ ap (λ ts. placed at (str text) ∷ ts) (quotes_skip _ raw text _ s data' refl ∙ ap (λ n. tokens_from n outside s) same)
   spells_is _ _ _ (lexes.glyph d ds s e long fits) =
       let same : at + 1 + length (d ∷ ds) ≡ at + length (36 ∷ d ∷ ds) = omega arith in
       glyph_cut first at (d ∷ ds) s (both_true e long.0) long.1
-      ∙ ap (λ f. onto at f (tokens_from (at + 1 + length (d ∷ ds)) tokens_of.outside s)) (number_fits at _ fits) ∙ moved _ _ _ s same
+      ∙ ap (λ f. onto at f (tokens_from (at + 1 + length (d ∷ ds)) outside s)) (number_fits at _ fits) ∙ moved _ _ _ s same
   spells_is _ _ _ (lexes.suffix run s n is stop) = suffix_is run s n is stop
   spells_is _ _ _ (lexes.single b s k is) = grind (arith, single_is b s k is, moved)
 
   abbrev refused_at : LexReason → ℕ → List Token
-  refused_at r n = record { at = n; kind = tokens.refused r } ∷ []
+  refused_at r n = placed n (refused r) ∷ []
 
   here : (n : ℕ) (r : LexReason) → at ≡ n → refused_at r at ≡ refused_at r n
   here n r e = ap (refused_at r) e
 
   -- and what is rejected
   pub refuses_is : (s : List ℕ) (n : ℕ) (r : LexReason) → Refuses s n r
-      → tokens_from at (within_of (lexes.outside first)) s ≡ record { at = at + n; kind = tokens.refused r } ∷ []
+      → outer first at s ≡ placed (at + n) (refused r) ∷ []
   refuses_is _ _ _ (lexes.stray b s e) = grind (arith, from_class, stray_class, here)
   refuses_is _ _ _ (lexes.control_byte b s e) = grind (arith, from_class, control_class, here)
   refuses_is _ _ _ (lexes.reserved b s e) = grind (arith, from_class, reserved_class, here)
@@ -223,8 +212,8 @@ module _ (first : Bool) (at : ℕ) where
       grind (arith, string_reads raw text (b ∷ s) data' (omega arith), reads_long at (at + 1 + length raw) (length text) b s (omega arith) more, here)
   refuses_is _ _ _ (lexes.control_in_string b raw text s data' fits bad other) =
       string_reads raw text (b ∷ s) data' fits
-      ∙ ap (λ r. onto at (string_at (with_front text r)) (tokens_from (at + 1) tokens_of.quotes (raw ++ b ∷ s))) (reads_control at (at + 1 + length raw) (length text) b s bad other)
-      ∙ ap (λ n. record { at = n; kind = tokens.refused ControlByte } ∷ []) (further raw)
+      ∙ ap (λ r. onto at (string_at (with_front text r)) (tokens_from (at + 1) quotes (raw ++ b ∷ s))) (reads_control at (at + 1 + length raw) (length text) b s bad other)
+      ∙ ap (λ n. placed n (refused ControlByte) ∷ []) (further raw)
     where
       further : (raw : List ℕ) → at + 1 + length raw ≡ at + (1 + length raw)
       further raw = omega arith
@@ -236,37 +225,24 @@ module _ (first : Bool) (at : ℕ) where
   refuses_is _ _ _ (lexes.bad_suffix run s long many) = bad_run run s long many
     where
       bad_run : (run s : List ℕ) → IsRun is_suffix run s → 2 < length run
-          → tokens_from at (within_of (lexes.outside first)) (run ++ s) ≡ record { at = at + 0; kind = tokens.refused BadSuffix } ∷ []
-      bad_run [] s long many = absurd (omega arith)
-      bad_run (a ∷ []) s long many = absurd (omega arith)
-      bad_run (a ∷ b ∷ []) s long many = absurd (omega arith)
+          → outer first at (run ++ s) ≡ placed (at + 0) (refused BadSuffix) ∷ []
       bad_run (a ∷ b ∷ c ∷ run) s long many =
           let all = and_parts (is_suffix a) (list_all is_suffix (b ∷ c ∷ run)) long.0 in
           suffix_cut first at a (b ∷ c ∷ run) s all.0 all.1 long.1 ∙ here _ _ (omega arith)
+      bad_run _ s long many = absurd (omega arith)
 
 -- the tokens of a cut are those of the text
 pub cuts_is : (w : Where) (at : ℕ) (s : List ℕ) (ts : List Token) → Cuts w at s ts → ts ≡ tokens_from at (within_of w) s
-cuts_is _ _ _ _ (lexes.ends true at) = refl
-cuts_is _ _ _ _ (lexes.ends false at) = refl
 cuts_is _ _ _ _ (lexes.space first at b s ts e more) = cuts_is _ _ _ _ more ∙ sym (space_skips first at b s e)
 cuts_is _ _ _ _ (lexes.escape_line at run s ts long more) = cuts_is _ _ _ _ more ∙ sym (escape_line_cut at run s long.0 long.1)
-cuts_is _ _ _ _ (lexes.stray_percent at s) = refl
-cuts_is _ _ _ _ (lexes.token first at run s k ts spelled more) =
-    ap (λ ts. record { at = at; kind = k } ∷ ts) (cuts_is _ _ _ _ more) ∙ sym (spells_is first at run s k spelled)
+cuts_is _ _ _ _ (lexes.token first at run s k ts spelled more) = rw (cuts_is _ _ _ _ more) (sym (spells_is first at run s k spelled))
 cuts_is _ _ _ _ (lexes.refuses first at n s r bad) = sym (refuses_is first at s n r bad)
-cuts_is _ _ _ _ (lexes.opens_brace first at s ts more) =
-    ap (λ ts. record { at = at; kind = tokens.comment_open } ∷ ts) (cuts_is _ _ _ _ more) ∙ sym (from_class first at 123 s _ refl (λ e. cc))
-cuts_is _ _ _ _ (lexes.opens_line first at s ts more) =
-    ap (λ ts. record { at = at; kind = tokens.comment_open } ∷ ts) (cuts_is _ _ _ _ more) ∙ sym (from_class first at 59 s _ refl (λ e. cc))
-cuts_is _ _ _ _ (lexes.open_at_end at) = refl
-cuts_is _ _ _ _ (lexes.closed_at_end at) = refl
+cuts_is _ _ _ _ (lexes.opens_brace first at s ts more) = rw (cuts_is _ _ _ _ more) (sym (from_class first at 123 s _ refl (λ e. cc)))
+cuts_is _ _ _ _ (lexes.opens_line first at s ts more) = rw (cuts_is _ _ _ _ more) (sym (from_class first at 59 s _ refl (λ e. cc)))
 cuts_is _ _ _ _ (lexes.between_words braces at b s ts e other more) = cuts_is _ _ _ _ more ∙ sym (blank_in_comment braces at b s e other)
-cuts_is _ _ _ _ (lexes.word braces at b run s ts e long fits more) =
-    ap (λ ts. record { at = at; kind = tokens.word (b ∷ run) } ∷ ts) (cuts_is _ _ _ _ more)
-    ∙ sym (word_cut braces at b run s e long.0 long.1 ∙ ap (λ f. onto at f (tokens_from (at + 1 + length run) (within_of (lexes.comment braces)) s)) (word_fits at _ fits))
+cuts_is _ _ _ _ (lexes.word braces at b run s ts e long fits more) = grind (arith, cuts_is _ _ _ _ more, word_cut, word_fits)
 cuts_is _ _ _ _ (lexes.long_word braces at b run s e long over) = grind (arith, word_cut, word_long)
 cuts_is _ _ _ _ (lexes.control_in_comment braces at b s e) = sym (control_in_comment braces at b s e)
-cuts_is _ _ _ _ (lexes.closes_brace at s ts more) = ap (λ ts. record { at = at; kind = tokens.comment_close } ∷ ts) (cuts_is _ _ _ _ more)
-cuts_is _ _ _ _ (lexes.brace_in_line at s) = refl
-cuts_is _ _ _ _ (lexes.closes_line at b s ts e more) =
-    ap (λ ts. record { at = at; kind = tokens.comment_close } ∷ ts) (cuts_is _ _ _ _ more) ∙ sym (line_closes at b s e)
+cuts_is _ _ _ _ (lexes.closes_brace at s ts more) = rw (cuts_is _ _ _ _ more)
+cuts_is _ _ _ _ (lexes.closes_line at b s ts e more) = rw (cuts_is _ _ _ _ more) (sym (line_closes at b s e))
+cuts_is _ _ _ _ cut = grind arith

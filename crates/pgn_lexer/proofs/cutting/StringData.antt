@@ -1,20 +1,27 @@
 -- The data of a string, as they are written.
-use Rattle.pgn_lexer.proofs.Words.{◌≡◌, ℕ, ◌+◌, ◌<◌, ◌≤◌, Bool, true, false, List, ◌∷◌, ◌++◌, length, sym, ap, ◌∙◌, arith, ◌||◌, not, ◌==◌, if◌then◌else◌, lt-ltb, ControlByte, StringTooLong, UnclosedString, StringClass, is_line_end, string_class, Reading, broken, datum, reading, tokens_from, with_front, StopsAt, IsAtLineEnd, is_escaped, is_barred, is_plain, Data, no_data, plain, escaped, lone}
-use Rattle.pgn_lexer.specs.declared.class.StringClass.TheVariants as string_classes
-use Rattle.pgn_lexer.specs.TokensOf as tokens_of
+use Rattle.pgn_lexer.proofs.Words.{◌≡◌, ℕ, ◌+◌, ◌<◌, ◌≤◌, Bool, true, false, List, ◌∷◌, ◌++◌, length, sym, ap, ◌∙◌, arith, ◌||◌, not, ◌==◌, if◌then◌else◌, lt-ltb, ControlByte, StringTooLong, UnclosedString, StringClass, is_line_end, string_class, Reading, broken, datum, reading, tokens_from, with_front, StopsAt, IsAtLineEnd, is_escaped, is_barred, is_plain, Data, no_data, plain, escaped, lone, outside, quotes}
 use Rattle.pgn_lexer.proofs.stepping.ByteInString.{read_plain}
 
 -- what the class of a byte in a string says
-abbrev Says : (quote slash line_end barred : Bool) → StringClass → Type 0
-Says q k l c string_classes.Quote = q ≡ true
-Says q k l c string_classes.Backslash = k ≡ true
-Says q k l c string_classes.LineEnd = l ≡ true
-Says q k l c string_classes.Control = (l ≡ false) × (c ≡ true)
-Says q k l c string_classes.Plain = not (c || (q || k)) ≡ true
+module _ (quote slash line_end barred : Bool) where
+  abbrev Says : StringClass → Type 0
+  Says StringClass.Quote = quote ≡ true
+  Says StringClass.Backslash = slash ≡ true
+  Says StringClass.LineEnd = line_end ≡ true
+  Says StringClass.Control = (line_end ≡ false) × (barred ≡ true)
+  Says StringClass.Plain = not (barred || (quote || slash)) ≡ true
 
-says_of : (q k l c : Bool)
-    → Says q k l c (if q then string_classes.Quote else (if k then string_classes.Backslash else (if l then string_classes.LineEnd else (if c then string_classes.Control else string_classes.Plain))))
-says_of q k l c = grind arith
+  abbrev by_tests : StringClass
+  by_tests =
+      if quote then StringClass.Quote else (if slash then StringClass.Backslash
+      else (if line_end then StringClass.LineEnd else (if barred then StringClass.Control else StringClass.Plain)))
+
+  says_of : Says by_tests
+  says_of = grind arith
+
+  -- a plain byte
+  plain_of : (line_end ≡ true → barred ≡ true) → Says StringClass.Plain → by_tests ≡ StringClass.Plain
+  plain_of h1 h2 = grind arith
 
 abbrev pub StringSays : ℕ → StringClass → Type 0
 StringSays b c = Says (b == 34) (b == 92) (is_line_end b) (is_barred b) c
@@ -22,22 +29,16 @@ StringSays b c = Says (b == 34) (b == 92) (is_line_end b) (is_barred b) c
 pub string_says : (b : ℕ) → StringSays b (string_class b)
 string_says b = says_of _ _ _ _
 
--- a plain byte
-plain_of : (q k l c : Bool) → (l ≡ true → c ≡ true) → not (c || (q || k)) ≡ true
-    → (if q then string_classes.Quote else (if k then string_classes.Backslash else (if l then string_classes.LineEnd else (if c then string_classes.Control else string_classes.Plain))))
-    ≡ string_classes.Plain
-plain_of q k l c h1 h2 = grind arith
-
 line_end_barred : (b : ℕ) → is_line_end b ≡ true → is_barred b ≡ true
 line_end_barred b e = grind arith
 
-pub plain_class : (b : ℕ) → is_plain b ≡ true → string_class b ≡ string_classes.Plain
+pub plain_class : (b : ℕ) → is_plain b ≡ true → string_class b ≡ StringClass.Plain
 plain_class b e = plain_of _ _ _ _ (line_end_barred b) e
 
 -- the byte is no quote and no backslash
 abbrev pub IsOther : StringClass → Type 0
-IsOther string_classes.Quote = ⊥
-IsOther string_classes.Backslash = ⊥
+IsOther StringClass.Quote = ⊥
+IsOther StringClass.Backslash = ⊥
 IsOther _ = Unit {0}
 
 with_front-cons : (b : ℕ) (text : List ℕ) (r : Reading) → with_front (b ∷ text) r ≡ datum b (with_front text r)
@@ -84,27 +85,27 @@ reads_data start at n _ _ _ (lone raw text s stop data') fits =
 
 -- the places within the quotes give nothing
 quotes_go : (at b : ℕ) (s : List ℕ) → IsOther (string_class b)
-    → tokens_from at tokens_of.quotes (b ∷ s) ≡ tokens_from (at + 1) tokens_of.quotes s
+    → tokens_from at quotes (b ∷ s) ≡ tokens_from (at + 1) quotes s
 quotes_go at b s other = grind arith
 
 -- a byte that is neither goes on, also behind a backslash
 behind_lone : (at : ℕ) (raw s : List ℕ) → StopsAt is_escaped (raw ++ 34 ∷ s)
-    → tokens_from at tokens_of.quotes (92 ∷ (raw ++ 34 ∷ s)) ≡ tokens_from (at + 1) tokens_of.quotes (raw ++ 34 ∷ s)
+    → tokens_from at quotes (92 ∷ (raw ++ 34 ∷ s)) ≡ tokens_from (at + 1) quotes (raw ++ 34 ∷ s)
 behind_lone at raw s h1 = grind arith
 
 pub quotes_skip : (at : ℕ) (raw text rest s : List ℕ) → Data raw text rest → rest ≡ 34 ∷ s
-    → tokens_from at tokens_of.quotes (raw ++ 34 ∷ s) ≡ tokens_from (at + length raw + 1) tokens_of.outside s
+    → tokens_from at quotes (raw ++ 34 ∷ s) ≡ tokens_from (at + length raw + 1) outside s
 quotes_skip at _ _ _ s (no_data _) e = grind arith
 quotes_skip at _ _ _ s (plain b raw text rest p data') e =
     let same : at + 1 + length raw + 1 ≡ at + length (b ∷ raw) + 1 = omega arith in
     let other : IsOther (string_class b) = rw (plain_class b p) tt in
-    quotes_go at b (raw ++ 34 ∷ s) other ∙ quotes_skip (at + 1) raw text rest s data' e ∙ ap (λ n. tokens_from n tokens_of.outside s) same
+    quotes_go at b (raw ++ 34 ∷ s) other ∙ quotes_skip (at + 1) raw text rest s data' e ∙ ap (λ n. tokens_from n outside s) same
 quotes_skip at _ _ _ s (escaped b raw text rest p data') e =
     let same : at + 1 + 1 + length raw + 1 ≡ at + length (92 ∷ b ∷ raw) + 1 = omega arith in
-    quotes_skip (at + 1 + 1) raw text rest s data' e ∙ ap (λ n. tokens_from n tokens_of.outside s) same
+    quotes_skip (at + 1 + 1) raw text rest s data' e ∙ ap (λ n. tokens_from n outside s) same
 quotes_skip at _ _ _ s (lone raw text rest stop data') e =
     let same : at + 1 + length raw + 1 ≡ at + length (92 ∷ raw) + 1 = omega arith in
-    behind_lone at raw s (rw e at stop) ∙ quotes_skip (at + 1) raw text rest s data' e ∙ ap (λ n. tokens_from n tokens_of.outside s) same
+    behind_lone at raw s (rw e at stop) ∙ quotes_skip (at + 1) raw text rest s data' e ∙ ap (λ n. tokens_from n outside s) same
 
 -- after 255 data
 pub reads_long : (start at n b : ℕ) (s : List ℕ) → 255 ≤ n → (is_plain b || (b == 92)) ≡ true

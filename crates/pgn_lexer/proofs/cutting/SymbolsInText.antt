@@ -1,5 +1,5 @@
 -- The bytes of a symbol stand in the text at its place, and so does an asterisk.
-use Rattle.pgn_lexer.proofs.Words.{◌≡◌, ℕ, ◌+◌, List, [], ◌∷◌, ◌++◌, length, drop, codes, refl, ap, ◌∙◌, append_assoc, length-append, arith, AllByRecursion, drop-append_seam, SpellsToken, Where, Cuts, Lexes, BeginsWithToken, SymbolsStandInText, Kind, Token}
+use Rattle.pgn_lexer.proofs.Words.{◌≡◌, ℕ, ◌+◌, List, [], ◌∷◌, ◌++◌, length, drop, codes, refl, append_assoc, length-append, arith, AllByRecursion, drop-append_seam, SpellsToken, Where, Cuts, Lexes, BeginsWithToken, SymbolsStandInText, Kind, Token}
 use Rattle.pgn_lexer.specs.Lexes as lexes
 use Rattle.pgn_lexer.proofs.cutting.EachTextIsCut.{lexes_once}
 
@@ -11,48 +11,34 @@ abbrev AllStand : List ℕ → List Token → Type 0
 AllStand whole ts = AllByRecursion (λ t. BeginsWithToken t.kind (drop t.at whole)) ts
 
 -- behind these bytes, and behind a run of more of them
-behind : (before run s : List ℕ) (ts : List Token) → AllStand ((before ++ run) ++ s) ts → AllStand (before ++ (run ++ s)) ts
-behind before run s ts all = rw (append_assoc before run s) at all
-
-further : (before run : List ℕ) (at : ℕ) → length before ≡ at → length (before ++ run) ≡ at + length run
-further before run at is = length-append before run ∙ ap (λ n. n + length run) is
+behind : (before run s : List ℕ) (ts : List Token) (at n : ℕ) → length before ≡ at → n ≡ at + length run
+    → ((front : List ℕ) → length front ≡ n → AllStand (front ++ s) ts) → AllStand (before ++ (run ++ s)) ts
+behind before run s ts at n is far all =
+    rw (append_assoc before run s) at (all (before ++ run) (omega (arith, length-append before run)))
 
 here : (before s : List ℕ) (at : ℕ) (k : Kind) → length before ≡ at → BeginsWithToken k s → BeginsWithToken k (drop at (before ++ s))
 here before s at k is begins = grind (arith, drop-append_seam)
 
 cut_stands : (w : Where) (at : ℕ) (s : List ℕ) (ts : List Token) → Cuts w at s ts → (before : List ℕ) → length before ≡ at
     → AllStand (before ++ s) ts
-cut_stands _ _ _ _ (lexes.ends first at) before is = (tt, tt)
-cut_stands _ _ _ _ (lexes.space first at b s ts e more) before is =
-    behind before (b ∷ []) s ts (cut_stands _ _ _ _ more (before ++ b ∷ []) (further before (b ∷ []) at is))
+cut_stands _ _ _ _ (lexes.space first at b s ts e more) before is = behind before (b ∷ []) s ts at _ is refl (cut_stands _ _ _ _ more)
 cut_stands _ _ _ _ (lexes.escape_line at run s ts long more) before is =
-    behind before (codes "%" ++ run) s ts
-    (cut_stands _ _ _ _ more (before ++ (codes "%" ++ run)) (omega (arith, further before (codes "%" ++ run) at is)))
-cut_stands _ _ _ _ (lexes.stray_percent at s) before is = (tt, tt)
-cut_stands _ _ _ _ (lexes.token first at run s k ts spelled more) before is = (
-  here before (run ++ s) at k is (spelled_begins run s k spelled),
-  behind before run s ts (cut_stands _ _ _ _ more (before ++ run) (further before run at is)),
-)
-cut_stands _ _ _ _ (lexes.refuses first at n s r bad) before is = (tt, tt)
+    behind before (codes "%" ++ run) s ts at _ is (omega arith) (cut_stands _ _ _ _ more)
+cut_stands _ _ _ _ (lexes.token first at run s k ts spelled more) before is =
+    (here before (run ++ s) at k is (spelled_begins run s k spelled), behind before run s ts at _ is refl (cut_stands _ _ _ _ more))
 cut_stands _ _ _ _ (lexes.opens_brace first at s ts more) before is =
-    (tt, behind before (codes "{") s ts (cut_stands _ _ _ _ more (before ++ codes "{") (further before (codes "{") at is)))
+    (tt, behind before (codes "{") s ts at _ is refl (cut_stands _ _ _ _ more))
 cut_stands _ _ _ _ (lexes.opens_line first at s ts more) before is =
-    (tt, behind before (codes ";") s ts (cut_stands _ _ _ _ more (before ++ codes ";") (further before (codes ";") at is)))
-cut_stands _ _ _ _ (lexes.open_at_end at) before is = (tt, tt)
-cut_stands _ _ _ _ (lexes.closed_at_end at) before is = (tt, (tt, tt))
+    (tt, behind before (codes ";") s ts at _ is refl (cut_stands _ _ _ _ more))
 cut_stands _ _ _ _ (lexes.between_words braces at b s ts e other more) before is =
-    behind before (b ∷ []) s ts (cut_stands _ _ _ _ more (before ++ b ∷ []) (further before (b ∷ []) at is))
-cut_stands _ _ _ _ (lexes.word braces at b run s ts e long fits more) before is = (
-  tt,
-  behind before (b ∷ run) s ts (cut_stands _ _ _ _ more (before ++ (b ∷ run)) (omega (arith, further before (b ∷ run) at is))),
-)
-cut_stands _ _ _ _ (lexes.long_word braces at b run s e long over) before is = (tt, tt)
-cut_stands _ _ _ _ (lexes.control_in_comment braces at b s e) before is = (tt, tt)
+    behind before (b ∷ []) s ts at _ is refl (cut_stands _ _ _ _ more)
+cut_stands _ _ _ _ (lexes.word braces at b run s ts e long fits more) before is =
+    (tt, behind before (b ∷ run) s ts at _ is (omega arith) (cut_stands _ _ _ _ more))
 cut_stands _ _ _ _ (lexes.closes_brace at s ts more) before is =
-    (tt, behind before (codes "}") s ts (cut_stands _ _ _ _ more (before ++ codes "}") (further before (codes "}") at is)))
-cut_stands _ _ _ _ (lexes.brace_in_line at s) before is = (tt, tt)
+    (tt, behind before (codes "}") s ts at _ is refl (cut_stands _ _ _ _ more))
 cut_stands _ _ _ _ (lexes.closes_line at b s ts e more) before is =
-    (tt, behind before (b ∷ []) s ts (cut_stands _ _ _ _ more (before ++ b ∷ []) (further before (b ∷ []) at is)))
+    (tt, behind before (b ∷ []) s ts at _ is refl (cut_stands _ _ _ _ more))
+cut_stands _ _ _ _ cut before is = omega arith
 
 lexed_stands : (s : List ℕ) (ts : List Token) → Lexes s ts → AllStand s ts
 lexed_stands _ _ (lexes.marked s ts cut) = cut_stands _ _ _ _ cut (239 ∷ 187 ∷ 191 ∷ []) refl

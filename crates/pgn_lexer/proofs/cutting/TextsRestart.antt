@@ -1,28 +1,24 @@
 -- The tokens behind a symbol or an asterisk, and those behind white space.
-use Rattle.std.proofs.lemmas.Grind.{common_steps}
-use Rattle.std.proofs.lemmas.Bool.Decides.{nat_tests}
-use Rattle.pgn_lexer.proofs.Words.{◌≡◌, ℕ, zero, suc, ◌+◌, Bool, true, false, cond, List, [], ◌∷◌, ◌++◌, length, refl, sym, ap, ◌∙◌, arith, append_assoc, subst, length-append, take_while, drop, replicate, None, ◌==◌, if◌then◌else◌, length-replicate, take_while-cons, Class, Single, CommentClass, continues_symbol, Token, EndsAt, Start, LineStart, Outside, PartialToken, coming, StandsAfter, CanBeMarker, TextsRestart, class, Found, gives, stops, Reading, kind_of_single, symbol_at, string_at, glyph_at, suffix_at, Within, after_class, after_run, begins_class, begins_first, begins_after, begins_brace, begins_line, begins, next, onto, at_end, tokens_from, tokens_of, has_mark}
-use Rattle.pgn_lexer.specs.declared.class.Class.TheVariants as classes
+use Rattle.pgn_lexer.proofs.Words.{◌≡◌, ℕ, zero, suc, ◌+◌, Bool, true, false, cond, List, [], ◌∷◌, ◌++◌, length, refl, sym, ap, ◌∙◌, arith, append_assoc, subst, length-append, take_while, drop, replicate, None, ◌==◌, if◌then◌else◌, length-replicate, take_while-cons, Class, Single, CommentClass, continues_symbol, Token, EndsAt, Start, LineStart, Outside, PartialToken, coming, StandsAfter, CanBeMarker, TextsRestart, class, Found, gives, stops, Reading, kind_of_single, symbol_at, string_at, glyph_at, suffix_at, Within, after_class, after_run, begins_class, begins_first, begins_after, begins_brace, begins_line, begins, next, onto, at_end, tokens_from, tokens_of, has_mark, nat_tests, outside, column, in_symbol, after_first, cases_Bool, inl, inr, drop-drop, drop_at}
+use Rattle.pgn_lexer.proofs.stepping.FirstBytes.{other_first}
 use Rattle.pgn_lexer.specs.WhiteSpace.{white_space}
-use Rattle.pgn_lexer.specs.Spelling as spelling
-use Rattle.pgn_lexer.specs.TokensOf as places
 
 -- the tokens from a place behind a run of symbol bytes on
 abbrev Behind : ℕ → List ℕ → List ℕ → List Token
-Behind at s run = tokens_from (at + length run) places.outside (drop (length run) s)
+Behind at s run = tokens_from (at + length run) outside (drop (length run) s)
 
 behind_byte : (at : ℕ) (b : ℕ) (bs : List ℕ) (c : Bool)
     → take_while continues_symbol (b ∷ bs) ≡ cond c (b ∷ take_while continues_symbol bs) []
-    → tokens_from (at + 1) places.in_symbol bs ≡ Behind (at + 1) bs (take_while continues_symbol bs)
-    → onto at (begins_after c at (class b) b bs) (tokens_from (at + 1) (after_run c places.in_symbol (class b)) bs)
+    → tokens_from (at + 1) in_symbol bs ≡ Behind (at + 1) bs (take_while continues_symbol bs)
+    → onto at (begins_after c at (class b) b bs) (tokens_from (at + 1) (after_run c in_symbol (class b)) bs)
     ≡ Behind at (b ∷ bs) (take_while continues_symbol (b ∷ bs))
 behind_byte at b bs true run more = grind arith
 behind_byte at b bs false run more =
     ap (λ n. onto n (begins_class n (class b) b bs) (tokens_from (n + 1) (after_class (class b)) bs)) (omega arith)
     ∙ ap (Behind at (b ∷ bs)) (sym run)
 
-behind_run : (at : ℕ) (s : List ℕ) → tokens_from at places.in_symbol s ≡ Behind at s (take_while continues_symbol s)
-behind_run at [] = ap (λ n. at_end n places.outside) (omega arith)
+behind_run : (at : ℕ) (s : List ℕ) → tokens_from at in_symbol s ≡ Behind at s (take_while continues_symbol s)
+behind_run at [] = ap (λ n. at_end n outside) (omega arith)
 behind_run at (b ∷ bs) = behind_byte at b bs (continues_symbol b) (take_while-cons continues_symbol b bs) (behind_run (at + 1) bs)
 
 -- Where the token ends, the rest of the tokens are read as outside all tokens. It begins at or
@@ -30,7 +26,7 @@ behind_run at (b ∷ bs) = behind_byte at b bs (continues_symbol b) (take_while-
 abbrev GoesOn : ℕ → List ℕ → Token → List Token → Type 0
 GoesOn at s t rest =
     (behind : ℕ) → EndsAt t.kind t.at behind → CanBeMarker t.kind
-    → (n : ℕ) × (behind ≡ at + suc n) × (rest ≡ tokens_from behind places.outside (drop (suc n) s))
+    → (n : ℕ) × (behind ≡ at + suc n) × (rest ≡ tokens_from behind outside (drop (suc n) s))
 
 abbrev AllGoOn : ℕ → List ℕ → List Token → Type 0
 AllGoOn at s [] = Unit {0}
@@ -38,15 +34,15 @@ AllGoOn at s (t ∷ ts) = GoesOn at s t ts × AllGoOn at s ts
 
 -- the same of what begins at the byte b
 abbrev FoundGoesOn : ℕ → ℕ → List ℕ → Found → List Token → Type 0
-FoundGoesOn at b bs spelling.nothing rest = Unit {0}
+FoundGoesOn at b bs Found.nothing rest = Unit {0}
 FoundGoesOn at b bs (gives k) rest = GoesOn at (b ∷ bs) (record { at = at; kind = k }) rest
 FoundGoesOn at b bs (stops place r) rest = Unit {0}
 
 symbol_goes_on : (at b : ℕ) (bs : List ℕ)
-    → FoundGoesOn at b bs (symbol_at at (b ∷ take_while continues_symbol bs)) (tokens_from (at + 1) places.in_symbol bs)
+    → FoundGoesOn at b bs (symbol_at at (b ∷ take_while continues_symbol bs)) (tokens_from (at + 1) in_symbol bs)
 symbol_goes_on at b bs = grind (arith, behind_run)
 
-single_goes_on : (at b : ℕ) (bs : List ℕ) (s : Single) → FoundGoesOn at b bs (gives (kind_of_single s)) (tokens_from (at + 1) places.outside bs)
+single_goes_on : (at b : ℕ) (bs : List ℕ) (s : Single) → FoundGoesOn at b bs (gives (kind_of_single s)) (tokens_from (at + 1) outside bs)
 single_goes_on at b bs s = grind arith
 
 string_goes_on : (at b : ℕ) (bs : List ℕ) (r : Reading) (rest : List Token) → FoundGoesOn at b bs (string_at r) rest
@@ -63,8 +59,8 @@ class_goes_on : (at : ℕ) (c : Class) (b : ℕ) (bs : List ℕ)
 class_goes_on at c b bs = grind (arith, symbol_goes_on, string_goes_on, glyph_goes_on, suffix_goes_on, single_goes_on)
 
 first_goes_on : (at : ℕ) (c : Class) (b : ℕ) (bs : List ℕ)
-    → FoundGoesOn at b bs (begins_first at c b bs) (tokens_from (at + 1) (places.after_first c) bs)
-first_goes_on at classes.Percent b bs = tt
+    → FoundGoesOn at b bs (begins_first at c b bs) (tokens_from (at + 1) (after_first c) bs)
+first_goes_on at Class.Percent b bs = tt
 first_goes_on at c b bs = class_goes_on at c b bs
 
 run_goes_on : (at : ℕ) (goes : Bool) (within : Within) (c : Class) (b : ℕ) (bs : List ℕ)
@@ -111,72 +107,48 @@ goes_on_at at s (g ∷ given) t rest all = goes_on_at at s given t rest all.1
 
 -- ---- White space
 
-behind_spaces : (n at : ℕ) (s : List ℕ) → tokens_from at places.outside (replicate n 32 ++ s) ≡ tokens_from (at + n) places.outside s
+behind_spaces : (n at : ℕ) (s : List ℕ) → tokens_from at outside (replicate n 32 ++ s) ≡ tokens_from (at + n) outside s
 behind_spaces zero at s = grind arith
 behind_spaces (suc n) at s = grind (arith, behind_spaces n)
 
 -- what the place behind white space is inside of
 abbrev pub column_or_outside : Bool → Within
-column_or_outside true = places.column
-column_or_outside false = places.outside
+column_or_outside true = column
+column_or_outside false = outside
 
 last_white_space : (at : ℕ) (first : Bool) (s : List ℕ)
-    → tokens_from at places.outside ((if first then 10 else 32) ∷ s) ≡ tokens_from (at + 1) (column_or_outside first) s
-last_white_space at true s = refl
-last_white_space at false s = refl
-
-no_mark : (b : ℕ) (s : List ℕ) → (b == 239) ≡ false → has_mark (b ∷ s) ≡ false
-no_mark b s h1 = grind arith
+    → tokens_from at outside ((if first then 10 else 32) ∷ s) ≡ tokens_from (at + 1) (column_or_outside first) s
+last_white_space at first s = grind arith
 
 pub behind_white_space : (n : ℕ) (first : Bool) (s : List ℕ)
     → tokens_of (white_space (suc n) first ++ s) ≡ tokens_from (suc n) (column_or_outside first) s
-behind_white_space zero true s = grind arith
-behind_white_space zero false s = grind arith
+behind_white_space zero first s = grind arith
 behind_white_space (suc n) first s =
-    ap (λ m. elim m [ true ↦ tokens_from 3 places.column (drop 3 (white_space (suc (suc n)) first ++ s)) | false ↦ tokens_from 0 places.column (white_space (suc (suc n)) first ++ s) ])
-    (no_mark 32 ((replicate n 32 ++ last ∷ []) ++ s) refl)
-    ∙ ap (λ bs. tokens_from 1 places.outside bs) (append_assoc (replicate n 32) (last ∷ []) s)
+    rw (other_first 32 ((replicate n 32 ++ last ∷ []) ++ s) refl)
+    (ap (tokens_from 1 outside) (append_assoc (replicate n 32) (last ∷ []) s)
     ∙ behind_spaces n 1 (last ∷ s)
     ∙ last_white_space (1 + n) first s
-    ∙ ap (λ place. tokens_from place (column_or_outside first) s) (omega arith)
+    ∙ ap (λ place. tokens_from place (column_or_outside first) s) (omega arith))
   where
     last : ℕ
     last = if first then 10 else 32
 
 -- ---- The law
 
-behind_front : (n : ℕ) (u s : List ℕ) → length u ≡ n → drop n (u ++ s) ≡ s
-behind_front zero [] s many = refl
-behind_front zero (b ∷ u) s many = absurd (omega (arith, many))
-behind_front (suc n) [] s many = absurd (omega (arith, many))
-behind_front (suc n) (b ∷ u) s many = behind_front n u s (omega (arith, many))
-
-behind_both : (k n : ℕ) (u s : List ℕ) → length u ≡ k + n → drop n (drop k (u ++ s)) ≡ s
-behind_both zero n u s many = behind_front n u s (omega (arith, many))
-behind_both (suc k) n [] s many = absurd (omega (arith, many))
-behind_both (suc k) n (b ∷ u) s many = behind_both k n u s (omega (arith, many))
-
 pub texts_restart : TextsRestart
-texts_restart u s given rest t cut ends can = by_mark _ refl
+texts_restart u s given rest t cut ends can =
+    elim (cases_Bool (has_mark (u ++ s))) [ inl mark ↦ closing 3 (rw (mark, tokens_of)) | inr mark ↦ closing 0 (rw (mark, tokens_of)) ]
   where
-    of_mark : (m : Bool) → has_mark (u ++ s) ≡ m
-        → tokens_of (u ++ s) ≡ elim m [ true ↦ tokens_from 3 places.column (drop 3 (u ++ s)) | false ↦ tokens_from 0 places.column (u ++ s) ]
-    of_mark m mark = cc mark
-
-    closing : (k : ℕ) → AllGoOn k (drop k (u ++ s)) (given ++ t ∷ rest) → rest ≡ tokens_of (white_space (length u) false ++ s)
-    closing k all =
+    closing : (k : ℕ) → tokens_of (u ++ s) ≡ tokens_from k column (drop k (u ++ s)) → rest ≡ tokens_of (white_space (length u) false ++ s)
+    closing k same =
+        let all = subst (AllGoOn k (drop k (u ++ s))) (sym same ∙ cut) (all_go_on k column (drop k (u ++ s))) in
         let found = goes_on_at k (drop k _) given t rest all (length u) ends can in
         let many : length u ≡ suc (k + found.0) = omega (arith, found.1) in
         found.2
-        ∙ ap (λ bs. tokens_from (length u) places.outside bs) (behind_both k (suc found.0) u s found.1)
-        ∙ ap (λ n. tokens_from n places.outside s) many
+        ∙ ap (tokens_from (length u) outside) (drop-drop (suc found.0) k _ ∙ drop_at u s _ found.1)
+        ∙ ap (λ n. tokens_from n outside s) many
         ∙ sym (behind_white_space (k + found.0) false s)
         ∙ ap (λ n. tokens_of (white_space n false ++ s)) (sym many)
-
-    by_mark : (m : Bool) → has_mark (u ++ s) ≡ m → rest ≡ tokens_of (white_space (length u) false ++ s)
-    by_mark true mark =
-        closing 3 (subst (AllGoOn 3 (drop 3 (u ++ s))) (sym (of_mark true mark) ∙ cut) (all_go_on 3 places.column (drop 3 (u ++ s))))
-    by_mark false mark = closing 0 (subst (AllGoOn 0 (u ++ s)) (sym (of_mark false mark) ∙ cut) (all_go_on 0 places.column (u ++ s)))
 
 -- ---- A lexer that begins there
 
@@ -203,8 +175,5 @@ held_at is_start first = record { mode = if is_start then Start else if first th
 
 pub begins_at : (place : ℕ) (first : Bool) (h : PartialToken) → h ≡ held_at (place == 0) first
     → StandsAfter (record { count = place; held = h }) (white_space place first) None []
-begins_at zero first h same = subst (λ (h : PartialToken). StandsAfter (record { count = 0; held = h }) [] None []) (sym same) starts_first
-begins_at (suc n) first h same =
-    let later : (suc n == 0) ≡ false = grind (arith, nat_tests) in
-    let held : h ≡ between first = same ∙ ap (λ (b : Bool). held_at b first) later in
-    subst (λ (h : PartialToken). StandsAfter (record { count = suc n; held = h }) (white_space (suc n) first) None []) (sym held) (begins_later n first)
+begins_at zero first h same = rw same starts_first
+begins_at (suc n) first h same = let later : (suc n == 0) ≡ false = grind (arith, nat_tests) in rw (same, later) (begins_later n first)

@@ -53,43 +53,16 @@ record SoundFrom (inside : Bool) (ts : List Token) : Type 0 where
 
 cut_sound : (w : Where) (at : ℕ) (s : List ℕ) (ts : List Token) → Cuts w at s ts
     → SoundFrom (is_inside w) ts
-cut_sound _ _ _ _ (lexes.ends first at) = omega arith
 cut_sound _ _ _ _ (lexes.space first at b s ts e more) = cut_sound _ _ _ _ more
 cut_sound _ _ _ _ (lexes.escape_line at run s ts long more) = cut_sound _ _ _ _ more
-cut_sound _ _ _ _ (lexes.stray_percent at s) = omega arith
-cut_sound _ _ _ _ (lexes.token first at run s k ts spelled more) =
-    let rest = cut_sound _ _ _ _ more in
-    record {
-      texts = (spelled_sound run s k spelled, rest.texts);
-      comments = spelled_outside run s k _ spelled rest.comments;
-    }
-cut_sound _ _ _ _ (lexes.refuses first at n s r bad) = omega arith
-cut_sound _ _ _ _ (lexes.opens_brace first at s ts more) =
-    let rest = cut_sound _ _ _ _ more in
-    record { texts = (tt, rest.texts); comments = rest.comments }
-cut_sound _ _ _ _ (lexes.opens_line first at s ts more) =
-    let rest = cut_sound _ _ _ _ more in
-    record { texts = (tt, rest.texts); comments = rest.comments }
-cut_sound _ _ _ _ (lexes.open_at_end at) = omega arith
-cut_sound _ _ _ _ (lexes.closed_at_end at) = omega arith
+cut_sound _ _ _ _ (lexes.token first at run s k ts spelled more) = grind (arith, cut_sound _ _ _ _ more, spelled_sound, spelled_outside)
+cut_sound _ _ _ _ (lexes.opens_brace first at s ts more) = grind (arith, cut_sound _ _ _ _ more)
+cut_sound _ _ _ _ (lexes.opens_line first at s ts more) = grind (arith, cut_sound _ _ _ _ more)
 cut_sound _ _ _ _ (lexes.between_words braces at b s ts e other more) = cut_sound _ _ _ _ more
-cut_sound _ _ _ _ (lexes.word braces at b run s ts e long fits more) =
-    let rest = cut_sound _ _ _ _ more in
-    record {
-      texts = (record { some = omega arith; bytes = both_true e long.0; fits = fits }, rest.texts);
-      comments = rest.comments;
-    }
-cut_sound _ _ _ _ (lexes.long_word braces at b run s e long over) =
-    omega arith
-cut_sound _ _ _ _ (lexes.control_in_comment braces at b s e) =
-    omega arith
-cut_sound _ _ _ _ (lexes.closes_brace at s ts more) =
-    let rest = cut_sound _ _ _ _ more in
-    record { texts = (tt, rest.texts); comments = rest.comments }
-cut_sound _ _ _ _ (lexes.brace_in_line at s) = omega arith
-cut_sound _ _ _ _ (lexes.closes_line at b s ts e more) =
-    let rest = cut_sound _ _ _ _ more in
-    record { texts = (tt, rest.texts); comments = rest.comments }
+cut_sound _ _ _ _ (lexes.word braces at b run s ts e long fits more) = grind (arith, cut_sound _ _ _ _ more, both_true)
+cut_sound _ _ _ _ (lexes.closes_brace at s ts more) = grind (arith, cut_sound _ _ _ _ more)
+cut_sound _ _ _ _ (lexes.closes_line at b s ts e more) = grind (arith, cut_sound _ _ _ _ more)
+cut_sound _ _ _ _ cut = omega arith
 
 lexed_sound : (s : List ℕ) (ts : List Token) → Lexes s ts → AreSoundTokens ts
 lexed_sound s ts h1 = grind (arith, cut_sound)

@@ -1,7 +1,6 @@
 -- Written tokens, read back.
-use Rattle.pgn_lexer.proofs.Words.{◌≡◌, ℕ, ◌+◌, ◌≤◌, Bool, true, false, not, List, [], ◌∷◌, ◌++◌, length, refl, sym, ap, ◌∙◌, arith, ◌||◌, map, ◌==◌, if◌then◌else◌, AllByRecursion, list_all, is_space, is_digit, continues_symbol, continues_word, PiecesAreReadBack, KindsAreReadBack, StopsAt, is_escaped, is_barred, is_plain, Data, SpellsToken, Where, Cuts, Lexes, IsSymbol, IsWord, CommentsClose, Kind, Token, has_mark, written, Piece, token, space, text_of_pieces, kinds_in, tokens_at, IsPiece, IsEndedBy, AreEnded, IsReadable, and_parts}
+use Rattle.pgn_lexer.proofs.Words.{◌≡◌, ℕ, ◌+◌, ◌≤◌, Bool, true, false, not, List, [], ◌∷◌, ◌++◌, length, refl, sym, ap, ◌∙◌, arith, ◌||◌, map, if◌then◌else◌, AllByRecursion, list_all, is_space, is_digit, continues_symbol, continues_word, PiecesAreReadBack, KindsAreReadBack, StopsAt, is_escaped, is_barred, Data, SpellsToken, Where, Cuts, Lexes, IsSymbol, IsWord, CommentsClose, Kind, Token, has_mark, written, Piece, token, space, text_of_pieces, kinds_in, tokens_at, IsPiece, IsEndedBy, AreEnded, IsReadable, and_parts}
 use Rattle.pgn_lexer.specs.Lexes as lexes
-use Rattle.pgn_lexer.specs.Tokens as tokens
 use Rattle.pgn_lexer.specs.Written.{escaped}
 use Rattle.pgn_lexer.proofs.cutting.EachTextIsCut.{lexes_once}
 use Rattle.pgn_lexer.proofs.bytes.DecimalsAreSymbols.{IsNumber, number_written}
@@ -13,27 +12,24 @@ plain_from x y h1 h2 = grind arith
 escaped_data : (text s : List ℕ) → list_all (λ b. not (is_barred b)) text ≡ true
     → Data (escaped text) text s
 escaped_data [] s all = lexes.no_data s
-escaped_data (b ∷ bs) s all =
-    cases _ refl (escaped_data bs s (and_parts _ _ all).1)
+escaped_data (b ∷ bs) s all = cases _ refl (escaped_data bs s (and_parts _ _ all).1)
   where
     cases : (e : Bool) → is_escaped b ≡ e → Data (escaped bs) bs s
         → Data ((if e then 92 ∷ b ∷ [] else b ∷ []) ++ escaped bs) (b ∷ bs) s
     cases true e more = lexes.escaped b _ bs s e more
     cases false e more =
-        let bare : is_plain b ≡ true =
-        plain_from (is_barred b) (is_escaped b) (and_parts _ _ all).0 e in
-        lexes.plain b _ bs s bare more
+        lexes.plain b _ bs s (plain_from (is_barred b) (is_escaped b) (and_parts _ _ all).0 e) more
 
 -- tokens outside comments
 spelled_symbol : (text s : List ℕ) → IsSymbol text → StopsAt continues_symbol s
-    → SpellsToken text s (tokens.symbol text)
+    → SpellsToken text s (Kind.symbol text)
 spelled_symbol [] s h stop = cc h.begins
 spelled_symbol (b ∷ bs) s h stop =
     let all = and_parts (continues_symbol b) (list_all _ bs) h.bytes in
     lexes.symbol b bs s h.begins (all.1, stop) h.fits
 
 spelled_glyph : (n : ℕ) (ds s : List ℕ) → IsNumber n ds → n ≤ 255 → StopsAt is_digit s
-    → SpellsToken (36 ∷ ds) s (tokens.glyph n)
+    → SpellsToken (36 ∷ ds) s (Kind.glyph n)
 spelled_glyph n [] s h fits stop = absurd (omega (arith, h.some))
 spelled_glyph n (d ∷ ds) s h fits stop =
     let all = and_parts (is_digit d) (list_all _ ds) h.digits in
@@ -41,33 +37,29 @@ spelled_glyph n (d ∷ ds) s h fits stop =
     (lexes.glyph d ds s all.0 (all.1, stop) (omega (arith, h.value)))
 
 abbrev IsOutside : Kind → Type 0
-IsOutside tokens.comment_open = ⊥
-IsOutside (tokens.word text) = ⊥
-IsOutside tokens.comment_close = ⊥
+IsOutside Kind.comment_open = ⊥
+IsOutside (Kind.word text) = ⊥
+IsOutside Kind.comment_close = ⊥
 IsOutside _ = Unit {0}
 
 spelled : (k : Kind) (s : List ℕ) → IsOutside k → IsPiece (token k) → IsEndedBy s k
     → SpellsToken (written k) s k
-spelled tokens.left_bracket s out h end = lexes.single 91 s _ lexes.left_bracket
-spelled tokens.right_bracket s out h end = lexes.single 93 s _ lexes.right_bracket
-spelled tokens.left_paren s out h end = lexes.single 40 s _ lexes.left_paren
-spelled tokens.right_paren s out h end = lexes.single 41 s _ lexes.right_paren
-spelled tokens.period s out h end = lexes.single 46 s _ lexes.period
-spelled tokens.asterisk s out h end = lexes.single 42 s _ lexes.asterisk
-spelled (tokens.symbol text) s out h end = spelled_symbol text s h end
-spelled (tokens.str text) s out h end =
+spelled Kind.left_bracket s out h end = lexes.single 91 s _ lexes.left_bracket
+spelled Kind.right_bracket s out h end = lexes.single 93 s _ lexes.right_bracket
+spelled Kind.left_paren s out h end = lexes.single 40 s _ lexes.left_paren
+spelled Kind.right_paren s out h end = lexes.single 41 s _ lexes.right_paren
+spelled Kind.period s out h end = lexes.single 46 s _ lexes.period
+spelled Kind.asterisk s out h end = lexes.single 42 s _ lexes.asterisk
+spelled (Kind.symbol text) s out h end = spelled_symbol text s h end
+spelled (Kind.str text) s out h end =
     lexes.string _ text s (escaped_data text _ h.bytes) h.fits
-spelled (tokens.glyph n) s out h end = grind (arith, spelled_glyph, number_written)
-spelled tokens.comment_open s out h end = absurd out
-spelled (tokens.word text) s out h end = absurd out
-spelled tokens.comment_close s out h end = absurd out
-spelled tokens.end s out h end = absurd h
-spelled (tokens.refused r) s out h end = absurd h
+spelled (Kind.glyph n) s out h end = grind (arith, spelled_glyph, number_written)
+spelled _ s out h end = absurd (omega arith)
 
 -- a word inside a comment
 word_cut : (at : ℕ) (text s : List ℕ) (ts : List Token) → IsWord text → StopsAt continues_word s
     → Cuts (lexes.comment true) (at + length text) s ts
-    → Cuts (lexes.comment true) at (text ++ s) (record { at = at; kind = tokens.word text } ∷ ts)
+    → Cuts (lexes.comment true) at (text ++ s) (record { at = at; kind = Kind.word text } ∷ ts)
 word_cut at [] s ts h stop more = absurd (omega (arith, h.some))
 word_cut at (b ∷ bs) s ts h stop more =
     let all = and_parts _ (list_all _ bs) h.bytes in
@@ -101,21 +93,20 @@ cut_pieces (space b ∷ ps) false first at all ended close =
 cut_pieces (space b ∷ ps) true first at all ended close =
     lexes.between_words true at b _ _ all.0 refl
     (cut_pieces ps true first _ all.1 ended close)
-cut_pieces (token tokens.comment_open ∷ ps) false first at all ended close =
+cut_pieces (token Kind.comment_open ∷ ps) false first at all ended close =
     lexes.opens_brace first at _ _ (cut_pieces ps true false _ all.1 ended.1 close)
-cut_pieces (token (tokens.word text) ∷ ps) false first at all ended close = absurd close
-cut_pieces (token tokens.comment_close ∷ ps) false first at all ended close = absurd close
-cut_pieces (token tokens.end ∷ ps) false first at all ended close = absurd all.0
-cut_pieces (token (tokens.refused r) ∷ ps) false first at all ended close = absurd all.0
+cut_pieces (token (Kind.word text) ∷ ps) false first at all ended close = absurd close
+cut_pieces (token Kind.comment_close ∷ ps) false first at all ended close = absurd close
+cut_pieces (token Kind.end ∷ ps) false first at all ended close = absurd all.0
+cut_pieces (token (Kind.refused r) ∷ ps) false first at all ended close = absurd all.0
 cut_pieces (token k ∷ ps) false first at all ended close =
-    cut_outside first at k ps tt all.0 ended.0
-    (cut_pieces ps false false _ all.1 ended.1 close)
-cut_pieces (token (tokens.word text) ∷ ps) true first at all ended close =
+    cut_outside first at k ps tt all.0 ended.0 (cut_pieces ps false false _ all.1 ended.1 close)
+cut_pieces (token (Kind.word text) ∷ ps) true first at all ended close =
     word_cut at text _ _ all.0 ended.0
     (cut_pieces ps true false _ all.1 ended.1 close)
-cut_pieces (token tokens.comment_close ∷ ps) true first at all ended close =
+cut_pieces (token Kind.comment_close ∷ ps) true first at all ended close =
     lexes.closes_brace at _ _ (cut_pieces ps false false _ all.1 ended.1 close)
-cut_pieces (token (tokens.refused r) ∷ ps) true first at all ended close = absurd all.0
+cut_pieces (token (Kind.refused r) ∷ ps) true first at all ended close = absurd all.0
 cut_pieces (token k ∷ ps) true first at all ended close = absurd close
 
 -- Such a text begins with no byte order mark.
@@ -130,20 +121,8 @@ no_mark : (ps : List Piece) → AllByRecursion IsPiece ps → CommentsClose fals
     → has_mark (text_of_pieces ps) ≡ false
 no_mark [] all close = refl
 no_mark (space b ∷ ps) all close = not_mark is_space b _ all.0 refl
-no_mark (token (tokens.symbol text) ∷ ps) all close = symbol_no_mark text _ all.0
-no_mark (token tokens.left_bracket ∷ ps) all close = not_mark (λ b. b == 91) 91 _ refl refl
-no_mark (token tokens.right_bracket ∷ ps) all close = not_mark (λ b. b == 93) 93 _ refl refl
-no_mark (token tokens.left_paren ∷ ps) all close = not_mark (λ b. b == 40) 40 _ refl refl
-no_mark (token tokens.right_paren ∷ ps) all close = not_mark (λ b. b == 41) 41 _ refl refl
-no_mark (token tokens.period ∷ ps) all close = not_mark (λ b. b == 46) 46 _ refl refl
-no_mark (token tokens.asterisk ∷ ps) all close = not_mark (λ b. b == 42) 42 _ refl refl
-no_mark (token (tokens.str text) ∷ ps) all close = not_mark (λ b. b == 34) 34 _ refl refl
-no_mark (token (tokens.glyph n) ∷ ps) all close = not_mark (λ b. b == 36) 36 _ refl refl
-no_mark (token tokens.comment_open ∷ ps) all close = not_mark (λ b. b == 123) 123 _ refl refl
-no_mark (token (tokens.word text) ∷ ps) all close = absurd close
-no_mark (token tokens.comment_close ∷ ps) all close = absurd close
-no_mark (token tokens.end ∷ ps) all close = absurd all.0
-no_mark (token (tokens.refused r) ∷ ps) all close = absurd all.0
+no_mark (token (Kind.symbol text) ∷ ps) all close = symbol_no_mark text _ all.0
+no_mark (token k ∷ ps) all close = grind arith
 
 lexed : (ps : List Piece) → IsReadable ps → Lexes (text_of_pieces ps) (tokens_at 0 ps)
 lexed ps h =
@@ -155,7 +134,7 @@ pieces_are_read_back ps h =
     sym ((lexes_once (text_of_pieces ps) _).0 (lexed ps h))
 
 kinds_of : (at : ℕ) (ps : List Piece)
-    → map (λ t. t.kind) (tokens_at at ps) ≡ kinds_in ps ++ tokens.end ∷ []
+    → map (λ t. t.kind) (tokens_at at ps) ≡ kinds_in ps ++ Kind.end ∷ []
 kinds_of at [] = refl
 kinds_of at (token k ∷ ps) = ap (λ ks. k ∷ ks) (kinds_of _ ps)
 kinds_of at (space b ∷ ps) = kinds_of (at + 1) ps

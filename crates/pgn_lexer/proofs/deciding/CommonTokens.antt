@@ -1,5 +1,5 @@
 -- What two lists of tokens both begin with.
-use Rattle.pgn_lexer.proofs.Words.{◌≡◌, ℕ, Bool, true, false, List, [], ◌∷◌, ◌++◌, refl, sym, ap, ◌∙◌, eqb, eq-eqb, eqb-true, Option, None, Some, ◌&&◌, bytes_eq, LexReason, Kind, Token, left_bracket, right_bracket, left_paren, right_paren, period, asterisk, symbol, str, glyph, comment_open, word, comment_close, end, refused, same_reason, same_kind, same_token, common, IsPrefix, arith}
+use Rattle.pgn_lexer.proofs.Words.{◌≡◌, ℕ, Bool, true, false, List, [], ◌∷◌, ◌++◌, refl, sym, ap, ◌∙◌, eqb, eq-eqb, eqb-true, Option, None, Some, ◌&&◌, bytes_eq, LexReason, Kind, Token, symbol, str, glyph, word, refused, same_reason, same_kind, same_token, common, IsPrefix, arith}
 use Rattle.std.proofs.lemmas.Slice.Eq.{bytes_eq-Decides}
 
 bytes_eq-true : (xs ys : List ℕ) → bytes_eq xs ys ≡ true → xs ≡ ys
@@ -12,21 +12,12 @@ same_reason-true : (a b : LexReason) → same_reason a b ≡ true → a ≡ b
 same_reason-true a b h1 = grind arith
 
 same_kind-true : (a b : Kind) → same_kind a b ≡ true → a ≡ b
-same_kind-true left_bracket left_bracket e = refl
-same_kind-true right_bracket right_bracket e = refl
-same_kind-true left_paren left_paren e = refl
-same_kind-true right_paren right_paren e = refl
-same_kind-true period period e = refl
-same_kind-true asterisk asterisk e = refl
 same_kind-true (symbol a) (symbol b) e = ap symbol (bytes_eq-true a b e)
 same_kind-true (str a) (str b) e = ap str (bytes_eq-true a b e)
 same_kind-true (glyph m) (glyph n) e = ap glyph (eqb-true m n e)
-same_kind-true comment_open comment_open e = refl
 same_kind-true (word a) (word b) e = ap word (bytes_eq-true a b e)
-same_kind-true comment_close comment_close e = refl
-same_kind-true end end e = refl
 same_kind-true (refused a) (refused b) e = ap refused (same_reason-true a b e)
-same_kind-true _ _ e = cc
+same_kind-true _ _ e = grind arith
 
 same_kind-refl : (k : Kind) → same_kind k k ≡ true
 same_kind-refl k = grind (arith, bytes_eq-refl, eq-eqb)

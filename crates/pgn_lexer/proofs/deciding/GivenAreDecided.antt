@@ -1,6 +1,5 @@
 -- The tokens given are those that are decided.
-use Rattle.std.proofs.lemmas.Grind.{common_steps}
-use Rattle.pgn_lexer.proofs.Words.{◌≡◌, ℕ, ◌+◌, ◌*◌, ◌≤◌, Bool, List, [], ◌∷◌, ◌++◌, length, sym, ap, ◌∙◌, append-nil, arith, length-append, Option, None, Some, if◌then◌else◌, SymbolTooLong, WordTooLong, GlyphRange, Mode, Kind, Token, symbol, glyph, word, end, gives, stops, symbol_at, word_at, numbered_at, onto, tokens_of, common, decided, PartialToken, IsSound, HasNotFailed, tokens_to_come, tokens_to_come_in}
+use Rattle.pgn_lexer.proofs.Words.{◌≡◌, ℕ, ◌+◌, ◌*◌, ◌≤◌, Bool, List, [], ◌∷◌, ◌++◌, length, sym, ap, ◌∙◌, append-nil, arith, length-append, Option, None, Some, if◌then◌else◌, SymbolTooLong, WordTooLong, GlyphRange, Mode, Kind, Token, symbol, glyph, word, end, gives, stops, symbol_at, word_at, numbered_at, onto, tokens_of, common, decided, PartialToken, IsSound, HasNotFailed, tokens_to_come, tokens_to_come_in, common_steps}
 use Rattle.pgn_lexer.proofs.deciding.CommonTokens.{common-append, common-refl, head, common_heads, no_head}
 use Rattle.pgn_lexer.proofs.stepping.ByteInSymbol.{symbol_fits}
 use Rattle.pgn_lexer.proofs.stepping.ByteInComment.{word_fits}

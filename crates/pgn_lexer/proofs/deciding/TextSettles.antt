@@ -1,6 +1,5 @@
 -- Each text brings a lexer to a place from which nothing is decided yet, or to a rejection.
 use Rattle.pgn_lexer.proofs.Words.{◌≡◌, ℕ, zero, suc, ◌+◌, ◌*◌, ◌<◌, ◌≤◌, Bool, List, [], ◌∷◌, ◌++◌, length, drop, refl, sym, ap, ◌∙◌, append-nil, append_assoc, arith, take-append-drop, take_while, Mode, Step, Used, Ends, EndsBefore, Fault, Token, tokens_of, decided, PartialToken, tokens_to_come, token_of, refusal, IsSound, HasNotFailed, pending_in, pending, fault_met, after_byte, IsPrefix, DecidedIsPrefix, KnownIsPrefix}
-use Rattle.pgn_lexer.specs.declared.partial_token.Mode.TheVariants as modes
 use Rattle.pgn_lexer.proofs.stepping.StepGives.{StepGives, front_of}
 use Rattle.pgn_lexer.proofs.stepping.ByteGives.{step_gives}
 use Rattle.pgn_lexer.proofs.deciding.GivenAreDecided.{common_of, decided_is, going_none}
@@ -50,7 +49,7 @@ settles (suc n) (b ∷ u) place h enough sound not_failed =
 
 -- before the first byte
 abbrev at_start : PartialToken
-at_start = record { mode = modes.Start; at = 0; text = [] }
+at_start = record { mode = Mode.Start; at = 0; text = [] }
 
 text_settles : (u : List ℕ) → Settles (λ s. tokens_of (u ++ s))
 text_settles u = settles (3 * length u) u 0 at_start (omega arith) omega arith tt

@@ -1,10 +1,6 @@
 -- Each byte, and the end of the text, gives the tokens that come.
-use Rattle.std.proofs.lemmas.Grind.{common_steps}
-use Rattle.pgn_lexer.proofs.Words.{◌≡◌, ℕ, ◌<◌, ◌≤◌, List, [], ◌∷◌, length, refl, arith, Some, LexFault, Mode, TokenForm, HasLength, end, PartialToken, IsSound, HasNotFailed, tokens_to_come, kind_in, token_of, refusal, pending, fault_met, fault_in_mode, after_byte, after_byte_in, after_end, after_end_in, AfterByte, IsAfterEnd, reached_after}
-use Rattle.pgn_lexer.specs.declared.partial_token.Mode.TheVariants as modes
-use Rattle.pgn_lexer.specs.declared.partial_token.Reached.{Reached}
-use Rattle.pgn_lexer.specs.declared.partial_token.Reached.TheVariants as reached
-use Rattle.pgn_lexer.proofs.stepping.StepGives.{Gives, front_of}
+use Rattle.pgn_lexer.proofs.Words.{◌≡◌, ℕ, ◌<◌, ◌≤◌, List, [], ◌∷◌, length, refl, arith, Some, LexFault, Mode, TokenForm, HasLength, end, PartialToken, IsSound, HasNotFailed, tokens_to_come, kind_in, token_of, refusal, pending, fault_met, fault_in_mode, after_byte, after_byte_in, after_end, after_end_in, AfterByte, IsAfterEnd, reached_after, common_steps, Reached}
+use Rattle.pgn_lexer.proofs.stepping.StepGives.{Gives, GivesIn, front_of, holds}
 use Rattle.pgn_lexer.proofs.stepping.RunOfBytes.{run_closes}
 use Rattle.pgn_lexer.proofs.stepping.FirstBytes.{start_gives, after_ef_gives, after_ef_bb_gives, escape_line_gives}
 use Rattle.pgn_lexer.proofs.stepping.ByteOutside.{begin_gives, begin_line_gives}
@@ -13,29 +9,26 @@ use Rattle.pgn_lexer.proofs.stepping.ByteInString.{string_gives, escaped_gives}
 use Rattle.pgn_lexer.proofs.stepping.ByteInGlyph.{dollar_gives, glyph_gives, suffix_gives, number_fits, spelled, small_suffix}
 use Rattle.pgn_lexer.proofs.stepping.ByteInComment.{brace_gives, brace_word_gives, line_gives, line_word_gives, word_fits}
 
-abbrev holds : Mode → ℕ → List ℕ → PartialToken
-holds mode at text = record { mode = mode; at = at; text = text }
-
 step_in : (m : Mode) (place at b : ℕ) (text : List ℕ) → length text ≤ 255 → IsSound place (holds m at text)
-    → Gives (front_of place (holds m at text) b) (after_byte_in m place (holds m at text) b)
-step_in modes.Start place at b text fits sound =
+    → GivesIn m place at b text (λ h. after_byte_in m place h b)
+step_in Mode.Start place at b text fits sound =
     rw sound.placed (start_gives at b text fits _ refl)
-step_in modes.AfterEf place at b text fits sound = grind (arith, front_of, after_ef_gives)
-step_in modes.AfterEfBb place at b text fits sound = grind (arith, front_of, after_ef_bb_gives)
-step_in modes.LineStart place at b text fits sound = begin_line_gives _ place b (holds modes.LineStart at text) _ _ fits
-step_in modes.Outside place at b text fits sound = begin_gives _ place b (holds modes.Outside at text) _ _ fits
-step_in modes.EscapeLine place at b text fits sound = escape_line_gives place at b text fits _ refl
-step_in modes.Symbol place at b text fits sound = grind (arith, symbol_gives)
-step_in modes.Str place at b text fits sound = grind (arith, string_gives)
-step_in modes.AfterBackslash place at b text fits sound = grind (arith, escaped_gives)
-step_in modes.Dollar place at b text fits sound = grind (arith, dollar_gives)
-step_in (modes.Glyph n) place at b text fits sound = grind (arith, glyph_gives)
-step_in (modes.Suffix run) place at b text fits sound = grind (arith, suffix_gives)
-step_in modes.Brace place at b text fits sound = brace_gives place b (holds modes.Brace at text) _ _ fits
-step_in modes.BraceWord place at b text fits sound = grind (arith, brace_word_gives)
-step_in modes.Line place at b text fits sound = line_gives place b (holds modes.Line at text) _ _ fits
-step_in modes.LineWord place at b text fits sound = grind (arith, line_word_gives)
-step_in (modes.Failed f) place at b text fits sound = grind arith
+step_in Mode.AfterEf place at b text fits sound = grind (arith, front_of, after_ef_gives)
+step_in Mode.AfterEfBb place at b text fits sound = grind (arith, front_of, after_ef_bb_gives)
+step_in Mode.LineStart place at b text fits sound = begin_line_gives _ place b (holds Mode.LineStart at text) _ _ fits
+step_in Mode.Outside place at b text fits sound = begin_gives _ place b (holds Mode.Outside at text) _ _ fits
+step_in Mode.EscapeLine place at b text fits sound = escape_line_gives place at b text fits _ refl
+step_in Mode.Symbol place at b text fits sound = grind (arith, symbol_gives)
+step_in Mode.Str place at b text fits sound = grind (arith, string_gives)
+step_in Mode.AfterBackslash place at b text fits sound = grind (arith, escaped_gives)
+step_in Mode.Dollar place at b text fits sound = grind (arith, dollar_gives)
+step_in (Mode.Glyph n) place at b text fits sound = grind (arith, glyph_gives)
+step_in (Mode.Suffix run) place at b text fits sound = grind (arith, suffix_gives)
+step_in Mode.Brace place at b text fits sound = brace_gives place b (holds Mode.Brace at text) _ _ fits
+step_in Mode.BraceWord place at b text fits sound = grind (arith, brace_word_gives)
+step_in Mode.Line place at b text fits sound = line_gives place b (holds Mode.Line at text) _ _ fits
+step_in Mode.LineWord place at b text fits sound = grind (arith, line_word_gives)
+step_in (Mode.Failed f) place at b text fits sound = grind arith
 
 -- what a byte gives
 pub step_gives : (place : ℕ) (h : PartialToken) (b : ℕ) → IsSound place h → Gives (front_of place h b) (after_byte place h b)
@@ -63,9 +56,9 @@ pub record ClosesEnd (place : ℕ) (h new : PartialToken) : Type 0 where
   pub comes : tokens_to_come place h [] ≡ record { at = place; kind = end } ∷ []
 
 abbrev pub CloseGives : ℕ → PartialToken → PartialToken → Reached → Type 0
-CloseGives place h new reached.End = ClosesEnd place h new
-CloseGives place h new (reached.Token form) = ClosesToken place h form new
-CloseGives place h new reached.Fault = ClosesFault place h new
+CloseGives place h new Reached.End = ClosesEnd place h new
+CloseGives place h new (Reached.Token form) = ClosesToken place h form new
+CloseGives place h new Reached.Fault = ClosesFault place h new
 
 abbrev pub ClosedGives : ℕ → PartialToken → AfterByte → Type 0
 ClosedGives place h t = CloseGives place h t.held (reached_after t.step)

@@ -1,16 +1,11 @@
 -- A byte in a comment.
-use Rattle.std.proofs.lemmas.Grind.{common_steps}
-use Rattle.pgn_lexer.proofs.Words.{◌≡◌, ℕ, ◌+◌, ◌<◌, ◌≤◌, Bool, true, false, List, [], ◌∷◌, length, refl, ap, ◌∙◌, arith, length-append, nat_lt, if◌then◌else◌, ltb-true, ltb-false, WordTooLong, CommentClass, continues_word, Token, word, comment_class, gives, stops, word_at, brace, line, begins_brace, begins_line, after_brace, after_line, onto, tokens_from, PartialToken}
-use Rattle.pgn_lexer.specs.declared.class.CommentClass.TheVariants as comment_classes
-use Rattle.pgn_lexer.specs.declared.partial_token.Mode.TheVariants as modes
-use Rattle.pgn_lexer.specs.declared.partial_token.TokenForm.TheVariants as token_forms
-use Rattle.pgn_lexer.specs.declared.partial_token.Step.TheVariants as steps
+use Rattle.pgn_lexer.proofs.Words.{◌≡◌, ℕ, ◌+◌, ◌<◌, ◌≤◌, Bool, true, false, List, [], ◌∷◌, length, refl, ap, ◌∙◌, arith, length-append, nat_lt, if◌then◌else◌, ltb-true, ltb-false, WordTooLong, CommentClass, continues_word, Token, word, comment_class, gives, stops, word_at, brace, line, begins_brace, begins_line, after_brace, after_line, onto, tokens_from, PartialToken, Mode, TokenForm, Step, common_steps}
 use Rattle.pgn_lexer.specs.ByteResult as byte_result
 use Rattle.pgn_lexer.proofs.stepping.RunOfBytes.{run_grows, run_breaks, run_ends, run_closes}
-use Rattle.pgn_lexer.proofs.stepping.StepGives.{Front, Gives, front_of}
+use Rattle.pgn_lexer.proofs.stepping.StepGives.{Front, Gives, GivesIn}
 
 abbrev pub is_word_class : CommentClass → Bool
-is_word_class comment_classes.WordByte = true
+is_word_class CommentClass.WordByte = true
 is_word_class _ = false
 
 -- the bytes of words are those of their class
@@ -67,9 +62,8 @@ line_ends c place b s h1 = grind arith
 
 module _ (place at b : ℕ) (text : List ℕ) (some : 0 < length text) (fits : length text ≤ 79) (began : place ≡ at + length text) where
   -- a letter more, in either comment
-  brace_letter : comment_class b ≡ comment_classes.WordByte → continues_word b ≡ true → (d : Bool) → nat_lt (length text) 79 ≡ d
-      → let h : PartialToken = record { mode = modes.BraceWord; at = at; text = text } in
-      Gives (front_of place h b) (if d then byte_result.grown h modes.BraceWord b else byte_result.fails h h.at WordTooLong)
+  brace_letter : comment_class b ≡ CommentClass.WordByte → continues_word b ≡ true → (d : Bool) → nat_lt (length text) 79 ≡ d
+      → GivesIn Mode.BraceWord place at b text (λ h. if d then byte_result.grown h Mode.BraceWord b else byte_result.fails h h.at WordTooLong)
   brace_letter e w true room =
       let short : length text < 79 = ltb-true _ _ room in
       record {
@@ -79,9 +73,8 @@ module _ (place at b : ℕ) (text : List ℕ) (some : 0 < length text) (fits : l
       }
   brace_letter e w false full = grind (arith, common_steps, ltb-false, run_breaks, word_long, length-append)
 
-  line_letter : comment_class b ≡ comment_classes.WordByte → continues_word b ≡ true → (d : Bool) → nat_lt (length text) 79 ≡ d
-      → let h : PartialToken = record { mode = modes.LineWord; at = at; text = text } in
-      Gives (front_of place h b) (if d then byte_result.grown h modes.LineWord b else byte_result.fails h h.at WordTooLong)
+  line_letter : comment_class b ≡ CommentClass.WordByte → continues_word b ≡ true → (d : Bool) → nat_lt (length text) 79 ≡ d
+      → GivesIn Mode.LineWord place at b text (λ h. if d then byte_result.grown h Mode.LineWord b else byte_result.fails h h.at WordTooLong)
   line_letter e w true room =
       let short : length text < 79 = ltb-true _ _ room in
       record {
@@ -93,8 +86,7 @@ module _ (place at b : ℕ) (text : List ℕ) (some : 0 < length text) (fits : l
 
   -- a word ends before another byte
   brace_word_ends : is_word_class (comment_class b) ≡ false
-      → let h : PartialToken = record { mode = modes.BraceWord; at = at; text = text } in
-      Gives (front_of place h b) (byte_result.into h modes.Brace (steps.EndsBefore token_forms.Word))
+      → GivesIn Mode.BraceWord place at b text (λ h. byte_result.into h Mode.Brace (Step.EndsBefore TokenForm.Word))
   brace_word_ends other =
       record {
         sound = omega arith;
@@ -112,8 +104,7 @@ module _ (place at b : ℕ) (text : List ℕ) (some : 0 < length text) (fits : l
       }
 
   line_word_ends : is_word_class (comment_class b) ≡ false
-      → let h : PartialToken = record { mode = modes.LineWord; at = at; text = text } in
-      Gives (front_of place h b) (byte_result.into h modes.Line (steps.EndsBefore token_forms.Word))
+      → GivesIn Mode.LineWord place at b text (λ h. byte_result.into h Mode.Line (Step.EndsBefore TokenForm.Word))
   line_word_ends other =
       record {
         sound = omega arith;
@@ -131,11 +122,9 @@ module _ (place at b : ℕ) (text : List ℕ) (some : 0 < length text) (fits : l
       }
 
   pub brace_word_gives : (c : CommentClass) → comment_class b ≡ c
-      → let h : PartialToken = record { mode = modes.BraceWord; at = at; text = text } in
-      Gives (front_of place h b) (byte_result.word modes.Brace h b c)
+      → GivesIn Mode.BraceWord place at b text (λ h. byte_result.word Mode.Brace h b c)
   brace_word_gives c h1 = grind (arith, brace_letter, word_class, brace_word_ends)
 
   pub line_word_gives : (c : CommentClass) → comment_class b ≡ c
-      → let h : PartialToken = record { mode = modes.LineWord; at = at; text = text } in
-      Gives (front_of place h b) (byte_result.word modes.Line h b c)
+      → GivesIn Mode.LineWord place at b text (λ h. byte_result.word Mode.Line h b c)
   line_word_gives c h1 = grind (arith, line_letter, word_class, line_word_ends)

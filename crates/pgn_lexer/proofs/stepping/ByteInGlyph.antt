@@ -1,12 +1,9 @@
 -- A byte in a glyph or a suffix.
-use Rattle.pgn_lexer.proofs.Words.{◌≡◌, ℕ, ◌+◌, ◌-◌, ◌*◌, ◌<◌, ◌≤◌, Bool, true, false, List, [], ◌∷◌, ◌++◌, length, refl, ap, ◌∙◌, arith, take_while, nat_le, ◌==◌, if◌then◌else◌, leb-true, leb-false, LoneDollar, GlyphRange, BadSuffix, Used, EndsBefore, is_digit, is_suffix, glyph, gives, stops, number_from, numbered_at, glyph_at, suffix_at, in_glyph, in_suffix, outside, onto, tokens_from, PartialToken, spelling, into, fails}
-use Rattle.pgn_lexer.specs.declared.partial_token.Mode.TheVariants as modes
-use Rattle.pgn_lexer.specs.declared.partial_token.TokenForm.TheVariants as token_forms
+use Rattle.pgn_lexer.proofs.Words.{◌≡◌, ℕ, ◌+◌, ◌-◌, ◌*◌, ◌<◌, ◌≤◌, Bool, true, false, List, [], ◌∷◌, ◌++◌, length, refl, ap, ◌∙◌, arith, take_while, nat_le, ◌==◌, if◌then◌else◌, leb-true, leb-false, LoneDollar, GlyphRange, BadSuffix, Used, EndsBefore, is_digit, is_suffix, glyph, gives, stops, number_from, numbered_at, glyph_at, suffix_at, in_glyph, in_suffix, outside, onto, tokens_from, spelling, into, fails, Mode, TokenForm}
 use Rattle.pgn_lexer.specs.declared.partial_token.SuffixRun.{SuffixRun}
-use Rattle.pgn_lexer.specs.declared.partial_token.SuffixRun.TheVariants as suffix_runs
 use Rattle.pgn_lexer.specs.ByteResult as byte_result
 use Rattle.pgn_lexer.proofs.stepping.RunOfBytes.{take_while-true, glyph_goes, glyph_ends, suffix_goes, suffix_ends, run_grows, run_breaks, run_ends, run_closes}
-use Rattle.pgn_lexer.proofs.stepping.StepGives.{Gives, front_of}
+use Rattle.pgn_lexer.proofs.stepping.StepGives.{GivesIn}
 
 -- more digits make no smaller number
 number_grows : (n : ℕ) (ds : List ℕ) → n ≤ number_from n ds
@@ -25,8 +22,7 @@ digit_small b e = grind arith
 
 pub glyph_gives : (place at b n : ℕ) (text : List ℕ) → length text ≤ 255 → n ≤ 255 → at < place → (c : Bool) → is_digit b ≡ c
     → (d : Bool) → nat_le (10 * n + (b - 48)) 255 ≡ d
-    → let h : PartialToken = record { mode = modes.Glyph n; at = at; text = text } in
-    Gives (front_of place h b) (if c then (if d then into h (modes.Glyph (10 * n + (b - 48))) Used else fails h h.at GlyphRange) else into h modes.Outside (EndsBefore (token_forms.Glyph n)))
+    → GivesIn (Mode.Glyph n) place at b text (λ h. if c then (if d then into h (Mode.Glyph (10 * n + (b - 48))) Used else fails h h.at GlyphRange) else into h Mode.Outside (EndsBefore (TokenForm.Glyph n)))
 glyph_gives place at b n text fits small began true e true low =
     record {
       sound = record { room = (fits, leb-true _ _ low); placed = omega arith };
@@ -58,8 +54,7 @@ glyph_gives place at b n text fits small began false e d _ =
     }
 
 pub dollar_gives : (place at b : ℕ) (text : List ℕ) → length text ≤ 255 → at < place → (c : Bool) → is_digit b ≡ c
-    → let h : PartialToken = record { mode = modes.Dollar; at = at; text = text } in
-    Gives (front_of place h b) (if c then into h (modes.Glyph (b - 48)) Used else fails h h.at LoneDollar)
+    → GivesIn Mode.Dollar place at b text (λ h. if c then into h (Mode.Glyph (b - 48)) Used else fails h h.at LoneDollar)
 dollar_gives place at b text fits began true e =
     let first : 10 * 0 + (b - 48) ≡ b - 48 = omega arith in
     record {
@@ -73,19 +68,18 @@ dollar_gives place at b text fits began false e = grind arith
 
 -- a second byte of a suffix
 second_good : (at b : ℕ) (run : List ℕ) (c : Bool) → (b == 33) ≡ c
-    → suffix_at at (33 ∷ b ∷ run) ≡ suffix_at at (spelling (if c then suffix_runs.VeryGood else suffix_runs.Speculative) ++ run)
+    → suffix_at at (33 ∷ b ∷ run) ≡ suffix_at at (spelling (if c then SuffixRun.VeryGood else SuffixRun.Speculative) ++ run)
 second_good at b run c h1 = grind arith
 
 second_poor : (at b : ℕ) (run : List ℕ) (c : Bool) → (b == 33) ≡ c
-    → suffix_at at (63 ∷ b ∷ run) ≡ suffix_at at (spelling (if c then suffix_runs.Questionable else suffix_runs.VeryPoor) ++ run)
+    → suffix_at at (63 ∷ b ∷ run) ≡ suffix_at at (spelling (if c then SuffixRun.Questionable else SuffixRun.VeryPoor) ++ run)
 second_poor at b run c h1 = grind arith
 
 module _ (place at b : ℕ) (text : List ℕ) (fits : length text ≤ 255) (began : at < place) where
   -- a suffix that goes on
   more : (run next : SuffixRun) → is_suffix b ≡ true
       → ((rest : List ℕ) → suffix_at at (spelling run ++ b ∷ rest) ≡ suffix_at at (spelling next ++ rest))
-      → let h : PartialToken = record { mode = modes.Suffix run; at = at; text = text } in
-      Gives (front_of place h b) (into h (modes.Suffix next) Used)
+      → GivesIn (Mode.Suffix run) place at b text (λ h. into h (Mode.Suffix next) Used)
   more run next e second =
       record {
         sound = omega arith;
@@ -97,8 +91,7 @@ module _ (place at b : ℕ) (text : List ℕ) (fits : length text ≤ 255) (bega
       }
 
   too_many : (run : SuffixRun) → is_suffix b ≡ true → ((rest : List ℕ) → suffix_at at (spelling run ++ b ∷ rest) ≡ stops at BadSuffix)
-      → let h : PartialToken = record { mode = modes.Suffix run; at = at; text = text } in
-      Gives (front_of place h b) (fails h h.at BadSuffix)
+      → GivesIn (Mode.Suffix run) place at b text (λ h. fails h h.at BadSuffix)
   too_many run e bad =
       record {
         sound = omega arith;
@@ -107,14 +100,13 @@ module _ (place at b : ℕ) (text : List ℕ) (fits : length text ≤ 255) (bega
       }
 
   goes_on : (run : SuffixRun) → is_suffix b ≡ true
-      → let h : PartialToken = record { mode = modes.Suffix run; at = at; text = text } in
-      Gives (front_of place h b) (byte_result.second_suffix h run b)
-  goes_on suffix_runs.Good e = more suffix_runs.Good _ e (λ rest. second_good at b rest _ refl)
-  goes_on suffix_runs.Poor e = more suffix_runs.Poor _ e (λ rest. second_poor at b rest _ refl)
-  goes_on suffix_runs.VeryGood e = too_many suffix_runs.VeryGood e (λ rest. refl)
-  goes_on suffix_runs.VeryPoor e = too_many suffix_runs.VeryPoor e (λ rest. refl)
-  goes_on suffix_runs.Speculative e = too_many suffix_runs.Speculative e (λ rest. refl)
-  goes_on suffix_runs.Questionable e = too_many suffix_runs.Questionable e (λ rest. refl)
+      → GivesIn (Mode.Suffix run) place at b text (λ h. byte_result.second_suffix h run b)
+  goes_on SuffixRun.Good e = more SuffixRun.Good _ e (λ rest. second_good at b rest _ refl)
+  goes_on SuffixRun.Poor e = more SuffixRun.Poor _ e (λ rest. second_poor at b rest _ refl)
+  goes_on SuffixRun.VeryGood e = too_many SuffixRun.VeryGood e (λ rest. refl)
+  goes_on SuffixRun.VeryPoor e = too_many SuffixRun.VeryPoor e (λ rest. refl)
+  goes_on SuffixRun.Speculative e = too_many SuffixRun.Speculative e (λ rest. refl)
+  goes_on SuffixRun.Questionable e = too_many SuffixRun.Questionable e (λ rest. refl)
 
   -- what the run spells so far
   pub spelled : (run : SuffixRun) → suffix_at at (spelling run) ≡ gives (glyph (byte_result.glyph_of run))
@@ -124,8 +116,7 @@ module _ (place at b : ℕ) (text : List ℕ) (fits : length text ≤ 255) (bega
   small_suffix run = grind arith
 
   pub suffix_gives : (run : SuffixRun) (c : Bool) → is_suffix b ≡ c
-      → let h : PartialToken = record { mode = modes.Suffix run; at = at; text = text } in
-      Gives (front_of place h b) (if c then byte_result.second_suffix h run b else into h modes.Outside (EndsBefore (token_forms.Glyph (byte_result.glyph_of run))))
+      → GivesIn (Mode.Suffix run) place at b text (λ h. if c then byte_result.second_suffix h run b else into h Mode.Outside (EndsBefore (TokenForm.Glyph (byte_result.glyph_of run))))
   suffix_gives run true e = goes_on run e
   suffix_gives run false e =
       record {

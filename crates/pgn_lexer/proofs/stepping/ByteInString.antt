@@ -1,10 +1,7 @@
 -- A byte in a string.
-use Rattle.std.proofs.lemmas.Grind.{common_steps}
-use Rattle.pgn_lexer.proofs.Words.{◌≡◌, ℕ, ◌+◌, ◌<◌, ◌≤◌, Bool, true, false, List, [], ◌∷◌, ◌++◌, length, append-nil, append_assoc, arith, length-append, nat_lt, if◌then◌else◌, ltb-true, ControlByte, StringTooLong, UnclosedString, StringClass, Used, Token, string_class, Reading, closed, broken, datum, reading, string_at, quotes, after_quoted, onto, tokens_from, PartialToken, with_front, into, grown, fails}
-use Rattle.pgn_lexer.specs.declared.class.StringClass.TheVariants as string_classes
-use Rattle.pgn_lexer.specs.declared.partial_token.Mode.TheVariants as modes
+use Rattle.pgn_lexer.proofs.Words.{◌≡◌, ℕ, ◌+◌, ◌<◌, ◌≤◌, Bool, true, false, List, [], ◌∷◌, ◌++◌, length, append-nil, append_assoc, arith, length-append, nat_lt, if◌then◌else◌, ltb-true, ControlByte, StringTooLong, UnclosedString, StringClass, Used, Token, string_class, Reading, closed, broken, datum, reading, string_at, quotes, after_quoted, onto, tokens_from, with_front, into, grown, fails, Mode, common_steps}
 use Rattle.pgn_lexer.specs.ByteResult as byte_result
-use Rattle.pgn_lexer.proofs.stepping.StepGives.{Gives, front_of}
+use Rattle.pgn_lexer.proofs.stepping.StepGives.{GivesIn}
 
 -- data read so far go in front, one by one
 pub with_front-datum : (text : List ℕ) (b : ℕ) (r : Reading) → with_front text (datum b r) ≡ with_front (text ++ b ∷ []) r
@@ -14,21 +11,21 @@ with_front-datum text b r = grind (arith, append_assoc)
 abbrev pub read_plain : ℕ → ℕ → ℕ → ℕ → List ℕ → StringClass → Reading
 read_plain start at n b bs c =
     elim c [
-      | string_classes.Quote ↦ closed []
-      | string_classes.LineEnd ↦ broken start UnclosedString
-      | string_classes.Control ↦ broken at ControlByte
-      | string_classes.Backslash ↦ elim (nat_lt n 255) [ true ↦ reading start (at + 1) n true bs | false ↦ broken start StringTooLong ]
-      | string_classes.Plain ↦ elim (nat_lt n 255) [ true ↦ datum b (reading start (at + 1) (n + 1) false bs) | false ↦ broken start StringTooLong ]
+      | StringClass.Quote ↦ closed []
+      | StringClass.LineEnd ↦ broken start UnclosedString
+      | StringClass.Control ↦ broken at ControlByte
+      | StringClass.Backslash ↦ elim (nat_lt n 255) [ true ↦ reading start (at + 1) n true bs | false ↦ broken start StringTooLong ]
+      | StringClass.Plain ↦ elim (nat_lt n 255) [ true ↦ datum b (reading start (at + 1) (n + 1) false bs) | false ↦ broken start StringTooLong ]
     ]
 
 abbrev pub read_escaped : ℕ → ℕ → ℕ → ℕ → List ℕ → StringClass → Reading
 read_escaped start at n b bs c =
     elim c [
-      | string_classes.Quote ↦ datum b (reading start (at + 1) (n + 1) false bs)
-      | string_classes.LineEnd ↦ broken start UnclosedString
-      | string_classes.Control ↦ broken at ControlByte
-      | string_classes.Backslash ↦ datum b (reading start (at + 1) (n + 1) false bs)
-      | string_classes.Plain ↦ elim (nat_lt n 254) [ true ↦ datum 92 (datum b (reading start (at + 1) (n + 2) false bs)) | false ↦ broken start StringTooLong ]
+      | StringClass.Quote ↦ datum b (reading start (at + 1) (n + 1) false bs)
+      | StringClass.LineEnd ↦ broken start UnclosedString
+      | StringClass.Control ↦ broken at ControlByte
+      | StringClass.Backslash ↦ datum b (reading start (at + 1) (n + 1) false bs)
+      | StringClass.Plain ↦ elim (nat_lt n 254) [ true ↦ datum 92 (datum b (reading start (at + 1) (n + 2) false bs)) | false ↦ broken start StringTooLong ]
     ]
 
 -- the tokens from a byte within quotes, for what the string comes to and the class of the byte
@@ -45,9 +42,8 @@ module _ (place at b : ℕ) (text : List ℕ) (fits : length text ≤ 255) (bega
       ≡ string_tokens place at text s (read_plain at place (length text) b s c) c
   by_class c s e = grind arith
 
-  plain_backslash : (d : Bool) → nat_lt (length text) 255 ≡ d → string_class b ≡ string_classes.Backslash
-      → let h : PartialToken = record { mode = modes.Str; at = at; text = text } in
-      Gives (front_of place h b) (if d then into h modes.AfterBackslash Used else fails h h.at StringTooLong)
+  plain_backslash : (d : Bool) → nat_lt (length text) 255 ≡ d → string_class b ≡ StringClass.Backslash
+      → GivesIn Mode.Str place at b text (λ h. if d then into h Mode.AfterBackslash Used else fails h h.at StringTooLong)
   plain_backslash d h1 h2 = grind arith
 
   -- one datum more
@@ -55,14 +51,12 @@ module _ (place at b : ℕ) (text : List ℕ) (fits : length text ≤ 255) (bega
       ≡ escaped_tokens place at (text ++ b ∷ []) s (reading at (place + 1) (length (text ++ b ∷ [])) false s)
   datum_comes s = grind (arith, with_front-datum, length-append)
 
-  plain_plain : (d : Bool) → nat_lt (length text) 255 ≡ d → string_class b ≡ string_classes.Plain
-      → let h : PartialToken = record { mode = modes.Str; at = at; text = text } in
-      Gives (front_of place h b) (if d then grown h modes.Str b else fails h h.at StringTooLong)
+  plain_plain : (d : Bool) → nat_lt (length text) 255 ≡ d → string_class b ≡ StringClass.Plain
+      → GivesIn Mode.Str place at b text (λ h. if d then grown h Mode.Str b else fails h h.at StringTooLong)
   plain_plain d h1 h2 = grind (arith, ltb-true, length-append, by_class, datum_comes)
 
   pub string_gives : (c : StringClass) → string_class b ≡ c
-      → let h : PartialToken = record { mode = modes.Str; at = at; text = text } in
-      Gives (front_of place h b) (byte_result.string false place h b c)
+      → GivesIn Mode.Str place at b text (λ h. byte_result.string false place h b c)
   string_gives c h1 = grind (arith, by_class, append-nil, plain_backslash, plain_plain)
 
 module _ (place at b : ℕ) (text : List ℕ) (short : length text < 255) (began : at < place) where
@@ -74,16 +68,13 @@ module _ (place at b : ℕ) (text : List ℕ) (short : length text < 255) (began
   -- a quote or a backslash is a datum
   taken_back : (c : StringClass)
       → ((s : List ℕ) → escaped_tokens place at text s (reading at place (length text) true (b ∷ s)) ≡ escaped_tokens place at text s (datum b (reading at (place + 1) (length text + 1) false s)))
-      → let h : PartialToken = record { mode = modes.AfterBackslash; at = at; text = text } in
-      Gives (front_of place h b) (grown h modes.Str b)
+      → GivesIn Mode.AfterBackslash place at b text (λ h. grown h Mode.Str b)
   taken_back c same = grind (arith, length-append, datum_comes)
 
-  escaped_plain : (d : Bool) → nat_lt (length text) 254 ≡ d → string_class b ≡ string_classes.Plain
-      → let h : PartialToken = record { mode = modes.AfterBackslash; at = at; text = text } in
-      Gives (front_of place h b) (if d then record { held = record { mode = modes.Str; at = at; text = (text ++ 92 ∷ []) ++ b ∷ [] }; step = Used } else fails h h.at StringTooLong)
+  escaped_plain : (d : Bool) → nat_lt (length text) 254 ≡ d → string_class b ≡ StringClass.Plain
+      → GivesIn Mode.AfterBackslash place at b text (λ h. if d then record { held = record { mode = Mode.Str; at = at; text = (text ++ 92 ∷ []) ++ b ∷ [] }; step = Used } else fails h h.at StringTooLong)
   escaped_plain d h1 h2 = grind (arith, ltb-true, length-append, by_escaped, with_front-datum)
 
   pub escaped_gives : (c : StringClass) → string_class b ≡ c
-      → let h : PartialToken = record { mode = modes.AfterBackslash; at = at; text = text } in
-      Gives (front_of place h b) (byte_result.string true place h b c)
+      → GivesIn Mode.AfterBackslash place at b text (λ h. byte_result.string true place h b c)
   escaped_gives c h1 = grind (arith, taken_back, by_escaped, common_steps, escaped_plain)

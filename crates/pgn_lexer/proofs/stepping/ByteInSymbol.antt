@@ -1,9 +1,7 @@
 -- A byte in a symbol.
-use Rattle.pgn_lexer.proofs.Words.{◌≡◌, ℕ, ◌+◌, ◌<◌, ◌≤◌, Bool, true, false, List, [], ◌∷◌, ◌++◌, length, refl, arith, length-append, take_while, nat_lt, if◌then◌else◌, ltb-true, ltb-false, SymbolTooLong, continues_symbol, symbol, gives, stops, symbol_at, outside, PartialToken, into, grown, fails, EndsBefore}
-use Rattle.pgn_lexer.specs.declared.partial_token.Mode.TheVariants as modes
-use Rattle.pgn_lexer.specs.declared.partial_token.TokenForm.TheVariants as token_forms
+use Rattle.pgn_lexer.proofs.Words.{◌≡◌, ℕ, ◌+◌, ◌<◌, ◌≤◌, Bool, true, false, List, [], ◌∷◌, ◌++◌, length, refl, arith, length-append, take_while, nat_lt, if◌then◌else◌, ltb-true, ltb-false, SymbolTooLong, continues_symbol, symbol, gives, stops, symbol_at, outside, into, grown, fails, EndsBefore, Mode, TokenForm}
 use Rattle.pgn_lexer.proofs.stepping.RunOfBytes.{symbol_goes, symbol_ends, run_grows, run_breaks, run_ends, run_closes}
-use Rattle.pgn_lexer.proofs.stepping.StepGives.{Gives, front_of}
+use Rattle.pgn_lexer.proofs.stepping.StepGives.{GivesIn}
 
 pub symbol_fits : (at : ℕ) (run : List ℕ) → length run ≤ 255 → symbol_at at run ≡ gives (symbol run)
 symbol_fits at run fits = grind arith
@@ -13,8 +11,7 @@ symbol_long at run long = grind arith
 
 pub symbol_gives : (place at b : ℕ) (text : List ℕ) → length text ≤ 255 → 0 < length text → place ≡ at + length text → (c : Bool)
     → continues_symbol b ≡ c → (d : Bool) → nat_lt (length text) 255 ≡ d
-    → let h : PartialToken = record { mode = modes.Symbol; at = at; text = text } in
-    Gives (front_of place h b) (if c then (if d then grown h modes.Symbol b else fails h h.at SymbolTooLong) else into h modes.Outside (EndsBefore token_forms.Symbol))
+    → GivesIn Mode.Symbol place at b text (λ h. if c then (if d then grown h Mode.Symbol b else fails h h.at SymbolTooLong) else into h Mode.Outside (EndsBefore TokenForm.Symbol))
 symbol_gives place at b text fits some began true e true room =
     let short : length text < 255 = ltb-true _ _ room in
     record {

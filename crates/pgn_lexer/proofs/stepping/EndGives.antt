@@ -1,6 +1,5 @@
 -- The end of the text gives what is left.
-use Rattle.std.proofs.lemmas.Grind.{common_steps}
-use Rattle.pgn_lexer.proofs.Words.{◌≡◌, ℕ, ◌<◌, List, [], ◌∷◌, ◌++◌, subst, append_assoc, LexFault, TokenForm, Token, end, PartialToken, kind_in, fault_met, Scanned, fault, Standing, coming, waiting, FinishGivesToken, IsNext, HasLeft, Finishes, arith}
+use Rattle.pgn_lexer.proofs.Words.{◌≡◌, ℕ, ◌<◌, List, [], ◌∷◌, ◌++◌, subst, append_assoc, LexFault, TokenForm, Token, end, PartialToken, kind_in, fault_met, Scanned, fault, Standing, coming, waiting, FinishGivesToken, IsNext, HasLeft, Finishes, arith, common_steps}
 use Rattle.pgn_lexer.specs.Scanned.{token}
 use Rattle.pgn_lexer.proofs.stepping.ByteGives.{ClosesToken, ClosesFault, ClosesEnd}
 use Rattle.pgn_lexer.proofs.stepping.StandsAfterCalls.{not_failed_fault, same_parts}

@@ -1,7 +1,6 @@
 -- The first bytes of a text, and a byte of an escape line.
-use Rattle.pgn_lexer.proofs.Words.{◌≡◌, ℕ, ◌≤◌, Bool, true, false, List, [], ◌∷◌, length, ◌==◌, if◌then◌else◌, eqb-true, StrayByte, Step, Used, is_line_end, Token, class, column, tokens_from, tokens_of, has_mark, PartialToken, into, fails, begin_line, arith}
-use Rattle.pgn_lexer.specs.declared.partial_token.Mode.TheVariants as modes
-use Rattle.pgn_lexer.proofs.stepping.StepGives.{Front, Gives, StepGives, front_of}
+use Rattle.pgn_lexer.proofs.Words.{◌≡◌, ℕ, ◌≤◌, Bool, true, false, List, [], ◌∷◌, length, ◌==◌, if◌then◌else◌, eqb-true, StrayByte, Step, Used, is_line_end, Token, class, column, tokens_from, tokens_of, has_mark, PartialToken, into, fails, begin_line, arith, Mode}
+use Rattle.pgn_lexer.proofs.stepping.StepGives.{Front, StepGives, GivesIn}
 use Rattle.pgn_lexer.proofs.stepping.ByteOutside.{begin_line_gives}
 
 -- a step gives the same of the same tokens
@@ -14,28 +13,24 @@ same_front f front h1 new step h2 = grind arith
 pub unmarked : (s : List ℕ) → has_mark s ≡ false → tokens_of s ≡ tokens_from 0 column s
 unmarked s e = grind arith
 
-other_first : (b : ℕ) (s : List ℕ) → (b == 239) ≡ false → has_mark (b ∷ s) ≡ false
+pub other_first : (b : ℕ) (s : List ℕ) → (b == 239) ≡ false → has_mark (b ∷ s) ≡ false
 other_first b s h1 = grind arith
 
 pub start_gives : (at b : ℕ) (text : List ℕ) → length text ≤ 255 → (c : Bool) → (b == 239) ≡ c
-    → let h : PartialToken = record { mode = modes.Start; at = at; text = text } in
-    Gives (front_of 0 h b) (if c then into h modes.AfterEf Used else begin_line 0 h b (class b))
+    → GivesIn Mode.Start 0 at b text (λ h. if c then into h Mode.AfterEf Used else begin_line 0 h b (class b))
 start_gives at b text fits true e = grind (arith, eqb-true)
 start_gives at b text fits false e =
-    let h : PartialToken = record { mode = modes.Start; at = at; text = text } in
+    let h : PartialToken = record { mode = Mode.Start; at = at; text = text } in
     same_front _ _ (λ s. unmarked (b ∷ s) (other_first b s e)) _ _ (begin_line_gives _ 0 b h (tokens_of []) 0 fits)
 
 pub after_ef_gives : (at b : ℕ) (text : List ℕ) → length text ≤ 255 → (c : Bool) → (b == 187) ≡ c
-    → let h : PartialToken = record { mode = modes.AfterEf; at = at; text = text } in
-    Gives (front_of 1 h b) (if c then into h modes.AfterEfBb Used else fails h 0 StrayByte)
+    → GivesIn Mode.AfterEf 1 at b text (λ h. if c then into h Mode.AfterEfBb Used else fails h 0 StrayByte)
 after_ef_gives at b text h1 c h2 = grind arith
 
 pub after_ef_bb_gives : (at b : ℕ) (text : List ℕ) → length text ≤ 255 → (c : Bool) → (b == 191) ≡ c
-    → let h : PartialToken = record { mode = modes.AfterEfBb; at = at; text = text } in
-    Gives (front_of 2 h b) (if c then into h modes.LineStart Used else fails h 0 StrayByte)
+    → GivesIn Mode.AfterEfBb 2 at b text (λ h. if c then into h Mode.LineStart Used else fails h 0 StrayByte)
 after_ef_bb_gives at b text h1 c h2 = grind arith
 
 pub escape_line_gives : (place at b : ℕ) (text : List ℕ) → length text ≤ 255 → (c : Bool) → is_line_end b ≡ c
-    → let h : PartialToken = record { mode = modes.EscapeLine; at = at; text = text } in
-    Gives (front_of place h b) (if c then into h modes.LineStart Used else into h modes.EscapeLine Used)
+    → GivesIn Mode.EscapeLine place at b text (λ h. if c then into h Mode.LineStart Used else into h Mode.EscapeLine Used)
 escape_line_gives place at b text h1 c h2 = grind arith

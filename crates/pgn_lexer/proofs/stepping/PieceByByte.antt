@@ -1,11 +1,6 @@
 -- A run over a piece, byte by byte.
-use Rattle.std.proofs.lemmas.Grind.{common_steps}
-use Rattle.pgn_lexer.proofs.Words.{◌≡◌, ℕ, suc, ◌+◌, ◌*◌, ◌<◌, ◌≤◌, inl, inr, List, [], ◌∷◌, ◌++◌, length, get_or, take, drop, refl, sym, ap, ◌∙◌, append_assoc, add-one, arith, ◌⊎◌, true, false, if◌then◌else◌, Some, lt-ltb, take_all, take_more, drop-cons, LexFault, Mode, LexReason, StringTooLong, SymbolTooLong, WordTooLong, Class, CommentClass, StringClass, LineStart, Outside, Symbol, Str, Brace, BraceWord, Failed, continues_symbol, class, comment_class, string_class, TokenForm, Step, Used, Ends, EndsBefore, Fault, PartialToken, tokens_to_come, token_of, IsSound, HasNotFailed, pending, fault_met, fault_in_mode, begin, begin_line, string, fails, grown, if_room, into, after_byte, IsAfterByte, IsOutside, Ran, RunsOn, StoodAt, RunGives, RunsToToken, RunsToFault, used_after, reached_after}
-use Rattle.pgn_lexer.specs.declared.class.CommentClass.TheVariants as comment_classes
-use Rattle.pgn_lexer.specs.declared.class.StringClass.TheVariants as string_classes
-use Rattle.pgn_lexer.specs.declared.partial_token.TokenForm.TheVariants as token_forms
+use Rattle.pgn_lexer.proofs.Words.{◌≡◌, ℕ, suc, ◌+◌, ◌*◌, ◌<◌, ◌≤◌, inl, inr, List, [], ◌∷◌, ◌++◌, length, get_or, take, drop, refl, sym, ap, ◌∙◌, append_assoc, add-one, arith, ◌⊎◌, true, false, if◌then◌else◌, Some, lt-ltb, take_all, take_more, drop-cons, LexFault, Mode, LexReason, StringTooLong, SymbolTooLong, WordTooLong, Class, CommentClass, StringClass, LineStart, Outside, Symbol, Str, Brace, BraceWord, Failed, continues_symbol, class, comment_class, string_class, TokenForm, Step, Used, Ends, EndsBefore, Fault, PartialToken, tokens_to_come, token_of, IsSound, HasNotFailed, pending, fault_met, fault_in_mode, begin, begin_line, string, fails, grown, if_room, into, after_byte, IsAfterByte, IsOutside, Ran, RunsOn, StoodAt, RunGives, RunsToToken, RunsToFault, used_after, reached_after, Reached, common_steps}
 use Rattle.pgn_lexer.specs.ByteResult.{brace, word, symbol}
-use Rattle.pgn_lexer.specs.declared.partial_token.Reached.TheVariants as reached
 use Rattle.pgn_lexer.proofs.stepping.StepGives.{StepGives, Uses, EndsIn, EndsAhead, Fails, front_of}
 use Rattle.pgn_lexer.proofs.stepping.ByteGives.{step_gives}
 
@@ -20,7 +15,7 @@ ran_none place h piece sound not_failed = grind arith
 
 -- a run that used the whole piece
 pub ran_all : (place : ℕ) (piece : List ℕ) (i : ℕ) (h new : PartialToken) (used : ℕ) → used ≡ length piece
-    → ((old : PartialToken) → Ran place old piece h i → Ran place old piece new used) → RunsOn place piece i h new used reached.End
+    → ((old : PartialToken) → Ran place old piece h i → Ran place old piece new used) → RunsOn place piece i h new used Reached.End
 ran_all place piece i h new used all goes old ran =
     let r : Ran place old piece new used = goes old ran in
     record {
@@ -134,16 +129,16 @@ pub takes_symbol_byte : (place b : ℕ) (h new : PartialToken) → h.mode ≡ Sy
     → IsAfterByte (after_byte place h b) new Used
 takes_symbol_byte place b h new e goes room grows =
     takes_symbol place b h new Used e
-    (rw (ap (λ c. if c then if_room 255 SymbolTooLong h (grown h Symbol b) else into h Outside (EndsBefore token_forms.Symbol)) goes
+    (rw (ap (λ c. if c then if_room 255 SymbolTooLong h (grown h Symbol b) else into h Outside (EndsBefore TokenForm.Symbol)) goes
     ∙ ap (λ d. if d then grown h Symbol b else fails h h.at SymbolTooLong) (lt-ltb _ _ room))
     (record { held = grows ∙ ap (λ m. record { mode = m; at = h.at; text = h.text ++ b ∷ [] }) e; step = refl }))
 
 pub takes_symbol_end : (place b : ℕ) (h new : PartialToken) → h.mode ≡ Symbol → continues_symbol b ≡ false
     → new ≡ record { mode = Outside; at = h.at; text = h.text }
-    → IsAfterByte (after_byte place h b) new (EndsBefore token_forms.Symbol)
+    → IsAfterByte (after_byte place h b) new (EndsBefore TokenForm.Symbol)
 takes_symbol_end place b h new e ends is =
     takes_symbol place b h new _ e
-    (rw (ap (λ c. if c then if_room 255 SymbolTooLong h (grown h Symbol b) else into h Outside (EndsBefore token_forms.Symbol)) ends)
+    (rw (ap (λ c. if c then if_room 255 SymbolTooLong h (grown h Symbol b) else into h Outside (EndsBefore TokenForm.Symbol)) ends)
     (record { held = is; step = refl }))
 
 pub takes_outside : (place b : ℕ) (h new : PartialToken) (answer : Step) (c : Class) → IsOutside h.mode → class b ≡ c
@@ -168,16 +163,16 @@ taken_string : (place b : ℕ) (h : PartialToken) (c : StringClass) → h.mode �
 unfolding after_byte
 taken_string place b h c e same = grind arith
 
-pub takes_plain : (place b : ℕ) (h new : PartialToken) → h.mode ≡ Str → string_class b ≡ string_classes.Plain → length h.text < 255
+pub takes_plain : (place b : ℕ) (h new : PartialToken) → h.mode ≡ Str → string_class b ≡ StringClass.Plain → length h.text < 255
     → new ≡ record { mode = h.mode; at = h.at; text = h.text ++ b ∷ [] }
     → IsAfterByte (after_byte place h b) new Used
 takes_plain place b h new e same room grows =
     rw (taken_string place b h _ e same ∙ ap (λ d. if d then grown h Str b else fails h h.at StringTooLong) (lt-ltb _ _ room))
     (record { held = grows ∙ ap (λ m. record { mode = m; at = h.at; text = h.text ++ b ∷ [] }) e; step = refl })
 
-pub takes_quote : (place b : ℕ) (h new : PartialToken) → h.mode ≡ Str → string_class b ≡ string_classes.Quote
+pub takes_quote : (place b : ℕ) (h new : PartialToken) → h.mode ≡ Str → string_class b ≡ StringClass.Quote
     → new ≡ record { mode = Outside; at = h.at; text = h.text }
-    → IsAfterByte (after_byte place h b) new (Ends token_forms.Str)
+    → IsAfterByte (after_byte place h b) new (Ends TokenForm.Str)
 takes_quote place b h new e same ends =
     rw (taken_string place b h _ e same) (record { held = ends; step = refl })
 
@@ -188,11 +183,11 @@ unfolding after_byte
 takes_brace place b h new answer c e same t = grind arith
 
 pub takes_gap : (place b : ℕ) (h new : PartialToken) (c : CommentClass) → h.mode ≡ Brace → comment_class b ≡ c
-    → (c ≡ comment_classes.LineEnd) ⊎ (c ≡ comment_classes.Space)
+    → (c ≡ CommentClass.LineEnd) ⊎ (c ≡ CommentClass.Space)
     → new ≡ record { mode = Brace; at = place; text = h.text } → IsAfterByte (after_byte place h b) new Used
 takes_gap place b h new c e same (inl gap) goes =
-    takes_brace place b h new Used comment_classes.LineEnd e (same ∙ gap) (record { held = goes; step = refl })
-takes_gap place b h new c e same (inr gap) goes = takes_brace place b h new Used comment_classes.Space e (same ∙ gap) (record { held = goes; step = refl })
+    takes_brace place b h new Used CommentClass.LineEnd e (same ∙ gap) (record { held = goes; step = refl })
+takes_gap place b h new c e same (inr gap) goes = takes_brace place b h new Used CommentClass.Space e (same ∙ gap) (record { held = goes; step = refl })
 
 -- and in a word of it
 pub takes_word : (place b : ℕ) (h new : PartialToken) (answer : Step) → h.mode ≡ BraceWord
@@ -200,20 +195,20 @@ pub takes_word : (place b : ℕ) (h new : PartialToken) (answer : Step) → h.mo
 unfolding after_byte
 takes_word place b h new answer e t = grind arith
 
-pub takes_word_byte : (place b : ℕ) (h new : PartialToken) → h.mode ≡ BraceWord → comment_class b ≡ comment_classes.WordByte → length h.text < 79
+pub takes_word_byte : (place b : ℕ) (h new : PartialToken) → h.mode ≡ BraceWord → comment_class b ≡ CommentClass.WordByte → length h.text < 79
     → new ≡ record { mode = h.mode; at = h.at; text = h.text ++ b ∷ [] } → IsAfterByte (after_byte place h b) new Used
 takes_word_byte place b h new e goes room grows =
     takes_word place b h new Used e
     (rw (ap (word Brace h b) goes ∙ ap (λ d. if d then grown h h.mode b else fails h h.at WordTooLong) (lt-ltb _ _ room))
     (record { held = grows; step = refl }))
 
-word_ends : (m : Mode) (h : PartialToken) (b : ℕ) (c : CommentClass) → (c ≡ comment_classes.WordByte → ⊥)
-    → word m h b c ≡ into h m (EndsBefore token_forms.Word)
+word_ends : (m : Mode) (h : PartialToken) (b : ℕ) (c : CommentClass) → (c ≡ CommentClass.WordByte → ⊥)
+    → word m h b c ≡ into h m (EndsBefore TokenForm.Word)
 word_ends m h b c h1 = grind arith
 
 pub takes_word_end : (place b : ℕ) (h new : PartialToken) (c : CommentClass) → h.mode ≡ BraceWord → comment_class b ≡ c
-    → (c ≡ comment_classes.WordByte → ⊥) → new ≡ record { mode = Brace; at = h.at; text = h.text }
-    → IsAfterByte (after_byte place h b) new (EndsBefore token_forms.Word)
+    → (c ≡ CommentClass.WordByte → ⊥) → new ≡ record { mode = Brace; at = h.at; text = h.text }
+    → IsAfterByte (after_byte place h b) new (EndsBefore TokenForm.Word)
 takes_word_end place b h new c e same other is =
     takes_word place b h new _ e
     (rw (ap (word Brace h b) same ∙ word_ends Brace h b c other) (record { held = is; step = refl }))

@@ -1,7 +1,5 @@
 -- A call carries how the lexer stands.
-use Rattle.std.proofs.lemmas.Grind.{common_steps}
-use Rattle.pgn_lexer.proofs.Words.{◌≡◌, ◌-◌, Bool, true, false, ℕ, ◌+◌, ◌<◌, ◌≤◌, inl, inr, List, [], ◌∷◌, ◌++◌, length, take, drop, refl, sym, ap, subst, ◌∙◌, append_assoc, arith, length-append, length-take-le, take-append-drop, Option, None, Some, take_while, ◌⊎◌, AllByRecursion, LexFault, Mode, Token, is_run, tokens_of, decided, known, TokenForm, PartialToken, tokens_to_come, token_of, kind_in, refusal, HasNotFailed, RunsOut, StoodAt, EndsWithByte, EndsBeforeByte, RunsToToken, RunsToFault, Scanned, more, fault, Standing, fault_in_mode, fault_of, Follows, first, still, StandsAfter, IsDecided, EndsNoSooner, Scans}
-use Rattle.pgn_lexer.specs.declared.partial_token.Mode.TheVariants as modes
+use Rattle.pgn_lexer.proofs.Words.{◌≡◌, Bool, true, false, ℕ, ◌+◌, ◌<◌, ◌≤◌, inl, inr, List, [], ◌∷◌, ◌++◌, length, take, drop, refl, sym, ap, subst, ◌∙◌, append_assoc, arith, length-append, length-take-le, take-append-drop, Option, None, Some, take_while, ◌⊎◌, AllByRecursion, LexFault, Mode, Token, tokens_of, decided, known, TokenForm, PartialToken, tokens_to_come, token_of, kind_in, refusal, HasNotFailed, RunsOut, StoodAt, EndsWithByte, EndsBeforeByte, RunsToToken, RunsToFault, Scanned, more, fault, Standing, fault_in_mode, fault_of, Follows, first, still, StandsAfter, EndsNoSooner, Scans, common_steps, AfterScan}
 use Rattle.pgn_lexer.specs.Scanned.{token}
 use Rattle.pgn_lexer.proofs.deciding.GivenAreDecided.{common_of, decided_is, going_decides, known_decides}
 use Rattle.pgn_lexer.proofs.deciding.CommonTokens.{common_front}
@@ -39,7 +37,7 @@ not_failed_fault h not_failed = no_fault_in_mode _ h.at not_failed
 
 -- a mode is failed, or not
 failed_or_not : (m : Mode) (at : ℕ) → HasNotFailed m ⊎ ((f : LexFault) × (fault_in_mode m at ≡ Some f))
-failed_or_not (modes.Failed reason) at = inr (record { at = at; reason = reason }, refl)
+failed_or_not (Mode.Failed reason) at = inr (record { at = at; reason = reason }, refl)
 failed_or_not _ at = inl tt
 
 -- tokens before a place are before a later one
@@ -64,14 +62,20 @@ known_is u b given comes before from tokens =
     sym (ap (take_while _) all
     ∙ take_before _ given _ before (all_from-front _ _ front.0 (rw front.1 at from)))
 
+pub same_parts : (i j : Token) → i.at ≡ j.at → i.kind ≡ j.kind → i ≡ j
+same_parts i j at kind = grind arith
+
 module _ (count : ℕ) (old new : PartialToken) (piece : List ℕ) (used : ℕ) where
-  abbrev from_standing : Standing
-  from_standing = record { count = count; held = old }
+  abbrev ahead : Standing
+  ahead = record { count = count; held = old }
 
-  abbrev to_standing : Standing
-  to_standing = record { count = count + used; held = new }
+  abbrev behind : Standing
+  behind = record { count = count + used; held = new }
 
-  pub scans_nothing : RunsOut count old piece new used → Scans from_standing piece to_standing used more
+  no_fault : HasNotFailed old.mode → (f : LexFault) → fault_of ahead ≡ Some f → ⊥
+  no_fault h f failed = grind (arith, no_fault_in_mode)
+
+  pub scans_nothing : RunsOut count old piece new used → Scans ahead piece behind used more
   scans_nothing h =
       record {
         count = refl;
@@ -81,9 +85,9 @@ module _ (count : ℕ) (old new : PartialToken) (piece : List ℕ) (used : ℕ) 
         ends = tt;
         refused = not_failed_fault new h.not_failed;
         empty = λ none. (same none, inl refl);
-        stays = λ f failed. absurd (stuck f failed);
+        stays = λ f failed. absurd (no_fault h.fresh f failed);
         carries = λ u b given stands starts.
-            let after : StandsAfter to_standing (u ++ piece) (still b piece) given =
+            let after : StandsAfter behind (u ++ piece) (still b piece) given =
             record {
               count = omega (arith, h.all, stands.count, length-append u piece);
               before = before_more (length u) _ given (omega (arith, length-append u piece)) stands.before;
@@ -93,13 +97,10 @@ module _ (count : ℕ) (old new : PartialToken) (piece : List ℕ) (used : ℕ) 
             (h.all, after, λ some. going_decides (count + used) new (u ++ piece) given h.sound h.not_failed (λ s. after.tokens s (follows_none _ s (still_none b piece some))));
       }
     where
-      same : length piece ≡ 0 → to_standing ≡ from_standing
+      same : length piece ≡ 0 → behind ≡ ahead
       same none = grind arith
 
-      stuck : (f : LexFault) → fault_of from_standing ≡ Some f → ⊥
-      stuck f failed = let none : fault_of from_standing ≡ None = not_failed_fault old h.fresh in cc
-
-  pub scans_fault : (f : LexFault) → RunsToFault count old piece f new used → Scans from_standing piece to_standing used (fault f)
+  pub scans_fault : (f : LexFault) → RunsToFault count old piece f new used → Scans ahead piece behind used (fault f)
   scans_fault f h =
       record {
         count = refl;
@@ -120,135 +121,103 @@ module _ (count : ℕ) (old new : PartialToken) (piece : List ℕ) (used : ℕ) 
       whole : (s : List ℕ) → tokens_to_come count old (piece ++ s) ≡ refusal f ∷ []
       whole s = ap (tokens_to_come count old) (cut used piece s) ∙ h.comes (drop used piece ++ s)
 
-      comes : (u : List ℕ) (b : Option ℕ) (given : List Token) → StandsAfter from_standing u b given → (s : List ℕ)
-          → Follows b (piece ++ s)
+      comes : (u : List ℕ) (b : Option ℕ) (given : List Token) → StandsAfter ahead u b given → (s : List ℕ) → Follows b (piece ++ s)
           → tokens_of ((u ++ piece) ++ s) ≡ given ++ refusal f ∷ []
       comes u b given stands s goes = cc (append_assoc u piece s, stands.tokens (piece ++ s) goes, whole s)
 
-      stuck : (g : LexFault) → (used ≡ 0) × (f ≡ g) × (new ≡ old)
-          → (used ≡ 0) × (fault f ≡ fault g) × (to_standing ≡ from_standing)
+      stuck : (g : LexFault) → (used ≡ 0) × (f ≡ g) × (new ≡ old) → (used ≡ 0) × (fault f ≡ fault g) × (behind ≡ ahead)
       stuck g same = grind arith
 
-      nothing : length piece ≡ 0 → HasNotFailed old.mode ⊎ ((g : LexFault) × (fault_of from_standing ≡ Some g))
-          → (to_standing ≡ from_standing) × ((fault f ≡ more) ⊎ ((g : LexFault) × (fault_of from_standing ≡ Some g)))
+      nothing : length piece ≡ 0 → HasNotFailed old.mode ⊎ ((g : LexFault) × (fault_of ahead ≡ Some g))
+          → (behind ≡ ahead) × ((fault f ≡ more) ⊎ ((g : LexFault) × (fault_of ahead ≡ Some g)))
       nothing h1 h2 = grind arith
 
-abbrev ahead : ℕ → PartialToken → Standing
-ahead count old = record { count = count; held = old }
+  pub scans_told : (f g : LexFault) → f ≡ g → RunsToFault count old piece g new used → Scans ahead piece behind used (fault f)
+  scans_told f g same h = scans_fault f (rw same h)
 
-abbrev behind : ℕ → PartialToken → ℕ → Standing
-behind count new used = record { count = count + used; held = new }
+  module _ (t : Token) (h : RunsToToken count old piece t new used) where
+    reads_token : (s : List ℕ) → tokens_to_come count old (piece ++ s) ≡ t ∷ tokens_to_come (count + used) new (drop used piece ++ s)
+    reads_token s = grind (arith, cut, h.ends)
 
-module _ (count : ℕ) (old new : PartialToken) (piece : List ℕ) (used : ℕ) (t : Token) (h : RunsToToken count old piece t new used) where
-  reads_token : EndsWithByte count old piece (take used piece) t new used ⊎ EndsBeforeByte count old piece (take used piece) (drop used piece) t new used
-      → (s : List ℕ) → tokens_to_come count old (piece ++ s) ≡ t ∷ tokens_to_come (count + used) new (drop used piece ++ s)
-  reads_token h1 s = grind (arith, cut)
+    module _ (u : List ℕ) (b : Option ℕ) (given : List Token) (stands : StandsAfter ahead u b given) (starts : Follows b piece) where
+      -- the bytes used so far
+      abbrev u' : List ℕ
+      u' = u ++ take used piece
 
-  module _ (u : List ℕ) (b : Option ℕ) (given : List Token) (stands : StandsAfter (ahead count old) u b given) (starts : Follows b piece) where
-    -- the bytes used so far
-    abbrev u' : List ℕ
-    u' = u ++ take used piece
+      long : count + used ≡ length u'
+      long = grind (arith, length-append, length-take-le)
 
-    long : count + used ≡ length u'
-    long = grind (arith, length-append, length-take-le)
+      before' : AllByRecursion (λ t. t.at < length u') (given ++ t ∷ [])
+      before' =
+          let less : length u ≤ length u' = omega (arith, length-append u (take used piece)) in
+          before_one _ given t (before_more _ _ given less stands.before) (rw long at h.before)
 
-    before' : AllByRecursion (λ t. t.at < length u') (given ++ t ∷ [])
-    before' =
-        let less : length u ≤ length u' = omega (arith, length-append u (take used piece)) in
-        before_one _ given t (before_more _ _ given less stands.before) (rw long at h.before)
+      with_token : (s : List ℕ) → Follows b (take used piece ++ s)
+          → tokens_to_come count old (take used piece ++ s) ≡ t ∷ tokens_to_come (count + used) new s
+          → tokens_of (u' ++ s) ≡ (given ++ t ∷ []) ++ tokens_to_come (count + used) new s
+      with_token s goes comes = grind (arith, append_assoc)
 
-    with_token : (s : List ℕ) → Follows b (take used piece ++ s)
-        → tokens_to_come count old (take used piece ++ s) ≡ t ∷ tokens_to_come (count + used) new s
-        → tokens_of (u' ++ s) ≡ (given ++ t ∷ []) ++ tokens_to_come (count + used) new s
-    with_token s goes comes = grind (arith, append_assoc)
+      -- where no token had ended, no more was decided
+      stood_decides : (i : ℕ) → 0 < i → StoodAt count old piece i → given ≡ decided (u ++ take i piece)
+      stood_decides i some e =
+          going_decides (count + i) e.held (u ++ take i piece) given e.sound e.not_failed
+          (λ s. ap tokens_of (append_assoc u _ s) ∙ stands.tokens (take i piece ++ s) (follows_taken b piece s i h.some some starts) ∙ ap (λ l. given ++ l) (e.comes s))
 
-    -- where no token had ended, no more was decided
-    stood_decides : (i : ℕ) → 0 < i → StoodAt count old piece i → given ≡ decided (u ++ take i piece)
-    stood_decides i some e =
-        going_decides (count + i) e.held (u ++ take i piece) given e.sound e.not_failed
-        (λ s. ap tokens_of (append_assoc u _ s) ∙ stands.tokens (take i piece ++ s) (follows_taken b piece s i h.some some starts) ∙ ap (λ l. given ++ l) (e.comes s))
+      no_sooner_closed : (k : Bool) → k ≡ false → (last : ℕ) → used ≡ last + 1 → StoodAt count old piece last
+          → EndsNoSooner k u piece used given
+      no_sooner_closed true e last is_last stood = cc
+      no_sooner_closed false e last is_last stood = grind (arith, common_steps, stood_decides) steps 300000
 
-    no_sooner_closed : (k : Bool) → k ≡ false → (last : ℕ) → used ≡ last + 1 → StoodAt count old piece last
-        → EndsNoSooner k u piece used given
-    no_sooner_closed true e last is_last stood = cc
-    no_sooner_closed false e last is_last stood = grind (arith, common_steps, stood_decides) steps 300000
+      no_sooner_run : (k : Bool) → k ≡ true → StoodAt count old piece used → EndsNoSooner k u piece used given
+      no_sooner_run k h1 h2 = grind (arith, stood_decides)
 
-    no_sooner_run : (k : Bool) → k ≡ true → StoodAt count old piece used → EndsNoSooner k u piece used given
-    no_sooner_run k h1 h2 = grind (arith, stood_decides)
+      -- or before a byte that was not used
+      next_comes : (e : EndsBeforeByte count old piece (take used piece) (drop used piece) t new used) (s : List ℕ) → Follows (Some e.byte) s
+          → tokens_to_come count old (take used piece ++ s) ≡ t ∷ tokens_to_come (count + used) new s
+      next_comes e s h1 = grind arith
 
-    -- the token ended with the last byte used
-    with_byte : EndsWithByte count old piece (take used piece) t new used
-        → StandsAfter (behind count new used) u' (first (drop used piece)) (given ++ t ∷ []) × IsDecided u' (drop used piece) (given ++ t ∷ []) × EndsNoSooner (is_run t.kind) u piece used given
-    with_byte e =
-        let tokens : (s : List ℕ) → tokens_of (u' ++ s) ≡ (given ++ t ∷ []) ++ tokens_to_come (count + used) new s =
-        λ s. with_token s (follows_taken b piece s used h.some e.some starts) (e.comes s) in (
-          record { count = long; before = before'; tokens = λ s goes. tokens s },
-          inl (going_decides _ new u' _ h.sound h.not_failed tokens),
-          no_sooner_closed _ e.closed e.last e.is_last e.stood,
-        )
+      -- the token ended with the last byte used, or before a byte that was not used
+      ends_with : EndsWithByte count old piece (take used piece) t new used → AfterScan u b given piece behind used (token t)
+      ends_with e =
+          let tokens : (s : List ℕ) → tokens_of (u' ++ s) ≡ (given ++ t ∷ []) ++ tokens_to_come (count + used) new s =
+          λ s. with_token s (follows_taken b piece s used h.some e.some starts) (e.comes s) in (
+            record { count = long; before = before'; tokens = λ s goes. tokens s },
+            inl (going_decides _ new u' _ h.sound h.not_failed tokens),
+            no_sooner_closed _ e.closed e.last e.is_last e.stood,
+          )
 
-    -- or before a byte that was not used
-    next_comes : (e : EndsBeforeByte count old piece (take used piece) (drop used piece) t new used) (s : List ℕ) → Follows (Some e.byte) s
-        → tokens_to_come count old (take used piece ++ s) ≡ t ∷ tokens_to_come (count + used) new s
-    next_comes e s h1 = grind arith
+      ends_before : EndsBeforeByte count old piece (take used piece) (drop used piece) t new used → AfterScan u b given piece behind used (token t)
+      ends_before e =
+          let tokens : (s : List ℕ) → Follows (first (drop used piece)) s → tokens_of (u' ++ s)
+          ≡ (given ++ t ∷ []) ++ tokens_to_come (count + used) new s =
+          λ s goes. with_token s (follows_front b piece s used h.some starts goes) (next_comes e s (rw e.next at goes)) in
+          let from : AllFrom (length u') (tokens_to_come (count + used) new (e.byte ∷ [])) =
+          subst (λ n. AllFrom n (tokens_to_come (count + used) new (e.byte ∷ []))) long
+          (rw (e.settled _) (tokens_from-from (count + used) e.within (e.byte ∷ []))) in (
+            record { count = long; before = before'; tokens = tokens },
+            inr (e.byte, ap first e.next, known_is u' _ _ (tokens_to_come _ new) before' from (λ s. tokens _ (rw e.next refl))),
+            no_sooner_run _ e.runs e.stood,
+          )
 
-    ahead_of_byte : EndsBeforeByte count old piece (take used piece) (drop used piece) t new used
-        → StandsAfter (behind count new used) u' (first (drop used piece)) (given ++ t ∷ []) × IsDecided u' (drop used piece) (given ++ t ∷ []) × EndsNoSooner (is_run t.kind) u piece used given
-    ahead_of_byte e =
-        let tokens : (s : List ℕ) → Follows (first (drop used piece)) s → tokens_of (u' ++ s)
-        ≡ (given ++ t ∷ []) ++ tokens_to_come (count + used) new s =
-        λ s goes. with_token s (follows_front b piece s used h.some starts goes) (next_comes e s (rw e.next at goes)) in
-        let from : AllFrom (length u') (tokens_to_come (count + used) new (e.byte ∷ [])) =
-        subst (λ n. AllFrom n (tokens_to_come (count + used) new (e.byte ∷ []))) long
-        (rw (e.settled _) (tokens_from-from (count + used) e.within (e.byte ∷ []))) in (
-          record { count = long; before = before'; tokens = tokens },
-          inr (
-            e.byte,
-            ap first e.next,
-            known_is u' _ _ (tokens_to_come _ new) before' from
-                (λ s. tokens _ (rw e.next refl)),
-          ),
-          no_sooner_run _ e.runs e.stood,
-        )
+    pub scans_token : Scans ahead piece behind used (token t)
+    scans_token =
+        record {
+          count = refl;
+          advances = h.advances;
+          reads = reads_token;
+          lengths = h.lengths;
+          ends = h.ends_at;
+          refused = not_failed_fault new h.not_failed;
+          empty = λ none. let some : 0 < length piece = h.some in absurd (omega arith);
+          stays = λ f failed. absurd (no_fault h.fresh f failed);
+          carries = λ u b given stands starts. elim h.ends [ inl e ↦ ends_with u b given stands starts e | inr e ↦ ends_before u b given stands starts e ];
+        }
 
-    carries_token : EndsWithByte count old piece (take used piece) t new used ⊎ EndsBeforeByte count old piece (take used piece) (drop used piece) t new used
-        → StandsAfter (behind count new used) u' (first (drop used piece)) (given ++ t ∷ []) × IsDecided u' (drop used piece) (given ++ t ∷ []) × EndsNoSooner (is_run t.kind) u piece used given
-    carries_token (inl e) = with_byte e
-    carries_token (inr e) = ahead_of_byte e
-
-  no_fault : (f : LexFault) → fault_of (ahead count old) ≡ Some f → ⊥
-  no_fault f failed = grind arith
-
-  pub scans_token : Scans (ahead count old) piece (behind count new used) used (token t)
-  scans_token =
-      record {
-        count = refl;
-        advances = h.advances;
-        reads = reads_token h.ends;
-        lengths = h.lengths;
-        ends = h.ends_at;
-        refused = not_failed_fault new h.not_failed;
-        empty = λ none. let some : 0 < length piece = h.some in absurd (omega arith);
-        stays = λ f failed. absurd (no_fault f failed);
-        carries = λ u b given stands starts. carries_token u b given stands starts h.ends;
-      }
-
-pub same_parts : (i j : Token) → i.at ≡ j.at → i.kind ≡ j.kind → i ≡ j
-same_parts i j at kind = grind arith
-
-pub scans_form : (count : ℕ) (old new : PartialToken) (piece : List ℕ) (used : ℕ) (form : TokenForm) (t : Token) → t.at ≡ new.at
-    → t.kind ≡ kind_in form new.text
-    → RunsToToken count old piece (token_of form new) new used → Scans (ahead count old) piece (behind count new used) used (token t)
-scans_form count old new piece used form t at kind h =
-    rw (same_parts t _ at kind)
-    (scans_token count old new piece used _ h)
+  pub scans_form : (form : TokenForm) (t : Token) → t.at ≡ new.at → t.kind ≡ kind_in form new.text
+      → RunsToToken count old piece (token_of form new) new used → Scans ahead piece behind used (token t)
+  scans_form form t at kind h = rw (same_parts t _ at kind) (scans_token _ h)
 
 -- what is said of one view of a lexer, of the other
 pub scans_of : (old old' new : Standing) (piece : List ℕ) (used : ℕ) (seen : Scanned) → old ≡ old' → Scans old piece new used seen
     → Scans old' piece new used seen
 scans_of old old' new piece used seen e = subst (λ (l : Standing). Scans l piece new used seen) e
-
-pub scans_told : (count : ℕ) (old new : PartialToken) (piece : List ℕ) (used : ℕ) (f g : LexFault) → f ≡ g
-    → RunsToFault count old piece g new used
-    → Scans (ahead count old) piece (behind count new used) used (fault f)
-scans_told count old new piece used f g same h = scans_fault count old new piece used f (rw same h)

@@ -1,5 +1,5 @@
 -- What a step must give, of the tokens that come.
-use Rattle.pgn_lexer.proofs.Words.{◌≡◌, ℕ, ◌+◌, ◌<◌, ◌≤◌, List, [], ◌∷◌, true, false, Some, TokenForm, Step, Used, Ends, EndsBefore, Fault, Token, HasLength, EndsAt, is_run, Within, tokens_from, PartialToken, tokens_to_come, kind_in, token_of, refusal, IsSound, HasNotFailed, pending, fault_met, fault_in_mode, AfterByte}
+use Rattle.pgn_lexer.proofs.Words.{◌≡◌, ℕ, ◌+◌, ◌<◌, ◌≤◌, List, [], ◌∷◌, true, false, Some, TokenForm, Step, Used, Ends, EndsBefore, Fault, Token, HasLength, EndsAt, is_run, Within, tokens_from, PartialToken, tokens_to_come, kind_in, token_of, refusal, IsSound, HasNotFailed, Mode, pending, fault_met, fault_in_mode, AfterByte}
 
 -- What comes from a byte b at the place: `front s` where s follows b, and `ended` where the text
 -- ends before b; `waits` tokens at most came with no byte more.
@@ -61,3 +61,10 @@ Gives f t = StepGives f t.held t.step
 abbrev pub front_of : ℕ → PartialToken → ℕ → Front
 front_of place h b =
     record { place = place; byte = b; front = λ s. tokens_to_come place h (b ∷ s); ended = tokens_to_come place h []; waits = pending h }
+
+abbrev pub holds : Mode → ℕ → List ℕ → PartialToken
+holds mode at text = record { mode = mode; at = at; text = text }
+
+-- a result for what is held in a mode gives what comes
+abbrev pub GivesIn : Mode → (place at b : ℕ) → List ℕ → (PartialToken → AfterByte) → Type 0
+GivesIn mode place at b text result = Gives (front_of place (holds mode at text) b) (result (holds mode at text))

@@ -1,5 +1,4 @@
-use Rattle.pgn_lexer.proofs.cutting.TextsRestart.{begins_at}
 use Rattle.pgn_lexer.proofs.lexer.Lexer.begin_at.Goals as goal
 
 pub returns-clause-stands : goal.returns-clause-stands
-returns-clause-stands c = begins_at _ _ _ c.begin_at.ensures
+returns-clause-stands c = Rattle.pgn_lexer.proofs.cutting.TextsRestart.begins_at _ _ _ c.begin_at.ensures
