@@ -5,3 +5,4 @@ pub mod MoreBytesBehind
 pub mod PairsOnLines
 pub mod NextGames
 pub mod ZerosBehind
+pub mod Words

@@ -1,35 +1,15 @@
 -- What a conversion of one game finds, from the calls of the converter.
-use Rattle.std.proofs.Common.{◌≡◌, ℕ, ◌+◌, ◌-◌, ◌^◌, ◌<◌, ◌≤◌, Bool, true, false, List, [], ◌∷◌, ◌++◌, length, take, drop, Option, None, Some, refl, sym, ap, subst, ◌∙◌, append-nil, append_assoc, length-append, arith, bytes_eq, codes, IsTrue}
-use Rattle.std.proofs.lemmas.List.{length-take-le, take-append-drop, take_at}
-use Rattle.std.proofs.lemmas.Slice.Eq.{bytes_eq-Decides}
-use Rattle.std.proofs.Math.Seq.{take-append-add}
+use Rattle.pgn_c.proofs.Words.{◌≡◌, ℕ, ◌+◌, ◌-◌, ◌^◌, ◌<◌, ◌≤◌, Bool, true, false, List, [], ◌∷◌, ◌++◌, length, take, drop, Option, None, Some, refl, sym, ap, subst, ◌∙◌, append-nil, append_assoc, length-append, arith, bytes_eq, codes, IsTrue, length-take-le, take-append-drop, take_at, bytes_eq-Decides, take-append-add, Kind, Token, EndsAt, tokens_of, Marker, WhiteWins, BlackWins, Draw, Unknown, Mode, InputTooLong, Fault, marker_text, Profile, known_result, is_score, marker_of, game_text, text_of, read, due, games_read, FinishesGame, PgnGame, AreKnown, NextOf, fault_result, game_result, nothing, profile_counting, status_for}
 use Rattle.std.proofs.KnownBytes.{Appends-trans}
 use Rattle.std.specs.Io.KnownBytes.{Appends}
-use Rattle.pgn_lexer.specs.Tokens as tokens
-use Rattle.pgn_lexer.specs.Tokens.{Kind, Token, EndsAt}
-use Rattle.pgn_lexer.specs.TokensOf.{tokens_of}
 use Rattle.pgn_lexer.specs.Standing.{coming}
 use Rattle.pgn_lexer.specs.Stands.{Follows, first, still}
-use Rattle.pgn_game.specs.declared.marker.Marker.{Marker}
-use Rattle.pgn_game.specs.declared.marker.Marker.TheVariants.{WhiteWins, BlackWins, Draw, Unknown}
-use Rattle.pgn_game.specs.declared.mode.Mode.{Mode}
-use Rattle.pgn_game.specs.declared.reason.Reason.TheVariants.{InputTooLong}
-use Rattle.pgn_game.specs.declared.reason.Fault.{Fault}
-use Rattle.pgn_game.specs.Markers.{marker_text}
-use Rattle.pgn_game.specs.Profile.{Profile, known_result}
 use Rattle.pgn_game.specs.Pairs.{value_of}
 use Rattle.pgn_game.specs.TagSection.{exported}
 use Rattle.pgn_game.specs.Game.{Game}
-use Rattle.pgn_game.specs.FaultTable.{is_score, marker_of}
-use Rattle.pgn_game.specs.Text.{game_text, text_of}
-use Rattle.pgn_game.specs.Progress.{read, due}
 use Rattle.pgn_game.specs.Due.{Gains}
 use Rattle.pgn_game.specs.ConverterCalls.{Converter, FinishedGame, finished_game_of, finished_game_value, IsLast, Stands, StopsWriting, Stops, refused, unwritten, FedAll, FedGame, FedToFault, AreNext, StopsIn, at_token, too_long, Finishes, FinishesToFault, games_before, position_at_stop, refused_position, reported_position}
-use Rattle.pgn_game.specs.GamesRestart.{games_read, FinishesGame}
 use Rattle.pgn_game.specs.GameEnds.{EndsByMarker, GamesEndByMarker, TextsEndBehindMarker, TextsEndBetweenGames}
-use Rattle.pgn_c.specs.declared.game_result.PgnGame.{PgnGame}
-use Rattle.pgn_c.specs.NextGame as next_game
-use Rattle.pgn_c.specs.NextGame.{AreKnown, NextOf, fault_result, game_result, nothing, profile_counting, status_for}
 
 -- ---- a marker
 
@@ -39,16 +19,16 @@ record Marks (k : Kind) (at end : ℕ) (text : List ℕ) : Type 0 where
   is_marker : text ≡ marker_text marker
   place : end - length (marker_text marker) ≡ at
 
-of_score : (at end : ℕ) (s text : List ℕ) → marker_of (tokens.symbol s) ≡ Some text → end ≡ at + length s → Marks (tokens.symbol s) at end text
+of_score : (at end : ℕ) (s text : List ℕ) → marker_of (Kind.symbol s) ≡ Some text → end ≡ at + length s → Marks (Kind.symbol s) at end text
 of_score at end s text marker ends = by_tests _ _ _ refl refl refl
   where
-    here : (m : Marker) → s ≡ marker_text m → is_score s ≡ true → Marks (tokens.symbol s) at end text
+    here : (m : Marker) → s ≡ marker_text m → is_score s ≡ true → Marks (Kind.symbol s) at end text
     here m same score =
         let e : Some s ≡ Some text = ap (λ (b : Bool). elim b [ true ↦ Some s | false ↦ None ]) (sym score) ∙ marker in
         record { marker = m; is_marker = cc; place = omega (arith, ends, ap (length {A = ℕ}) same) }
 
     by_tests : (x y z : Bool) → bytes_eq s (marker_text WhiteWins) ≡ x → bytes_eq s (marker_text BlackWins) ≡ y
-        → bytes_eq s (marker_text Draw) ≡ z → Marks (tokens.symbol s) at end text
+        → bytes_eq s (marker_text Draw) ≡ z → Marks (Kind.symbol s) at end text
     by_tests true y z p q r = here WhiteWins ((bytes_eq-Decides s _).0 p) (cc)
     by_tests false true z p q r = here BlackWins ((bytes_eq-Decides s _).0 q) (cc)
     by_tests false false true p q r = here Draw ((bytes_eq-Decides s _).0 r) (cc)
@@ -57,8 +37,8 @@ of_score at end s text marker ends = by_tests _ _ _ refl refl refl
         let e : None ≡ Some text = ap (λ (b : Bool). elim b [ true ↦ Some s | false ↦ None ]) (sym score) ∙ marker in absurd (cc)
 
 marks : (k : Kind) (at end : ℕ) (text : List ℕ) → marker_of k ≡ Some text → EndsAt k at end → Marks k at end text
-marks tokens.asterisk at end text marker ends = record { marker = Unknown; is_marker = (let e : Some (codes "*") ≡ Some text = marker in cc); place = omega (arith, ends) }
-marks (tokens.symbol s) at end text marker ends = of_score at end s text marker ends
+marks Kind.asterisk at end text marker ends = record { marker = Unknown; is_marker = (let e : Some (codes "*") ≡ Some text = marker in cc); place = omega (arith, ends) }
+marks (Kind.symbol s) at end text marker ends = of_score at end s text marker ends
 marks _ at end text marker ends = absurd (cc)
 
 -- ---- a write that fails
@@ -145,7 +125,7 @@ module _ (mode : Mode) (missing : Marker) (u piece : List ℕ) (before : Option 
         let parts : s ≡ front ++ drop used piece =
         ap (λ l. u ++ l) (sym (take-append-drop used piece)) ∙ sym (append_assoc u (take used piece) (drop used piece)) in
         let size : length front ≡ n = omega (arith, length-append u (take used piece), length-take-le used piece within, count) in
-        next_game.game (record {
+        NextOf.game (record {
           tokens = fed.tokens;
           at = fed.marker;
           marker = mark.marker;
@@ -195,7 +175,7 @@ module _ (mode : Mode) (missing : Marker) (u piece : List ℕ) (before : Option 
         by_stops : (g : Fault) (stops : Stops p [] to.fed.tokens before after g) → result ≡ fault_result (status_for 1 g.reason) g (position_at_stop stops) → games_before stops ≡ []
             → NextOf p s piece result before after
         by_stops g (refused _ fault gains) is none =
-            next_game.rejected (record {
+            NextOf.rejected (record {
               fault = g;
               tokens = to.fed.tokens;
               known = known;
@@ -205,7 +185,7 @@ module _ (mode : Mode) (missing : Marker) (u piece : List ℕ) (before : Option 
               is_result = is;
             })
         by_stops _ (unwritten at writing) is none =
-            next_game.full (record {
+            NextOf.full (record {
               at = at;
               tokens = to.fed.tokens;
               first = let all = known [] in (all.0, ap tokens_of (sym (append-nil s)) ∙ all.1);
@@ -214,7 +194,7 @@ module _ (mode : Mode) (missing : Marker) (u piece : List ℕ) (before : Option 
               is_result = is;
             })
     fault_fed new _ (too_long front rest cut place some (now, fed, same)) kept answer =
-        next_game.too_long (record {
+        NextOf.too_long (record {
           bytes = u ++ front;
           rest = rest;
           cut = ap (λ l. u ++ l) cut ∙ sym (append_assoc u front rest);
@@ -262,7 +242,7 @@ module _ (mode : Mode) (missing : Marker) (u piece : List ℕ) (before : Option 
           answer game mark.marker just (value_is new game (marker_text mark.marker) fin.has_read.profile just (ends_by.result ∙ ap Some mark.is_marker))
           ∙ ap (λ at. game_result game mark.marker at n) mark.place in
           let end : result.end ≡ n = ap (λ (r : PgnGame). r.end) is in
-          next_game.game (record {
+          NextOf.game (record {
             tokens = fed.tokens;
             at = last.marker;
             marker = mark.marker;
@@ -281,7 +261,7 @@ module _ (mode : Mode) (missing : Marker) (u piece : List ℕ) (before : Option 
       pub none_at_end : (new : Converter) → Finishes p s fed.tokens new false middle after → result ≡ nothing 4 → NextOf p s piece result before after
       none_at_end new fin is =
           let none : games_read p (tokens_of s) ≡ [] = by_games (games_read p (tokens_of s)) refl in
-          next_game.no_game (record {
+          NextOf.no_game (record {
             passes = fin.has_read.passes;
             no_game = none;
             wrote = subst (Appends before after) (whole_of fin.has_read.passes ∙ ap (text_of p) none) (all_due fin.gains);
@@ -302,7 +282,7 @@ module _ (mode : Mode) (missing : Marker) (u piece : List ℕ) (before : Option 
           by_stops : (g : Fault) (stops : Stops p fed.tokens (tokens_of s) middle after g) → result ≡ fault_result (status_for 5 g.reason) g (position_at_stop stops) → games_before stops ≡ []
               → NextOf p s piece result before after
           by_stops g (refused _ fault gains) is none =
-              next_game.needs_more (record {
+              NextOf.needs_more (record {
                 fault = g;
                 tokens = fed.tokens;
                 known = known;
@@ -315,7 +295,7 @@ module _ (mode : Mode) (missing : Marker) (u piece : List ℕ) (before : Option 
                 is_result = is;
               })
           by_stops _ (unwritten at writing) is none =
-              next_game.full (record {
+              NextOf.full (record {
                 at = at;
                 tokens = tokens_of s;
                 first = ([], sym (append-nil (tokens_of s)));

@@ -1,5 +1,4 @@
-use Rattle.std.proofs.Common.{ap, refl, sym, ◌∙◌, arith}
-use Rattle.pgn_layout.specs.Device.{nowhere}
+use Rattle.pgn_c.proofs.Words.{ap, refl, sym, ◌∙◌, arith, nowhere}
 use Rattle.pgn_c.proofs.ConversionToBuffer.{is_full, when_ok}
 use Rattle.pgn_c.proofs.pgn_check.Goals as goal
 

@@ -1,4 +1,4 @@
-use Rattle.std.proofs.Common.{◌≡◌, map, length, take}
+use Rattle.pgn_c.proofs.Words.{◌≡◌, map, length, take}
 use Rattle.pgn_c.specs.Explanation.{origin_number}
 use Rattle.pgn_c.proofs.explanation.origin_numbers.Given as goal
 

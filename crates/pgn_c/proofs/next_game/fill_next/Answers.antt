@@ -1,6 +1,4 @@
-use Rattle.std.proofs.Common.{◌≡◌, ℕ, length, take, drop, Some, ap, sym, subst, ◌∙◌, arith}
-use Rattle.std.proofs.lemmas.List.{length-take-le}
-use Rattle.pgn_c.specs.NextGame.{NextOf, profile_counting, text_from}
+use Rattle.pgn_c.proofs.Words.{◌≡◌, ℕ, length, take, drop, Some, ap, sym, subst, ◌∙◌, arith, length-take-le, NextOf, profile_counting, text_from}
 use Rattle.pgn_c.proofs.ConversionToBuffer.{filled}
 use Rattle.pgn_c.proofs.next_game.fill_next.Goals as goal
 

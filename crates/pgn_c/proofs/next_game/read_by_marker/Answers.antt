@@ -1,5 +1,4 @@
-use Rattle.pgn_game.specs.declared.marker.Marker.TheVariants.{WhiteWins, BlackWins, Draw, Unknown}
-use Rattle.pgn_c.specs.NextGame.{IsOtherResult}
+use Rattle.pgn_c.proofs.Words.{WhiteWins, BlackWins, Draw, Unknown, IsOtherResult}
 use Rattle.pgn_c.proofs.next_game.read_by_marker.Goals as goal
 
 pub returns-clause-by_each : goal.returns-clause-by_each

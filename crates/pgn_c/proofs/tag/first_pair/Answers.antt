@@ -1,5 +1,4 @@
-use Rattle.std.proofs.Common.{List, ℕ, Option, sym, ◌∙◌, ap}
-use Rattle.pgn_c.specs.TagScan.{pair_behind_bracket, first_pair}
+use Rattle.pgn_c.proofs.Words.{List, ℕ, Option, sym, ◌∙◌, ap, pair_behind_bracket, first_pair}
 use Rattle.pgn_c.proofs.PairsOnLines.{within_if}
 use Rattle.pgn_c.proofs.tag.first_pair.Goals as goal
 

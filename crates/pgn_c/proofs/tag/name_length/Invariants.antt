@@ -1,5 +1,4 @@
-use Rattle.std.proofs.Common.{◌≡◌, ◌+◌, drop}
-use Rattle.pgn_c.specs.TagScan.{name_length}
+use Rattle.pgn_c.proofs.Words.{◌≡◌, ◌+◌, drop, name_length}
 use Rattle.pgn_c.proofs.tag.name_length.Given as goal
 
 -- the bytes so far can be in a name

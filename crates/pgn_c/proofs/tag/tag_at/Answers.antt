@@ -1,8 +1,4 @@
-use Rattle.std.proofs.Common.{List, ℕ, sym, ◌∙◌, ap, subst}
-use Rattle.std.proofs.lemmas.List.{take_rest}
-use Rattle.pgn_c.specs.declared.tag.PgnTag.{PgnTag}
-use Rattle.pgn_c.specs.TagAt.{TagResult}
-use Rattle.pgn_c.specs.TagScan.{first_pair}
+use Rattle.pgn_c.proofs.Words.{List, ℕ, sym, ◌∙◌, ap, subst, take_rest, PgnTag, TagResult, first_pair}
 use Rattle.pgn_c.proofs.PairsOnLines.{not_found, found_there}
 use Rattle.pgn_c.proofs.tag.tag_at.Goals as goal
 

@@ -1,5 +1,5 @@
+use Rattle.pgn_c.proofs.Words.{strip_prefix_is}
 use Rattle.std.proofs.lemmas.Bool.Decides.{Decides-eqb}
-use Rattle.std.proofs.lemmas.Slice.Eq.{strip_prefix_is}
 use Rattle.pgn_c.proofs.PairsOnLines.{behind_matches}
 use Rattle.pgn_c.proofs.tag.text_behind.Goals as goal
 

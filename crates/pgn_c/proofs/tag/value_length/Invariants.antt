@@ -1,5 +1,4 @@
-use Rattle.std.proofs.Common.{◌≡◌, ℕ, ◌+◌, Option, None, Some, drop}
-use Rattle.pgn_c.specs.TagScan.{length_to_quote, value_length}
+use Rattle.pgn_c.proofs.Words.{◌≡◌, ℕ, ◌+◌, Option, None, Some, drop, length_to_quote, value_length}
 use Rattle.pgn_c.proofs.tag.value_length.Given as goal
 
 -- what is found behind so many bytes, counted from the front
