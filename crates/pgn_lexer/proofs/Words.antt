@@ -39,3 +39,4 @@ pub use Rattle.pgn_lexer.specs.declared.token.LexReason.TheVariants.{BadSuffix, 
 pub use Rattle.pgn_lexer.specs.declared.partial_token.Reached.{Reached}
 pub use Rattle.std.proofs.lemmas.Bool.Decides.{nat_tests}
 pub use Rattle.std.proofs.lemmas.Grind.{common_steps}
+pub use Rattle.std.proofs.lemmas.Option.{same_Some}

@@ -35,11 +35,9 @@ module _ (sy le bl su pe qu da br se lb rb lp rp pd ast re co : Bool) where
   says_of : Says by_tests
   says_of = grind arith
 
-  -- a byte of which no test holds
   stray_of : Says (Refused StrayByte) → by_tests ≡ Refused StrayByte
   stray_of h1 = grind arith
 
--- what the class of a byte says
 abbrev pub ClassSays : ℕ → Class → Type 0
 ClassSays b c =
     Says (starts_symbol b) (is_line_end b) (is_blank b) (is_suffix b) (b == 37) (b == 34) (b == 36) (b == 123) (b == 59) (b == 91) (b == 93) (b == 40) (b == 41) (b == 46) (b == 42) ((b == 60) || (b == 62)) (is_control b) c
@@ -80,7 +78,7 @@ abbrev tells_control : Class → Bool
 tells_control (Refused ControlByte) = true
 tells_control _ = false
 
-abbrev pub tells_control_in_comment : CommentClass → Bool
+abbrev tells_control_in_comment : CommentClass → Bool
 tells_control_in_comment CommentClass.Control = true
 tells_control_in_comment _ = false
 

@@ -27,7 +27,6 @@ last_digit n ds high front = grind (arith, fold-append, all_append, digit_passes
 pub number_written : (n : ℕ) → n < 2 ^ 64 → IsNumber n (decimal n)
 number_written = decimal_by_steps IsNumber one_digit last_digit
 
--- digits are a symbol
 digit_starts : (b : ℕ) → is_digit b ≡ true → starts_symbol b ≡ true
 digit_starts b e = grind arith
 

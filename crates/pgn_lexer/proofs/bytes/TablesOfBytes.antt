@@ -1,7 +1,6 @@
 -- The tables of bytes hold what is said of each byte.
 use Rattle.pgn_lexer.proofs.Words.{◌≡◌, ℕ, zero, suc, ◌+◌, ◌<◌, List, [], ◌∷◌, ap, ◌∙◌, arith, get_or, map}
 
--- n numbers from k on
 abbrev pub numbers : ℕ → ℕ → List ℕ
 numbers zero k = []
 numbers (suc n) k = k ∷ numbers n (k + 1)

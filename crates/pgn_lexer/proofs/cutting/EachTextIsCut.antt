@@ -42,13 +42,11 @@ record HasData (n : ℕ) (s : List ℕ) : Type 0 where
   stop : Stop (n + length text) rest
   shorter : length rest ≤ length s
 
--- no data, and the stop
 stops_here : (n : ℕ) (s : List ℕ) → n ≤ 255 → Stop n s → HasData n s
 stops_here n s fits stop =
     let same : n ≡ n + 0 = omega arith in
     record { raw = []; text = []; rest = s; cut = refl; written = lexes.no_data s; fits = omega arith; stop = rw same at stop; shorter = omega arith }
 
--- one datum more
 one_more : (n b : ℕ) (front s : List ℕ) → ((h : HasData (n + 1) s) → Data (front ++ h.raw) (b ∷ h.text) h.rest) → HasData (n + 1) s
     → HasData n (front ++ s)
 one_more n b front s write h =
@@ -99,7 +97,6 @@ has_data zero n (b ∷ s) short fits = absurd (omega arith)
 has_data (suc k) n (b ∷ s) short fits =
     by_class n b s fits (λ r less room. has_data k _ r (omega arith) (omega arith)) _ (string_says b)
 
--- some tokens of a cut
 abbrev Cut : Where → ℕ → List ℕ → Type 0
 Cut w at s = (ts : List Token) × Cuts w at s ts
 
@@ -114,7 +111,6 @@ CommentSays b CommentClass.Control = is_control b ≡ true
 comment_says : (b : ℕ) → CommentSays b (comment_class b)
 comment_says b = grind arith
 
--- what stands further on can be cut
 abbrev Further : ℕ → Type 0
 Further n = (w : Where) (at : ℕ) (s : List ℕ) → length s ≤ n → Cut w at s
 
@@ -133,7 +129,6 @@ module _ (n at : ℕ) (on : Further n) where
   abbrev Outer : Bool → List ℕ → Type 0
   Outer first s = Cut (lexes.outside first) at s
 
-  -- a token, and what follows it
   one_token : (first : Bool) (run s : List ℕ) (k : Kind) → SpellsToken run s k → length s ≤ n → Outer first (run ++ s)
   one_token first run s k spelled short =
       let more = on (lexes.outside false) (at + length run) s short in (_, lexes.token first at run s k more.0 spelled more.1)
@@ -199,7 +194,6 @@ module _ (n at : ℕ) (on : Further n) where
           one_refusal first _ (1 + length h.raw) _ (lexes.control_in_string b h.raw _ s written fit bad other)
       cases _ _ same (too_long m b s full more) written less = one_refusal first _ 0 _ (lexes.long_string b h.raw h.text s written (omega arith) more)
 
-  -- outside strings and comments
   from_outside : (first : Bool) (b : ℕ) (bs : List ℕ) → length bs ≤ n → (c : Class) → ClassSays b c → Outer first (b ∷ bs)
   from_outside first b bs short Class.LineEnd says =
       let more = on (lexes.outside _) (at + 1) bs short in (_, lexes.space first at b bs more.0 (or_left _ _ says) more.1)
@@ -238,7 +232,6 @@ module _ (n at : ℕ) (on : Further n) where
         | inr fits ↦ (_, lexes.word braces at b h.run h.rest more.0 e (h.all, h.stop) fits more.1)
       ])
 
-  -- in a comment
   from_comment : (braces : Bool) (b : ℕ) (bs : List ℕ) → length bs ≤ n → (c : CommentClass) → CommentSays b c
       → Cut (lexes.comment braces) at (b ∷ bs)
   from_comment braces b bs short CommentClass.WordByte says = a_word braces b bs says short (split _ bs)
@@ -262,7 +255,6 @@ exists zero w at (b ∷ bs) short = absurd (omega arith)
 exists (suc n) (lexes.outside first) at (b ∷ bs) short = from_outside n at (exists n) first b bs (omega arith) (class b) (class_says b)
 exists (suc n) (lexes.comment braces) at (b ∷ bs) short = from_comment n at (exists n) braces b bs (omega arith) (comment_class b) (comment_says b)
 
--- the tokens of a text cut it
 cut_tokens : (w : Where) (at : ℕ) (s : List ℕ) → Cuts w at s (tokens_from at (within_of w) s)
 cut_tokens w at s = let h = exists (length s) w at s (omega arith) in rw (cuts_is w at s h.0 h.1) at h.1
 
@@ -270,7 +262,6 @@ lexes_are : (s : List ℕ) (ts : List Token) → Lexes s ts → ts ≡ tokens_of
 lexes_are _ _ (lexes.marked s ts h) = cuts_is _ 3 s ts h
 lexes_are _ _ (lexes.unmarked s ts none h) = cuts_is _ 0 s ts h ∙ sym (unmarked s none)
 
--- a text with a mark begins with it
 mark_cut : (s : List ℕ) → has_mark s ≡ true → (rest : List ℕ) × (s ≡ 239 ∷ 187 ∷ 191 ∷ rest)
 mark_cut s h1 = grind arith
 

@@ -83,7 +83,6 @@ tokens_from-from at within [] = end_from at within
 tokens_from-from at within (b ∷ bs) =
     onto_from at (begins at within b bs) (tokens_from (at + 1) (next within b) bs) (begins_from at within b bs) (tokens_from-from (at + 1) (next within b) bs)
 
--- the front of such a list is one
 pub all_from-front : (n : ℕ) (xs zs : List Token) → AllFrom n (xs ++ zs) → AllFrom n xs
 all_from-front n [] zs all = tt
 all_from-front n (x ∷ xs) zs all = (all.0, all_from-front n xs zs all.1)
@@ -97,8 +96,6 @@ take_before n (t ∷ given) more before from =
     take_while-cons (λ t. nat_lt t.at n) t (given ++ more)
     ∙ ap (λ c. cond c (t ∷ take_while (λ t. nat_lt t.at n) (given ++ more)) []) (lt-ltb _ _ before.0)
     ∙ ap (λ ts. t ∷ ts) (take_before n given more before.1 from)
-
--- places rise to the last token
 
 onto_rises : (at : ℕ) (f : Found) (ts : List Token) → FoundFrom at f → AllFrom (at + 1) ts → RisesTo ts → RisesTo (onto at f ts)
 onto_rises at f ts h1 h2 h3 = grind arith

@@ -8,7 +8,6 @@ use Rattle.pgn_lexer.proofs.cutting.StringData.{reads_data, reads_long, reads_co
 use Rattle.pgn_lexer.proofs.stepping.ByteInComment.{word_fits, word_long, word_class, brace_ends, line_ends}
 use Rattle.pgn_lexer.proofs.stepping.ByteInGlyph.{number_fits, number_long}
 
--- what a place is within
 abbrev pub within_of : Where → Within
 within_of (lexes.outside true) = column
 within_of (lexes.outside false) = outside
@@ -25,21 +24,20 @@ inner braces at s = tokens_from at (within_of (lexes.comment braces)) s
 abbrev placed : ℕ → Kind → Token
 placed at kind = record { at = at; kind = kind }
 
--- a run is as long as possible
-pub take_run : (p : ℕ → Bool) (run s : List ℕ) → list_all p run ≡ true → StopsAt p s → take_while p (run ++ s) ≡ run
-take_run p [] [] all stop = refl
-take_run p [] (b ∷ s) all stop = take_while-false p b s stop
-take_run p (b ∷ run) s all stop = grind (arith, take_while-true, and_parts, take_run p run s)
+take_run : (p : ℕ → Bool) (run s : List ℕ) → IsRun p run s → take_while p (run ++ s) ≡ run
+take_run p [] [] long = refl
+take_run p [] (b ∷ s) long = take_while-false p b s long.1
+take_run p (b ∷ run) s long = grind (arith, take_while-true, and_parts, take_run p run s)
 
 -- the places within a run give nothing
 module _ (within out : Within) (p : ℕ → Bool) (goes : (at b : ℕ) (s : List ℕ) → p b ≡ true → tokens_from at within (b ∷ s) ≡ tokens_from (at + 1) within s)
     (ends : (at : ℕ) (s : List ℕ) → StopsAt p s → tokens_from at within s ≡ tokens_from at out s) where
-  pub skips : (at : ℕ) (run s : List ℕ) → list_all p run ≡ true → StopsAt p s
-      → tokens_from at within (run ++ s) ≡ tokens_from (at + length run) out s
-  skips at [] s all stop = let same : at ≡ at + 0 = omega arith in ends at s stop ∙ ap (λ n. tokens_from n out s) same
-  skips at (b ∷ run) s all stop =
+  skips : (at : ℕ) (run s : List ℕ) → IsRun p run s → tokens_from at within (run ++ s) ≡ tokens_from (at + length run) out s
+  skips at [] s long = let same : at ≡ at + 0 = omega arith in ends at s long.1 ∙ ap (λ n. tokens_from n out s) same
+  skips at (b ∷ run) s long =
       let same : at + 1 + length run ≡ at + length (b ∷ run) = omega arith in
-      goes at b (run ++ s) (and_parts _ _ all).0 ∙ skips (at + 1) run s (and_parts _ _ all).1 stop ∙ ap (λ n. tokens_from n out s) same
+      let all = and_parts (p b) _ long.0 in
+      goes at b (run ++ s) all.0 ∙ skips (at + 1) run s (all.1, long.1) ∙ ap (λ n. tokens_from n out s) same
 
 suffix_stops : (at : ℕ) (s : List ℕ) → StopsAt is_suffix s → tokens_from at in_suffix s ≡ tokens_from at outside s
 suffix_stops at s h1 = grind arith
@@ -57,30 +55,24 @@ from_class true at b s c e other =
     in_column Class.Percent other = absurd (other refl)
     in_column c other = refl
 
-pub space_skips : (first : Bool) (at b : ℕ) (s : List ℕ) → is_space b ≡ true
-    → outer first at (b ∷ s) ≡ outer (is_line_end b) (at + 1) s
+space_skips : (first : Bool) (at b : ℕ) (s : List ℕ) → is_space b ≡ true → outer first at (b ∷ s) ≡ outer (is_line_end b) (at + 1) s
 space_skips first at b s e = grind (arith, or_cases, from_class, line_end_class, blank_class)
 
-pub symbol_cut : (first : Bool) (at b : ℕ) (run s : List ℕ) → starts_symbol b ≡ true → list_all continues_symbol run ≡ true
-    → StopsAt continues_symbol s
-    → outer first at (b ∷ (run ++ s))
-    ≡ onto at (symbol_at at (b ∷ run)) (tokens_from (at + 1 + length run) outside s)
-symbol_cut first at b run s e all stop = grind (arith, take_run, skips)
+symbol_cut : (first : Bool) (at b : ℕ) (run s : List ℕ) → starts_symbol b ≡ true → IsRun continues_symbol run s
+    → outer first at (b ∷ (run ++ s)) ≡ onto at (symbol_at at (b ∷ run)) (tokens_from (at + 1 + length run) outside s)
+symbol_cut first at b run s e long = grind (arith, take_run, skips)
 
-pub glyph_cut : (first : Bool) (at : ℕ) (run s : List ℕ) → list_all is_digit run ≡ true → StopsAt is_digit s
-    → outer first at (36 ∷ (run ++ s))
-    ≡ onto at (glyph_at at run) (tokens_from (at + 1 + length run) outside s)
-glyph_cut first at run s all stop = grind (arith, take_run, skips)
+glyph_cut : (first : Bool) (at : ℕ) (run s : List ℕ) → IsRun is_digit run s
+    → outer first at (36 ∷ (run ++ s)) ≡ onto at (glyph_at at run) (tokens_from (at + 1 + length run) outside s)
+glyph_cut first at run s long = grind (arith, take_run, skips)
 
-pub suffix_cut : (first : Bool) (at b : ℕ) (run s : List ℕ) → is_suffix b ≡ true → list_all is_suffix run ≡ true → StopsAt is_suffix s
-    → outer first at (b ∷ (run ++ s))
-    ≡ onto at (suffix_at at (b ∷ run)) (tokens_from (at + 1 + length run) outside s)
-suffix_cut first at b run s e all stop =
+suffix_cut : (first : Bool) (at b : ℕ) (run s : List ℕ) → is_suffix b ≡ true → IsRun is_suffix run s
+    → outer first at (b ∷ (run ++ s)) ≡ onto at (suffix_at at (b ∷ run)) (tokens_from (at + 1 + length run) outside s)
+suffix_cut first at b run s e long =
     from_class first at b _ Class.Suffix (suffix_class b e) (λ e. cc)
-    ∙ ap (λ r. onto at (suffix_at at (b ∷ r)) (tokens_from (at + 1) in_suffix (run ++ s))) (take_run _ run s all stop)
-    ∙ ap (onto at (suffix_at at (b ∷ run))) (skips in_suffix outside _ suffix_goes suffix_stops (at + 1) run s all stop)
+    ∙ ap (λ r. onto at (suffix_at at (b ∷ r)) (tokens_from (at + 1) in_suffix (run ++ s))) (take_run _ run s long)
+    ∙ ap (onto at (suffix_at at (b ∷ run))) (skips in_suffix outside _ suffix_goes suffix_stops (at + 1) run s long)
 
--- an escape line
 escape_line_goes : (at b : ℕ) (s : List ℕ) → not (is_line_end b) ≡ true
     → tokens_from at in_escape_line (b ∷ s) ≡ tokens_from (at + 1) in_escape_line s
 escape_line_goes at b s e = grind arith
@@ -89,12 +81,11 @@ escape_line_stops : (at : ℕ) (s : List ℕ) → StopsAt (λ b. not (is_line_en
     → tokens_from at in_escape_line s ≡ tokens_from at outside s
 escape_line_stops at s h1 = grind arith
 
-pub escape_line_cut : (at : ℕ) (run s : List ℕ) → list_all (λ b. not (is_line_end b)) run ≡ true → StopsAt (λ b. not (is_line_end b)) s
+escape_line_cut : (at : ℕ) (run s : List ℕ) → IsRun (λ b. not (is_line_end b)) run s
     → tokens_from at column (37 ∷ (run ++ s)) ≡ tokens_from (at + 1 + length run) outside s
-escape_line_cut at run s all stop = skips _ _ _ escape_line_goes escape_line_stops _ run s all stop
+escape_line_cut at run s long = skips _ _ _ escape_line_goes escape_line_stops _ run s long
 
--- in a comment
-abbrev pub word_within : Bool → Within
+abbrev word_within : Bool → Within
 word_within true = Within.brace_word
 word_within false = Within.line_word
 
@@ -117,21 +108,18 @@ word_stops : (braces : Bool) (at : ℕ) (s : List ℕ) → StopsAt continues_wor
 word_stops braces at s h1 = grind (arith, brace_ends, word_class, line_ends)
 
 letter_first : (braces : Bool) (at b : ℕ) (s : List ℕ) → continues_word b ≡ true
-    → inner braces at (b ∷ s)
-    ≡ onto at (word_at at (b ∷ take_while continues_word s)) (tokens_from (at + 1) (word_within braces) s)
+    → inner braces at (b ∷ s) ≡ onto at (word_at at (b ∷ take_while continues_word s)) (tokens_from (at + 1) (word_within braces) s)
 unfolding comment_tokens
 letter_first braces at b s h1 = grind arith
 
-pub word_cut : (braces : Bool) (at b : ℕ) (run s : List ℕ) → continues_word b ≡ true → list_all continues_word run ≡ true
-    → StopsAt continues_word s
-    → inner braces at (b ∷ (run ++ s))
-    ≡ onto at (word_at at (b ∷ run)) (inner braces (at + 1 + length run) s)
-word_cut braces at b run s e all stop =
+pub word_cut : (braces : Bool) (at b : ℕ) (run s : List ℕ) → continues_word b ≡ true → IsRun continues_word run s
+    → inner braces at (b ∷ (run ++ s)) ≡ onto at (word_at at (b ∷ run)) (inner braces (at + 1 + length run) s)
+word_cut braces at b run s e long =
     letter_first braces at b _ e
-    ∙ ap (λ r. onto at (word_at at (b ∷ r)) (tokens_from (at + 1) (word_within braces) (run ++ s))) (take_run _ run s all stop)
-    ∙ ap (onto at (word_at at (b ∷ run))) (skips (word_within braces) (within_of (lexes.comment braces)) _ (word_goes braces) (word_stops braces) (at + 1) run s all stop)
+    ∙ ap (λ r. onto at (word_at at (b ∷ r)) (tokens_from (at + 1) (word_within braces) (run ++ s))) (take_run _ run s long)
+    ∙ ap (onto at (word_at at (b ∷ run))) (skips (word_within braces) (within_of (lexes.comment braces)) _ (word_goes braces) (word_stops braces) (at + 1) run s long)
 
-pub blank_in_comment : (braces : Bool) (at b : ℕ) (s : List ℕ) → is_space b ≡ true → (braces || not (is_line_end b)) ≡ true
+blank_in_comment : (braces : Bool) (at b : ℕ) (s : List ℕ) → is_space b ≡ true → (braces || not (is_line_end b)) ≡ true
     → inner braces at (b ∷ s) ≡ inner braces (at + 1) s
 unfolding comment_tokens
 blank_in_comment braces at b s h1 h2 =
@@ -142,28 +130,25 @@ pub control_in_comment : (braces : Bool) (at b : ℕ) (s : List ℕ) → is_cont
 unfolding comment_tokens
 control_in_comment braces at b s h1 = grind (arith, from_comment, control_comment)
 
-pub line_closes : (at b : ℕ) (s : List ℕ) → is_line_end b ≡ true
+line_closes : (at b : ℕ) (s : List ℕ) → is_line_end b ≡ true
     → tokens_from at line (b ∷ s) ≡ placed at comment_close ∷ tokens_from (at + 1) column s
 unfolding comment_tokens
 line_closes at b s e = from_comment false at b s CommentClass.LineEnd (line_end_comment b e)
 
 -- a token that is spelled is given
 module _ (first : Bool) (at : ℕ) where
-  moved : (k : Kind) (m n : ℕ) (s : List ℕ) → m ≡ n
-      → placed at k ∷ tokens_from m outside s ≡ placed at k ∷ tokens_from n outside s
+  moved : (k : Kind) (m n : ℕ) (s : List ℕ) → m ≡ n → placed at k ∷ tokens_from m outside s ≡ placed at k ∷ tokens_from n outside s
   moved k m n s e = ap (λ n. placed at k ∷ tokens_from n outside s) e
 
-  single_is : (b : ℕ) (s : List ℕ) (k : Kind) → IsSingle b k
-      → outer first at (b ∷ s) ≡ placed at k ∷ tokens_from (at + 1) outside s
+  single_is : (b : ℕ) (s : List ℕ) (k : Kind) → IsSingle b k → outer first at (b ∷ s) ≡ placed at k ∷ tokens_from (at + 1) outside s
   single_is _ s _ lexes.left_bracket = from_class first at _ s _ refl (λ e. cc)
   single_is _ s _ _ = from_class first at _ s _ refl (λ e. cc)
 
   suffix_is : (run s : List ℕ) (n : ℕ) → IsSuffix run n → StopsAt is_suffix s
-      → outer first at (run ++ s)
-      ≡ placed at (glyph n) ∷ tokens_from (at + length run) outside s
+      → outer first at (run ++ s) ≡ placed at (glyph n) ∷ tokens_from (at + length run) outside s
   suffix_is _ s _ lexes.good stop = grind arith
   suffix_is _ s _ lexes.poor stop = grind arith
-  suffix_is _ s _ _ stop = suffix_cut first at _ (_ ∷ []) s refl refl stop ∙ moved _ _ _ s (omega arith)
+  suffix_is _ s _ _ stop = suffix_cut first at _ (_ ∷ []) s refl (refl, stop) ∙ moved _ _ _ s (omega arith)
 
   -- what a string comes to, by its data and what comes after them
   string_reads : (raw text rest : List ℕ) → Data raw text rest → length text ≤ 255
@@ -175,12 +160,10 @@ module _ (first : Bool) (at : ℕ) where
       ∙ ap (λ r. onto at (string_at r) (tokens_from (at + 1) quotes (raw ++ rest)))
       (reads_data at _ 0 raw text rest data' (omega arith) ∙ ap (λ n. with_front text (reading at (at + 1 + length raw) n false rest)) none)
 
-  pub spells_is : (run s : List ℕ) (k : Kind) → SpellsToken run s k
-      → outer first at (run ++ s)
-      ≡ placed at k ∷ tokens_from (at + length run) outside s
+  spells_is : (run s : List ℕ) (k : Kind) → SpellsToken run s k → outer first at (run ++ s) ≡ placed at k ∷ tokens_from (at + length run) outside s
   spells_is _ _ _ (lexes.symbol b run s e long fits) =
       let same : at + 1 + length run ≡ at + length (b ∷ run) = omega arith in
-      symbol_cut first at b run s e long.0 long.1
+      symbol_cut first at b run s e long
       ∙ ap (λ f. onto at f (tokens_from (at + 1 + length run) outside s)) (symbol_fits at _ fits) ∙ moved _ _ _ s same
   spells_is _ _ _ (lexes.string raw text s data' fits) =
       let same : at + 1 + length raw + 1 ≡ at + length (34 ∷ (raw ++ 34 ∷ [])) = omega (arith, length-append raw (34 ∷ [])) in
@@ -190,7 +173,7 @@ module _ (first : Bool) (at : ℕ) where
       ∙ ap (λ ts. placed at (str text) ∷ ts) (quotes_skip _ raw text _ s data' refl ∙ ap (λ n. tokens_from n outside s) same)
   spells_is _ _ _ (lexes.glyph d ds s e long fits) =
       let same : at + 1 + length (d ∷ ds) ≡ at + length (36 ∷ d ∷ ds) = omega arith in
-      glyph_cut first at (d ∷ ds) s (both_true e long.0) long.1
+      glyph_cut first at (d ∷ ds) s (both_true e long.0, long.1)
       ∙ ap (λ f. onto at f (tokens_from (at + 1 + length (d ∷ ds)) outside s)) (number_fits at _ fits) ∙ moved _ _ _ s same
   spells_is _ _ _ (lexes.suffix run s n is stop) = suffix_is run s n is stop
   spells_is _ _ _ (lexes.single b s k is) = grind (arith, single_is b s k is, moved)
@@ -201,9 +184,7 @@ module _ (first : Bool) (at : ℕ) where
   here : (n : ℕ) (r : LexReason) → at ≡ n → refused_at r at ≡ refused_at r n
   here n r e = ap (refused_at r) e
 
-  -- and what is rejected
-  pub refuses_is : (s : List ℕ) (n : ℕ) (r : LexReason) → Refuses s n r
-      → outer first at s ≡ placed (at + n) (refused r) ∷ []
+  refuses_is : (s : List ℕ) (n : ℕ) (r : LexReason) → Refuses s n r → outer first at s ≡ placed (at + n) (refused r) ∷ []
   refuses_is _ _ _ (lexes.stray b s e) = grind (arith, from_class, stray_class, here)
   refuses_is _ _ _ (lexes.control_byte b s e) = grind (arith, from_class, control_class, here)
   refuses_is _ _ _ (lexes.reserved b s e) = grind (arith, from_class, reserved_class, here)
@@ -221,20 +202,20 @@ module _ (first : Bool) (at : ℕ) where
       grind (arith, string_reads raw text s data' fits, reads_open at (at + 1 + length raw) (length text) s stop, here)
   refuses_is _ _ _ (lexes.lone_dollar s stop) = grind (arith, glyph_cut, here)
   refuses_is _ _ _ (lexes.large_glyph d ds s e long over) =
-      grind (arith, glyph_cut first at (d ∷ ds) s (both_true e long.0) long.1, number_long, here)
+      grind (arith, glyph_cut first at (d ∷ ds) s (both_true e long.0, long.1), number_long, here)
   refuses_is _ _ _ (lexes.bad_suffix run s long many) = bad_run run s long many
     where
       bad_run : (run s : List ℕ) → IsRun is_suffix run s → 2 < length run
           → outer first at (run ++ s) ≡ placed (at + 0) (refused BadSuffix) ∷ []
       bad_run (a ∷ b ∷ c ∷ run) s long many =
           let all = and_parts (is_suffix a) (list_all is_suffix (b ∷ c ∷ run)) long.0 in
-          suffix_cut first at a (b ∷ c ∷ run) s all.0 all.1 long.1 ∙ here _ _ (omega arith)
+          suffix_cut first at a (b ∷ c ∷ run) s all.0 (all.1, long.1) ∙ here _ _ (omega arith)
       bad_run _ s long many = absurd (omega arith)
 
 -- the tokens of a cut are those of the text
 pub cuts_is : (w : Where) (at : ℕ) (s : List ℕ) (ts : List Token) → Cuts w at s ts → ts ≡ tokens_from at (within_of w) s
 cuts_is _ _ _ _ (lexes.space first at b s ts e more) = cuts_is _ _ _ _ more ∙ sym (space_skips first at b s e)
-cuts_is _ _ _ _ (lexes.escape_line at run s ts long more) = cuts_is _ _ _ _ more ∙ sym (escape_line_cut at run s long.0 long.1)
+cuts_is _ _ _ _ (lexes.escape_line at run s ts long more) = cuts_is _ _ _ _ more ∙ sym (escape_line_cut at run s long)
 cuts_is _ _ _ _ (lexes.token first at run s k ts spelled more) = rw (cuts_is _ _ _ _ more) (sym (spells_is first at run s k spelled))
 cuts_is _ _ _ _ (lexes.refuses first at n s r bad) = sym (refuses_is first at s n r bad)
 cuts_is _ _ _ _ (lexes.opens_brace first at s ts more) = rw (cuts_is _ _ _ _ more) (sym (from_class first at 123 s _ refl (λ e. cc)))

@@ -19,7 +19,6 @@ module _ (quote slash line_end barred : Bool) where
   says_of : Says by_tests
   says_of = grind arith
 
-  -- a plain byte
   plain_of : (line_end ≡ true → barred ≡ true) → Says StringClass.Plain → by_tests ≡ StringClass.Plain
   plain_of h1 h2 = grind arith
 
@@ -32,11 +31,11 @@ string_says b = says_of _ _ _ _
 line_end_barred : (b : ℕ) → is_line_end b ≡ true → is_barred b ≡ true
 line_end_barred b e = grind arith
 
-pub plain_class : (b : ℕ) → is_plain b ≡ true → string_class b ≡ StringClass.Plain
+plain_class : (b : ℕ) → is_plain b ≡ true → string_class b ≡ StringClass.Plain
 plain_class b e = plain_of _ _ _ _ (line_end_barred b) e
 
 -- the byte is no quote and no backslash
-abbrev pub IsOther : StringClass → Type 0
+abbrev IsOther : StringClass → Type 0
 IsOther StringClass.Quote = ⊥
 IsOther StringClass.Backslash = ⊥
 IsOther _ = Unit {0}
@@ -107,16 +106,13 @@ quotes_skip at _ _ _ s (lone raw text rest stop data') e =
     let same : at + 1 + length raw + 1 ≡ at + length (92 ∷ raw) + 1 = omega arith in
     behind_lone at raw s (rw e at stop) ∙ quotes_skip (at + 1) raw text rest s data' e ∙ ap (λ n. tokens_from n outside s) same
 
--- after 255 data
 pub reads_long : (start at n b : ℕ) (s : List ℕ) → 255 ≤ n → (is_plain b || (b == 92)) ≡ true
     → reading start at n false (b ∷ s) ≡ broken start StringTooLong
 reads_long start at n b s full e = grind arith
 
--- a byte that no string has
 pub reads_control : (start at n b : ℕ) (s : List ℕ) → is_barred b ≡ true → is_line_end b ≡ false
     → reading start at n false (b ∷ s) ≡ broken at ControlByte
 reads_control start at n b s bad other = grind arith
 
--- the end of the line or of the text
 pub reads_open : (start at n : ℕ) (s : List ℕ) → IsAtLineEnd s → reading start at n false s ≡ broken start UnclosedString
 reads_open start at n s h1 = grind arith

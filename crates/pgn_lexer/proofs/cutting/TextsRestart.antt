@@ -79,7 +79,6 @@ begins_goes_on : (at : ℕ) (within : Within) (b : ℕ) (bs : List ℕ)
     → FoundGoesOn at b bs (begins at within b bs) (tokens_from (at + 1) (next within b) bs)
 begins_goes_on at within b bs = grind (arith, first_goes_on, class_goes_on, run_goes_on, brace_goes_on, line_goes_on)
 
--- a byte before the text
 one_before : (at b : ℕ) (bs : List ℕ) (ts : List Token) → AllGoOn (at + 1) bs ts → AllGoOn at (b ∷ bs) ts
 one_before at b bs [] all = tt
 one_before at b bs (t ∷ ts) all = (here, one_before at b bs ts all.1)
@@ -111,8 +110,7 @@ behind_spaces : (n at : ℕ) (s : List ℕ) → tokens_from at outside (replicat
 behind_spaces zero at s = grind arith
 behind_spaces (suc n) at s = grind (arith, behind_spaces n)
 
--- what the place behind white space is inside of
-abbrev pub column_or_outside : Bool → Within
+abbrev column_or_outside : Bool → Within
 column_or_outside true = column
 column_or_outside false = outside
 
@@ -120,7 +118,7 @@ last_white_space : (at : ℕ) (first : Bool) (s : List ℕ)
     → tokens_from at outside ((if first then 10 else 32) ∷ s) ≡ tokens_from (at + 1) (column_or_outside first) s
 last_white_space at first s = grind arith
 
-pub behind_white_space : (n : ℕ) (first : Bool) (s : List ℕ)
+behind_white_space : (n : ℕ) (first : Bool) (s : List ℕ)
     → tokens_of (white_space (suc n) first ++ s) ≡ tokens_from (suc n) (column_or_outside first) s
 behind_white_space zero first s = grind arith
 behind_white_space (suc n) first s =

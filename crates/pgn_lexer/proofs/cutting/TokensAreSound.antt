@@ -3,7 +3,6 @@ use Rattle.pgn_lexer.proofs.Words.{◌≡◌, ℕ, ◌≤◌, Bool, true, false,
 use Rattle.pgn_lexer.specs.Lexes as lexes
 use Rattle.pgn_lexer.proofs.cutting.EachTextIsCut.{lexes_once}
 
--- a byte that starts a symbol continues one
 pub start_continues : (b : ℕ) → starts_symbol b ≡ true → continues_symbol b ≡ true
 start_continues b e = grind arith
 
@@ -23,14 +22,12 @@ data_pass _ _ _ (lexes.escaped b raw text s e more) =
     both_true (escaped_passes b e) (data_pass raw text s more)
 data_pass _ _ _ (lexes.lone raw text s stop more) = both_true refl (data_pass raw text s more)
 
--- the glyph of a suffix is at most 6
 suffix_small : (run : List ℕ) (n : ℕ) → IsSuffix run n → n ≤ 255
 suffix_small run n h1 = grind arith
 
 single_sound : (b : ℕ) (k : Kind) → IsSingle b k → IsSoundKind k
 single_sound b k h1 = grind arith
 
--- the text of a token outside comments
 spelled_sound : (run s : List ℕ) (k : Kind) → SpellsToken run s k → IsSoundKind k
 spelled_sound _ _ _ (lexes.symbol b run s e long fits) = grind (arith, start_continues)
 spelled_sound _ _ _ (lexes.string raw text s written fits) = grind (arith, data_pass)
@@ -46,7 +43,6 @@ abbrev is_inside : Where → Bool
 is_inside (lexes.outside first) = false
 is_inside (lexes.comment braces) = true
 
--- sound tokens from a place on
 record SoundFrom (inside : Bool) (ts : List Token) : Type 0 where
   texts : AllByRecursion (λ t. IsSoundKind t.kind) ts
   comments : CommentsClose inside (map (λ t. t.kind) ts)

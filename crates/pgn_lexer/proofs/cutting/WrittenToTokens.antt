@@ -5,7 +5,6 @@ use Rattle.pgn_lexer.specs.Written.{escaped}
 use Rattle.pgn_lexer.proofs.cutting.EachTextIsCut.{lexes_once}
 use Rattle.pgn_lexer.proofs.bytes.DecimalsAreSymbols.{IsNumber, number_written}
 
--- data with their escapes
 plain_from : (x y : Bool) → not x ≡ true → y ≡ false → not (x || y) ≡ true
 plain_from x y h1 h2 = grind arith
 
@@ -20,7 +19,6 @@ escaped_data (b ∷ bs) s all = cases _ refl (escaped_data bs s (and_parts _ _ a
     cases false e more =
         lexes.plain b _ bs s (plain_from (is_barred b) (is_escaped b) (and_parts _ _ all).0 e) more
 
--- tokens outside comments
 spelled_symbol : (text s : List ℕ) → IsSymbol text → StopsAt continues_symbol s
     → SpellsToken text s (Kind.symbol text)
 spelled_symbol [] s h stop = cc h.begins
@@ -56,7 +54,6 @@ spelled (Kind.str text) s out h end =
 spelled (Kind.glyph n) s out h end = grind (arith, spelled_glyph, number_written)
 spelled _ s out h end = absurd (omega arith)
 
--- a word inside a comment
 word_cut : (at : ℕ) (text s : List ℕ) (ts : List Token) → IsWord text → StopsAt continues_word s
     → Cuts (lexes.comment true) (at + length text) s ts
     → Cuts (lexes.comment true) at (text ++ s) (record { at = at; kind = Kind.word text } ∷ ts)

@@ -1,5 +1,5 @@
 -- What two lists of tokens both begin with.
-use Rattle.pgn_lexer.proofs.Words.{◌≡◌, ℕ, Bool, true, false, List, [], ◌∷◌, ◌++◌, refl, sym, ap, ◌∙◌, eqb, eq-eqb, eqb-true, Option, None, Some, ◌&&◌, bytes_eq, LexReason, Kind, Token, symbol, str, glyph, word, refused, same_reason, same_kind, same_token, common, IsPrefix, arith}
+use Rattle.pgn_lexer.proofs.Words.{◌≡◌, ℕ, Bool, true, false, List, [], ◌∷◌, ◌++◌, refl, ap, eq-eqb, eqb-true, Option, None, Some, bytes_eq, LexReason, Kind, Token, symbol, str, glyph, word, refused, same_reason, same_kind, same_token, common, IsPrefix, arith, and_parts, ◌∙◌, eqb}
 use Rattle.std.proofs.lemmas.Slice.Eq.{bytes_eq-Decides}
 
 bytes_eq-true : (xs ys : List ℕ) → bytes_eq xs ys ≡ true → xs ≡ ys
@@ -26,12 +26,9 @@ same_token-refl : (t : Token) → same_token t t ≡ true
 same_token-refl t = grind (arith, eq-eqb, same_kind-refl)
 
 same_token-true : (s t : Token) → same_token s t ≡ true → s ≡ t
-same_token-true s t e = cases _ refl e
-  where
-    cases : (c : Bool) → eqb s.at t.at ≡ c → (c && same_kind s.kind t.kind) ≡ true → s ≡ t
-    cases true same e =
-        ap (λ n. record { at = n; kind = s.kind }) (eqb-true s.at t.at same) ∙ ap (λ k. record { at = t.at; kind = k }) (same_kind-true _ _ e)
-    cases false other e = cc
+same_token-true s t e =
+    let both = and_parts (eqb s.at t.at) _ e in
+    ap (λ n. record { at = n; kind = s.kind }) (eqb-true _ _ both.0) ∙ ap (λ k. record { at = t.at; kind = k }) (same_kind-true _ _ both.1)
 
 pub common-append : (ts xs ys : List Token) → common (ts ++ xs) (ts ++ ys) ≡ ts ++ common xs ys
 common-append [] xs ys = refl
@@ -41,7 +38,6 @@ pub common-refl : (ts : List Token) → common ts ts ≡ ts
 common-refl [] = refl
 common-refl (t ∷ ts) = grind (arith, same_token-refl, common-refl ts)
 
--- the first token
 abbrev pub head : List Token → Option Token
 head [] = None
 head (t ∷ ts) = Some t
@@ -50,14 +46,8 @@ head (t ∷ ts) = Some t
 pub common_heads : (xs ys : List Token) (t : Token) → head (common xs ys) ≡ Some t → (head xs ≡ Some t) × (head ys ≡ Some t)
 common_heads [] ys t e = cc
 common_heads (x ∷ xs) [] t e = cc
-common_heads (x ∷ xs) (y ∷ ys) t e = cases _ refl e
-  where
-    cases : (c : Bool) → same_token x y ≡ c → head (elim c [ true ↦ x ∷ common xs ys | false ↦ [] ]) ≡ Some t
-        → (Some x ≡ Some t) × (Some y ≡ Some t)
-    cases true same e = (e, ap Some (sym (same_token-true x y same)) ∙ e)
-    cases false other e = cc
+common_heads (x ∷ xs) (y ∷ ys) t e = grind (arith, same_token-true x y)
 
--- it is the front of the first of them
 pub common_front : (xs ys : List Token) → IsPrefix (common xs ys) xs
 common_front [] ys = ([], refl)
 common_front (x ∷ xs) [] = (x ∷ xs, refl)
@@ -67,7 +57,6 @@ common_front (x ∷ xs) (y ∷ ys) = cases (common_front xs ys) _
     cases front true = (front.0, ap (λ l. x ∷ l) front.1)
     cases front false = (x ∷ xs, refl)
 
--- a list with no first token is empty
 pub no_head : (ts : List Token) → ((t : Token) → head ts ≡ Some t → ⊥) → ts ≡ []
 no_head [] none = refl
 no_head (t ∷ ts) none = absurd (none t refl)

@@ -1,41 +1,25 @@
 -- The tokens given are those that are decided.
-use Rattle.pgn_lexer.proofs.Words.{◌≡◌, ℕ, ◌+◌, ◌*◌, ◌≤◌, Bool, List, [], ◌∷◌, ◌++◌, length, sym, ap, ◌∙◌, append-nil, arith, length-append, Option, None, Some, if◌then◌else◌, SymbolTooLong, WordTooLong, GlyphRange, Mode, Kind, Token, symbol, glyph, word, end, gives, stops, symbol_at, word_at, numbered_at, onto, tokens_of, common, decided, PartialToken, IsSound, HasNotFailed, tokens_to_come, tokens_to_come_in, common_steps}
+use Rattle.pgn_lexer.proofs.Words.{◌≡◌, ℕ, ◌+◌, ◌*◌, ◌≤◌, Bool, List, [], ◌∷◌, ◌++◌, length, sym, ap, ◌∙◌, append-nil, arith, length-append, Some, if◌then◌else◌, SymbolTooLong, WordTooLong, GlyphRange, Mode, Kind, Token, symbol, glyph, word, gives, stops, symbol_at, word_at, numbered_at, onto, tokens_of, common, decided, PartialToken, IsSound, HasNotFailed, tokens_to_come, tokens_to_come_in, common_steps, same_Some}
 use Rattle.pgn_lexer.proofs.deciding.CommonTokens.{common-append, common-refl, head, common_heads, no_head}
 use Rattle.pgn_lexer.proofs.stepping.ByteInSymbol.{symbol_fits}
 use Rattle.pgn_lexer.proofs.stepping.ByteInComment.{word_fits}
 
-kind_at : Option Token → Kind
-kind_at None = end
-kind_at (Some t) = t.kind
-
-place_at : Option Token → ℕ
-place_at None = 0
-place_at (Some t) = t.at
-
-text_in : Kind → List ℕ
-text_in (symbol text) = text
-text_in (word text) = text
-text_in _ = []
-
--- two tokens that are one are of one kind
 one_kind : (at at' : ℕ) (k k' : Kind) (t : Token) → Some (record { at = at; kind = k }) ≡ Some t
     → Some (record { at = at'; kind = k' }) ≡ Some t → k ≡ k'
-unfolding kind_at
-one_kind at at' k k' t e f = ap kind_at (e ∙ sym f)
+one_kind at at' k k' t e f = ap (λ (u : Token). u.kind) (same_Some _ _ (e ∙ sym f))
 
 one_place : (at at' : ℕ) (k k' : Kind) (t : Token) → Some (record { at = at; kind = k }) ≡ Some t
     → Some (record { at = at'; kind = k' }) ≡ Some t → at ≡ at'
-unfolding place_at
-one_place at at' k k' t e f = ap place_at (e ∙ sym f)
+one_place at at' k k' t e f = ap (λ (u : Token). u.at) (same_Some _ _ (e ∙ sym f))
 
--- a text is not the same with a byte more
+longer : (text : List ℕ) (b : ℕ) → text ≡ text ++ b ∷ [] → ⊥
+longer text b e = omega (arith, ap (length {A = ℕ}) e, length-append text (b ∷ []))
+
 symbol_apart : (text : List ℕ) (b : ℕ) → symbol text ≡ symbol (text ++ b ∷ []) → ⊥
-unfolding text_in
-symbol_apart text b e = grind (arith, common_steps, length-append)
+symbol_apart text b e = longer text b (cc)
 
 word_apart : (text : List ℕ) (b : ℕ) → word text ≡ word (text ++ b ∷ []) → ⊥
-unfolding text_in
-word_apart text b e = grind (arith, common_steps, length-append)
+word_apart text b e = longer text b (cc)
 
 -- what comes of a partial token with no byte more, and with 1 after it
 symbol_differs : (at : ℕ) (text : List ℕ) (is js : List Token) (t : Token) → length text ≤ 255 → (c : Bool)

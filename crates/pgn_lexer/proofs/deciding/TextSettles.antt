@@ -14,7 +14,6 @@ record Settles (tokens : List ℕ → List Token) : Type 0 where
 few : (m : Mode) → pending_in m ≤ 2
 few m = grind arith
 
--- one token more at the front
 after_token : (tokens rest : List ℕ → List Token) (t : Token) → ((s : List ℕ) → tokens s ≡ t ∷ rest s) → Settles rest
     → Settles tokens
 after_token tokens rest t same h =
@@ -47,7 +46,6 @@ settles (suc n) (b ∷ u) place h enough sound not_failed =
     by_step new Fault g on again =
         record { given = refusal (fault_met new) ∷ []; later = λ s. []; comes = λ s. g.comes (u ++ s); none = refl }
 
--- before the first byte
 abbrev at_start : PartialToken
 at_start = record { mode = Mode.Start; at = 0; text = [] }
 
@@ -60,8 +58,7 @@ decided_is_prefix u s =
     let all : decided u ≡ h.given = decided_is h.given u h.later h.comes ∙ ap (λ l. h.given ++ l) h.none ∙ append-nil _ in
     (h.later s, h.comes s ∙ ap (λ l. l ++ h.later s) (sym all))
 
--- the front of a front is one
-pub prefix_trans : (xs ys zs : List Token) → IsPrefix xs ys → IsPrefix ys zs → IsPrefix xs zs
+prefix_trans : (xs ys zs : List Token) → IsPrefix xs ys → IsPrefix ys zs → IsPrefix xs zs
 prefix_trans xs ys zs p q = grind (arith, append_assoc)
 
 take_while_front : (p : Token → Bool) (ts : List Token) → IsPrefix (take_while p ts) ts

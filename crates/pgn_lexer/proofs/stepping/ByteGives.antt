@@ -24,13 +24,12 @@ step_in Mode.AfterBackslash place at b text fits sound = grind (arith, escaped_g
 step_in Mode.Dollar place at b text fits sound = grind (arith, dollar_gives)
 step_in (Mode.Glyph n) place at b text fits sound = grind (arith, glyph_gives)
 step_in (Mode.Suffix run) place at b text fits sound = grind (arith, suffix_gives)
-step_in Mode.Brace place at b text fits sound = brace_gives place b (holds Mode.Brace at text) _ _ fits
+step_in Mode.Brace place at b text fits sound = brace_gives _ place b (holds Mode.Brace at text) _ _ fits
 step_in Mode.BraceWord place at b text fits sound = grind (arith, brace_word_gives)
-step_in Mode.Line place at b text fits sound = line_gives place b (holds Mode.Line at text) _ _ fits
+step_in Mode.Line place at b text fits sound = line_gives _ place b (holds Mode.Line at text) _ _ fits
 step_in Mode.LineWord place at b text fits sound = grind (arith, line_word_gives)
 step_in (Mode.Failed f) place at b text fits sound = grind arith
 
--- what a byte gives
 pub step_gives : (place : ℕ) (h : PartialToken) (b : ℕ) → IsSound place h → Gives (front_of place h b) (after_byte place h b)
 unfolding after_byte
 step_gives place h b sound = step_in _ place h.at b _ sound.room.0 sound
@@ -55,23 +54,22 @@ pub record ClosesEnd (place : ℕ) (h new : PartialToken) : Type 0 where
   pub same : new ≡ h
   pub comes : tokens_to_come place h [] ≡ record { at = place; kind = end } ∷ []
 
-abbrev pub CloseGives : ℕ → PartialToken → PartialToken → Reached → Type 0
+abbrev CloseGives : ℕ → PartialToken → PartialToken → Reached → Type 0
 CloseGives place h new Reached.End = ClosesEnd place h new
 CloseGives place h new (Reached.Token form) = ClosesToken place h form new
 CloseGives place h new Reached.Fault = ClosesFault place h new
 
-abbrev pub ClosedGives : ℕ → PartialToken → AfterByte → Type 0
+abbrev ClosedGives : ℕ → PartialToken → AfterByte → Type 0
 ClosedGives place h t = CloseGives place h t.held (reached_after t.step)
 
 close_in : (m : Mode) (place at : ℕ) (text : List ℕ) → length text ≤ 255 → IsSound place (holds m at text)
     → ClosedGives place (holds m at text) (after_end_in m place (holds m at text))
 close_in m place at text h1 h2 = grind (arith, common_steps, run_closes, symbol_fits, number_fits, small_suffix, spelled, word_fits)
 
-pub close_gives : (place : ℕ) (h : PartialToken) → IsSound place h → ClosedGives place h (after_end place h)
+close_gives : (place : ℕ) (h : PartialToken) → IsSound place h → ClosedGives place h (after_end place h)
 unfolding after_end
 close_gives place h sound = close_in _ place h.at _ sound.room.0 sound
 
--- what a call that met the end of the text gives
 pub closes_gives : (place : ℕ) (h new : PartialToken) (answer : Reached) → IsSound place h → IsAfterEnd (after_end place h) new answer
     → CloseGives place h new answer
 closes_gives place h new answer sound t = grind (arith, close_gives)

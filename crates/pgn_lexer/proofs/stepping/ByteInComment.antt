@@ -2,13 +2,12 @@
 use Rattle.pgn_lexer.proofs.Words.{◌≡◌, ℕ, ◌+◌, ◌<◌, ◌≤◌, Bool, true, false, List, [], ◌∷◌, length, refl, ap, ◌∙◌, arith, length-append, nat_lt, if◌then◌else◌, ltb-true, ltb-false, WordTooLong, CommentClass, continues_word, Token, word, comment_class, gives, stops, word_at, brace, line, begins_brace, begins_line, after_brace, after_line, onto, tokens_from, PartialToken, Mode, TokenForm, Step, common_steps}
 use Rattle.pgn_lexer.specs.ByteResult as byte_result
 use Rattle.pgn_lexer.proofs.stepping.RunOfBytes.{run_grows, run_breaks, run_ends, run_closes}
-use Rattle.pgn_lexer.proofs.stepping.StepGives.{Front, Gives, GivesIn}
+use Rattle.pgn_lexer.proofs.stepping.StepGives.{Gives, GivesIn, front_by}
 
-abbrev pub is_word_class : CommentClass → Bool
+abbrev is_word_class : CommentClass → Bool
 is_word_class CommentClass.WordByte = true
 is_word_class _ = false
 
--- the bytes of words are those of their class
 pub word_class : (b : ℕ) → continues_word b ≡ is_word_class (comment_class b)
 word_class b = grind arith
 
@@ -18,38 +17,21 @@ word_fits at run fits = grind arith
 pub word_long : (at : ℕ) (run : List ℕ) → 79 < length run → word_at at run ≡ stops at WordTooLong
 word_long at run long = grind arith
 
--- between the words of a comment in braces
-abbrev from_brace : ℕ → ℕ → List Token → ℕ → CommentClass → Front
-from_brace place b ended waits c =
-    record { place = place; byte = b; front = λ s. onto place (begins_brace place false c b s) (tokens_from (place + 1) (after_brace c) s); ended = ended; waits = waits }
-
-brace_class : (c : CommentClass) (place b : ℕ) (h : PartialToken) (ended : List Token) (waits : ℕ) → length h.text ≤ 255
-    → Gives (from_brace place b ended waits c) (byte_result.brace place h b c)
-brace_class c place b h ended waits h1 = grind arith
-
-pub brace_gives : (place b : ℕ) (h : PartialToken) (ended : List Token) (waits : ℕ) → length h.text ≤ 255
-    → Gives (record { place = place; byte = b; front = λ s. tokens_from place brace (b ∷ s); ended = ended; waits = waits }) (byte_result.brace place h b (comment_class b))
-brace_gives place b h ended waits fits = brace_class _ place b h ended waits fits
-
--- between those of a comment that goes to the end of its line
-abbrev from_line : ℕ → ℕ → List Token → ℕ → CommentClass → Front
-from_line place b ended waits c =
-    record { place = place; byte = b; front = λ s. onto place (begins_line place false c b s) (tokens_from (place + 1) (after_line c) s); ended = ended; waits = waits }
-
-line_class : (c : CommentClass) (place b : ℕ) (h : PartialToken) (ended : List Token) (waits : ℕ) → length h.text ≤ 255
-    → Gives (from_line place b ended waits c) (byte_result.line place h b c)
-line_class c place b h ended waits h1 = grind arith
-
-pub line_gives : (place b : ℕ) (h : PartialToken) (ended : List Token) (waits : ℕ) → length h.text ≤ 255
-    → Gives (record { place = place; byte = b; front = λ s. tokens_from place line (b ∷ s); ended = ended; waits = waits }) (byte_result.line place h b (comment_class b))
-line_gives place b h ended waits fits = line_class _ place b h ended waits fits
-
 -- the tokens from a byte of a class, where a word goes on, or not
-abbrev pub brace_tokens : ℕ → Bool → ℕ → List ℕ → CommentClass → List Token
+abbrev brace_tokens : ℕ → Bool → ℕ → List ℕ → CommentClass → List Token
 brace_tokens place goes b s c = onto place (begins_brace place goes c b s) (tokens_from (place + 1) (after_brace c) s)
 
-abbrev pub line_tokens : ℕ → Bool → ℕ → List ℕ → CommentClass → List Token
+abbrev line_tokens : ℕ → Bool → ℕ → List ℕ → CommentClass → List Token
 line_tokens place goes b s c = onto place (begins_line place goes c b s) (tokens_from (place + 1) (after_line c) s)
+
+-- between the words of a comment in braces, and between those of one that goes to the end of its line
+pub brace_gives : (c : CommentClass) (place b : ℕ) (h : PartialToken) (ended : List Token) (waits : ℕ) → length h.text ≤ 255
+    → Gives (front_by place b ended waits (λ s. brace_tokens place false b s c)) (byte_result.brace place h b c)
+brace_gives c place b h ended waits h1 = grind arith
+
+pub line_gives : (c : CommentClass) (place b : ℕ) (h : PartialToken) (ended : List Token) (waits : ℕ) → length h.text ≤ 255
+    → Gives (front_by place b ended waits (λ s. line_tokens place false b s c)) (byte_result.line place h b c)
+line_gives c place b h ended waits h1 = grind arith
 
 -- where no word goes on, it is the same as where none was
 pub brace_ends : (c : CommentClass) (place b : ℕ) (s : List ℕ) → is_word_class c ≡ false
@@ -61,7 +43,6 @@ pub line_ends : (c : CommentClass) (place b : ℕ) (s : List ℕ) → is_word_cl
 line_ends c place b s h1 = grind arith
 
 module _ (place at b : ℕ) (text : List ℕ) (some : 0 < length text) (fits : length text ≤ 79) (began : place ≡ at + length text) where
-  -- a letter more, in either comment
   brace_letter : comment_class b ≡ CommentClass.WordByte → continues_word b ≡ true → (d : Bool) → nat_lt (length text) 79 ≡ d
       → GivesIn Mode.BraceWord place at b text (λ h. if d then byte_result.grown h Mode.BraceWord b else byte_result.fails h h.at WordTooLong)
   brace_letter e w true room =
@@ -84,7 +65,6 @@ module _ (place at b : ℕ) (text : List ℕ) (some : 0 < length text) (fits : l
       }
   line_letter e w false full = grind (arith, common_steps, ltb-false, run_breaks, word_long, length-append)
 
-  -- a word ends before another byte
   brace_word_ends : is_word_class (comment_class b) ≡ false
       → GivesIn Mode.BraceWord place at b text (λ h. byte_result.into h Mode.Brace (Step.EndsBefore TokenForm.Word))
   brace_word_ends other =

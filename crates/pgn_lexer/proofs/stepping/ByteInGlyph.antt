@@ -5,7 +5,6 @@ use Rattle.pgn_lexer.specs.ByteResult as byte_result
 use Rattle.pgn_lexer.proofs.stepping.RunOfBytes.{take_while-true, glyph_goes, glyph_ends, suffix_goes, suffix_ends, run_grows, run_breaks, run_ends, run_closes}
 use Rattle.pgn_lexer.proofs.stepping.StepGives.{GivesIn}
 
--- more digits make no smaller number
 number_grows : (n : ℕ) (ds : List ℕ) → n ≤ number_from n ds
 number_grows n [] = omega arith
 number_grows n (d ∷ ds) = omega (arith, number_grows (10 * n + (d - 48)) ds)
@@ -16,7 +15,6 @@ number_fits at n fits = grind arith
 pub number_long : (at n : ℕ) → 255 < n → numbered_at at n ≡ stops at GlyphRange
 number_long at n long = grind arith
 
--- a digit is 48 to 57
 digit_small : (b : ℕ) → is_digit b ≡ true → b ≤ 57
 digit_small b e = grind arith
 
@@ -66,7 +64,6 @@ dollar_gives place at b text fits began true e =
     }
 dollar_gives place at b text fits began false e = grind arith
 
--- a second byte of a suffix
 second_good : (at b : ℕ) (run : List ℕ) (c : Bool) → (b == 33) ≡ c
     → suffix_at at (33 ∷ b ∷ run) ≡ suffix_at at (spelling (if c then SuffixRun.VeryGood else SuffixRun.Speculative) ++ run)
 second_good at b run c h1 = grind arith
@@ -76,7 +73,6 @@ second_poor : (at b : ℕ) (run : List ℕ) (c : Bool) → (b == 33) ≡ c
 second_poor at b run c h1 = grind arith
 
 module _ (place at b : ℕ) (text : List ℕ) (fits : length text ≤ 255) (began : at < place) where
-  -- a suffix that goes on
   more : (run next : SuffixRun) → is_suffix b ≡ true
       → ((rest : List ℕ) → suffix_at at (spelling run ++ b ∷ rest) ≡ suffix_at at (spelling next ++ rest))
       → GivesIn (Mode.Suffix run) place at b text (λ h. into h (Mode.Suffix next) Used)
@@ -103,12 +99,8 @@ module _ (place at b : ℕ) (text : List ℕ) (fits : length text ≤ 255) (bega
       → GivesIn (Mode.Suffix run) place at b text (λ h. byte_result.second_suffix h run b)
   goes_on SuffixRun.Good e = more SuffixRun.Good _ e (λ rest. second_good at b rest _ refl)
   goes_on SuffixRun.Poor e = more SuffixRun.Poor _ e (λ rest. second_poor at b rest _ refl)
-  goes_on SuffixRun.VeryGood e = too_many SuffixRun.VeryGood e (λ rest. refl)
-  goes_on SuffixRun.VeryPoor e = too_many SuffixRun.VeryPoor e (λ rest. refl)
-  goes_on SuffixRun.Speculative e = too_many SuffixRun.Speculative e (λ rest. refl)
-  goes_on SuffixRun.Questionable e = too_many SuffixRun.Questionable e (λ rest. refl)
+  goes_on run e = too_many run e (λ rest. refl)
 
-  -- what the run spells so far
   pub spelled : (run : SuffixRun) → suffix_at at (spelling run) ≡ gives (glyph (byte_result.glyph_of run))
   spelled run = grind arith
 

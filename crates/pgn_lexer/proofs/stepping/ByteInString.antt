@@ -4,7 +4,7 @@ use Rattle.pgn_lexer.specs.ByteResult as byte_result
 use Rattle.pgn_lexer.proofs.stepping.StepGives.{GivesIn}
 
 -- data read so far go in front, one by one
-pub with_front-datum : (text : List ℕ) (b : ℕ) (r : Reading) → with_front text (datum b r) ≡ with_front (text ++ b ∷ []) r
+with_front-datum : (text : List ℕ) (b : ℕ) (r : Reading) → with_front text (datum b r) ≡ with_front (text ++ b ∷ []) r
 with_front-datum text b r = grind (arith, append_assoc)
 
 -- what a byte of each class comes to
@@ -36,7 +36,6 @@ abbrev escaped_tokens : ℕ → ℕ → List ℕ → List ℕ → Reading → Li
 escaped_tokens place at text s r = onto at (string_at (with_front text r)) (tokens_from (place + 1) quotes s)
 
 module _ (place at b : ℕ) (text : List ℕ) (fits : length text ≤ 255) (began : at < place) where
-  -- where the class of the byte is known
   by_class : (c : StringClass) (s : List ℕ) → string_class b ≡ c
       → string_tokens place at text s (reading at place (length text) false (b ∷ s)) (string_class b)
       ≡ string_tokens place at text s (read_plain at place (length text) b s c) c
@@ -46,7 +45,6 @@ module _ (place at b : ℕ) (text : List ℕ) (fits : length text ≤ 255) (bega
       → GivesIn Mode.Str place at b text (λ h. if d then into h Mode.AfterBackslash Used else fails h h.at StringTooLong)
   plain_backslash d h1 h2 = grind arith
 
-  -- one datum more
   datum_comes : (s : List ℕ) → escaped_tokens place at text s (datum b (reading at (place + 1) (length text + 1) false s))
       ≡ escaped_tokens place at (text ++ b ∷ []) s (reading at (place + 1) (length (text ++ b ∷ [])) false s)
   datum_comes s = grind (arith, with_front-datum, length-append)

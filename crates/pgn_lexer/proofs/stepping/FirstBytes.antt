@@ -3,13 +3,10 @@ use Rattle.pgn_lexer.proofs.Words.{◌≡◌, ℕ, ◌≤◌, Bool, true, false,
 use Rattle.pgn_lexer.proofs.stepping.StepGives.{Front, StepGives, GivesIn}
 use Rattle.pgn_lexer.proofs.stepping.ByteOutside.{begin_line_gives}
 
--- a step gives the same of the same tokens
 same_front : (f : Front) (front : List ℕ → List Token) → ((s : List ℕ) → front s ≡ f.front s) → (new : PartialToken) (step : Step)
-    → StepGives f new step
-    → StepGives (record { place = f.place; byte = f.byte; front = front; ended = f.ended; waits = f.waits }) new step
+    → StepGives f new step → StepGives (record f { front = front }) new step
 same_front f front h1 new step h2 = grind arith
 
--- a text with no mark
 pub unmarked : (s : List ℕ) → has_mark s ≡ false → tokens_of s ≡ tokens_from 0 column s
 unmarked s e = grind arith
 

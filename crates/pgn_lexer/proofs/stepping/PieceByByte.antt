@@ -1,19 +1,16 @@
 -- A run over a piece, byte by byte.
-use Rattle.pgn_lexer.proofs.Words.{◌≡◌, ℕ, suc, ◌+◌, ◌*◌, ◌<◌, ◌≤◌, inl, inr, List, [], ◌∷◌, ◌++◌, length, get_or, take, drop, refl, sym, ap, ◌∙◌, append_assoc, add-one, arith, ◌⊎◌, true, false, if◌then◌else◌, Some, lt-ltb, take_all, take_more, drop-cons, LexFault, Mode, LexReason, StringTooLong, SymbolTooLong, WordTooLong, Class, CommentClass, StringClass, LineStart, Outside, Symbol, Str, Brace, BraceWord, Failed, continues_symbol, class, comment_class, string_class, TokenForm, Step, Used, Ends, EndsBefore, Fault, PartialToken, tokens_to_come, token_of, IsSound, HasNotFailed, pending, fault_met, fault_in_mode, begin, begin_line, string, fails, grown, if_room, into, after_byte, IsAfterByte, IsOutside, Ran, RunsOn, StoodAt, RunGives, RunsToToken, RunsToFault, used_after, reached_after, Reached, common_steps}
+use Rattle.pgn_lexer.proofs.Words.{◌≡◌, ℕ, suc, ◌+◌, ◌*◌, ◌<◌, ◌≤◌, inl, inr, List, [], ◌∷◌, ◌++◌, length, get_or, take, drop, refl, sym, ap, ◌∙◌, append_assoc, add-one, arith, ◌⊎◌, true, false, Some, lt-ltb, take_all, take_more, drop-cons, LexFault, Mode, LexReason, Class, CommentClass, StringClass, LineStart, Outside, Symbol, Str, Brace, BraceWord, Failed, continues_symbol, class, comment_class, string_class, TokenForm, Step, Used, Ends, EndsBefore, Fault, PartialToken, tokens_to_come, token_of, IsSound, HasNotFailed, pending, fault_met, fault_in_mode, begin, begin_line, string, fails, into, after_byte, IsAfterByte, IsOutside, Ran, RunsOn, StoodAt, RunGives, RunsToToken, RunsToFault, used_after, reached_after, Reached, common_steps}
 use Rattle.pgn_lexer.specs.ByteResult.{brace, word, symbol}
 use Rattle.pgn_lexer.proofs.stepping.StepGives.{StepGives, Uses, EndsIn, EndsAhead, Fails, front_of}
 use Rattle.pgn_lexer.proofs.stepping.ByteGives.{step_gives}
 
--- what a call that took a byte gives
-pub takes_gives : (place : ℕ) (h : PartialToken) (b : ℕ) (new : PartialToken) (answer : Step) → IsSound place h
+takes_gives : (place : ℕ) (h : PartialToken) (b : ℕ) (new : PartialToken) (answer : Step) → IsSound place h
     → IsAfterByte (after_byte place h b) new answer → StepGives (front_of place h b) new answer
 takes_gives place h b new answer sound t = grind (arith, front_of, step_gives)
 
--- a run that used nothing yet
 pub ran_none : (place : ℕ) (h : PartialToken) (piece : List ℕ) → IsSound place h → HasNotFailed h.mode → Ran place h piece h 0
 ran_none place h piece sound not_failed = grind arith
 
--- a run that used the whole piece
 pub ran_all : (place : ℕ) (piece : List ℕ) (i : ℕ) (h new : PartialToken) (used : ℕ) → used ≡ length piece
     → ((old : PartialToken) → Ran place old piece h i → Ran place old piece new used) → RunsOn place piece i h new used Reached.End
 ran_all place piece i h new used all goes old ran =
@@ -31,7 +28,6 @@ going_on : (m : Mode) (at : ℕ) (f : LexFault) → HasNotFailed m → fault_in_
 going_on m at f h1 h2 = grind arith
 
 module _ (place : ℕ) (old : PartialToken) (piece : List ℕ) (h : PartialToken) (i b : ℕ) (here : i < length piece) (at_b : get_or piece i 0 ≡ b) (ran : Ran place old piece h i) where
-  -- with the byte
   longer : (s : List ℕ) → tokens_to_come place old (take (i + 1) piece ++ s) ≡ tokens_to_come (place + i) h (b ∷ s)
   longer s = grind (arith, common_steps, take_more, append_assoc)
 
@@ -101,7 +97,7 @@ module _ (place : ℕ) (old : PartialToken) (piece : List ℕ) (h : PartialToken
         });
       }
 
-  pub ran_fails : (new : PartialToken) → IsAfterByte (after_byte (place + i) h b) new Fault
+  ran_fails : (new : PartialToken) → IsAfterByte (after_byte (place + i) h b) new Fault
       → RunsToFault place old piece (fault_met new) new (i + 1)
   ran_fails new t =
       let g : Fails (front_of (place + i) h b) new = takes_gives _ h b new Fault ran.sound t in
@@ -118,8 +114,7 @@ module _ (place : ℕ) (old : PartialToken) (piece : List ℕ) (h : PartialToken
       → RunGives place old piece new (used_after answer i) (reached_after answer)
   ran_stops answer new h1 h2 = grind (arith, ran_ends, ran_ends_before, ran_fails)
 
--- a byte in a symbol
-pub takes_symbol : (place b : ℕ) (h new : PartialToken) (answer : Step) → h.mode ≡ Symbol → IsAfterByte (symbol h b) new answer
+takes_symbol : (place b : ℕ) (h new : PartialToken) (answer : Step) → h.mode ≡ Symbol → IsAfterByte (symbol h b) new answer
     → IsAfterByte (after_byte place h b) new answer
 unfolding after_byte
 takes_symbol place b h new answer e t = grind arith
@@ -127,19 +122,12 @@ takes_symbol place b h new answer e t = grind arith
 pub takes_symbol_byte : (place b : ℕ) (h new : PartialToken) → h.mode ≡ Symbol → continues_symbol b ≡ true → length h.text < 255
     → new ≡ record { mode = h.mode; at = h.at; text = h.text ++ b ∷ [] }
     → IsAfterByte (after_byte place h b) new Used
-takes_symbol_byte place b h new e goes room grows =
-    takes_symbol place b h new Used e
-    (rw (ap (λ c. if c then if_room 255 SymbolTooLong h (grown h Symbol b) else into h Outside (EndsBefore TokenForm.Symbol)) goes
-    ∙ ap (λ d. if d then grown h Symbol b else fails h h.at SymbolTooLong) (lt-ltb _ _ room))
-    (record { held = grows ∙ ap (λ m. record { mode = m; at = h.at; text = h.text ++ b ∷ [] }) e; step = refl }))
+takes_symbol_byte place b h new e goes room grows = takes_symbol place b h new Used e (grind (arith, lt-ltb))
 
 pub takes_symbol_end : (place b : ℕ) (h new : PartialToken) → h.mode ≡ Symbol → continues_symbol b ≡ false
     → new ≡ record { mode = Outside; at = h.at; text = h.text }
     → IsAfterByte (after_byte place h b) new (EndsBefore TokenForm.Symbol)
-takes_symbol_end place b h new e ends is =
-    takes_symbol place b h new _ e
-    (rw (ap (λ c. if c then if_room 255 SymbolTooLong h (grown h Symbol b) else into h Outside (EndsBefore TokenForm.Symbol)) ends)
-    (record { held = is; step = refl }))
+takes_symbol_end place b h new e ends is = takes_symbol place b h new _ e (grind arith)
 
 pub takes_outside : (place b : ℕ) (h new : PartialToken) (answer : Step) (c : Class) → IsOutside h.mode → class b ≡ c
     → begin_line place h b c ≡ begin place h b c
@@ -157,7 +145,6 @@ in_mode m n not_failed e = rw e not_failed
 pub between_tokens : (m : Mode) → (m ≡ LineStart) ⊎ (m ≡ Outside) → HasNotFailed m
 between_tokens m h1 = grind arith
 
--- a byte in a string
 taken_string : (place b : ℕ) (h : PartialToken) (c : StringClass) → h.mode ≡ Str → string_class b ≡ c
     → after_byte place h b ≡ string false place h b c
 unfolding after_byte
@@ -166,15 +153,12 @@ taken_string place b h c e same = grind arith
 pub takes_plain : (place b : ℕ) (h new : PartialToken) → h.mode ≡ Str → string_class b ≡ StringClass.Plain → length h.text < 255
     → new ≡ record { mode = h.mode; at = h.at; text = h.text ++ b ∷ [] }
     → IsAfterByte (after_byte place h b) new Used
-takes_plain place b h new e same room grows =
-    rw (taken_string place b h _ e same ∙ ap (λ d. if d then grown h Str b else fails h h.at StringTooLong) (lt-ltb _ _ room))
-    (record { held = grows ∙ ap (λ m. record { mode = m; at = h.at; text = h.text ++ b ∷ [] }) e; step = refl })
+takes_plain place b h new e same room grows = rw (taken_string place b h _ e same) (grind (arith, lt-ltb))
 
 pub takes_quote : (place b : ℕ) (h new : PartialToken) → h.mode ≡ Str → string_class b ≡ StringClass.Quote
     → new ≡ record { mode = Outside; at = h.at; text = h.text }
     → IsAfterByte (after_byte place h b) new (Ends TokenForm.Str)
-takes_quote place b h new e same ends =
-    rw (taken_string place b h _ e same) (record { held = ends; step = refl })
+takes_quote place b h new e same ends = rw (taken_string place b h _ e same) (record { held = ends; step = refl })
 
 -- a byte between the words of a comment in braces
 pub takes_brace : (place b : ℕ) (h new : PartialToken) (answer : Step) (c : CommentClass) → h.mode ≡ Brace → comment_class b ≡ c
@@ -185,22 +169,16 @@ takes_brace place b h new answer c e same t = grind arith
 pub takes_gap : (place b : ℕ) (h new : PartialToken) (c : CommentClass) → h.mode ≡ Brace → comment_class b ≡ c
     → (c ≡ CommentClass.LineEnd) ⊎ (c ≡ CommentClass.Space)
     → new ≡ record { mode = Brace; at = place; text = h.text } → IsAfterByte (after_byte place h b) new Used
-takes_gap place b h new c e same (inl gap) goes =
-    takes_brace place b h new Used CommentClass.LineEnd e (same ∙ gap) (record { held = goes; step = refl })
-takes_gap place b h new c e same (inr gap) goes = takes_brace place b h new Used CommentClass.Space e (same ∙ gap) (record { held = goes; step = refl })
+takes_gap place b h new c e same gap goes = takes_brace place b h new Used c e same (grind arith)
 
--- and in a word of it
-pub takes_word : (place b : ℕ) (h new : PartialToken) (answer : Step) → h.mode ≡ BraceWord
+takes_word : (place b : ℕ) (h new : PartialToken) (answer : Step) → h.mode ≡ BraceWord
     → IsAfterByte (word Brace h b (comment_class b)) new answer → IsAfterByte (after_byte place h b) new answer
 unfolding after_byte
 takes_word place b h new answer e t = grind arith
 
 pub takes_word_byte : (place b : ℕ) (h new : PartialToken) → h.mode ≡ BraceWord → comment_class b ≡ CommentClass.WordByte → length h.text < 79
     → new ≡ record { mode = h.mode; at = h.at; text = h.text ++ b ∷ [] } → IsAfterByte (after_byte place h b) new Used
-takes_word_byte place b h new e goes room grows =
-    takes_word place b h new Used e
-    (rw (ap (word Brace h b) goes ∙ ap (λ d. if d then grown h h.mode b else fails h h.at WordTooLong) (lt-ltb _ _ room))
-    (record { held = grows; step = refl }))
+takes_word_byte place b h new e goes room grows = takes_word place b h new Used e (rw goes (grind (arith, lt-ltb)))
 
 word_ends : (m : Mode) (h : PartialToken) (b : ℕ) (c : CommentClass) → (c ≡ CommentClass.WordByte → ⊥)
     → word m h b c ≡ into h m (EndsBefore TokenForm.Word)
@@ -210,5 +188,4 @@ pub takes_word_end : (place b : ℕ) (h new : PartialToken) (c : CommentClass) �
     → (c ≡ CommentClass.WordByte → ⊥) → new ≡ record { mode = Brace; at = h.at; text = h.text }
     → IsAfterByte (after_byte place h b) new (EndsBefore TokenForm.Word)
 takes_word_end place b h new c e same other is =
-    takes_word place b h new _ e
-    (rw (ap (word Brace h b) same ∙ word_ends Brace h b c other) (record { held = is; step = refl }))
+    takes_word place b h new _ e (rw (same, word_ends Brace h b c other) (record { held = is; step = refl }))

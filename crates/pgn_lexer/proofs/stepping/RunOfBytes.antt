@@ -50,7 +50,6 @@ module _ (found : List ℕ → Found) (p : ℕ → Bool) (at b : ℕ) (text : Li
       → onto at (found (text ++ take_while p (b ∷ s))) old ≡ record { at = at; kind = k } ∷ new
   run_ends s old new k e given same = grind (arith, take_while-false, append-nil)
 
--- and at the end of the text
 pub run_closes : (found : List ℕ → Found) (at : ℕ) (text : List ℕ) (old : List Token) (k : Kind) → found text ≡ gives k
     → onto at (found (text ++ [])) old ≡ record { at = at; kind = k } ∷ old
 run_closes found at text old k given = grind (arith, append-nil)

@@ -10,7 +10,6 @@ follows_front : (b : Option ℕ) (piece s : List ℕ) (used : ℕ) → 0 < lengt
     → Follows b (take used piece ++ s)
 follows_front b piece s used h1 h2 h3 = grind arith
 
--- and of a whole one
 follows_piece : (b : Option ℕ) (piece s : List ℕ) → Follows b piece → Follows (still b piece) s → Follows b (piece ++ s)
 follows_piece b piece s h1 h2 = grind arith
 
@@ -24,23 +23,19 @@ follows_taken : (b : Option ℕ) (piece s : List ℕ) (used : ℕ) → 0 < lengt
     → Follows b (take used piece ++ s)
 follows_taken b piece s used h1 h2 h3 = grind arith
 
--- a piece, cut
 cut : (used : ℕ) (piece s : List ℕ) → piece ++ s ≡ take used piece ++ (drop used piece ++ s)
 cut used piece s = ap (λ l. l ++ s) (sym (take-append-drop used piece)) ∙ append_assoc _ _ s
 
--- no rejection was met
 no_fault_in_mode : (m : Mode) (at : ℕ) → HasNotFailed m → fault_in_mode m at ≡ None
 no_fault_in_mode m at h1 = grind arith
 
 pub not_failed_fault : (h : PartialToken) → HasNotFailed h.mode → fault_in_mode h.mode h.at ≡ None
 not_failed_fault h not_failed = no_fault_in_mode _ h.at not_failed
 
--- a mode is failed, or not
 failed_or_not : (m : Mode) (at : ℕ) → HasNotFailed m ⊎ ((f : LexFault) × (fault_in_mode m at ≡ Some f))
 failed_or_not (Mode.Failed reason) at = inr (record { at = at; reason = reason }, refl)
 failed_or_not _ at = inl tt
 
--- tokens before a place are before a later one
 before_more : (m n : ℕ) (ts : List Token) → m ≤ n → AllByRecursion (λ t. t.at < m) ts → AllByRecursion (λ t. t.at < n) ts
 before_more m n [] less all = tt
 before_more m n (t ∷ ts) less all = grind (arith, before_more m n ts)
@@ -100,7 +95,7 @@ module _ (count : ℕ) (old new : PartialToken) (piece : List ℕ) (used : ℕ) 
       same : length piece ≡ 0 → behind ≡ ahead
       same none = grind arith
 
-  pub scans_fault : (f : LexFault) → RunsToFault count old piece f new used → Scans ahead piece behind used (fault f)
+  scans_fault : (f : LexFault) → RunsToFault count old piece f new used → Scans ahead piece behind used (fault f)
   scans_fault f h =
       record {
         count = refl;
@@ -199,7 +194,7 @@ module _ (count : ℕ) (old new : PartialToken) (piece : List ℕ) (used : ℕ) 
             no_sooner_run _ e.runs e.stood,
           )
 
-    pub scans_token : Scans ahead piece behind used (token t)
+    scans_token : Scans ahead piece behind used (token t)
     scans_token =
         record {
           count = refl;

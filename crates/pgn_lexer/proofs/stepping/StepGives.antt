@@ -57,10 +57,12 @@ StepGives f new Fault = Fails f new
 abbrev pub Gives : Front → AfterByte → Type 0
 Gives f t = StepGives f t.held t.step
 
+abbrev pub front_by : (place b : ℕ) → List Token → ℕ → (List ℕ → List Token) → Front
+front_by place b ended waits front = record { place = place; byte = b; front = front; ended = ended; waits = waits }
+
 -- what comes from a byte, of a lexer that holds h
 abbrev pub front_of : ℕ → PartialToken → ℕ → Front
-front_of place h b =
-    record { place = place; byte = b; front = λ s. tokens_to_come place h (b ∷ s); ended = tokens_to_come place h []; waits = pending h }
+front_of place h b = front_by place b (tokens_to_come place h []) (pending h) (λ s. tokens_to_come place h (b ∷ s))
 
 abbrev pub holds : Mode → ℕ → List ℕ → PartialToken
 holds mode at text = record { mode = mode; at = at; text = text }
