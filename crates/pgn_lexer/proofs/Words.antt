@@ -6,8 +6,8 @@ pub use Rattle.std.proofs.lemmas.List.{drop-drop, drop_at, length-replicate, tak
 pub use Rattle.std.proofs.lemmas.List.Sums.{fold-append, take_while-cons}
 pub use Rattle.std.specs.Cmp.Derive.{both_true}
 pub use Rattle.std.specs.List.{AllByRecursion, list_all}
-pub use Rattle.std.specs.Prelude.{None, Option, Some, bytes_eq, codes, decimal, filter, if◌then◌else◌, map, nat_le, nat_lt, not, replicate, take_while, ◌&&◌, ◌==◌, ◌||◌, ◌⊎◌}
-pub use Rattle.pgn_lexer.specs.ByteResult.{AfterByte, IsAfterByte, IsAfterEnd, after_byte_in, after_end_in, begin, begin_line, fails, grown, if_room, into, string}
+pub use Rattle.std.specs.Prelude.{None, Option, Some, bytes_eq, codes, decimal, filter, if◌then◌else◌, map, nat_le, nat_lt, not, replicate, take_while, ◌==◌, ◌||◌, ◌⊎◌}
+pub use Rattle.pgn_lexer.specs.ByteResult.{AfterByte, IsAfterByte, IsAfterEnd, after_byte_in, after_end_in, begin, begin_line, fails, grown, into, string}
 unfoldable pub use Rattle.pgn_lexer.specs.ByteResult.{after_byte, after_end}
 pub use Rattle.pgn_lexer.specs.Bytes.{continues_symbol, continues_word, is_blank, is_control, is_digit, is_letter, is_line_end, is_space, is_suffix, starts_symbol}
 pub use Rattle.pgn_lexer.specs.Decided.{common, decided, known, same_kind, same_reason, same_token}

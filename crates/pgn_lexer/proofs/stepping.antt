@@ -6,7 +6,6 @@ pub mod ByteInString
 pub mod ByteInSymbol
 pub mod ByteOutside
 pub mod EndGives
-pub mod FirstBytes
 pub mod PieceByByte
 pub mod RunOfBytes
 pub mod StandsAfterCalls

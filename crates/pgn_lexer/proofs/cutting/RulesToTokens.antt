@@ -1,5 +1,5 @@
 -- How a text is cut, and its tokens.
-use Rattle.pgn_lexer.proofs.Words.{◌≡◌, ℕ, ◌+◌, ◌<◌, ◌≤◌, Bool, true, false, List, [], ◌∷◌, ◌++◌, length, refl, sym, ap, ◌∙◌, append-nil, append_assoc, arith, length-append, ◌||◌, not, take_while, list_all, false≢true, LexReason, ControlByte, BadSuffix, Class, CommentClass, is_line_end, is_space, is_control, is_digit, starts_symbol, continues_symbol, is_suffix, continues_word, Kind, Token, class, comment_class, symbol_at, word_at, glyph_at, suffix_at, Within, begins_class, begins_brace, begins_line, after_class, after_brace, after_line, onto, tokens_from, StopsAt, IsRun, IsSingle, IsSuffix, SpellsToken, Refuses, Where, Cuts, both_true, string_at, reading, with_front, Data, or_cases, and_parts, not-true, common_steps, outside, column, in_suffix, in_escape_line, line, quotes, begins_first, after_first, refused, comment_close, str, glyph}
+use Rattle.pgn_lexer.proofs.Words.{◌≡◌, ℕ, ◌+◌, ◌<◌, ◌≤◌, Bool, true, false, List, [], ◌∷◌, ◌++◌, length, refl, sym, ap, ◌∙◌, append-nil, append_assoc, arith, length-append, ◌||◌, not, take_while, list_all, false≢true, LexReason, ControlByte, BadSuffix, Class, CommentClass, is_line_end, is_space, is_control, is_digit, starts_symbol, continues_symbol, is_suffix, continues_word, Kind, Token, class, comment_class, symbol_at, word_at, glyph_at, suffix_at, Within, begins_class, begins_brace, begins_line, after_class, after_brace, after_line, onto, tokens_from, StopsAt, IsRun, IsSingle, IsSuffix, SpellsToken, Refuses, Where, Cuts, both_true, string_at, reading, with_front, Data, or_cases, and_parts, not-true, common_steps, outside, column, in_suffix, in_escape_line, line, quotes, begins_first, after_first, refused, comment_close, str, glyph, number_of}
 use Rattle.pgn_lexer.specs.Lexes as lexes
 use Rattle.pgn_lexer.proofs.stepping.RunOfBytes.{take_while-true, take_while-false, suffix_goes}
 use Rattle.pgn_lexer.proofs.bytes.ClassToTest.{stray_class, line_end_class, blank_class, line_end_comment, blank_comment, suffix_class, reserved_class, control_class, control_comment}
@@ -36,8 +36,7 @@ module _ (within out : Within) (p : ℕ → Bool) (goes : (at b : ℕ) (s : List
   skips at [] s long = let same : at ≡ at + 0 = omega arith in ends at s long.1 ∙ ap (λ n. tokens_from n out s) same
   skips at (b ∷ run) s long =
       let same : at + 1 + length run ≡ at + length (b ∷ run) = omega arith in
-      let all = and_parts (p b) _ long.0 in
-      goes at b (run ++ s) all.0 ∙ skips (at + 1) run s (all.1, long.1) ∙ ap (λ n. tokens_from n out s) same
+      let all = and_parts (p b) _ long.0 in goes at b (run ++ s) all.0 ∙ rw (skips (at + 1) run s (all.1, long.1), same)
 
 suffix_stops : (at : ℕ) (s : List ℕ) → StopsAt is_suffix s → tokens_from at in_suffix s ≡ tokens_from at outside s
 suffix_stops at s h1 = grind arith
@@ -70,8 +69,7 @@ suffix_cut : (first : Bool) (at b : ℕ) (run s : List ℕ) → is_suffix b ≡ 
     → outer first at (b ∷ (run ++ s)) ≡ onto at (suffix_at at (b ∷ run)) (tokens_from (at + 1 + length run) outside s)
 suffix_cut first at b run s e long =
     from_class first at b _ Class.Suffix (suffix_class b e) (λ e. cc)
-    ∙ ap (λ r. onto at (suffix_at at (b ∷ r)) (tokens_from (at + 1) in_suffix (run ++ s))) (take_run _ run s long)
-    ∙ ap (onto at (suffix_at at (b ∷ run))) (skips in_suffix outside _ suffix_goes suffix_stops (at + 1) run s long)
+    ∙ rw (take_run _ run s long, skips in_suffix outside _ suffix_goes suffix_stops (at + 1) run s long)
 
 escape_line_goes : (at b : ℕ) (s : List ℕ) → not (is_line_end b) ≡ true
     → tokens_from at in_escape_line (b ∷ s) ≡ tokens_from (at + 1) in_escape_line s
@@ -116,8 +114,7 @@ pub word_cut : (braces : Bool) (at b : ℕ) (run s : List ℕ) → continues_wor
     → inner braces at (b ∷ (run ++ s)) ≡ onto at (word_at at (b ∷ run)) (inner braces (at + 1 + length run) s)
 word_cut braces at b run s e long =
     letter_first braces at b _ e
-    ∙ ap (λ r. onto at (word_at at (b ∷ r)) (tokens_from (at + 1) (word_within braces) (run ++ s))) (take_run _ run s long)
-    ∙ ap (onto at (word_at at (b ∷ run))) (skips (word_within braces) (within_of (lexes.comment braces)) _ (word_goes braces) (word_stops braces) (at + 1) run s long)
+    ∙ rw (take_run _ run s long, skips (word_within braces) (within_of (lexes.comment braces)) _ (word_goes braces) (word_stops braces) (at + 1) run s long)
 
 blank_in_comment : (braces : Bool) (at b : ℕ) (s : List ℕ) → is_space b ≡ true → (braces || not (is_line_end b)) ≡ true
     → inner braces at (b ∷ s) ≡ inner braces (at + 1) s
@@ -156,15 +153,11 @@ module _ (first : Bool) (at : ℕ) where
       ≡ onto at (string_at (with_front text (reading at (at + 1 + length raw) (length text) false rest))) (tokens_from (at + 1) quotes (raw ++ rest))
   string_reads raw text rest data' fits =
       let none : 0 + length text ≡ length text = omega arith in
-      from_class first at 34 _ _ refl (λ e. cc)
-      ∙ ap (λ r. onto at (string_at r) (tokens_from (at + 1) quotes (raw ++ rest)))
-      (reads_data at _ 0 raw text rest data' (omega arith) ∙ ap (λ n. with_front text (reading at (at + 1 + length raw) n false rest)) none)
+      from_class first at 34 _ _ refl (λ e. cc) ∙ rw (reads_data at (at + 1) 0 raw text rest data' (omega arith), none)
 
   spells_is : (run s : List ℕ) (k : Kind) → SpellsToken run s k → outer first at (run ++ s) ≡ placed at k ∷ tokens_from (at + length run) outside s
   spells_is _ _ _ (lexes.symbol b run s e long fits) =
-      let same : at + 1 + length run ≡ at + length (b ∷ run) = omega arith in
-      symbol_cut first at b run s e long
-      ∙ ap (λ f. onto at f (tokens_from (at + 1 + length run) outside s)) (symbol_fits at _ fits) ∙ moved _ _ _ s same
+      symbol_cut first at b run s e long ∙ rw (symbol_fits at (b ∷ run) fits) (moved _ _ _ s (omega arith))
   spells_is _ _ _ (lexes.string raw text s data' fits) =
       let same : at + 1 + length raw + 1 ≡ at + length (34 ∷ (raw ++ 34 ∷ [])) = omega (arith, length-append raw (34 ∷ [])) in
       ap (λ l. outer first at (34 ∷ l)) (append_assoc raw (34 ∷ []) s)
@@ -172,9 +165,7 @@ module _ (first : Bool) (at : ℕ) where
       ∙ ap (λ t. placed at (str t) ∷ tokens_from (at + 1) quotes (raw ++ 34 ∷ s)) (append-nil text)
       ∙ ap (λ ts. placed at (str text) ∷ ts) (quotes_skip _ raw text _ s data' refl ∙ ap (λ n. tokens_from n outside s) same)
   spells_is _ _ _ (lexes.glyph d ds s e long fits) =
-      let same : at + 1 + length (d ∷ ds) ≡ at + length (36 ∷ d ∷ ds) = omega arith in
-      glyph_cut first at (d ∷ ds) s (both_true e long.0, long.1)
-      ∙ ap (λ f. onto at f (tokens_from (at + 1 + length (d ∷ ds)) outside s)) (number_fits at _ fits) ∙ moved _ _ _ s same
+      glyph_cut first at (d ∷ ds) s (both_true e long.0, long.1) ∙ rw (number_fits at (number_of (d ∷ ds)) fits) (moved _ _ _ s (omega arith))
   spells_is _ _ _ (lexes.suffix run s n is stop) = suffix_is run s n is stop
   spells_is _ _ _ (lexes.single b s k is) = grind (arith, single_is b s k is, moved)
 
@@ -192,12 +183,8 @@ module _ (first : Bool) (at : ℕ) where
   refuses_is _ _ _ (lexes.long_string b raw text s data' full more) =
       grind (arith, string_reads raw text (b ∷ s) data' (omega arith), reads_long at (at + 1 + length raw) (length text) b s (omega arith) more, here)
   refuses_is _ _ _ (lexes.control_in_string b raw text s data' fits bad other) =
-      string_reads raw text (b ∷ s) data' fits
-      ∙ ap (λ r. onto at (string_at (with_front text r)) (tokens_from (at + 1) quotes (raw ++ b ∷ s))) (reads_control at (at + 1 + length raw) (length text) b s bad other)
-      ∙ ap (λ n. placed n (refused ControlByte) ∷ []) (further raw)
-    where
-      further : (raw : List ℕ) → at + 1 + length raw ≡ at + (1 + length raw)
-      further raw = omega arith
+      let further : at + 1 + length raw ≡ at + (1 + length raw) = omega arith in
+      string_reads raw text (b ∷ s) data' fits ∙ rw (reads_control at (at + 1 + length raw) (length text) b s bad other, further)
   refuses_is _ _ _ (lexes.open_string raw text s data' fits stop) =
       grind (arith, string_reads raw text s data' fits, reads_open at (at + 1 + length raw) (length text) s stop, here)
   refuses_is _ _ _ (lexes.lone_dollar s stop) = grind (arith, glyph_cut, here)

@@ -1,6 +1,6 @@
 -- The data of a string, as they are written.
-use Rattle.pgn_lexer.proofs.Words.{◌≡◌, ℕ, ◌+◌, ◌<◌, ◌≤◌, Bool, true, false, List, ◌∷◌, ◌++◌, length, sym, ap, ◌∙◌, arith, ◌||◌, not, ◌==◌, if◌then◌else◌, lt-ltb, ControlByte, StringTooLong, UnclosedString, StringClass, is_line_end, string_class, Reading, broken, datum, reading, tokens_from, with_front, StopsAt, IsAtLineEnd, is_escaped, is_barred, is_plain, Data, no_data, plain, escaped, lone, outside, quotes}
 use Rattle.pgn_lexer.proofs.stepping.ByteInString.{read_plain}
+use Rattle.pgn_lexer.proofs.Words.{◌≡◌, ℕ, ◌+◌, ◌<◌, ◌≤◌, Bool, true, false, List, ◌∷◌, ◌++◌, length, ◌∙◌, arith, ◌||◌, not, ◌==◌, if◌then◌else◌, lt-ltb, ControlByte, StringTooLong, UnclosedString, StringClass, is_line_end, string_class, Reading, broken, datum, reading, tokens_from, with_front, StopsAt, IsAtLineEnd, is_escaped, is_barred, is_plain, Data, no_data, plain, escaped, lone, outside, quotes, ap}
 
 -- what the class of a byte in a string says
 module _ (quote slash line_end barred : Bool) where
@@ -58,29 +58,19 @@ pub reads_data : (start at n : ℕ) (raw text s : List ℕ) → Data raw text s 
     → reading start at n false (raw ++ s) ≡ with_front text (reading start (at + length raw) (n + length text) false s)
 reads_data start at n _ _ _ (no_data s) fits = grind arith
 reads_data start at n _ _ _ (plain b raw text s e data') fits =
-    let room : n < 255 = omega arith in
     let here : at + 1 + length raw ≡ at + length (b ∷ raw) = omega arith in
     let many : n + 1 + length text ≡ n + length (b ∷ text) = omega arith in
     ap (read_plain start at n b (raw ++ s)) (plain_class b e)
-    ∙ ap (λ d. elim d [ true ↦ datum b (reading start (at + 1) (n + 1) false (raw ++ s)) | false ↦ broken start StringTooLong ]) (lt-ltb n 255 room)
-    ∙ ap (datum b) (reads_data start (at + 1) (n + 1) raw text s data' (omega arith) ∙ ap (λ a. with_front text (reading start a (n + 1 + length text) false s)) here ∙ ap (λ m. with_front text (reading start (at + length (b ∷ raw)) m false s)) many)
-    ∙ sym (with_front-cons b text _)
+    ∙ rw (lt-ltb n 255 (omega arith), read_plain, reads_data start (at + 1) (n + 1) raw text s data' (omega arith), with_front-cons, here, many)
 reads_data start at n _ _ _ (escaped b raw text s e data') fits =
-    let room : n < 255 = omega arith in
     let here : at + 1 + 1 + length raw ≡ at + length (92 ∷ b ∷ raw) = omega arith in
     let many : n + 1 + length text ≡ n + length (b ∷ text) = omega arith in
-    ap (λ d. elim d [ true ↦ reading start (at + 1) n true (b ∷ (raw ++ s)) | false ↦ broken start StringTooLong ]) (lt-ltb n 255 room)
-    ∙ escaped_reads start (at + 1) n b (raw ++ s) e
-    ∙ ap (datum b) (reads_data start _ _ raw text s data' (omega arith) ∙ ap (λ a. with_front text (reading start a (n + 1 + length text) false s)) here ∙ ap (λ m. with_front text (reading start (at + length (92 ∷ b ∷ raw)) m false s)) many)
-    ∙ sym (with_front-cons b text _)
+    rw (lt-ltb n 255 (omega arith), reading, escaped_reads start (at + 1) n b (raw ++ s) e, reads_data start (at + 1 + 1) (n + 1) raw text s data' (omega arith), with_front-cons, here, many)
 reads_data start at n _ _ _ (lone raw text s stop data') fits =
     let room : n < 255 = omega arith in
     let here : at + 1 + length raw ≡ at + length (92 ∷ raw) = omega arith in
     let many : n + 1 + length text ≡ n + length (92 ∷ text) = omega arith in
-    ap (λ d. elim d [ true ↦ reading start (at + 1) n true (raw ++ s) | false ↦ broken start StringTooLong ]) (lt-ltb n 255 room)
-    ∙ lone_same start _ n _ room stop
-    ∙ ap (datum 92) (reads_data start _ _ raw text s data' (omega arith) ∙ ap (λ a. with_front text (reading start a (n + 1 + length text) false s)) here ∙ ap (λ m. with_front text (reading start (at + length (92 ∷ raw)) m false s)) many)
-    ∙ sym (with_front-cons 92 text _)
+    rw (lt-ltb n 255 room, reading, lone_same start (at + 1) n (raw ++ s) room stop, reads_data start (at + 1) (n + 1) raw text s data' (omega arith), with_front-cons, here, many)
 
 -- the places within the quotes give nothing
 quotes_go : (at b : ℕ) (s : List ℕ) → IsOther (string_class b)
@@ -97,14 +87,13 @@ pub quotes_skip : (at : ℕ) (raw text rest s : List ℕ) → Data raw text rest
 quotes_skip at _ _ _ s (no_data _) e = grind arith
 quotes_skip at _ _ _ s (plain b raw text rest p data') e =
     let same : at + 1 + length raw + 1 ≡ at + length (b ∷ raw) + 1 = omega arith in
-    let other : IsOther (string_class b) = rw (plain_class b p) tt in
-    quotes_go at b (raw ++ 34 ∷ s) other ∙ quotes_skip (at + 1) raw text rest s data' e ∙ ap (λ n. tokens_from n outside s) same
+    quotes_go at b (raw ++ 34 ∷ s) (rw (plain_class b p) tt) ∙ rw (quotes_skip (at + 1) raw text rest s data' e, same)
 quotes_skip at _ _ _ s (escaped b raw text rest p data') e =
     let same : at + 1 + 1 + length raw + 1 ≡ at + length (92 ∷ b ∷ raw) + 1 = omega arith in
-    quotes_skip (at + 1 + 1) raw text rest s data' e ∙ ap (λ n. tokens_from n outside s) same
+    rw (quotes_skip (at + 1 + 1) raw text rest s data' e, same)
 quotes_skip at _ _ _ s (lone raw text rest stop data') e =
     let same : at + 1 + length raw + 1 ≡ at + length (92 ∷ raw) + 1 = omega arith in
-    behind_lone at raw s (rw e at stop) ∙ quotes_skip (at + 1) raw text rest s data' e ∙ ap (λ n. tokens_from n outside s) same
+    behind_lone at raw s (rw e at stop) ∙ rw (quotes_skip (at + 1) raw text rest s data' e, same)
 
 pub reads_long : (start at n b : ℕ) (s : List ℕ) → 255 ≤ n → (is_plain b || (b == 92)) ≡ true
     → reading start at n false (b ∷ s) ≡ broken start StringTooLong

@@ -1,6 +1,6 @@
 -- The tokens behind a symbol or an asterisk, and those behind white space.
 use Rattle.pgn_lexer.proofs.Words.{◌≡◌, ℕ, zero, suc, ◌+◌, Bool, true, false, cond, List, [], ◌∷◌, ◌++◌, length, refl, sym, ap, ◌∙◌, arith, append_assoc, subst, length-append, take_while, drop, replicate, None, ◌==◌, if◌then◌else◌, length-replicate, take_while-cons, Class, Single, CommentClass, continues_symbol, Token, EndsAt, Start, LineStart, Outside, PartialToken, coming, StandsAfter, CanBeMarker, TextsRestart, class, Found, gives, stops, Reading, kind_of_single, symbol_at, string_at, glyph_at, suffix_at, Within, after_class, after_run, begins_class, begins_first, begins_after, begins_brace, begins_line, begins, next, onto, at_end, tokens_from, tokens_of, has_mark, nat_tests, outside, column, in_symbol, after_first, cases_Bool, inl, inr, drop-drop, drop_at}
-use Rattle.pgn_lexer.proofs.stepping.FirstBytes.{other_first}
+use Rattle.pgn_lexer.proofs.stepping.ByteOutside.{other_first}
 use Rattle.pgn_lexer.specs.WhiteSpace.{white_space}
 
 -- the tokens from a place behind a run of symbol bytes on

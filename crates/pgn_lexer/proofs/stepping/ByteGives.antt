@@ -2,8 +2,7 @@
 use Rattle.pgn_lexer.proofs.Words.{◌≡◌, ℕ, ◌<◌, ◌≤◌, List, [], ◌∷◌, length, refl, arith, Some, LexFault, Mode, TokenForm, HasLength, end, PartialToken, IsSound, HasNotFailed, tokens_to_come, kind_in, token_of, refusal, pending, fault_met, fault_in_mode, after_byte, after_byte_in, after_end, after_end_in, AfterByte, IsAfterEnd, reached_after, common_steps, Reached}
 use Rattle.pgn_lexer.proofs.stepping.StepGives.{Gives, GivesIn, front_of, holds}
 use Rattle.pgn_lexer.proofs.stepping.RunOfBytes.{run_closes}
-use Rattle.pgn_lexer.proofs.stepping.FirstBytes.{start_gives, after_ef_gives, after_ef_bb_gives, escape_line_gives}
-use Rattle.pgn_lexer.proofs.stepping.ByteOutside.{begin_gives, begin_line_gives}
+use Rattle.pgn_lexer.proofs.stepping.ByteOutside.{begin_gives, begin_line_gives, start_gives, after_ef_gives, after_ef_bb_gives, escape_line_gives}
 use Rattle.pgn_lexer.proofs.stepping.ByteInSymbol.{symbol_gives, symbol_fits}
 use Rattle.pgn_lexer.proofs.stepping.ByteInString.{string_gives, escaped_gives}
 use Rattle.pgn_lexer.proofs.stepping.ByteInGlyph.{dollar_gives, glyph_gives, suffix_gives, number_fits, spelled, small_suffix}
@@ -11,24 +10,14 @@ use Rattle.pgn_lexer.proofs.stepping.ByteInComment.{brace_gives, brace_word_give
 
 step_in : (m : Mode) (place at b : ℕ) (text : List ℕ) → length text ≤ 255 → IsSound place (holds m at text)
     → GivesIn m place at b text (λ h. after_byte_in m place h b)
-step_in Mode.Start place at b text fits sound =
-    rw sound.placed (start_gives at b text fits _ refl)
-step_in Mode.AfterEf place at b text fits sound = grind (arith, front_of, after_ef_gives)
-step_in Mode.AfterEfBb place at b text fits sound = grind (arith, front_of, after_ef_bb_gives)
+step_in Mode.Start place at b text fits sound = rw sound.placed (start_gives at b text fits _ refl)
 step_in Mode.LineStart place at b text fits sound = begin_line_gives _ place b (holds Mode.LineStart at text) _ _ fits
 step_in Mode.Outside place at b text fits sound = begin_gives _ place b (holds Mode.Outside at text) _ _ fits
 step_in Mode.EscapeLine place at b text fits sound = escape_line_gives place at b text fits _ refl
-step_in Mode.Symbol place at b text fits sound = grind (arith, symbol_gives)
-step_in Mode.Str place at b text fits sound = grind (arith, string_gives)
-step_in Mode.AfterBackslash place at b text fits sound = grind (arith, escaped_gives)
-step_in Mode.Dollar place at b text fits sound = grind (arith, dollar_gives)
-step_in (Mode.Glyph n) place at b text fits sound = grind (arith, glyph_gives)
-step_in (Mode.Suffix run) place at b text fits sound = grind (arith, suffix_gives)
 step_in Mode.Brace place at b text fits sound = brace_gives _ place b (holds Mode.Brace at text) _ _ fits
-step_in Mode.BraceWord place at b text fits sound = grind (arith, brace_word_gives)
 step_in Mode.Line place at b text fits sound = line_gives _ place b (holds Mode.Line at text) _ _ fits
-step_in Mode.LineWord place at b text fits sound = grind (arith, line_word_gives)
-step_in (Mode.Failed f) place at b text fits sound = grind arith
+step_in m place at b text fits sound =
+    grind (arith, front_of, after_ef_gives, after_ef_bb_gives, symbol_gives, string_gives, escaped_gives, dollar_gives, glyph_gives, suffix_gives, brace_word_gives, line_word_gives)
 
 pub step_gives : (place : ℕ) (h : PartialToken) (b : ℕ) → IsSound place h → Gives (front_of place h b) (after_byte place h b)
 unfolding after_byte

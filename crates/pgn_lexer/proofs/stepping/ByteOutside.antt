@@ -1,6 +1,6 @@
--- A byte outside strings and comments.
-use Rattle.pgn_lexer.proofs.Words.{ℕ, ◌+◌, ◌≤◌, List, length, arith, Class, Token, begins_class, begins_first, after_class, after_first, onto, tokens_from, PartialToken, begin, begin_line}
-use Rattle.pgn_lexer.proofs.stepping.StepGives.{Gives, front_by}
+-- A byte outside strings and comments, also as the first of a text, and in an escape line.
+use Rattle.pgn_lexer.proofs.Words.{◌≡◌, ℕ, ◌≤◌, Bool, true, false, List, [], ◌∷◌, length, ◌==◌, if◌then◌else◌, eqb-true, StrayByte, Step, Used, is_line_end, Token, class, column, tokens_from, tokens_of, has_mark, PartialToken, into, fails, begin_line, arith, Mode, ◌+◌, Class, begins_class, begins_first, after_class, after_first, onto, begin}
+use Rattle.pgn_lexer.proofs.stepping.StepGives.{Front, StepGives, GivesIn, Gives, front_by, holds}
 
 pub begin_gives : (c : Class) (place b : ℕ) (h : PartialToken) (ended : List Token) (waits : ℕ) → length h.text ≤ 255
     → Gives (front_by place b ended waits (λ s. onto place (begins_class place c b s) (tokens_from (place + 1) (after_class c) s))) (begin place h b c)
@@ -10,3 +10,31 @@ begin_gives c place b h ended waits h1 = grind arith
 pub begin_line_gives : (c : Class) (place b : ℕ) (h : PartialToken) (ended : List Token) (waits : ℕ) → length h.text ≤ 255
     → Gives (front_by place b ended waits (λ s. onto place (begins_first place c b s) (tokens_from (place + 1) (after_first c) s))) (begin_line place h b c)
 begin_line_gives c place b h ended waits h1 = grind arith
+
+same_front : (f : Front) (front : List ℕ → List Token) → ((s : List ℕ) → front s ≡ f.front s) → (new : PartialToken) (step : Step)
+    → StepGives f new step → StepGives (record f { front = front }) new step
+same_front f front h1 new step h2 = grind arith
+
+pub unmarked : (s : List ℕ) → has_mark s ≡ false → tokens_of s ≡ tokens_from 0 column s
+unmarked s e = grind arith
+
+pub other_first : (b : ℕ) (s : List ℕ) → (b == 239) ≡ false → has_mark (b ∷ s) ≡ false
+other_first b s h1 = grind arith
+
+pub start_gives : (at b : ℕ) (text : List ℕ) → length text ≤ 255 → (c : Bool) → (b == 239) ≡ c
+    → GivesIn Mode.Start 0 at b text (λ h. if c then into h Mode.AfterEf Used else begin_line 0 h b (class b))
+start_gives at b text fits true e = grind (arith, eqb-true)
+start_gives at b text fits false e =
+    same_front _ _ (λ s. unmarked (b ∷ s) (other_first b s e)) _ _ (begin_line_gives _ 0 b (holds Mode.Start at text) (tokens_of []) 0 fits)
+
+pub after_ef_gives : (at b : ℕ) (text : List ℕ) → length text ≤ 255 → (c : Bool) → (b == 187) ≡ c
+    → GivesIn Mode.AfterEf 1 at b text (λ h. if c then into h Mode.AfterEfBb Used else fails h 0 StrayByte)
+after_ef_gives at b text h1 c h2 = grind arith
+
+pub after_ef_bb_gives : (at b : ℕ) (text : List ℕ) → length text ≤ 255 → (c : Bool) → (b == 191) ≡ c
+    → GivesIn Mode.AfterEfBb 2 at b text (λ h. if c then into h Mode.LineStart Used else fails h 0 StrayByte)
+after_ef_bb_gives at b text h1 c h2 = grind arith
+
+pub escape_line_gives : (place at b : ℕ) (text : List ℕ) → length text ≤ 255 → (c : Bool) → is_line_end b ≡ c
+    → GivesIn Mode.EscapeLine place at b text (λ h. if c then into h Mode.LineStart Used else into h Mode.EscapeLine Used)
+escape_line_gives place at b text h1 c h2 = grind arith
