@@ -1,5 +1,5 @@
 -- The name of a file gives its number back, and a log by names is one by numbers.
-use Rattle.pgn_tool.proofs.Words.{◌≡◌, ℕ, ◌-◌, ◌^◌, ◌<◌, suc, zero, List, [], ◌∷◌, ◌++◌, length, take, Option, None, Some, Result, refl, ap, ◌∙◌, length-append, arith, codes, decimal, map-append, SystemFault, added}
+use Rattle.pgn_tool.proofs.Words.{◌≡◌, ℕ, ◌-◌, ◌^◌, ◌<◌, suc, List, [], ◌∷◌, ◌++◌, length, take, Option, None, Some, Result, refl, ap, ◌∙◌, length-append, arith, codes, decimal, map-append, SystemFault, added}
 use Rattle.std.specs.Str.Parse.{digits_value}
 use Rattle.std.proofs.lemmas.Fmt.{digits_value-decimal}
 use Rattle.std.proofs.lemmas.Str.Parse.{numerals_by_value, tells_digits}
@@ -8,13 +8,8 @@ use Rattle.pgn_tool.specs.FileName.{file_name, zeros_before}
 use Rattle.pgn_tool.specs.FileSystem.{NameStep, making, number_of, numbered, step_at, step_of}
 
 zeros_add_nothing : (count : ℕ) (digits : List ℕ) → digits_value 10 (zeros_before count ++ digits) ≡ digits_value 10 digits
-zeros_add_nothing zero digits = refl
-zeros_add_nothing (suc zero) digits = refl
-zeros_add_nothing (suc (suc zero)) digits = refl
-zeros_add_nothing (suc (suc (suc zero))) digits = refl
-zeros_add_nothing (suc (suc (suc (suc zero)))) digits = refl
-zeros_add_nothing (suc (suc (suc (suc (suc zero))))) digits = refl
 zeros_add_nothing (suc (suc (suc (suc (suc (suc count)))))) digits = ap (λ l. digits_value 10 (l ++ digits)) (drop-nil count)
+zeros_add_nothing _ digits = refl
 
 without_ending : (name ending : List ℕ) → length ending ≡ 4
     → take (length (name ++ ending) - 4) (name ++ ending) ≡ name

@@ -1,5 +1,5 @@
 -- The words that proofs of this crate name, under one path.
-pub use Rattle.std.proofs.Common.{Bool, IfSome, List, None, Option, Result, Some, [], ap, append-nil, append_assoc, arith, decimal, false, inl, inr, is_some, length, length-append, length-take, map, refl, rules, subst, suc, sym, take, true, true≢false, unwrap_or, vec_capacity, vec_len, zero, ℕ, ◌++◌, ◌+◌, ◌-◌, ◌<◌, ◌^◌, ◌∙◌, ◌∷◌, ◌≡◌, ◌≤◌, ◌⊎◌}
+pub use Rattle.std.proofs.Common.{Bool, IfSome, List, None, Option, Result, Some, [], ap, append-nil, append_assoc, arith, decimal, false, inl, inr, is_some, length, length-append, length-take, map, refl, rules, subst, suc, sym, take, true, true≢false, unwrap_or, vec_capacity, vec_len, ℕ, ◌++◌, ◌+◌, ◌-◌, ◌<◌, ◌^◌, ◌∙◌, ◌∷◌, ◌≡◌, ◌≤◌, ◌⊎◌}
 pub use Rattle.std.proofs.KnownBytes.{Appends-kept, Appends-nil, Appends-trans, Consumes-nil, Consumes-trans, Consumes-whole}
 pub use Rattle.std.proofs.Math.Seq.{take-append-add, take-append_seam, take-length}
 pub use Rattle.std.proofs.lemmas.Bool.{false≢true}
@@ -12,7 +12,7 @@ pub use Rattle.std.specs.Prelude.{Err, IfOk, Ok, OnOk, String, codes, if◌then�
 pub use Rattle.pgn_arguments.specs.declared.arguments.Task.TheVariants.{Export, Split}
 pub use Rattle.pgn_game.specs.CheckedConversion.{AreConverted, CountsThree, Decides, FirstStops, HasTaken, IsTokenPrefix, OneFails, SecondStops, TwoReadingsConvert, TwoReadingsFail, WriteStops, first_too_long, first_unread, second_too_long, second_unread, unwritten}
 pub use Rattle.pgn_game.specs.Conversion.{AfterConversion, CountsDevices, Fails, IsConverted}
-pub use Rattle.pgn_game.specs.ConverterCalls.{FinishedGame, HasRead, StopsWriting, profile_of}
+pub use Rattle.pgn_game.specs.ConverterCalls.{AreNext, FinishedGame, HasRead, Stops, StopsWriting, games_before, profile_of}
 pub use Rattle.pgn_game.specs.EqualReadings.{EqualReadings, InterruptedReadings}
 pub use Rattle.pgn_game.specs.FaultTable.{Row, first_holding, result_for, rows}
 unfoldable pub use Rattle.pgn_game.specs.FaultTable.{refusal}
@@ -24,7 +24,7 @@ pub use Rattle.pgn_game.specs.Progress.{Next, Progress, Read, Verdict, due, goin
 pub use Rattle.pgn_game.specs.Reason.{line_of}
 pub use Rattle.pgn_game.specs.TagSection.{exported, tag_section}
 unfoldable pub use Rattle.pgn_game.specs.TagSection.{roster}
-pub use Rattle.pgn_game.specs.Text.{game_text, text_of, tokens_out, torn}
+pub use Rattle.pgn_game.specs.Text.{game_text, text_of, tokens_out}
 pub use Rattle.pgn_game.specs.declared.conversion.Totals.{Totals}
 pub use Rattle.pgn_game.specs.declared.mode.Mode.{Mode}
 pub use Rattle.pgn_game.specs.declared.mode.Mode.TheVariants.{Full, Reduced}
@@ -53,3 +53,4 @@ pub use Rattle.pgn_tool.specs.declared.machine.SystemFault.{SystemFault}
 pub use Rattle.pgn_tool.specs.declared.split.Unsplit.{Unsplit}
 pub use Rattle.pgn_tool.specs.declared.split.Unsplit.TheVariants.{NoMemory}
 pub use Rattle.std.proofs.lemmas.Option.{none-some}
+pub use Rattle.pgn_tool.specs.declared.files.CreateFault.{CreateFault}

@@ -1,10 +1,7 @@
 -- Games listed one by one.
-use Rattle.pgn_tool.proofs.Words.{◌≡◌, ℕ, ◌+◌, List, [], ◌∷◌, ◌++◌, length, Option, None, Some, IfSome, refl, sym, ap, subst, ◌∙◌, append-nil, append_assoc, length-append, arith, Appends, Consumes, IsAtEnd, Appends-trans, Consumes-trans, AppendsFront, Token, tokens_of, InputTooLong, Fault, Game, Read, no_progress, read, HasRead, CountsDevices, Games, HaveRead, within, at_end, NextGame, NoGame, NextStops, ReadsNoGame, IsListed, ListsNoMore, ListStops, game_line, line_just_finished, lines_from, lines_of, list_profile, list_text, too_long, unread, ListedSoFar, Refused, Unwritten, Consumes-whole}
+use Rattle.pgn_tool.proofs.Words.{◌≡◌, ℕ, ◌+◌, List, [], ◌∷◌, ◌++◌, length, Option, None, Some, IfSome, refl, sym, ap, subst, ◌∙◌, append-nil, append_assoc, length-append, arith, Appends, Consumes, IsAtEnd, Appends-trans, Consumes-trans, AppendsFront, Token, tokens_of, InputTooLong, Fault, Game, Read, no_progress, read, HasRead, CountsDevices, Games, HaveRead, within, at_end, NextGame, NoGame, NextStops, ReadsNoGame, IsListed, ListsNoMore, ListStops, game_line, line_just_finished, lines_from, lines_of, list_profile, list_text, too_long, unread, ListedSoFar, Refused, Unwritten, Consumes-whole, Stops, games_before, AreNext}
 use Rattle.pgn_lexer.specs.Standing.{coming}
 use Rattle.pgn_lexer.specs.Stands.{Follows, first}
-use Rattle.pgn_game.specs.ConverterCalls as converter_calls
-use Rattle.pgn_game.specs.GamesCalls as games_calls
-use Rattle.pgn_tool.specs.ListLines as list_lines
 use Rattle.pgn_tool.proofs.runs.PartsOfText.{front_after, front_within}
 use Rattle.pgn_tool.proofs.runs.TokensInTwoParts.{games_grow, read_stops}
 
@@ -43,7 +40,7 @@ ReadAs left ts =
     → (P : List ℕ → Type 0) → ((s : List ℕ) → read list_profile (tokens_of s) ≡ read list_profile ts → P s) → IfSome left P
 
 -- the bytes so far decide these tokens
-pub reads_at_token : (o n : Option (List ℕ)) (u : List ℕ) (ts : List Token) → Consumes o n u → converter_calls.AreNext u None ts → ReadAs o ts
+pub reads_at_token : (o n : Option (List ℕ)) (u : List ℕ) (ts : List Token) → Consumes o n u → AreNext u None ts → ReadAs o ts
 reads_at_token None n u ts consumed next f fault P follows = tt
 reads_at_token (Some s) None u ts consumed next f fault P follows = absurd consumed
 reads_at_token (Some s) (Some left) u ts consumed next f fault P follows =
@@ -93,7 +90,7 @@ module _ (left_old left left_new : Option (List ℕ)) (old new : Games) (a b : O
         let known : list_text u ≡ (lines_of so.tokens ++ line_just_finished new.converter) ++ more =
         ap lines_of here.1 ∙ ap (lines_from 1) grown.1 ∙ lines_two 1 games grown.0 ∙ ap (λ l. l ++ more) next_line in
         let (count, short, front) = subst (AppendsFront a c) (sym known) (front_within a c _ more (front_after a b c _ _ so.written wrote)) in
-        list_lines.unwritten u [] (subst (Consumes left_old left_new) (sym (append-nil u)) (all game.more game.consumed))
+        ListStops.unwritten u [] (subst (Consumes left_old left_new) (sym (append-nil u)) (all game.more game.consumed))
         (record { count = count; short = short; front = front })
 
   -- no game is left
@@ -116,21 +113,21 @@ module _ (left_old left left_new : Option (List ℕ)) (old new : Games) (a b : O
   list_stops most f s t stopped counted = by_stop stopped counted
     where
       by_stops : {h : Fault} (ts : List Token) → ReadAs left_old ts
-          → (stops : converter_calls.Stops list_profile so.tokens ts None None h) → converter_calls.games_before stops ≡ (read list_profile so.tokens).progress.games
+          → (stops : Stops list_profile so.tokens ts None None h) → games_before stops ≡ (read list_profile so.tokens).progress.games
           → CountsDevices h.reason s t 0 0 → ListStops left_old left_new a b (Refused h)
-      by_stops ts reads (converter_calls.unwritten at writing) same counts = absurd (omega (arith, counts.1))
-      by_stops ts reads (converter_calls.refused h fault gains) same counts =
-          list_lines.refused h (reads h fault (λ s. IsListed s (Some h) a b) (λ s is. record {
+      by_stops ts reads (Stops.unwritten at writing) same counts = absurd (omega (arith, counts.1))
+      by_stops ts reads (Stops.refused h fault gains) same counts =
+          ListStops.refused h (reads h fault (λ s. IsListed s (Some h) a b) (λ s is. record {
             fault = ap (λ (r : Read). r.fault) is ∙ fault;
             written = subst (λ gs. Appends a b (lines_from 1 gs)) (sym same ∙ ap (λ (r : Read). r.progress.games) (sym is)) so.written;
           }))
 
       by_stop : {h : Fault} → NextStops list_profile so.bytes so.tokens left left_new most None None h → CountsDevices h.reason s t 0 0 → ListStops left_old left_new a b (Refused h)
-      by_stop (games_calls.at_token h more consumed to) counts =
+      by_stop (NextStops.at_token h more consumed to) counts =
           by_stops to.tokens (reads_at_token left_old left_new (so.bytes ++ more) to.tokens (all more consumed) to.next) to.stops to.no_game counts
-      by_stop (games_calls.at_end h more consumed end to) counts =
+      by_stop (NextStops.at_end h more consumed end to) counts =
           by_stops (tokens_of (so.bytes ++ more)) (reads_at_end left_old left_new (so.bytes ++ more) (all more consumed) end) to.stops to.no_game counts
-      by_stop (games_calls.unread more consumed none) counts = unread (so.bytes ++ more) (all more consumed) (no_more (so.bytes ++ more) none)
-      by_stop (games_calls.too_long more front rest consumed cut place some none) counts =
+      by_stop (NextStops.unread more consumed none) counts = unread (so.bytes ++ more) (all more consumed) (no_more (so.bytes ++ more) none)
+      by_stop (NextStops.too_long more front rest consumed cut place some none) counts =
           subst (λ n. ListStops left_old left_new a b (Refused (record { at = n; reason = InputTooLong }))) place
           (too_long front rest (subst (Consumes left_old left_new) cut (all more consumed)) place some (no_more front none))

@@ -3,7 +3,6 @@ use Rattle.pgn_tool.proofs.Words.{◌≡◌, ◌∙◌, ℕ, List, ◌++◌, len
 use Rattle.pgn_lexer.specs.Laws.{DecidedIsPrefix}
 use Rattle.pgn_game.specs.Laws.{DueGrows, IsPrefix}
 use Rattle.pgn_game.specs.Checked.{compared, written_by}
-use Rattle.pgn_game.specs.CheckedConversion.{refused}
 
 front_is : (out : Device) (written whole : List ℕ) → IsPrefix written whole → HasTaken out written → HasFront out whole
 front_is out written whole prefix taken =
@@ -53,7 +52,7 @@ module _ (decides : DecidedIsPrefix) (grows : DueGrows) (equal : EqualReadings) 
       front_is out _ _ (subst (λ (t : List ℕ). IsPrefix (written_by p (compared p ends.tokens (decided u))) (output p t)) (sym x.1) law.most) ends.appended
 
   fails : (f : Fault) → TwoReadingsFail p first second out f → HasFront out (output p s)
-  fails _ (refused f known) = converted _ (rw (first_gives, second_gives) at known)
+  fails _ (TwoReadingsFail.refused f known) = converted _ (rw (first_gives, second_gives) at known)
   fails _ (first_unread u consumed failed ends) = ends_first u (rest_of first first_gives u consumed) ends
   fails _ (first_too_long u rest consumed long more ends) = ends_first u (front_left u rest (rest_of first first_gives (u ++ rest) consumed)) ends
   fails _ (second_unread u consumed failed ends) = ends_second u (rest_of second second_gives u consumed) ends

@@ -1,6 +1,5 @@
 -- What follows of a run from the conversion in it, of an input that is read twice.
-use Rattle.pgn_tool.proofs.Words.{◌≡◌, ◌∙◌, ℕ, ◌≤◌, List, Option, ◌⊎◌, inl, inr, ap, refl, subst, arith, Result, Ok, Err, Appends, Keeps, Counts, Device, IsStill, Token, tokens_of, Mode, Reason, ReadFault, WriteFault, Fault, Totals, Profile, refused as is_refused, AreConverted, TwoReadingsConvert, CountsThree, FirstStops, SecondStops, TwoReadingsFail, HasTaken, OneFails, WriteStops, first_too_long, first_unread, second_too_long, second_unread, unwritten, EqualReadings, FlushCounts, HasFailed, IsCalm, IsSmooth, TellsVerdict, status_of, AnswersSame, AnswersTwice, BlamesTwice, EndsTwice, RunsTwice, profile_twice, Appends-kept}
-use Rattle.pgn_game.specs.CheckedConversion.{refused}
+use Rattle.pgn_tool.proofs.Words.{◌≡◌, ◌∙◌, ℕ, ◌≤◌, List, Option, ◌⊎◌, inl, inr, ap, refl, subst, arith, Result, Ok, Err, Appends, Keeps, Counts, Device, IsStill, Token, tokens_of, Mode, Reason, ReadFault, WriteFault, Fault, Totals, Profile, refused, AreConverted, TwoReadingsConvert, CountsThree, FirstStops, SecondStops, TwoReadingsFail, HasTaken, OneFails, WriteStops, first_too_long, first_unread, second_too_long, second_unread, unwritten, EqualReadings, FlushCounts, HasFailed, IsCalm, IsSmooth, TellsVerdict, status_of, AnswersSame, AnswersTwice, BlamesTwice, EndsTwice, RunsTwice, profile_twice, Appends-kept}
 use Rattle.pgn_tool.proofs.runs.ConversionToRun.{calm_fails, concludes_by_verdict, IfSome-map, longer, refuses_by_verdict, risen}
 
 -- ---- a conversion, and a flush after it
@@ -45,7 +44,7 @@ module _ (p : Profile) (first second d : Device) (after : Option (List ℕ)) (fa
   }
 
   fails_on : (f : Fault) → TwoReadingsFail p first second d f → TwoReadingsFail p first second e f
-  fails_on _ (refused f known) = refused f (IfSome-map first.before _ _ (λ s. IfSome-map second.before _ _ (λ r known. (known.0, taken_on _ known.1))) known)
+  fails_on _ (TwoReadingsFail.refused f known) = TwoReadingsFail.refused f (IfSome-map first.before _ _ (λ s. IfSome-map second.before _ _ (λ r known. (known.0, taken_on _ known.1))) known)
   fails_on _ (first_unread u consumed failed ends) = first_unread u consumed failed (first_on u ends)
   fails_on _ (first_too_long u rest consumed long more ends) = first_too_long u rest consumed long more (first_on u ends)
   fails_on _ (second_unread u consumed failed ends) = second_unread u consumed failed (second_on u ends)
@@ -83,32 +82,31 @@ neither_failed : (first second : Device) → IsCalm first → IsCalm second → 
 neither_failed first second one other (inl failed) = calm_fails first one failed
 neither_failed first second one other (inr failed) = calm_fails second other failed
 
--- a fault that no device is to blame for is the texts' own
-own_fault : (p : Profile) (s r : List ℕ) (first second out : Device) (f : Fault) → IsSmooth s first out → IsSmooth r second out
-    → TwoReadingsFail p first second out f → BlamesTwice f.reason first second out → AreConverted p s r (is_refused f) out
-own_fault p s r first second out _ one other (refused f known) blames = rw (one.gives, other.gives) at known
-own_fault p s r first second out _ one other (first_unread u consumed failed ends) blames = absurd (neither_failed first second one.reads other.reads blames)
-own_fault p s r first second out _ one other (first_too_long u rest consumed long more ends) blames =
-    absurd (longer s first.after u rest (rw one.gives at consumed) long more one.short)
-own_fault p s r first second out _ one other (second_unread u consumed failed ends) blames = absurd (neither_failed first second one.reads other.reads blames)
-own_fault p s r first second out _ one other (second_too_long u rest consumed long more ends) blames =
-    absurd (longer r second.after u rest (rw other.gives at consumed) long more other.short)
-own_fault p s r first second out _ one other (unwritten at known) blames = absurd (calm_fails out one.writes blames)
+module _ (s r : List ℕ) (first second out : Device) (one : IsSmooth s first out) (other : IsSmooth r second out) where
+  -- a fault that no device is to blame for is the texts' own
+  own_fault : (p : Profile) (f : Fault) → TwoReadingsFail p first second out f → BlamesTwice f.reason first second out → AreConverted p s r (refused f) out
+  own_fault p _ (TwoReadingsFail.refused f known) blames = rw (one.gives, other.gives) at known
+  own_fault p _ (first_unread u consumed failed ends) blames = absurd (neither_failed first second one.reads other.reads blames)
+  own_fault p _ (first_too_long u rest consumed long more ends) blames =
+      absurd (longer s first.after u rest (rw one.gives at consumed) long more one.short)
+  own_fault p _ (second_unread u consumed failed ends) blames = absurd (neither_failed first second one.reads other.reads blames)
+  own_fault p _ (second_too_long u rest consumed long more ends) blames =
+      absurd (longer r second.after u rest (rw other.gives at consumed) long more other.short)
+  own_fault p _ (unwritten at known) blames = absurd (calm_fails out one.writes blames)
 
-texts_answer : (mode : Mode) (s r : List ℕ) (first second out err : Device) (code : ℕ) (answer : Result Totals Fault) → IsSmooth s first out → IsSmooth r second out
-    → TwoReadingsConvert (profile_twice mode) first second out answer → EndsTwice answer first second out err code → AnswersTwice mode s r out err code
-texts_answer mode s r first second out err code (Ok t) one other works ends =
-    let converted = (rw (one.gives, other.gives) at works).converted in
-    let by = concludes_by_verdict _ first out err code _ converted.0 one.writes ends.0 in
-    record { ends = by.0; written = converted.1; told = by.1 }
-texts_answer mode s r first second out err code (Err f) one other works ends =
-    let converted = own_fault (profile_twice mode) s r first second out f one other works ends.blames in
-    let by = refuses_by_verdict _ err code f converted.0 ends.ends ends.told in
-    record { ends = by.0; written = converted.1; told = by.1 }
+  texts_answer : (mode : Mode) (err : Device) (code : ℕ) (answer : Result Totals Fault) → TwoReadingsConvert (profile_twice mode) first second out answer
+      → EndsTwice answer first second out err code → AnswersTwice mode s r out err code
+  texts_answer mode err code (Ok t) works ends =
+      let converted = (rw (one.gives, other.gives) at works).converted in
+      let by = concludes_by_verdict _ first out err code _ converted.0 one.writes ends.0 in
+      record { ends = by.0; written = converted.1; told = by.1 }
+  texts_answer mode err code (Err f) works ends =
+      let converted = own_fault (profile_twice mode) f works ends.blames in
+      let by = refuses_by_verdict _ err code f converted.0 ends.ends ends.told in
+      record { ends = by.0; written = converted.1; told = by.1 }
 
-pub twice_answers : (mode : Mode) (s r : List ℕ) (first second out err : Device) (code : ℕ) → IsSmooth s first out → IsSmooth r second out
-    → RunsTwice mode first second out err code → AnswersTwice mode s r out err code
-twice_answers mode s r first second out err code one other runs = texts_answer mode s r first second out err code runs.answer one other runs.works runs.ends
+  pub twice_answers : (mode : Mode) (err : Device) (code : ℕ) → RunsTwice mode first second out err code → AnswersTwice mode s r out err code
+  twice_answers mode err code runs = texts_answer mode err code runs.answer runs.works runs.ends
 
 -- two readings of one text are one reading of it
 pub same_answers : (mode : Mode) (s : List ℕ) (out err : Device) (code : ℕ) → EqualReadings → AnswersTwice mode s s out err code → AnswersSame mode s out err code

@@ -1,8 +1,5 @@
 -- What follows of a run from the conversion in it.
-use Rattle.pgn_tool.proofs.Words.{◌≡◌, ◌∙◌, ℕ, ◌^◌, ◌<◌, ◌≤◌, Bool, true, false, List, [], ◌++◌, length, ap, refl, subst, sym, arith, take, length-append, Option, None, Some, inl, inr, take-length, Result, Ok, Err, OnOk, is_ok, codes, ◌⊎◌, if◌then◌else◌, Appends, Appends-nil, Counted, line_of, Consumes, Keeps, Counts, Device, IsStill, Writes, one_more, Full, Reason, ReadFault, WriteFault, Fault, Totals, Profile, tokens_of, Read, read, refused as is_refused, totals, verdict_of, profile_of, AfterConversion, CountsDevices, Fails, IsConverted, Stopped, CountsReadFault, ListResult, ListStops, list_profile, Answers, Blames, Concludes, Ends, EndsList, FlushCounts, HasFailed, IsCalm, IsSmooth, Job, Runs, Tells, TellsVerdict, Works, checking, exporting, line, listing, status_of, IfSome, Appends-kept, device, Verdict}
-use Rattle.pgn_game.specs.Conversion.{refused, unread, unwritten, too_long}
-use Rattle.pgn_tool.specs.declared.list.Stopped.TheVariants as stopped
-use Rattle.pgn_tool.specs.ListLines as list_lines
+use Rattle.pgn_tool.proofs.Words.{◌≡◌, ◌∙◌, ℕ, ◌^◌, ◌<◌, ◌≤◌, Bool, true, false, List, [], ◌++◌, length, ap, refl, subst, sym, arith, take, length-append, Option, None, Some, inl, inr, take-length, Result, Ok, Err, OnOk, is_ok, codes, ◌⊎◌, if◌then◌else◌, Appends, Appends-nil, Counted, line_of, Consumes, Keeps, Counts, Device, IsStill, Writes, one_more, Full, Reason, ReadFault, WriteFault, Fault, Totals, Profile, tokens_of, Read, read, refused, totals, verdict_of, profile_of, AfterConversion, CountsDevices, Fails, IsConverted, Stopped, CountsReadFault, ListResult, ListStops, list_profile, Answers, Blames, Concludes, Ends, EndsList, FlushCounts, HasFailed, IsCalm, IsSmooth, Job, Runs, Tells, TellsVerdict, Works, checking, exporting, line, listing, status_of, IfSome, Appends-kept, device, Verdict}
 
 -- what holds of a known value, and what follows of it
 pub IfSome-map : {A : Type 0} → (o : Option A) (P Q : A → Type 0) → ((x : A) → P x → Q x) → IfSome o P → IfSome o Q
@@ -62,35 +59,49 @@ tells_as false d text written failed = λ calm. absurd (calm_fails d calm (faile
 
 -- ---- a conversion, and a flush after it
 
-pub fails_on : (p : Profile) (left_old left_new a b c : Option (List ℕ)) (f : Fault) → Fails p left_old left_new a b f → Keeps b c
-    → Fails p left_old left_new a c f
-fails_on p left_old left_new a b c _ (refused f known) keeps =
-    refused f (IfSome-map left_old _ _ (λ s converted. (converted.0, Appends-kept a b c _ converted.1 keeps)) known)
-fails_on p left_old left_new a b c _ (unread u consumed reads) keeps =
-    unread u consumed (record { passes = reads.passes; appended = Appends-kept a b c _ reads.appended keeps })
-fails_on p left_old left_new a b c _ (unwritten u at consumed stops) keeps =
-    unwritten u at consumed (record {
-      front = stops.front;
-      token = stops.token;
-      rest = stops.rest;
-      cut = stops.cut;
-      place = stops.place;
-      passes = stops.passes;
-      text = stops.text;
-      due_for = stops.due_for;
-      count = stops.count;
-      least = stops.least;
-      short = stops.short;
-      appended = Appends-kept a b c _ stops.appended keeps;
-    })
-fails_on p left_old left_new a b c _ (too_long u rest consumed long more reads) keeps =
-    too_long u rest consumed long more (record { passes = reads.passes; appended = Appends-kept a b c _ reads.appended keeps })
+module _ (left_old left_new a b c : Option (List ℕ)) (keeps : Keeps b c) where
+  kept : (text : List ℕ) → Appends a b text → Appends a c text
+  kept text wrote = Appends-kept a b c text wrote keeps
 
-pub converts_on : (p : Profile) (left_old left_new a b c : Option (List ℕ)) (r : Result Totals Fault) → AfterConversion p left_old left_new r a b
-    → Keeps b c → AfterConversion p left_old left_new r a c
-converts_on p left_old left_new a b c (Ok t) converts keeps =
-    IfSome-map left_old _ _ (λ s known. record { converted = (known.converted.0, Appends-kept a b c _ known.converted.1 keeps); probes = known.probes }) converts
-converts_on p left_old left_new a b c (Err f) converts keeps = fails_on p left_old left_new a b c f converts keeps
+  fails_on : (p : Profile) (f : Fault) → Fails p left_old left_new a b f → Fails p left_old left_new a c f
+  fails_on p _ (Fails.refused f known) = Fails.refused f (IfSome-map left_old _ _ (λ s converted. (converted.0, kept _ converted.1)) known)
+  fails_on p _ (Fails.unread u consumed reads) = Fails.unread u consumed (record { passes = reads.passes; appended = kept _ reads.appended })
+  fails_on p _ (Fails.unwritten u at consumed stops) =
+      Fails.unwritten u at consumed (record {
+        front = stops.front;
+        token = stops.token;
+        rest = stops.rest;
+        cut = stops.cut;
+        place = stops.place;
+        passes = stops.passes;
+        text = stops.text;
+        due_for = stops.due_for;
+        count = stops.count;
+        least = stops.least;
+        short = stops.short;
+        appended = kept _ stops.appended;
+      })
+  fails_on p _ (Fails.too_long u rest consumed long more reads) =
+      Fails.too_long u rest consumed long more (record { passes = reads.passes; appended = kept _ reads.appended })
+
+  pub converts_on : (p : Profile) (r : Result Totals Fault) → AfterConversion p left_old left_new r a b → AfterConversion p left_old left_new r a c
+  converts_on p (Ok t) converts =
+      IfSome-map left_old _ _ (λ s known. record { converted = (known.converted.0, kept _ known.converted.1); probes = known.probes }) converts
+  converts_on p (Err f) converts = fails_on p f converts
+
+  -- the same of a list
+  stops_on : (stopped : Stopped) → ListStops left_old left_new a b stopped → ListStops left_old left_new a c stopped
+  stops_on _ (ListStops.refused f known) =
+      ListStops.refused f (IfSome-map left_old _ _ (λ s listed. record { fault = listed.fault; written = kept _ listed.written }) known)
+  stops_on _ (ListStops.unread u consumed listed) = ListStops.unread u consumed (record { passes = listed.passes; written = kept _ listed.written })
+  stops_on _ (ListStops.too_long u rest consumed long more listed) =
+      ListStops.too_long u rest consumed long more (record { passes = listed.passes; written = kept _ listed.written })
+  stops_on _ (ListStops.unwritten u rest consumed cut) =
+      ListStops.unwritten u rest consumed (record { count = cut.count; short = cut.short; front = kept _ cut.front })
+
+  pub lists_on : (r : Result Unit Stopped) → ListResult left_old left_new r a b → ListResult left_old left_new r a c
+  lists_on (Ok x) known = IfSome-map left_old _ _ (λ s listed. record { fault = listed.fault; written = kept _ listed.written }) known
+  lists_on (Err stopped) listed = stops_on stopped listed
 
 -- ---- which device is to blame
 
@@ -141,15 +152,6 @@ longer s (Some ys) u rest consumed long more short =
     let whole = simp length-append at (ap length consumed) in
     omega (arith, whole)
 
--- a fault that no device is to blame for is the text's own
-own_fault : (p : Profile) (s : List ℕ) (source out : Device) (a b : Option (List ℕ)) (f : Fault) → IsSmooth s source out
-    → Fails p source.before source.after a b f → Blames f.reason source out → IsConverted p s (is_refused f) a b
-own_fault p s source out a b _ smooth (refused f converted) blames = rw smooth.gives at converted
-own_fault p s source out a b _ smooth (unread u consumed reads) blames = absurd (calm_fails source smooth.reads blames)
-own_fault p s source out a b _ smooth (unwritten u at consumed stops) blames = absurd (calm_fails out smooth.writes blames)
-own_fault p s source out a b _ smooth (too_long u rest consumed long more reads) blames =
-    absurd (longer s source.after u rest (rw smooth.gives at consumed) long more smooth.short)
-
 -- a run without a fault, and its status if it has written all
 pub concludes_by_verdict : (v : Verdict) (source out err : Device) (code : ℕ) (c : Counted) → v ≡ totals c → IsCalm out → Concludes source out err code
     → (code ≡ status_of v) × TellsVerdict err v
@@ -159,47 +161,11 @@ concludes_by_verdict v source out err code c is calm ends =
     (zero ∙ sym (ap status_of is), subst (TellsVerdict err) (sym is) (ends.well zero).1)
 
 -- a run with a fault
-pub refuses_by_verdict : (v : Verdict) (err : Device) (code : ℕ) (f : Fault) → v ≡ is_refused f → code ≡ 1 → Tells err (line (line_of f))
+pub refuses_by_verdict : (v : Verdict) (err : Device) (code : ℕ) (f : Fault) → v ≡ refused f → code ≡ 1 → Tells err (line (line_of f))
     → (code ≡ status_of v) × TellsVerdict err v
 refuses_by_verdict v err code f is ends told = (ends ∙ sym (ap status_of is), subst (TellsVerdict err) (sym is) told)
 
-job_answers : (job : Job) (s : List ℕ) (source out err : Device) (code : ℕ) (answer : Result Totals Fault) → IsSmooth s source out
-    → Works job answer source out → Ends answer source out err code → Answers job s out err code
-job_answers (exporting mode) s source out err code (Ok t) smooth works ends =
-    let converted = (rw smooth.gives at works).converted in
-    let by = concludes_by_verdict _ source out err code _ converted.0 smooth.writes ends in
-    record { ends = by.0; written = converted.1; told = by.1 }
-job_answers (exporting mode) s source out err code (Err f) smooth works ends =
-    let converted = own_fault (profile_of 64 32 mode) s source out out.before out.after f smooth works ends.blames in
-    let by = refuses_by_verdict _ err code f converted.0 ends.ends ends.told in
-    record { ends = by.0; written = converted.1; told = by.1 }
-job_answers checking s source out err code (Ok t) smooth works ends =
-    let converted = (rw smooth.gives at works.0).converted in
-    let by = concludes_by_verdict _ source out err code _ converted.0 smooth.writes ends in
-    record { ends = by.0; written = rw converted.0 (works.1.0 smooth.writes); told = by.1 }
-job_answers checking s source out err code (Err f) smooth works ends =
-    let converted = own_fault (profile_of 64 32 Full) s source out None None f smooth works.0 ends.blames in
-    let by = refuses_by_verdict _ err code f converted.0 ends.ends ends.told in
-    record { ends = by.0; written = rw converted.0 (Appends-kept _ _ _ [] (Appends-nil out.before) works.1); told = by.1 }
-job_answers listing s source out err code answer smooth works ends = absurd works
-
 -- ---- a list
-
--- and a flush after it
-pub stops_on : (left_old left_new a b c : Option (List ℕ)) (stopped : Stopped) → ListStops left_old left_new a b stopped → Keeps b c → ListStops left_old left_new a c stopped
-stops_on left_old left_new a b c _ (list_lines.refused f known) keeps =
-    list_lines.refused f (IfSome-map left_old _ _ (λ s listed. record { fault = listed.fault; written = Appends-kept a b c _ listed.written keeps }) known)
-stops_on left_old left_new a b c _ (list_lines.unread u consumed listed) keeps =
-    list_lines.unread u consumed (record { passes = listed.passes; written = Appends-kept a b c _ listed.written keeps })
-stops_on left_old left_new a b c _ (list_lines.too_long u rest consumed long more listed) keeps =
-    list_lines.too_long u rest consumed long more (record { passes = listed.passes; written = Appends-kept a b c _ listed.written keeps })
-stops_on left_old left_new a b c _ (list_lines.unwritten u rest consumed cut) keeps =
-    list_lines.unwritten u rest consumed (record { count = cut.count; short = cut.short; front = Appends-kept a b c _ cut.front keeps })
-
-pub lists_on : (left_old left_new a b c : Option (List ℕ)) (r : Result Unit Stopped) → ListResult left_old left_new r a b → Keeps b c → ListResult left_old left_new r a c
-lists_on left_old left_new a b c (Ok x) known keeps =
-    IfSome-map left_old _ _ (λ s listed. record { fault = listed.fault; written = Appends-kept a b c _ listed.written keeps }) known
-lists_on left_old left_new a b c (Err stopped) listed keeps = stops_on left_old left_new a b c stopped listed keeps
 
 pub list_blames : (reason : Reason) (source out : Device) → CountsReadFault reason source.failures source.failures_after → Blames reason source out
 list_blames ReadFault source out counts = omega (arith, counts)
@@ -210,49 +176,79 @@ list_blames _ source out counts = tt
 verdict_is : (r : Read) (o : Option Fault) → r.fault ≡ o → verdict_of r ≡ verdict_of (record r { fault = o })
 verdict_is r o is = ap (λ o. verdict_of (record r { fault = o })) is
 
-stopped_answers : (s : List ℕ) (source out err : Device) (code : ℕ) (stopped : Stopped) → IsSmooth s source out
-    → ListStops source.before source.after out.before out.after stopped → EndsList (Err stopped) source out err code → Answers listing s out err code
-stopped_answers s source out err code _ smooth (list_lines.refused f known) ends =
-    let listed = rw smooth.gives at known in
-    let by = refuses_by_verdict _ err code f (verdict_is (read list_profile (tokens_of s)) (Some f) listed.fault) ends.ends ends.told in
-    record { ends = by.0; written = listed.written; told = by.1 }
-stopped_answers s source out err code _ smooth (list_lines.unread u consumed listed) ends = absurd (calm_fails source smooth.reads ends.blames)
-stopped_answers s source out err code _ smooth (list_lines.too_long u rest consumed long more listed) ends =
-    absurd (longer s source.after u rest (rw smooth.gives at consumed) long more smooth.short)
-stopped_answers s source out err code _ smooth (list_lines.unwritten u rest consumed cut) ends = absurd (calm_fails out smooth.writes ends.failed)
-
-list_answers : (s : List ℕ) (source out err : Device) (code : ℕ) (answer : Result Unit Stopped) → IsSmooth s source out
-    → ListResult source.before source.after answer out.before out.after → EndsList answer source out err code → Answers listing s out err code
-list_answers s source out err code (Ok x) smooth works ends =
-    let listed = rw smooth.gives at works in
-    let by = concludes_by_verdict _ source out err code _ (verdict_is (read list_profile (tokens_of s)) None listed.fault) smooth.writes ends in
-    record { ends = by.0; written = listed.written; told = by.1 }
-list_answers s source out err code (Err stopped) smooth works ends = stopped_answers s source out err code stopped smooth works ends
-
 -- ---- any run
 
-pub runs_answers : (job : Job) (s : List ℕ) (source out err : Device) (code : ℕ) → IsSmooth s source out → Runs job source out err code
-    → Answers job s out err code
-runs_answers (exporting mode) s source out err code smooth runs = job_answers (exporting mode) s source out err code runs.answer smooth runs.works runs.ends
-runs_answers checking s source out err code smooth runs = job_answers checking s source out err code runs.answer smooth runs.works runs.ends
-runs_answers listing s source out err code smooth runs = list_answers s source out err code runs.answer smooth runs.lists runs.ends
+module _ (s : List ℕ) (source out : Device) (smooth : IsSmooth s source out) where
+  -- a fault that no device is to blame for is the text's own
+  own_fault : (p : Profile) (a b : Option (List ℕ)) (f : Fault) → Fails p source.before source.after a b f → Blames f.reason source out
+      → IsConverted p s (refused f) a b
+  own_fault p a b _ (Fails.refused f converted) blames = rw smooth.gives at converted
+  own_fault p a b _ (Fails.unread u consumed reads) blames = absurd (calm_fails source smooth.reads blames)
+  own_fault p a b _ (Fails.unwritten u at consumed stops) blames = absurd (calm_fails out smooth.writes blames)
+  own_fault p a b _ (Fails.too_long u rest consumed long more reads) blames =
+      absurd (longer s source.after u rest (rw smooth.gives at consumed) long more smooth.short)
+
+  module _ (err : Device) (code : ℕ) where
+    job_answers : (job : Job) (answer : Result Totals Fault) → Works job answer source out → Ends answer source out err code → Answers job s out err code
+    job_answers (exporting mode) (Ok t) works ends =
+        let converted = (rw smooth.gives at works).converted in
+        let by = concludes_by_verdict _ source out err code _ converted.0 smooth.writes ends in
+        record { ends = by.0; written = converted.1; told = by.1 }
+    job_answers (exporting mode) (Err f) works ends =
+        let converted = own_fault (profile_of 64 32 mode) out.before out.after f works ends.blames in
+        let by = refuses_by_verdict _ err code f converted.0 ends.ends ends.told in
+        record { ends = by.0; written = converted.1; told = by.1 }
+    job_answers checking (Ok t) works ends =
+        let converted = (rw smooth.gives at works.0).converted in
+        let by = concludes_by_verdict _ source out err code _ converted.0 smooth.writes ends in
+        record { ends = by.0; written = rw converted.0 (works.1.0 smooth.writes); told = by.1 }
+    job_answers checking (Err f) works ends =
+        let converted = own_fault (profile_of 64 32 Full) None None f works.0 ends.blames in
+        let by = refuses_by_verdict _ err code f converted.0 ends.ends ends.told in
+        record { ends = by.0; written = rw converted.0 (Appends-kept _ _ _ [] (Appends-nil out.before) works.1); told = by.1 }
+    job_answers listing answer works ends = absurd works
+
+    stopped_answers : (stopped : Stopped) → ListStops source.before source.after out.before out.after stopped → EndsList (Err stopped) source out err code
+        → Answers listing s out err code
+    stopped_answers _ (ListStops.refused f known) ends =
+        let listed = rw smooth.gives at known in
+        let by = refuses_by_verdict _ err code f (verdict_is (read list_profile (tokens_of s)) (Some f) listed.fault) ends.ends ends.told in
+        record { ends = by.0; written = listed.written; told = by.1 }
+    stopped_answers _ (ListStops.unread u consumed listed) ends = absurd (calm_fails source smooth.reads ends.blames)
+    stopped_answers _ (ListStops.too_long u rest consumed long more listed) ends =
+        absurd (longer s source.after u rest (rw smooth.gives at consumed) long more smooth.short)
+    stopped_answers _ (ListStops.unwritten u rest consumed cut) ends = absurd (calm_fails out smooth.writes ends.failed)
+
+    list_answers : (answer : Result Unit Stopped) → ListResult source.before source.after answer out.before out.after
+        → EndsList answer source out err code → Answers listing s out err code
+    list_answers (Ok x) works ends =
+        let listed = rw smooth.gives at works in
+        let by = concludes_by_verdict _ source out err code _ (verdict_is (read list_profile (tokens_of s)) None listed.fault) smooth.writes ends in
+        record { ends = by.0; written = listed.written; told = by.1 }
+    list_answers (Err stopped) works ends = stopped_answers stopped works ends
+
+    pub runs_answers : (job : Job) → Runs job source out err code → Answers job s out err code
+    runs_answers (exporting mode) runs = job_answers (exporting mode) runs.answer runs.works runs.ends
+    runs_answers checking runs = job_answers checking runs.answer runs.works runs.ends
+    runs_answers listing runs = list_answers runs.answer runs.lists runs.ends
 
 -- ---- the status
 
--- it is 1 at most, and 0 only if no device failed
-ends_as : (answer : Result Totals Fault) (source out err : Device) (code : ℕ) → Ends answer source out err code
-    → (code ≤ 1) × (code ≡ 0 → IsStill source × IsStill out)
-ends_as (Ok t) source out err code ends = (ends.ends, λ zero. (ends.read, (ends.well zero).0))
-ends_as (Err f) source out err code ends = (omega (arith, ends.ends), λ zero. absurd (omega (arith, ends.ends, zero)))
+module _ (source out err : Device) (code : ℕ) where
+  -- it is 1 at most, and 0 only if no device failed
+  abbrev EndsAs : Type 0
+  EndsAs = (code ≤ 1) × (code ≡ 0 → IsStill source × IsStill out)
 
-list_ends_as : (answer : Result Unit Stopped) (source out err : Device) (code : ℕ) → EndsList answer source out err code
-    → (code ≤ 1) × (code ≡ 0 → IsStill source × IsStill out)
-list_ends_as (Ok x) source out err code ends = (ends.ends, λ zero. (ends.read, (ends.well zero).0))
-list_ends_as (Err (stopped.Refused f)) source out err code ends = ends_as (Err f) source out err code ends
-list_ends_as (Err stopped.Unwritten) source out err code ends = (omega (arith, ends.ends), λ zero. absurd (omega (arith, ends.ends, zero)))
+  ends_as : (answer : Result Totals Fault) → Ends answer source out err code → EndsAs
+  ends_as (Ok t) ends = (ends.ends, λ zero. (ends.read, (ends.well zero).0))
+  ends_as (Err f) ends = (omega (arith, ends.ends), λ zero. absurd (omega (arith, ends.ends, zero)))
 
-pub runs_end : (job : Job) (source out err : Device) (code : ℕ) → Runs job source out err code
-    → (code ≤ 1) × (code ≡ 0 → IsStill source × IsStill out)
-runs_end (exporting mode) source out err code runs = ends_as runs.answer source out err code runs.ends
-runs_end checking source out err code runs = ends_as runs.answer source out err code runs.ends
-runs_end listing source out err code runs = list_ends_as runs.answer source out err code runs.ends
+  list_ends_as : (answer : Result Unit Stopped) → EndsList answer source out err code → EndsAs
+  list_ends_as (Ok x) ends = (ends.ends, λ zero. (ends.read, (ends.well zero).0))
+  list_ends_as (Err (Stopped.Refused f)) ends = ends_as (Err f) ends
+  list_ends_as (Err Stopped.Unwritten) ends = (omega (arith, ends.ends), λ zero. absurd (omega (arith, ends.ends, zero)))
+
+  pub runs_end : (job : Job) → Runs job source out err code → EndsAs
+  runs_end (exporting mode) runs = ends_as runs.answer runs.ends
+  runs_end checking runs = ends_as runs.answer runs.ends
+  runs_end listing runs = list_ends_as runs.answer runs.ends

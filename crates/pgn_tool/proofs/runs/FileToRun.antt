@@ -5,7 +5,7 @@ use Rattle.pgn_arguments.specs.declared.arguments.ParseFault.{ParseFault}
 use Rattle.pgn_arguments.specs.Requests.{AnswersBy, file_of, request_in, request_of}
 
 -- the device that was opened: what it had at first, and what it has in the end
-abbrev pub left_at : Option (List ℕ) → ℕ → Reading → Device
+abbrev left_at : Option (List ℕ) → ℕ → Reading → Device
 left_at left failures r = record { before = left; after = r.standard.after; failures = failures; failures_after = r.standard.failures_after }
 
 -- the device until then

@@ -35,7 +35,7 @@ read_more p b (t ∷ ts) us e =
 -- ---- games
 
 -- the games of one list are those of another and more
-abbrev pub Extends : List Game → List Game → Type 0
+abbrev Extends : List Game → List Game → Type 0
 Extends old new = (more : List Game) × (new ≡ old ++ more)
 
 extends_same : (gs : List Game) → Extends gs gs
@@ -48,7 +48,7 @@ extends_next : (gs : List Game) (nx : Next) → Extends gs (progress_with gs nx)
 extends_next gs (going part) = extends_same gs
 extends_next gs (whole g) = (g ∷ [], refl)
 
-pub games_extend : (p : Profile) (b : Progress) (ts : List Token) → Extends b.games (read_from p b ts).progress.games
+games_extend : (p : Profile) (b : Progress) (ts : List Token) → Extends b.games (read_from p b ts).progress.games
 games_extend p b [] = extends_same b.games
 games_extend p b (t ∷ ts) =
     elim (refusal p b.part t.kind) as (λ o. Extends b.games (after_test p b t ts o).progress.games) [

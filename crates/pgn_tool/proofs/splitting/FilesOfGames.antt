@@ -1,7 +1,6 @@
 -- The files of a split hold the export texts of the games.
 use Rattle.pgn_tool.proofs.Words.{◌≡◌, ◌∙◌, ℕ, ◌+◌, List, [], ◌∷◌, ◌++◌, length, Option, None, Some, refl, sym, ap, arith, append_assoc, append-nil, length-append, Appends, false≢true, append_cancel_left, one_more, Token, Full, Game, start_of, tag_section, result_for, game_text, text_of, tokens_out, due, read, GameFile, NotMade, Open, list_profile, FileStep, IsBegun, added, bytes_in, closed, failures_in, file_steps, made, number_after, whole_files, torn_file, torn_text}
 use Rattle.pgn_layout.specs.Lines.{lines_of, text_of as text_of_lines}
-use Rattle.pgn_tool.specs.declared.game_sink.GameFile.TheVariants.{Refused}
 
 -- ---- logs
 
@@ -83,4 +82,4 @@ file_holds taken failures b n NotMade text begun clean wrote = ap (torn_file n) 
 file_holds taken failures b n (Open out) text begun clean wrote =
     let is = taken_is (taken out) text wrote in
     rw (is, clean) (sym (torn_made n text (λ none. false≢true (rw (is, ← none) at (begun clean)))))
-file_holds taken failures b n (Refused fault failed) text begun clean wrote = absurd (false≢true (begun clean))
+file_holds taken failures b n (GameFile.Refused fault failed) text begun clean wrote = absurd (false≢true (begun clean))

@@ -1,13 +1,6 @@
 -- What each game makes of the files of the games so far.
-use Rattle.pgn_tool.proofs.Words.{◌≡◌, ◌∙◌, ℕ, ◌^◌, ◌<◌, ◌≤◌, true, false, List, [], ◌∷◌, ◌++◌, length, length-append, length-take, map, take, Option, None, Some, IfSome, Result, Ok, Err, refl, sym, ap, subst, inl, inr, ◌⊎◌, arith, append_assoc, append-nil, Appends, Consumes, Consumes-trans, false≢true, length-map, map-append, Device, one_more, Token, tokens_of, Reason, ReadFault, WriteFault, InputTooLong, Fault, game_text, text_of, torn, Read, due, no_progress, read, StopsWriting, CountsDevices, Games, NextGame, NextStops, NoGame, ReadsNoGame, GameFile, NotMade, Open, Unsplit, list_profile, FileStep, IsBegun, added, bytes_in, closed, failures_in, file_steps, made, number_after, refusal_step, taken_by, whole_files, CountsSource, CountsSplit, GameSplit, IsOwn, LastFile, SplitFiles, reported, settled, CutFile, CutsFile, IsSplit, IsSplitWhole, Logs, LogsCut, SplitResult, SplitStops, SplitsNoMore, StopsAt, files_of, texts_in, torn_file, torn_text, SplitSoFar, Consumes-whole}
+use Rattle.pgn_tool.proofs.Words.{◌≡◌, ◌∙◌, ℕ, ◌^◌, ◌<◌, ◌≤◌, true, false, List, [], ◌∷◌, ◌++◌, length, length-append, length-take, map, take, Option, None, Some, IfSome, Result, Ok, Err, refl, sym, ap, subst, inl, inr, ◌⊎◌, arith, append_assoc, append-nil, Appends, Consumes, Consumes-trans, false≢true, length-map, map-append, Device, one_more, Token, tokens_of, Reason, ReadFault, WriteFault, InputTooLong, Fault, game_text, text_of, Read, due, no_progress, read, StopsWriting, CountsDevices, Games, NextGame, NextStops, NoGame, ReadsNoGame, GameFile, NotMade, Open, Unsplit, list_profile, FileStep, IsBegun, added, bytes_in, closed, failures_in, file_steps, made, number_after, refusal_step, taken_by, whole_files, CountsSource, CountsSplit, GameSplit, IsOwn, LastFile, SplitFiles, reported, settled, CutFile, CutsFile, IsSplit, IsSplitWhole, Logs, LogsCut, SplitResult, SplitStops, SplitsNoMore, StopsAt, files_of, texts_in, torn_file, torn_text, SplitSoFar, Consumes-whole, CreateFault, Stops, games_before}
 use Rattle.pgn_game.specs.Due.{Gains}
-use Rattle.pgn_game.specs.ConverterCalls as converter_calls
-use Rattle.pgn_game.specs.GamesCalls as games_calls
-use Rattle.pgn_tool.specs.declared.files.CreateFault.TheVariants as create_faults
-use Rattle.pgn_tool.specs.declared.game_sink.GameFile.TheVariants.{Refused}
-use Rattle.pgn_tool.specs.declared.split.Unsplit.TheVariants as unsplit
-use Rattle.pgn_tool.specs.SplitFiles as split_files
-use Rattle.pgn_tool.specs.SplitGames as split_games
 use Rattle.pgn_tool.proofs.runs.CallToLines.{ReadAs, has_read_of, reads_at_end, reads_at_token}
 use Rattle.pgn_tool.proofs.splitting.FilesOfGames.{file_holds, game_is, log_on, none_torn, number_is, taken_is, torn_is, whole_and_one, whole_file}
 use Rattle.pgn_tool.proofs.splitting.NoWriteFaultInTable.{read_own}
@@ -28,18 +21,18 @@ due_to at _ s t failed counts = (counts.0, (λ own. counts.1), inr (tt, counts.1
 
 module _ {A : Type 0} (taken : A → Option (List ℕ)) (failures : A → ℕ) (log : Option (List FileStep)) where
   -- where no write failed the fault itself is reported
-  own_reported : (file : GameFile A) (f : Fault) → IsBegun taken failures log file → failures_in failures file ≡ 0 → reported file f ≡ unsplit.Refused f
-  own_reported (Refused fault failed) f begun clean = absurd (false≢true (begun clean))
+  own_reported : (file : GameFile A) (f : Fault) → IsBegun taken failures log file → failures_in failures file ≡ 0 → reported file f ≡ Unsplit.Refused f
+  own_reported (GameFile.Refused fault failed) f begun clean = absurd (false≢true (begun clean))
   own_reported _ f begun clean = refl
 
   -- where one failed it is that, or want of memory
   write_reported : (file : GameFile A) (at : ℕ) → StopsAt at (reported file (record { at = at; reason = WriteFault }))
-  write_reported (Refused create_faults.NoMemory failed) at = tt
+  write_reported (GameFile.Refused CreateFault.NoMemory failed) at = tt
   write_reported _ at = refl
 
-  pub counts_source : (file : GameFile A) (f : Fault) (s t : ℕ) → IsBegun taken failures log file → CountsDevices f.reason s t 0 (failures_in failures file)
+  counts_source : (file : GameFile A) (f : Fault) (s t : ℕ) → IsBegun taken failures log file → CountsDevices f.reason s t 0 (failures_in failures file)
       → CountsSplit {A = Unit} (Err (reported file f)) s t
-  counts_source (Refused create_faults.NoMemory failed) f s t begun counts =
+  counts_source (GameFile.Refused CreateFault.NoMemory failed) f s t begun counts =
       elim (due_to f.at f.reason s t failed counts).2 [
         | inl (write, more, same) ↦ same
         | inr (own, zero) ↦ absurd (false≢true (begun zero))
@@ -54,15 +47,15 @@ module _ {A : Type 0} (taken : A → Option (List ℕ)) (failures : A → ℕ) (
       by_reason : (file : GameFile A) → IsBegun taken failures log file → ((record { at = f.at; reason = WriteFault } ≡ f) × (0 < failures_in failures file) × (t ≡ s)) ⊎ (IsOwn f.reason × (failures_in failures file ≡ 0))
           → LastFile n (Err (reported file f)) (file_steps taken failures (one_more n) file)
       by_reason NotMade begun (inl (write, more, same)) = absurd (omega (arith, more))
-      by_reason NotMade begun (inr (own, zero)) = split_files.not_begun f own
+      by_reason NotMade begun (inr (own, zero)) = LastFile.not_begun f own
       by_reason (Open out) begun (inl (write, more, same)) =
-          subst (λ h. LastFile n (Err (unsplit.Refused h)) (made (one_more n) ∷ closed (taken out) (failures out) ∷ [])) write
-          (split_files.unwritten f.at (failures out) (taken out) more)
-      by_reason (Open out) begun (inr (own, zero)) = rw zero (split_files.torn f (taken out) own)
-      by_reason (Refused create_faults.Refused failed) begun (inl (write, more, same)) =
-          subst (λ h. LastFile n (Err (unsplit.Refused h)) (refusal_step (one_more n) create_faults.Refused ∷ [])) write (split_files.not_made f.at)
-      by_reason (Refused create_faults.NoMemory failed) begun (inl (write, more, same)) = split_files.no_memory
-      by_reason (Refused fault failed) begun (inr (own, zero)) = absurd (false≢true (begun zero))
+          subst (λ h. LastFile n (Err (Unsplit.Refused h)) (made (one_more n) ∷ closed (taken out) (failures out) ∷ [])) write
+          (LastFile.unwritten f.at (failures out) (taken out) more)
+      by_reason (Open out) begun (inr (own, zero)) = rw zero (LastFile.torn f (taken out) own)
+      by_reason (GameFile.Refused CreateFault.Refused failed) begun (inl (write, more, same)) =
+          subst (λ h. LastFile n (Err (Unsplit.Refused h)) (refusal_step (one_more n) CreateFault.Refused ∷ [])) write (LastFile.not_made f.at)
+      by_reason (GameFile.Refused CreateFault.NoMemory failed) begun (inl (write, more, same)) = LastFile.no_memory
+      by_reason (GameFile.Refused fault failed) begun (inr (own, zero)) = absurd (false≢true (begun zero))
 
 -- ---- one game
 
@@ -76,9 +69,9 @@ cut_steps : {A : Type 0} → (taken : A → Option (List ℕ)) (failures : A →
     → CutFile n text least (file_steps taken failures (one_more n) file)
 cut_steps taken failures n NotMade text count least wrote short low more = absurd (omega (arith, more))
 cut_steps taken failures n (Open out) text count least wrote short low more =
-    rw (taken_is (taken out) (take count text) wrote) (split_games.cut count (failures out) low short more)
-cut_steps taken failures n (Refused fault failed) text count least wrote short low more =
-    split_games.not_made fault (omega (arith, low, short, ap (length {A = ℕ}) wrote, length-take count text)) (omega (arith, short))
+    rw (taken_is (taken out) (take count text) wrote) (CutFile.cut count (failures out) low short more)
+cut_steps taken failures n (GameFile.Refused fault failed) text count least wrote short low more =
+    CutFile.not_made fault (omega (arith, low, short, ap (length {A = ℕ}) wrote, length-take count text)) (omega (arith, short))
 
 module _ {A : Type 0} (taken : A → Option (List ℕ)) (failures : A → ℕ) (left_old left left_new : Option (List ℕ)) (old new : Games)
     (before log after : Option (List FileStep)) (so : SplitSoFar left_old left old before log)
@@ -112,7 +105,7 @@ module _ {A : Type 0} (taken : A → Option (List ℕ)) (failures : A → ℕ) (
       (subst (λ l. Appends (bytes_in taken l NotMade) (bytes_in taken l file) text) (known_log b is) wrote))
 
   -- a game more
-  pub game_split : NextGame list_profile so.bytes so.tokens left left_new new none some → failures_in failures file ≡ 0 → SplitSoFar left_old left_new new before after
+  game_split : NextGame list_profile so.bytes so.tokens left left_new new none some → failures_in failures file ≡ 0 → SplitSoFar left_old left_new new before after
   game_split game clean =
       let own = game_text list_profile game.game in
       let is = game_is so.tokens game.tokens game.gains.text so.none_torn game.gains.due_for game.game game.one_game game.whole in
@@ -149,13 +142,13 @@ module _ {A : Type 0} (taken : A → Option (List ℕ)) (failures : A → ℕ) (
         ∙ ap (λ text. added before (whole_files 0 (texts_in text_tokens) ++ torn_file (number_after 0 (texts_in text_tokens)) text))
         (none_torn text_tokens end.have_read_all.none_begun)
 
-    pub all_ended : IfSome left_old (λ s. IsSplitWhole s before after) × SplitFiles before after (Ok tt)
+    all_ended : IfSome left_old (λ s. IsSplitWhole s before after) × SplitFiles before after (Ok tt)
     all_ended = (
       Consumes-whole left_old left_new (so.bytes ++ end.more) (λ s. IsSplitWhole s before after) (all end.more end.consumed) end.have_read_all.at_end (record {
         passes = end.have_read_all.has_read.passes;
         files = logs before after _ (all_files ∙ ap (added before) (append-nil (whole_files 0 (texts_in text_tokens))));
       }),
-      record { texts = texts_in text_tokens; last = []; logged = all_files; ends = split_files.all_whole },
+      record { texts = texts_in text_tokens; last = []; logged = all_files; ends = LastFile.all_whole },
     )
 
   -- ---- how a split stops
@@ -206,47 +199,47 @@ module _ {A : Type 0} (taken : A → Option (List ℕ)) (failures : A → ℕ) (
   abbrev Stopped : Fault → Type 0
   Stopped h = SplitStops left_old left_new before after (reported file h)
 
-  pub split_stops : (most : ℕ) (f : Fault) (s t : ℕ) → NextStops list_profile so.bytes so.tokens left left_new most none some f
+  split_stops : (most : ℕ) (f : Fault) (s t : ℕ) → NextStops list_profile so.bytes so.tokens left left_new most none some f
       → CountsDevices f.reason s t 0 (failures_in failures file) → SplitStops left_old left_new before after (reported file f)
   split_stops most f s t stopped counts = by_stop stopped counts
     where
-      own : (h : Fault) → failures_in failures file ≡ 0 → SplitStops left_old left_new before after (unsplit.Refused h) → Stopped h
+      own : (h : Fault) → failures_in failures file ≡ 0 → SplitStops left_old left_new before after (Unsplit.Refused h) → Stopped h
       own h clean stops = subst (SplitStops left_old left_new before after) (sym (own_reported taken failures log file h begun clean)) stops
 
       clean_at : (h : Fault) → IsOwn h.reason → CountsDevices h.reason s t 0 (failures_in failures file) → failures_in failures file ≡ 0
       clean_at h is counts = (due_to h.at h.reason s t (failures_in failures file) counts).1 is
 
       by_stops : {h : Fault} (u : List ℕ) (ts rest : List Token) → Consumes left_old left_new u → tokens_of u ≡ ts ++ rest → ReadAs left_old ts
-          → (stops : converter_calls.Stops list_profile so.tokens ts none some h) → converter_calls.games_before stops ≡ (read list_profile so.tokens).progress.games
+          → (stops : Stops list_profile so.tokens ts none some h) → games_before stops ≡ (read list_profile so.tokens).progress.games
           → CountsDevices h.reason s t 0 (failures_in failures file) → Stopped h
-      by_stops u ts rest consumed tokens reads (converter_calls.unwritten at writing) same counts =
-          split_games.unwritten u _ consumed (cuts u ts rest at writing same tokens (omega (arith, counts.1)))
-      by_stops u ts rest consumed tokens reads (converter_calls.refused h fault gains) same counts =
+      by_stops u ts rest consumed tokens reads (Stops.unwritten at writing) same counts =
+          SplitStops.unwritten u _ consumed (cuts u ts rest at writing same tokens (omega (arith, counts.1)))
+      by_stops u ts rest consumed tokens reads (Stops.refused h fault gains) same counts =
           let is_own : IsOwn h.reason = rw fault at (read_own list_profile no_progress ts) in
           let clean = clean_at h is_own counts in
           let files = logs before after _ (files_left ts gains same clean) in
-          own h clean (split_games.rejected h (reads h fault (λ s. IsSplit s h before after) (λ s is. record {
+          own h clean (SplitStops.rejected h (reads h fault (λ s. IsSplit s h before after) (λ s is. record {
             fault = ap (λ (r : Read). r.fault) is ∙ fault;
             files = rw is files;
           })))
 
       by_stop : {h : Fault} → NextStops list_profile so.bytes so.tokens left left_new most none some h → CountsDevices h.reason s t 0 (failures_in failures file) → Stopped h
-      by_stop (games_calls.at_token h more consumed to) counts =
+      by_stop (NextStops.at_token h more consumed to) counts =
           let (rest, begins) = to.next [] tt in
           by_stops (so.bytes ++ more) to.tokens rest (all more consumed) (ap tokens_of (sym (append-nil (so.bytes ++ more))) ∙ begins)
           (reads_at_token left_old left_new (so.bytes ++ more) to.tokens (all more consumed) to.next) to.stops to.no_game counts
-      by_stop (games_calls.at_end h more consumed end to) counts =
+      by_stop (NextStops.at_end h more consumed end to) counts =
           by_stops (so.bytes ++ more) (tokens_of (so.bytes ++ more)) [] (all more consumed) (sym (append-nil (tokens_of (so.bytes ++ more))))
           (reads_at_end left_old left_new (so.bytes ++ more) (all more consumed) end) to.stops to.no_game counts
-      by_stop (games_calls.unread more consumed none_read) counts =
+      by_stop (NextStops.unread more consumed none_read) counts =
           let clean = clean_at (record { at = length (so.bytes ++ more); reason = ReadFault }) tt counts in
-          own _ clean (split_games.unread (so.bytes ++ more) (all more consumed) (no_more (so.bytes ++ more) none_read clean))
-      by_stop (games_calls.too_long more front rest consumed parts place further none_read) counts =
+          own _ clean (SplitStops.unread (so.bytes ++ more) (all more consumed) (no_more (so.bytes ++ more) none_read clean))
+      by_stop (NextStops.too_long more front rest consumed parts place further none_read) counts =
           let clean = clean_at (record { at = 2 ^ 62; reason = InputTooLong }) tt counts in
-          own _ clean (subst (λ n. SplitStops left_old left_new before after (unsplit.Refused (record { at = n; reason = InputTooLong }))) place
-          (split_games.too_long front rest (subst (Consumes left_old left_new) parts (all more consumed)) place further (no_more front none_read clean)))
+          own _ clean (subst (λ n. SplitStops left_old left_new before after (Unsplit.Refused (record { at = n; reason = InputTooLong }))) place
+          (SplitStops.too_long front rest (subst (Consumes left_old left_new) parts (all more consumed)) place further (no_more front none_read clean)))
 
-  pub files_stop : (f : Fault) (s t : ℕ) → CountsDevices f.reason s t 0 (failures_in failures file) → SplitFiles before after (Err (reported file f))
+  files_stop : (f : Fault) (s t : ℕ) → CountsDevices f.reason s t 0 (failures_in failures file) → SplitFiles before after (Err (reported file f))
   files_stop f s t counts = record {
     texts = texts;
     last = file_steps taken failures (one_more (number_after 0 texts)) file;

@@ -1,6 +1,5 @@
 -- No token is rejected because of a write that failed.
 use Rattle.pgn_tool.proofs.Words.{List, [], ◌∷◌, None, Some, true, false, IfSome, Kind, Token, Profile, Part, Row, first_holding, refusal, rows, Progress, progress_after, read_from, IsOwn}
-use Rattle.pgn_lexer.specs.Tokens as tokens
 use Rattle.pgn_tool.proofs.runs.TokensInTwoParts.{after_test}
 
 abbrev AreOwn : List Row → Type 0
@@ -20,7 +19,7 @@ rows_own p part k = (tt, (tt, (tt, (tt, (tt, (tt, (tt, (tt, (tt, (tt, (tt, (tt, 
 
 refusal_own : (p : Profile) (part : Part) (k : Kind) → IfSome (refusal p part k) IsOwn
 unfolding refusal
-refusal_own p part (tokens.refused r) = tt
+refusal_own p part (Kind.refused r) = tt
 refusal_own p part k = first_own (rows p part k) (rows_own p part k)
 
 pub read_own : (p : Profile) (b : Progress) (ts : List Token) → IfSome (read_from p b ts).fault (λ f. IsOwn f.reason)

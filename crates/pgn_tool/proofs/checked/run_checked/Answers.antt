@@ -7,11 +7,11 @@ pub returns-clause-runs : goal.returns-clause-runs
 returns-clause-runs g c = rw c.in-Checked.is (rw c.export_mode.ensures at c.export_twice.ensures.runs)
 
 pub returns-clause-answers : goal.returns-clause-answers
-returns-clause-answers g c = λ s r one other. twice_answers _ s r _ _ _ _ _ one other (returns-clause-runs g c)
+returns-clause-answers g c = λ s r one other. twice_answers s r _ _ _ one other _ _ _ (returns-clause-runs g c)
 
 pub returns-clause-same : goal.returns-clause-same
 returns-clause-same g c =
-    λ s one other. same_answers _ s _ _ _ c.equal_readings.ensures (twice_answers _ s s _ _ _ _ _ one other (returns-clause-runs g c))
+    λ s one other. same_answers _ s _ _ _ c.equal_readings.ensures (twice_answers s s _ _ _ one other _ _ _ (returns-clause-runs g c))
 
 pub returns-clause-front : goal.returns-clause-front
 returns-clause-front g c =

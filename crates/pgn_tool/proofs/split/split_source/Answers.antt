@@ -1,6 +1,5 @@
 use Rattle.pgn_tool.proofs.Words.{◌∙◌, ap, refl, sym, [], Ok, Consumes-nil, err_from_is_err_and}
 use Rattle.pgn_tool.proofs.splitting.GameToFiles.{no_more_games, one_more_game, stops_at}
-use Rattle.pgn_tool.proofs.splitting.BytesOfFile.{added_nil}
 use Rattle.pgn_tool.proofs.split.split_source.Goals as goal
 
 pub loop-init : goal.loop-init
@@ -14,7 +13,7 @@ loop-init g c =
         consumed = Consumes-nil _;
         have_read = c.new-games.ensures.begins _;
         none_torn = refl;
-        files = sym (added_nil _);
+        files = sym (Rattle.pgn_tool.proofs.splitting.BytesOfFile.added_nil _);
       };
     }
 

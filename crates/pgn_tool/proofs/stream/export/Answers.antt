@@ -9,7 +9,7 @@ returns-in-Ok g c =
     record {
       runs = record {
         answer = Ok c.in-Ok.field-0;
-        works = converts_on _ _ (g.R.Source.left c.convert-answer.new.reader) _ _ _ (Ok c.in-Ok.field-0) c.in-Ok.ensures.converts flush.ensures.bytes;
+        works = converts_on _ (g.R.Source.left c.convert-answer.new.reader) _ _ _ flush.ensures.bytes _ (Ok c.in-Ok.field-0) c.in-Ok.ensures.converts;
         counted = (_, counted, flush_counts flush.result _ _ flush.ensures.failures);
         ends =
             concludes_flushed g.E.Sink.taken g.E.Sink.failures _ _ flush.result c.is_ok.result _ _ _ _ c.is_ok.ensures.value counted.0 counted.1 flush.ensures.failures
@@ -28,7 +28,7 @@ returns-in-Err g c =
     record {
       runs = record {
         answer = Err c.in-Err.fault;
-        works = converts_on _ _ _ _ _ _ (Err c.in-Err.fault) c.in-Err.ensures.converts flush.ensures.bytes;
+        works = converts_on _ _ _ _ _ flush.ensures.bytes _ (Err c.in-Err.fault) c.in-Err.ensures.converts;
         counted = (_, counted, flush_counts flush.result _ _ flush.ensures.failures);
         ends = record {
           ends = c.refuse.ensures.status;

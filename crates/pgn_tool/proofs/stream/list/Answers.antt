@@ -9,7 +9,7 @@ returns-in-Ok g c =
     record {
       runs = record {
         answer = Ok tt;
-        lists = lists_on _ (g.R.Source.left c.list_games-answer.new.source) _ _ _ (Ok tt) c.in-Ok.ensures.lists flush.ensures.bytes;
+        lists = lists_on _ (g.R.Source.left c.list_games-answer.new.source) _ _ _ flush.ensures.bytes (Ok tt) c.in-Ok.ensures.lists;
         counted = (_, counted, flush_counts flush.result _ _ flush.ensures.failures);
         ends =
             concludes_flushed g.E.Sink.taken g.E.Sink.failures _ _ flush.result c.is_ok.result _ _ _ _ c.is_ok.ensures.value counted.0 counted.1 flush.ensures.failures
@@ -30,7 +30,7 @@ returns-in-Err-Refused g c =
     record {
       runs = record {
         answer = Err (Refused f);
-        lists = lists_on _ _ _ _ _ (Err (Refused f)) (rw is at list.ensures.lists) flush.ensures.bytes;
+        lists = lists_on _ _ _ _ _ flush.ensures.bytes (Err (Refused f)) (rw is at list.ensures.lists);
         counted = (_, counted, flush_counts flush.result _ _ flush.ensures.failures);
         ends = record {
           ends = c.refuse.ensures.status;
@@ -51,7 +51,7 @@ returns-in-Err-Unwritten g c =
     record {
       runs = record {
         answer = Err Unwritten;
-        lists = lists_on _ _ _ _ _ (Err Unwritten) (rw is at list.ensures.lists) flush.ensures.bytes;
+        lists = lists_on _ _ _ _ _ flush.ensures.bytes (Err Unwritten) (rw is at list.ensures.lists);
         counted = (_, counted, flush_counts flush.result _ _ flush.ensures.failures);
         ends = record { ends = told.status; failed = risen flush.result _ _ _ counted.1 flush.ensures.failures; told = told.told refl };
       };
