@@ -1,13 +1,6 @@
 -- Worked rows of inputs that are read twice.
-use Prim.Native.String.{String}
-use Rattle.std.proofs.Common.{◌≡◌, ℕ, List, [], ◌++◌, None, refl}
-use Rattle.std.specs.Prelude.{codes, replicate, take}
-use Rattle.pgn_lexer.specs.TokensOf.{tokens_of}
+use Rattle.worked_rows.proofs.Words.{String, ◌≡◌, ℕ, List, [], ◌++◌, None, refl, codes, replicate, take, tokens_of, Full, Reduced, ResultDiffers, IllegalMove, UnexpectedEnd, Changed, Profile, Verdict, totals, due, output}
 use Rattle.pgn_lexer.specs.Decided.{decided}
-use Rattle.pgn_game.specs.declared.mode.Mode.TheVariants.{Full, Reduced}
-use Rattle.pgn_game.specs.declared.reason.Reason.TheVariants.{ResultDiffers, IllegalMove, UnexpectedEnd, Changed}
-use Rattle.pgn_game.specs.Profile.{Profile}
-use Rattle.pgn_game.specs.Progress.{Verdict, totals, due, output}
 use Rattle.pgn_game.specs.Checked.{checked_profile, compared, written_by, checked_verdict, checked_output}
 use Rattle.worked_rows.proofs.WorkedRows.{counted, fault, head, unknown, of_moves}
 

@@ -1,17 +1,10 @@
 -- Boards and moves written as texts, for the worked positions.
-use Prim.Native.String.{String}
-use Rattle.std.specs.Prelude.{ℕ, codes, ◌+◌, ◌-◌, List, [], ◌∷◌, ◌++◌, Option, None, Some, map, flat_map, replicate, find, option_map, ◌==◌, nat_le, unwrap_or, ◌&&◌, if◌then◌else◌}
+use Rattle.worked_rows.proofs.Words.{String, ℕ, codes, ◌+◌, ◌-◌, List, [], ◌∷◌, ◌++◌, Option, None, Some, map, flat_map, replicate, find, option_map, ◌==◌, nat_le, unwrap_or, ◌&&◌, if◌then◌else◌, White, Black, King, Queen, Rook, Bishop, Knight, Pawn, Promotion, Move, Parts, Square, square}
 use Rattle.std.specs.List.{list_any}
 use Rattle.chess_rules.specs.declared.piece.Colour.{Colour}
-use Rattle.chess_rules.specs.declared.piece.Colour.TheVariants.{White, Black}
 use Rattle.chess_rules.specs.declared.piece.Kind.{Kind}
-use Rattle.chess_rules.specs.declared.piece.Kind.TheVariants.{King, Queen, Rook, Bishop, Knight, Pawn}
 use Rattle.chess_rules.specs.declared.piece.Piece.{Piece}
-use Rattle.chess_rules.specs.declared.piece.Promotion.{Promotion}
-use Rattle.chess_rules.specs.declared.position.Move.{Move}
-use Rattle.chess_rules.specs.declared.position.Parts.{Parts}
 use Rattle.chess_rules.specs.declared.position.Rights.{Rights}
-use Rattle.chess_rules.specs.Square.{Square, square}
 use Rattle.chess_rules.specs.Board.{Board}
 
 abbrev kind_letter : Kind → ℕ
@@ -56,6 +49,13 @@ rights s =
 abbrev pub position : String → Colour → String → Option Square → ℕ → ℕ → Parts
 position s c r target half full =
     record { board = drawn_from (codes s) [] []; side = c; rights = rights (codes r); target = target; half = half; full = full }
+
+-- with no rights, no target and the first numbers
+abbrev pub white : String → Parts
+white s = position s White "" None 0 1
+
+abbrev pub black : String → Parts
+black s = position s Black "" None 0 1
 
 -- a square by its letter and digit
 abbrev square_at : List ℕ → Square

@@ -1,28 +1,12 @@
 -- Worked rows of games with their defaults filled in (PGN 3.2.4, 8.1.1, 9.7), of texts that are
 -- written again as they are, and of what goes wrong where a premise of the laws is missing.
-use Prim.Native.String.{String}
-use Rattle.std.proofs.Common.{◌≡◌, ℕ, List, [], ◌∷◌, ◌++◌, length, refl, arith}
-use Rattle.std.specs.Prelude.{codes, replicate}
-use Rattle.std.specs.Fmt.{digits}
-use Rattle.chess_rules.specs.Square.{squares}
-use Rattle.chess_text.specs.MoveOfForm.{agreeing}
+use Rattle.worked_rows.proofs.Words.{LexReason, String, ◌≡◌, ℕ, List, [], ◌∷◌, ◌++◌, length, refl, arith, codes, replicate, digits, squares, agreeing, tokens_of, Full, Reduced, Lexical, NotAMove, TooManyTags, Profile, counts_as, Counted, Verdict, refused, totals, output, verdict, first_position, position_of, move_of, text_of_move, play, refusal, Item, Game, Pair, roster}
 use Rattle.pgn_lexer.specs.Tokens as tokens
-use Rattle.pgn_lexer.specs.TokensOf.{tokens_of}
-use Rattle.pgn_lexer.specs.declared.token.LexReason.TheVariants as lex_reasons
-use Rattle.pgn_game.specs.declared.mode.Mode.TheVariants.{Full, Reduced}
-use Rattle.pgn_game.specs.declared.reason.Reason.TheVariants.{Lexical, NotAMove, TooManyTags}
-use Rattle.pgn_game.specs.Profile.{Profile, counts_as}
 use Rattle.pgn_game.specs.declared.reason.Fault.{Fault}
-use Rattle.pgn_game.specs.Progress.{Counted, Verdict, refused, totals, output, verdict}
-use Rattle.pgn_game.specs.Chess.{first_position, position_of, move_of, text_of_move, play}
-use Rattle.pgn_game.specs.FaultTable.{refusal}
 use Rattle.pgn_game.specs.Filled.{exported_pairs, filled}
 use Rattle.pgn_game.specs.FixedPoint.{TagSectionFits, AreExportable, TextSpells, FixedPoint, IsExportable, ExportingTwice, FewPairsHaveRoom}
 use Rattle.pgn_game.specs.Game as games
-use Rattle.pgn_game.specs.Game.{Item, Game}
-use Rattle.pgn_game.specs.Pairs.{Pair}
 use Rattle.pgn_game.specs.Spells.{Spells, no_pair, no_game, next_game, no_more, new_level}
-use Rattle.pgn_game.specs.TagSection.{roster}
 use Rattle.pgn_game.specs.Text.{text_of}
 use Rattle.worked_rows.proofs.LegalRows.{moves, e4, e5}
 use Rattle.worked_rows.proofs.MoveRows.{played}
@@ -158,7 +142,7 @@ unfolding roster
 odd_name_text = refl
 
 odd_name_refused :
-    BytesGive plain (text_of plain (odd_name ∷ [])) (fault 93 (Lexical lex_reasons.StrayByte)) []
+    BytesGive plain (text_of plain (odd_name ∷ [])) (fault 93 (Lexical LexReason.StrayByte)) []
 unfolding refusal roster
 odd_name_refused = (refl, refl)
 

@@ -1,10 +1,5 @@
 -- Worked rows of legal moves: a variation begins in the position before the move that it replaces.
-use Rattle.std.proofs.Common.{◌≡◌, ℕ, true, false, [], ◌∷◌, None, refl}
-use Rattle.std.specs.Prelude.{codes}
-use Rattle.chess_rules.specs.Square.{square, squares}
-use Rattle.pgn_game.specs.Chess.{first_position, position_of, play}
-use Rattle.pgn_game.specs.Pairs.{Pair}
-use Rattle.pgn_game.specs.Game.{Item, move, open_variation, close_variation}
+use Rattle.worked_rows.proofs.Words.{◌≡◌, ℕ, true, false, [], ◌∷◌, None, refl, codes, square, squares, first_position, position_of, play, Pair, Item, move, open_variation, close_variation}
 use Rattle.pgn_game.specs.MovesAreLegal.{plays_legally}
 
 -- a move from one square to another, each as file and rank from 0

@@ -6,3 +6,4 @@ mod MoveRows
 mod PositionRows
 mod TriedRows
 mod WorkedRows
+pub mod Words

@@ -1,12 +1,5 @@
 -- Worked rows of movetext: what is written for moves, variations and comments, and how it ends.
-use Prim.Native.String.{String}
-use Rattle.std.proofs.Common.{ℕ, [], ◌++◌, refl}
-use Rattle.std.specs.Prelude.{codes, replicate}
-use Rattle.pgn_lexer.specs.declared.token.LexReason.TheVariants as lex_reasons
-use Rattle.pgn_game.specs.declared.mode.Mode.TheVariants.{Full}
-use Rattle.pgn_game.specs.declared.reason.Reason.TheVariants.{Lexical, BadFen, SetUpWithoutFen, TagInMovetext, NotAMove, IllegalMove, AmbiguousMove, MoveLimit, NoMoveBefore, TooDeep, UnmatchedClose, MarkerInVariation, ResultDiffers, UnexpectedEnd}
-use Rattle.pgn_game.specs.Profile.{Profile, counts_as}
-use Rattle.pgn_game.specs.Progress.{Verdict, totals}
+use Rattle.worked_rows.proofs.Words.{LexReason, String, ℕ, [], ◌++◌, refl, codes, replicate, Full, Lexical, BadFen, SetUpWithoutFen, TagInMovetext, NotAMove, IllegalMove, AmbiguousMove, MoveLimit, NoMoveBefore, TooDeep, UnmatchedClose, MarkerInVariation, ResultDiffers, UnexpectedEnd, Profile, counts_as, Verdict, totals}
 use Rattle.worked_rows.proofs.WorkedRows.{plain, reduced, Gives, BytesGive, fault, unknown, head, of_moves}
 
 abbrev not_deep : Profile
@@ -73,7 +66,7 @@ movetext =
     (codes "[Event \"?\"]\n[Site \"?\"]\n[Date \"????.??.??\"]\n[Round \"?\"]\n[White \"A\"]\n[Black \"?\"]\n[Result \"*\"]\n\n{ start } 1. e4 *\n\n") = (refl, refl) in
     let long_word : BytesGive plain (codes "1. e4 {" ++ replicate 79 119 ++ codes "} *") (played 1)
     (head ++ codes "1. e4 {\n" ++ replicate 79 119 ++ codes "\n} *\n\n") = (refl, refl) in
-    let word_too_long : BytesGive plain (codes "1. e4 {" ++ replicate 80 119 ++ codes "} *") (fault 7 (Lexical lex_reasons.WordTooLong)) head =
+    let word_too_long : BytesGive plain (codes "1. e4 {" ++ replicate 80 119 ++ codes "} *") (fault 7 (Lexical LexReason.WordTooLong)) head =
     (refl, refl) in
     let set_up_is_added : Gives plain "[FEN \"4k3/8/8/8/8/8/8/4K3 w - - 0 1\"]\n*" (played 0)
     (unknown ++ codes "[Result \"*\"]\n[FEN \"4k3/8/8/8/8/8/8/4K3 w - - 0 1\"]\n[SetUp \"1\"]\n\n*\n\n") = (refl, refl) in
@@ -107,7 +100,7 @@ movetext =
     let digits_joined_to_a_move : Gives plain "12e4 *" (fault 0 NotAMove) [] = (refl, refl) in
     let line_before_a_fault : BytesGive plain (codes "e4 {" ++ replicate 72 119 ++ codes " x} e5 Ke3 *") (fault 83 IllegalMove)
     (head ++ codes "1. e4 {\n" ++ replicate 72 119 ++ codes " x }\n") = (refl, refl) in
-    let word_at_the_end : BytesGive plain (codes "1. e4 {" ++ replicate 79 119) (fault 86 (Lexical lex_reasons.UnclosedComment))
+    let word_at_the_end : BytesGive plain (codes "1. e4 {" ++ replicate 79 119) (fault 86 (Lexical LexReason.UnclosedComment))
     (head ++ codes "1. e4 {\n") = (refl, refl) in
     let position_does_not_carry_over : Gives plain "[FEN \"4k3/8/8/8/8/8/8/4K3 w - - 0 1\"] Ke2 * e4 (d4) e5 *"
     (totals (record { games = 2; plies = 3 }))

@@ -1,17 +1,10 @@
 -- The definitions, computed on worked positions.
-use Rattle.std.proofs.Common.{◌≡◌, ℕ, [], ◌∷◌, refl}
-use Rattle.std.specs.Prelude.{sum_by, count_by, Option, None, Some, Bool, true, false}
-use Rattle.chess_rules.specs.declared.piece.Colour.TheVariants.{White, Black}
-use Rattle.chess_rules.specs.declared.piece.Kind.TheVariants.{Queen, Knight, Pawn}
-use Rattle.chess_rules.specs.declared.piece.Promotion.TheVariants as promotions
-use Rattle.chess_rules.specs.declared.position.Move.{Move}
-use Rattle.chess_rules.specs.declared.position.Parts.{Parts}
+use Rattle.worked_rows.proofs.Words.{Promotion, ◌≡◌, ℕ, [], ◌∷◌, refl, sum_by, count_by, Option, None, Some, Bool, true, false, White, Black, Queen, Knight, Pawn, Move, Parts, square, squares}
 use Rattle.chess_rules.specs.declared.position.PositionFault.TheVariants.{Kings, PawnOnEdge, KingCapturable, TargetRank, NumberRange}
-use Rattle.chess_rules.specs.Square.{square, squares}
 use Rattle.chess_rules.specs.Position.{position_fault, is_position, initial}
 use Rattle.chess_rules.specs.Legal.{legal, is_legal, is_check, is_mate, has_legal_move, every_promotion}
 use Rattle.chess_rules.specs.Candidate.{candidates}
-use Rattle.worked_rows.proofs.Drawn.{position, sq, promoting, move}
+use Rattle.worked_rows.proofs.Drawn.{black, position, white, sq, promoting, move}
 
 -- Positions, and the first rule that other parts break.
 
@@ -20,21 +13,21 @@ unfolding squares
 positions =
     let first_position : initial ≡ position "rnbqkbnr/pppppppp/8/8/8/8/PPPPPPPP/RNBQKBNR" White "KQkq" None 0 1 = refl in
     let first_is_position : is_position initial ≡ true = refl in
-    let no_kings : position_fault (position "8/8/8/8/8/8/8/8" White "" None 0 1) ≡ Some Kings = refl in
-    let two_white_kings : position_fault (position "4k3/8/8/8/8/8/8/K3K3" White "" None 0 1) ≡ Some Kings = refl in
-    let two_black_kings : position_fault (position "4k3/4k3/8/8/8/8/8/K7" White "" None 0 1) ≡ Some Kings = refl in
-    let pawn_on_first_rank : position_fault (position "4k3/8/8/8/8/8/8/4K2P" White "" None 0 1) ≡ Some PawnOnEdge = refl in
-    let pawn_on_last_rank : position_fault (position "4k2p/8/8/8/8/8/8/4K3" White "" None 0 1) ≡ Some PawnOnEdge = refl in
-    let king_capturable : position_fault (position "4k3/8/8/8/4R3/8/8/4K3" White "" None 0 1) ≡ Some KingCapturable = refl in
-    let king_in_check : position_fault (position "4k3/8/8/8/4R3/8/8/4K3" Black "" None 0 1) ≡ None = refl in
+    let no_kings : position_fault (white "8/8/8/8/8/8/8/8") ≡ Some Kings = refl in
+    let two_white_kings : position_fault (white "4k3/8/8/8/8/8/8/K3K3") ≡ Some Kings = refl in
+    let two_black_kings : position_fault (white "4k3/4k3/8/8/8/8/8/K7") ≡ Some Kings = refl in
+    let pawn_on_first_rank : position_fault (white "4k3/8/8/8/8/8/8/4K2P") ≡ Some PawnOnEdge = refl in
+    let pawn_on_last_rank : position_fault (white "4k2p/8/8/8/8/8/8/4K3") ≡ Some PawnOnEdge = refl in
+    let king_capturable : position_fault (white "4k3/8/8/8/4R3/8/8/4K3") ≡ Some KingCapturable = refl in
+    let king_in_check : position_fault (black "4k3/8/8/8/4R3/8/8/4K3") ≡ None = refl in
     let target_of_other_side : position_fault (position "4k3/8/8/8/8/8/8/4K3" White "" (Some (sq "e3")) 0 1) ≡ Some TargetRank = refl in
     let target_alone : position_fault (position "4k3/8/8/8/8/8/8/4K3" Black "" (Some (sq "e3")) 0 1) ≡ None = refl in
     let clock_too_large : position_fault (position "4k3/8/8/8/8/8/8/4K3" White "" None 100000 1) ≡ Some NumberRange = refl in
     let number_too_large : position_fault (position "4k3/8/8/8/8/8/8/4K3" White "" None 0 100000) ≡ Some NumberRange = refl in
     let largest_numbers : position_fault (position "4k3/8/8/8/8/8/8/4K3" White "" None 99999 99999) ≡ None = refl in
     let rights_alone : position_fault (position "4k3/8/8/8/8/8/8/4K3" White "KQkq" None 0 1) ≡ None = refl in
-    let kings_before_pawns : position_fault (position "8/8/8/8/8/8/8/K6P" White "" None 0 1) ≡ Some Kings = refl in
-    let pawns_before_check : position_fault (position "4k3/8/8/8/4R3/8/8/4K2P" White "" None 0 1) ≡ Some PawnOnEdge = refl in
+    let kings_before_pawns : position_fault (white "8/8/8/8/8/8/8/K6P") ≡ Some Kings = refl in
+    let pawns_before_check : position_fault (white "4k3/8/8/8/4R3/8/8/4K2P") ≡ Some PawnOnEdge = refl in
     let check_before_target : position_fault (position "4k3/8/8/8/4R3/8/8/4K3" White "" (Some (sq "e3")) 0 1) ≡ Some KingCapturable = refl in
     let target_before_numbers : position_fault (position "4k3/8/8/8/8/8/8/4K3" White "" (Some (sq "e3")) 100000 1) ≡ Some TargetRank = refl in
     tt
@@ -54,16 +47,16 @@ pieces_and_pawns =
     ≡ Some (position "rnbqkbnr/pppppppp/8/8/8/5N2/PPPPPPPP/RNBQKB1R" Black "KQkq" None 1 1) = refl in
     let rook_past_target : legal (position "4k3/8/8/8/8/8/8/R3K3" White "" (Some (sq "a6")) 3 1) (move "a1" "a3")
     ≡ Some (position "4k3/8/8/8/8/R7/8/4K3" Black "" None 4 1) = refl in
-    let double_step_over_piece : is_legal (position "4k3/8/8/8/8/4n3/4P3/4K3" White "" None 0 1) (move "e2" "e4") ≡ false = refl in
-    let pawn_backwards : is_legal (position "4k3/8/8/8/4P3/8/8/4K3" White "" None 0 1) (move "e4" "e3") ≡ false = refl in
-    let pawn_ahead_takes : is_legal (position "4k3/8/8/4n3/4P3/8/8/4K3" White "" None 0 1) (move "e4" "e5") ≡ false = refl in
-    let pinned_knight : is_legal (position "4k3/8/8/8/1b6/2N5/8/4K1N1" White "" None 0 1) (move "c3" "e2") ≡ false = refl in
+    let double_step_over_piece : is_legal (white "4k3/8/8/8/8/4n3/4P3/4K3") (move "e2" "e4") ≡ false = refl in
+    let pawn_backwards : is_legal (white "4k3/8/8/8/4P3/8/8/4K3") (move "e4" "e3") ≡ false = refl in
+    let pawn_ahead_takes : is_legal (white "4k3/8/8/4n3/4P3/8/8/4K3") (move "e4" "e5") ≡ false = refl in
+    let pinned_knight : is_legal (white "4k3/8/8/8/1b6/2N5/8/4K1N1") (move "c3" "e2") ≡ false = refl in
     let off_the_board : is_legal initial (record { from = square 8 0; to = square 8 1; promotion = None }) ≡ false = refl in
-    let promotion_elsewhere : is_legal initial (promoting "e2" "e4" (Some promotions.Queen)) ≡ false = refl in
-    let bare_promotion : is_legal (position "8/P6k/8/8/8/8/8/K7" White "" None 0 1) (move "a7" "a8") ≡ false = refl in
-    let promotes : legal (position "7k/P7/8/8/8/8/8/K7" White "" None 5 1) (promoting "a7" "a8" (Some promotions.Knight))
-    ≡ Some (position "N6k/8/8/8/8/8/8/K7" Black "" None 0 1) = refl in
-    let black_promotes : legal (position "7k/8/8/8/8/8/p7/1N5K" Black "" None 5 1) (promoting "a2" "b1" (Some promotions.Rook))
+    let promotion_elsewhere : is_legal initial (promoting "e2" "e4" (Some Promotion.Queen)) ≡ false = refl in
+    let bare_promotion : is_legal (white "8/P6k/8/8/8/8/8/K7") (move "a7" "a8") ≡ false = refl in
+    let promotes : legal (position "7k/P7/8/8/8/8/8/K7" White "" None 5 1) (promoting "a7" "a8" (Some Promotion.Knight))
+    ≡ Some (black "N6k/8/8/8/8/8/8/K7") = refl in
+    let black_promotes : legal (position "7k/8/8/8/8/8/p7/1N5K" Black "" None 5 1) (promoting "a2" "b1" (Some Promotion.Rook))
     ≡ Some (position "7k/8/8/8/8/8/8/1r5K" White "" None 0 2) = refl in
     tt
 
@@ -75,13 +68,13 @@ en_passant =
     let black_en_passant : legal (position "4k3/8/8/8/3pP3/8/8/4K3" Black "" (Some (sq "e3")) 0 1) (move "d4" "e3")
     ≡ Some (position "4k3/8/8/8/8/4p3/8/4K3" White "" None 0 2) = refl in
     let white_en_passant : legal (position "4k3/8/8/3pP3/8/8/8/4K3" White "" (Some (sq "d6")) 7 1) (move "e5" "d6")
-    ≡ Some (position "4k3/8/3P4/8/8/8/8/4K3" Black "" None 0 1) = refl in
+    ≡ Some (black "4k3/8/3P4/8/8/8/8/4K3") = refl in
     let en_passant_discovers : is_legal (position "8/8/8/K2pP2r/8/8/8/7k" White "" (Some (sq "d6")) 0 1) (move "e5" "d6") ≡ false = refl in
     let no_pawn_to_capture : is_legal (position "4k3/8/8/3nP3/8/8/8/4K3" White "" (Some (sq "d6")) 0 1) (move "e5" "d6") ≡ false = refl in
     let own_pawn_to_capture : is_legal (position "4k3/8/8/3PP3/8/8/8/4K3" White "" (Some (sq "d6")) 0 1) (move "e5" "d6") ≡ false = refl in
-    let no_target : is_legal (position "4k3/8/8/3pP3/8/8/8/4K3" White "" None 0 1) (move "e5" "d6") ≡ false = refl in
+    let no_target : is_legal (white "4k3/8/8/3pP3/8/8/8/4K3") (move "e5" "d6") ≡ false = refl in
     let own_piece_on_target : is_legal (position "7k/8/3N4/3pP3/8/8/8/4K3" White "" (Some (sq "d6")) 7 1) (move "e5" "d6") ≡ false = refl in
-    let en_passant_promotes : is_legal (position "4k3/8/8/3pP3/8/8/8/4K3" White "" (Some (sq "d6")) 7 1) (promoting "e5" "d6" (Some promotions.Queen))
+    let en_passant_promotes : is_legal (position "4k3/8/8/3pP3/8/8/8/4K3" White "" (Some (sq "d6")) 7 1) (promoting "e5" "d6" (Some Promotion.Queen))
     ≡ false = refl in
     tt
 
@@ -137,13 +130,13 @@ unfolding squares
 mates =
     let fools_mate : mate_after (then (then (then (legal initial (move "f2" "f3")) (move "e7" "e5")) (move "g2" "g4")) (move "d8" "h4"))
     ≡ true = refl in
-    let en_passant_answers : mate_after (legal (position "3R1R2/4K3/8/4k3/4p3/8/3P4/8" White "" None 0 1) (move "d2" "d4")) ≡ false = refl in
-    let en_passant_answers_check : check_after (legal (position "3R1R2/4K3/8/4k3/4p3/8/3P4/8" White "" None 0 1) (move "d2" "d4")) ≡ true = refl in
-    let pinned_knight_cannot_answer : mate_after (legal (position "7k/6np/8/8/8/8/1B6/K3R3" White "" None 0 1) (move "e1" "e8")) ≡ true = refl in
-    let promotion_answers : mate_after (legal (position "7K/3P4/7k/8/8/8/8/4r3" Black "" None 0 1) (move "e1" "e8")) ≡ false = refl in
-    let stalemate_has_no_move : moves_after (legal (position "7k/5K2/8/8/8/8/8/6Q1" White "" None 0 1) (move "g1" "g6")) ≡ false = refl in
-    let stalemate_is_no_check : check_after (legal (position "7k/5K2/8/8/8/8/8/6Q1" White "" None 0 1) (move "g1" "g6")) ≡ false = refl in
-    let stalemate_is_no_mate : is_mate (position "7k/5K2/6Q1/8/8/8/8/8" Black "" None 0 1) ≡ false = refl in
+    let en_passant_answers : mate_after (legal (white "3R1R2/4K3/8/4k3/4p3/8/3P4/8") (move "d2" "d4")) ≡ false = refl in
+    let en_passant_answers_check : check_after (legal (white "3R1R2/4K3/8/4k3/4p3/8/3P4/8") (move "d2" "d4")) ≡ true = refl in
+    let pinned_knight_cannot_answer : mate_after (legal (white "7k/6np/8/8/8/8/1B6/K3R3") (move "e1" "e8")) ≡ true = refl in
+    let promotion_answers : mate_after (legal (black "7K/3P4/7k/8/8/8/8/4r3") (move "e1" "e8")) ≡ false = refl in
+    let stalemate_has_no_move : moves_after (legal (white "7k/5K2/8/8/8/8/8/6Q1") (move "g1" "g6")) ≡ false = refl in
+    let stalemate_is_no_check : check_after (legal (white "7k/5K2/8/8/8/8/8/6Q1") (move "g1" "g6")) ≡ false = refl in
+    let stalemate_is_no_mate : is_mate (black "7k/5K2/6Q1/8/8/8/8/8") ≡ false = refl in
     tt
 
 -- Candidates.
@@ -153,9 +146,9 @@ unfolding squares
 piece_candidates =
     let knights_for_f3 : candidates initial Knight (sq "f3") ≡ sq "g1" ∷ [] = refl in
     let pawns_for_e4 : candidates initial Pawn (sq "e4") ≡ sq "c2" ∷ sq "e2" ∷ sq "g2" ∷ [] = refl in
-    let queens_for_e1 : candidates (position "1k6/8/8/8/4Q2Q/8/8/K6Q" White "" None 0 1) Queen (sq "e1")
+    let queens_for_e1 : candidates (white "1k6/8/8/8/4Q2Q/8/8/K6Q") Queen (sq "e1")
     ≡ sq "h1" ∷ sq "e4" ∷ sq "h4" ∷ [] = refl in
-    let hidden_queen : candidates (position "4k3/8/8/8/8/8/8/K1Q1Q2Q" White "" None 0 1) Queen (sq "f1") ≡ sq "e1" ∷ sq "h1" ∷ [] = refl in
+    let hidden_queen : candidates (white "4k3/8/8/8/8/8/8/K1Q1Q2Q") Queen (sq "f1") ≡ sq "e1" ∷ sq "h1" ∷ [] = refl in
     let pawn_en_passant : candidates (position "4k3/8/8/8/3pP3/8/8/4K3" Black "" (Some (sq "e3")) 0 1) Pawn (sq "e3") ≡ sq "d4" ∷ [] = refl in
     tt
 
@@ -171,7 +164,7 @@ unfolding squares
 move_counts =
     let first_moves : legal_moves initial ≡ 20 = refl in
     let castling_and_pins : legal_moves (position "r3k2r/p1ppqpb1/bn2pnp1/3PN3/1p2P3/2N2Q1p/PPPBBPPP/R3K2R" White "KQkq" None 0 1) ≡ 48 = refl in
-    let rook_ending : legal_moves (position "8/2p5/3p4/KP5r/1R3p1k/8/4P1P1/8" White "" None 0 1) ≡ 14 = refl in
+    let rook_ending : legal_moves (white "8/2p5/3p4/KP5r/1R3p1k/8/4P1P1/8") ≡ 14 = refl in
     let answers_to_check : legal_moves (position "r3k2r/Pppp1ppp/1b3nbN/nP6/BBP1P3/q4N2/Pp1P2PP/R2Q1RK1" White "kq" None 0 1) ≡ 6 = refl in
     let promotions_with_capture : legal_moves (position "rnbq1k1r/pp1Pbppp/2p5/8/2B5/8/PPP1NnPP/RNBQK2R" White "KQ" None 1 8) ≡ 44 = refl in
     tt

@@ -1,17 +1,8 @@
 -- Worked rows of the most pairs that are tried for one token of an input.
-use Rattle.std.proofs.Common.{◌≡◌, ℕ, true, false, refl, sym, ◌∙◌, arith}
-use Rattle.std.specs.Prelude.{codes}
-use Rattle.chess_rules.specs.declared.position.Parts.{Parts}
+use Rattle.worked_rows.proofs.Words.{◌≡◌, ℕ, true, false, refl, sym, ◌∙◌, arith, codes, Parts, squares, agreeing, tokens_of, NotAMove, IllegalMove, first_position, position_of, move_of, play, refusal, read}
 use Rattle.chess_rules.specs.Legal.{is_check}
-use Rattle.chess_rules.specs.Square.{squares}
-use Rattle.chess_text.specs.MoveOfForm.{agreeing}
 use Rattle.chess_text.specs.San.{MarkPairs}
 use Rattle.pgn_lexer.specs.Tokens.{symbol}
-use Rattle.pgn_lexer.specs.TokensOf.{tokens_of}
-use Rattle.pgn_game.specs.declared.reason.Reason.TheVariants.{NotAMove, IllegalMove}
-use Rattle.pgn_game.specs.Chess.{first_position, position_of, move_of, play}
-use Rattle.pgn_game.specs.FaultTable.{refusal}
-use Rattle.pgn_game.specs.Progress.{read}
 use Rattle.pgn_game.specs.Tried.{Costs}
 use Rattle.pgn_game.specs.MostTried.{MostTried, Tries, none, refused, passes}
 use Rattle.worked_rows.proofs.WorkedRows.{plain, reduced}

@@ -1,22 +1,8 @@
 -- Worked rows: what is written for an input, and how it ends.
-use Prim.Native.String.{String}
-use Rattle.std.proofs.Common.{◌≡◌, ℕ, List, [], ◌∷◌, ◌++◌, refl}
-use Rattle.std.specs.Prelude.{codes, replicate, map}
+use Rattle.worked_rows.proofs.Words.{LexReason, String, ◌≡◌, ℕ, List, [], ◌∷◌, ◌++◌, refl, codes, replicate, map, Full, Reduced, Lexical, ExpectedName, BadTagName, DuplicateTag, TooManyTags, ExpectedValue, BadResult, TagLineTooLong, ExpectedBracket, ReducedFen, NotAMove, NoMoveBefore, ResultDiffers, UnexpectedEnd, Profile, counts_as, takes_the_marker, move_of, first_position, position_of, text_of_move, play, refusal, rows, no_part, roster, output, verdict, Verdict, refused, totals, digits, squares, agreeing}
 use Rattle.pgn_lexer.specs.Tokens as tokens
-use Rattle.pgn_lexer.specs.declared.token.LexReason.TheVariants as lex_reasons
-use Rattle.pgn_game.specs.declared.mode.Mode.TheVariants.{Full, Reduced}
 use Rattle.pgn_game.specs.declared.reason.Reason.{Reason}
-use Rattle.pgn_game.specs.declared.reason.Reason.TheVariants.{Lexical, ExpectedName, BadTagName, DuplicateTag, TooManyTags, ExpectedValue, BadResult, TagLineTooLong, ExpectedBracket, ReducedFen, NotAMove, NoMoveBefore, ResultDiffers, UnexpectedEnd}
-use Rattle.pgn_game.specs.Profile.{Profile, counts_as, takes_the_marker}
-use Rattle.pgn_game.specs.Chess.{move_of, first_position, position_of, text_of_move, play}
-use Rattle.pgn_game.specs.FaultTable.{refusal, rows}
 use Rattle.pgn_game.specs.Reason.{number_of}
-use Rattle.pgn_game.specs.Game.{no_part}
-use Rattle.pgn_game.specs.TagSection.{roster}
-use Rattle.pgn_game.specs.Progress.{output, verdict, Verdict, refused, totals}
-use Rattle.std.specs.Fmt.{digits}
-use Rattle.chess_rules.specs.Square.{squares}
-use Rattle.chess_text.specs.MoveOfForm.{agreeing}
 
 abbrev pub plain : Profile
 plain = record { tags = 64; depth = 32; mode = Full; missing_result = counts_as (codes "*") }
@@ -105,8 +91,8 @@ more_tags_and_markers =
     let result_differs : Gives plain "[Result \"1-0\"] 0-1" (fault 15 ResultDiffers) [] = (refl, refl) in
     let second_game_differs : Gives plain "* 1-0" (fault 2 ResultDiffers) (head ++ codes "*\n\n") = (refl, refl) in
     let ends_after_tags : Gives plain "[A \"1\"]" (fault 7 UnexpectedEnd) [] = (refl, refl) in
-    let string_not_closed : Gives plain "[A \"x\n" (fault 3 (Lexical lex_reasons.UnclosedString)) [] = (refl, refl) in
-    let games_before_a_stray_byte : Gives plain "* &" (fault 2 (Lexical lex_reasons.StrayByte)) (head ++ codes "*\n\n") = (refl, refl) in
+    let string_not_closed : Gives plain "[A \"x\n" (fault 3 (Lexical LexReason.UnclosedString)) [] = (refl, refl) in
+    let games_before_a_stray_byte : Gives plain "* &" (fault 2 (Lexical LexReason.StrayByte)) (head ++ codes "*\n\n") = (refl, refl) in
     let value_expected_at_end : Gives plain "[A" (fault 2 ExpectedValue) [] = (refl, refl) in
     let bracket_expected_at_end : Gives plain "[A \"1\"" (fault 6 ExpectedBracket) [] = (refl, refl) in
     let name_expected_after_pair : Gives plain "[A \"1\"] [" (fault 9 ExpectedName) [] = (refl, refl) in
@@ -120,7 +106,7 @@ more_tags_and_markers =
     (unknown ++ codes "[Result \"*\"]\n[A \"" ++ replicate 124 92 ++ replicate 124 120 ++ codes "\"]\n\n*\n\n") = (refl, refl) in
     let bad_and_too_long : BytesGive plain (91 ∷ (replicate 249 97 ++ codes "- \"\"] *")) (fault 1 BadTagName) [] = (refl, refl) in
     let bad_result_and_too_long : BytesGive plain (codes "[Result \"" ++ replicate 245 120 ++ codes "\"]") (fault 8 BadResult) [] = (refl, refl) in
-    let stray_byte_in_a_pair : Gives plain "[&" (fault 1 (Lexical lex_reasons.StrayByte)) [] = (refl, refl) in
+    let stray_byte_in_a_pair : Gives plain "[&" (fault 1 (Lexical LexReason.StrayByte)) [] = (refl, refl) in
     let full_before_fen : Gives reduced_full "[A \"1\"][B \"2\"][FEN \"x\"]" (fault 14 TooManyTags) [] = (refl, refl) in
     let no_pairs_allowed : Gives no_pairs "[A \"1\"] *" (fault 0 TooManyTags) [] = (refl, refl) in
     let empty_value : Gives plain "[Event \"\"] *" (counted 1)
