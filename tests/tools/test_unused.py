@@ -204,6 +204,22 @@ class MadeTree(unittest.TestCase):
         self.change("crates/pgn_lexer/proofs/Sums.antt", "{Token,", "{Token, spare,")
         self.assertEqual(self.unused(), ["definition spare"])
 
+    def test_a_name_by_its_whole_path_is_used(self):
+        answers = "crates/pgn_lexer/proofs/token/sum_of/Answers.antt"
+        self.change(answers, "use Rattle.pgn_lexer.proofs.Sums.{total_small}\n", "")
+        self.assertEqual(self.unused(), ["lemma nothing", "lemma total_small"])
+        path = "Rattle.pgn_lexer.proofs.Sums.total_small"
+        text = FILES[answers].replace("use Rattle.pgn_lexer.proofs.Sums.{total_small}\n", "")
+        self.write(answers, text.replace("= total_small", "= " + path))
+        self.assertEqual(self.unused(), [])
+
+    def test_what_a_later_file_passes_on_is_used(self):
+        self.write("crates/pgn_lexer/proofs/Words.antt",
+                   "-- Words.\npub use Rattle.pgn_lexer.specs.Tokens.{Token, total}\n")
+        name = "crates/pgn_lexer/proofs/Sums.antt"
+        self.change(name, "pgn_lexer.specs.Tokens.", "pgn_lexer.proofs.Words.")
+        self.assertEqual(self.unused(), [])
+
     def test_what_only_unused_things_name_is_listed(self):
         answers = "crates/pgn_lexer/proofs/token/sum_of/Answers.antt"
         self.change(answers, "total_small c.ts c.is", "omega arith")

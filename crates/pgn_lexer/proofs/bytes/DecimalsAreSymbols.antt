@@ -10,7 +10,7 @@ pub record IsNumber (n : ℕ) (ds : List ℕ) : Type 0 where
   pub some : 0 < length ds
 
 digit_passes : (d : ℕ) → d < 10 → is_digit (48 + d) ≡ true
-digit_passes d low = both_true (le-leb 48 (48 + d) (omega arith)) (le-leb (48 + d) 57 (omega arith))
+digit_passes d low = both_true (le-leb 48 _ (omega arith)) (le-leb (48 + d) 57 (omega arith))
 
 all_append : (p : ℕ → Bool) (xs ys : List ℕ) → list_all p xs ≡ true → list_all p ys ≡ true
     → list_all p (xs ++ ys) ≡ true
@@ -33,7 +33,7 @@ digit_starts b e = grind arith
 digits_continue : (ds : List ℕ) → list_all is_digit ds ≡ true → list_all continues_symbol ds ≡ true
 digits_continue [] all = refl
 digits_continue (d ∷ ds) all =
-    let first = and_parts (is_digit d) (list_all _ ds) all in
+    let first = and_parts (is_digit d) _ all in
     both_true (start_continues d (digit_starts d first.0)) (digits_continue ds first.1)
 
 symbol_of : (n : ℕ) (ds : List ℕ) → IsNumber n ds → length ds ≤ 255 → IsSymbol ds
@@ -42,6 +42,6 @@ symbol_of n ds h1 h2 = grind (arith, digit_starts, and_parts, digits_continue)
 pub numbers_are_symbols : NumbersAreSymbols
 numbers_are_symbols n small =
     let h = number_written n small in
-    let short : length (decimal n) ≤ 20 =
+    let short =
     length-decimal-le 20 n (omega arith) (omega arith) small in
     (symbol_of n _ h (omega arith), h.digits)

@@ -19,7 +19,7 @@ split : (p : ℕ → Bool) (s : List ℕ) → Split p s
 split p [] = grind arith
 split p (b ∷ s) =
     let h = split p s in
-    let less : length h.rest ≤ length s = h.shorter in
+    let less = h.shorter in
     elim (cases_Bool (p b)) [
       | inl e ↦ record { run = b ∷ h.run; rest = h.rest; cut = ap (λ l. b ∷ l) h.cut; all = both_true e h.all; stop = h.stop; shorter = omega arith }
       | inr e ↦ record { run = []; rest = b ∷ s; cut = refl; all = refl; stop = e; shorter = omega arith }
@@ -51,8 +51,8 @@ one_more : (n b : ℕ) (front s : List ℕ) → ((h : HasData (n + 1) s) → Dat
     → HasData n (front ++ s)
 one_more n b front s write h =
     let same : n + 1 + length h.text ≡ n + length (b ∷ h.text) = omega arith in
-    let less : length h.rest ≤ length s = h.shorter in
-    let fit : n + 1 + length h.text ≤ 255 = h.fits in
+    let less = h.shorter in
+    let fit = h.fits in
     record {
       raw = front ++ h.raw;
       text = b ∷ h.text;
@@ -65,7 +65,7 @@ one_more n b front s write h =
     }
 
 lone : (n : ℕ) (s : List ℕ) → StopsAt is_escaped s → HasData (n + 1) s → HasData n (92 ∷ s)
-lone n s stop = one_more n 92 (92 ∷ []) s (λ h. lexes.lone h.raw h.text h.rest (rw h.cut at stop) h.written)
+lone n s stop = one_more n 92 (92 ∷ []) s (λ h. lexes.lone _ _ _ (rw h.cut at stop) h.written)
 
 behind : (n : ℕ) (s : List ℕ) → ((r : List ℕ) → length r ≤ length s → HasData (n + 1) r) → HasData n (92 ∷ s)
 behind n [] on = lone n [] tt (on [] (omega arith))
@@ -131,37 +131,37 @@ module _ (n at : ℕ) (on : Further n) where
 
   one_token : (first : Bool) (run s : List ℕ) (k : Kind) → SpellsToken run s k → length s ≤ n → Outer first (run ++ s)
   one_token first run s k spelled short =
-      let more = on (lexes.outside false) (at + length run) s short in (_, lexes.token first at run s k more.0 spelled more.1)
+      let more = on _ _ s short in (_, lexes.token first at run s k _ spelled more.1)
 
   one_refusal : (first : Bool) (s : List ℕ) (m : ℕ) (r : LexReason) → Refuses s m r → Outer first s
-  one_refusal first s m r bad = (_, lexes.refuses first at m s r bad)
+  one_refusal first s m r bad = (_, lexes.refuses _ at m s r bad)
 
   a_symbol : (first : Bool) (b : ℕ) (bs : List ℕ) → starts_symbol b ≡ true → length bs ≤ n → Split continues_symbol bs → Outer first (b ∷ bs)
   a_symbol first b bs e short h =
-      let less : length h.rest ≤ length bs = h.shorter in
-      rw h.cut (elim (cases_lt 255 (length (b ∷ h.run))) [
+      let less = h.shorter in
+      rw h.cut (elim (cases_lt 255 _) [
         | inl long ↦ one_refusal first _ 0 _ (lexes.long_symbol b h.run h.rest e (h.all, h.stop) long)
         | inr fits ↦ one_token first (b ∷ h.run) h.rest _ (lexes.symbol b h.run h.rest e (h.all, h.stop) fits) (omega arith)
       ])
 
   a_glyph : (first : Bool) (bs : List ℕ) → length bs ≤ n → Split is_digit bs → Outer first (36 ∷ bs)
-  a_glyph first bs short h = rw h.cut (cases h.run h.all)
+  a_glyph first bs short h = rw h.cut (cases _ h.all)
     where
       cases : (run : List ℕ) → list_all is_digit run ≡ true → Outer first (36 ∷ (run ++ h.rest))
       cases [] all = one_refusal first _ 0 _ (lexes.lone_dollar h.rest h.stop)
       cases (d ∷ ds) all =
-          let less : length h.rest ≤ length bs = h.shorter in
-          let digits = and_parts (is_digit d) (list_all is_digit ds) all in
-          elim (cases_lt 255 (number_of (d ∷ ds))) [
+          let less = h.shorter in
+          let digits = and_parts (is_digit d) _ all in
+          elim (cases_lt 255 _) [
             | inl large ↦ one_refusal first _ 0 _ (lexes.large_glyph d ds h.rest digits.0 (digits.1, h.stop) large)
             | inr small ↦ one_token first (36 ∷ d ∷ ds) h.rest _ (lexes.glyph d ds h.rest digits.0 (digits.1, h.stop) small) (omega arith)
           ]
 
   a_suffix : (first : Bool) (b : ℕ) (bs : List ℕ) → is_suffix b ≡ true → length bs ≤ n → Split is_suffix bs → Outer first (b ∷ bs)
-  a_suffix first b bs e short h = rw h.cut (cases h.run h.all)
+  a_suffix first b bs e short h = rw h.cut (cases _ h.all)
     where
       less : length h.rest ≤ n
-      less = let l : length h.rest ≤ length bs = h.shorter in omega arith
+      less = let l = h.shorter in omega arith
 
       one : (c : ℕ) → is_suffix c ≡ true → (m : ℕ) × IsSuffix (c ∷ []) m
       one c e = elim (mark_of c e) [ inl e ↦ rw e (1, lexes.good) | inr e ↦ rw e (2, lexes.poor) ]
@@ -183,7 +183,7 @@ module _ (n at : ℕ) (on : Further n) where
   a_string first bs short h = rw h.cut (cases _ _ refl h.stop h.written h.shorter)
     where
       fit : length h.text ≤ 255
-      fit = let f : 0 + length h.text ≤ 255 = h.fits in omega arith
+      fit = let f = h.fits in omega arith
 
       cases : (rest : List ℕ) (m : ℕ) → m ≡ 0 + length h.text → Stop m rest → Data h.raw h.text rest → length rest ≤ length bs
           → Outer first (34 ∷ (h.raw ++ rest))
@@ -196,15 +196,15 @@ module _ (n at : ℕ) (on : Further n) where
 
   from_outside : (first : Bool) (b : ℕ) (bs : List ℕ) → length bs ≤ n → (c : Class) → ClassSays b c → Outer first (b ∷ bs)
   from_outside first b bs short Class.LineEnd says =
-      let more = on (lexes.outside _) (at + 1) bs short in (_, lexes.space first at b bs more.0 (or_left _ _ says) more.1)
+      let more = on _ (at + 1) bs short in (_, lexes.space first at b bs more.0 (or_left _ _ says) more.1)
   from_outside first b bs short Class.Space says =
-      let more = on (lexes.outside _) (at + 1) bs short in (_, lexes.space first at b bs more.0 (or_right (is_line_end b) (is_blank b) says.1) more.1)
+      let more = on (lexes.outside _) (at + 1) bs short in (_, lexes.space first at b bs more.0 (or_right _ _ says.1) more.1)
   from_outside false b bs short Class.Percent says = rw (eqb-true b 37 says) (_, lexes.stray_percent at bs)
   from_outside true b bs short Class.Percent says = rw (eqb-true b 37 says) (escape_line (split _ bs))
     where
       escape_line : Split (λ b. not (is_line_end b)) bs → Outer true (37 ∷ bs)
       escape_line h =
-          let less : length h.rest ≤ length bs = h.shorter in
+          let less = h.shorter in
           let more = on (lexes.outside false) (at + 1 + length h.run) h.rest (omega arith) in
           rw h.cut (_, lexes.escape_line at h.run h.rest more.0 (h.all, h.stop) more.1)
   from_outside first b bs short Class.SymbolStart says = a_symbol first b bs says short (split _ bs)
@@ -225,25 +225,25 @@ module _ (n at : ℕ) (on : Further n) where
   a_word : (braces : Bool) (b : ℕ) (bs : List ℕ) → continues_word b ≡ true → length bs ≤ n → Split continues_word bs
       → Cut (lexes.comment braces) at (b ∷ bs)
   a_word braces b bs e short h =
-      let less : length h.rest ≤ length bs = h.shorter in
-      let more = on (lexes.comment braces) (at + 1 + length h.run) h.rest (omega arith) in
-      rw h.cut (elim (cases_lt 79 (length (b ∷ h.run))) [
-        | inl long ↦ (_, lexes.long_word braces at b h.run h.rest e (h.all, h.stop) long)
-        | inr fits ↦ (_, lexes.word braces at b h.run h.rest more.0 e (h.all, h.stop) fits more.1)
+      let less = h.shorter in
+      let more = on _ _ h.rest (omega arith) in
+      rw h.cut (elim (cases_lt 79 _) [
+        | inl long ↦ (_, lexes.long_word _ at b h.run h.rest e (h.all, h.stop) long)
+        | inr fits ↦ (_, lexes.word braces at b h.run h.rest _ e (h.all, h.stop) fits more.1)
       ])
 
   from_comment : (braces : Bool) (b : ℕ) (bs : List ℕ) → length bs ≤ n → (c : CommentClass) → CommentSays b c
       → Cut (lexes.comment braces) at (b ∷ bs)
   from_comment braces b bs short CommentClass.WordByte says = a_word braces b bs says short (split _ bs)
   from_comment true b bs short CommentClass.LineEnd says =
-      let more = on (lexes.comment true) (at + 1) bs short in (_, lexes.between_words true at b bs _ (or_left _ _ says) refl more.1)
+      let more = on _ (at + 1) bs short in (_, lexes.between_words true at b bs _ (or_left _ _ says) refl more.1)
   from_comment false b bs short CommentClass.LineEnd says =
-      let more = on (lexes.outside true) (at + 1) bs short in (_, lexes.closes_line at b bs more.0 says more.1)
+      let more = on _ (at + 1) bs short in (_, lexes.closes_line at b bs more.0 says more.1)
   from_comment braces b bs short CommentClass.Space says =
-      let more = on (lexes.comment braces) (at + 1) bs short in
+      let more = on _ (at + 1) bs short in
       (_, lexes.between_words braces at b bs _ (or_right _ _ says) (or_right braces _ (ap not (blank_class b says).1)) more.1)
   from_comment true b bs short CommentClass.CloseBrace says =
-      let more = on (lexes.outside false) (at + 1) bs short in rw (eqb-true b 125 says) (_, lexes.closes_brace at bs more.0 more.1)
+      let more = on _ (at + 1) bs short in rw (eqb-true b 125 says) (_, lexes.closes_brace at bs more.0 more.1)
   from_comment false b bs short CommentClass.CloseBrace says = rw (eqb-true b 125 says) (_, lexes.brace_in_line at bs)
   from_comment braces b bs short CommentClass.Control says = (_, lexes.control_in_comment braces at b bs says)
 
@@ -253,7 +253,7 @@ exists n (lexes.comment true) at [] short = (_, lexes.open_at_end at)
 exists n (lexes.comment false) at [] short = (_, lexes.closed_at_end at)
 exists zero w at (b ∷ bs) short = absurd (omega arith)
 exists (suc n) (lexes.outside first) at (b ∷ bs) short = from_outside n at (exists n) first b bs (omega arith) (class b) (class_says b)
-exists (suc n) (lexes.comment braces) at (b ∷ bs) short = from_comment n at (exists n) braces b bs (omega arith) (comment_class b) (comment_says b)
+exists (suc n) (lexes.comment braces) at (b ∷ bs) short = from_comment n at (exists n) braces b bs (omega arith) _ (comment_says b)
 
 cut_tokens : (w : Where) (at : ℕ) (s : List ℕ) → Cuts w at s (tokens_from at (within_of w) s)
 cut_tokens w at s = let h = exists (length s) w at s (omega arith) in rw (cuts_is w at s h.0 h.1) at h.1
@@ -267,8 +267,8 @@ mark_cut s h1 = grind arith
 
 tokens_lex : (s : List ℕ) → Lexes s (tokens_of s)
 tokens_lex s =
-    elim (cases_Bool (has_mark s)) [
-      | inl e ↦ let h = mark_cut s e in rw h.1 (lexes.marked h.0 _ (cut_tokens (lexes.outside true) 3 h.0))
+    elim (cases_Bool _) [
+      | inl e ↦ let h = mark_cut s e in rw h.1 (lexes.marked h.0 _ (cut_tokens _ 3 h.0))
       | inr e ↦ rw (unmarked s e) (lexes.unmarked s _ e (cut_tokens _ 0 s))
     ]
 

@@ -81,7 +81,7 @@ end_from at within = grind arith
 pub tokens_from-from : (at : ℕ) (within : Within) (s : List ℕ) → AllFrom at (tokens_from at within s)
 tokens_from-from at within [] = end_from at within
 tokens_from-from at within (b ∷ bs) =
-    onto_from at (begins at within b bs) (tokens_from (at + 1) (next within b) bs) (begins_from at within b bs) (tokens_from-from (at + 1) (next within b) bs)
+    onto_from at (begins at within b bs) _ (begins_from at within b bs) (tokens_from-from (at + 1) _ bs)
 
 pub all_from-front : (n : ℕ) (xs zs : List Token) → AllFrom n (xs ++ zs) → AllFrom n xs
 all_from-front n [] zs all = tt
@@ -106,7 +106,7 @@ end_rises at within = grind arith
 tokens_from-rises : (at : ℕ) (within : Within) (s : List ℕ) → RisesTo (tokens_from at within s)
 tokens_from-rises at within [] = end_rises at within
 tokens_from-rises at within (b ∷ bs) =
-    onto_rises at (begins at within b bs) (tokens_from (at + 1) (next within b) bs) (begins_from at within b bs) (tokens_from-from (at + 1) (next within b) bs) (tokens_from-rises (at + 1) (next within b) bs)
+    onto_rises at (begins at within b bs) _ (begins_from at within b bs) (tokens_from-from (at + 1) _ bs) (tokens_from-rises (at + 1) _ bs)
 
 pub tokens_rise : TokensRise
 tokens_rise s = grind (arith, tokens_from-rises)

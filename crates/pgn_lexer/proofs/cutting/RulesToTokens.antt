@@ -36,7 +36,7 @@ module _ (within out : Within) (p : ℕ → Bool) (goes : (at b : ℕ) (s : List
   skips at [] s long = let same : at ≡ at + 0 = omega arith in ends at s long.1 ∙ ap (λ n. tokens_from n out s) same
   skips at (b ∷ run) s long =
       let same : at + 1 + length run ≡ at + length (b ∷ run) = omega arith in
-      let all = and_parts (p b) _ long.0 in goes at b (run ++ s) all.0 ∙ rw (skips (at + 1) run s (all.1, long.1), same)
+      let all = and_parts (p b) _ long.0 in goes at b _ all.0 ∙ rw (skips (at + 1) run s (all.1, long.1), same)
 
 suffix_stops : (at : ℕ) (s : List ℕ) → StopsAt is_suffix s → tokens_from at in_suffix s ≡ tokens_from at outside s
 suffix_stops at s h1 = grind arith
@@ -68,7 +68,7 @@ glyph_cut first at run s long = grind (arith, take_run, skips)
 suffix_cut : (first : Bool) (at b : ℕ) (run s : List ℕ) → is_suffix b ≡ true → IsRun is_suffix run s
     → outer first at (b ∷ (run ++ s)) ≡ onto at (suffix_at at (b ∷ run)) (tokens_from (at + 1 + length run) outside s)
 suffix_cut first at b run s e long =
-    from_class first at b _ Class.Suffix (suffix_class b e) (λ e. cc)
+    from_class first at b _ _ (suffix_class b e) (λ e. cc)
     ∙ rw (take_run _ run s long, skips in_suffix outside _ suffix_goes suffix_stops (at + 1) run s long)
 
 escape_line_goes : (at b : ℕ) (s : List ℕ) → not (is_line_end b) ≡ true
@@ -114,7 +114,7 @@ pub word_cut : (braces : Bool) (at b : ℕ) (run s : List ℕ) → continues_wor
     → inner braces at (b ∷ (run ++ s)) ≡ onto at (word_at at (b ∷ run)) (inner braces (at + 1 + length run) s)
 word_cut braces at b run s e long =
     letter_first braces at b _ e
-    ∙ rw (take_run _ run s long, skips (word_within braces) (within_of (lexes.comment braces)) _ (word_goes braces) (word_stops braces) (at + 1) run s long)
+    ∙ rw (take_run _ run s long, skips _ _ _ (word_goes braces) (word_stops braces) _ run s long)
 
 blank_in_comment : (braces : Bool) (at b : ℕ) (s : List ℕ) → is_space b ≡ true → (braces || not (is_line_end b)) ≡ true
     → inner braces at (b ∷ s) ≡ inner braces (at + 1) s
@@ -130,7 +130,7 @@ control_in_comment braces at b s h1 = grind (arith, from_comment, control_commen
 line_closes : (at b : ℕ) (s : List ℕ) → is_line_end b ≡ true
     → tokens_from at line (b ∷ s) ≡ placed at comment_close ∷ tokens_from (at + 1) column s
 unfolding comment_tokens
-line_closes at b s e = from_comment false at b s CommentClass.LineEnd (line_end_comment b e)
+line_closes at b s e = from_comment false at b s _ (line_end_comment b e)
 
 -- a token that is spelled is given
 module _ (first : Bool) (at : ℕ) where
@@ -184,7 +184,7 @@ module _ (first : Bool) (at : ℕ) where
       grind (arith, string_reads raw text (b ∷ s) data' (omega arith), reads_long at (at + 1 + length raw) (length text) b s (omega arith) more, here)
   refuses_is _ _ _ (lexes.control_in_string b raw text s data' fits bad other) =
       let further : at + 1 + length raw ≡ at + (1 + length raw) = omega arith in
-      string_reads raw text (b ∷ s) data' fits ∙ rw (reads_control at (at + 1 + length raw) (length text) b s bad other, further)
+      string_reads raw text (b ∷ s) data' fits ∙ rw (reads_control at (at + 1 + length raw) _ b s bad other, further)
   refuses_is _ _ _ (lexes.open_string raw text s data' fits stop) =
       grind (arith, string_reads raw text s data' fits, reads_open at (at + 1 + length raw) (length text) s stop, here)
   refuses_is _ _ _ (lexes.lone_dollar s stop) = grind (arith, glyph_cut, here)
@@ -195,7 +195,7 @@ module _ (first : Bool) (at : ℕ) where
       bad_run : (run s : List ℕ) → IsRun is_suffix run s → 2 < length run
           → outer first at (run ++ s) ≡ placed (at + 0) (refused BadSuffix) ∷ []
       bad_run (a ∷ b ∷ c ∷ run) s long many =
-          let all = and_parts (is_suffix a) (list_all is_suffix (b ∷ c ∷ run)) long.0 in
+          let all = and_parts _ _ long.0 in
           suffix_cut first at a (b ∷ c ∷ run) s all.0 (all.1, long.1) ∙ here _ _ (omega arith)
       bad_run _ s long many = absurd (omega arith)
 

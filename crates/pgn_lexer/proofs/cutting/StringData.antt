@@ -87,7 +87,7 @@ pub quotes_skip : (at : ℕ) (raw text rest s : List ℕ) → Data raw text rest
 quotes_skip at _ _ _ s (no_data _) e = grind arith
 quotes_skip at _ _ _ s (plain b raw text rest p data') e =
     let same : at + 1 + length raw + 1 ≡ at + length (b ∷ raw) + 1 = omega arith in
-    quotes_go at b (raw ++ 34 ∷ s) (rw (plain_class b p) tt) ∙ rw (quotes_skip (at + 1) raw text rest s data' e, same)
+    quotes_go at b _ (rw (plain_class b p) tt) ∙ rw (quotes_skip (at + 1) raw text rest s data' e, same)
 quotes_skip at _ _ _ s (escaped b raw text rest p data') e =
     let same : at + 1 + 1 + length raw + 1 ≡ at + length (92 ∷ b ∷ raw) + 1 = omega arith in
     rw (quotes_skip (at + 1 + 1) raw text rest s data' e, same)

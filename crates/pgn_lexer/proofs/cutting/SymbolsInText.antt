@@ -14,7 +14,7 @@ AllStand whole ts = AllByRecursion (λ t. BeginsWithToken t.kind (drop t.at whol
 behind : (before run s : List ℕ) (ts : List Token) (at n : ℕ) → length before ≡ at → n ≡ at + length run
     → ((front : List ℕ) → length front ≡ n → AllStand (front ++ s) ts) → AllStand (before ++ (run ++ s)) ts
 behind before run s ts at n is far all =
-    rw (append_assoc before run s) at (all (before ++ run) (omega (arith, length-append before run)))
+    rw (append_assoc _ run s) at (all (before ++ run) (omega (arith, length-append before run)))
 
 here : (before s : List ℕ) (at : ℕ) (k : Kind) → length before ≡ at → BeginsWithToken k s → BeginsWithToken k (drop at (before ++ s))
 here before s at k is begins = grind (arith, drop-append_seam)
@@ -47,7 +47,7 @@ lexed_stands _ _ (lexes.unmarked s ts bare cut) = cut_stands _ _ _ _ cut [] refl
 one_of : (whole : List ℕ) (given rest : List Token) (t : Token) → AllStand whole (given ++ t ∷ rest)
     → BeginsWithToken t.kind (drop t.at whole)
 one_of whole [] rest t all = all.0
-one_of whole (x ∷ given) rest t all = one_of whole given rest t all.1
+one_of whole (x ∷ given) rest t all = one_of _ given _ t all.1
 
 pub symbols_stand_in_text : SymbolsStandInText
 symbols_stand_in_text s given rest t is = grind (arith, one_of, lexed_stands, lexes_once)

@@ -19,7 +19,7 @@ behind_byte at b bs false run more =
 
 behind_run : (at : ℕ) (s : List ℕ) → tokens_from at in_symbol s ≡ Behind at s (take_while continues_symbol s)
 behind_run at [] = ap (λ n. at_end n outside) (omega arith)
-behind_run at (b ∷ bs) = behind_byte at b bs (continues_symbol b) (take_while-cons continues_symbol b bs) (behind_run (at + 1) bs)
+behind_run at (b ∷ bs) = behind_byte at b bs _ (take_while-cons continues_symbol b bs) (behind_run (at + 1) bs)
 
 -- Where the token ends, the rest of the tokens are read as outside all tokens. It begins at or
 -- behind this place of the text s.
@@ -84,7 +84,7 @@ one_before at b bs [] all = tt
 one_before at b bs (t ∷ ts) all = (here, one_before at b bs ts all.1)
   where
     here : GoesOn at (b ∷ bs) t ts
-    here behind ends can = let later = all.0 behind ends can in (suc later.0, omega (arith, later.1), later.2)
+    here behind ends can = let later = all.0 _ ends can in (suc _, omega (arith, later.1), later.2)
 
 onto_goes_on : (at b : ℕ) (bs : List ℕ) (f : Found) (ts : List Token) → FoundGoesOn at b bs f ts → AllGoOn (at + 1) bs ts
     → AllGoOn at (b ∷ bs) (onto at f ts)
@@ -96,13 +96,13 @@ end_goes_on at within = grind arith
 all_go_on : (at : ℕ) (within : Within) (s : List ℕ) → AllGoOn at s (tokens_from at within s)
 all_go_on at within [] = end_goes_on at within
 all_go_on at within (b ∷ bs) =
-    onto_goes_on at b bs (begins at within b bs) (tokens_from (at + 1) (next within b) bs) (begins_goes_on at within b bs) (all_go_on (at + 1) (next within b) bs)
+    onto_goes_on at b bs _ _ (begins_goes_on at within b bs) (all_go_on (at + 1) _ bs)
 
 -- the token at which a list is cut
 goes_on_at : (at : ℕ) (s : List ℕ) (given : List Token) (t : Token) (rest : List Token) → AllGoOn at s (given ++ t ∷ rest)
     → GoesOn at s t rest
 goes_on_at at s [] t rest all = all.0
-goes_on_at at s (g ∷ given) t rest all = goes_on_at at s given t rest all.1
+goes_on_at at s (g ∷ given) t rest all = goes_on_at at s given t _ all.1
 
 -- ---- White space
 
@@ -174,4 +174,4 @@ held_at is_start first = record { mode = if is_start then Start else if first th
 pub begins_at : (place : ℕ) (first : Bool) (h : PartialToken) → h ≡ held_at (place == 0) first
     → StandsAfter (record { count = place; held = h }) (white_space place first) None []
 begins_at zero first h same = rw same starts_first
-begins_at (suc n) first h same = let later : (suc n == 0) ≡ false = grind (arith, nat_tests) in rw (same, later) (begins_later n first)
+begins_at (suc n) first h same = let later : (suc n == 0) ≡ false = grind (arith, nat_tests) in rw (same, later) (begins_later n _)

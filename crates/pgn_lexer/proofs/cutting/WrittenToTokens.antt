@@ -17,20 +17,20 @@ escaped_data (b ∷ bs) s all = cases _ refl (escaped_data bs s (and_parts _ _ a
         → Data ((if e then 92 ∷ b ∷ [] else b ∷ []) ++ escaped bs) (b ∷ bs) s
     cases true e more = lexes.escaped b _ bs s e more
     cases false e more =
-        lexes.plain b _ bs s (plain_from (is_barred b) (is_escaped b) (and_parts _ _ all).0 e) more
+        lexes.plain b _ bs s (plain_from _ _ (and_parts _ _ all).0 e) more
 
 spelled_symbol : (text s : List ℕ) → IsSymbol text → StopsAt continues_symbol s
     → SpellsToken text s (Kind.symbol text)
 spelled_symbol [] s h stop = cc h.begins
 spelled_symbol (b ∷ bs) s h stop =
-    let all = and_parts (continues_symbol b) (list_all _ bs) h.bytes in
+    let all = and_parts _ _ h.bytes in
     lexes.symbol b bs s h.begins (all.1, stop) h.fits
 
 spelled_glyph : (n : ℕ) (ds s : List ℕ) → IsNumber n ds → n ≤ 255 → StopsAt is_digit s
     → SpellsToken (36 ∷ ds) s (Kind.glyph n)
 spelled_glyph n [] s h fits stop = absurd (omega (arith, h.some))
 spelled_glyph n (d ∷ ds) s h fits stop =
-    let all = and_parts (is_digit d) (list_all _ ds) h.digits in
+    let all = and_parts _ _ h.digits in
     rw h.value at
     (lexes.glyph d ds s all.0 (all.1, stop) (omega (arith, h.value)))
 
@@ -59,7 +59,7 @@ word_cut : (at : ℕ) (text s : List ℕ) (ts : List Token) → IsWord text → 
     → Cuts (lexes.comment true) at (text ++ s) (record { at = at; kind = Kind.word text } ∷ ts)
 word_cut at [] s ts h stop more = absurd (omega (arith, h.some))
 word_cut at (b ∷ bs) s ts h stop more =
-    let all = and_parts _ (list_all _ bs) h.bytes in
+    let all = and_parts _ _ h.bytes in
     let same : at + length (b ∷ bs) ≡ at + 1 + length bs = omega arith in
     lexes.word true at b bs s ts all.0 (all.1, stop) h.fits
     (rw same at more)
@@ -77,7 +77,7 @@ cut_outside : (first : Bool) (at : ℕ) (k : Kind) (ps : List Piece) → IsOutsi
     → IsPiece (token k) → IsEndedBy (text_of_pieces ps) k
     → CutsPieces false false (at + length (written k)) ps → CutsPieces false first at (token k ∷ ps)
 cut_outside first at k ps out h end more =
-    lexes.token first at _ _ k _
+    lexes.token _ at _ _ k _
     (spelled k _ out h end) more
 
 cut_pieces : (ps : List Piece) (inside first : Bool) (at : ℕ) → AllByRecursion IsPiece ps
@@ -118,7 +118,7 @@ no_mark : (ps : List Piece) → AllByRecursion IsPiece ps → CommentsClose fals
     → has_mark (text_of_pieces ps) ≡ false
 no_mark [] all close = refl
 no_mark (space b ∷ ps) all close = not_mark is_space b _ all.0 refl
-no_mark (token (Kind.symbol text) ∷ ps) all close = symbol_no_mark text _ all.0
+no_mark (token (Kind.symbol text) ∷ ps) all close = symbol_no_mark _ _ all.0
 no_mark (token k ∷ ps) all close = grind arith
 
 lexed : (ps : List Piece) → IsReadable ps → Lexes (text_of_pieces ps) (tokens_at 0 ps)
@@ -128,7 +128,7 @@ lexed ps h =
 
 pub pieces_are_read_back : PiecesAreReadBack
 pieces_are_read_back ps h =
-    sym ((lexes_once (text_of_pieces ps) _).0 (lexed ps h))
+    sym ((lexes_once _ _).0 (lexed ps h))
 
 kinds_of : (at : ℕ) (ps : List Piece)
     → map (λ t. t.kind) (tokens_at at ps) ≡ kinds_in ps ++ Kind.end ∷ []

@@ -13,7 +13,7 @@ one_place : (at at' : ℕ) (k k' : Kind) (t : Token) → Some (record { at = at;
 one_place at at' k k' t e f = ap (λ (u : Token). u.at) (same_Some _ _ (e ∙ sym f))
 
 longer : (text : List ℕ) (b : ℕ) → text ≡ text ++ b ∷ [] → ⊥
-longer text b e = omega (arith, ap (length {A = ℕ}) e, length-append text (b ∷ []))
+longer text b e = omega (arith, ap (length) e, length-append text (b ∷ []))
 
 symbol_apart : (text : List ℕ) (b : ℕ) → symbol text ≡ symbol (text ++ b ∷ []) → ⊥
 symbol_apart text b e = longer text b (cc)
@@ -65,7 +65,7 @@ common_of-none a b c d e f apart =
     let one = common_heads a _ t is in
     let two = common_heads b _ t one.1 in
     let three = common_heads c _ t two.1 in
-    let four = common_heads d (common e f) t three.1 in
+    let four = common_heads d _ t three.1 in
     let five = common_heads e f t four.1 in
     apart t one.0 two.0 three.0 four.0 five.0 five.1)
 
@@ -86,7 +86,7 @@ going_none place h sound not_failed = grind (arith, common_steps, common_of-none
 -- of a lexer that goes on, nothing more is decided
 pub going_decides : (place : ℕ) (h : PartialToken) (u : List ℕ) (given : List Token) → IsSound place h → HasNotFailed h.mode
     → ((s : List ℕ) → tokens_of (u ++ s) ≡ given ++ tokens_to_come place h s) → given ≡ decided u
-going_decides place h u given sound not_failed tokens = grind (arith, decided_is, going_none place h sound not_failed, append-nil given)
+going_decides place h u given sound not_failed tokens = grind (arith, decided_is, going_none _ h sound not_failed, append-nil given)
 
 -- and where the same comes whatever follows, all of it is decided
 pub known_decides : (u : List ℕ) (given more : List Token) → ((s : List ℕ) → tokens_of (u ++ s) ≡ given ++ more)

@@ -54,8 +54,8 @@ text_settles u = settles (3 * length u) u 0 at_start (omega arith) omega arith t
 
 pub decided_is_prefix : DecidedIsPrefix
 decided_is_prefix u s =
-    let h : Settles (λ s. tokens_of (u ++ s)) = text_settles u in
-    let all : decided u ≡ h.given = decided_is h.given u h.later h.comes ∙ ap (λ l. h.given ++ l) h.none ∙ append-nil _ in
+    let h = text_settles u in
+    let all = decided_is h.given u h.later h.comes ∙ ap (λ l. h.given ++ l) h.none ∙ append-nil _ in
     (h.later s, h.comes s ∙ ap (λ l. l ++ h.later s) (sym all))
 
 prefix_trans : (xs ys zs : List Token) → IsPrefix xs ys → IsPrefix ys zs → IsPrefix xs zs
@@ -66,6 +66,6 @@ take_while_front p ts = (drop _ ts, sym (take-append-drop _ ts))
 
 pub known_is_prefix : KnownIsPrefix
 known_is_prefix u s b =
-    let front : IsPrefix (decided (u ++ b ∷ [])) (tokens_of ((u ++ b ∷ []) ++ s)) = decided_is_prefix (u ++ b ∷ []) s in
-    let whole : IsPrefix (decided (u ++ b ∷ [])) (tokens_of (u ++ b ∷ s)) = (front.0, sym (ap tokens_of (append_assoc u _ s)) ∙ front.1) in
+    let front = decided_is_prefix (u ++ b ∷ []) s in
+    let whole : IsPrefix _ _ = (front.0, sym (ap tokens_of (append_assoc u _ s)) ∙ front.1) in
     prefix_trans _ _ _ (take_while_front _ _) whole

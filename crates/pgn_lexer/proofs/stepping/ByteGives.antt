@@ -21,7 +21,7 @@ step_in m place at b text fits sound =
 
 pub step_gives : (place : ℕ) (h : PartialToken) (b : ℕ) → IsSound place h → Gives (front_of place h b) (after_byte place h b)
 unfolding after_byte
-step_gives place h b sound = step_in _ place h.at b _ sound.room.0 sound
+step_gives place h b sound = step_in _ _ _ b _ sound.room.0 sound
 
 -- what the end of the text gives
 pub record ClosesToken (place : ℕ) (h : PartialToken) (form : TokenForm) (new : PartialToken) : Type 0 where
@@ -57,7 +57,7 @@ close_in m place at text h1 h2 = grind (arith, common_steps, run_closes, symbol_
 
 close_gives : (place : ℕ) (h : PartialToken) → IsSound place h → ClosedGives place h (after_end place h)
 unfolding after_end
-close_gives place h sound = close_in _ place h.at _ sound.room.0 sound
+close_gives place h sound = close_in _ _ _ _ sound.room.0 sound
 
 pub closes_gives : (place : ℕ) (h new : PartialToken) (answer : Reached) → IsSound place h → IsAfterEnd (after_end place h) new answer
     → CloseGives place h new answer

@@ -46,7 +46,7 @@ module _ (place at b : ℕ) (text : List ℕ) (some : 0 < length text) (fits : l
   brace_letter : comment_class b ≡ CommentClass.WordByte → continues_word b ≡ true → (d : Bool) → nat_lt (length text) 79 ≡ d
       → GivesIn Mode.BraceWord place at b text (λ h. if d then byte_result.grown h Mode.BraceWord b else byte_result.fails h h.at WordTooLong)
   brace_letter e w true room =
-      let short : length text < 79 = ltb-true _ _ room in
+      let short = ltb-true _ _ room in
       record {
         sound = omega (arith, length-append text (b ∷ []));
         not_failed = tt;
@@ -57,7 +57,7 @@ module _ (place at b : ℕ) (text : List ℕ) (some : 0 < length text) (fits : l
   line_letter : comment_class b ≡ CommentClass.WordByte → continues_word b ≡ true → (d : Bool) → nat_lt (length text) 79 ≡ d
       → GivesIn Mode.LineWord place at b text (λ h. if d then byte_result.grown h Mode.LineWord b else byte_result.fails h h.at WordTooLong)
   line_letter e w true room =
-      let short : length text < 79 = ltb-true _ _ room in
+      let short = ltb-true _ _ room in
       record {
         sound = omega (arith, length-append text (b ∷ []));
         not_failed = tt;

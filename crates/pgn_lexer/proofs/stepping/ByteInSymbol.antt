@@ -13,7 +13,7 @@ pub symbol_gives : (place at b : ℕ) (text : List ℕ) → length text ≤ 255 
     → continues_symbol b ≡ c → (d : Bool) → nat_lt (length text) 255 ≡ d
     → GivesIn Mode.Symbol place at b text (λ h. if c then (if d then grown h Mode.Symbol b else fails h h.at SymbolTooLong) else into h Mode.Outside (EndsBefore TokenForm.Symbol))
 symbol_gives place at b text fits some began true e true room =
-    let short : length text < 255 = ltb-true _ _ room in
+    let short = ltb-true _ _ room in
     record {
       sound = omega (arith, length-append text (b ∷ []));
       not_failed = tt;

@@ -14,7 +14,7 @@ ran_none place h piece sound not_failed = grind arith
 pub ran_all : (place : ℕ) (piece : List ℕ) (i : ℕ) (h new : PartialToken) (used : ℕ) → used ≡ length piece
     → ((old : PartialToken) → Ran place old piece h i → Ran place old piece new used) → RunsOn place piece i h new used Reached.End
 ran_all place piece i h new used all goes old ran =
-    let r : Ran place old piece new used = goes old ran in
+    let r = goes old ran in
     record {
       all = all;
       fresh = r.fresh;
@@ -39,7 +39,7 @@ module _ (place : ℕ) (old : PartialToken) (piece : List ℕ) (h : PartialToken
 
   pub ran_uses : (new : PartialToken) → IsAfterByte (after_byte (place + i) h b) new Used → Ran place old piece new (i + 1)
   ran_uses new t =
-      let g : Uses (front_of (place + i) h b) new = takes_gives _ h b new Used ran.sound t in
+      let g = takes_gives _ h b new _ ran.sound t in
       record {
         start = λ none. absurd (omega arith);
         sound = rw next_place at g.sound;
@@ -51,8 +51,8 @@ module _ (place : ℕ) (old : PartialToken) (piece : List ℕ) (h : PartialToken
   pub ran_ends : (form : TokenForm) (new : PartialToken) → IsAfterByte (after_byte (place + i) h b) new (Ends form)
       → RunsToToken place old piece (token_of form new) new (i + 1)
   ran_ends form new t =
-      let g : EndsIn (front_of (place + i) h b) form new = takes_gives _ h b new _ ran.sound t in
-      let few : pending new ≤ 1 = g.few in
+      let g = takes_gives _ h b new _ ran.sound t in
+      let few = g.few in
       record {
         within = omega arith;
         some = omega arith;
@@ -73,7 +73,7 @@ module _ (place : ℕ) (old : PartialToken) (piece : List ℕ) (h : PartialToken
   pub ran_ends_before : (form : TokenForm) (new : PartialToken) → IsAfterByte (after_byte (place + i) h b) new (EndsBefore form)
       → RunsToToken place old piece (token_of form new) new i
   ran_ends_before form new t =
-      let g : EndsAhead (front_of (place + i) h b) form new = takes_gives _ h b new _ ran.sound t in
+      let g = takes_gives _ h b new _ ran.sound t in
       record {
         within = omega arith;
         some = omega arith;
@@ -100,7 +100,7 @@ module _ (place : ℕ) (old : PartialToken) (piece : List ℕ) (h : PartialToken
   ran_fails : (new : PartialToken) → IsAfterByte (after_byte (place + i) h b) new Fault
       → RunsToFault place old piece (fault_met new) new (i + 1)
   ran_fails new t =
-      let g : Fails (front_of (place + i) h b) new = takes_gives _ h b new Fault ran.sound t in
+      let g = takes_gives _ h b new _ ran.sound t in
       record {
         within = omega arith;
         sound = rw next_place at g.sound;
@@ -122,12 +122,12 @@ takes_symbol place b h new answer e t = grind arith
 pub takes_symbol_byte : (place b : ℕ) (h new : PartialToken) → h.mode ≡ Symbol → continues_symbol b ≡ true → length h.text < 255
     → new ≡ record { mode = h.mode; at = h.at; text = h.text ++ b ∷ [] }
     → IsAfterByte (after_byte place h b) new Used
-takes_symbol_byte place b h new e goes room grows = takes_symbol place b h new Used e (grind (arith, lt-ltb))
+takes_symbol_byte place b h new e goes room grows = takes_symbol _ b h new _ e (grind (arith, lt-ltb))
 
 pub takes_symbol_end : (place b : ℕ) (h new : PartialToken) → h.mode ≡ Symbol → continues_symbol b ≡ false
     → new ≡ record { mode = Outside; at = h.at; text = h.text }
     → IsAfterByte (after_byte place h b) new (EndsBefore TokenForm.Symbol)
-takes_symbol_end place b h new e ends is = takes_symbol place b h new _ e (grind arith)
+takes_symbol_end place b h new e ends is = takes_symbol _ b h new _ e (grind arith)
 
 pub takes_outside : (place b : ℕ) (h new : PartialToken) (answer : Step) (c : Class) → IsOutside h.mode → class b ≡ c
     → begin_line place h b c ≡ begin place h b c
@@ -153,12 +153,12 @@ taken_string place b h c e same = grind arith
 pub takes_plain : (place b : ℕ) (h new : PartialToken) → h.mode ≡ Str → string_class b ≡ StringClass.Plain → length h.text < 255
     → new ≡ record { mode = h.mode; at = h.at; text = h.text ++ b ∷ [] }
     → IsAfterByte (after_byte place h b) new Used
-takes_plain place b h new e same room grows = rw (taken_string place b h _ e same) (grind (arith, lt-ltb))
+takes_plain place b h new e same room grows = rw (taken_string _ b h _ e same) (grind (arith, lt-ltb))
 
 pub takes_quote : (place b : ℕ) (h new : PartialToken) → h.mode ≡ Str → string_class b ≡ StringClass.Quote
     → new ≡ record { mode = Outside; at = h.at; text = h.text }
     → IsAfterByte (after_byte place h b) new (Ends TokenForm.Str)
-takes_quote place b h new e same ends = rw (taken_string place b h _ e same) (record { held = ends; step = refl })
+takes_quote place b h new e same ends = rw (taken_string _ b h _ e same) (record { held = ends; step = refl })
 
 -- a byte between the words of a comment in braces
 pub takes_brace : (place b : ℕ) (h new : PartialToken) (answer : Step) (c : CommentClass) → h.mode ≡ Brace → comment_class b ≡ c
@@ -169,7 +169,7 @@ takes_brace place b h new answer c e same t = grind arith
 pub takes_gap : (place b : ℕ) (h new : PartialToken) (c : CommentClass) → h.mode ≡ Brace → comment_class b ≡ c
     → (c ≡ CommentClass.LineEnd) ⊎ (c ≡ CommentClass.Space)
     → new ≡ record { mode = Brace; at = place; text = h.text } → IsAfterByte (after_byte place h b) new Used
-takes_gap place b h new c e same gap goes = takes_brace place b h new Used c e same (grind arith)
+takes_gap place b h new c e same gap goes = takes_brace _ b h new _ c e same (grind arith)
 
 takes_word : (place b : ℕ) (h new : PartialToken) (answer : Step) → h.mode ≡ BraceWord
     → IsAfterByte (word Brace h b (comment_class b)) new answer → IsAfterByte (after_byte place h b) new answer
@@ -178,7 +178,7 @@ takes_word place b h new answer e t = grind arith
 
 pub takes_word_byte : (place b : ℕ) (h new : PartialToken) → h.mode ≡ BraceWord → comment_class b ≡ CommentClass.WordByte → length h.text < 79
     → new ≡ record { mode = h.mode; at = h.at; text = h.text ++ b ∷ [] } → IsAfterByte (after_byte place h b) new Used
-takes_word_byte place b h new e goes room grows = takes_word place b h new Used e (rw goes (grind (arith, lt-ltb)))
+takes_word_byte place b h new e goes room grows = takes_word _ b h new _ e (rw goes (grind (arith, lt-ltb)))
 
 word_ends : (m : Mode) (h : PartialToken) (b : ℕ) (c : CommentClass) → (c ≡ CommentClass.WordByte → ⊥)
     → word m h b c ≡ into h m (EndsBefore TokenForm.Word)
@@ -188,4 +188,4 @@ pub takes_word_end : (place b : ℕ) (h new : PartialToken) (c : CommentClass) �
     → (c ≡ CommentClass.WordByte → ⊥) → new ≡ record { mode = Brace; at = h.at; text = h.text }
     → IsAfterByte (after_byte place h b) new (EndsBefore TokenForm.Word)
 takes_word_end place b h new c e same other is =
-    takes_word place b h new _ e (rw (same, word_ends Brace h b c other) (record { held = is; step = refl }))
+    takes_word _ b h new _ e (rw (same, word_ends _ h b c other) (record { held = is; step = refl }))

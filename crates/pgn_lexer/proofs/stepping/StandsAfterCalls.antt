@@ -24,13 +24,13 @@ follows_taken : (b : Option ℕ) (piece s : List ℕ) (used : ℕ) → 0 < lengt
 follows_taken b piece s used h1 h2 h3 = grind arith
 
 cut : (used : ℕ) (piece s : List ℕ) → piece ++ s ≡ take used piece ++ (drop used piece ++ s)
-cut used piece s = ap (λ l. l ++ s) (sym (take-append-drop used piece)) ∙ append_assoc _ _ s
+cut used piece s = ap (λ l. l ++ s) (sym (take-append-drop _ _)) ∙ append_assoc _ _ s
 
 no_fault_in_mode : (m : Mode) (at : ℕ) → HasNotFailed m → fault_in_mode m at ≡ None
 no_fault_in_mode m at h1 = grind arith
 
 pub not_failed_fault : (h : PartialToken) → HasNotFailed h.mode → fault_in_mode h.mode h.at ≡ None
-not_failed_fault h not_failed = no_fault_in_mode _ h.at not_failed
+not_failed_fault h not_failed = no_fault_in_mode _ _ not_failed
 
 failed_or_not : (m : Mode) (at : ℕ) → HasNotFailed m ⊎ ((f : LexFault) × (fault_in_mode m at ≡ Some f))
 failed_or_not (Mode.Failed reason) at = inr (record { at = at; reason = reason }, refl)
@@ -51,7 +51,7 @@ known_is : (u : List ℕ) (b : ℕ) (given : List Token) (comes : List ℕ → L
 known_is u b given comes before from tokens =
     let later : List ℕ → List Token = λ s. comes (b ∷ s) in
     let all : decided (u ++ b ∷ [])
-    ≡ given ++ common_of (later []) (later (49 ∷ [])) (later (33 ∷ [])) (later (34 ∷ 34 ∷ [])) (later (191 ∷ [])) (later (187 ∷ 191 ∷ [])) =
+    ≡ given ++ common_of (later []) (later (49 ∷ [])) (later (33 ∷ [])) _ (later (191 ∷ [])) _ =
     decided_is given (u ++ b ∷ []) later (λ s. ap tokens_of (append_assoc u _ s) ∙ tokens s) in
     let front = common_front (later []) _ in
     sym (ap (take_while _) all
@@ -114,7 +114,7 @@ module _ (count : ℕ) (old new : PartialToken) (piece : List ℕ) (used : ℕ) 
       }
     where
       whole : (s : List ℕ) → tokens_to_come count old (piece ++ s) ≡ refusal f ∷ []
-      whole s = ap (tokens_to_come count old) (cut used piece s) ∙ h.comes (drop used piece ++ s)
+      whole s = ap (tokens_to_come _ old) (cut used _ s) ∙ h.comes _
 
       comes : (u : List ℕ) (b : Option ℕ) (given : List Token) → StandsAfter ahead u b given → (s : List ℕ) → Follows b (piece ++ s)
           → tokens_of ((u ++ piece) ++ s) ≡ given ++ refusal f ∷ []
@@ -156,7 +156,7 @@ module _ (count : ℕ) (old new : PartialToken) (piece : List ℕ) (used : ℕ) 
       stood_decides : (i : ℕ) → 0 < i → StoodAt count old piece i → given ≡ decided (u ++ take i piece)
       stood_decides i some e =
           going_decides (count + i) e.held (u ++ take i piece) given e.sound e.not_failed
-          (λ s. ap tokens_of (append_assoc u _ s) ∙ stands.tokens (take i piece ++ s) (follows_taken b piece s i h.some some starts) ∙ ap (λ l. given ++ l) (e.comes s))
+          (λ s. ap tokens_of (append_assoc u _ s) ∙ stands.tokens _ (follows_taken b piece s i h.some some starts) ∙ ap (λ l. given ++ l) (e.comes s))
 
       no_sooner_closed : (k : Bool) → k ≡ false → (last : ℕ) → used ≡ last + 1 → StoodAt count old piece last
           → EndsNoSooner k u piece used given
@@ -174,7 +174,7 @@ module _ (count : ℕ) (old new : PartialToken) (piece : List ℕ) (used : ℕ) 
       -- the token ended with the last byte used, or before a byte that was not used
       ends_with : EndsWithByte count old piece (take used piece) t new used → AfterScan u b given piece behind used (token t)
       ends_with e =
-          let tokens : (s : List ℕ) → tokens_of (u' ++ s) ≡ (given ++ t ∷ []) ++ tokens_to_come (count + used) new s =
+          let tokens : (s : List ℕ) → tokens_of (u' ++ s) ≡ (given ++ t ∷ []) ++ tokens_to_come _ new s =
           λ s. with_token s (follows_taken b piece s used h.some e.some starts) (e.comes s) in (
             record { count = long; before = before'; tokens = λ s goes. tokens s },
             inl (going_decides _ new u' _ h.sound h.not_failed tokens),

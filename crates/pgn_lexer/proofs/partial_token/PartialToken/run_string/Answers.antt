@@ -14,7 +14,7 @@ returns-in_default c = λ old ran. c.run_on.ensures old (c.loop-used.invariant.r
 pub loop-used-preserved : goal.loop-used-preserved
 loop-used-preserved c =
     let here = c.loop-used.invariant in
-    let same : length c.self-in-Plain.inside.buffer.items ≡ length c.loop-used.self.text =
+    let same =
     ap (λ (h : PartialToken). length h.text) c.self-in-Plain.view_is in
     record {
       within = omega arith;
