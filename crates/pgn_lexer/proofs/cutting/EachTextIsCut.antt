@@ -1,5 +1,5 @@
 -- Each text can be cut.
-use Rattle.pgn_lexer.proofs.Words.{◌≡◌, ℕ, zero, suc, ◌+◌, ◌<◌, ◌≤◌, Bool, true, false, inl, inr, List, [], ◌∷◌, ◌++◌, length, refl, sym, ap, ◌∙◌, append_assoc, arith, length-append, ◌||◌, ◌⊎◌, not, ◌==◌, list_all, both_true, eqb-true, LexReason, StrayByte, ControlByte, Reserved, Class, CommentClass, StringClass, is_line_end, is_blank, is_control, is_digit, starts_symbol, continues_symbol, is_suffix, continues_word, Kind, Token, class, comment_class, number_of, tokens_from, tokens_of, has_mark, LexesOnce, StopsAt, IsAtLineEnd, is_escaped, is_barred, is_plain, Data, IsSuffix, SpellsToken, Refuses, Where, Cuts, Lexes, and_parts, or_right, or_left, Single, cases_Bool, cases_lt, kind_of_single, IsSingle}
+use Rattle.pgn_lexer.proofs.Words.{◌≡◌, ℕ, zero, suc, ◌+◌, ◌<◌, ◌≤◌, Bool, true, false, inl, inr, List, [], ◌∷◌, ◌++◌, length, refl, sym, ap, ◌∙◌, append_assoc, arith, length-append, ◌||◌, ◌⊎◌, not, ◌==◌, list_all, both_true, eqb-true, LexReason, StrayByte, ControlByte, Reserved, Class, CommentClass, StringClass, is_line_end, is_blank, is_control, is_digit, starts_symbol, continues_symbol, is_suffix, continues_word, Kind, Token, class, comment_class, tokens_from, tokens_of, has_mark, LexesOnce, StopsAt, IsAtLineEnd, is_escaped, is_barred, is_plain, Data, IsSuffix, SpellsToken, Refuses, Where, Cuts, Lexes, and_parts, or_right, or_left, Single, cases_Bool, cases_lt, kind_of_single, IsSingle}
 use Rattle.pgn_lexer.specs.Lexes as lexes
 use Rattle.pgn_lexer.proofs.stepping.ByteOutside.{unmarked}
 use Rattle.pgn_lexer.proofs.bytes.ClassToTest.{ClassSays, class_says, blank_class}

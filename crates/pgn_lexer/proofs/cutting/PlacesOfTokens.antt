@@ -1,6 +1,6 @@
 -- Where tokens stand.
 use Rattle.pgn_lexer.proofs.stepping.ByteInString.{read_plain, read_escaped}
-use Rattle.pgn_lexer.proofs.Words.{◌≡◌, ℕ, ◌+◌, ◌<◌, ◌≤◌, Bool, true, false, cond, List, [], ◌∷◌, ◌++◌, refl, ap, ◌∙◌, arith, take_while, nat_lt, if◌then◌else◌, AllByRecursion, lt-ltb, Single, Class, CommentClass, StringClass, LexReason, Kind, Token, IsLast, RisesTo, TokensRise, kind_of_single, Found, gives, stops, Reading, closed, broken, reading, glyph_at, suffix_at, string_at, Within, begins_class, begins_first, begins_after, begins_brace, begins_line, begins, next, onto, at_end, tokens_from, take_while-cons}
+use Rattle.pgn_lexer.proofs.Words.{◌≡◌, ℕ, ◌+◌, ◌<◌, ◌≤◌, Bool, true, false, cond, List, [], ◌∷◌, ◌++◌, refl, ap, ◌∙◌, arith, take_while, nat_lt, AllByRecursion, lt-ltb, Class, StringClass, Token, IsLast, RisesTo, TokensRise, Found, gives, stops, Reading, closed, broken, reading, string_at, Within, begins_class, begins_first, begins_after, begins, onto, at_end, tokens_from, take_while-cons}
 
 -- What begins at a place stands there or further on, and is a rejection or a token that is not the
 -- last.
@@ -32,21 +32,8 @@ reading_from start at n true (b ∷ bs) after =
 string_from : (at : ℕ) (r : Reading) → ReadingFrom at r → FoundFrom at (string_at r)
 string_from at r h1 = grind arith
 
--- a token where a test holds, and else a rejection at its place
-found_if : (at : ℕ) (k : Kind) (r : LexReason) (c : Bool) → (IsLast k → ⊥) → FoundFrom at (if c then gives k else stops at r)
-found_if at k r c h1 = grind arith
-
-single_other : (s : Single) → IsLast (kind_of_single s) → ⊥
-single_other s h1 = grind arith
-
-glyph_from : (at : ℕ) (ds : List ℕ) → FoundFrom at (glyph_at at ds)
-glyph_from at ds = grind arith
-
-suffix_from : (at : ℕ) (run : List ℕ) → FoundFrom at (suffix_at at run)
-suffix_from at run = grind arith
-
 class_from : (at : ℕ) (c : Class) (b : ℕ) (bs : List ℕ) → FoundFrom at (begins_class at c b bs)
-class_from at c b bs = grind (arith, found_if, string_from, reading_from, glyph_from, suffix_from, single_other)
+class_from at c b bs = grind (arith, string_from, reading_from)
 
 first_from : (at : ℕ) (c : Class) (b : ℕ) (bs : List ℕ) → FoundFrom at (begins_first at c b bs)
 first_from at Class.Percent b bs = tt
@@ -55,14 +42,8 @@ first_from at c b bs = class_from at c b bs
 after_from : (at : ℕ) (goes : Bool) (c : Class) (b : ℕ) (bs : List ℕ) → FoundFrom at (begins_after goes at c b bs)
 after_from at goes c b bs = grind (arith, class_from)
 
-brace_from : (at : ℕ) (goes : Bool) (c : CommentClass) (b : ℕ) (bs : List ℕ) → FoundFrom at (begins_brace at goes c b bs)
-brace_from at goes c b bs = grind arith
-
-line_from : (at : ℕ) (goes : Bool) (c : CommentClass) (b : ℕ) (bs : List ℕ) → FoundFrom at (begins_line at goes c b bs)
-line_from at goes c b bs = grind arith
-
 begins_from : (at : ℕ) (within : Within) (b : ℕ) (bs : List ℕ) → FoundFrom at (begins at within b bs)
-begins_from at within b bs = grind (arith, first_from, class_from, after_from, brace_from, line_from)
+begins_from at within b bs = grind (arith, first_from, class_from, after_from)
 
 -- tokens that all stand at a place or further on
 abbrev pub AllFrom : ℕ → List Token → Type 0

@@ -1,5 +1,5 @@
 -- The tokens behind a symbol or an asterisk, and those behind white space.
-use Rattle.pgn_lexer.proofs.Words.{◌≡◌, ℕ, zero, suc, ◌+◌, Bool, true, false, cond, List, [], ◌∷◌, ◌++◌, length, refl, sym, ap, ◌∙◌, arith, append_assoc, subst, length-append, take_while, drop, replicate, None, ◌==◌, if◌then◌else◌, length-replicate, take_while-cons, Class, Single, CommentClass, continues_symbol, Token, EndsAt, Start, LineStart, Outside, PartialToken, coming, StandsAfter, CanBeMarker, TextsRestart, class, Found, gives, stops, Reading, kind_of_single, symbol_at, string_at, glyph_at, suffix_at, Within, after_class, after_run, begins_class, begins_first, begins_after, begins_brace, begins_line, begins, next, onto, at_end, tokens_from, tokens_of, has_mark, nat_tests, outside, column, in_symbol, after_first, cases_Bool, inl, inr, drop-drop, drop_at}
+use Rattle.pgn_lexer.proofs.Words.{◌≡◌, ℕ, zero, suc, ◌+◌, Bool, true, false, cond, List, [], ◌∷◌, ◌++◌, length, refl, sym, ap, ◌∙◌, arith, append_assoc, subst, length-append, take_while, drop, replicate, None, ◌==◌, if◌then◌else◌, length-replicate, take_while-cons, Class, continues_symbol, Token, EndsAt, Start, LineStart, Outside, PartialToken, coming, StandsAfter, CanBeMarker, TextsRestart, class, Found, gives, stops, symbol_at, Within, after_class, after_run, begins_class, begins_first, begins_after, begins, next, onto, at_end, tokens_from, tokens_of, has_mark, nat_tests, outside, column, in_symbol, after_first, cases_Bool, inl, inr, drop-drop, drop_at}
 use Rattle.pgn_lexer.proofs.stepping.ByteOutside.{other_first}
 use Rattle.pgn_lexer.specs.WhiteSpace.{white_space}
 
@@ -42,21 +42,9 @@ symbol_goes_on : (at b : ℕ) (bs : List ℕ)
     → FoundGoesOn at b bs (symbol_at at (b ∷ take_while continues_symbol bs)) (tokens_from (at + 1) in_symbol bs)
 symbol_goes_on at b bs = grind (arith, behind_run)
 
-single_goes_on : (at b : ℕ) (bs : List ℕ) (s : Single) → FoundGoesOn at b bs (gives (kind_of_single s)) (tokens_from (at + 1) outside bs)
-single_goes_on at b bs s = grind arith
-
-string_goes_on : (at b : ℕ) (bs : List ℕ) (r : Reading) (rest : List Token) → FoundGoesOn at b bs (string_at r) rest
-string_goes_on at b bs r rest = grind arith
-
-glyph_goes_on : (at b : ℕ) (bs ds : List ℕ) (rest : List Token) → FoundGoesOn at b bs (glyph_at at ds) rest
-glyph_goes_on at b bs ds rest = grind arith
-
-suffix_goes_on : (at b : ℕ) (bs run : List ℕ) (rest : List Token) → FoundGoesOn at b bs (suffix_at at run) rest
-suffix_goes_on at b bs run rest = grind arith
-
 class_goes_on : (at : ℕ) (c : Class) (b : ℕ) (bs : List ℕ)
     → FoundGoesOn at b bs (begins_class at c b bs) (tokens_from (at + 1) (after_class c) bs)
-class_goes_on at c b bs = grind (arith, symbol_goes_on, string_goes_on, glyph_goes_on, suffix_goes_on, single_goes_on)
+class_goes_on at c b bs = grind (arith, symbol_goes_on)
 
 first_goes_on : (at : ℕ) (c : Class) (b : ℕ) (bs : List ℕ)
     → FoundGoesOn at b bs (begins_first at c b bs) (tokens_from (at + 1) (after_first c) bs)
@@ -67,17 +55,9 @@ run_goes_on : (at : ℕ) (goes : Bool) (within : Within) (c : Class) (b : ℕ) (
     → FoundGoesOn at b bs (begins_after goes at c b bs) (tokens_from (at + 1) (after_run goes within c) bs)
 run_goes_on at goes within c b bs = grind (arith, class_goes_on)
 
-brace_goes_on : (at : ℕ) (goes : Bool) (c : CommentClass) (b : ℕ) (bs : List ℕ) (rest : List Token)
-    → FoundGoesOn at b bs (begins_brace at goes c b bs) rest
-brace_goes_on at goes c b bs rest = grind arith
-
-line_goes_on : (at : ℕ) (goes : Bool) (c : CommentClass) (b : ℕ) (bs : List ℕ) (rest : List Token)
-    → FoundGoesOn at b bs (begins_line at goes c b bs) rest
-line_goes_on at goes c b bs rest = grind arith
-
 begins_goes_on : (at : ℕ) (within : Within) (b : ℕ) (bs : List ℕ)
     → FoundGoesOn at b bs (begins at within b bs) (tokens_from (at + 1) (next within b) bs)
-begins_goes_on at within b bs = grind (arith, first_goes_on, class_goes_on, run_goes_on, brace_goes_on, line_goes_on)
+begins_goes_on at within b bs = grind (arith, first_goes_on, class_goes_on, run_goes_on)
 
 one_before : (at b : ℕ) (bs : List ℕ) (ts : List Token) → AllGoOn (at + 1) bs ts → AllGoOn at (b ∷ bs) ts
 one_before at b bs [] all = tt

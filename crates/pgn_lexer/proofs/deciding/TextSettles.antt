@@ -1,5 +1,5 @@
 -- Each text brings a lexer to a place from which nothing is decided yet, or to a rejection.
-use Rattle.pgn_lexer.proofs.Words.{◌≡◌, ℕ, zero, suc, ◌+◌, ◌*◌, ◌<◌, ◌≤◌, Bool, List, [], ◌∷◌, ◌++◌, length, drop, refl, sym, ap, ◌∙◌, append-nil, append_assoc, arith, take-append-drop, take_while, Mode, Step, Used, Ends, EndsBefore, Fault, Token, tokens_of, decided, PartialToken, tokens_to_come, token_of, refusal, IsSound, HasNotFailed, pending_in, pending, fault_met, after_byte, IsPrefix, DecidedIsPrefix, KnownIsPrefix}
+use Rattle.pgn_lexer.proofs.Words.{◌≡◌, ℕ, zero, suc, ◌+◌, ◌*◌, ◌<◌, ◌≤◌, Bool, List, [], ◌∷◌, ◌++◌, length, drop, refl, sym, ap, ◌∙◌, append-nil, append_assoc, arith, take-append-drop, take_while, Mode, Step, Used, Ends, EndsBefore, Fault, Token, tokens_of, PartialToken, tokens_to_come, token_of, refusal, IsSound, HasNotFailed, pending_in, pending, fault_met, after_byte, IsPrefix, DecidedIsPrefix, KnownIsPrefix}
 use Rattle.pgn_lexer.proofs.stepping.StepGives.{StepGives, front_of}
 use Rattle.pgn_lexer.proofs.stepping.ByteGives.{step_gives}
 use Rattle.pgn_lexer.proofs.deciding.GivenAreDecided.{common_of, decided_is, going_none}

@@ -1,7 +1,7 @@
 -- A run over a piece, byte by byte.
 use Rattle.pgn_lexer.proofs.Words.{◌≡◌, ℕ, suc, ◌+◌, ◌*◌, ◌<◌, ◌≤◌, inl, inr, List, [], ◌∷◌, ◌++◌, length, get_or, take, drop, refl, sym, ap, ◌∙◌, append_assoc, add-one, arith, ◌⊎◌, true, false, Some, lt-ltb, take_all, take_more, drop-cons, LexFault, Mode, LexReason, Class, CommentClass, StringClass, LineStart, Outside, Symbol, Str, Brace, BraceWord, Failed, continues_symbol, class, comment_class, string_class, TokenForm, Step, Used, Ends, EndsBefore, Fault, PartialToken, tokens_to_come, token_of, IsSound, HasNotFailed, pending, fault_met, fault_in_mode, begin, begin_line, string, fails, into, after_byte, IsAfterByte, IsOutside, Ran, RunsOn, StoodAt, RunGives, RunsToToken, RunsToFault, used_after, reached_after, Reached, common_steps}
 use Rattle.pgn_lexer.specs.ByteResult.{brace, word, symbol}
-use Rattle.pgn_lexer.proofs.stepping.StepGives.{StepGives, Uses, EndsIn, EndsAhead, Fails, front_of}
+use Rattle.pgn_lexer.proofs.stepping.StepGives.{StepGives, front_of}
 use Rattle.pgn_lexer.proofs.stepping.ByteGives.{step_gives}
 
 takes_gives : (place : ℕ) (h : PartialToken) (b : ℕ) (new : PartialToken) (answer : Step) → IsSound place h

@@ -1,5 +1,5 @@
 use Rattle.pgn_lexer.proofs.Words.{refl, sym, subst, PartialToken, IsSound}
-use Rattle.pgn_lexer.proofs.stepping.ByteGives.{closes_gives, ClosesEnd, ClosesToken, ClosesFault}
+use Rattle.pgn_lexer.proofs.stepping.ByteGives.{closes_gives}
 use Rattle.pgn_lexer.proofs.stepping.EndGives.{finishes_end, finishes_token, finishes_told, finishes_of}
 use Rattle.pgn_lexer.proofs.lexer.Lexer.finish.Goals as goal
 

@@ -1,4 +1,4 @@
-use Rattle.pgn_lexer.proofs.Words.{◌≡◌, [], ◌∷◌, ◌++◌, length, get_or, refl, sym, ap, ◌∙◌, arith, Outside, PartialToken}
+use Rattle.pgn_lexer.proofs.Words.{[], ◌∷◌, ◌++◌, length, get_or, refl, sym, ap, ◌∙◌, arith, Outside, PartialToken}
 use Rattle.pgn_lexer.proofs.stepping.PieceByByte.{ran_all, ran_uses, ran_ends, takes_plain, takes_quote}
 use Rattle.pgn_lexer.proofs.partial_token.PartialToken.run_string.Goals as goal
 
