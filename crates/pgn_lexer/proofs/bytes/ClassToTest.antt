@@ -1,5 +1,5 @@
 -- What a class says of a byte, and what a test says of its class.
-use Rattle.pgn_lexer.proofs.Words.{◌≡◌, ℕ, ◌<◌, Bool, true, false, refl, arith, ◌||◌, not, ◌==◌, if◌then◌else◌, eqb-true, agree_below_at, StrayByte, ControlByte, Reserved, Class, LineEnd, Space, Percent, SymbolStart, Quote, Dollar, Suffix, OpenBrace, Semicolon, Alone, Refused, CommentClass, is_line_end, is_blank, is_control, starts_symbol, is_suffix, class, comment_class, is_stray, or_cases, Single, common_steps}
+use Rattle.pgn_lexer.proofs.Words.{◌≡◌, ℕ, Bool, true, false, refl, arith, ◌||◌, not, ◌==◌, if◌then◌else◌, eqb-true, StrayByte, ControlByte, Reserved, Class, LineEnd, Space, Percent, SymbolStart, Quote, Dollar, Suffix, OpenBrace, Semicolon, Alone, Refused, CommentClass, is_line_end, is_blank, is_control, starts_symbol, is_suffix, class, comment_class, is_stray, Single, common_steps}
 
 -- from a class to what is said of the byte; the tests are those of `class`, in its order
 module _ (sy le bl su pe qu da br se lb rb lp rp pd ast re co : Bool) where
@@ -52,47 +52,23 @@ stray_class b e = stray_of _ _ _ _ _ _ _ _ _ _ _ _ _ _ _ _ _ e
 of_line_end : (P : ℕ → Type 0) (b : ℕ) → is_line_end b ≡ true → P 10 → P 13 → P b
 of_line_end P b e ten thirteen = grind arith
 
-of_blank : (P : ℕ → Type 0) (b : ℕ) → is_blank b ≡ true → P 9 → P 11 → P 12 → P 32 → P b
-of_blank P b e nine eleven twelve space = grind arith
-
 pub line_end_class : (b : ℕ) → is_line_end b ≡ true → class b ≡ LineEnd
 line_end_class b e = of_line_end (λ b. class b ≡ LineEnd) b e refl refl
 
 pub blank_class : (b : ℕ) → is_blank b ≡ true → (class b ≡ Space) × (is_line_end b ≡ false)
-blank_class b e = grind (arith, common_steps, of_blank)
+blank_class b e = grind (arith, common_steps)
 
 pub line_end_comment : (b : ℕ) → is_line_end b ≡ true → comment_class b ≡ CommentClass.LineEnd
 line_end_comment b e = of_line_end (λ b. comment_class b ≡ CommentClass.LineEnd) b e refl refl
 
-pub blank_comment : (b : ℕ) → is_blank b ≡ true → comment_class b ≡ CommentClass.Space
-blank_comment b e = of_blank (λ b. comment_class b ≡ CommentClass.Space) b e refl refl refl refl
-
 pub suffix_class : (b : ℕ) → is_suffix b ≡ true → class b ≡ Suffix
-suffix_class b e = grind (arith, or_cases, eqb-true)
+suffix_class b e = grind (arith, eqb-true)
 
 pub reserved_class : (b : ℕ) → ((b == 60) || (b == 62)) ≡ true → class b ≡ Refused Reserved
-reserved_class b e = grind (arith, or_cases, eqb-true)
-
--- control bytes, by trying each
-abbrev tells_control : Class → Bool
-tells_control (Refused ControlByte) = true
-tells_control _ = false
-
-abbrev tells_control_in_comment : CommentClass → Bool
-tells_control_in_comment CommentClass.Control = true
-tells_control_in_comment _ = false
-
-told_control : (c : Class) → tells_control c ≡ true → c ≡ Refused ControlByte
-told_control c h1 = grind arith
-
-told_control_in_comment : (c : CommentClass) → tells_control_in_comment c ≡ true → c ≡ CommentClass.Control
-told_control_in_comment c h1 = grind arith
-
-control_small : (b : ℕ) → is_control b ≡ true → b < 128
-control_small b e = grind arith
+reserved_class b e = grind (arith, eqb-true)
 
 pub control_class : (b : ℕ) → is_control b ≡ true → class b ≡ Refused ControlByte
-control_class b e = grind (arith, common_steps, told_control, agree_below_at, control_small)
+control_class b e = grind (arith, common_steps)
 
 pub control_comment : (b : ℕ) → is_control b ≡ true → comment_class b ≡ CommentClass.Control
-control_comment b e = grind (arith, common_steps, told_control_in_comment, agree_below_at, control_small)
+control_comment b e = grind (arith, common_steps)

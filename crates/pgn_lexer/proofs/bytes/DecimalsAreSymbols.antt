@@ -1,5 +1,5 @@
 -- Numbers in decimal.
-use Rattle.pgn_lexer.proofs.Words.{◌≡◌, ℕ, ◌+◌, ◌/◌, ◌%◌, ◌^◌, ◌<◌, ◌≤◌, Bool, true, List, [], ◌∷◌, ◌++◌, length, refl, arith, length-append, decimal, both_true, list_all, le-leb, fold-append, is_digit, starts_symbol, continues_symbol, NumbersAreSymbols, IsSymbol, number_of, and_parts}
+use Rattle.pgn_lexer.proofs.Words.{◌≡◌, ℕ, ◌+◌, ◌/◌, ◌%◌, ◌^◌, ◌<◌, ◌≤◌, Bool, true, List, [], ◌∷◌, ◌++◌, length, refl, arith, length-append, decimal, both_true, list_all, fold-append, is_digit, starts_symbol, continues_symbol, NumbersAreSymbols, IsSymbol, number_of, and_parts}
 use Rattle.std.proofs.lemmas.Fmt.{decimal_by_steps, length-decimal-le}
 use Rattle.pgn_lexer.proofs.cutting.TokensAreSound.{start_continues}
 
@@ -9,20 +9,17 @@ pub record IsNumber (n : ℕ) (ds : List ℕ) : Type 0 where
   pub value : number_of ds ≡ n
   pub some : 0 < length ds
 
-digit_passes : (d : ℕ) → d < 10 → is_digit (48 + d) ≡ true
-digit_passes d low = both_true (le-leb 48 _ (omega arith)) (le-leb (48 + d) 57 (omega arith))
-
 all_append : (p : ℕ → Bool) (xs ys : List ℕ) → list_all p xs ≡ true → list_all p ys ≡ true
     → list_all p (xs ++ ys) ≡ true
 all_append p [] ys all more = more
-all_append p (x ∷ xs) ys all more = grind (arith, and_parts, all_append p xs ys)
+all_append p (x ∷ xs) ys all more = grind (arith, all_append p xs ys)
 
 one_digit : (n : ℕ) → n < 10 → IsNumber n ((48 + n) ∷ [])
 one_digit n low = grind arith
 
 last_digit : (n : ℕ) (ds : List ℕ) → 10 ≤ n → IsNumber (n / 10) ds
     → IsNumber n (ds ++ ((48 + n % 10) ∷ []))
-last_digit n ds high front = grind (arith, fold-append, all_append, digit_passes, length-append)
+last_digit n ds high front = grind (arith, fold-append, all_append, length-append)
 
 pub number_written : (n : ℕ) → n < 2 ^ 64 → IsNumber n (decimal n)
 number_written = decimal_by_steps IsNumber one_digit last_digit
@@ -37,7 +34,7 @@ digits_continue (d ∷ ds) all =
     both_true (start_continues d (digit_starts d first.0)) (digits_continue ds first.1)
 
 symbol_of : (n : ℕ) (ds : List ℕ) → IsNumber n ds → length ds ≤ 255 → IsSymbol ds
-symbol_of n ds h1 h2 = grind (arith, digit_starts, and_parts, digits_continue)
+symbol_of n ds h1 h2 = grind (arith, digits_continue)
 
 pub numbers_are_symbols : NumbersAreSymbols
 numbers_are_symbols n small =

@@ -1,6 +1,6 @@
 -- Where tokens stand.
 use Rattle.pgn_lexer.proofs.stepping.ByteInString.{read_plain, read_escaped}
-use Rattle.pgn_lexer.proofs.Words.{◌≡◌, ℕ, ◌+◌, ◌<◌, ◌≤◌, Bool, true, false, cond, List, [], ◌∷◌, ◌++◌, refl, ap, ◌∙◌, arith, take_while, nat_lt, AllByRecursion, lt-ltb, Class, StringClass, Token, IsLast, RisesTo, TokensRise, Found, gives, stops, Reading, closed, broken, reading, string_at, Within, begins_class, begins_first, begins_after, begins, onto, at_end, tokens_from, take_while-cons}
+use Rattle.pgn_lexer.proofs.Words.{◌≡◌, ℕ, ◌+◌, ◌<◌, ◌≤◌, Bool, true, false, cond, List, [], ◌∷◌, ◌++◌, refl, ap, ◌∙◌, arith, take_while, nat_lt, AllByRecursion, lt-ltb, Class, StringClass, Token, IsLast, RisesTo, TokensRise, Found, gives, stops, Reading, closed, broken, reading, Within, begins_class, begins_first, begins_after, begins, onto, at_end, tokens_from, take_while-cons}
 
 -- What begins at a place stands there or further on, and is a rejection or a token that is not the
 -- last.
@@ -29,11 +29,8 @@ reading_from start at n false (b ∷ bs) after =
 reading_from start at n true (b ∷ bs) after =
     escaped_from start at n b bs _ after (reading_from start (at + 1) (n + 1) false bs (omega arith)) (reading_from start (at + 1) (n + 2) false bs (omega arith))
 
-string_from : (at : ℕ) (r : Reading) → ReadingFrom at r → FoundFrom at (string_at r)
-string_from at r h1 = grind arith
-
 class_from : (at : ℕ) (c : Class) (b : ℕ) (bs : List ℕ) → FoundFrom at (begins_class at c b bs)
-class_from at c b bs = grind (arith, string_from, reading_from)
+class_from at c b bs = grind (arith, reading_from)
 
 first_from : (at : ℕ) (c : Class) (b : ℕ) (bs : List ℕ) → FoundFrom at (begins_first at c b bs)
 first_from at Class.Percent b bs = tt

@@ -2,10 +2,10 @@
 use Rattle.pgn_lexer.proofs.Words.{◌≡◌, ℕ, ◌+◌, ◌<◌, ◌≤◌, Bool, true, false, List, [], ◌∷◌, ◌++◌, length, refl, sym, ap, ◌∙◌, append-nil, append_assoc, arith, length-append, ◌||◌, not, take_while, false≢true, LexReason, ControlByte, BadSuffix, Class, CommentClass, is_line_end, is_space, is_control, is_digit, starts_symbol, continues_symbol, is_suffix, continues_word, Kind, Token, class, comment_class, symbol_at, word_at, glyph_at, suffix_at, Within, begins_class, begins_brace, begins_line, after_class, after_brace, after_line, onto, tokens_from, StopsAt, IsRun, IsSingle, IsSuffix, SpellsToken, Refuses, Where, Cuts, both_true, string_at, reading, with_front, Data, or_cases, and_parts, not-true, common_steps, outside, column, in_suffix, in_escape_line, line, quotes, begins_first, after_first, refused, comment_close, str, glyph, number_of}
 use Rattle.pgn_lexer.specs.Lexes as lexes
 use Rattle.pgn_lexer.proofs.stepping.RunOfBytes.{take_while-true, take_while-false, suffix_goes}
-use Rattle.pgn_lexer.proofs.bytes.ClassToTest.{stray_class, line_end_class, blank_class, line_end_comment, blank_comment, suffix_class, reserved_class, control_class, control_comment}
+use Rattle.pgn_lexer.proofs.bytes.ClassToTest.{stray_class, line_end_class, blank_class, line_end_comment, suffix_class, reserved_class, control_class, control_comment}
 use Rattle.pgn_lexer.proofs.stepping.ByteInSymbol.{symbol_fits, symbol_long}
-use Rattle.pgn_lexer.proofs.cutting.StringData.{reads_data, reads_long, reads_control, reads_open, quotes_skip}
-use Rattle.pgn_lexer.proofs.stepping.ByteInComment.{word_fits, word_long, word_class, brace_ends, line_ends}
+use Rattle.pgn_lexer.proofs.cutting.StringData.{reads_data, reads_control, quotes_skip}
+use Rattle.pgn_lexer.proofs.stepping.ByteInComment.{word_fits, word_class, line_ends}
 use Rattle.pgn_lexer.proofs.stepping.ByteInGlyph.{number_fits, number_long}
 
 abbrev pub within_of : Where → Within
@@ -27,7 +27,7 @@ placed at kind = record { at = at; kind = kind }
 take_run : (p : ℕ → Bool) (run s : List ℕ) → IsRun p run s → take_while p (run ++ s) ≡ run
 take_run p [] [] long = refl
 take_run p [] (b ∷ s) long = take_while-false p b s long.1
-take_run p (b ∷ run) s long = grind (arith, take_while-true, and_parts, take_run p run s)
+take_run p (b ∷ run) s long = grind (arith, take_while-true, take_run p run s)
 
 -- the places within a run give nothing
 module _ (within out : Within) (p : ℕ → Bool) (goes : (at b : ℕ) (s : List ℕ) → p b ≡ true → tokens_from at within (b ∷ s) ≡ tokens_from (at + 1) within s)
@@ -55,7 +55,7 @@ from_class true at b s c e other =
     in_column c other = refl
 
 space_skips : (first : Bool) (at b : ℕ) (s : List ℕ) → is_space b ≡ true → outer first at (b ∷ s) ≡ outer (is_line_end b) (at + 1) s
-space_skips first at b s e = grind (arith, or_cases, from_class, line_end_class, blank_class)
+space_skips first at b s e = grind (arith, line_end_class, blank_class)
 
 symbol_cut : (first : Bool) (at b : ℕ) (run s : List ℕ) → starts_symbol b ≡ true → IsRun continues_symbol run s
     → outer first at (b ∷ (run ++ s)) ≡ onto at (symbol_at at (b ∷ run)) (tokens_from (at + 1 + length run) outside s)
@@ -103,7 +103,7 @@ word_goes braces at b s h1 = grind arith
 
 word_stops : (braces : Bool) (at : ℕ) (s : List ℕ) → StopsAt continues_word s
     → tokens_from at (word_within braces) s ≡ inner braces at s
-word_stops braces at s h1 = grind (arith, brace_ends, word_class, line_ends)
+word_stops braces at s h1 = grind (arith, word_class, line_ends)
 
 letter_first : (braces : Bool) (at b : ℕ) (s : List ℕ) → continues_word b ≡ true
     → inner braces at (b ∷ s) ≡ onto at (word_at at (b ∷ take_while continues_word s)) (tokens_from (at + 1) (word_within braces) s)
@@ -120,12 +120,12 @@ blank_in_comment : (braces : Bool) (at b : ℕ) (s : List ℕ) → is_space b �
     → inner braces at (b ∷ s) ≡ inner braces (at + 1) s
 unfolding comment_tokens
 blank_in_comment braces at b s h1 h2 =
-    grind (arith, or_cases, common_steps, from_comment, line_end_comment, blank_comment, false≢true, not-true)
+    grind (arith, or_cases, common_steps, false≢true, not-true)
 
 pub control_in_comment : (braces : Bool) (at b : ℕ) (s : List ℕ) → is_control b ≡ true
     → inner braces at (b ∷ s) ≡ placed at (refused ControlByte) ∷ []
 unfolding comment_tokens
-control_in_comment braces at b s h1 = grind (arith, from_comment, control_comment)
+control_in_comment braces at b s h1 = grind (arith, control_comment)
 
 line_closes : (at b : ℕ) (s : List ℕ) → is_line_end b ≡ true
     → tokens_from at line (b ∷ s) ≡ placed at comment_close ∷ tokens_from (at + 1) column s
@@ -167,7 +167,7 @@ module _ (first : Bool) (at : ℕ) where
   spells_is _ _ _ (lexes.glyph d ds s e long fits) =
       glyph_cut first at (d ∷ ds) s (both_true e long.0, long.1) ∙ rw (number_fits at (number_of (d ∷ ds)) fits) (moved _ _ _ s (omega arith))
   spells_is _ _ _ (lexes.suffix run s n is stop) = suffix_is run s n is stop
-  spells_is _ _ _ (lexes.single b s k is) = grind (arith, single_is b s k is, moved)
+  spells_is _ _ _ (lexes.single b s k is) = grind (arith, single_is b s k is)
 
   abbrev refused_at : LexReason → ℕ → List Token
   refused_at r n = placed n (refused r) ∷ []
@@ -181,12 +181,12 @@ module _ (first : Bool) (at : ℕ) where
   refuses_is _ _ _ (lexes.reserved b s e) = grind (arith, from_class, reserved_class, here)
   refuses_is _ _ _ (lexes.long_symbol b run s e long over) = grind (arith, symbol_cut, symbol_long, here)
   refuses_is _ _ _ (lexes.long_string b raw text s data' full more) =
-      grind (arith, string_reads raw text (b ∷ s) data' (omega arith), reads_long at (at + 1 + length raw) (length text) b s (omega arith) more, here)
+      grind (arith, string_reads raw text (b ∷ s) data' (omega arith), here)
   refuses_is _ _ _ (lexes.control_in_string b raw text s data' fits bad other) =
       let further : at + 1 + length raw ≡ at + (1 + length raw) = omega arith in
       string_reads raw text (b ∷ s) data' fits ∙ rw (reads_control at (at + 1 + length raw) _ b s bad other, further)
   refuses_is _ _ _ (lexes.open_string raw text s data' fits stop) =
-      grind (arith, string_reads raw text s data' fits, reads_open at (at + 1 + length raw) (length text) s stop, here)
+      grind (arith, string_reads raw text s data' fits, here)
   refuses_is _ _ _ (lexes.lone_dollar s stop) = grind (arith, glyph_cut, here)
   refuses_is _ _ _ (lexes.large_glyph d ds s e long over) =
       grind (arith, glyph_cut first at (d ∷ ds) s (both_true e long.0, long.1), number_long, here)
@@ -209,7 +209,7 @@ cuts_is _ _ _ _ (lexes.opens_brace first at s ts more) = rw (cuts_is _ _ _ _ mor
 cuts_is _ _ _ _ (lexes.opens_line first at s ts more) = rw (cuts_is _ _ _ _ more) (sym (from_class first at 59 s _ refl (λ e. cc)))
 cuts_is _ _ _ _ (lexes.between_words braces at b s ts e other more) = cuts_is _ _ _ _ more ∙ sym (blank_in_comment braces at b s e other)
 cuts_is _ _ _ _ (lexes.word braces at b run s ts e long fits more) = grind (arith, cuts_is _ _ _ _ more, word_cut, word_fits)
-cuts_is _ _ _ _ (lexes.long_word braces at b run s e long over) = grind (arith, word_cut, word_long)
+cuts_is _ _ _ _ (lexes.long_word braces at b run s e long over) = grind (arith, word_cut)
 cuts_is _ _ _ _ (lexes.control_in_comment braces at b s e) = sym (control_in_comment braces at b s e)
 cuts_is _ _ _ _ (lexes.closes_brace at s ts more) = rw (cuts_is _ _ _ _ more)
 cuts_is _ _ _ _ (lexes.closes_line at b s ts e more) = rw (cuts_is _ _ _ _ more) (sym (line_closes at b s e))

@@ -1,6 +1,6 @@
 -- The data of a string, as they are written.
 use Rattle.pgn_lexer.proofs.stepping.ByteInString.{read_plain}
-use Rattle.pgn_lexer.proofs.Words.{◌≡◌, ℕ, ◌+◌, ◌<◌, ◌≤◌, Bool, true, false, List, ◌∷◌, ◌++◌, length, ◌∙◌, arith, ◌||◌, not, ◌==◌, if◌then◌else◌, lt-ltb, ControlByte, StringTooLong, UnclosedString, StringClass, is_line_end, string_class, Reading, broken, datum, reading, tokens_from, with_front, StopsAt, IsAtLineEnd, is_escaped, is_barred, is_plain, Data, no_data, plain, escaped, lone, outside, quotes, ap}
+use Rattle.pgn_lexer.proofs.Words.{◌≡◌, ℕ, ◌+◌, ◌<◌, ◌≤◌, Bool, true, false, List, ◌∷◌, ◌++◌, length, ◌∙◌, arith, ◌||◌, not, ◌==◌, if◌then◌else◌, lt-ltb, ControlByte, StringClass, is_line_end, string_class, Reading, broken, datum, reading, tokens_from, with_front, StopsAt, is_escaped, is_barred, is_plain, Data, no_data, plain, escaped, lone, outside, quotes, ap}
 
 -- what the class of a byte in a string says
 module _ (quote slash line_end barred : Bool) where
@@ -95,13 +95,6 @@ quotes_skip at _ _ _ s (lone raw text rest stop data') e =
     let same : at + 1 + length raw + 1 ≡ at + length (92 ∷ raw) + 1 = omega arith in
     behind_lone at raw s (rw e at stop) ∙ rw (quotes_skip (at + 1) raw text rest s data' e, same)
 
-pub reads_long : (start at n b : ℕ) (s : List ℕ) → 255 ≤ n → (is_plain b || (b == 92)) ≡ true
-    → reading start at n false (b ∷ s) ≡ broken start StringTooLong
-reads_long start at n b s full e = grind arith
-
 pub reads_control : (start at n b : ℕ) (s : List ℕ) → is_barred b ≡ true → is_line_end b ≡ false
     → reading start at n false (b ∷ s) ≡ broken at ControlByte
 reads_control start at n b s bad other = grind arith
-
-pub reads_open : (start at n : ℕ) (s : List ℕ) → IsAtLineEnd s → reading start at n false s ≡ broken start UnclosedString
-reads_open start at n s h1 = grind arith

@@ -1,5 +1,5 @@
 -- The tokens behind a symbol or an asterisk, and those behind white space.
-use Rattle.pgn_lexer.proofs.Words.{◌≡◌, ℕ, zero, suc, ◌+◌, Bool, true, false, cond, List, [], ◌∷◌, ◌++◌, length, refl, sym, ap, ◌∙◌, arith, append_assoc, subst, length-append, take_while, drop, replicate, None, ◌==◌, if◌then◌else◌, length-replicate, take_while-cons, Class, continues_symbol, Token, EndsAt, Start, LineStart, Outside, PartialToken, coming, StandsAfter, CanBeMarker, TextsRestart, class, Found, gives, stops, symbol_at, Within, after_class, after_run, begins_class, begins_first, begins_after, begins, next, onto, at_end, tokens_from, tokens_of, has_mark, nat_tests, outside, column, in_symbol, after_first, cases_Bool, inl, inr, drop-drop, drop_at}
+use Rattle.pgn_lexer.proofs.Words.{◌≡◌, ℕ, zero, suc, ◌+◌, Bool, true, false, cond, List, [], ◌∷◌, ◌++◌, length, refl, sym, ap, ◌∙◌, arith, append_assoc, subst, length-append, take_while, drop, replicate, None, ◌==◌, if◌then◌else◌, length-replicate, take_while-cons, Class, continues_symbol, Token, EndsAt, Start, LineStart, Outside, PartialToken, StandsAfter, CanBeMarker, TextsRestart, class, Found, gives, stops, symbol_at, Within, after_class, after_run, begins_class, begins_first, begins_after, begins, next, onto, at_end, tokens_from, tokens_of, has_mark, outside, column, in_symbol, after_first, cases_Bool, inl, inr, drop-drop, drop_at}
 use Rattle.pgn_lexer.proofs.stepping.ByteOutside.{other_first}
 use Rattle.pgn_lexer.specs.WhiteSpace.{white_space}
 
@@ -64,7 +64,7 @@ one_before at b bs [] all = tt
 one_before at b bs (t ∷ ts) all = (here, one_before at b bs ts all.1)
   where
     here : GoesOn at (b ∷ bs) t ts
-    here behind ends can = let later = all.0 _ ends can in (suc _, omega (arith, later.1), later.2)
+    here behind ends can = let later = all.0 _ ends can in (suc _, omega arith, later.2)
 
 onto_goes_on : (at b : ℕ) (bs : List ℕ) (f : Found) (ts : List Token) → FoundGoesOn at b bs f ts → AllGoOn (at + 1) bs ts
     → AllGoOn at (b ∷ bs) (onto at f ts)
@@ -121,7 +121,7 @@ texts_restart u s given rest t cut ends can =
     closing k same =
         let all = subst (AllGoOn k (drop k (u ++ s))) (sym same ∙ cut) (all_go_on k column (drop k (u ++ s))) in
         let found = goes_on_at k (drop k _) given t rest all (length u) ends can in
-        let many : length u ≡ suc (k + found.0) = omega (arith, found.1) in
+        let many : length u ≡ suc (k + found.0) = omega arith in
         found.2
         ∙ ap (tokens_from (length u) outside) (drop-drop (suc found.0) k _ ∙ drop_at u s _ found.1)
         ∙ ap (λ n. tokens_from n outside s) many
@@ -137,12 +137,8 @@ length_of_white_space n first = grind (arith, length-append, length-replicate)
 abbrev pub between : Bool → PartialToken
 between first = record { mode = if first then LineStart else Outside; at = 0; text = [] }
 
-coming_between : (n : ℕ) (first : Bool) (s : List ℕ)
-    → tokens_from n (column_or_outside first) s ≡ coming (record { count = n; held = between first }) s
-coming_between n first s = grind arith
-
 begins_later : (n : ℕ) (first : Bool) → StandsAfter (record { count = suc n; held = between first }) (white_space (suc n) first) None []
-begins_later n first = grind (arith, length_of_white_space, behind_white_space, coming_between)
+begins_later n first = grind (arith, length_of_white_space, behind_white_space)
 
 starts_first : StandsAfter (record { count = 0; held = record { mode = Start; at = 0; text = [] } }) [] None []
 starts_first = record { count = refl; before = tt; tokens = λ s f. refl }
@@ -154,4 +150,4 @@ held_at is_start first = record { mode = if is_start then Start else if first th
 pub begins_at : (place : ℕ) (first : Bool) (h : PartialToken) → h ≡ held_at (place == 0) first
     → StandsAfter (record { count = place; held = h }) (white_space place first) None []
 begins_at zero first h same = rw same starts_first
-begins_at (suc n) first h same = let later : (suc n == 0) ≡ false = grind (arith, nat_tests) in rw (same, later) (begins_later n _)
+begins_at (suc n) first h same = let later : (suc n == 0) ≡ false = grind arith in rw (same, later) (begins_later n _)

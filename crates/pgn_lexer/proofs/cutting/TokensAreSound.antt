@@ -29,7 +29,7 @@ single_sound : (b : ℕ) (k : Kind) → IsSingle b k → IsSoundKind k
 single_sound b k h1 = grind arith
 
 spelled_sound : (run s : List ℕ) (k : Kind) → SpellsToken run s k → IsSoundKind k
-spelled_sound _ _ _ (lexes.symbol b run s e long fits) = grind (arith, start_continues)
+spelled_sound _ _ _ (lexes.symbol b run s e long fits) = grind arith
 spelled_sound _ _ _ (lexes.string raw text s written fits) = grind (arith, data_pass)
 spelled_sound _ _ _ (lexes.glyph d ds s e long fits) = fits
 spelled_sound _ _ _ (lexes.suffix run s n is stop) = suffix_small run n is

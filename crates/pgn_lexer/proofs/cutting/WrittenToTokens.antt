@@ -28,11 +28,11 @@ spelled_symbol (b ∷ bs) s h stop =
 
 spelled_glyph : (n : ℕ) (ds s : List ℕ) → IsNumber n ds → n ≤ 255 → StopsAt is_digit s
     → SpellsToken (36 ∷ ds) s (Kind.glyph n)
-spelled_glyph n [] s h fits stop = absurd (omega (arith, h.some))
+spelled_glyph n [] s h fits stop = absurd (omega arith)
 spelled_glyph n (d ∷ ds) s h fits stop =
     let all = and_parts _ _ h.digits in
     rw h.value at
-    (lexes.glyph d ds s all.0 (all.1, stop) (omega (arith, h.value)))
+    (lexes.glyph d ds s all.0 (all.1, stop) (omega arith))
 
 abbrev IsOutside : Kind → Type 0
 IsOutside Kind.comment_open = ⊥
@@ -57,7 +57,7 @@ spelled _ s out h end = absurd (omega arith)
 word_cut : (at : ℕ) (text s : List ℕ) (ts : List Token) → IsWord text → StopsAt continues_word s
     → Cuts (lexes.comment true) (at + length text) s ts
     → Cuts (lexes.comment true) at (text ++ s) (record { at = at; kind = Kind.word text } ∷ ts)
-word_cut at [] s ts h stop more = absurd (omega (arith, h.some))
+word_cut at [] s ts h stop more = absurd (omega arith)
 word_cut at (b ∷ bs) s ts h stop more =
     let all = and_parts _ _ h.bytes in
     let same : at + length (b ∷ bs) ≡ at + 1 + length bs = omega arith in

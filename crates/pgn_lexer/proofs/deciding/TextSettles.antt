@@ -39,7 +39,7 @@ settles (suc n) (b ∷ u) place h enough sound not_failed =
     by_step new Used g on again =
         same_tokens _ _ (λ s. g.comes (u ++ s)) (on new (omega (arith, few new.mode)) g.sound g.not_failed)
     by_step new (Ends form) g on again =
-        after_token _ _ (token_of form new) (λ s. g.comes (u ++ s)) (on new (omega (arith, few new.mode)) g.sound g.not_failed)
+        after_token _ _ (token_of form new) (λ s. g.comes (u ++ s)) (on new (omega arith) g.sound g.not_failed)
     by_step new (EndsBefore form) g on again =
         let less : pending new < pending h = g.less in
         after_token _ _ (token_of form new) (λ s. g.comes (u ++ s)) (again new (omega arith) g.sound g.not_failed)

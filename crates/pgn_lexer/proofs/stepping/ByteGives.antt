@@ -2,10 +2,10 @@
 use Rattle.pgn_lexer.proofs.Words.{◌≡◌, ℕ, ◌<◌, ◌≤◌, List, [], ◌∷◌, length, refl, arith, Some, LexFault, Mode, TokenForm, HasLength, end, PartialToken, IsSound, HasNotFailed, tokens_to_come, kind_in, token_of, refusal, pending, fault_met, fault_in_mode, after_byte, after_byte_in, after_end, after_end_in, AfterByte, IsAfterEnd, reached_after, common_steps, Reached}
 use Rattle.pgn_lexer.proofs.stepping.StepGives.{Gives, GivesIn, front_of, holds}
 use Rattle.pgn_lexer.proofs.stepping.RunOfBytes.{run_closes}
-use Rattle.pgn_lexer.proofs.stepping.ByteOutside.{begin_gives, begin_line_gives, start_gives, after_ef_gives, after_ef_bb_gives, escape_line_gives}
-use Rattle.pgn_lexer.proofs.stepping.ByteInSymbol.{symbol_gives, symbol_fits}
+use Rattle.pgn_lexer.proofs.stepping.ByteOutside.{begin_gives, begin_line_gives, start_gives, escape_line_gives}
+use Rattle.pgn_lexer.proofs.stepping.ByteInSymbol.{symbol_gives}
 use Rattle.pgn_lexer.proofs.stepping.ByteInString.{string_gives, escaped_gives}
-use Rattle.pgn_lexer.proofs.stepping.ByteInGlyph.{dollar_gives, glyph_gives, suffix_gives, number_fits, spelled, small_suffix}
+use Rattle.pgn_lexer.proofs.stepping.ByteInGlyph.{dollar_gives, glyph_gives, suffix_gives, spelled}
 use Rattle.pgn_lexer.proofs.stepping.ByteInComment.{brace_gives, brace_word_gives, line_gives, line_word_gives, word_fits}
 
 step_in : (m : Mode) (place at b : ℕ) (text : List ℕ) → length text ≤ 255 → IsSound place (holds m at text)
@@ -17,7 +17,7 @@ step_in Mode.EscapeLine place at b text fits sound = escape_line_gives place at 
 step_in Mode.Brace place at b text fits sound = brace_gives _ place b (holds Mode.Brace at text) _ _ fits
 step_in Mode.Line place at b text fits sound = line_gives _ place b (holds Mode.Line at text) _ _ fits
 step_in m place at b text fits sound =
-    grind (arith, front_of, after_ef_gives, after_ef_bb_gives, symbol_gives, string_gives, escaped_gives, dollar_gives, glyph_gives, suffix_gives, brace_word_gives, line_word_gives)
+    grind (arith, front_of, symbol_gives, string_gives, escaped_gives, dollar_gives, glyph_gives, suffix_gives, brace_word_gives, line_word_gives)
 
 pub step_gives : (place : ℕ) (h : PartialToken) (b : ℕ) → IsSound place h → Gives (front_of place h b) (after_byte place h b)
 unfolding after_byte
@@ -53,7 +53,7 @@ ClosedGives place h t = CloseGives place h t.held (reached_after t.step)
 
 close_in : (m : Mode) (place at : ℕ) (text : List ℕ) → length text ≤ 255 → IsSound place (holds m at text)
     → ClosedGives place (holds m at text) (after_end_in m place (holds m at text))
-close_in m place at text h1 h2 = grind (arith, common_steps, run_closes, symbol_fits, number_fits, small_suffix, spelled, word_fits)
+close_in m place at text h1 h2 = grind (arith, common_steps, run_closes, spelled, word_fits)
 
 close_gives : (place : ℕ) (h : PartialToken) → IsSound place h → ClosedGives place h (after_end place h)
 unfolding after_end

@@ -103,8 +103,8 @@ module _ (place at b : ℕ) (text : List ℕ) (some : 0 < length text) (fits : l
 
   pub brace_word_gives : (c : CommentClass) → comment_class b ≡ c
       → GivesIn Mode.BraceWord place at b text (λ h. byte_result.word Mode.Brace h b c)
-  brace_word_gives c h1 = grind (arith, brace_letter, word_class, brace_word_ends)
+  brace_word_gives c h1 = grind (arith, brace_letter, brace_word_ends)
 
   pub line_word_gives : (c : CommentClass) → comment_class b ≡ c
       → GivesIn Mode.LineWord place at b text (λ h. byte_result.word Mode.Line h b c)
-  line_word_gives c h1 = grind (arith, line_letter, word_class, line_word_ends)
+  line_word_gives c h1 = grind (arith, line_letter, line_word_ends)

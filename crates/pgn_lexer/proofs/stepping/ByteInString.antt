@@ -1,5 +1,5 @@
 -- A byte in a string.
-use Rattle.pgn_lexer.proofs.Words.{◌≡◌, ℕ, ◌+◌, ◌<◌, ◌≤◌, Bool, true, false, List, [], ◌∷◌, ◌++◌, length, append-nil, append_assoc, arith, length-append, nat_lt, if◌then◌else◌, ltb-true, ControlByte, StringTooLong, UnclosedString, StringClass, Used, Token, string_class, Reading, closed, broken, datum, reading, string_at, quotes, after_quoted, onto, tokens_from, with_front, into, grown, fails, Mode, common_steps}
+use Rattle.pgn_lexer.proofs.Words.{◌≡◌, ℕ, ◌+◌, ◌<◌, ◌≤◌, Bool, true, false, List, [], ◌∷◌, ◌++◌, length, append-nil, append_assoc, arith, length-append, nat_lt, if◌then◌else◌, ControlByte, StringTooLong, UnclosedString, StringClass, Used, Token, string_class, Reading, closed, broken, datum, reading, string_at, quotes, onto, tokens_from, with_front, grown, fails, Mode}
 use Rattle.pgn_lexer.specs.ByteResult as byte_result
 use Rattle.pgn_lexer.proofs.stepping.StepGives.{GivesIn}
 
@@ -28,41 +28,23 @@ read_escaped start at n b bs c =
       | StringClass.Plain ↦ elim (nat_lt n 254) [ true ↦ datum 92 (datum b (reading start (at + 1) (n + 2) false bs)) | false ↦ broken start StringTooLong ]
     ]
 
--- the tokens from a byte within quotes, for what the string comes to and the class of the byte
-abbrev string_tokens : ℕ → ℕ → List ℕ → List ℕ → Reading → StringClass → List Token
-string_tokens place at text s r c = onto at (string_at (with_front text r)) (tokens_from (place + 1) (after_quoted c) s)
-
 abbrev escaped_tokens : ℕ → ℕ → List ℕ → List ℕ → Reading → List Token
 escaped_tokens place at text s r = onto at (string_at (with_front text r)) (tokens_from (place + 1) quotes s)
 
 module _ (place at b : ℕ) (text : List ℕ) (fits : length text ≤ 255) (began : at < place) where
-  by_class : (c : StringClass) (s : List ℕ) → string_class b ≡ c
-      → string_tokens place at text s (reading at place (length text) false (b ∷ s)) (string_class b)
-      ≡ string_tokens place at text s (read_plain at place (length text) b s c) c
-  by_class c s e = grind arith
-
-  plain_backslash : (d : Bool) → nat_lt (length text) 255 ≡ d → string_class b ≡ StringClass.Backslash
-      → GivesIn Mode.Str place at b text (λ h. if d then into h Mode.AfterBackslash Used else fails h h.at StringTooLong)
-  plain_backslash d h1 h2 = grind arith
-
   datum_comes : (s : List ℕ) → escaped_tokens place at text s (datum b (reading at (place + 1) (length text + 1) false s))
       ≡ escaped_tokens place at (text ++ b ∷ []) s (reading at (place + 1) (length (text ++ b ∷ [])) false s)
   datum_comes s = grind (arith, with_front-datum, length-append)
 
   plain_plain : (d : Bool) → nat_lt (length text) 255 ≡ d → string_class b ≡ StringClass.Plain
       → GivesIn Mode.Str place at b text (λ h. if d then grown h Mode.Str b else fails h h.at StringTooLong)
-  plain_plain d h1 h2 = grind (arith, ltb-true, length-append, by_class, datum_comes)
+  plain_plain d h1 h2 = grind (arith, length-append, datum_comes)
 
   pub string_gives : (c : StringClass) → string_class b ≡ c
       → GivesIn Mode.Str place at b text (λ h. byte_result.string false place h b c)
-  string_gives c h1 = grind (arith, by_class, append-nil, plain_backslash, plain_plain)
+  string_gives c h1 = grind (arith, append-nil, plain_plain)
 
 module _ (place at b : ℕ) (text : List ℕ) (short : length text < 255) (began : at < place) where
-  by_escaped : (c : StringClass) (s : List ℕ) → string_class b ≡ c
-      → escaped_tokens place at text s (reading at place (length text) true (b ∷ s))
-      ≡ escaped_tokens place at text s (read_escaped at place (length text) b s c)
-  by_escaped c s e = grind arith
-
   -- a quote or a backslash is a datum
   taken_back : (c : StringClass)
       → ((s : List ℕ) → escaped_tokens place at text s (reading at place (length text) true (b ∷ s)) ≡ escaped_tokens place at text s (datum b (reading at (place + 1) (length text + 1) false s)))
@@ -71,8 +53,8 @@ module _ (place at b : ℕ) (text : List ℕ) (short : length text < 255) (began
 
   escaped_plain : (d : Bool) → nat_lt (length text) 254 ≡ d → string_class b ≡ StringClass.Plain
       → GivesIn Mode.AfterBackslash place at b text (λ h. if d then record { held = record { mode = Mode.Str; at = at; text = (text ++ 92 ∷ []) ++ b ∷ [] }; step = Used } else fails h h.at StringTooLong)
-  escaped_plain d h1 h2 = grind (arith, ltb-true, length-append, by_escaped, with_front-datum)
+  escaped_plain d h1 h2 = grind (arith, length-append, with_front-datum)
 
   pub escaped_gives : (c : StringClass) → string_class b ≡ c
       → GivesIn Mode.AfterBackslash place at b text (λ h. byte_result.string true place h b c)
-  escaped_gives c h1 = grind (arith, taken_back, by_escaped, common_steps, escaped_plain)
+  escaped_gives c h1 = grind (arith, taken_back, escaped_plain)

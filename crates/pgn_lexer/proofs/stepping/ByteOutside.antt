@@ -1,5 +1,5 @@
 -- A byte outside strings and comments, also as the first of a text, and in an escape line.
-use Rattle.pgn_lexer.proofs.Words.{◌≡◌, ℕ, ◌≤◌, Bool, true, false, List, [], ◌∷◌, length, ◌==◌, if◌then◌else◌, eqb-true, StrayByte, Step, Used, is_line_end, Token, class, column, tokens_from, tokens_of, has_mark, PartialToken, into, fails, begin_line, arith, Mode, ◌+◌, Class, begins_class, begins_first, after_class, after_first, onto, begin}
+use Rattle.pgn_lexer.proofs.Words.{◌≡◌, ℕ, ◌≤◌, Bool, true, false, List, [], ◌∷◌, length, ◌==◌, if◌then◌else◌, eqb-true, Step, Used, is_line_end, Token, class, column, tokens_from, tokens_of, has_mark, PartialToken, into, begin_line, arith, Mode, ◌+◌, Class, begins_class, begins_first, after_class, after_first, onto, begin}
 use Rattle.pgn_lexer.proofs.stepping.StepGives.{Front, StepGives, GivesIn, Gives, front_by, holds}
 
 pub begin_gives : (c : Class) (place b : ℕ) (h : PartialToken) (ended : List Token) (waits : ℕ) → length h.text ≤ 255
@@ -26,14 +26,6 @@ pub start_gives : (at b : ℕ) (text : List ℕ) → length text ≤ 255 → (c 
 start_gives at b text fits true e = grind (arith, eqb-true)
 start_gives at b text fits false e =
     same_front _ _ (λ s. unmarked (b ∷ s) (other_first b s e)) _ _ (begin_line_gives _ 0 b (holds Mode.Start at text) (tokens_of []) 0 fits)
-
-pub after_ef_gives : (at b : ℕ) (text : List ℕ) → length text ≤ 255 → (c : Bool) → (b == 187) ≡ c
-    → GivesIn Mode.AfterEf 1 at b text (λ h. if c then into h Mode.AfterEfBb Used else fails h 0 StrayByte)
-after_ef_gives at b text h1 c h2 = grind arith
-
-pub after_ef_bb_gives : (at b : ℕ) (text : List ℕ) → length text ≤ 255 → (c : Bool) → (b == 191) ≡ c
-    → GivesIn Mode.AfterEfBb 2 at b text (λ h. if c then into h Mode.LineStart Used else fails h 0 StrayByte)
-after_ef_bb_gives at b text h1 c h2 = grind arith
 
 pub escape_line_gives : (place at b : ℕ) (text : List ℕ) → length text ≤ 255 → (c : Bool) → is_line_end b ≡ c
     → GivesIn Mode.EscapeLine place at b text (λ h. if c then into h Mode.LineStart Used else into h Mode.EscapeLine Used)

@@ -1,14 +1,8 @@
 -- The end of the text gives what is left.
-use Rattle.pgn_lexer.proofs.Words.{◌≡◌, ℕ, ◌<◌, List, [], ◌∷◌, ◌++◌, subst, append_assoc, LexFault, TokenForm, Token, end, PartialToken, kind_in, fault_met, Scanned, fault, Standing, coming, waiting, FinishGivesToken, IsNext, HasLeft, Finishes, arith, common_steps}
+use Rattle.pgn_lexer.proofs.Words.{◌≡◌, ℕ, List, [], ◌∷◌, ◌++◌, subst, LexFault, TokenForm, Token, end, PartialToken, kind_in, fault_met, Scanned, fault, Standing, IsNext, HasLeft, Finishes, arith, common_steps}
 use Rattle.pgn_lexer.specs.Scanned.{token}
 use Rattle.pgn_lexer.proofs.stepping.ByteGives.{ClosesToken, ClosesFault, ClosesEnd}
-use Rattle.pgn_lexer.proofs.stepping.StandsAfterCalls.{not_failed_fault, same_parts}
-
--- a token of a form is no end
-gives_form : (form : TokenForm) (text : List ℕ) (old new : Standing) (t : Token) → coming old [] ≡ t ∷ coming new []
-    → waiting new < waiting old → new.count ≡ old.count
-    → FinishGivesToken (kind_in form text) old new t
-gives_form form text old new t h1 h2 h3 = grind arith
+use Rattle.pgn_lexer.proofs.stepping.StandsAfterCalls.{same_parts}
 
 next_form : (form : TokenForm) (text u : List ℕ) (given : List Token) (new : Standing) (t : Token) → HasLeft new u (given ++ t ∷ [])
     → IsNext u given (kind_in form text) new t
@@ -26,7 +20,7 @@ module _ (count : ℕ) (old new : PartialToken) where
 
   pub finishes_token : (form : TokenForm) (t : Token) → t.at ≡ new.at → t.kind ≡ kind_in form new.text → ClosesToken count old form new
       → Finishes before after (token t)
-  finishes_token form t at kind h = grind (arith, common_steps, same_parts, gives_form, next_form, append_assoc, not_failed_fault)
+  finishes_token form t at kind h = grind (arith, common_steps, same_parts, next_form)
 
   -- the fault that is told is the one that was met
   pub finishes_told : (told : LexFault) → told ≡ fault_met new → ClosesFault count old new → Finishes before after (fault told)

@@ -1,12 +1,12 @@
 -- A run over a piece, byte by byte.
-use Rattle.pgn_lexer.proofs.Words.{◌≡◌, ℕ, suc, ◌+◌, ◌*◌, ◌<◌, ◌≤◌, inl, inr, List, [], ◌∷◌, ◌++◌, length, get_or, take, drop, refl, sym, ap, ◌∙◌, append_assoc, add-one, arith, ◌⊎◌, true, false, Some, lt-ltb, take_all, take_more, drop-cons, LexFault, Mode, LexReason, Class, CommentClass, StringClass, LineStart, Outside, Symbol, Str, Brace, BraceWord, Failed, continues_symbol, class, comment_class, string_class, TokenForm, Step, Used, Ends, EndsBefore, Fault, PartialToken, tokens_to_come, token_of, IsSound, HasNotFailed, pending, fault_met, fault_in_mode, begin, begin_line, string, fails, into, after_byte, IsAfterByte, IsOutside, Ran, RunsOn, StoodAt, RunGives, RunsToToken, RunsToFault, used_after, reached_after, Reached, common_steps}
+use Rattle.pgn_lexer.proofs.Words.{◌≡◌, ℕ, suc, ◌+◌, ◌*◌, ◌<◌, ◌≤◌, inl, inr, List, [], ◌∷◌, ◌++◌, length, get_or, take, drop, refl, sym, ap, ◌∙◌, add-one, arith, ◌⊎◌, true, false, Some, take_all, drop-cons, LexFault, Mode, LexReason, Class, CommentClass, StringClass, LineStart, Outside, Symbol, Str, Brace, BraceWord, Failed, continues_symbol, class, comment_class, string_class, TokenForm, Step, Used, Ends, EndsBefore, Fault, PartialToken, tokens_to_come, token_of, IsSound, HasNotFailed, pending, fault_met, fault_in_mode, begin, begin_line, string, fails, into, after_byte, IsAfterByte, IsOutside, Ran, RunsOn, StoodAt, RunGives, RunsToToken, RunsToFault, used_after, reached_after, Reached, common_steps}
 use Rattle.pgn_lexer.specs.ByteResult.{brace, word, symbol}
 use Rattle.pgn_lexer.proofs.stepping.StepGives.{StepGives, front_of}
 use Rattle.pgn_lexer.proofs.stepping.ByteGives.{step_gives}
 
 takes_gives : (place : ℕ) (h : PartialToken) (b : ℕ) (new : PartialToken) (answer : Step) → IsSound place h
     → IsAfterByte (after_byte place h b) new answer → StepGives (front_of place h b) new answer
-takes_gives place h b new answer sound t = grind (arith, front_of, step_gives)
+takes_gives place h b new answer sound t = grind (arith, step_gives)
 
 pub ran_none : (place : ℕ) (h : PartialToken) (piece : List ℕ) → IsSound place h → HasNotFailed h.mode → Ran place h piece h 0
 ran_none place h piece sound not_failed = grind arith
@@ -29,7 +29,7 @@ going_on m at f h1 h2 = grind arith
 
 module _ (place : ℕ) (old : PartialToken) (piece : List ℕ) (h : PartialToken) (i b : ℕ) (here : i < length piece) (at_b : get_or piece i 0 ≡ b) (ran : Ran place old piece h i) where
   longer : (s : List ℕ) → tokens_to_come place old (take (i + 1) piece ++ s) ≡ tokens_to_come (place + i) h (b ∷ s)
-  longer s = grind (arith, common_steps, take_more, append_assoc)
+  longer s = grind (arith, common_steps)
 
   next_place : (place + i) + 1 ≡ place + (i + 1)
   next_place = omega arith
@@ -122,7 +122,7 @@ takes_symbol place b h new answer e t = grind arith
 pub takes_symbol_byte : (place b : ℕ) (h new : PartialToken) → h.mode ≡ Symbol → continues_symbol b ≡ true → length h.text < 255
     → new ≡ record { mode = h.mode; at = h.at; text = h.text ++ b ∷ [] }
     → IsAfterByte (after_byte place h b) new Used
-takes_symbol_byte place b h new e goes room grows = takes_symbol _ b h new _ e (grind (arith, lt-ltb))
+takes_symbol_byte place b h new e goes room grows = takes_symbol _ b h new _ e (grind arith)
 
 pub takes_symbol_end : (place b : ℕ) (h new : PartialToken) → h.mode ≡ Symbol → continues_symbol b ≡ false
     → new ≡ record { mode = Outside; at = h.at; text = h.text }
@@ -153,7 +153,7 @@ taken_string place b h c e same = grind arith
 pub takes_plain : (place b : ℕ) (h new : PartialToken) → h.mode ≡ Str → string_class b ≡ StringClass.Plain → length h.text < 255
     → new ≡ record { mode = h.mode; at = h.at; text = h.text ++ b ∷ [] }
     → IsAfterByte (after_byte place h b) new Used
-takes_plain place b h new e same room grows = rw (taken_string _ b h _ e same) (grind (arith, lt-ltb))
+takes_plain place b h new e same room grows = rw (taken_string _ b h _ e same) (grind arith)
 
 pub takes_quote : (place b : ℕ) (h new : PartialToken) → h.mode ≡ Str → string_class b ≡ StringClass.Quote
     → new ≡ record { mode = Outside; at = h.at; text = h.text }
@@ -178,7 +178,7 @@ takes_word place b h new answer e t = grind arith
 
 pub takes_word_byte : (place b : ℕ) (h new : PartialToken) → h.mode ≡ BraceWord → comment_class b ≡ CommentClass.WordByte → length h.text < 79
     → new ≡ record { mode = h.mode; at = h.at; text = h.text ++ b ∷ [] } → IsAfterByte (after_byte place h b) new Used
-takes_word_byte place b h new e goes room grows = takes_word _ b h new _ e (rw goes (grind (arith, lt-ltb)))
+takes_word_byte place b h new e goes room grows = takes_word _ b h new _ e (rw goes (grind arith))
 
 word_ends : (m : Mode) (h : PartialToken) (b : ℕ) (c : CommentClass) → (c ≡ CommentClass.WordByte → ⊥)
     → word m h b c ≡ into h m (EndsBefore TokenForm.Word)

@@ -39,7 +39,7 @@ suffix_ends place b s e = ap (run_tokens _ _ b s) e
 module _ (found : List ℕ → Found) (p : ℕ → Bool) (at b : ℕ) (text : List ℕ) where
   pub run_grows : (s : List ℕ) (old new : List Token) → p b ≡ true → old ≡ new
       → onto at (found (text ++ take_while p (b ∷ s))) old ≡ onto at (found ((text ++ b ∷ []) ++ take_while p s)) new
-  run_grows s old new e same = grind (arith, take_while-true, append_assoc)
+  run_grows s old new e same = grind (arith, append_assoc)
 
   pub run_breaks : (s : List ℕ) (old : List Token) (place : ℕ) (r : LexReason) → p b ≡ true
       → found (text ++ b ∷ take_while p s) ≡ stops place r
@@ -48,7 +48,7 @@ module _ (found : List ℕ → Found) (p : ℕ → Bool) (at b : ℕ) (text : Li
 
   pub run_ends : (s : List ℕ) (old new : List Token) (k : Kind) → p b ≡ false → found text ≡ gives k → old ≡ new
       → onto at (found (text ++ take_while p (b ∷ s))) old ≡ record { at = at; kind = k } ∷ new
-  run_ends s old new k e given same = grind (arith, take_while-false, append-nil)
+  run_ends s old new k e given same = grind (arith, append-nil)
 
 pub run_closes : (found : List ℕ → Found) (at : ℕ) (text : List ℕ) (old : List Token) (k : Kind) → found text ≡ gives k
     → onto at (found (text ++ [])) old ≡ record { at = at; kind = k } ∷ old

@@ -68,7 +68,7 @@ module _ (count : ℕ) (old new : PartialToken) (piece : List ℕ) (used : ℕ) 
   behind = record { count = count + used; held = new }
 
   no_fault : HasNotFailed old.mode → (f : LexFault) → fault_of ahead ≡ Some f → ⊥
-  no_fault h f failed = grind (arith, no_fault_in_mode)
+  no_fault h f failed = grind arith
 
   pub scans_nothing : RunsOut count old piece new used → Scans ahead piece behind used more
   scans_nothing h =
@@ -132,7 +132,7 @@ module _ (count : ℕ) (old new : PartialToken) (piece : List ℕ) (used : ℕ) 
 
   module _ (t : Token) (h : RunsToToken count old piece t new used) where
     reads_token : (s : List ℕ) → tokens_to_come count old (piece ++ s) ≡ t ∷ tokens_to_come (count + used) new (drop used piece ++ s)
-    reads_token s = grind (arith, cut, h.ends)
+    reads_token s = grind (arith, cut)
 
     module _ (u : List ℕ) (b : Option ℕ) (given : List Token) (stands : StandsAfter ahead u b given) (starts : Follows b piece) where
       -- the bytes used so far

@@ -5,7 +5,7 @@ use Rattle.pgn_lexer.proofs.lexer.Lexer.next.Goals as goal
 pub returns-in-End : goal.returns-in-End
 returns-in-End c =
     let ran = rw c.in-End.is at c.run-used.ensures in
-    ((refl, λ _. tt, scans_of _ _ _ _ _ _ c.self.view_is (scans_nothing _ _ _ _ _ ran)), record { used = omega (arith, ran.all); after = tt })
+    ((refl, λ _. tt, scans_of _ _ _ _ _ _ c.self.view_is (scans_nothing _ _ _ _ _ ran)), record { used = omega arith; after = tt })
 
 pub returns-in-Token : goal.returns-in-Token
 returns-in-Token c =
