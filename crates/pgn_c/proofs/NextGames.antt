@@ -112,10 +112,10 @@ module _ (mode : Mode) (missing : Marker) (u piece : List ℕ) (before : Option 
     game_fed new used n within count fed answer =
         let finishes : FinishesGame p fed.tokens fed.marker =
         record { passes = fed.stands.has_read.passes; game = fed.game; one_more = fed.one_game ∙ ap (λ gs. gs ++ fed.game ∷ []) (sym fed.no_game) } in
-        let law : EndsByMarker p fed.tokens fed.marker fed.game = laws p fed.tokens fed.marker finishes in
+        let law = laws p fed.tokens fed.marker finishes in
         let ends : EndsAt fed.marker.kind fed.marker.at n = subst (EndsAt fed.marker.kind fed.marker.at) (sym count) fed.ends in
-        let mark : Marks fed.marker.kind fed.marker.at n fed.game.marker = marks fed.marker.kind fed.marker.at n fed.game.marker law.is_marker ends in
-        let is : result ≡ game_result fed.game mark.marker fed.marker.at n =
+        let mark = marks fed.marker.kind fed.marker.at n fed.game.marker law.is_marker ends in
+        let is =
         answer fed.game mark.marker fed.just_finished
         (value_is new fed.game (marker_text mark.marker) fed.stands.has_read.profile fed.just_finished (law.result ∙ ap Some mark.is_marker))
         ∙ ap (λ at. game_result fed.game mark.marker at n) mark.place in
@@ -229,16 +229,16 @@ module _ (mode : Mode) (missing : Marker) (u piece : List ℕ) (before : Option 
       game_at_end new n law count fin answer =
           let last = law p mid s fed.tokens stands (fin.game.0 refl) in
           let game = last.finishes.game in
-          let ends_by : EndsByMarker p fed.tokens last.marker game = laws p fed.tokens last.marker last.finishes in
+          let ends_by = laws p fed.tokens last.marker last.finishes in
           let ts : List Token = fed.tokens ++ last.marker ∷ [] in
-          let one : games_read p ts ≡ game ∷ [] = last.finishes.one_more ∙ ap (λ gs. gs ++ game ∷ []) fed.no_game in
+          let one = last.finishes.one_more ∙ ap (λ gs. gs ++ game ∷ []) fed.no_game in
           let finished = fin.just_finished refl in
           let held = subst (λ o. IsLast o (games_read p (tokens_of s))) finished.1 fin.has_read.just_finished in
           let same : held.1 ≡ game = last_is held.0 [] held.1 game (sym held.2 ∙ last.same ∙ one) in
           let just : new.just_finished ≡ Some (finished_game_of game) = finished.1 ∙ ap Some (held.3 ∙ ap finished_game_of same) in
           let ends : EndsAt last.marker.kind last.marker.at n = subst (EndsAt last.marker.kind last.marker.at) (sym count) last.ends in
-          let mark : Marks last.marker.kind last.marker.at n game.marker = marks last.marker.kind last.marker.at n game.marker ends_by.is_marker ends in
-          let is : result ≡ game_result game mark.marker last.marker.at n =
+          let mark = marks last.marker.kind last.marker.at n game.marker ends_by.is_marker ends in
+          let is =
           answer game mark.marker just (value_is new game (marker_text mark.marker) fin.has_read.profile just (ends_by.result ∙ ap Some mark.is_marker))
           ∙ ap (λ at. game_result game mark.marker at n) mark.place in
           let end : result.end ≡ n = ap (λ (r : PgnGame). r.end) is in
