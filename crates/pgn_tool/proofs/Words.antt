@@ -52,5 +52,5 @@ pub use Rattle.pgn_tool.specs.declared.list.Stopped.TheVariants.{Refused, Unwrit
 pub use Rattle.pgn_tool.specs.declared.machine.SystemFault.{SystemFault}
 pub use Rattle.pgn_tool.specs.declared.split.Unsplit.{Unsplit}
 pub use Rattle.pgn_tool.specs.declared.split.Unsplit.TheVariants.{NoMemory}
-pub use Rattle.std.proofs.lemmas.Option.{none-some}
+pub use Rattle.std.proofs.lemmas.Option.{IfSome_then, none-some}
 pub use Rattle.pgn_tool.specs.declared.files.CreateFault.{CreateFault}

@@ -1,6 +1,6 @@
 -- What follows of a run from the conversion in it, of an input that is read twice.
-use Rattle.pgn_tool.proofs.Words.{◌≡◌, ◌∙◌, ℕ, ◌≤◌, List, Option, ◌⊎◌, inl, inr, ap, refl, subst, arith, Result, Ok, Err, Appends, Keeps, Counts, Device, IsStill, Token, tokens_of, Mode, Reason, ReadFault, WriteFault, Fault, Totals, Profile, refused, AreConverted, TwoReadingsConvert, CountsThree, FirstStops, SecondStops, TwoReadingsFail, HasTaken, OneFails, WriteStops, first_too_long, first_unread, second_too_long, second_unread, unwritten, EqualReadings, FlushCounts, HasFailed, IsCalm, IsSmooth, TellsVerdict, status_of, AnswersSame, AnswersTwice, BlamesTwice, EndsTwice, RunsTwice, profile_twice, Appends-kept}
-use Rattle.pgn_tool.proofs.runs.ConversionToRun.{calm_fails, concludes_by_verdict, IfSome-map, longer, refuses_by_verdict, risen}
+use Rattle.pgn_tool.proofs.Words.{◌≡◌, ◌∙◌, ℕ, ◌≤◌, List, Option, ◌⊎◌, inl, inr, ap, refl, subst, arith, Result, Ok, Err, Appends, Keeps, Counts, Device, IsStill, Token, tokens_of, Mode, Reason, ReadFault, WriteFault, Fault, Totals, Profile, refused, AreConverted, TwoReadingsConvert, CountsThree, FirstStops, SecondStops, TwoReadingsFail, HasTaken, OneFails, WriteStops, first_too_long, first_unread, second_too_long, second_unread, unwritten, EqualReadings, FlushCounts, HasFailed, IsCalm, IsSmooth, TellsVerdict, status_of, AnswersSame, AnswersTwice, BlamesTwice, EndsTwice, RunsTwice, profile_twice, Appends-kept, IfSome_then}
+use Rattle.pgn_tool.proofs.runs.ConversionToRun.{calm_fails, concludes_by_verdict, longer, refuses_by_verdict, risen}
 
 -- ---- a conversion, and a flush after it
 
@@ -15,7 +15,7 @@ module _ (p : Profile) (first second d : Device) (after : Option (List ℕ)) (fa
   first_on : (u : List ℕ) → FirstStops p u second d → FirstStops p u second e
   first_on u ends = record {
     passes = ends.passes;
-    matched = IfSome-map second.before _ _ (λ r known. record { fault = known.fault; no_mark_left = known.no_mark_left; appended = taken_on _ known.appended }) ends.matched;
+    matched = IfSome_then second.before ends.matched (λ r known. record { fault = known.fault; no_mark_left = known.no_mark_left; appended = taken_on _ known.appended });
   }
 
   second_on : (u : List ℕ) → SecondStops p first u d → SecondStops p first u e
@@ -44,16 +44,16 @@ module _ (p : Profile) (first second d : Device) (after : Option (List ℕ)) (fa
   }
 
   fails_on : (f : Fault) → TwoReadingsFail p first second d f → TwoReadingsFail p first second e f
-  fails_on _ (TwoReadingsFail.refused f known) = TwoReadingsFail.refused f (IfSome-map first.before _ _ (λ s. IfSome-map second.before _ _ (λ r known. (known.0, taken_on _ known.1))) known)
+  fails_on _ (TwoReadingsFail.refused f known) = TwoReadingsFail.refused f (IfSome_then first.before known (λ s known. IfSome_then second.before known (λ r known. (known.0, taken_on _ known.1))))
   fails_on _ (first_unread u consumed failed ends) = first_unread u consumed failed (first_on u ends)
   fails_on _ (first_too_long u rest consumed long more ends) = first_too_long u rest consumed long more (first_on u ends)
   fails_on _ (second_unread u consumed failed ends) = second_unread u consumed failed (second_on u ends)
   fails_on _ (second_too_long u rest consumed long more ends) = second_too_long u rest consumed long more (second_on u ends)
-  fails_on _ (unwritten at known) = unwritten at (IfSome-map second.before _ _ (λ r. stops_on at (tokens_of r)) known)
+  fails_on _ (unwritten at known) = unwritten at (IfSome_then second.before known (λ r. stops_on at (tokens_of r)))
 
   pub converts_twice_on : (r : Result Totals Fault) → TwoReadingsConvert p first second d r → TwoReadingsConvert p first second e r
   converts_twice_on (Ok t) converts =
-      IfSome-map first.before _ _ (λ s. IfSome-map second.before _ _ (λ r known. record { converted = (known.converted.0, taken_on _ known.converted.1); probes = known.probes })) converts
+      IfSome_then first.before converts (λ s known. IfSome_then second.before known (λ r known. record { converted = (known.converted.0, taken_on _ known.converted.1); probes = known.probes }))
   converts_twice_on (Err f) converts = fails_on f converts
 
 -- ---- which device is to blame

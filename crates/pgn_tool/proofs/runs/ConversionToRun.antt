@@ -1,10 +1,5 @@
 -- What follows of a run from the conversion in it.
-use Rattle.pgn_tool.proofs.Words.{◌≡◌, ◌∙◌, ℕ, ◌^◌, ◌<◌, ◌≤◌, Bool, true, false, List, [], ◌++◌, length, ap, refl, subst, sym, arith, take, length-append, Option, None, Some, inl, inr, take-length, Result, Ok, Err, OnOk, is_ok, codes, ◌⊎◌, if◌then◌else◌, Appends, Appends-nil, Counted, line_of, Consumes, Keeps, Counts, Device, IsStill, Writes, one_more, Full, Reason, ReadFault, WriteFault, Fault, Totals, Profile, tokens_of, Read, read, refused, totals, verdict_of, profile_of, AfterConversion, CountsDevices, Fails, IsConverted, Stopped, CountsReadFault, ListResult, ListStops, list_profile, Answers, Blames, Concludes, Ends, EndsList, FlushCounts, HasFailed, IsCalm, IsSmooth, Job, Runs, Tells, TellsVerdict, Works, checking, exporting, line, listing, status_of, IfSome, Appends-kept, device, Verdict}
-
--- what holds of a known value, and what follows of it
-pub IfSome-map : {A : Type 0} → (o : Option A) (P Q : A → Type 0) → ((x : A) → P x → Q x) → IfSome o P → IfSome o Q
-IfSome-map None P Q more known = tt
-IfSome-map (Some x) P Q more known = more x known
+use Rattle.pgn_tool.proofs.Words.{◌≡◌, ◌∙◌, ℕ, ◌^◌, ◌<◌, ◌≤◌, Bool, true, false, List, [], ◌++◌, length, ap, refl, subst, sym, arith, take, length-append, Option, None, Some, inl, inr, take-length, Result, Ok, Err, OnOk, is_ok, codes, ◌⊎◌, if◌then◌else◌, Appends, Appends-nil, Counted, line_of, Consumes, Keeps, Counts, Device, IsStill, Writes, one_more, Full, Reason, ReadFault, WriteFault, Fault, Totals, Profile, tokens_of, Read, read, refused, totals, verdict_of, profile_of, AfterConversion, CountsDevices, Fails, IsConverted, Stopped, CountsReadFault, ListResult, ListStops, list_profile, Answers, Blames, Concludes, Ends, EndsList, FlushCounts, HasFailed, IsCalm, IsSmooth, Job, Runs, Tells, TellsVerdict, Works, checking, exporting, line, listing, status_of, Appends-kept, device, Verdict, IfSome_then}
 
 -- ---- devices
 
@@ -64,7 +59,7 @@ module _ (left_old left_new a b c : Option (List ℕ)) (keeps : Keeps b c) where
   kept text wrote = Appends-kept a b c text wrote keeps
 
   fails_on : (p : Profile) (f : Fault) → Fails p left_old left_new a b f → Fails p left_old left_new a c f
-  fails_on p _ (Fails.refused f known) = Fails.refused f (IfSome-map left_old _ _ (λ s converted. (converted.0, kept _ converted.1)) known)
+  fails_on p _ (Fails.refused f known) = Fails.refused f (IfSome_then left_old known (λ s converted. (converted.0, kept _ converted.1)))
   fails_on p _ (Fails.unread u consumed reads) = Fails.unread u consumed (record { passes = reads.passes; appended = kept _ reads.appended })
   fails_on p _ (Fails.unwritten u at consumed stops) =
       Fails.unwritten u at consumed (record {
@@ -86,13 +81,13 @@ module _ (left_old left_new a b c : Option (List ℕ)) (keeps : Keeps b c) where
 
   pub converts_on : (p : Profile) (r : Result Totals Fault) → AfterConversion p left_old left_new r a b → AfterConversion p left_old left_new r a c
   converts_on p (Ok t) converts =
-      IfSome-map left_old _ _ (λ s known. record { converted = (known.converted.0, kept _ known.converted.1); probes = known.probes }) converts
+      IfSome_then left_old converts (λ s known. record { converted = (known.converted.0, kept _ known.converted.1); probes = known.probes })
   converts_on p (Err f) converts = fails_on p f converts
 
   -- the same of a list
   stops_on : (stopped : Stopped) → ListStops left_old left_new a b stopped → ListStops left_old left_new a c stopped
   stops_on _ (ListStops.refused f known) =
-      ListStops.refused f (IfSome-map left_old _ _ (λ s listed. record { fault = listed.fault; written = kept _ listed.written }) known)
+      ListStops.refused f (IfSome_then left_old known (λ s listed. record { fault = listed.fault; written = kept _ listed.written }))
   stops_on _ (ListStops.unread u consumed listed) = ListStops.unread u consumed (record { passes = listed.passes; written = kept _ listed.written })
   stops_on _ (ListStops.too_long u rest consumed long more listed) =
       ListStops.too_long u rest consumed long more (record { passes = listed.passes; written = kept _ listed.written })
@@ -100,7 +95,7 @@ module _ (left_old left_new a b c : Option (List ℕ)) (keeps : Keeps b c) where
       ListStops.unwritten u rest consumed (record { count = cut.count; short = cut.short; front = kept _ cut.front })
 
   pub lists_on : (r : Result Unit Stopped) → ListResult left_old left_new r a b → ListResult left_old left_new r a c
-  lists_on (Ok x) known = IfSome-map left_old _ _ (λ s listed. record { fault = listed.fault; written = kept _ listed.written }) known
+  lists_on (Ok x) known = IfSome_then left_old known (λ s listed. record { fault = listed.fault; written = kept _ listed.written })
   lists_on (Err stopped) listed = stops_on stopped listed
 
 -- ---- which device is to blame

@@ -264,7 +264,7 @@ module _ {A : Type 0} (taken : A → Option (List ℕ)) (failures : A → ℕ) (
       let answer = answered call.file call.answer true call.settles in
       let next = rw answer at call.reads in
       let counted = rw answer at call.counted in
-      (game_split taken failures left_old source.before source.after old new before log after so call.file call.begun call.logged (next _ _ _ so.have_read) counted.1, counted.0)
+      (game_split taken failures _ _ _ _ _ _ _ _ so call.file call.begun call.logged (next _ _ _ so.have_read) counted.1, counted.0)
 
   pub no_more_games : GameSplit taken failures old new source log after (Ok false)
       → SplitResult left_old source.after (Ok tt) before after × SplitFiles before after (Ok tt) × (source.failures_after ≡ source.failures)
@@ -272,7 +272,7 @@ module _ {A : Type 0} (taken : A → Option (List ℕ)) (failures : A → ℕ) (
       let answer = answered call.file call.answer false call.settles in
       let next = rw answer at call.reads in
       let counted = rw answer at call.counted in
-      let ended = all_ended taken failures left_old source.before source.after old new before log after so call.file call.begun call.logged (next _ _ _ so.have_read) counted.1 in
+      let ended = all_ended taken failures _ _ _ _ _ _ _ _ so call.file call.begun call.logged (next _ _ _ so.have_read) counted.1 in
       (ended.0, ended.1, counted.0)
 
   pub stops_at : (why : Unsplit) → GameSplit taken failures old new source log after (Err why)
@@ -281,7 +281,7 @@ module _ {A : Type 0} (taken : A → Option (List ℕ)) (failures : A → ℕ) (
       let (f, answer, is) = stopped call.file call.answer why call.settles in
       let next = rw answer at call.reads in
       let counted = rw answer at call.counted in (
-        rw is at (split_stops taken failures left_old source.before source.after old new before log after so call.file call.begun call.logged _ f _ _ (next _ _ _ so.have_read) counted),
-        rw is at (files_stop taken failures left_old source.before source.after old new before log after so call.file call.begun call.logged f _ _ counted),
+        rw is at (split_stops taken failures _ _ _ _ new _ _ _ so call.file call.begun call.logged _ f _ _ (next _ _ _ so.have_read) counted),
+        rw is at (files_stop taken failures _ _ source.after _ new _ _ _ so call.file call.begun call.logged f _ _ counted),
         rw is at (counts_source taken failures log call.file f _ _ call.begun counted),
       )
