@@ -59,7 +59,7 @@ pub blank_class : (b : ℕ) → is_blank b ≡ true → (class b ≡ Space) × (
 blank_class b e = grind (arith, common_steps)
 
 pub line_end_comment : (b : ℕ) → is_line_end b ≡ true → comment_class b ≡ CommentClass.LineEnd
-line_end_comment b e = of_line_end (λ b. comment_class b ≡ CommentClass.LineEnd) b e refl refl
+line_end_comment b e = grind arith
 
 pub suffix_class : (b : ℕ) → is_suffix b ≡ true → class b ≡ Suffix
 suffix_class b e = grind (arith, eqb-true)

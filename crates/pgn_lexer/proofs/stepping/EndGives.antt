@@ -28,4 +28,4 @@ module _ (count : ℕ) (old new : PartialToken) where
 
 -- what is said of one view of a lexer, of the other
 pub finishes_of : (old old' new : Standing) (seen : Scanned) → old ≡ old' → Finishes old new seen → Finishes old' new seen
-finishes_of old old' new seen e = subst (λ (l : Standing). Finishes l new seen) e
+finishes_of old old' new seen e = grind arith

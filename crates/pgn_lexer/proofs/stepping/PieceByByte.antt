@@ -35,7 +35,7 @@ module _ (place : ℕ) (old : PartialToken) (piece : List ℕ) (h : PartialToken
   next_place = omega arith
 
   standing : StoodAt place old piece i
-  standing = record { held = h; sound = ran.sound; not_failed = ran.not_failed; comes = ran.comes }
+  standing = grind arith
 
   pub ran_uses : (new : PartialToken) → IsAfterByte (after_byte (place + i) h b) new Used → Ran place old piece new (i + 1)
   ran_uses new t =

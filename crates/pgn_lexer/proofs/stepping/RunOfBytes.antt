@@ -2,10 +2,10 @@
 use Rattle.pgn_lexer.proofs.Words.{◌≡◌, ℕ, ◌+◌, Bool, true, false, cond, List, [], ◌∷◌, ◌++◌, ap, ◌∙◌, append-nil, append_assoc, take_while, LexReason, take_while-cons, is_digit, continues_symbol, is_suffix, class, Found, gives, stops, Kind, Token, refused, Within, in_symbol, in_glyph, in_suffix, outside, begins_after, after_run, onto, tokens_from, arith}
 
 pub take_while-true : (p : ℕ → Bool) (b : ℕ) (s : List ℕ) → p b ≡ true → take_while p (b ∷ s) ≡ b ∷ take_while p s
-take_while-true p b s e = take_while-cons p b s ∙ ap (λ c. cond c (b ∷ take_while p s) []) e
+take_while-true p b s e = grind arith
 
 pub take_while-false : (p : ℕ → Bool) (b : ℕ) (s : List ℕ) → p b ≡ false → take_while p (b ∷ s) ≡ []
-take_while-false p b s e = take_while-cons p b s ∙ ap (λ c. cond c (b ∷ take_while p s) []) e
+take_while-false p b s e = grind arith
 
 -- the tokens from a byte at which a run goes on, or not
 abbrev run_tokens : Within → ℕ → ℕ → List ℕ → Bool → List Token

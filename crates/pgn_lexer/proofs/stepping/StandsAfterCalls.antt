@@ -215,4 +215,4 @@ module _ (count : ℕ) (old new : PartialToken) (piece : List ℕ) (used : ℕ) 
 -- what is said of one view of a lexer, of the other
 pub scans_of : (old old' new : Standing) (piece : List ℕ) (used : ℕ) (seen : Scanned) → old ≡ old' → Scans old piece new used seen
     → Scans old' piece new used seen
-scans_of old old' new piece used seen e = subst (λ (l : Standing). Scans l piece new used seen) e
+scans_of old old' new piece used seen e = grind arith
