@@ -1,12 +1,12 @@
 -- The words that proofs of this crate name, under one path.
 pub use Rattle.std.proofs.Common.{Bool, List, [], add-one, ap, append-nil, append_assoc, ap₂, arith, cond, drop, drop-cons, false, get_or, inl, inr, length, length-append, length-drop, map, nat_le, not, refl, replicate, reverse, rules, set, subst, suc, sym, take, true, zero, ℕ, ◌&&◌, ◌*◌, ◌++◌, ◌+◌, ◌-◌, ◌/◌, ◌<◌, ◌^◌, ◌||◌, ◌∙◌, ◌∷◌, ◌≡◌, ◌≢◌, ◌≤◌, ◌⊎◌}
-pub use Rattle.std.proofs.lemmas.Bool.{and_from, and_left, and_parts, and_right, both_ways, cases_lt, eq-eqb, eqb-true, false_from_ne_true, false≢true, le-leb, leb-true, lt-leb, lt-ltb, ltb-true, not-true, or_cases, or_from, or_left, or_right}
+pub use Rattle.std.proofs.lemmas.Bool.{and_from, and_left, and_parts, and_right, both_ways, cases_lt, eq-eqb, eqb-true, false_from_ne_true, false≢true, leb-true, lt-ltb, ltb-true, not-true, or_cases, or_from, or_right}
 pub use Rattle.std.proofs.lemmas.Bool.Decides.{nat_tests}
 pub use Rattle.std.proofs.lemmas.Fmt.{decimal_nonempty, digits_decimal, digits_value-decimal, length-decimal-le}
-pub use Rattle.std.proofs.lemmas.List.{append_cancel_left, drop_all, length-reverse, length-take, map-append, replicate_more, reverse-append, reverse-reverse, take-append-drop, take-replicate, take-take, take_all, take_more, take_more_set, take_rest}
+pub use Rattle.std.proofs.lemmas.List.{append_cancel_left, drop_all, get_or-map, length-map, length-reverse, length-take, map-append, replicate_more, reverse-append, reverse-reverse, take-append-drop, take-replicate, take-take, take_all, take_more, take_more_set, take_rest}
 pub use Rattle.std.proofs.lemmas.List.Concat.{flat_map-append}
 pub use Rattle.std.proofs.lemmas.List.Elements.{All-weaker, Contains-append_left, Contains-append_right, filter_map-append, filter_passes}
-pub use Rattle.std.proofs.lemmas.List.Folds.{Any-from_list_any, list_all-append, list_all_at, list_any_more}
+pub use Rattle.std.proofs.lemmas.List.Folds.{Any-from_list_any, list_all-append, list_all_at, list_any_at, list_any_more}
 pub use Rattle.std.proofs.lemmas.List.FromFn.{get_or-map-range_with_len, get_or-range_with_len, length-range_with_len}
 pub use Rattle.std.proofs.lemmas.List.Sorted.{All-permutation, Contains-permutation, IsPermutation-refl, IsPermutation-sym, length_permutation, list_any-IsPermutation, sum_by-IsPermutation}
 pub use Rattle.std.proofs.lemmas.List.Splits.{join_with_byte-slice_split, length-slice_split, slice_split-cons_no, slice_split-cons_yes}
@@ -40,7 +40,7 @@ pub use Rattle.chess_rules.specs.declared.position.Parts.{Parts}
 pub use Rattle.chess_rules.specs.declared.position.PositionFault.TheVariants.{KingCapturable, Kings, NumberRange, PawnOnEdge, TargetRank}
 pub use Rattle.chess_rules.specs.declared.position.Rights.{Rights}
 pub use Rattle.chess_text.specs.Fen.{Fen, SpellsBoard, SpellsNumber, at_field, fen_text, field, if_position, is_space, parts_or_fault, parts_read, read, rest}
-pub use Rattle.chess_text.specs.Field.{is_digit, is_number, is_target, number_of, or_dash, right_letter, rights_named, rights_of, rights_text, side_of, side_text, target_of, target_text, value}
+pub use Rattle.chess_text.specs.Field.{is_digit, is_target, number_of, or_dash, right_letter, rights_of, rights_text, side_of, side_text, target_of, target_text, value}
 pub use Rattle.chess_text.specs.Form.{Spells, SpellsBare, SpellsPieceMove, bare_form, before_capture, before_file, before_marks, before_promotion, before_rank, before_sign, before_target, below_eight, capture_texts, castle_of, castle_or, castle_texts, file_at_end, file_of, form_of, front, front_if, hint_text, is_among, is_form, is_mark, kind_of_text, last_byte, letter_texts, piece_move_at, piece_move_before, piece_move_if, piece_move_of, promotion_at_end, promotion_letter, promotion_of, promotion_texts, promotions, rank_at_end, rank_of, square_of, target_at_end}
 pub use Rattle.chess_text.specs.FormOrigins.{LegalOriginsDecide, count_legal, form_move, is_legal_kind, is_step_of_form, kind_of_move, nth_square, origin_kind, step_count}
 unfoldable pub use Rattle.chess_text.specs.FormOrigins.{count_steps, origins_of_form}
@@ -59,4 +59,4 @@ pub use Rattle.chess_text.specs.declared.form_origins.OriginKind.{OriginKind}
 pub use Rattle.chess_text.specs.declared.resolution.Played.{Played}
 pub use Rattle.chess_text.specs.declared.resolution.SanFault.{SanFault}
 pub use Rattle.chess_text.specs.declared.resolution.SanFault.TheVariants.{Ambiguous, NoMove}
-pub use Rattle.std.proofs.lemmas.Option.{same_Some}
+pub use Rattle.std.proofs.lemmas.Option.{cond_some, same_Some}

@@ -1,8 +1,8 @@
 -- The moves that agree with a form are those that are found, and none is found twice.
-use Rattle.chess_text.proofs.Words.{◌≡◌, ◌≢◌, ℕ, ◌<◌, inl, inr, Bool, true, false, not, ◌&&◌, List, [], ◌∷◌, map, refl, sym, ◌∙◌, ap, subst, arith, Option, None, Some, Ok, Err, is_some, is_none, nat_lt, flat_map, filter_map, cons_option, list_any, Contains, false≢true, both_ways, not-true, and_parts, and_from, or_left, or_right, ltb-true, get_or-range_with_len, length-range_with_len, Contains-append_left, Contains-append_right, Promotion, Move, Parts, Square, square, squares, lines, on_board, same_square, same_kind, own, kind_of, short_wing, long_wing, short_right, long_right, legal, is_legal, Form, Castle, Man, Played, NoMove, Ambiguous, hints_fit, same_promotion, is_castling, describes, agrees, with_next, played, castling_move, move_from, moves_to_try, agreeing, only, TheOneMoveIsRead, NoMoveIsRead, TwoMovesAreAmbiguous}
+use Rattle.chess_text.proofs.Words.{◌≡◌, ◌≢◌, ℕ, ◌<◌, inl, inr, Bool, true, false, not, ◌&&◌, List, [], ◌∷◌, map, refl, sym, ◌∙◌, ap, subst, arith, Option, None, Some, Ok, Err, is_some, is_none, nat_lt, flat_map, filter_map, cons_option, list_any, list_any_at, Contains, both_ways, not-true, and_parts, and_from, ltb-true, get_or-range_with_len, length-range_with_len, Contains-append_left, Contains-append_right, Promotion, Move, Parts, Square, square, squares, lines, on_board, same_square, same_kind, own, kind_of, short_wing, long_wing, short_right, long_right, legal, is_legal, Form, Castle, Man, Played, NoMove, Ambiguous, hints_fit, same_promotion, is_castling, describes, agrees, with_next, played, castling_move, move_from, moves_to_try, agreeing, only, TheOneMoveIsRead, NoMoveIsRead, TwoMovesAreAmbiguous}
 use Rattle.chess_rules.specs.declared.piece.Promotion.TheVariants.{Queen, Rook, Bishop, Knight}
-use Rattle.chess_text.proofs.forms.CastlingMoves.{stepped, squares_same}
-use Rattle.chess_text.proofs.forms.CastlingForms.{castles_ends, legal_next, played_some}
+use Rattle.chess_text.proofs.forms.CastlingMoves.{stepped, squares_same, castles_ends}
+use Rattle.chess_text.proofs.forms.CastlingForms.{legal_next, played_some}
 use Rattle.chess_text.proofs.forms.OnlyElement.{here, later, element, none_in, in_map, of_map, in_found, found_in}
 use Rattle.chess_text.proofs.forms.PieceForms.{same_square-refl}
 
@@ -37,12 +37,7 @@ all_apart [] = true
 all_apart (s ∷ ss) = not (list_any (same_square s) ss) && all_apart ss
 
 pub any_contained : {X : Type 0} (test : X → Bool) (xs : List X) (x : X) → Contains xs x → test x ≡ true → list_any test xs ≡ true
-any_contained test [] x c h = absurd (none_in x c)
-any_contained {X} test (y ∷ ys) x c h =
-    elim (element y x ys c) [
-      | inl is ↦ or_left (test y) (list_any test ys) (subst (λ (z : X). test z ≡ true) (sym is) h)
-      | inr more ↦ or_right (test y) (list_any test ys) (any_contained test ys x more h)
-    ]
+any_contained test xs x (k, low, is) h = list_any_at test xs k x low (ap test is ∙ h)
 
 apart_from_test : (ss : List Square) → all_apart ss ≡ true → Apart ss
 apart_from_test [] h = tt
@@ -74,31 +69,19 @@ possible_apart p (Man k file rank to promotion) = moves_apart to promotion squar
 
 same_kinds : (x y : Promotion) → same_kind (kind_of x) (kind_of y) ≡ true → x ≡ y
 same_kinds Queen Queen h = refl
-same_kinds Queen Rook h = absurd (false≢true h)
-same_kinds Queen Bishop h = absurd (false≢true h)
-same_kinds Queen Knight h = absurd (false≢true h)
-same_kinds Rook Queen h = absurd (false≢true h)
 same_kinds Rook Rook h = refl
-same_kinds Rook Bishop h = absurd (false≢true h)
-same_kinds Rook Knight h = absurd (false≢true h)
-same_kinds Bishop Queen h = absurd (false≢true h)
-same_kinds Bishop Rook h = absurd (false≢true h)
 same_kinds Bishop Bishop h = refl
-same_kinds Bishop Knight h = absurd (false≢true h)
-same_kinds Knight Queen h = absurd (false≢true h)
-same_kinds Knight Rook h = absurd (false≢true h)
-same_kinds Knight Bishop h = absurd (false≢true h)
 same_kinds Knight Knight h = refl
+same_kinds x y h = cc
 
 pub promotions_same : (x y : Option Promotion) → same_promotion x y ≡ true → x ≡ y
 promotions_same None None h = refl
-promotions_same None (Some y) h = absurd (false≢true h)
-promotions_same (Some x) None h = absurd (false≢true h)
 promotions_same (Some x) (Some y) h = ap Some (same_kinds x y h)
+promotions_same x y h = cc
 
 pub no_promotion : (x : Option Promotion) → is_none x ≡ true → x ≡ None
 no_promotion None h = refl
-no_promotion (Some x) h = absurd (false≢true h)
+no_promotion (Some x) h = cc
 
 pub move_of : (m : Move) (from to : Square) (promotion : Option Promotion) → m.from ≡ from → m.to ≡ to → m.promotion ≡ promotion → m ≡ record { from = from; to = to; promotion = promotion }
 move_of m from to promotion a b c =
@@ -116,9 +99,8 @@ is_possible p (Castle true) m legal h =
 is_possible p (Man k file rank to promotion) m legal h =
     let rest = (and_parts (own p k m.from && hints_fit file rank m.from) ((same_square m.to to && same_promotion m.promotion promotion) && not (is_castling p m)) h).1 in
     let same = and_parts (same_square m.to to) (same_promotion m.promotion promotion) (and_parts (same_square m.to to && same_promotion m.promotion promotion) (not (is_castling p m)) rest).0 in
-    let on = (and_parts (on_board m.from) (on_board m.to) (stepped p m legal).on).0 in
     subst (λ (n : Move). Contains (map (move_from to promotion) squares) n) (sym (move_of m m.from to promotion refl (squares_same m.to to same.0) (promotions_same m.promotion promotion same.1)))
-    (in_map (move_from to promotion) squares m.from (in_squares m.from on))
+    (in_map (move_from to promotion) squares m.from (in_squares m.from (stepped p m legal).from_on))
 
 -- What is found.
 
@@ -140,11 +122,11 @@ record Tells (b : Bool) (p : Parts) (m : Move) (x : Played) : Type 0 where
   after : legal p m ≡ Some x.next
 
 tells : (b : Bool) (p : Parts) (m : Move) (x : Played) → played b p m ≡ Some x → Tells b p m x
-tells false p m x h = absurd (cc)
+tells false p m x h = cc
 tells true p m x h = by_next (legal p m) refl h
   where
     by_next : (o : Option Parts) → legal p m ≡ o → with_next m o ≡ Some x → Tells true p m x
-    by_next None e g = absurd (cc)
+    by_next None e g = cc
     by_next (Some q) e g =
         let is : record { mv = m; next = q } ≡ x = cc in
         record { says = refl; same = cc; after = e ∙ ap (λ (y : Played). Some y.next) is }
@@ -162,14 +144,14 @@ found_agrees p f x c =
     let after : legal p x.mv ≡ Some x.next = subst (λ (n : Move). legal p n ≡ Some x.next) (sym t.same) t.after in
     record {
       holds =
-          and_from (is_legal p x.mv) (describes p f x.mv) (ap (λ (o : Option Parts). is_some o) after)
+          and_from (is_legal p x.mv) (describes p f x.mv) (ap is_some after)
           (subst (λ (n : Move). describes p f n ≡ true) (sym t.same) t.says);
       after = after;
     }
 
 -- of two that are found, the moves differ
 two_differ : (p : Parts) (f : Form) (ms : List Move) → Apart ms → (x y : Played) (more : List Played) → filter_map (told p f) ms ≡ x ∷ y ∷ more → x.mv ≢ y.mv
-two_differ p f [] apart x y more e = absurd (cc)
+two_differ p f [] apart x y more e = cc
 two_differ p f (m ∷ ms) apart x y more e = by_found (told p f m) refl e (two_differ p f ms apart.1 x y more)
   where
     by_found : (o : Option Played) → told p f m ≡ o → cons_option o (filter_map (told p f) ms) ≡ x ∷ y ∷ more → (filter_map (told p f) ms ≡ x ∷ y ∷ more → x.mv ≢ y.mv) → x.mv ≢ y.mv
@@ -211,41 +193,38 @@ module _ (p : Parts) (f : Form) where
       ]
 
   one_to : (x : Played) (xs : List Played) → agreeing p f ≡ xs → only xs ≡ Ok x → (agrees p f x.mv ≡ true) × (legal p x.mv ≡ Some x.next) × ((m : Move) → agrees p f m ≡ true → m ≡ x.mv)
-  one_to x [] e h = absurd (cc)
   one_to x (y ∷ []) e h =
-      let is : y ≡ x = cc in
       let e : agreeing p f ≡ x ∷ [] = cc in
       let a = first_agrees x [] e in
       (a.holds, a.after, alone x e)
-  one_to x (y ∷ z ∷ more) e h = absurd (cc)
+  one_to x xs e h = cc
 
   one_from : (x : Played) (xs : List Played) → agreeing p f ≡ xs → agrees p f x.mv ≡ true → legal p x.mv ≡ Some x.next → ((m : Move) → agrees p f m ≡ true → m ≡ x.mv) → only xs ≡ Ok x
   one_from x [] e h after single = absurd (none_in x (subst (λ (ys : List Played). Contains ys x) e (agreeing_found p f x.mv x.next h after)))
   one_from x (y ∷ []) e h after single =
       elim (element y x [] (subst (λ (ys : List Played). Contains ys x) e (agreeing_found p f x.mv x.next h after))) [
-        | inl is ↦ ap (λ (z : Played). Ok z) is
+        | inl is ↦ ap Ok is
         | inr more ↦ absurd (none_in x more)
       ]
   one_from x (y ∷ z ∷ more) e h after single =
       absurd (agreeing_differ p f y z more e (single y.mv (first_agrees y (z ∷ more) e).holds ∙ sym (single z.mv (second_agrees y z more e).holds)))
 
   none_to : (xs : List Played) → agreeing p f ≡ xs → only xs ≡ Err NoMove → (m : Move) → agrees p f m ≡ true → ⊥
-  none_to [] e h m agreed = (let (q, after, c) = is_found [] e m agreed in none_in (record { mv = m; next = q }) c)
+  none_to [] e h m agreed = let (q, after, c) = is_found [] e m agreed in none_in _ c
   none_to (y ∷ []) e h m agreed = cc
-  none_to (y ∷ z ∷ more) e h m agreed = cc
+  none_to xs e h m agreed = cc
 
   none_from : (xs : List Played) → agreeing p f ≡ xs → ((m : Move) → agrees p f m ≡ true → ⊥) → only xs ≡ Err NoMove
   none_from [] e h = refl
   none_from (y ∷ more) e h = absurd (h y.mv (first_agrees y more e).holds)
 
   two_to : (xs : List Played) → agreeing p f ≡ xs → only xs ≡ Err Ambiguous → (m : Move) × (n : Move) × (m ≢ n) × (agrees p f m ≡ true) × (agrees p f n ≡ true)
-  two_to [] e h = absurd (cc)
-  two_to (y ∷ []) e h = absurd (cc)
   two_to (y ∷ z ∷ more) e h =
       (y.mv, z.mv, agreeing_differ p f y z more e, (first_agrees y (z ∷ more) e).holds, (second_agrees y z more e).holds)
+  two_to xs e h = cc
 
   two_from : (xs : List Played) → agreeing p f ≡ xs → (m n : Move) → m ≢ n → agrees p f m ≡ true → agrees p f n ≡ true → only xs ≡ Err Ambiguous
-  two_from [] e m n differ a b = (let (q, after, c) = is_found [] e m a in absurd (none_in (record { mv = m; next = q }) c))
+  two_from [] e m n differ a b = let (q, after, c) = is_found [] e m a in absurd (none_in _ c)
   two_from (y ∷ []) e m n differ a b = absurd (differ (alone y e m a ∙ sym (alone y e n b)))
   two_from (y ∷ z ∷ more) e m n differ a b = refl
 

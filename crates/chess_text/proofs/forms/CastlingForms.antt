@@ -1,32 +1,23 @@
 -- What a form of castling names: the one move that is tried, or none.
-use Rattle.chess_text.proofs.Words.{◌≡◌, Bool, true, false, ◌&&◌, ◌||◌, [], refl, sym, ◌∙◌, ap, subst, arith, Option, None, Some, Ok, Err, is_none, is_some, cons_option, false≢true, and_parts, Move, Parts, Square, same_square, home, Wing, is_king_move, stand_ready, is_unattacked, castles, castles_short, castles_long, legal, is_legal, Castle, Played, NoMove, is_castling, describes, with_next_position, played, castling_move, agreeing, only, move_of_form}
-use Rattle.chess_text.proofs.forms.CastlingMoves.{squares_same}
+use Rattle.chess_text.proofs.Words.{◌≡◌, Bool, true, false, ◌||◌, [], refl, sym, ◌∙◌, ap, subst, arith, Option, None, Some, Ok, Err, is_some, cons_option, Move, Parts, Square, castles_short, castles_long, legal, is_legal, Castle, Played, NoMove, is_castling, describes, with_next_position, played, castling_move, agreeing, only, move_of_form}
+use Rattle.chess_text.proofs.forms.CastlingMoves.{castles_ends}
 
 pub legal_next : (o : Option Parts) → is_some o ≡ true → (q : Parts) × (o ≡ Some q)
-legal_next None h = absurd (false≢true h)
+legal_next None h = cc
 legal_next (Some q) h = (q, refl)
-
--- where castling leads
-pub castles_ends : (p : Parts) (m : Move) (right : Bool) (wing : Wing) → castles p m right wing ≡ true → (m.from ≡ home p 4) × (m.to ≡ home p wing.end) × (is_none m.promotion ≡ true)
-castles_ends p m right wing h =
-    let moved = and_parts ((right && is_none _) && is_king_move p m _) (stand_ready p _ && (is_unattacked p 4 && (is_unattacked p _ && is_unattacked p _))) h in
-    let leads = and_parts (right && is_none _) (is_king_move p m _) moved.0 in
-    let ends = and_parts (same_square m.from (home p 4)) (same_square m.to _) leads.1 in
-    (squares_same _ _ ends.0, squares_same m.to _ ends.1, (and_parts right _ leads.0).1)
 
 -- the castling that the form names is the only one to its target
 pub described : (p : Parts) (long : Bool) (m : Move) → m.to ≡ (castling_move p.side long).to → describes p (Castle long) m ≡ is_castling p m
 described p false m to = first_alone (castles_short p m) (castles_long p m) no_long
   where
     first_alone : (x y : Bool) → (y ≡ true → ⊥) → x ≡ (x || y)
-    first_alone true y h = refl
     first_alone false true h = absurd (h refl)
-    first_alone false false h = refl
+    first_alone x y h = refl
 
     no_long : castles_long p m ≡ true → ⊥
     no_long h =
         let files = ap (λ (s : Square). s.file) (sym to ∙ (castles_ends p m _ _ h).1) in
-        omega (arith, files)
+        omega arith
 described p true m to = second_alone _ _ no_short
   where
     second_alone : (x y : Bool) → (x ≡ true → ⊥) → y ≡ (x || y)
@@ -36,7 +27,7 @@ described p true m to = second_alone _ _ no_short
     no_short : castles_short p m ≡ true → ⊥
     no_short h =
         let files = ap (λ (s : Square). s.file) (sym to ∙ (castles_ends p m _ _ h).1) in
-        omega (arith, files)
+        omega arith
 
 reads_one : (p : Parts) (long : Bool) → move_of_form p (Castle long) ≡ only (cons_option (played (describes p (Castle long) (castling_move p.side long)) p (castling_move p.side long)) [])
 unfolding agreeing
@@ -48,14 +39,14 @@ played_none true p m h = cc
 
 pub played_some : (b : Bool) (p q : Parts) (m : Move) → b ≡ true → legal p m ≡ Some q → played b p m ≡ Some (record { mv = m; next = q })
 played_some true p q m e h = cc
-played_some false p q m e h = absurd (false≢true e)
+played_some false p q m e h = cc
 
 pub played_not : (b : Bool) (p : Parts) (m : Move) → b ≡ false → played b p m ≡ None
 played_not b p m e = cc
 
 no_next : (o : Option Parts) → is_some o ≡ false → o ≡ None
 no_next None h = refl
-no_next (Some q) h = absurd (false≢true (sym h))
+no_next (Some q) h = cc
 
 module _ (p : Parts) (long : Bool) (m : Move) (is : m ≡ castling_move p.side long) where
   answer_of : (o : Option Played) → played (describes p (Castle long) (castling_move p.side long)) p (castling_move p.side long) ≡ o → only (cons_option o []) ≡ move_of_form p (Castle long)

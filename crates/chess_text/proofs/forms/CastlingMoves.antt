@@ -1,26 +1,53 @@
 -- Which steps and legal moves are castling.
-use Rattle.chess_text.proofs.Words.{◌≡◌, ℕ, ◌<◌, ◌≤◌, Bool, true, false, not, ◌&&◌, ◌||◌, inl, inr, refl, sym, ◌∙◌, ap₂, arith, ◌==◌, nat_lt, nat_le, Option, None, Some, is_none, is_some, option_map, if◌then◌else◌, abs_diff, false≢true, and_parts, and_from, or_cases, eqb-true, leb-true, lt-ltb, ltb-true, Colour, Kind, King, Queen, Rook, Bishop, Knight, Pawn, Piece, Move, Parts, Square, square, gap, same_square, is_adjacent, Board, at, has_colour, has_piece, same_kind, attacks, cell_attacks, kind_attacks, own, home, Wing, short_wing, long_wing, short_right, long_right, is_piece_step, is_pawn_way, is_pawn_step, promotion_fits, is_en_passant, is_king_move, stand_ready, is_unattacked, castles, castles_short, castles_long, carried, en_passant_board, castled, is_on_board, after, board_after, step, is_legal, if_safe, is_castling}
+use Rattle.chess_text.proofs.Words.{◌≡◌, ℕ, ◌<◌, ◌≤◌, Bool, true, false, not, ◌&&◌, ◌||◌, inl, inr, refl, sym, ◌∙◌, ap₂, arith, ◌==◌, nat_lt, nat_le, Option, None, Some, is_none, is_some, option_map, if◌then◌else◌, abs_diff, and_parts, and_from, or_cases, eqb-true, leb-true, lt-ltb, ltb-true, Colour, Kind, King, Pawn, Piece, Move, Parts, Square, square, gap, same_square, is_adjacent, Board, at, has_colour, has_piece, same_kind, attacks, cell_attacks, kind_attacks, own, home, Wing, short_wing, long_wing, short_right, long_right, is_piece_step, is_pawn_way, is_pawn_step, promotion_fits, is_en_passant, captured_pawn, other, is_king_move, stand_ready, is_unattacked, castles, castles_short, castles_long, carried, en_passant_board, castled, is_on_board, on_board, after, board_after, step, is_legal, if_safe, is_castling}
 
--- what is known of a step
+-- what each way of a step says
+pub data StepWay (p : Parts) (m : Move) : Type 0 where
+  piece_goes : has_colour p.side (at p.board m.from) ≡ true → not (own p Pawn m.from) ≡ true → is_none m.promotion ≡ true → attacks p.board m.from m.to ≡ true → StepWay p m
+  pawn_goes : own p Pawn m.from ≡ true → is_pawn_way p m ≡ true → StepWay p m
+  pawn_passes : own p Pawn m.from ≡ true → is_en_passant p m ≡ true → StepWay p m
+  king_castles : is_castling p m ≡ true → StepWay p m
+
 pub record Stepped (p : Parts) (m : Move) : Type 0 where
-  pub on : is_on_board m ≡ true
-  pub way : ((is_piece_step p m || is_pawn_step p m) || (is_en_passant p m || is_castling p m)) ≡ true
+  pub from_on : on_board m.from ≡ true
+  pub to_on : on_board m.to ≡ true
+  pub way : StepWay p m
+
+pub passing_parts : (p : Parts) (m : Move) → is_en_passant p m ≡ true → (own p Pawn m.from ≡ true) × (attacks p.board m.from m.to ≡ true) × (has_piece (other p.side) Pawn (at p.board (captured_pawn m)) ≡ true)
+passing_parts p m h =
+    let both = and_parts _ (attacks p.board m.from m.to && has_piece (other p.side) Pawn (at p.board (captured_pawn m))) h in
+    let takes = and_parts (attacks p.board m.from m.to) _ both.1 in
+    ((and_parts _ _ (and_parts _ _ both.0).0).0, takes.0, takes.1)
 
 pub way_of_step : (p : Parts) (m : Move) → is_some (step p m) ≡ true → Stepped p m
 way_of_step p m h = by_on _ refl h
   where
-    by_way : (plain passing short long : Bool)
-        → is_some (option_map (after p m) (if plain then Some (carried p m) else if passing then Some (en_passant_board p m) else if short then Some (castled p m short_wing.rook short_wing.crossing) else if long then Some (castled p m long_wing.rook long_wing.crossing) else None)) ≡ true
-        → (plain || (passing || (short || long))) ≡ true
-    by_way true passing short long g = refl
-    by_way false true short long g = refl
-    by_way false false true long g = refl
-    by_way false false false true g = refl
+    by_piece : is_piece_step p m ≡ true → StepWay p m
+    by_piece g =
+        let both = and_parts _ (attacks p.board m.from m.to && not (has_colour p.side (at p.board m.to))) g in
+        let stands = and_parts _ (is_none m.promotion) both.0 in
+        let mover = and_parts _ _ stands.0 in
+        piece_goes mover.0 mover.1 stands.1 (and_parts (attacks p.board m.from m.to) _ both.1).0
+
+    by_pawn : is_pawn_step p m ≡ true → StepWay p m
+    by_pawn g = let both = and_parts _ (is_pawn_way p m && promotion_fits p m) g in pawn_goes both.0 (and_parts _ _ both.1).0
+
+    ways : ((is_piece_step p m || is_pawn_step p m) || (is_en_passant p m || is_castling p m)) ≡ true → StepWay p m
+    ways g =
+        elim (or_cases (is_piece_step p m || is_pawn_step p m) (is_en_passant p m || is_castling p m) g) [
+          | inl plain ↦ elim (or_cases _ (is_pawn_step p m) plain) [ inl a ↦ by_piece a | inr b ↦ by_pawn b ]
+          | inr more ↦ elim (or_cases (is_en_passant p m) _ more) [ inl a ↦ pawn_passes (passing_parts p m a).0 a | inr b ↦ king_castles b ]
+        ]
+
+    by_way : (plain passes short long : Bool)
+        → is_some (option_map (after p m) (if plain then Some (carried p m) else if passes then Some (en_passant_board p m) else if short then Some (castled p m short_wing.rook short_wing.crossing) else if long then Some (castled p m long_wing.rook long_wing.crossing) else None)) ≡ true
+        → (plain || (passes || (short || long))) ≡ true
     by_way false false false false g = g
+    by_way plain passes short long g = refl
 
     by_on : (x : Bool) → is_on_board m ≡ x → is_some (if x then option_map (after p m) (board_after p m) else None) ≡ true → Stepped p m
-    by_on true e g = record { on = e; way = by_way _ _ _ _ g }
-    by_on false e g = absurd (false≢true g)
+    by_on true e g = let both = and_parts (on_board m.from) _ e in record { from_on = both.0; to_on = both.1; way = ways (by_way _ _ _ _ g) }
+    by_on false e g = cc
 
 pub legal_is_step : (p : Parts) (m : Move) → is_legal p m ≡ true → is_some (step p m) ≡ true
 legal_is_step p m h = by_step _ h
@@ -39,29 +66,21 @@ squares_same s t h =
 
 -- a king is no pawn
 pub no_pawn : (c : Colour) (cell : Option Piece) → has_piece c King cell ≡ true → has_piece c Pawn cell ≡ true → ⊥
-no_pawn c None h g = false≢true h
+no_pawn c None h g = cc
 no_pawn c (Some x) h g = by_kind x.kind (and_parts _ _ h).1 (and_parts _ _ g).1
   where
     by_kind : (k : Kind) → same_kind King k ≡ true → same_kind Pawn k ≡ true → ⊥
-    by_kind King a b = false≢true b
-    by_kind Queen a b = false≢true a
-    by_kind Rook a b = false≢true a
-    by_kind Bishop a b = false≢true a
-    by_kind Knight a b = false≢true a
-    by_kind Pawn a b = false≢true a
+    by_kind King a b = cc
+    by_kind k a b = cc
 
 -- a king attacks the squares beside it
 king_attacks : (c : Colour) (cell : Option Piece) (b : Board) (s t : Square) → has_piece c King cell ≡ true → cell_attacks cell b s t ≡ true → is_adjacent s t ≡ true
-king_attacks c None b s t h g = absurd (false≢true h)
+king_attacks c None b s t h g = cc
 king_attacks c (Some x) b s t h g = by_kind _ (and_parts _ _ h).1 g
   where
     by_kind : (k : Kind) → same_kind King k ≡ true → kind_attacks k x.colour b s t ≡ true → is_adjacent s t ≡ true
     by_kind King a g = g
-    by_kind Queen a g = absurd (false≢true a)
-    by_kind Rook a g = absurd (false≢true a)
-    by_kind Bishop a g = absurd (false≢true a)
-    by_kind Knight a g = absurd (false≢true a)
-    by_kind Pawn a g = absurd (false≢true a)
+    by_kind k a g = cc
 
 -- as the code asks
 abbrev pub goes_far : Parts → Move → Bool
@@ -74,46 +93,25 @@ near_file s t h =
 
 far_is_castling : (p : Parts) (m : Move) → Stepped p m → own p King m.from ≡ true → 1 < abs_diff m.from.file m.to.file → is_castling p m ≡ true
 far_is_castling p m st king far =
-    elim (or_cases (is_piece_step p m || is_pawn_step p m) (is_en_passant p m || is_castling p m) st.way) [
-      | inl plain ↦ elim (or_cases _ (is_pawn_step p m) plain) [
-        | inl piece ↦ absurd (no_piece piece)
-        | inr pawn ↦ absurd (no_pawn p.side (at p.board m.from) king (and_parts _ (is_pawn_way p m && promotion_fits p m) pawn).0)
-      ]
-      | inr more ↦ elim (or_cases (is_en_passant p m) _ more) [
-        | inl passing ↦ absurd (no_pawn p.side (at p.board m.from) king (passing_pawn passing))
-        | inr castling ↦ castling
-      ]
+    elim st.way [
+      | piece_goes a b c hits ↦ absurd (omega (arith, near_file m.from m.to (king_attacks p.side (at p.board m.from) p.board m.from m.to king hits), far))
+      | pawn_goes stands g ↦ absurd (no_pawn p.side (at p.board m.from) king stands)
+      | pawn_passes stands g ↦ absurd (no_pawn p.side (at p.board m.from) king stands)
+      | king_castles g ↦ g
     ]
-  where
-    no_piece : is_piece_step p m ≡ true → ⊥
-    no_piece piece =
-        let goes = (and_parts ((has_colour p.side (at p.board m.from) && not (own p Pawn m.from)) && is_none m.promotion) (attacks p.board m.from m.to && not (has_colour p.side (at _ m.to))) piece).1 in
-        let hits = (and_parts (attacks p.board m.from m.to) (not (has_colour p.side (at p.board m.to))) goes).0 in
-        let near = near_file m.from m.to (king_attacks p.side (at p.board m.from) p.board m.from m.to king hits) in
-        omega (arith, near, far)
 
-    passing_pawn : is_en_passant p m ≡ true → own p Pawn m.from ≡ true
-    passing_pawn passing =
-        let stands = (and_parts _ _ passing).0 in
-        let pawn = (and_parts _ _ stands).0 in
-        (and_parts _ _ pawn).0
+-- where castling leads, and that king and rook are ready
+pub castles_ends : (p : Parts) (m : Move) (right : Bool) (wing : Wing) → castles p m right wing ≡ true → (m.from ≡ home p 4) × (m.to ≡ home p wing.end) × (is_none m.promotion ≡ true) × (stand_ready p wing.rook ≡ true)
+castles_ends p m right wing h =
+    let moved = and_parts ((right && is_none _) && is_king_move p m _) (stand_ready p _ && (is_unattacked p 4 && (is_unattacked p _ && is_unattacked p _))) h in
+    let leads = and_parts (right && is_none _) (is_king_move p m _) moved.0 in
+    let ends = and_parts (same_square m.from (home p 4)) (same_square m.to _) leads.1 in
+    (squares_same _ _ ends.0, squares_same m.to _ ends.1, (and_parts right _ leads.0).1, (and_parts (stand_ready p _) (is_unattacked p 4 && (is_unattacked p _ && is_unattacked p _)) moved.1).0)
 
 castles_far : (p : Parts) (m : Move) (right : Bool) (wing : Wing) → 1 < abs_diff 4 wing.end → castles p m right wing ≡ true → goes_far p m ≡ true
 castles_far p m right wing far h =
-    let moved = and_parts ((right && is_none _) && is_king_move p m _) (stand_ready p _ && (is_unattacked p 4 && (is_unattacked p _ && is_unattacked p _))) h in
-    let leads = (and_parts (right && is_none _) _ moved.0).1 in
-    let ends = and_parts (same_square m.from (home p 4)) (same_square m.to _) leads in
-    let from = squares_same m.from (home p 4) ends.0 in
-    let to = squares_same m.to (home p wing.end) ends.1 in
-    let ready = (and_parts (stand_ready p _) (is_unattacked p 4 && (is_unattacked p _ && is_unattacked p _)) moved.1).0 in
-    and_from (own p King _) (nat_lt 1 _)
-    (rw from (standing ready))
-    (lt-ltb 1 _ (rw from (rw to far)))
-  where
-    standing : stand_ready p wing.rook ≡ true → own p King (home p 4) ≡ true
-    standing ready =
-        let pieces = (and_parts _ _ ready).0 in
-        (and_parts _ _ pieces).0
+    let (from, to, plain, ready) = castles_ends p m right wing h in
+    and_from (own p King _) (nat_lt 1 _) (rw from (and_parts _ _ (and_parts _ _ ready).0).0) (lt-ltb 1 _ (rw from (rw to far)))
 
 pub castling_goes_far : (p : Parts) (m : Move) → is_castling p m ≡ true → goes_far p m ≡ true
 castling_goes_far p m h =
@@ -138,7 +136,7 @@ castling_is_far p m h =
 -- the second of two tests, where the first holds
 and_second : (x y : Bool) → x ≡ true → (x && y) ≡ y
 and_second true y h = refl
-and_second false y h = absurd (false≢true h)
+and_second false y h = cc
 
 -- where the code has seen the king
 pub castling_by_files : (p : Parts) (m : Move) (king : Bool) (files : ℕ) → is_some (step p m) ≡ true → king ≡ own p King m.from → king ≡ true → files ≡ abs_diff m.from.file m.to.file → nat_lt 1 files ≡ is_castling p m

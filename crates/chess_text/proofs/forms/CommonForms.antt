@@ -21,19 +21,14 @@ module _ (k : Kind) (file : Option ℕ) (a b : ℕ) (moved : Option Form) (is : 
 -- e4
 pub pawn_move : (s : List ℕ) (moved : Option Form) → length s ≡ 2 → moved ≡ piece_move_if (Some Pawn) None None (square_of (file_of (get_or s 0 0)) (rank_of (get_or s 1 0))) None → IfSome moved (λ f. form_of s ≡ Some f)
 pawn_move (a ∷ b ∷ []) moved two is = reads Pawn None a b moved is (a ∷ b ∷ []) [] [] refl refl refl (λ to e. e)
-pawn_move [] moved two is = absurd (omega (arith, two))
-pawn_move (a ∷ []) moved two is = absurd (omega (arith, two))
-pawn_move (a ∷ b ∷ c ∷ s) moved two is = absurd (omega (arith, two))
+pawn_move s moved two is = absurd (omega arith)
 
 -- Nf3
 pub piece_move : (s : List ℕ) (k : Kind) (moved : Option Form) → length s ≡ 3 → kind_of_text (get_or s 0 0 ∷ []) ≡ Some k
     → moved ≡ piece_move_if (Some k) None None (square_of (file_of (get_or s 1 0)) (rank_of (get_or s 2 0))) None → IfSome moved (λ f. form_of s ≡ Some f)
 piece_move (c ∷ a ∷ b ∷ []) k moved three named is =
     reads k None a b moved is (c ∷ a ∷ b ∷ []) (c ∷ []) [] (kind_spelled (c ∷ []) k named) refl refl (λ to e. ap (λ t. c ∷ t) e)
-piece_move [] k moved three named is = absurd (omega (arith, three))
-piece_move (c ∷ []) k moved three named is = absurd (omega (arith, three))
-piece_move (c ∷ a ∷ []) k moved three named is = absurd (omega (arith, three))
-piece_move (c ∷ a ∷ b ∷ d ∷ s) k moved three named is = absurd (omega (arith, three))
+piece_move s k moved three named is = absurd (omega arith)
 
 -- Nxf3
 pub piece_capture : (c a b : ℕ) (k : Kind) (moved : Option Form) → kind_of_text (c ∷ []) ≡ Some k → moved ≡ piece_move_if (Some k) None None (square_of (file_of a) (rank_of b)) None → IfSome moved (λ f. form_of (c ∷ 120 ∷ a ∷ b ∷ []) ≡ Some f)
@@ -49,8 +44,4 @@ pawn_capture c a b file moved named is =
 -- a text of four bytes with an x in it
 pub with_x : (s : List ℕ) (moved : Option Form) → length s ≡ 4 → get_or s 1 0 ≡ 120 → IfSome moved (λ f. form_of (get_or s 0 0 ∷ 120 ∷ get_or s 2 0 ∷ get_or s 3 0 ∷ []) ≡ Some f) → IfSome moved (λ f. form_of s ≡ Some f)
 with_x (c ∷ x ∷ a ∷ b ∷ []) moved four is h = subst (λ (n : ℕ). IfSome moved (λ f. form_of (c ∷ n ∷ a ∷ b ∷ []) ≡ Some f)) (sym is) h
-with_x [] moved four is h = absurd (omega (arith, four))
-with_x (c ∷ []) moved four is h = absurd (omega (arith, four))
-with_x (c ∷ x ∷ []) moved four is h = absurd (omega (arith, four))
-with_x (c ∷ x ∷ a ∷ []) moved four is h = absurd (omega (arith, four))
-with_x (c ∷ x ∷ a ∷ b ∷ d ∷ s) moved four is h = absurd (omega (arith, four))
+with_x s moved four is h = absurd (omega arith)

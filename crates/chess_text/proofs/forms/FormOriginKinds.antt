@@ -1,7 +1,8 @@
 -- The kinds of squares for a form, one after another, and how many legal moves they count.
 use Rattle.chess_text.proofs.Words.{◌≡◌, ℕ, ◌+◌, ◌<◌, ◌≤◌, Bool, true, false, cond, ◌&&◌, List, [], ◌∷◌, ◌++◌, map, length, take, set, get_or, refl, sym, ◌∙◌, ap, subst, arith, Option, None, Some, Ok, Err, ◌↔◌, is_some, count_by, if◌then◌else◌, range_with_len, filter, filter_map, cons_option, take_more, take_more_set, map-append, get_or-map-range_with_len, sum_by-cons, sum_by_more, both_ways, Colour, White, Black, Move, Parts, Square, square, squares, same_square, step, home, home_rank, if_safe, Form, Castle, Man, OriginKind, Played, NoMove, Ambiguous, describes, with_next, played, agreeing, only, form_move, is_step_of_form, kind_of_move, origin_kind, origins_of_form, step_count, nth_square, is_legal_kind, count_legal, LegalOriginsDecide}
 use Rattle.chess_text.specs.declared.form_origins.OriginKind.TheVariants.{NoStep, Unsafe, Legal}
-use Rattle.chess_text.proofs.forms.CastlingForms.{castles_ends, played_not}
+use Rattle.chess_text.proofs.forms.CastlingMoves.{castles_ends}
+use Rattle.chess_text.proofs.forms.CastlingForms.{played_not}
 use Rattle.chess_text.proofs.forms.OnlyElement.{filter_map-map, filter_map-filter}
 use Rattle.chess_text.proofs.forms.PieceForms.{same_square-refl}
 
@@ -28,7 +29,7 @@ module _ (p : Parts) (f : Form) (i : ℕ) (low : i < 64) where
   pub kinds_more : (kinds : List OriginKind) → length kinds ≡ 64 → take i kinds ≡ map (origin_kind p f) (take i squares)
       → take (i + 1) (set kinds i (origin_kind p f (nth_square i))) ≡ map (origin_kind p f) (take (i + 1) squares)
   kinds_more kinds long so_far =
-      let within : i < length kinds = omega (arith, long) in
+      let within : i < length kinds = omega arith in
       take_more_set kinds i _ within
       ∙ ap (λ (ks : List OriginKind). ks ++ origin_kind p f (nth_square i) ∷ []) so_far
       ∙ sym (map-append _ _ (nth_square i ∷ []))
@@ -107,11 +108,11 @@ agreeing_count : (p : Parts) (f : Form) → length (agreeing p f) ≡ count_lega
 unfolding agreeing
 agreeing_count p (Man k file rank to promotion) =
     let f = Man k file rank to _ in
-    ap (λ (xs : List Played). length xs) (filter_map-map _ _ squares)
+    ap length (filter_map-map _ _ squares)
     ∙ moves_count p f
 agreeing_count p (Castle long) =
     ap (λ (ss : List Square). length (filter_map (move_at p (Castle long)) ss)) (sym (king_square_alone p.side))
-    ∙ ap (λ (xs : List Played). length xs) (filter_map-filter _ _ elsewhere squares)
+    ∙ ap length (filter_map-filter _ _ elsewhere squares)
     ∙ moves_count p _
   where
     elsewhere : (s : Square) → same_square (square 4 (home_rank p.side)) s ≡ false → move_at p (Castle long) s ≡ None
@@ -127,19 +128,17 @@ agreeing_count p (Castle long) =
 
 -- what a list of moves means, by its length
 only_one : (xs : List Played) → ((x : Played) × (only xs ≡ Ok x)) ↔ (length xs ≡ 1)
-only_one [] = (λ (x, e). absurd (cc), λ h. absurd (omega (arith, h)))
 only_one (x ∷ []) = (λ h. refl, λ h. (x, refl))
-only_one (x ∷ y ∷ more) = (λ (z, e). absurd (cc), λ h. absurd (omega (arith, h)))
+only_one xs = (λ (z, e). cc, λ h. absurd (omega arith))
 
 only_none : (xs : List Played) → (only xs ≡ Err NoMove) ↔ (length xs ≡ 0)
 only_none [] = (λ h. refl, λ h. refl)
-only_none (x ∷ []) = (λ e. absurd (cc), λ h. absurd (omega (arith, h)))
-only_none (x ∷ y ∷ more) = (λ e. absurd (cc), λ h. absurd (omega (arith, h)))
+only_none (x ∷ []) = (λ e. cc, λ h. absurd (omega arith))
+only_none xs = (λ e. cc, λ h. absurd (omega arith))
 
 only_several : (xs : List Played) → (only xs ≡ Err Ambiguous) ↔ (2 ≤ length xs)
-only_several [] = (λ e. absurd (cc), λ h. absurd (omega (arith, h)))
-only_several (x ∷ []) = (λ e. absurd (cc), λ h. absurd (omega (arith, h)))
 only_several (x ∷ y ∷ more) = (λ h. omega arith, λ h. refl)
+only_several xs = (λ e. cc, λ h. absurd (omega arith))
 
 pub legal_origins_decide : LegalOriginsDecide
 legal_origins_decide =

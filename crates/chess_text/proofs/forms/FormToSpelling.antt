@@ -1,5 +1,5 @@
 -- A form that is read of a text is spelled by it.
-use Rattle.chess_text.proofs.Words.{◌≡◌, ℕ, ◌+◌, ◌-◌, ◌<◌, Bool, true, false, ◌&&◌, nat_lt, nat_le, ◌==◌, List, [], ◌∷◌, ◌++◌, length, append-nil, refl, sym, ◌∙◌, ap, ap₂, subst, arith, Option, None, Some, is_some, find, codes, if◌then◌else◌, list_all, eqb-true, nat_tests, Kind, King, Queen, Rook, Bishop, Knight, Pawn, Promotion, Square, square, on_board, Form, Castle, Man, letter, kinds, file_letter, rank_digit, square_text, SpellsBare, Spells, is_among, letter_texts, hint_text, capture_texts, promotion_letter, promotions, promotion_texts, castle_texts, is_mark, below_eight, is_form, last_byte, front, front_if, before_marks, file_of, rank_of, promotion_of, promotion_at_end, before_sign, before_promotion, square_of, target_at_end, before_capture, before_target, rank_at_end, before_rank, file_at_end, before_file, kind_of_text, piece_move_if, piece_move_of, castle_of, castle_or, bare_form, form_of, same_Some}
+use Rattle.chess_text.proofs.Words.{◌≡◌, ℕ, ◌+◌, ◌-◌, ◌<◌, Bool, true, false, ◌&&◌, nat_lt, nat_le, ◌==◌, List, [], ◌∷◌, ◌++◌, append-nil, refl, sym, ◌∙◌, ap, ap₂, subst, arith, Option, None, Some, is_some, find, codes, if◌then◌else◌, list_all, eqb-true, cond_some, nat_tests, Kind, King, Pawn, Promotion, Square, square, on_board, Form, Castle, Man, letter, kinds, file_letter, rank_digit, square_text, SpellsBare, Spells, is_among, letter_texts, hint_text, capture_texts, promotion_letter, promotions, promotion_texts, castle_texts, is_mark, below_eight, is_form, last_byte, front, front_if, before_marks, file_of, rank_of, promotion_of, promotion_at_end, before_sign, before_promotion, square_of, target_at_end, before_capture, before_target, rank_at_end, before_rank, file_at_end, before_file, kind_of_text, piece_move_if, piece_move_of, castle_of, castle_or, bare_form, form_of, same_Some}
 use Rattle.std.proofs.lemmas.List.{append_assoc}
 use Rattle.chess_rules.specs.declared.piece.Promotion.TheVariants as become
 use Rattle.chess_text.proofs.forms.SpellingToForm.{snoc_again}
@@ -21,29 +21,18 @@ marked (c ∷ s) = by_test (list_all is_mark (c ∷ s)) refl (marked s)
 
 -- The last byte that is of use stands there.
 
-not_empty : (s : List ℕ) (n : ℕ) → last_byte s ≡ n → 0 < n → 0 < length s
-not_empty [] n e h = absurd (omega (arith, e, h))
-not_empty (c ∷ s) n e h = omega arith
-
 ends_in : (s : List ℕ) (n : ℕ) → last_byte s ≡ n → 0 < n → s ≡ front s ++ n ∷ []
-ends_in s n e h = cc (snoc_again s (not_empty s n e h))
+ends_in [] n e h = absurd (omega (arith, e, h))
+ends_in (c ∷ s) n e h = cc (snoc_again (c ∷ s) (omega arith))
 
 is_it : (s : List ℕ) (n : ℕ) → (last_byte s == n) ≡ true → 0 < n → s ≡ front s ++ n ∷ []
 is_it s n h low = ends_in s n (eqb-true (last_byte s) n h) low
 
 pub file_byte : (c n : ℕ) → file_of c ≡ Some n → (c ≡ 97 + n) × (nat_lt n 8 ≡ true)
-file_byte c n h = by_test (nat_le 97 c && nat_le c 104) refl h
-  where
-    by_test : (b : Bool) → (nat_le 97 c && nat_le c 104) ≡ b → (if b then Some (c - 97) else None) ≡ Some n → (c ≡ 97 + n) × (nat_lt n 8 ≡ true)
-    by_test true e g = let same : c - 97 ≡ n = same_Some (c - 97) n g in (grind (arith, nat_tests), grind (arith, nat_tests))
-    by_test false e g = absurd (cc)
+file_byte c n h = let both = cond_some (nat_le 97 c && nat_le c 104) (c - 97) n h in grind (arith, nat_tests)
 
 rank_byte : (c n : ℕ) → rank_of c ≡ Some n → (c ≡ 49 + n) × (nat_lt n 8 ≡ true)
-rank_byte c n h = by_test (nat_le 49 c && nat_le c 56) refl h
-  where
-    by_test : (b : Bool) → (nat_le 49 c && nat_le c 56) ≡ b → (if b then Some (c - 49) else None) ≡ Some n → (c ≡ 49 + n) × (nat_lt n 8 ≡ true)
-    by_test true e g = let same : c - 49 ≡ n = same_Some (c - 49) n g in (grind (arith, nat_tests), grind (arith, nat_tests))
-    by_test false e g = absurd (cc)
+rank_byte c n h = let both = cond_some (nat_le 49 c && nat_le c 56) (c - 49) n h in grind (arith, nat_tests)
 
 file_spelled : (s : List ℕ) → (s ≡ before_file s ++ hint_text file_letter (file_at_end s)) × (below_eight (file_at_end s) ≡ true)
 file_spelled s = by_byte (file_at_end s) refl
@@ -76,8 +65,6 @@ pub target_spelled : (s : List ℕ) (to : Square) → target_at_end s ≡ Some t
 target_spelled s to h = by_bytes (file_of (last_byte (front s))) (rank_of (last_byte s)) refl refl h
   where
     by_bytes : (f r : Option ℕ) → file_of (last_byte (front s)) ≡ f → rank_of (last_byte s) ≡ r → square_of f r ≡ Some to → (s ≡ front (front s) ++ square_text to) × (on_board to ≡ true)
-    by_bytes None r e g h = absurd (cc)
-    by_bytes (Some f) None e g h = absurd (cc)
     by_bytes (Some f) (Some r) e g h =
         let same : square f r ≡ to = same_Some (square f r) to h in
         let file : (last_byte (front s) ≡ 97 + f) × (nat_lt f 8 ≡ true) = file_byte (last_byte (front s)) f e in
@@ -85,15 +72,16 @@ target_spelled s to h = by_bytes (file_of (last_byte (front s))) (rank_of (last_
         let joined : s ≡ front (front s) ++ (97 + f) ∷ (49 + r) ∷ [] =
         ends_in s (49 + r) rank.0 (omega arith)
         ∙ (ap (λ t. t ++ (49 + r) ∷ []) (ends_in (front s) (97 + f) file.0 (omega arith)) ∙ append_assoc (front (front s)) ((97 + f) ∷ []) ((49 + r) ∷ [])) in
-        (joined ∙ ap (λ t. front (front s) ++ square_text t) same, ap (λ t. on_board t) (sym same) ∙ ap₂ (λ a b. a && b) file.1 rank.1)
+        (joined ∙ ap (λ t. front (front s) ++ square_text t) same, ap on_board (sym same) ∙ ap₂ (λ a b. a && b) file.1 rank.1)
+    by_bytes f r e g h = cc
 
 -- what is found passes the test
 found : {X : Type 0} (p : X → Bool) (xs : List X) (x : X) → find p xs ≡ Some x → p x ≡ true
-found p [] x h = absurd (cc)
+found p [] x h = cc
 found {X} p (y ∷ xs) x h = by_test (p y) refl (found p xs x) h
   where
     by_test : (b : Bool) → p y ≡ b → (find p xs ≡ Some x → p x ≡ true) → (if b then Some y else find p xs) ≡ Some x → p x ≡ true
-    by_test true e more g = cc (same_Some y x g)
+    by_test true e more g = cc
     by_test false e more g = more g
 
 promotion_byte : (c : ℕ) (q : Promotion) → promotion_of c ≡ Some q → c ≡ promotion_letter q
@@ -101,21 +89,15 @@ promotion_byte c q h = sym (eqb-true (promotion_letter q) c (found (λ p. promot
 
 some_letter : (q : Promotion) → 0 < promotion_letter q
 some_letter become.Queen = omega arith
-some_letter become.Rook = omega arith
-some_letter become.Bishop = omega arith
-some_letter become.Knight = omega arith
+some_letter q = omega arith
 
 with_sign : (q : Promotion) → is_among (61 ∷ promotion_letter q ∷ []) (promotion_texts (Some q)) ≡ true
 with_sign become.Queen = refl
-with_sign become.Rook = refl
-with_sign become.Bishop = refl
-with_sign become.Knight = refl
+with_sign q = refl
 
 without_sign : (q : Promotion) → is_among (promotion_letter q ∷ []) (promotion_texts (Some q)) ≡ true
 without_sign become.Queen = refl
-without_sign become.Rook = refl
-without_sign become.Bishop = refl
-without_sign become.Knight = refl
+without_sign q = refl
 
 promotion_spelled : (s : List ℕ) → Part s (before_promotion s) (promotion_texts (promotion_at_end s))
 promotion_spelled s = by_byte (promotion_at_end s) refl
@@ -135,15 +117,11 @@ promotion_spelled s = by_byte (promotion_at_end s) refl
 
 own_letter : (k : Kind) → is_among (letter k ∷ []) (letter_texts k) ≡ true
 own_letter King = refl
-own_letter Queen = refl
-own_letter Rook = refl
-own_letter Bishop = refl
-own_letter Knight = refl
-own_letter Pawn = refl
+own_letter k = refl
 
 pub kind_spelled : (s : List ℕ) (k : Kind) → kind_of_text s ≡ Some k → is_among s (letter_texts k) ≡ true
 kind_spelled [] k h = cc (same_Some Pawn k h)
-kind_spelled (c ∷ d ∷ s) k h = absurd (cc)
+kind_spelled (c ∷ d ∷ s) k h = cc
 kind_spelled (c ∷ []) k h = cc (eqb-true (letter k) c (found (λ j. letter j == c) kinds k h), own_letter k)
 
 -- All of it.

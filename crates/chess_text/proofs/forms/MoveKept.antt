@@ -1,5 +1,5 @@
 -- The move that a search has kept, with the position after it.
-use Rattle.chess_text.proofs.Words.{◌≡◌, Bool, true, false, ◌&&◌, refl, sym, ap, Option, None, Some, is_some, false≢true, and_parts, Move, Parts, legal, is_legal, Played, with_next, played}
+use Rattle.chess_text.proofs.Words.{◌≡◌, Bool, true, false, ◌&&◌, refl, ap, Option, None, Some, is_some, and_parts, Move, Parts, legal, is_legal, Played, with_next, played}
 
 abbrev pub with_position : Parts → Option Move → Option Played
 with_position p None = None
@@ -11,7 +11,7 @@ IsLegalIfAny p None = Unit {0}
 IsLegalIfAny p (Some m) = is_legal p m ≡ true
 
 some_next : (m : Move) (o : Option Parts) → is_some o ≡ true → is_some (with_next m o) ≡ true
-some_next m None h = absurd (false≢true h)
+some_next m None h = cc
 some_next m (Some q) h = refl
 
 pub kept_is_some : (p : Parts) (o : Option Move) → IsLegalIfAny p o → is_some (with_position p o) ≡ is_some o
@@ -23,7 +23,7 @@ pub kept_next : (p : Parts) (m : Move) → is_legal p m ≡ true → (x : Played
 kept_next p m h = by_next _ h
   where
     by_next : (o : Option Parts) → is_some o ≡ true → (x : Played) × (with_next m o ≡ Some x)
-    by_next None g = absurd (false≢true g)
+    by_next None g = cc
     by_next (Some q) g = (record { mv = m; next = q }, refl)
 
 -- what is found from a move is it with that position, if it is legal and fits, and else nothing
@@ -36,4 +36,4 @@ other_is_not_played p m true h = by_next _ h
   where
     by_next : (o : Option Parts) → (is_some o && true) ≡ false → with_next m o ≡ None
     by_next None g = refl
-    by_next (Some q) g = absurd (false≢true (sym g))
+    by_next (Some q) g = cc

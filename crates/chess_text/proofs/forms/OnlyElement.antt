@@ -1,5 +1,5 @@
 -- Lists of what is found, and the only element of one.
-use Rattle.chess_text.proofs.Words.{◌≡◌, ◌⊎◌, inl, inr, ℕ, zero, suc, ◌+◌, ◌<◌, ◌≤◌, Bool, true, false, cond, List, [], ◌∷◌, ◌++◌, map, length, take, drop, get_or, append-nil, Option, None, Some, refl, sym, ◌∙◌, ap, ap₂, subst, arith, Ok, Err, sum_by, option_to_list, ok_or, filter, filter_map, cons_option, Contains, IsPermutation, false≢true, take_more, take_all, take-append-drop, sum_by-cons, filter_map-append, Contains-permutation, sum_by-IsPermutation, Played, NoMove, Ambiguous, only}
+use Rattle.chess_text.proofs.Words.{◌≡◌, ◌⊎◌, inl, inr, ℕ, zero, suc, ◌+◌, ◌<◌, ◌≤◌, Bool, true, false, cond, List, [], ◌∷◌, ◌++◌, map, length, take, drop, get_or, append-nil, Option, None, Some, refl, sym, ◌∙◌, ap, ap₂, arith, Ok, Err, sum_by, option_to_list, ok_or, filter, filter_map, cons_option, Contains, IsPermutation, get_or-map, length-map, take_more, take_all, take-append-drop, sum_by-cons, filter_map-append, Contains-permutation, sum_by-IsPermutation, Played, NoMove, Ambiguous, only}
 use Rattle.std.specs.Option.{is_some}
 
 -- Elements.
@@ -19,12 +19,7 @@ pub none_in : {X : Type 0} (y : X) → Contains [] y → ⊥
 none_in y (k, low, is) = omega arith
 
 pub in_map : {X Y : Type 0} (f : X → Y) (xs : List X) (x : X) → Contains xs x → Contains (map f xs) (f x)
-in_map f [] x h = absurd (none_in x h)
-in_map f (y ∷ ys) x h =
-    elim (element y x ys h) [
-      | inl e ↦ subst (λ z. Contains (f y ∷ map f ys) (f z)) e (here _ (map f ys))
-      | inr more ↦ later _ _ _ (in_map f ys x more)
-    ]
+in_map f xs x (k, low, is) = (k, omega (arith, length-map xs f, low), get_or-map f xs k x (f x) low ∙ ap f is)
 
 pub record MapsTo {X Y : Type 0} (f : X → Y) (xs : List X) (y : Y) : Type 0 where
   pub at : X
@@ -86,8 +81,8 @@ length-found h [] = refl
 length-found {X} {Y} h (x ∷ xs) = by_found _ (length-found h xs) ∙ sym (sum_by-cons _ x xs)
   where
     by_found : (o : Option Y) → length (filter_map h xs) ≡ sum_by (count_found h) xs → length (cons_option o (filter_map h xs)) ≡ length (cons_option o []) + sum_by (count_found h) xs
-    by_found None e = omega (arith, e)
-    by_found (Some y) e = omega (arith, e)
+    by_found None e = omega arith
+    by_found (Some y) e = omega arith
 
 pub filter_map-map : {X Y Z : Type 0} (h : Y → Option Z) (f : X → Y) (xs : List X) → filter_map h (map f xs) ≡ filter_map (λ x. h (f x)) xs
 filter_map-map h f [] = refl
@@ -106,16 +101,13 @@ filter_map-filter {X} {Y} h c lost (x ∷ xs) = by_test _ refl (filter_map-filte
 
 only_same : (xs ys : List Played) → length xs ≡ length ys → ((x : Played) → Contains xs x → Contains ys x) → only xs ≡ only ys
 only_same [] [] e among = refl
-only_same [] (y ∷ ys) e among = absurd (omega (arith, e))
-only_same (x ∷ xs) [] e among = absurd (omega (arith, e))
 only_same (x ∷ []) (y ∷ []) e among =
     elim (element y x [] (among x (here x []))) [
-      | inl is ↦ ap (λ (z : Played). Ok z) (sym is)
+      | inl is ↦ ap Ok (sym is)
       | inr more ↦ absurd (none_in x more)
     ]
-only_same (x ∷ []) (y ∷ z ∷ zs) e among = absurd (omega (arith, e))
-only_same (x ∷ w ∷ ws) (y ∷ []) e among = absurd (omega (arith, e))
 only_same (x ∷ w ∷ ws) (y ∷ z ∷ zs) e among = refl
+only_same xs ys e among = absurd (omega arith)
 
 -- the order decides nothing
 pub only_permuted : {X : Type 0} (h : X → Option Played) (xs ys : List X) → IsPermutation xs ys → only (filter_map h xs) ≡ only (filter_map h ys)
@@ -152,13 +144,13 @@ module _ {X : Type 0} (h : X → Option Played) (xs : List X) (i : ℕ) (found :
     where
       nothing : (f : Option Played) → is_some f ≡ false → option_to_list f ≡ []
       nothing None e = refl
-      nothing (Some x) e = absurd (false≢true (sym e))
+      nothing (Some x) e = cc
 
   pub second_one : (d : X) (o : Option Played) (y : Played) → i < length xs → o ≡ h (get_or xs i d) → o ≡ Some y → is_some found ≡ true → Err Ambiguous ≡ only (filter_map h xs)
   second_one d o y low is some one = by_found found one so_far
     where
       by_found : (f : Option Played) → is_some f ≡ true → filter_map h (take i xs) ≡ option_to_list f → Err Ambiguous ≡ only (filter_map h xs)
-      by_found None e g = absurd (false≢true e)
+      by_found None e g = cc
       by_found (Some x) e g =
           sym (only_two h xs (i + 1) x y (found_more h xs i d o low is ∙ ap₂ (λ (ys : List Played) (p : Option Played). ys ++ cons_option p []) g some))
 
@@ -167,8 +159,8 @@ module _ {X : Type 0} (h : X → Option Played) (xs : List X) (i : ℕ) (found :
     where
       by_count : (n : ℕ) (f : Option Played) → is_some f ≡ true → filter_map h (take n xs) ≡ option_to_list f → 1 ≤ n
       by_count (suc n) f e g = omega arith
-      by_count zero None e g = absurd (false≢true e)
-      by_count zero (Some x) e g = absurd (cc)
+      by_count zero None e g = cc
+      by_count zero (Some x) e g = cc
 
   pub at_the_end : length xs ≤ i → ok_or found NoMove ≡ only (filter_map h xs)
   at_the_end all =

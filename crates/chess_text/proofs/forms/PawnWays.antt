@@ -1,7 +1,7 @@
 -- The ways in which a pawn goes.
-use Rattle.chess_text.proofs.Words.{◌≡◌, ℕ, inl, inr, Bool, true, false, not, ◌&&◌, ◌||◌, refl, sym, ◌∙◌, ap, arith, ◌==◌, Option, None, Some, is_none, false≢true, and_parts, or_cases, eqb-true, eq-eqb, nat_tests, Colour, White, Black, Kind, King, Queen, Rook, Bishop, Knight, Pawn, Piece, Move, Parts, Square, gap, Board, at, has_colour, has_piece, same_colour, same_kind, is_empty, other, attacks, cell_attacks, kind_attacks, is_ahead, own, is_piece_step, is_advance, is_double_step, is_pawn_capture, is_pawn_way, is_pawn_step, promotion_fits, captured_pawn, crossed, pawn_rank, double_rank, is_en_passant, is_legal, is_castling, is_capture, false_from_ne_true}
-use Rattle.chess_rules.specs.Step.{is_target}
-use Rattle.chess_text.proofs.forms.CastlingMoves.{stepped, castling_goes_far}
+use Rattle.chess_text.proofs.Words.{◌≡◌, ℕ, inl, inr, true, false, not, ◌&&◌, ◌||◌, refl, sym, ◌∙◌, ap, arith, ◌==◌, Option, None, Some, is_none, false≢true, and_parts, or_cases, eqb-true, eq-eqb, nat_tests, Colour, White, Black, Kind, King, Pawn, Piece, Move, Parts, Square, gap, Board, at, has_colour, has_piece, same_colour, same_kind, is_empty, other, attacks, cell_attacks, kind_attacks, is_ahead, own, is_advance, is_double_step, is_pawn_capture, is_pawn_way, captured_pawn, crossed, pawn_rank, double_rank, is_en_passant, is_legal, is_castling, is_capture, false_from_ne_true}
+use mathlib.Core.Bool.{or-true}
+use Rattle.chess_text.proofs.forms.CastlingMoves.{piece_goes, pawn_goes, pawn_passes, king_castles, passing_parts, stepped, castling_goes_far}
 use Rattle.chess_text.proofs.forms.MoverOfMove.{other_kind}
 
 -- the four ways in which it goes
@@ -12,60 +12,39 @@ pub data PawnWay (p : Parts) (m : Move) : Type 0 where
   doubles : m.from.file ≡ m.to.file → m.from.rank ≡ pawn_rank p.side → m.to.rank ≡ double_rank p.side → is_empty p.board (crossed m) ≡ true → is_empty p.board m.to ≡ true → PawnWay p m
 
 pawn_attack : (c : Colour) (cell : Option Piece) (b : Board) (s t : Square) → has_piece c Pawn cell ≡ true → cell_attacks cell b s t ≡ true → (gap s.file t.file ≡ 1) × (is_ahead c s.rank t.rank ≡ true)
-pawn_attack c None b s t h g = absurd (false≢true h)
+pawn_attack c None b s t h g = cc
 pawn_attack c (Some x) b s t h g = by_kind x.kind (and_parts (same_colour c x.colour) (same_kind Pawn x.kind) h).1 g
   where
     ahead : (c d : Colour) → same_colour c d ≡ true → is_ahead d s.rank t.rank ≡ true → is_ahead c s.rank t.rank ≡ true
     ahead White White e f = f
     ahead Black Black e f = f
-    ahead White Black e f = absurd (false≢true e)
-    ahead Black White e f = absurd (false≢true e)
+    ahead c d e f = cc
 
     by_kind : (k : Kind) → same_kind Pawn k ≡ true → kind_attacks k x.colour b s t ≡ true → (gap s.file t.file ≡ 1) × (is_ahead c s.rank t.rank ≡ true)
-    by_kind King a g = absurd (false≢true a)
-    by_kind Queen a g = absurd (false≢true a)
-    by_kind Rook a g = absurd (false≢true a)
-    by_kind Bishop a g = absurd (false≢true a)
-    by_kind Knight a g = absurd (false≢true a)
     by_kind Pawn a g =
         let both = and_parts (gap s.file t.file == 1) (is_ahead x.colour s.rank t.rank) g in
         (eqb-true (gap s.file t.file) 1 both.0, ahead c x.colour (and_parts (same_colour c x.colour) (same_kind Pawn x.kind) h).0 both.1)
+    by_kind k a g = cc
 
 full : (c : Colour) (cell : Option Piece) → has_colour c cell ≡ true → is_none cell ≡ false
-full c None g = absurd (false≢true g)
+full c None g = cc
 full c (Some x) g = refl
 
 pub pawn_way : (p : Parts) (m : Move) → is_legal p m ≡ true → own p Pawn m.from ≡ true → PawnWay p m
-pawn_way p m h pawn =
-    elim (or_cases (is_piece_step p m || is_pawn_step p m) (is_en_passant p m || is_castling p m) (stepped p m h).way) [
-      | inl plain ↦ elim (or_cases (is_piece_step p m) (is_pawn_step p m) plain) [
-        | inl piece ↦ absurd (no_piece piece)
-        | inr step ↦ by_way (and_parts (is_pawn_way p m) (promotion_fits p m) (and_parts (own p Pawn m.from) (is_pawn_way p m && promotion_fits p m) step).1).0
-      ]
-      | inr more ↦ elim (or_cases (is_en_passant p m) (is_castling p m) more) [
-        | inl passing ↦ by_passing passing
-        | inr castling ↦ absurd (no_castle castling)
-      ]
+pawn_way p m h pawn_stands =
+    elim (stepped p m h).way [
+      | piece_goes a no_pawn b c ↦ absurd (false≢true (sym (ap not pawn_stands) ∙ no_pawn))
+      | pawn_goes stands g ↦ by_way g
+      | pawn_passes stands g ↦ let (own_pawn, goes, taken) = passing_parts p m g in passes (hits goes).0 (hits goes).1 taken g
+      | king_castles g ↦ absurd (no_castle g)
     ]
   where
     hits : attacks p.board m.from m.to ≡ true → (gap m.from.file m.to.file ≡ 1) × (is_ahead p.side m.from.rank m.to.rank ≡ true)
-    hits g = pawn_attack p.side (at p.board m.from) p.board m.from m.to pawn g
-
-    no_piece : is_piece_step p m ≡ true → ⊥
-    no_piece piece =
-        let stands = (and_parts ((has_colour p.side (at p.board m.from) && not (own p Pawn m.from)) && is_none m.promotion) (attacks p.board m.from m.to && not (has_colour p.side (at p.board m.to))) piece).0 in
-        let no_pawn = (and_parts (has_colour p.side (at p.board m.from) && not (own p Pawn m.from)) (is_none m.promotion) stands).0 in
-        false≢true (sym (ap not pawn) ∙ (and_parts (has_colour p.side (at p.board m.from)) (not (own p Pawn m.from)) no_pawn).1)
+    hits g = pawn_attack p.side (at p.board m.from) p.board m.from m.to pawn_stands g
 
     no_castle : is_castling p m ≡ true → ⊥
-    no_castle castling =
-        false≢true (sym (other_kind p.side King Pawn (at p.board m.from) (and_parts (own p King m.from) _ (castling_goes_far p m castling)).0 refl) ∙ pawn)
-
-    by_passing : is_en_passant p m ≡ true → PawnWay p m
-    by_passing g =
-        let second = and_parts (attacks p.board m.from m.to) (has_piece (other p.side) Pawn (at p.board (captured_pawn m))) (and_parts ((own p Pawn m.from && promotion_fits p m) && (is_target p.target m.to && is_empty p.board m.to)) (attacks p.board m.from m.to && has_piece (other p.side) Pawn (at p.board (captured_pawn m))) g).1 in
-        let way = hits second.0 in
-        passes way.0 way.1 second.1 g
+    no_castle castles =
+        false≢true (sym (other_kind p.side King Pawn (at p.board m.from) (and_parts (own p King m.from) _ (castling_goes_far p m castles)).0 refl) ∙ pawn_stands)
 
     by_advance : is_advance p m ≡ true → PawnWay p m
     by_advance g =
@@ -105,19 +84,15 @@ gap_apart a b e h = omega (arith, e, h)
 sideways : (a b : ℕ) → gap a b ≡ 1 → true ≡ not (a == b)
 sideways a b h = grind (arith, nat_tests)
 
-or_true : (b : Bool) → (b || true) ≡ true
-or_true true = refl
-or_true false = refl
-
 pub pawn_takes : (p : Parts) (m : Move) → own p Pawn m.from ≡ true → is_legal p m ≡ true → is_capture p m ≡ not (m.from.file == m.to.file)
-pawn_takes p m pawn legal = by_way (pawn_way p m legal pawn)
+pawn_takes p m stands legal = by_way (pawn_way p m legal stands)
   where
     straight : m.from.file ≡ m.to.file → is_empty p.board m.to ≡ true → is_capture p m ≡ not (m.from.file == m.to.file)
     straight file free =
-        cc (false_from_ne_true (is_en_passant p m) (λ h. let hits = (and_parts (attacks p.board m.from m.to) (has_piece (other p.side) Pawn (at p.board (captured_pawn m))) (and_parts ((own p Pawn m.from && promotion_fits p m) && (is_target p.target m.to && is_empty p.board m.to)) (attacks p.board m.from m.to && has_piece (other p.side) Pawn (at p.board (captured_pawn m))) h).1).0 in gap_apart m.from.file m.to.file file (pawn_attack p.side (at p.board m.from) p.board m.from m.to pawn hits).0), eq-eqb m.from.file m.to.file file)
+        cc (false_from_ne_true (is_en_passant p m) (λ h. gap_apart m.from.file m.to.file file (pawn_attack p.side (at p.board m.from) p.board m.from m.to stands (passing_parts p m h).1).0), eq-eqb m.from.file m.to.file file)
 
     by_way : PawnWay p m → is_capture p m ≡ not (m.from.file == m.to.file)
     by_way (takes g a f) = cc (sideways m.from.file m.to.file g)
-    by_way (passes g a t e) = cc (or_true (not (is_empty p.board m.to)), sideways m.from.file m.to.file g)
+    by_way (passes g a t e) = cc (or-true (not (is_empty p.board m.to)), sideways m.from.file m.to.file g)
     by_way (advances s a f) = straight s f
     by_way (doubles s a b e f) = straight s f

@@ -1,7 +1,7 @@
 -- A text that spells a form is read as that form.
-use Rattle.chess_text.proofs.Words.{◌≡◌, ℕ, ◌+◌, ◌-◌, ◌<◌, ◌⊎◌, inl, inr, Bool, true, false, ◌&&◌, ◌||◌, nat_lt, ◌==◌, List, [], ◌∷◌, ◌++◌, length, take, append-nil, length-append, refl, sym, ◌∙◌, ap, ap₂, subst, arith, Option, None, Some, bytes_eq, codes, false≢true, nat_tests, take_more, take_all, bytes_eq-Decides, Kind, King, Queen, Rook, Bishop, Knight, Pawn, Promotion, Square, on_board, Form, Castle, Man, file_letter, rank_digit, square_text, SpellsPieceMove, SpellsBare, Spells, is_among, letter_texts, hint_text, capture_texts, promotion_letter, promotion_texts, castle_texts, is_mark, below_eight, is_form, last_byte, front, front_if, before_marks, file_of, rank_of, promotion_of, promotion_at_end, before_sign, before_promotion, target_at_end, before_capture, before_target, rank_at_end, before_rank, file_at_end, before_file, kind_of_text, piece_move_if, piece_move_before, piece_move_at, piece_move_of, castle_of, bare_form, form_of, false_from_ne_true}
+use Rattle.chess_text.proofs.Words.{◌≡◌, ℕ, ◌+◌, ◌-◌, ◌<◌, ◌⊎◌, inl, inr, Bool, true, false, ◌&&◌, nat_lt, ◌==◌, List, [], ◌∷◌, ◌++◌, length, append-nil, append_assoc, or_cases, length-append, refl, sym, ◌∙◌, ap, ap₂, subst, arith, Option, None, Some, bytes_eq, codes, false≢true, nat_tests, and_parts, take_more, take_all, bytes_eq-Decides, Kind, King, Pawn, Promotion, Square, on_board, Form, Castle, Man, file_letter, rank_digit, square_text, SpellsPieceMove, SpellsBare, Spells, is_among, letter_texts, hint_text, capture_texts, promotion_letter, promotion_texts, castle_texts, is_mark, below_eight, is_form, last_byte, front, front_if, before_marks, file_of, rank_of, promotion_of, promotion_at_end, before_sign, before_promotion, target_at_end, before_capture, before_target, rank_at_end, before_rank, file_at_end, before_file, kind_of_text, piece_move_if, piece_move_before, piece_move_at, piece_move_of, castle_of, bare_form, form_of, false_from_ne_true}
 use Rattle.std.proofs.Math.Seq.{get_or-append_seam, take-append_seam}
-use Rattle.std.proofs.lemmas.List.{append_assoc}
+use mathlib.Core.Bool.{or-false}
 use Rattle.chess_rules.specs.declared.piece.Promotion.TheVariants as promotions
 use Rattle.chess_text.proofs.forms.BeforeMarks.{before_marks-append, before_marks-last}
 use Rattle.chess_text.proofs.positions.FieldsOfText.{first_of_two, second_of_two}
@@ -19,36 +19,24 @@ front-snoc t c = cc (end_of t c, take-append_seam t (c ∷ []))
 
 pub snoc_again : (s : List ℕ) → 0 < length s → s ≡ front s ++ last_byte s ∷ []
 snoc_again s h =
-    let whole : take ((length s - 1) + 1) s ≡ s = cc (up (length s) h, take_all (length s) s (omega arith)) in
-    sym whole ∙ take_more s (length s - 1) 0 (omega arith)
-  where
-    up : (n : ℕ) → 0 < n → (n - 1) + 1 ≡ n
-    up n h = omega arith
+    let up : (length s - 1) + 1 ≡ length s = omega arith in
+    cc (take_all (length s) s (omega arith), take_more s (length s - 1) 0 (omega arith))
 
 no_mark_end : (s : List ℕ) → is_mark (last_byte s) ≡ false → before_marks s ≡ s
 no_mark_end [] h = refl
 no_mark_end (c ∷ s) h =
-    let again : c ∷ s ≡ front (c ∷ s) ++ last_byte (c ∷ s) ∷ [] = snoc_again (c ∷ s) (omega arith) in
-    cc (before_marks-last (front (c ∷ s)) (last_byte (c ∷ s)) h)
+    cc (snoc_again (c ∷ s) (omega arith), before_marks-last (front (c ∷ s)) (last_byte (c ∷ s)) h)
 
 -- One of the ways to write a part.
 
 pub same_bytes : (s t : List ℕ) → bytes_eq s t ≡ true → s ≡ t
 same_bytes s t h = (bytes_eq-Decides s t).0 h
 
-or_none : (b : Bool) → (b || false) ≡ true → b ≡ true
-or_none true h = refl
-or_none false h = h
-
 pub one_of : (s a : List ℕ) → is_among s (a ∷ []) ≡ true → s ≡ a
-one_of s a h = same_bytes s a (or_none (bytes_eq s a) h)
+one_of s a h = same_bytes s a (sym (or-false (bytes_eq s a)) ∙ h)
 
 pub two_of : (s a b : List ℕ) → is_among s (a ∷ b ∷ []) ≡ true → (s ≡ a) ⊎ (s ≡ b)
-two_of s a b h = by_first (bytes_eq s a) refl h
-  where
-    by_first : (x : Bool) → bytes_eq s a ≡ x → (x || (bytes_eq s b || false)) ≡ true → (s ≡ a) ⊎ (s ≡ b)
-    by_first true e g = inl (same_bytes s a e)
-    by_first false e g = inr (same_bytes s b (or_none (bytes_eq s b) g))
+two_of s a b h = elim (or_cases (bytes_eq s a) _ h) [ inl e ↦ inl (same_bytes s a e) | inr e ↦ inr (one_of s b e) ]
 
 -- The letter.
 
@@ -60,16 +48,9 @@ record Letters (s : List ℕ) (k : Kind) : Type 0 where
   no_x : (last_byte s == 120) ≡ false
 
 letters_read : (k : Kind) (s : List ℕ) → is_among s (letter_texts k) ≡ true → Letters s k
-letters_read King s h = subst (λ t. Letters t King) (sym (one_of s (codes "K") h)) (record { named = refl; no_file = refl; no_rank = refl; no_x = refl })
-letters_read Queen s h = subst (λ t. Letters t Queen) (sym (one_of s (codes "Q") h)) (record { named = refl; no_file = refl; no_rank = refl; no_x = refl })
-letters_read Rook s h = subst (λ t. Letters t Rook) (sym (one_of s (codes "R") h)) (record { named = refl; no_file = refl; no_rank = refl; no_x = refl })
-letters_read Bishop s h = subst (λ t. Letters t Bishop) (sym (one_of s (codes "B") h)) (record { named = refl; no_file = refl; no_rank = refl; no_x = refl })
-letters_read Knight s h = subst (λ t. Letters t Knight) (sym (one_of s (codes "N") h)) (record { named = refl; no_file = refl; no_rank = refl; no_x = refl })
-letters_read Pawn s h =
-    elim (two_of s [] (codes "P") h) [
-      | inl e ↦ subst (λ t. Letters t Pawn) (sym e) (record { named = refl; no_file = refl; no_rank = refl; no_x = refl })
-      | inr e ↦ subst (λ t. Letters t Pawn) (sym e) (record { named = refl; no_file = refl; no_rank = refl; no_x = refl })
-    ]
+letters_read Pawn s h = elim (two_of s [] (codes "P") h) [ inl e ↦ rw e assumption | inr e ↦ rw e assumption ]
+letters_read King s h = rw (one_of s _ h) assumption
+letters_read k s h = rw (one_of s _ h) assumption
 
 -- The hints.
 
@@ -97,17 +78,11 @@ record FileRead (s t : List ℕ) (file : Option ℕ) : Type 0 where
 
 file_read : (s : List ℕ) (k : Kind) (file : Option ℕ) → below_eight file ≡ true → Letters s k → FileRead s (s ++ hint_text file_letter file) file
 file_read s k None h l =
-    subst (λ t. FileRead s t None) (sym (append-nil s))
-    (record { told = l.no_file; before = cc; no_rank = l.no_rank; no_x = l.no_x })
+    rw append-nil (record { told = l.no_file; before = cc; no_rank = l.no_rank; no_x = l.no_x })
 file_read s k (Some n) h l =
     let last : last_byte (s ++ (97 + n) ∷ []) ≡ 97 + n = last_byte-snoc s (97 + n) in
     let there : file_at_end (s ++ (97 + n) ∷ []) ≡ Some n = cc (file_back n h) in
-    record {
-      told = there;
-      before = cc (front-snoc s (97 + n));
-      no_rank = cc (file_no_rank n h);
-      no_x = cc (file_no_x n h);
-    }
+    record { told = there; before = cc (front-snoc s (97 + n)); no_rank = cc (file_no_rank n h); no_x = cc (file_no_x n h) }
 
 record RankRead (s t : List ℕ) (rank : Option ℕ) : Type 0 where
   told : rank_at_end t ≡ rank
@@ -116,23 +91,19 @@ record RankRead (s t : List ℕ) (rank : Option ℕ) : Type 0 where
 
 rank_read : (s : List ℕ) (rank : Option ℕ) → below_eight rank ≡ true → rank_of (last_byte s) ≡ None → (last_byte s == 120) ≡ false → RankRead s (s ++ hint_text rank_digit rank) rank
 rank_read s None h none no_x =
-    subst (λ t. RankRead s t None) (sym (append-nil s)) (record { told = none; before = cc; no_x = no_x })
+    rw append-nil (record { told = none; before = cc; no_x = no_x })
 rank_read s (Some n) h none no_x =
     let last : last_byte (s ++ (49 + n) ∷ []) ≡ 49 + n = last_byte-snoc s (49 + n) in
     let there : rank_at_end (s ++ (49 + n) ∷ []) ≡ Some n = cc (rank_back n h) in
-    record {
-      told = there;
-      before = cc (front-snoc s (49 + n));
-      no_x = cc (rank_no_x n h);
-    }
+    record { told = there; before = cc (front-snoc s (49 + n)); no_x = cc (rank_no_x n h) }
 
 -- The x.
 
 capture_read : (s x : List ℕ) → is_among x capture_texts ≡ true → (last_byte s == 120) ≡ false → before_capture (s ++ x) ≡ s
 capture_read s x h no_x =
     elim (two_of x [] (codes "x") h) [
-      | inl e ↦ ap (λ t. before_capture (s ++ t)) e ∙ (ap (λ t. before_capture t) (append-nil s) ∙ ap (λ b. front_if b s) no_x)
-      | inr e ↦ ap (λ t. before_capture (s ++ t)) e ∙ (ap (λ c. front_if (c == 120) (s ++ 120 ∷ [])) (last_byte-snoc s 120) ∙ front-snoc s 120)
+      | inl e ↦ cc (append-nil s)
+      | inr e ↦ cc (last_byte-snoc s 120, front-snoc s 120)
     ]
 
 -- The target.
@@ -144,21 +115,13 @@ record TargetRead (s t : List ℕ) (to : Square) : Type 0 where
 
 target_read : (s : List ℕ) (to : Square) → on_board to ≡ true → TargetRead s (s ++ square_text to) to
 target_read s to h =
+    let on = and_parts (nat_lt to.file 8) (nat_lt to.rank 8) h in
     let a : ℕ = 97 + to.file in
     let b : ℕ = 49 + to.rank in
-    let apart : s ++ a ∷ b ∷ [] ≡ (s ++ a ∷ []) ++ b ∷ [] = sym (append_assoc s (a ∷ []) (b ∷ [])) in
-    let last : last_byte ((s ++ a ∷ []) ++ b ∷ []) ≡ b = last_byte-snoc (s ++ a ∷ []) b in
-    let fore : front ((s ++ a ∷ []) ++ b ∷ []) ≡ s ++ a ∷ [] = front-snoc (s ++ a ∷ []) b in
-    let file : file_of (last_byte (front ((s ++ a ∷ []) ++ b ∷ []))) ≡ Some to.file =
-    ap (λ t. file_of (last_byte t)) fore ∙ (ap (λ c. file_of c) (last_byte-snoc s a) ∙ file_back to.file (first_of_two (nat_lt to.file 8) (nat_lt to.rank 8) h)) in
-    let rank : rank_of (last_byte ((s ++ a ∷ []) ++ b ∷ [])) ≡ Some to.rank =
-    ap (λ c. rank_of c) last ∙ rank_back to.rank (second_of_two (nat_lt to.file 8) (nat_lt to.rank 8) h) in
-    subst (λ t. TargetRead s t to) (sym apart)
-    (record {
-      told = cc;
-      before = cc (front-snoc s a);
-      last = last;
-    })
+    let last = last_byte-snoc (s ++ a ∷ []) b in
+    let fore = front-snoc (s ++ a ∷ []) b in
+    rw (← append_assoc s (a ∷ []) (b ∷ []))
+    (record { told = cc (last_byte-snoc s a, file_back to.file on.0, rank_back to.rank on.1); before = cc (front-snoc s a); last = last })
 
 -- The promotion.
 
@@ -179,9 +142,7 @@ digit_no_zero n h = grind (arith, nat_tests)
 
 promotion_back : (q : Promotion) → promotion_of (promotion_letter q) ≡ Some q
 promotion_back promotions.Queen = refl
-promotion_back promotions.Rook = refl
-promotion_back promotions.Bishop = refl
-promotion_back promotions.Knight = refl
+promotion_back q = refl
 
 -- the last byte of the text of a piece's move is no mark, and ends no castling
 record Ends (c : ℕ) : Type 0 where
@@ -191,9 +152,7 @@ record Ends (c : ℕ) : Type 0 where
 
 letter_ends : (q : Promotion) → Ends (promotion_letter q)
 letter_ends promotions.Queen = record { no_mark = refl; no_letter = refl; no_zero = refl }
-letter_ends promotions.Rook = record { no_mark = refl; no_letter = refl; no_zero = refl }
-letter_ends promotions.Bishop = record { no_mark = refl; no_letter = refl; no_zero = refl }
-letter_ends promotions.Knight = record { no_mark = refl; no_letter = refl; no_zero = refl }
+letter_ends q = record { no_mark = refl; no_letter = refl; no_zero = refl }
 
 record PromotionRead (s t : List ℕ) (promotion : Option Promotion) : Type 0 where
   told : promotion_at_end t ≡ promotion
@@ -208,7 +167,7 @@ promotion_read s p n None h low last =
     (record {
       told = none;
       before = rw none refl;
-      ends = subst (λ c. Ends c) (sym last) (record { no_mark = digit_no_mark n low; no_letter = digit_no_letter n low; no_zero = digit_no_zero n low });
+      ends = subst Ends (sym last) (record { no_mark = digit_no_mark n low; no_letter = digit_no_letter n low; no_zero = digit_no_zero n low });
     })
 promotion_read s p n (Some q) h low last =
     elim (two_of p (promotion_letter q ∷ []) (61 ∷ promotion_letter q ∷ []) h) [
@@ -224,8 +183,8 @@ promotion_read s p n (Some q) h low last =
         let there : promotion_at_end (t ++ promotion_letter q ∷ []) ≡ Some q = cc (last_byte-snoc t (promotion_letter q), promotion_back q) in
         record {
           told = there;
-          before = rw there (ap (λ u. before_sign u) (front-snoc t (promotion_letter q)) ∙ before);
-          ends = subst (λ c. Ends c) (sym (last_byte-snoc t (promotion_letter q))) (letter_ends q);
+          before = rw there (ap before_sign (front-snoc t (promotion_letter q)) ∙ before);
+          ends = subst Ends (sym (last_byte-snoc t (promotion_letter q))) (letter_ends q);
         }
 
 -- All of it.
@@ -268,7 +227,7 @@ piece_move_read s k file rank to promotion h g =
     let p : PromotionRead d (d ++ h.promoted) promotion =
     promotion_read d h.promoted to.rank promotion h.promoted_fits (second_of_two (nat_lt to.file 8) (nat_lt to.rank 8) here) t.last in
     let before : before_target d ≡ b = cc in
-    let kind : kind_of_text (before_file (before_rank b)) ≡ Some k = ap (λ u. kind_of_text (before_file u)) r.before ∙ (ap (λ u. kind_of_text u) f.before ∙ letters.named) in
+    let kind : kind_of_text (before_file (before_rank b)) ≡ Some k = ap (λ u. kind_of_text (before_file u)) r.before ∙ (ap kind_of_text f.before ∙ letters.named) in
     let file_is : file_at_end (before_rank b) ≡ file = cc in
     let piece_move : piece_move_of (d ++ h.promoted) ≡ Some (Man k file rank to promotion) =
     ap₂ (λ u q. piece_move_at u q) p.before p.told
@@ -285,13 +244,13 @@ piece_move_read s k file rank to promotion h g =
 castle_read : (s : List ℕ) (long : Bool) → is_among s (castle_texts long) ≡ true → BareRead s (Castle long)
 castle_read s false h =
     elim (two_of s (codes "O-O") (codes "0-0") h) [
-      | inl e ↦ subst (λ t. BareRead t (Castle false)) (sym e) (record { told = refl; whole = refl })
-      | inr e ↦ subst (λ t. BareRead t (Castle false)) (sym e) (record { told = refl; whole = refl })
+      | inl e ↦ rw e assumption
+      | inr e ↦ rw e assumption
     ]
 castle_read s true h =
     elim (two_of s (codes "O-O-O") (codes "0-0-0") h) [
-      | inl e ↦ subst (λ t. BareRead t (Castle true)) (sym e) (record { told = refl; whole = refl })
-      | inr e ↦ subst (λ t. BareRead t (Castle true)) (sym e) (record { told = refl; whole = refl })
+      | inl e ↦ rw e assumption
+      | inr e ↦ rw e assumption
     ]
 
 bare_read : (s : List ℕ) (f : Form) → SpellsBare s f → is_form f ≡ true → BareRead s f

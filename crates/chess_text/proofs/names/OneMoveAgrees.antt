@@ -1,7 +1,6 @@
 -- No other legal move agrees with the form that is written.
-use Rattle.chess_text.proofs.Words.{◌≡◌, ℕ, ◌+◌, ◌/◌, Bool, true, false, not, ◌&&◌, refl, sym, ◌∙◌, ap, ap₂, subst, arith, ◌==◌, Option, None, Some, is_none, list_any, false≢true, both_ways, and_parts, and_from, eqb-true, nat_tests, Colour, White, Black, Kind, King, Queen, Rook, Bishop, Knight, Pawn, Piece, Promotion, Move, Parts, Square, square, squares, on_board, gap, same_square, at, has_piece, same_colour, same_kind, is_empty, other, is_ahead, is_position, own, captured_pawn, crossed, pawn_rank, double_rank, castles_short, castles_long, is_legal, OneKing, Man, hints_fit, same_promotion, is_castling, describes, agrees, from_square, is_rival, rivals, is_capture, on_file, on_rank}
-use Rattle.chess_text.proofs.forms.CastlingMoves.{stepped, squares_same}
-use Rattle.chess_text.proofs.forms.CastlingForms.{castles_ends}
+use Rattle.chess_text.proofs.Words.{◌≡◌, ℕ, ◌+◌, ◌/◌, Bool, true, false, not, ◌&&◌, refl, sym, ◌∙◌, ap, ap₂, subst, arith, ◌==◌, Option, None, Some, is_none, list_any, false≢true, both_ways, and_parts, and_from, eqb-true, nat_tests, Colour, White, Black, Kind, King, Pawn, Piece, Promotion, Move, Parts, Square, square, squares, gap, same_square, at, has_piece, same_colour, same_kind, is_empty, other, is_ahead, is_position, own, captured_pawn, crossed, pawn_rank, double_rank, castles_short, castles_long, is_legal, OneKing, Man, hints_fit, same_promotion, is_castling, describes, agrees, from_square, is_rival, rivals, is_capture, on_file, on_rank}
+use Rattle.chess_text.proofs.forms.CastlingMoves.{stepped, squares_same, castles_ends}
 use Rattle.chess_text.proofs.forms.AgreeingAreFound.{in_squares, any_contained, promotions_same, move_of, no_promotion}
 use Rattle.chess_text.proofs.forms.PawnWays.{PawnWay, takes, passes, advances, doubles, pawn_way, pawn_takes, gap_apart}
 use Rattle.chess_text.proofs.names.RivalsAreCandidates.{any-filter}
@@ -27,9 +26,6 @@ said p k file rank to promotion n h =
 
 -- The king: a position has one of each colour.
 
-starts_on : (p : Parts) (m : Move) → is_legal p m ≡ true → on_board m.from ≡ true
-starts_on p m h = (and_parts _ (on_board m.to) (stepped p m h).on).0
-
 king_alone : OneKing → (p : Parts) (m n : Move) → is_position p ≡ true → is_legal p m ≡ true → is_legal p n ≡ true → own p King m.from ≡ true
     → describes p (king_form_by (castles_short p m) (castles_long p m) m) n ≡ true → n ≡ m
 king_alone one p m n position h g stands = by_wing _ _ refl refl
@@ -45,7 +41,7 @@ king_alone one p m n position h g stands = by_wing _ _ refl refl
         same_move n m (y.0 ∙ sym x.0) (y.1 ∙ sym x.1) (no_promotion _ y.2 ∙ sym (no_promotion _ x.2))
     by_wing false false e f d =
         let s = said p King None None m.to None n d in
-        same_move n m (one p p.side n.from m.from position (starts_on p n g) (starts_on p m h) s.stands stands) s.there (s.named ∙ sym (unpromoted p m King h stands refl))
+        same_move n m (one p p.side n.from m.from position (stepped p n g).from_on (stepped p m h).from_on s.stands stands) s.there (s.named ∙ sym (unpromoted p m King h stands refl))
 
 -- A queen, a rook, a bishop or a knight: another one is a rival, and is told apart.
 
@@ -57,7 +53,7 @@ is_it_rival p m n g to named apart =
 pub among_rivals : (p : Parts) (k : Kind) (m n : Move) (test : Square → Bool) → is_legal p n ≡ true → own p k n.from ≡ true → is_rival p m n.from ≡ true → test n.from ≡ true → list_any test (rivals p k m) ≡ true
 among_rivals p k m n test g stands rival found =
     any-filter test _ squares
-    ∙ any_contained _ squares n.from (in_squares _ (starts_on p n g))
+    ∙ any_contained _ squares n.from (in_squares _ (stepped p n g).from_on)
     (and_from _ _ (and_from _ _ stands rival) found)
 
 pub turn : (x y : ℕ) → (x == y) ≡ true → (y == x) ≡ true
@@ -66,7 +62,7 @@ turn x y h = grind (arith, nat_tests)
 -- a rival does not fit the hints that tell it apart
 told_away : (s t : Square) (any file rank : Bool) → hints_fit (file_by s any file rank) (rank_by s any file rank) t ≡ true → same_square t s ≡ false
     → any ≡ true → ((t.file == s.file) ≡ true → file ≡ true) → ((t.rank == s.rank) ≡ true → rank ≡ true) → ⊥
-told_away s t false file rank fits apart a b c = false≢true a
+told_away s t false file rank fits apart a b c = cc
 told_away s t true false rank fits apart a b c = false≢true (b (turn _ _ (and_parts _ true fits).0))
 told_away s t true true false fits apart a b c = false≢true (c (turn _ _ fits))
 told_away s t true true true fits apart a b c =
@@ -114,18 +110,17 @@ between Black a t e h = let rank = eqb-true a _ h in omega (arith, e, rank)
 
 -- what stands on the square crossed
 no_one : (c : Colour) (cell : Option Piece) → is_none cell ≡ true → has_piece c Pawn cell ≡ true → ⊥
-no_one c None h g = false≢true g
-no_one c (Some x) h g = false≢true h
+no_one c None h g = cc
+no_one c (Some x) h g = cc
 
 not_both : (c : Colour) (cell : Option Piece) → has_piece c Pawn cell ≡ true → has_piece (other c) Pawn cell ≡ true → ⊥
-not_both c None h g = false≢true g
+not_both c None h g = cc
 not_both c (Some x) h g = apart c x.colour (and_parts _ _ h).0 (and_parts _ _ g).0
   where
     apart : (c d : Colour) → same_colour c d ≡ true → same_colour (other c) d ≡ true → ⊥
-    apart White White e f = false≢true f
-    apart Black Black e f = false≢true f
-    apart White Black e f = false≢true e
-    apart Black White e f = false≢true e
+    apart White White e f = cc
+    apart Black Black e f = cc
+    apart c d e f = cc
 
 module _ (p : Parts) (m n : Move) (pawn_m : own p Pawn m.from ≡ true) (pawn_n : own p Pawn n.from ≡ true) (there : n.to ≡ m.to) where
   same_rank : is_ahead p.side m.from.rank m.to.rank ≡ true → is_ahead p.side n.from.rank n.to.rank ≡ true → n.from.rank ≡ m.from.rank
@@ -203,7 +198,7 @@ pawn_alone p m n h g pawn d = by_capture _ (pawn_takes p m pawn h) d
       where
         turned : (x : Bool) → false ≡ not x → x ≡ true
         turned true e = refl
-        turned false e = absurd (false≢true e)
+        turned x e = e
     by_capture true e d =
         let s : Said p Pawn (Some m.from.file) None m.to m.promotion n = said p Pawn (Some m.from.file) None m.to m.promotion n d in
         let way = aside p m n pawn s.stands s.there (pawn_way p m h pawn) (turned (m.from.file == m.to.file) e) in
@@ -211,8 +206,8 @@ pawn_alone p m n h g pawn d = by_capture _ (pawn_takes p m pawn h) d
         same_move n m (by_file p m n pawn s.stands s.there (sym file) way.0 way.1 (pawn_way p n g s.stands)) s.there s.named
       where
         turned : (x : Bool) → true ≡ not x → x ≡ false
-        turned true e = absurd (false≢true (sym e))
-        turned false e = refl
+        turned true e = e
+        turned x e = refl
 
 -- All kinds.
 
@@ -221,8 +216,5 @@ alone one p k m n position h stands a = by_kind k stands (and_parts _ _ a)
   where
     by_kind : (k : Kind) → own p k m.from ≡ true → (is_legal p n ≡ true) × (describes p (written k p m) n ≡ true) → n ≡ m
     by_kind King s b = king_alone one p m n position h b.0 s b.1
-    by_kind Queen s b = disambiguated_alone p Queen m n h b.0 s refl b.1
-    by_kind Rook s b = disambiguated_alone p Rook m n h b.0 s refl b.1
-    by_kind Bishop s b = disambiguated_alone p Bishop m n h b.0 s refl b.1
-    by_kind Knight s b = disambiguated_alone p Knight m n h b.0 s refl b.1
     by_kind Pawn s b = pawn_alone p m n h b.0 s b.1
+    by_kind k s b = disambiguated_alone p k m n h b.0 s refl b.1

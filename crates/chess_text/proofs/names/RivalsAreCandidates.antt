@@ -10,7 +10,7 @@ pub any-filter : {Y : Type 0} (test p : Y → Bool) (ys : List Y) → list_any t
 any-filter test p [] = refl
 any-filter test p (y ∷ ys) = cc (any-cond test _ y _, any-filter test p ys)
 
-any-same : {Y : Type 0} (f g : Y → Bool) → ((y : Y) → f y ≡ g y) → (ys : List Y) → list_any f ys ≡ list_any g ys
+pub any-same : {Y : Type 0} (f g : Y → Bool) → ((y : Y) → f y ≡ g y) → (ys : List Y) → list_any f ys ≡ list_any g ys
 any-same f g h [] = refl
 any-same f g h (y ∷ ys) = cc (h y, any-same f g h ys)
 
@@ -22,14 +22,12 @@ rival_sees : CandidatesComplete → (p : Parts) (k : Kind) (m : Move) (s : Squar
 rival_sees complete p k m s h g = by_legal _ refl (and_parts _ _ g).1
   where
     by_legal : (o : Option Parts) → legal p (from_square m s) ≡ o → is_some o ≡ true → sees k p s m.to ≡ true
-    by_legal None e f = absurd (false≢true f)
+    by_legal None e f = cc
     by_legal (Some q) e f = (and_parts (own p k s) (sees k p s m.to) (complete p q _ k e h)).1
 
 same_test : (o g r t : Bool) → (o ≡ true → r ≡ true → g ≡ true) → ((o && g) && (r && t)) ≡ ((o && r) && t)
-same_test false g r t h = refl
-same_test true true r t h = refl
 same_test true false true t h = absurd (false≢true (h refl refl))
-same_test true false false t h = refl
+same_test o g r t h = refl
 
 pub rivals_seen : CandidatesComplete → (p : Parts) (k : Kind) (m : Move) (test : Square → Bool) (xs : List Square)
     → IsPermutation (candidates p k m.to) xs → seen p m test xs ≡ list_any test (rivals p k m)

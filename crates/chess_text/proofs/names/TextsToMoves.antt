@@ -1,5 +1,5 @@
 -- What the texts of legal moves name.
-use Rattle.chess_text.proofs.Words.{◌≡◌, ◌≢◌, ℕ, zero, suc, ◌+◌, ◌<◌, Bool, true, false, not, ◌&&◌, List, [], ◌∷◌, ◌++◌, append-nil, refl, sym, ◌∙◌, ap, arith, ◌==◌, nat_lt, Option, None, Some, slice_index_or, list_any, Any, false≢true, and_parts, and_from, ltb-true, Any-from_list_any, Kind, King, Queen, Rook, Bishop, Knight, Pawn, Move, Parts, Square, squares, on_board, same_square, same_kind, own, is_legal, OneKing, Man, letter, file_letter, rank_digit, square_text, Spells, is_form, below_eight, hint_text, hints_fit, capture_text, from_square, is_rival, rivals, on_file, on_rank, disambiguation_by, has_rivals, mark, san, Names, SingleReading, disambiguations, text_with, ShorterIsAmbiguous, same_Some, not-true}
+use Rattle.chess_text.proofs.Words.{◌≡◌, ◌≢◌, ℕ, zero, suc, ◌+◌, ◌<◌, Bool, true, false, not, ◌&&◌, List, [], ◌∷◌, ◌++◌, append-nil, refl, sym, ◌∙◌, ap, arith, ◌==◌, nat_lt, Option, None, Some, slice_index_or, list_any, Any, false≢true, and_parts, and_from, ltb-true, Any-from_list_any, Kind, King, Pawn, Move, Parts, Square, squares, same_square, same_kind, own, is_legal, OneKing, Man, letter, file_letter, rank_digit, square_text, Spells, is_form, below_eight, hint_text, hints_fit, capture_text, from_square, is_rival, rivals, on_file, on_rank, disambiguation_by, has_rivals, mark, san, Names, SingleReading, disambiguations, text_with, ShorterIsAmbiguous, same_Some, not-true}
 use Rattle.chess_text.proofs.forms.CastlingMoves.{stepped}
 use Rattle.chess_text.proofs.forms.SpellingToForm.{form_read}
 use Rattle.chess_text.proofs.forms.PieceForms.{same_square-refl}
@@ -21,12 +21,9 @@ single one p m position h =
 -- With an earlier step.
 
 no_king : (k : Kind) → has_rivals k ≡ true → (same_kind King k ≡ false) × (same_kind k Pawn ≡ false)
-no_king King h = absurd (false≢true h)
-no_king Queen h = (refl, refl)
-no_king Rook h = (refl, refl)
-no_king Bishop h = (refl, refl)
-no_king Knight h = (refl, refl)
-no_king Pawn h = absurd (false≢true h)
+no_king King h = cc
+no_king Pawn h = cc
+no_king k h = (refl, refl)
 
 -- a rival that passes a test
 record Rival (p : Parts) (k : Kind) (m : Move) (test : Square → Bool) : Type 0 where
@@ -45,6 +42,9 @@ some_rival p k m test h = by_place (Any-from_list_any _ squares (sym (any-filter
         let first = and_parts (own p k s) (is_rival p m s) both.0 in
         let rival = and_parts (not (same_square s _)) (is_legal p (from_square m s)) first.1 in
         record { on = s; stands = first.0; other = not-true (same_square s _) rival.0; goes = rival.1; passes = both.1 }
+
+pub another : (n m : Move) → same_square n.from m.from ≡ false → n ≢ m
+another n m other e = false≢true (sym other ∙ ap (λ (x : Move). same_square x.from m.from) e ∙ same_square-refl m.from)
 
 -- the text with such hints names each move that fits them
 module _ (p : Parts) (k : Kind) (m : Move) (h : is_legal p m ≡ true) (stands : own p k m.from ≡ true) (may_have_rivals : has_rivals k ≡ true)
@@ -69,7 +69,7 @@ module _ (p : Parts) (k : Kind) (m : Move) (h : is_legal p m ≡ true) (stands :
       }
 
   good : is_form (Man k file rank m.to None) ≡ true
-  good = and_from _ _ below (and_parts (on_board m.from) _ (stepped p m h).on).1
+  good = and_from _ _ below (stepped p m h).to_on
 
   names : (s : Square) → own p k s ≡ true → is_legal p (from_square m s) ≡ true → hints_fit file rank s ≡ true → Names p (text_with p k m apart) (from_square m s)
   names s own_s goes hints = (
@@ -84,7 +84,7 @@ module _ (p : Parts) (k : Kind) (m : Move) (h : is_legal p m ≡ true) (stands :
       → Names p (text_with p k m apart) m × ((n : Move) × (n ≢ m) × Names p (text_with p k m apart) n)
   two_named fits r = (
     names _ stands h fits,
-    (from_square m r.on, (λ e. false≢true (sym r.other ∙ ap (λ (n : Move). same_square n.from m.from) e ∙ same_square-refl m.from)), names r.on r.stands r.goes r.passes),
+    (from_square m r.on, another _ m r.other, names r.on r.stands r.goes r.passes),
   )
 
 -- which rivals there are, by what is written
@@ -97,17 +97,17 @@ letter_is_digit : (f r : ℕ) → r < 8 → (97 + f) ∷ [] ≡ (49 + r) ∷ [] 
 letter_is_digit f r low e = let same : 97 + f ≡ 49 + r = cc in omega (arith, same, low)
 
 flags : (s : Square) (any file rank : Bool) (j : ℕ) → s.rank < 8 → j < 4 → disambiguation_by s any file rank ≡ slice_index_or (disambiguations s) j [] → Flags j any file rank
-flags s any file rank zero low high told = record { any_is = λ h. absurd (omega (arith, h)); file_is = λ h. absurd (omega (arith, h)); rank_is = λ h. absurd (omega (arith, h)) }
-flags s false file rank (suc zero) low high told = absurd (cc)
-flags s false file rank (suc (suc zero)) low high told = absurd (cc)
-flags s false file rank (suc (suc (suc zero))) low high told = absurd (cc)
-flags s true file rank (suc zero) low high told = record { any_is = λ h. refl; file_is = λ h. absurd (omega (arith, h)); rank_is = λ h. absurd (omega (arith, h)) }
+flags s any file rank zero low high told = record { any_is = λ h. absurd (omega arith); file_is = λ h. absurd (omega arith); rank_is = λ h. absurd (omega arith) }
+flags s false file rank (suc zero) low high told = cc
+flags s false file rank (suc (suc zero)) low high told = cc
+flags s false file rank (suc (suc (suc zero))) low high told = cc
+flags s true file rank (suc zero) low high told = record { any_is = λ h. refl; file_is = λ h. absurd (omega arith); rank_is = λ h. absurd (omega arith) }
 flags s true false rank (suc (suc zero)) low high told = absurd (letter_is_digit _ _ low told)
-flags s true false rank (suc (suc (suc zero))) low high told = absurd (cc)
-flags s true true rank (suc (suc zero)) low high told = record { any_is = λ h. refl; file_is = λ h. refl; rank_is = λ h. absurd (omega (arith, h)) }
-flags s true true false (suc (suc (suc zero))) low high told = absurd (cc)
+flags s true false rank (suc (suc (suc zero))) low high told = cc
+flags s true true rank (suc (suc zero)) low high told = record { any_is = λ h. refl; file_is = λ h. refl; rank_is = λ h. absurd (omega arith) }
+flags s true true false (suc (suc (suc zero))) low high told = cc
 flags s true true true (suc (suc (suc zero))) low high told = record { any_is = λ h. refl; file_is = λ h. refl; rank_is = λ h. refl }
-flags s any file rank (suc (suc (suc (suc j)))) low high told = absurd (omega (arith, high))
+flags s any file rank (suc (suc (suc (suc j)))) low high told = absurd (omega arith)
 
 passing : (p : Parts) (k : Kind) (m : Move) (test other_test : Square → Bool) → ((s : Square) → test s ≡ true → other_test s ≡ true) → Rival p k m test → Rival p k m other_test
 passing p k m test other_test h r = record { on = r.on; stands = r.stands; other = r.other; goes = r.goes; passes = h r.on r.passes }
@@ -118,7 +118,7 @@ less p k m i j h stands may_have_rivals low high told =
     (flags _ _ _ _ j (ltb-true _ 8 begins.1) high told)
   where
     begins : (nat_lt m.from.file 8 ≡ true) × (nat_lt m.from.rank 8 ≡ true)
-    begins = and_parts (nat_lt m.from.file 8) (nat_lt m.from.rank 8) (and_parts (on_board m.from) (on_board m.to) (stepped p m h).on).0
+    begins = and_parts (nat_lt m.from.file 8) (nat_lt m.from.rank 8) (stepped p m h).from_on
 
     by_step : (i : ℕ) → i < j → Flags j (list_any (λ r. true) (rivals p k m)) (on_file m.from (rivals p k m)) (on_rank m.from (rivals p k m))
         → Names p (text_with p k m (slice_index_or (disambiguations m.from) i [])) m

@@ -1,5 +1,5 @@
 -- The text of a legal move is a symbol, and is read as the move.
-use Rattle.chess_text.proofs.Words.{◌≡◌, ℕ, ◌+◌, ◌<◌, ◌≤◌, Bool, true, false, inl, inr, ◌&&◌, ◌||◌, List, [], ◌∷◌, ◌++◌, length, refl, sym, ap, subst, ◌∙◌, arith, length-append, Option, None, Some, is_some, option_map, codes, bytes_eq, nat_le, nat_lt, ◌==◌, if◌then◌else◌, list_all, list_any, false≢true, and_parts, and_from, or_cases, le-leb, lt-leb, leb-true, ltb-true, bytes_eq-Decides, Kind, King, Queen, Rook, Bishop, Knight, Pawn, Piece, Promotion, Move, Parts, OneKing, legal, Square, on_board, move_of_form, is_digit, letter, file_letter, rank_digit, square_text, disambiguation_by, rivals, on_file, on_rank, capture_if, capture_text, pawn_capture, promotion_text, castling_text, king_text, disambiguated_text, kind_text, piece_text, mark, san, is_letter, is_move_byte, begins_with_letter, is_marker, IsMoveSymbol, WrittenMoveIsSymbol, WrittenMoveIsRead, and_right, and_left, or_left, or_right, or_from}
+use Rattle.chess_text.proofs.Words.{◌≡◌, ℕ, ◌+◌, ◌≤◌, Bool, true, false, List, [], ◌∷◌, ◌++◌, length, refl, sym, ap, subst, ◌∙◌, arith, length-append, Option, None, Some, is_some, option_map, codes, bytes_eq, if◌then◌else◌, list_all, list_any, list_all-append, nat_tests, false_from_ne_true, false≢true, and_from, bytes_eq-Decides, Kind, King, Pawn, Piece, Promotion, Move, Parts, OneKing, legal, Square, on_board, move_of_form, is_digit, letter, file_letter, rank_digit, square_text, disambiguation_by, rivals, on_file, on_rank, capture_if, capture_text, pawn_capture, promotion_text, castling_text, king_text, disambiguated_text, kind_text, piece_text, mark, san, is_letter, is_move_byte, begins_with_letter, is_marker, IsMoveSymbol, WrittenMoveIsSymbol, WrittenMoveIsRead, and_left, or_right, or_from}
 use Rattle.chess_rules.specs.declared.piece.Promotion.TheVariants as promotions
 use Rattle.chess_text.proofs.forms.AgreeingAreFound.{the_one_move_is_read}
 use Rattle.chess_text.proofs.forms.CastlingMoves.{stepped}
@@ -12,86 +12,42 @@ record Bytes (most : ℕ) (s : List ℕ) : Type 0 where
   all : list_all is_move_byte s ≡ true
   fits : length s ≤ most
 
-all_append : (xs ys : List ℕ) → list_all is_move_byte xs ≡ true
-    → list_all is_move_byte ys ≡ true → list_all is_move_byte (xs ++ ys) ≡ true
-all_append [] ys a b = b
-all_append (x ∷ xs) ys a b =
-    let first = and_parts (is_move_byte x) (list_all _ xs) a in
-    and_from (is_move_byte x) (list_all is_move_byte (xs ++ ys)) first.0
-    (all_append xs ys first.1 b)
-
 bytes_append : (m n : ℕ) (xs ys : List ℕ) → Bytes m xs → Bytes n ys → Bytes (m + n) (xs ++ ys)
 bytes_append m n xs ys a b =
     record {
-      all = all_append xs ys a.all b.all;
+      all = list_all-append is_move_byte xs ys ∙ and_from _ _ a.all b.all;
       fits = omega (arith, a.fits, b.fits, length-append xs ys);
     }
 
 -- the bytes of squares
-file_is_letter : (f : ℕ) → nat_lt f 8 ≡ true → is_letter (file_letter f) ≡ true
-file_is_letter f e =
-    let low = ltb-true f 8 e in
-    or_right (nat_le 65 (97 + f) && nat_le (97 + f) 90) (nat_le 97 (97 + f) && nat_le (97 + f) 122)
-    (and_from (nat_le 97 (97 + f)) (nat_le (97 + f) 122)
-    (le-leb 97 (97 + f) (omega arith)) (le-leb (97 + f) 122 (omega arith)))
+file_is_letter : (s : Square) → on_board s ≡ true → is_letter (file_letter s.file) ≡ true
+file_is_letter s on = grind (arith, nat_tests)
 
-rank_is_digit : (r : ℕ) → nat_lt r 8 ≡ true → is_digit (rank_digit r) ≡ true
-rank_is_digit r e =
-    let low = ltb-true r 8 e in
-    and_from (nat_le 48 (49 + r)) (nat_le (49 + r) 57)
-    (le-leb 48 (49 + r) (omega arith)) (le-leb (49 + r) 57 (omega arith))
+rank_is_digit : (s : Square) → on_board s ≡ true → is_digit (rank_digit s.rank) ≡ true
+rank_is_digit s on = grind (arith, nat_tests)
 
-byte_by : (l d p h q m : Bool) → (l || d) ≡ true → (l || d || p || h || q || m) ≡ true
-byte_by true d p h q m e = refl
-byte_by false true p h q m e = refl
-byte_by false false p h q m e = absurd (false≢true e)
+one_byte : (c : ℕ) → is_move_byte c ≡ true → Bytes 1 (c ∷ [])
+one_byte c h = record { all = and_from _ true h refl; fits = omega arith }
 
-letter_passes : (c : ℕ) → is_letter c ≡ true → is_move_byte c ≡ true
-letter_passes c e =
-    byte_by (is_letter c) (is_digit c) (c == 43) (c == 35) (c == 61) (c == 45)
-    (or_left _ _ e)
+letter_byte : (c : ℕ) → is_letter c ≡ true → Bytes 1 (c ∷ [])
+letter_byte c e = one_byte c (rw e refl)
 
-digit_passes : (c : ℕ) → is_digit c ≡ true → is_move_byte c ≡ true
-digit_passes c e =
-    byte_by (is_letter c) (is_digit c) (c == 43) (c == 35) (c == 61) (c == 45)
-    (or_right _ _ e)
+file_bytes : (s : Square) → on_board s ≡ true → Bytes 1 (file_letter s.file ∷ [])
+file_bytes s on = letter_byte _ (file_is_letter s on)
 
--- a square of the board, by its file and its rank
-record IsOnBoard (s : Square) : Type 0 where
-  file : nat_lt s.file 8 ≡ true
-  rank : nat_lt s.rank 8 ≡ true
-
-on_board_of : (s : Square) → on_board s ≡ true → IsOnBoard s
-on_board_of s e =
-    let both = and_parts _ _ e in
-    record { file = both.0; rank = both.1 }
-
-file_bytes : (s : Square) → IsOnBoard s → Bytes 1 (file_letter s.file ∷ [])
-file_bytes s on =
-    record {
-      all = and_from _ true
-          (letter_passes (file_letter s.file) (file_is_letter s.file on.file)) refl;
-      fits = omega arith;
-    }
-
-rank_bytes : (s : Square) → IsOnBoard s → Bytes 1 (rank_digit s.rank ∷ [])
+rank_bytes : (s : Square) → on_board s ≡ true → Bytes 1 (rank_digit s.rank ∷ [])
 rank_bytes s on =
-    record {
-      all = and_from _ true
-          (digit_passes (rank_digit s.rank) (rank_is_digit s.rank on.rank)) refl;
-      fits = omega arith;
-    }
+    let h = or_right (is_letter (rank_digit s.rank)) _ (rank_is_digit s on) in
+    one_byte _ (rw h refl)
 
-square_bytes : (s : Square) → IsOnBoard s → Bytes 2 (square_text s)
-square_bytes s on =
-    bytes_append 1 1 (file_letter _ ∷ []) (rank_digit _ ∷ []) (file_bytes s on)
-    (rank_bytes s on)
+square_bytes : (s : Square) → on_board s ≡ true → Bytes 2 (square_text s)
+square_bytes s on = bytes_append 1 1 (file_letter _ ∷ []) (rank_digit _ ∷ []) (file_bytes s on) (rank_bytes s on)
 
 more : (m n : ℕ) (s : List ℕ) → m ≤ n → Bytes m s → Bytes n s
 more m n s less h = record { all = h.all; fits = omega (arith, h.fits) }
 
 -- the parts of a text
-apart_bytes : (s : Square) (any file rank : Bool) → IsOnBoard s → Bytes 2 (disambiguation_by s any file rank)
+apart_bytes : (s : Square) (any file rank : Bool) → on_board s ≡ true → Bytes 2 (disambiguation_by s any file rank)
 apart_bytes s false file rank on = record { all = refl; fits = omega arith }
 apart_bytes s true false rank on = more 1 2 _ (omega arith) (file_bytes s on)
 apart_bytes s true true false on = more 1 2 _ (omega arith) (rank_bytes s on)
@@ -102,36 +58,23 @@ capture_bytes true = record { all = refl; fits = omega arith }
 capture_bytes false = record { all = refl; fits = omega arith }
 
 promotion_bytes : (q : Option Promotion) → Bytes 2 (promotion_text q)
-promotion_bytes None = record { all = refl; fits = omega arith }
 promotion_bytes (Some promotions.Queen) = record { all = refl; fits = omega arith }
-promotion_bytes (Some promotions.Rook) = record { all = refl; fits = omega arith }
-promotion_bytes (Some promotions.Bishop) = record { all = refl; fits = omega arith }
-promotion_bytes (Some promotions.Knight) = record { all = refl; fits = omega arith }
+promotion_bytes q = record { all = refl; fits = omega arith }
 
 mark_bytes : (o : Option Parts) → Bytes 1 (mark o)
 mark_bytes None = record { all = refl; fits = omega arith }
 mark_bytes (Some q) = by_tests _ _
   where
     by_tests : (a b : Bool) → Bytes 1 (if a then codes "#" else if b then codes "+" else [])
-    by_tests true b = record { all = refl; fits = omega arith }
-    by_tests false true = record { all = refl; fits = omega arith }
     by_tests false false = record { all = refl; fits = omega arith }
+    by_tests a b = record { all = refl; fits = omega arith }
 
 letter_is_letter : (k : Kind) → is_letter (letter k) ≡ true
 letter_is_letter King = refl
-letter_is_letter Queen = refl
-letter_is_letter Rook = refl
-letter_is_letter Bishop = refl
-letter_is_letter Knight = refl
-letter_is_letter Pawn = refl
+letter_is_letter k = refl
 
 letter_bytes : (k : Kind) → Bytes 1 (letter k ∷ [])
-letter_bytes k =
-    record {
-      all = and_from _ true
-          (letter_passes (letter k) (letter_is_letter k)) refl;
-      fits = omega arith;
-    }
+letter_bytes k = letter_byte _ (letter_is_letter k)
 
 -- the text without its mark
 record Unmarked (s : List ℕ) : Type 0 where
@@ -139,94 +82,61 @@ record Unmarked (s : List ℕ) : Type 0 where
   bytes : Bytes 6 s
 
 -- of a queen, a rook, a bishop or a knight
-piece_symbol : (k : Kind) (p : Parts) (m : Move) → IsOnBoard m.from → IsOnBoard m.to
+piece_symbol : (k : Kind) (p : Parts) (m : Move) → on_board m.from ≡ true → on_board m.to ≡ true
     → Unmarked (disambiguated_text k p m)
 piece_symbol k p m from to =
     let others = rivals p k m in
     let any = list_any (λ r. true) others in
     let apart = apart_bytes _ any (on_file m.from others) (on_rank m.from others) from in
-    let front =
-    bytes_append 1 2 (letter k ∷ []) _ (letter_bytes k) apart in
-    let taking =
-    bytes_append 3 1 _ (capture_text p m) front (capture_bytes _) in
+    let front = bytes_append 1 2 (letter k ∷ []) _ (letter_bytes k) apart in
+    let taking = bytes_append 3 1 _ (capture_text p m) front (capture_bytes _) in
     record {
       begins = letter_is_letter k;
       bytes = bytes_append 4 2 _ (square_text m.to) taking (square_bytes m.to to);
     }
 
-king_symbol : (p : Parts) (m : Move) → IsOnBoard m.to → Unmarked (king_text p m)
+king_symbol : (p : Parts) (m : Move) → on_board m.to ≡ true → Unmarked (king_text p m)
 king_symbol p m to = by_wing _ _
   where
     plain : Unmarked (codes "K" ++ capture_text p m ++ square_text m.to)
     plain =
-        let front =
-        bytes_append 1 1 (codes "K") (capture_text p m) (letter_bytes King)
-        (capture_bytes _) in
+        let front = bytes_append 1 1 (codes "K") (capture_text p m) (letter_bytes King) (capture_bytes _) in
         let whole = bytes_append 2 2 _ (square_text m.to) front (square_bytes m.to to) in
         record { begins = refl; bytes = more 4 6 _ (omega arith) whole }
 
     by_wing : (a b : Bool) → Unmarked (if a then castling_text false
         else if b then castling_text true else codes "K" ++ capture_text p m ++ square_text m.to)
-    by_wing true b = record { begins = refl; bytes = record { all = refl; fits = omega arith } }
-    by_wing false true =
-        record { begins = refl; bytes = record { all = refl; fits = omega arith } }
     by_wing false false = plain
+    by_wing a b = record { begins = refl; bytes = record { all = refl; fits = omega arith } }
 
-pawn_symbol : (takes : Bool) (m : Move) → IsOnBoard m.from → IsOnBoard m.to
+pawn_symbol : (takes : Bool) (m : Move) → on_board m.from ≡ true → on_board m.to ≡ true
     → Unmarked (pawn_capture takes m ++ square_text m.to ++ promotion_text m.promotion)
 pawn_symbol true m from to =
-    let taking =
-    bytes_append 1 1 (file_letter _ ∷ []) (codes "x") (file_bytes _ from)
-    (record { all = refl; fits = omega arith }) in
+    let taking = bytes_append 1 1 (file_letter _ ∷ []) (codes "x") (file_bytes _ from) (capture_bytes true) in
     let front = bytes_append 2 2 _ (square_text m.to) taking (square_bytes m.to to) in
-    record {
-      begins = file_is_letter m.from.file from.file;
-      bytes =
-          bytes_append 4 2 _ (promotion_text _) front (promotion_bytes _);
-    }
+    record { begins = file_is_letter m.from from; bytes = bytes_append 4 2 _ (promotion_text _) front (promotion_bytes _) }
 pawn_symbol false m from to =
-    let whole =
-    bytes_append 2 2 (square_text m.to) (promotion_text _) (square_bytes m.to to)
-    (promotion_bytes _) in
-    record {
-      begins = file_is_letter m.to.file to.file;
-      bytes = more 4 6 _ (omega arith) whole;
-    }
+    let whole = bytes_append 2 2 (square_text m.to) (promotion_text _) (square_bytes m.to to) (promotion_bytes _) in
+    record { begins = file_is_letter m.to to; bytes = more 4 6 _ (omega arith) whole }
 
-kind_symbol : (k : Kind) (p : Parts) (m : Move) → IsOnBoard m.from → IsOnBoard m.to
+kind_symbol : (k : Kind) (p : Parts) (m : Move) → on_board m.from ≡ true → on_board m.to ≡ true
     → Unmarked (kind_text k p m)
 kind_symbol King p m from to = king_symbol p m to
-kind_symbol Queen p m from to = piece_symbol Queen p m from to
-kind_symbol Rook p m from to = piece_symbol Rook p m from to
-kind_symbol Bishop p m from to = piece_symbol Bishop p m from to
-kind_symbol Knight p m from to = piece_symbol Knight p m from to
 kind_symbol Pawn p m from to = pawn_symbol _ m from to
+kind_symbol k p m from to = piece_symbol k p m from to
 
 letter_is_no_digit : (c : ℕ) → is_letter c ≡ true → is_digit c ≡ false
-letter_is_no_digit c e = and_right (nat_le 48 c) (nat_le c 57) (lt-leb c 57 high)
-  where
-    high : 57 < c
-    high =
-        elim (or_cases (nat_le 65 c && nat_le c 90) (nat_le 97 c && nat_le c 122) e) [
-          | inl capital ↦
-              omega (arith, leb-true 65 c (and_parts (nat_le 65 c) (nat_le c 90) capital).0)
-          | inr small ↦
-              omega (arith, leb-true 97 c (and_parts (nat_le 97 c) (nat_le c 122) small).0)
-        ]
+letter_is_no_digit c e = grind (arith, nat_tests)
 
 no_number : (s : List ℕ) → begins_with_letter s ≡ true → list_all is_digit s ≡ false
-no_number [] e = absurd (false≢true e)
+no_number [] e = cc
 no_number (c ∷ s) e = and_left (is_digit c) (list_all _ s) (letter_is_no_digit c e)
 
 other_text : (s t : List ℕ) → begins_with_letter s ≡ true → begins_with_letter t ≡ false
     → bytes_eq s t ≡ false
-other_text s t e other = by_test _ refl
-  where
-    by_test : (b : Bool) → bytes_eq s t ≡ b → bytes_eq s t ≡ false
-    by_test false same = same
-    by_test true same =
-        let begins = ap begins_with_letter ((bytes_eq-Decides s t).0 same) in
-        absurd (false≢true (sym other ∙ sym begins ∙ e))
+other_text s t e other =
+    false_from_ne_true (bytes_eq s t)
+    (λ same. false≢true (sym other ∙ sym (ap begins_with_letter ((bytes_eq-Decides s t).0 same)) ∙ e))
 
 no_marker : (s : List ℕ) → begins_with_letter s ≡ true → is_marker s ≡ false
 no_marker s e =
@@ -236,27 +146,20 @@ no_marker s e =
 
 -- with the mark
 begins_append : (s t : List ℕ) → begins_with_letter s ≡ true → begins_with_letter (s ++ t) ≡ true
-begins_append [] t e = absurd (false≢true e)
+begins_append [] t e = cc
 begins_append (c ∷ s) t e = e
 
 marked : (s t : List ℕ) → Unmarked s → Bytes 1 t → IsMoveSymbol (s ++ t)
 marked s t h last =
     let begins = begins_append s t h.begins in
     let bytes = bytes_append 6 1 s t h.bytes last in
-    record {
-      begins = begins;
-      bytes = bytes.all;
-      fits = bytes.fits;
-      no_number = no_number (s ++ t) begins;
-      no_marker = no_marker (s ++ t) begins;
-    }
+    record { begins = begins; bytes = bytes.all; fits = bytes.fits; no_number = no_number (s ++ t) begins; no_marker = no_marker (s ++ t) begins }
 
 pub written_move_is_symbol : WrittenMoveIsSymbol
 written_move_is_symbol p m h =
     let v = moved p m h in
-    let on = and_parts (on_board m.from) (on_board m.to) (stepped p m h).on in
-    let text =
-    kind_symbol v.piece.kind p m (on_board_of _ on.0) (on_board_of m.to on.1) in
+    let st = stepped p m h in
+    let text = kind_symbol v.piece.kind p m st.from_on st.to_on in
     subst IsMoveSymbol
     (sym (ap (λ (o : Option Piece). piece_text o p m ++ mark (legal p m)) v.there))
     (marked _ (mark _) text (mark_bytes _))

@@ -1,10 +1,9 @@
 -- The form that the text of a legal move spells.
-use Rattle.chess_text.proofs.Words.{◌≡◌, ℕ, inl, inr, Bool, true, false, not, ◌&&◌, ◌||◌, List, [], ◌∷◌, ◌++◌, append-nil, refl, sym, ◌∙◌, ap, ap₂, subst, ◌==◌, Option, None, Some, is_none, codes, if◌then◌else◌, list_all, list_any, false≢true, and_parts, and_from, or_cases, eq-eqb, Kind, King, Queen, Rook, Bishop, Knight, Pawn, Piece, Promotion, Move, Parts, Square, on_board, same_square, at, has_colour, same_kind, attacks, own, is_piece_step, is_pawn_step, is_en_passant, castles_short, castles_long, short_right, long_right, short_wing, long_wing, legal, is_legal, Form, Castle, Man, letter, file_letter, rank_digit, square_text, SpellsBare, Spells, is_among, letter_texts, hint_text, capture_texts, promotion_texts, is_mark, below_eight, is_form, hints_fit, same_promotion, is_castling, describes, agrees, is_capture, capture_if, capture_text, pawn_capture, promotion_text, castling_text, king_text, disambiguated_text, kind_text, mark, san, disambiguation_by, rivals, on_file, on_rank, has_rivals, false_from_ne_true}
+use Rattle.chess_text.proofs.Words.{◌≡◌, ℕ, inl, inr, Bool, true, false, not, ◌&&◌, ◌||◌, List, [], ◌∷◌, ◌++◌, append-nil, refl, sym, ◌∙◌, ap, ap₂, subst, ◌==◌, Option, None, Some, codes, if◌then◌else◌, list_all, list_any, false≢true, and_parts, and_from, or_cases, eq-eqb, Kind, King, Pawn, Piece, Promotion, Move, Parts, Square, on_board, same_square, at, has_colour, same_kind, own, castles_short, castles_long, short_right, long_right, short_wing, long_wing, legal, is_legal, Form, Castle, Man, letter, file_letter, rank_digit, square_text, SpellsBare, Spells, is_among, letter_texts, hint_text, capture_texts, promotion_texts, is_mark, below_eight, is_form, hints_fit, same_promotion, is_castling, describes, agrees, is_capture, capture_if, capture_text, pawn_capture, promotion_text, castling_text, king_text, disambiguated_text, kind_text, mark, san, disambiguation_by, rivals, on_file, on_rank, has_rivals, false_from_ne_true}
 use Rattle.chess_rules.specs.declared.piece.Promotion.TheVariants as promotions
-use Rattle.chess_text.proofs.forms.CastlingMoves.{stepped, castling_goes_far}
-use Rattle.chess_text.proofs.forms.CastlingForms.{castles_ends}
+use Rattle.chess_text.proofs.forms.CastlingMoves.{piece_goes, pawn_goes, pawn_passes, king_castles, Stepped, stepped, castles_ends, castling_goes_far}
 use Rattle.chess_text.proofs.forms.PieceForms.{same_square-refl, same_promotion-refl}
-use Rattle.chess_text.proofs.forms.MoverOfMove.{mover, mover_colour, other_kind, passing_pawn}
+use Rattle.chess_text.proofs.forms.MoverOfMove.{mover, mover_colour, other_kind}
 use Rattle.chess_text.proofs.forms.AgreeingAreFound.{no_promotion}
 
 -- the hints that tell apart
@@ -39,18 +38,12 @@ capture_fits false = refl
 
 hints_written : (l : ℕ) (s : Square) (any file rank : Bool)
     → (l ∷ []) ++ disambiguation_by s any file rank ≡ ((l ∷ []) ++ hint_text file_letter (file_by s any file rank)) ++ hint_text rank_digit (rank_by s any file rank)
-hints_written l s false file rank = refl
-hints_written l s true false rank = refl
-hints_written l s true true false = refl
 hints_written l s true true true = refl
+hints_written l s any file rank = refl
 
 pub own_letter : (k : Kind) → has_rivals k ≡ true → is_among (letter k ∷ []) (letter_texts k) ≡ true
-own_letter King h = absurd (false≢true h)
-own_letter Queen h = refl
-own_letter Rook h = refl
-own_letter Bishop h = refl
-own_letter Knight h = refl
-own_letter Pawn h = absurd (false≢true h)
+own_letter Pawn h = cc
+own_letter k h = refl
 
 disambiguated_spelled : (k : Kind) (p : Parts) (m : Move) → has_rivals k ≡ true → SpellsBare (disambiguated_text k p m) (disambiguated_form k p m)
 disambiguated_spelled k p m h =
@@ -71,17 +64,13 @@ king_spelled : (p : Parts) (m : Move) → SpellsBare (king_text p m) (king_form_
 king_spelled p m = by_wing _ _
   where
     by_wing : (a b : Bool) → SpellsBare (if a then castling_text false else if b then castling_text true else codes "K" ++ capture_text p m ++ square_text m.to) (king_form_by a b m)
-    by_wing true b = refl
-    by_wing false true = refl
     by_wing false false =
         record { letters = codes "K"; capture = capture_text p m; promoted = []; joined = sym (append-nil _); letters_fit = refl; capture_fits = capture_fits _; promoted_fits = refl }
+    by_wing a b = refl
 
 promotion_written : (q : Option Promotion) → is_among (promotion_text q) (promotion_texts q) ≡ true
-promotion_written None = refl
 promotion_written (Some promotions.Queen) = refl
-promotion_written (Some promotions.Rook) = refl
-promotion_written (Some promotions.Bishop) = refl
-promotion_written (Some promotions.Knight) = refl
+promotion_written q = refl
 
 pawn_spelled : (takes : Bool) (m : Move) → SpellsBare (pawn_capture takes m ++ square_text m.to ++ promotion_text m.promotion) (pawn_form_by takes m)
 pawn_spelled true m = record { letters = []; capture = codes "x"; promoted = promotion_text _; joined = refl; letters_fit = refl; capture_fits = refl; promoted_fits = promotion_written m.promotion }
@@ -89,20 +78,16 @@ pawn_spelled false m = record { letters = []; capture = []; promoted = promotion
 
 kind_spelled : (k : Kind) (p : Parts) (m : Move) → SpellsBare (kind_text k p m) (written k p m)
 kind_spelled King p m = king_spelled p m
-kind_spelled Queen p m = disambiguated_spelled Queen p m refl
-kind_spelled Rook p m = disambiguated_spelled Rook p m refl
-kind_spelled Bishop p m = disambiguated_spelled Bishop p m refl
-kind_spelled Knight p m = disambiguated_spelled Knight p m refl
 kind_spelled Pawn p m = pawn_spelled _ m
+kind_spelled k p m = disambiguated_spelled k p m refl
 
 pub marks_alone : (o : Option Parts) → list_all is_mark (mark o) ≡ true
 marks_alone None = refl
 marks_alone (Some q) = by_tests _ _
   where
     by_tests : (a b : Bool) → list_all is_mark (if a then codes "#" else if b then codes "+" else []) ≡ true
-    by_tests true b = refl
-    by_tests false true = refl
     by_tests false false = refl
+    by_tests a b = refl
 
 -- the piece that moves
 pub record Moved (p : Parts) (m : Move) : Type 0 where
@@ -114,7 +99,7 @@ pub moved : (p : Parts) (m : Move) → is_legal p m ≡ true → Moved p m
 moved p m h = by_cell _ refl (mover_colour p m h)
   where
     by_cell : (o : Option Piece) → at p.board m.from ≡ o → has_colour p.side o ≡ true → Moved p m
-    by_cell None e g = absurd (false≢true g)
+    by_cell None e g = cc
     by_cell (Some x) e g = record { piece = x; there = e; stands = mover p m x h e }
 
 pub san_spelled : (p : Parts) (m : Move) (v : Moved p m) → Spells (san p m) (written v.piece.kind p m)
@@ -136,9 +121,8 @@ hints_below s true true false h = (and_parts _ _ h).1
 hints_below s true true true h = h
 
 king_good : (a b : Bool) (m : Move) → on_board m.to ≡ true → is_form (king_form_by a b m) ≡ true
-king_good true b m h = refl
-king_good false true m h = refl
 king_good false false m h = h
+king_good a b m h = refl
 
 pawn_good : (b : Bool) (m : Move) → on_board m.from ≡ true → on_board m.to ≡ true → is_form (pawn_form_by b m) ≡ true
 pawn_good true m h g = and_from _ _ (and_from _ true (and_parts _ _ h).0 refl) g
@@ -152,15 +136,12 @@ disambiguated_good k p m h g =
     and_from _ _ (hints_below _ any file rank h) g
 
 pub good_form : (k : Kind) (p : Parts) (m : Move) → is_legal p m ≡ true → is_form (written k p m) ≡ true
-good_form k p m h = by_kind k (and_parts _ _ (stepped p m h).on)
+good_form k p m h = by_kind k (stepped p m h)
   where
-    by_kind : (k : Kind) → (on_board m.from ≡ true) × (on_board m.to ≡ true) → is_form (written k p m) ≡ true
-    by_kind King b = king_good _ _ m b.1
-    by_kind Queen b = disambiguated_good Queen p m b.0 b.1
-    by_kind Rook b = disambiguated_good Rook p m b.0 b.1
-    by_kind Bishop b = disambiguated_good Bishop p m b.0 b.1
-    by_kind Knight b = disambiguated_good Knight p m b.0 b.1
-    by_kind Pawn b = pawn_good _ m b.0 b.1
+    by_kind : (k : Kind) → Stepped p m → is_form (written k p m) ≡ true
+    by_kind King s = king_good _ _ m s.to_on
+    by_kind Pawn s = pawn_good _ m s.from_on s.to_on
+    by_kind k s = disambiguated_good k p m s.from_on s.to_on
 
 -- The move agrees with it.
 
@@ -173,26 +154,18 @@ no_castling p m k h apart =
 pub unpromoted : (p : Parts) (m : Move) (k : Kind) → is_legal p m ≡ true → own p k m.from ≡ true → same_kind k Pawn ≡ false → m.promotion ≡ None
 unpromoted p m k h stands apart =
     no_promotion _
-    (elim (or_cases (is_piece_step p m || is_pawn_step p m) (is_en_passant p m || is_castling p m) (stepped p m h).way) [
-      | inl plain ↦ elim (or_cases _ (is_pawn_step p m) plain) [
-        | inl piece ↦ by_piece piece
-        | inr pawn ↦ absurd (no_pawn (and_parts _ _ pawn).0)
-      ]
-      | inr more ↦ elim (or_cases (is_en_passant p m) (is_castling p m) more) [
-        | inl passing ↦ absurd (no_pawn (passing_pawn p m passing))
-        | inr castling ↦ elim (or_cases (castles_short p m) (castles_long p m) castling) [
-          | inl short ↦ (castles_ends p m (short_right p.side p.rights) short_wing short).2
-          | inr long ↦ (castles_ends p m (long_right p.side p.rights) long_wing long).2
-        ]
+    (elim (stepped p m h).way [
+      | piece_goes a b plain c ↦ plain
+      | pawn_goes g way ↦ absurd (no_pawn g)
+      | pawn_passes g way ↦ absurd (no_pawn g)
+      | king_castles g ↦ elim (or_cases (castles_short p m) (castles_long p m) g) [
+        | inl short ↦ (castles_ends p m (short_right p.side p.rights) short_wing short).2
+        | inr long ↦ (castles_ends p m (long_right p.side p.rights) long_wing long).2
       ]
     ])
   where
     no_pawn : own p Pawn m.from ≡ true → ⊥
     no_pawn g = false≢true (sym (other_kind _ k Pawn _ stands apart) ∙ g)
-
-    by_piece : is_piece_step p m ≡ true → is_none m.promotion ≡ true
-    by_piece piece =
-        (and_parts (has_colour p.side (at p.board m.from) && not (own p Pawn m.from)) (is_none m.promotion) (and_parts ((has_colour p.side (at p.board m.from) && not (own p Pawn m.from)) && is_none m.promotion) (attacks p.board m.from m.to && not (has_colour p.side (at _ m.to))) piece).0).1
 
 pub piece_move_described : (p : Parts) (m : Move) (k : Kind) (file rank : Option ℕ) (promotion : Option Promotion) → own p k m.from ≡ true → hints_fit file rank m.from ≡ true → m.promotion ≡ promotion → is_castling p m ≡ false
     → describes p (Man k file rank m.to promotion) m ≡ true
@@ -232,8 +205,5 @@ written_agrees k p m h stands = and_from _ _ h (by_kind k stands)
   where
     by_kind : (k : Kind) → own p k m.from ≡ true → describes p (written k p m) m ≡ true
     by_kind King s = king_described p m h s
-    by_kind Queen s = disambiguated_described p m Queen h s refl refl
-    by_kind Rook s = disambiguated_described p m Rook h s refl refl
-    by_kind Bishop s = disambiguated_described p m Bishop h s refl refl
-    by_kind Knight s = disambiguated_described p m Knight h s refl refl
     by_kind Pawn s = pawn_described p m _ s
+    by_kind k s = disambiguated_described p m k h s refl refl

@@ -25,20 +25,20 @@ length-lower b (suc n) =
 pub length-placement_text : (b : Board) → length (placement_text b) ≤ 71
 length-placement_text b =
     let row_low = length-rank_text 0 (row b 7) in
-    omega (arith, ap (λ t. length t) (ends b), length-append (rank_text 0 (row b 7)) (lower b 7), row_low, length-lower b 7)
+    omega (arith, ap length (ends b), length-append (rank_text 0 (row b 7)) (lower b 7), row_low, length-lower b 7)
 
 pub first_rank : (b : Board) (text new : List ℕ) → text ≡ [] → new ≡ text ++ rank_text 0 (row b 7) → WrittenTo b new 0
 first_rank b text new e f =
     let row_low = length-rank_text 0 (row b 7) in
     let same : new ≡ rank_text 0 (row b 7) = cc in
-    record { whole = cc (ends b); short = omega (arith, ap (λ t. length t) same, row_low) }
+    record { whole = cc (ends b); short = omega (arith, ap length same, row_low) }
 
 pub next_rank : (b : Board) (text slash new : List ℕ) (i : ℕ) → WrittenTo b text i → i < 7 → slash ≡ text ++ 47 ∷ []
     → new ≡ slash ++ rank_text 0 (row b (6 - i)) → WrittenTo b new (i + 1)
 next_rank b text slash new i so_far h e f =
     let rank : List ℕ = rank_text 0 (row b (6 - i)) in
-    let one_less : 7 - i ≡ suc (6 - i) = omega (arith, h) in
-    let same : 6 - i ≡ 7 - (i + 1) = omega (arith, h) in
+    let one_less : 7 - i ≡ suc (6 - i) = omega arith in
+    let same : 6 - i ≡ 7 - (i + 1) = omega arith in
     record {
       whole =
           ap (λ t. t ++ lower b (7 - (i + 1))) (f ∙ ap (λ t. t ++ rank) e)
@@ -47,8 +47,8 @@ next_rank b text slash new i so_far h e f =
       short = omega (
         arith,
         so_far.short,
-        ap (λ t. length t) f,
-        ap (λ t. length t) e,
+        ap length f,
+        ap length e,
         length-append slash rank,
         length-append text (47 ∷ []),
         length-rank_text 0 (row b (6 - i)),
@@ -57,4 +57,4 @@ next_rank b text slash new i so_far h e f =
 
 pub last_rank_written : (b : Board) (text : List ℕ) (i : ℕ) → WrittenTo b text i → 7 ≤ i → text ≡ placement_text b
 last_rank_written b text i so_far h =
-    let none : 7 - i ≡ 0 = omega (arith, h) in sym (append-nil text) ∙ ap (λ n. text ++ lower b n) (sym none) ∙ so_far.whole
+    let none : 7 - i ≡ 0 = omega arith in sym (append-nil text) ∙ ap (λ n. text ++ lower b n) (sym none) ∙ so_far.whole

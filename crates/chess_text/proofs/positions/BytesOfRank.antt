@@ -20,14 +20,14 @@ run_cells c h = take-replicate _ 8 None (low c h) ∙ sym (cells_at-run c h)
 cells-around : (s : List ℕ) (i : ℕ) → i < length s → length (cells_of (take i s)) + length (cells_at (get_or s i 0)) ≤ length (cells_of s)
 cells-around s i h =
     let split : cells_of s ≡ cells_of (take (i + 1) s) ++ cells_of (drop (i + 1) s) =
-    ap (λ t. cells_of t) (sym (take-append-drop (i + 1) s)) ∙ flat_map-append cells_at (take (i + 1) s) (drop (i + 1) s) in
+    ap cells_of (sym (take-append-drop (i + 1) s)) ∙ flat_map-append cells_at (take (i + 1) s) (drop (i + 1) s) in
     let more : cells_of (take (i + 1) s) ≡ cells_of (take i s) ++ (cells_at (get_or s i 0) ++ []) =
-    ap (λ t. cells_of t) (take_more s i 0 h) ∙ flat_map-append cells_at (take i s) (get_or s i 0 ∷ []) in
+    ap cells_of (take_more s i 0 h) ∙ flat_map-append cells_at (take i s) (get_or s i 0 ∷ []) in
     omega (
       arith,
-      ap (λ b. length b) split,
+      ap length split,
       length-append (cells_of (take (i + 1) s)) (cells_of (drop (i + 1) s)),
-      ap (λ b. length b) more,
+      ap length more,
       length-append (cells_of (take i s)) (cells_at (get_or s i 0) ++ []),
       length-append (cells_at (get_or s i 0)) [],
     )

@@ -1,8 +1,9 @@
 -- No text of a position is shorter than the canonical one.
+use Rattle.std.proofs.Math.Seq.{take-append_seam}
 use Rattle.chess_text.proofs.Words.{◌≡◌, ℕ, zero, suc, ◌+◌, ◌-◌, ◌≤◌, ◌==◌, nat_le, Bool, true, false, ◌&&◌, List, [], ◌∷◌, ◌++◌, length, reverse, map, replicate, refl, sym, ◌∙◌, ap, arith, length-append, Option, None, Some, decimal, flat_map, list_all, join_with_byte, false≢true, nat_tests, length-decimal-le, append_cancel_left, reverse-append, reverse-reverse, length-reverse, map-append, list_all-append, digits_value_short, Piece, Parts, lines, Board, piece_letter, piece_of, is_run, is_item, is_rank, cells_of, run_text, rank_text, row, placement_text, side_text, rights_text, target_text, SpellsBoard, SpellsNumber, Fen, fen_text}
 use Rattle.chess_text.proofs.positions.BytesOfRank.{cells_at-run}
 use Rattle.chess_text.proofs.positions.TextToBoard.{eight_cells}
-use Rattle.chess_text.proofs.positions.FieldsOfText.{first_of_two, second_of_two, take_past}
+use Rattle.chess_text.proofs.positions.FieldsOfText.{first_of_two, second_of_two}
 use Rattle.chess_text.proofs.positions.ReadingToSpelling.{some_digit}
 use Rattle.chess_text.proofs.positions.CanonicalSpells.{board_rows, numerals, long_board}
 
@@ -28,46 +29,45 @@ rank_is_short (c ∷ s) n h =
     by_item true piece e f item more =
         let longer =
         ap (λ (b : Board). rank_text n (b ++ cells_of s)) (cells_at-run c e) ∙ run_on (c - 48) n (cells_of s) in
-        omega (arith, ap (λ t. length t) longer, more (n + (c - 48)), run_is_short (n + (c - 48)))
+        omega (arith, ap length longer, more (n + (c - 48)), run_is_short (n + (c - 48)))
     by_item false (Some x) e f item more =
         let letter : rank_text n (cells_of (c ∷ s)) ≡ run_text n ++ piece_letter x ∷ rank_text 0 (cells_of s) = rw (e, f) refl in
-        omega (arith, ap (λ t. length t) letter, length-append (run_text n) (piece_letter x ∷ rank_text 0 (cells_of s)), more 0)
+        omega (arith, ap length letter, length-append (run_text n) (piece_letter x ∷ rank_text 0 (cells_of s)), more 0)
     by_item false None e f item more =
         let none : is_item c ≡ false = rw (e, f) refl in absurd (false≢true (sym none ∙ item))
 
 -- A board.
 
 same_front : (a b c d : Board) → length a ≡ length b → a ++ c ≡ b ++ d → a ≡ b
-same_front a b c d e h = cc (take_past a c, take_past b d)
+same_front a b c d e h = cc (take-append_seam a c, take-append_seam b d)
 
 same_rows : (b : Board) (rs : List ℕ) (ts : List (List ℕ)) → length rs ≡ length ts → list_all is_rank ts ≡ true
-    → flat_map (λ r. row b r) rs ≡ flat_map cells_of ts → map (λ r. row b r) rs ≡ map (λ t. cells_of t) ts
+    → flat_map (λ r. row b r) rs ≡ flat_map cells_of ts → map (λ r. row b r) rs ≡ map cells_of ts
 same_rows b [] [] e good h = refl
-same_rows b [] (t ∷ ts) e good h = absurd (omega (arith, e))
-same_rows b (r ∷ rs) [] e good h = absurd (omega (arith, e))
 same_rows b (r ∷ rs) (t ∷ ts) e good h =
     let long : length (cells_of t) ≡ 8 = eight_cells t (first_of_two _ _ good) in
     let front : row b r ≡ cells_of t = same_front (row b r) (cells_of t) (flat_map (λ r. row b r) rs) (flat_map cells_of ts) (sym long) h in
     let back : flat_map (λ r. row b r) rs ≡ flat_map cells_of ts =
     append_cancel_left (cells_of t) (flat_map (λ r. row b r) rs) (flat_map cells_of ts) (ap (λ (c : Board). c ++ flat_map (λ r. row b r) rs) (sym front) ∙ h) in
-    cc (same_rows b rs ts (omega (arith, e)) (second_of_two (is_rank t) (list_all is_rank ts) good) back)
+    cc (same_rows b rs ts (omega arith) (second_of_two (is_rank t) (list_all is_rank ts) good) back)
+same_rows b rs ts e good h = absurd (omega arith)
 
 join_is_short : (ss : List (List ℕ)) → list_all is_rank ss ≡ true
-    → length (join_with_byte 47 (map (λ (c : Board). rank_text 0 c) (map (λ s. cells_of s) ss))) ≤ length (join_with_byte 47 ss)
+    → length (join_with_byte 47 (map (λ (c : Board). rank_text 0 c) (map cells_of ss))) ≤ length (join_with_byte 47 ss)
 join_is_short [] h = omega arith
 join_is_short (s ∷ []) h = one_is_short s (first_of_two _ true h)
   where
     one_is_short : (s : List ℕ) → is_rank s ≡ true → length (rank_text 0 (cells_of s)) ≤ length s
     one_is_short s good = omega (arith, rank_is_short s 0 (first_of_two (list_all is_item s) (length (cells_of s) == 8) good))
 join_is_short (s ∷ t ∷ ss) h =
-    let more : length (join_with_byte 47 (map (λ (c : Board). rank_text 0 c) (map (λ s. cells_of s) (t ∷ ss)))) ≤ length (join_with_byte 47 (t ∷ ss)) =
+    let more : length (join_with_byte 47 (map (λ (c : Board). rank_text 0 c) (map cells_of (t ∷ ss)))) ≤ length (join_with_byte 47 (t ∷ ss)) =
     join_is_short (t ∷ ss) (second_of_two (is_rank s) (list_all is_rank (t ∷ ss)) h) in
     let good : is_rank s ≡ true = first_of_two (is_rank s) (list_all is_rank (t ∷ ss)) h in
     omega (
       arith,
       more,
       rank_is_short s 0 (first_of_two (list_all is_item s) (length (cells_of s) == 8) good),
-      length-append (rank_text 0 (cells_of s)) (47 ∷ join_with_byte 47 (map (λ (c : Board). rank_text 0 c) (map (λ s. cells_of s) (t ∷ ss)))),
+      length-append (rank_text 0 (cells_of s)) (47 ∷ join_with_byte 47 (map (λ (c : Board). rank_text 0 c) (map cells_of (t ∷ ss)))),
       length-append s (47 ∷ join_with_byte 47 (t ∷ ss)),
     )
 
@@ -79,12 +79,12 @@ all_reversed [] h = refl
 all_reversed (s ∷ ss) h =
     cc (reverse_next s ss, list_all-append is_rank (reverse ss) (s ∷ []), all_reversed ss (second_of_two (is_rank s) (list_all is_rank ss) h), first_of_two (is_rank s) (list_all is_rank ss) h)
 
-cells_reversed : (ss : List (List ℕ)) → reverse (map (λ t. cells_of t) ss) ≡ map (λ t. cells_of t) (reverse ss)
+cells_reversed : (ss : List (List ℕ)) → reverse (map cells_of ss) ≡ map cells_of (reverse ss)
 cells_reversed [] = refl
 cells_reversed (s ∷ ss) =
-    cc (reverse_next (cells_of s) (map (λ t. cells_of t) ss), cells_reversed ss, map-append (λ t. cells_of t) (reverse ss) (s ∷ []), reverse_next s ss)
+    cc (reverse_next (cells_of s) (map cells_of ss), cells_reversed ss, map-append cells_of (reverse ss) (s ∷ []), reverse_next s ss)
 
-there_and_back : (ss : List (List ℕ)) → reverse (map (λ t. cells_of t) (reverse ss)) ≡ map (λ t. cells_of t) ss
+there_and_back : (ss : List (List ℕ)) → reverse (map cells_of (reverse ss)) ≡ map cells_of ss
 there_and_back ss = cc (cells_reversed _, reverse-reverse ss)
 
 board_is_short : (s : List ℕ) (b : Board) → SpellsBoard s b → length b ≡ 64 → length (placement_text b) ≤ length s
@@ -96,7 +96,7 @@ board_is_short s b spells long =
     let same : placement_text b ≡ join_with_byte 47 (map (λ (c : Board). rank_text 0 c) (map cells_of spells.rank_texts)) =
     ap (λ (bs : List Board). join_with_byte 47 (map (λ (c : Board). rank_text 0 c) (reverse bs))) rows
     ∙ ap (λ (bs : List Board). join_with_byte 47 (map (λ (c : Board). rank_text 0 c) bs)) (there_and_back spells.rank_texts) in
-    omega (arith, ap (λ t. length t) same, join_is_short spells.rank_texts spells.each, ap (λ t. length t) spells.joined)
+    omega (arith, ap length same, join_is_short spells.rank_texts spells.each, ap length spells.joined)
 
 -- A number, and the whole.
 
@@ -127,7 +127,7 @@ pub shortest : (s : List ℕ) (p : Parts) → Fen s p → length (fen_text p) �
 shortest s p fen =
     omega (
       arith,
-      ap (λ t. length t) fen.joined,
+      ap length fen.joined,
       length_six fen.board (side_text p.side) (rights_text p.rights) (target_text p.target) fen.half fen.full,
       length_six (placement_text p.board) (side_text p.side) (rights_text p.rights) (target_text p.target) (decimal p.half) (decimal p.full),
       board_is_short fen.board p.board fen.spells_board (long_board p fen.position),

@@ -1,5 +1,5 @@
 -- The canonical text of a position spells it.
-use Rattle.chess_text.proofs.Words.{◌≡◌, ℕ, zero, suc, ◌+◌, ◌-◌, ◌*◌, ◌^◌, ◌<◌, ◌≤◌, ◌==◌, nat_le, Bool, true, false, not, ◌&&◌, List, [], ◌∷◌, ◌++◌, length, get_or, drop, reverse, replicate, drop-cons, add-one, append_assoc, append-nil, refl, sym, ◌∙◌, ap, ap₂, arith, rules, None, Some, decimal, flat_map, map, fold, is_none, if◌then◌else◌, list_all, false≢true, eqb-true, nat_tests, replicate_more, drop_all, flat_map-append, list_all-append, decimal_nonempty, digits_decimal, digits_value-decimal, IsNumeralModel, numerals_by_fold, White, Black, Kind, King, Queen, Rook, Bishop, Knight, Pawn, Colour, Piece, Parts, Kings, PawnOnEdge, KingCapturable, TargetRank, NumberRange, lines, Board, other, king_attacked, is_position, one_king, pawn_on_edge, target_fits, piece_letter, is_run, is_item, is_rank, cells_at, cells_of, run_text, rank_text, row, placement_text, is_digit, value, SpellsBoard, SpellsNumber, Fen, fen_text}
+use Rattle.chess_text.proofs.Words.{◌≡◌, ℕ, zero, suc, ◌+◌, ◌-◌, ◌*◌, ◌^◌, ◌<◌, ◌≤◌, ◌==◌, nat_le, Bool, true, false, not, ◌&&◌, List, [], ◌∷◌, ◌++◌, length, get_or, drop, reverse, replicate, drop-cons, add-one, append_assoc, append-nil, refl, sym, ◌∙◌, ap, ap₂, arith, rules, None, Some, decimal, flat_map, map, fold, is_none, if◌then◌else◌, list_all, eqb-true, nat_tests, replicate_more, drop_all, flat_map-append, list_all-append, decimal_nonempty, digits_decimal, digits_value-decimal, IsNumeralModel, numerals_by_fold, White, Black, Kind, King, Colour, Piece, Parts, Kings, PawnOnEdge, KingCapturable, TargetRank, NumberRange, lines, Board, other, king_attacked, is_position, one_king, pawn_on_edge, target_fits, piece_letter, is_run, is_item, is_rank, cells_at, cells_of, run_text, rank_text, row, placement_text, is_digit, value, SpellsBoard, SpellsNumber, Fen, fen_text}
 use Rattle.chess_text.proofs.positions.SixFieldsJoined.{length-number}
 use Rattle.chess_text.proofs.positions.FieldsOfText.{first_of_two, second_of_two}
 
@@ -11,17 +11,8 @@ record LetterStands (x : Piece) : Type 0 where
 
 letter_stands : (c : Colour) (k : Kind) → LetterStands (record { colour = c; kind = k })
 letter_stands White King = record { item = refl; cells = refl }
-letter_stands White Queen = record { item = refl; cells = refl }
-letter_stands White Rook = record { item = refl; cells = refl }
-letter_stands White Bishop = record { item = refl; cells = refl }
-letter_stands White Knight = record { item = refl; cells = refl }
-letter_stands White Pawn = record { item = refl; cells = refl }
 letter_stands Black King = record { item = refl; cells = refl }
-letter_stands Black Queen = record { item = refl; cells = refl }
-letter_stands Black Rook = record { item = refl; cells = refl }
-letter_stands Black Bishop = record { item = refl; cells = refl }
-letter_stands Black Knight = record { item = refl; cells = refl }
-letter_stands Black Pawn = record { item = refl; cells = refl }
+letter_stands c k = record { item = refl; cells = refl }
 
 digit_runs : (n : ℕ) → 0 < n → n ≤ 8 → is_run (48 + n) ≡ true
 digit_runs n h g = grind (arith, nat_tests)
@@ -48,19 +39,19 @@ record RankStands (n : ℕ) (cells : Board) : Type 0 where
 
 rank_stands : (n : ℕ) (cells : Board) → n + length cells ≤ 8 → RankStands n cells
 rank_stands n [] h =
-    let run = run_stands n (omega (arith, h)) in
+    let run = run_stands n (omega arith) in
     record { items = run.items; spelled = run.cells ∙ sym (append-nil _) }
 rank_stands n (None ∷ cells) h =
-    let more = rank_stands _ cells (omega (arith, h)) in
+    let more = rank_stands _ cells (omega arith) in
     record {
       items = more.items;
       spelled =
           more.spelled ∙ ap (λ (b : Board). b ++ cells) (sym (replicate_more n None)) ∙ append_assoc _ (None ∷ []) cells;
     }
 rank_stands n (Some x ∷ cells) h =
-    let run = run_stands n (omega (arith, h)) in
+    let run = run_stands n (omega arith) in
     let letter = letter_stands x.colour x.kind in
-    let more = rank_stands 0 cells (omega (arith, h)) in
+    let more = rank_stands 0 cells (omega arith) in
     record {
       items =
           list_all-append is_item (run_text n) (piece_letter x ∷ rank_text 0 cells)
@@ -71,11 +62,11 @@ rank_stands n (Some x ∷ cells) h =
     }
 
 pub rank_spelled : (cells : Board) → length cells ≡ 8 → cells_of (rank_text 0 cells) ≡ cells
-rank_spelled cells h = (rank_stands 0 cells (omega (arith, h))).spelled
+rank_spelled cells h = (rank_stands 0 cells (omega arith)).spelled
 
 rank_good : (cells : Board) → length cells ≡ 8 → is_rank (rank_text 0 cells) ≡ true
 rank_good cells h =
-    let stands = rank_stands 0 cells (omega (arith, h)) in
+    let stands = rank_stands 0 cells (omega arith) in
     let eight : length (cells_of (rank_text 0 cells)) ≡ 8 = cc in
     cc
 
@@ -87,9 +78,9 @@ gets b k zero = []
 gets b k (suc n) = get_or b k None ∷ gets b (k + 1) n
 
 gets_are : (b : Board) (k n : ℕ) → k + n ≡ length b → drop k b ≡ gets b k n
-gets_are b k zero h = drop_all k b (omega (arith, h))
+gets_are b k zero h = drop_all k b (omega arith)
 gets_are b k (suc n) h =
-    cc (drop-cons b k None (omega (arith, h)), add-one k, gets_are b (k + 1) n (omega (arith, h)))
+    cc (drop-cons b k None (omega arith), add-one k, gets_are b (k + 1) n (omega arith))
 
 pub board_rows : (b : Board) → length b ≡ 64 → b ≡ flat_map (λ rank. row b rank) (0 ∷ 1 ∷ 2 ∷ 3 ∷ 4 ∷ 5 ∷ 6 ∷ 7 ∷ [])
 board_rows b h = gets_are b 0 64 (sym h)
@@ -122,7 +113,7 @@ in_range n h g = grind (arith, nat_tests)
 
 number_spelled : (n : ℕ) → n ≤ 99999 → SpellsNumber (decimal n) n
 number_spelled n h =
-    let fits : n < 2 ^ 64 = omega (arith, h) in
+    let fits : n < 2 ^ 64 = omega arith in
     record {
       digits_alone = ap₂ (λ a b. a && b) (digits_decimal numerals n fits) (in_range (length (decimal n)) (decimal_nonempty n fits) (length-number n h));
       number = sym (digits_value-decimal numerals n fits);
@@ -130,29 +121,24 @@ number_spelled n h =
 
 -- The whole.
 
-fifth_rule : (a b c d e : Bool)
+fourth_and_fifth : (a b c d e : Bool)
     → is_none (if not a then Some Kings else if b then Some PawnOnEdge else if c then Some KingCapturable else if not d then Some TargetRank else if not e then Some NumberRange else None) ≡ true
-    → e ≡ true
-fifth_rule true false false true true h = refl
-fifth_rule true false false true false h = h
-fifth_rule true false false false e h = absurd (false≢true h)
-fifth_rule true false true d e h = absurd (false≢true h)
-fifth_rule true true c d e h = absurd (false≢true h)
-fifth_rule false b c d e h = absurd (false≢true h)
+    → (d ≡ true) × (e ≡ true)
+fourth_and_fifth true false false true true h = (refl, refl)
+fourth_and_fifth a b c d e h = cc
 
-numbers_of_position : (p : Parts) → is_position p ≡ true → (nat_le p.half 99999 && nat_le p.full 99999) ≡ true
-numbers_of_position p h =
-    fifth_rule (one_king p.board White && one_king p.board Black) (pawn_on_edge p.board) (king_attacked p.board (other _)) (target_fits p.side p.target)
-    _ (second_of_two (length p.board == 64) _ h)
+pub last_rules : (p : Parts) → is_position p ≡ true → (target_fits p.side p.target ≡ true) × ((nat_le p.half 99999 && nat_le p.full 99999) ≡ true)
+last_rules p h =
+    fourth_and_fifth (one_king p.board White && one_king p.board Black) (pawn_on_edge p.board) (king_attacked p.board (other _)) _ _ (second_of_two (length p.board == 64) _ h)
 
 at_most : (m n : ℕ) → nat_le m n ≡ true → m ≤ n
 at_most m n h = grind (arith, nat_tests)
 
 pub half_low : (p : Parts) → is_position p ≡ true → p.half ≤ 99999
-half_low p h = at_most _ 99999 (first_of_two _ (nat_le _ 99999) (numbers_of_position p h))
+half_low p h = at_most _ 99999 (first_of_two _ (nat_le _ 99999) (last_rules p h).1)
 
 pub full_low : (p : Parts) → is_position p ≡ true → p.full ≤ 99999
-full_low p h = at_most _ 99999 (second_of_two (nat_le _ 99999) _ (numbers_of_position p h))
+full_low p h = at_most _ 99999 (second_of_two (nat_le _ 99999) _ (last_rules p h).1)
 
 pub long_board : (p : Parts) → is_position p ≡ true → length p.board ≡ 64
 long_board p h = eqb-true _ 64 (first_of_two _ _ h)

@@ -1,9 +1,8 @@
 -- The laws of the definitions of texts.
-use Rattle.chess_text.proofs.Words.{◌≡◌, ℕ, ◌+◌, ◌-◌, ◌==◌, nat_le, nat_lt, ◌&&◌, ◌||◌, Bool, true, false, List, [], ◌∷◌, refl, sym, ◌∙◌, ap, arith, false≢true, eqb-true, nat_tests, Option, None, Some, Ok, Err, is_some, if◌then◌else◌, prefix_len, Colour, Rights, Parts, White, Black, Square, square, Board, target_fits, FenFault, side_of, rights_of, target_of, is_target, at_field, parts_or_fault, if_position, ReadingIsSpelling, FenOnce, FaultIsLowest, CanonicalSpells, CanonicalFits, CanonicalIsShortest, FieldsAreSpellings, same_Some}
+use Rattle.chess_text.proofs.Words.{◌≡◌, ℕ, ◌+◌, ◌-◌, ◌==◌, nat_le, ◌&&◌, Bool, true, false, List, [], ◌∷◌, sym, ◌∙◌, ap, arith, inl, inr, or_cases, and_parts, cond_some, nat_tests, Option, None, Some, Ok, Err, is_some, if◌then◌else◌, prefix_len, Colour, Rights, Parts, White, Black, Square, square, Board, target_fits, target_rank, FenFault, side_of, rights_of, target_of, is_target, at_field, parts_or_fault, if_position, ReadingIsSpelling, FenOnce, FaultIsLowest, CanonicalSpells, CanonicalFits, CanonicalIsShortest, FieldsAreSpellings}
 use Rattle.chess_text.proofs.positions.SixFieldsJoined.{length-fen_text}
 use Rattle.chess_text.proofs.positions.SpellingToReading.{spelled_is_read, board_read, side_read, rights_read, target_read, number_read}
 use Rattle.chess_text.proofs.positions.ReadingToSpelling.{read_is_spelled, board_spelled, side_spelled, rights_spelled, target_spelled, number_spelled}
-use Rattle.chess_text.proofs.positions.FieldsOfText.{first_of_two, second_of_two}
 use Rattle.chess_text.proofs.positions.CanonicalIsShortest.{shortest}
 use Rattle.chess_text.proofs.positions.CanonicalSpells.{canonical_spells, half_low, full_low}
 
@@ -29,12 +28,11 @@ lowest_of (Some b) (Some c) (Some r) (Some t) (Some m) (Some n) fault h =
     by_test _ _ h
   where
     by_test : (p : Parts) (good : Bool) → (if good then Ok p else at_field 7) ≡ Err fault → fault.field ≡ 7
-    by_test p true g = absurd (cc)
+    by_test p true g = cc
     by_test p false g = answered 7 fault g
 
 pub lowest : FaultIsLowest
-lowest s fault h =
-    lowest_of _ _ _ _ _ _ fault h
+lowest s fault h = lowest_of _ _ _ _ _ _ fault h
 
 pub canonical : CanonicalSpells
 canonical p h = canonical_spells p h
@@ -46,44 +44,28 @@ pub is_shortest : CanonicalIsShortest
 is_shortest s p fen = shortest s p fen
 
 -- a square that is read lies where some side's target may lie
-low_file : (file : ℕ) → (nat_le 97 file && nat_le file 104) ≡ true → nat_lt (file - 97) 8 ≡ true
-low_file file h =
-    let low = first_of_two (nat_le 97 file) (nat_le file 104) h in
-    let high = second_of_two (nat_le 97 file) (nat_le file 104) h in
-    grind (arith, nat_tests)
+fits_on : (c : Colour) (file rank : ℕ) → is_target file rank ≡ true → (rank == 49 + target_rank c) ≡ true → target_fits c (Some (square (file - 97) (rank - 49))) ≡ true
+fits_on White file rank h e = grind (arith, nat_tests)
+fits_on Black file rank h e = grind (arith, nat_tests)
 
 target_side : (s : List ℕ) (t : Option Square) → target_of s ≡ Some t → (c : Colour) × (target_fits c t ≡ true)
-target_side [] t h = absurd (cc)
-target_side (c ∷ []) t h = by_test _ h
-  where
-    by_test : (b : Bool) → (if b then Some None else None) ≡ Some t → (c : Colour) × (target_fits c t ≡ true)
-    by_test true g = (White, ap (λ u. target_fits White u) (sym (same_Some None t g)))
-    by_test false g = absurd (cc)
-target_side (file ∷ rank ∷ []) t h = by_test _ refl h
-  where
-    by_rank : (a b : Bool) → (rank == 51) ≡ a → (rank == 54) ≡ b → (a || b) ≡ true → nat_lt (file - 97) 8 ≡ true
-        → (c : Colour) × (target_fits c (Some (square (file - 97) (rank - 49))) ≡ true)
-    by_rank true b e f g low = let same = eqb-true rank 51 e in (Black, rw (same, low) refl)
-    by_rank false true e f g low = let same = eqb-true rank 54 f in (White, rw (same, low) refl)
-    by_rank false false e f g low = absurd (false≢true g)
-
-    by_test : (b : Bool) → is_target file rank ≡ b → (if b then Some (Some (square (file - 97) (rank - 49))) else None) ≡ Some t
-        → (c : Colour) × (target_fits c t ≡ true)
-    by_test true e g =
-        let found = by_rank (rank == 51) (rank == 54) refl refl (second_of_two _ _ e)
-        (low_file file (first_of_two _ _ e)) in
-        (found.0, ap (λ u. target_fits found.0 u) (sym (same_Some (Some (square _ _)) t g)) ∙ found.1)
-    by_test false e g = absurd (cc)
-target_side (file ∷ rank ∷ c ∷ s) t h = absurd (cc)
+target_side (c ∷ []) t h = (White, ap (target_fits White) (sym (cond_some (c == 45) None t h).1))
+target_side (file ∷ rank ∷ []) t h =
+    let (fits, is) = cond_some (is_target file rank) _ t h in
+    elim (or_cases (rank == 51) (rank == 54) (and_parts (nat_le 97 file && nat_le file 104) _ fits).1) [
+      | inl e ↦ (Black, ap (target_fits Black) (sym is) ∙ fits_on Black file rank fits e)
+      | inr e ↦ (White, ap (target_fits White) (sym is) ∙ fits_on White file rank fits e)
+    ]
+target_side s t h = cc
 
 pub fields : FieldsAreSpellings
 fields =
     record {
       boards = λ s b. (board_read s b, board_spelled s b);
-      sides = λ s c. (λ h. ap (λ (t : List ℕ). side_of t) h ∙ side_read c, side_spelled s c);
-      rights = λ s r. (λ h. ap (λ (t : List ℕ). rights_of t) h ∙ (rights_read _ _ _ _).read, rights_spelled s r);
+      sides = λ s c. (λ h. ap side_of h ∙ side_read c, side_spelled s c);
+      rights = λ s r. (λ h. ap rights_of h ∙ (rights_read _ _ _ _).read, rights_spelled s r);
       targets = λ s t. (
-        λ h. ap (λ (u : List ℕ). target_of u) h.text ∙ target_read h.side t h.fits,
+        λ h. ap target_of h.text ∙ target_read h.side t h.fits,
         λ h. let found = target_side s t h in record { text = target_spelled s t h; side = found.0; fits = found.1 },
       );
       numbers = λ s n. (number_read s n, number_spelled s n);

@@ -1,5 +1,6 @@
 -- The fields of a text, which stand between its spaces.
-use Rattle.chess_text.proofs.Words.{◌≡◌, ℕ, suc, Bool, true, false, not, ◌&&◌, List, [], ◌∷◌, ◌++◌, length, take, drop, add-one, refl, arith, list_all, before_first, after_first, position_or_len, join_with_byte, false≢true, is_space, rest, field}
+use Rattle.std.proofs.Math.Seq.{take-append_seam, drop-append-add}
+use Rattle.chess_text.proofs.Words.{◌≡◌, ℕ, Bool, true, false, not, ◌&&◌, List, [], ◌∷◌, ◌++◌, length, refl, arith, list_all, before_first, after_first, position_or_len, join_with_byte, is_space, rest, field}
 
 -- no byte of the text passes
 abbrev pub lacks : (ℕ → Bool) → List ℕ → Bool
@@ -11,29 +12,20 @@ first_of_two false b h = h
 
 pub second_of_two : (a b : Bool) → (a && b) ≡ true → b ≡ true
 second_of_two true b h = h
-second_of_two false b h = absurd (false≢true h)
+second_of_two false b h = cc
 
 position_past : (p : ℕ → Bool) (t : List ℕ) (y : ℕ) (r : List ℕ) → lacks p t ≡ true → p y ≡ true → position_or_len p (t ++ y ∷ r) ≡ length t
 position_past p [] y r h e = rw e refl
 position_past p (x ∷ t) y r h e =
     let passed = first_of_two _ (lacks p t) h in
     let more : position_or_len p (t ++ y ∷ r) ≡ length t = position_past p t y r (second_of_two (not (p x)) (lacks p t) h) e in
-    rw passed (omega (arith, more))
-
-pub take_past : {A : Type 0} (t s : List A) → take (length t) (t ++ s) ≡ t
-take_past [] s = refl
-take_past (x ∷ t) s = cc (take_past t s)
-
-drop_past : (t : List ℕ) (y : ℕ) (r : List ℕ) → drop (suc (length t)) (t ++ y ∷ r) ≡ r
-drop_past [] y r = refl
-drop_past (x ∷ t) y r = drop_past t y r
+    rw passed (omega arith)
 
 pub before_it : (p : ℕ → Bool) (t : List ℕ) (y : ℕ) (r : List ℕ) → lacks p t ≡ true → p y ≡ true → before_first p (t ++ y ∷ r) ≡ t
-before_it p t y r h e = cc (position_past p t y r h e, take_past t (y ∷ r))
+before_it p t y r h e = cc (position_past p t y r h e, take-append_seam t (y ∷ r))
 
 pub after_it : (p : ℕ → Bool) (t : List ℕ) (y : ℕ) (r : List ℕ) → lacks p t ≡ true → p y ≡ true → after_first p (t ++ y ∷ r) ≡ r
-after_it p t y r h e =
-    cc (position_past p t y r h e, add-one _, drop_past t y r)
+after_it p t y r h e = cc (position_past p t y r h e, drop-append-add t (y ∷ r) 1)
 
 -- the six fields of six texts that are joined
 pub record SixFields (s a b c d e f : List ℕ) : Type 0 where

@@ -3,19 +3,12 @@ use Rattle.chess_text.proofs.Words.{◌≡◌, ℕ, zero, suc, ◌+◌, ◌<◌,
 
 -- the squares of a rank from a file on
 pub drop-row : (b : Board) (rank file : ℕ) → file < 8 → drop file (row b rank) ≡ at b (square file rank) ∷ drop (file + 1) (row b rank)
-drop-row b rank zero h = refl
-drop-row b rank (suc zero) h = refl
-drop-row b rank (suc (suc zero)) h = refl
-drop-row b rank (suc (suc (suc zero))) h = refl
-drop-row b rank (suc (suc (suc (suc zero)))) h = refl
-drop-row b rank (suc (suc (suc (suc (suc zero))))) h = refl
-drop-row b rank (suc (suc (suc (suc (suc (suc zero)))))) h = refl
-drop-row b rank (suc (suc (suc (suc (suc (suc (suc zero))))))) h = refl
-drop-row b rank (suc (suc (suc (suc (suc (suc (suc (suc file)))))))) h = absurd (omega (arith, h))
+drop-row b rank (suc (suc (suc (suc (suc (suc (suc (suc file)))))))) h = absurd (omega arith)
+drop-row b rank file h = refl
 
 length-run_text : (n : ℕ) → length (run_text n) ≤ n
 length-run_text zero = omega arith
-length-run_text (suc n) = let some : (suc n == 0) ≡ false = grind (arith, nat_tests) in let one : length (run_text (suc n)) ≡ 1 = rw some refl in omega (arith, one)
+length-run_text (suc n) = let some : (suc n == 0) ≡ false = grind (arith, nat_tests) in let one : length (run_text (suc n)) ≡ 1 = rw some refl in omega arith
 
 -- a run takes a digit at most, and a piece its letter
 pub length-rank_text : (n : ℕ) (cells : Board) → length (rank_text n cells) ≤ n + length cells

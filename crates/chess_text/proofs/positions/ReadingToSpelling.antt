@@ -1,23 +1,20 @@
 -- What is read of a text is spelled by it.
-use Rattle.chess_text.proofs.Words.{◌≡◌, ℕ, ◌+◌, ◌-◌, ◌<◌, ◌≤◌, ◌==◌, nat_le, Bool, true, false, ◌||◌, List, [], ◌∷◌, ◌++◌, length, get_or, refl, sym, ◌∙◌, ap, ap₂, arith, length-drop, Option, None, Some, Result, Ok, Err, bytes_eq, codes, flat_map, reverse, if◌then◌else◌, list_all, before_first, after_first, position_or_len, false≢true, eqb-true, nat_tests, length-take, join_with_byte-slice_split, split_at_first, passes_at_first, Colour, White, Black, Rights, Parts, Square, square, Board, is_position, FenFault, ranks, is_placement, placement_of, cells_of, side_text, side_of, or_dash, rights_text, rights_named, rights_of, target_text, target_of, is_target, is_number, number_of, value, SpellsBoard, SpellsNumber, Fen, is_space, rest, field, at_field, parts_or_fault, parts_read, if_position, read, same_Some}
-use Rattle.chess_text.proofs.positions.FieldsOfText.{first_of_two, second_of_two}
+use Rattle.chess_text.proofs.Words.{◌≡◌, ℕ, ◌+◌, ◌-◌, ◌<◌, ◌≤◌, Bool, true, false, List, [], ◌∷◌, ◌++◌, length, get_or, refl, sym, ◌∙◌, ap, ap₂, arith, length-drop, Option, None, Some, Result, Ok, Err, bytes_eq, codes, if◌then◌else◌, list_all, before_first, after_first, position_or_len, and_parts, cond_some, eqb-true, nat_tests, ◌==◌, length-take, join_with_byte-slice_split, split_at_first, passes_at_first, Colour, White, Black, Rights, Parts, Square, square, Board, is_position, FenFault, ranks, placement_of, side_text, side_of, or_dash, rights_text, rights_of, target_text, target_of, is_target, number_of, SpellsBoard, SpellsNumber, Fen, is_space, rest, field, at_field, parts_or_fault, parts_read, if_position, read, same_Some}
 use Rattle.chess_text.proofs.forms.SpellingToForm.{same_bytes}
 
 -- Each field from what is read of it.
 
 pub board_spelled : (s : List ℕ) (b : Board) → placement_of s ≡ Some b → SpellsBoard s b
-board_spelled s b h = by_test _ refl h
-  where
-    by_test : (t : Bool) → is_placement s ≡ t → (if t then Some (flat_map cells_of (reverse (ranks s))) else None) ≡ Some b → SpellsBoard s b
-    by_test false e g = absurd (cc)
-    by_test true e g =
-        record {
-          rank_texts = ranks s;
-          joined = sym (join_with_byte-slice_split 47 s);
-          eight = eqb-true (length (ranks s)) 8 (first_of_two _ _ e);
-          each = second_of_two _ _ e;
-          cells = sym (same_Some _ b g);
-        }
+board_spelled s b h =
+    let (placed, cells) = cond_some _ _ b h in
+    let both = and_parts _ _ placed in
+    record {
+      rank_texts = ranks s;
+      joined = sym (join_with_byte-slice_split 47 s);
+      eight = eqb-true (length (ranks s)) 8 both.0;
+      each = both.1;
+      cells = sym cells;
+    }
 
 pub side_spelled : (s : List ℕ) (c : Colour) → side_of s ≡ Some c → s ≡ side_text c
 side_spelled s c h = by_tests _ _ refl refl h
@@ -26,52 +23,24 @@ side_spelled s c h = by_tests _ _ refl refl h
         → (if w then Some White else (if b then Some Black else None)) ≡ Some c → s ≡ side_text c
     by_tests true b e f g = cc (same_bytes s _ e, same_Some White c g)
     by_tests false true e f g = cc (same_bytes s _ f, same_Some Black c g)
-    by_tests false false e f g = absurd (cc)
+    by_tests false false e f g = cc
 
 pub rights_spelled : (s : List ℕ) (r : Rights) → rights_of s ≡ Some r → s ≡ rights_text r
-rights_spelled s r h = by_test _ refl h
-  where
-    by_test : (b : Bool) → bytes_eq s (rights_text (rights_named s)) ≡ b → (if b then Some (rights_named s) else None) ≡ Some r → s ≡ rights_text r
-    by_test true e g = cc (same_bytes s _ e, same_Some _ r g)
-    by_test false e g = absurd (cc)
+rights_spelled s r h = let (named, is) = cond_some _ _ r h in same_bytes s _ named ∙ ap rights_text is
 
-shifted_file : (file rank : ℕ) → is_target file rank ≡ true → 97 + (file - 97) ≡ file
-shifted_file file rank h =
-    let low = first_of_two (nat_le 97 file) (nat_le file 104) (first_of_two _ _ h) in
-    grind (arith, nat_tests)
-
-shifted_rank : (file rank : ℕ) → is_target file rank ≡ true → 49 + (rank - 49) ≡ rank
-shifted_rank file rank h =
-    let one = second_of_two _ _ h in
-    by_test _ _ refl refl one
-  where
-    by_test : (a b : Bool) → (rank == 51) ≡ a → (rank == 54) ≡ b → (a || b) ≡ true → 49 + (rank - 49) ≡ rank
-    by_test true b e f g = let same = eqb-true rank 51 e in rw same refl
-    by_test false true e f g = let same = eqb-true rank 54 f in rw same refl
-    by_test false false e f g = absurd (false≢true g)
+shifted : (file rank : ℕ) → is_target file rank ≡ true → (97 + (file - 97) ≡ file) × (49 + (rank - 49) ≡ rank)
+shifted file rank h = grind (arith, nat_tests)
 
 pub target_spelled : (s : List ℕ) (t : Option Square) → target_of s ≡ Some t → s ≡ target_text t
-target_spelled [] t h = absurd (cc)
-target_spelled (c ∷ []) t h = by_test _ refl h
-  where
-    by_test : (b : Bool) → (c == 45) ≡ b → (if b then Some None else None) ≡ Some t → c ∷ [] ≡ target_text t
-    by_test true e g = cc (eqb-true c 45 e, same_Some None t g)
-    by_test false e g = absurd (cc)
-target_spelled (file ∷ rank ∷ []) t h = by_test _ refl h
-  where
-    by_test : (b : Bool) → is_target file rank ≡ b → (if b then Some (Some (square (file - 97) (rank - 49))) else None) ≡ Some t
-        → file ∷ rank ∷ [] ≡ target_text t
-    by_test true e g =
-        cc (shifted_file file rank e, shifted_rank file rank e, same_Some _ t g)
-    by_test false e g = absurd (cc)
-target_spelled (file ∷ rank ∷ c ∷ s) t h = absurd (cc)
+target_spelled (c ∷ []) t h = let (dash, is) = cond_some (c == 45) None t h in cc (eqb-true c 45 dash)
+target_spelled (file ∷ rank ∷ []) t h =
+    let (fits, is) = cond_some _ (Some (square (file - 97) (rank - 49))) t h in
+    let back = shifted file rank fits in
+    cc
+target_spelled s t h = cc
 
 pub number_spelled : (s : List ℕ) (n : ℕ) → number_of s ≡ Some n → SpellsNumber s n
-number_spelled s n h = by_test _ refl h
-  where
-    by_test : (b : Bool) → is_number s ≡ b → (if b then Some (value s) else None) ≡ Some n → SpellsNumber s n
-    by_test true e g = record { digits_alone = e; number = sym (same_Some _ n g) }
-    by_test false e g = absurd (cc)
+number_spelled s n h = let (digits, is) = cond_some _ _ n h in record { digits_alone = digits; number = sym is }
 
 -- No spelling is empty, so that a space stands before it.
 
@@ -92,9 +61,7 @@ some_target (Some t) = omega arith
 
 pub some_digit : (s : List ℕ) (n : ℕ) → SpellsNumber s n → 0 < length s
 some_digit s n spells =
-    let low =
-    first_of_two (nat_le 1 (length s)) (nat_le (length s) 5) (second_of_two (list_all _ s) _ spells.digits_alone) in
-    grind (arith, nat_tests)
+    let few = (and_parts (list_all _ s) _ spells.digits_alone).1 in grind (arith, nat_tests)
 
 pub spaced : (s : List ℕ) → 0 < length (after_first is_space s) → s ≡ before_first is_space s ++ 32 ∷ after_first is_space s
 spaced s h =
@@ -116,34 +83,22 @@ record AllThere (p : Parts) (b : Option Board) (c : Option Colour) (r : Option R
 
 there : (p : Parts) (b : Option Board) (c : Option Colour) (r : Option Rights) (t : Option (Option Square)) (m n : Option ℕ)
     → parts_or_fault b c r t m n ≡ Ok p → AllThere p b c r t m n
-there p None c r t m n h = absurd (cc)
-there p (Some b) None r t m n h = absurd (cc)
-there p (Some b) (Some c) None t m n h = absurd (cc)
-there p (Some b) (Some c) (Some r) None m n h = absurd (cc)
-there p (Some b) (Some c) (Some r) (Some t) None n h = absurd (cc)
-there p (Some b) (Some c) (Some r) (Some t) (Some m) None h = absurd (cc)
 there p (Some b) (Some c) (Some r) (Some t) (Some m) (Some n) h =
     let same : record { board = b; side = c; rights = r; target = t; half = m; full = n } ≡ p = cc in
-    record {
-      board = cc;
-      side = cc;
-      rights = cc;
-      target = cc;
-      half = cc;
-      full = cc;
-    }
+    record { board = cc; side = cc; rights = cc; target = cc; half = cc; full = cc }
+there p b c r t m n h = cc
 
 record Good (p : Parts) (r : Result Parts FenFault) : Type 0 where
   parts : r ≡ Ok p
   position : is_position p ≡ true
 
 good : (p : Parts) (r : Result Parts FenFault) → if_position r ≡ Ok p → Good p r
-good p (Err f) h = absurd (cc)
+good p (Err f) h = cc
 good p (Ok q) h = by_test _ refl h
   where
     by_test : (b : Bool) → is_position q ≡ b → (if b then Ok q else at_field 7) ≡ Ok p → Good p (Ok q)
-    by_test true e g = let same : q ≡ p = cc in record { parts = g; position = ap (λ x. is_position x) (sym same) ∙ e }
-    by_test false e g = absurd (cc)
+    by_test true e g = record { parts = g; position = cc }
+    by_test false e g = cc
 
 pub read_is_spelled : (s : List ℕ) (p : Parts) → read s ≡ Ok p → Fen s p
 read_is_spelled s p h =
@@ -156,11 +111,11 @@ read_is_spelled s p h =
     let half = number_spelled (field 5 s) p.half all.half in
     let full = number_spelled (field 6 s) p.full all.full in
     let one =
-    spaced s (omega (arith, not_shorter (rest 1 s), ap (λ t. length t) side, some_side p.side)) in
+    spaced s (omega (arith, not_shorter (rest 1 s), ap length side, some_side p.side)) in
     let two =
-    spaced (rest 1 s) (omega (arith, not_shorter (rest 2 s), ap (λ t. length t) rights, some_rights p.rights)) in
+    spaced (rest 1 s) (omega (arith, not_shorter (rest 2 s), ap length rights, some_rights p.rights)) in
     let three =
-    spaced (rest 2 s) (omega (arith, not_shorter (rest 3 s), ap (λ t. length t) target, some_target p.target)) in
+    spaced (rest 2 s) (omega (arith, not_shorter (rest 3 s), ap length target, some_target p.target)) in
     let four =
     spaced (rest 3 s) (omega (arith, not_shorter (rest 4 s), some_digit (field 5 s) p.half half)) in
     let five = spaced (rest 4 s) (some_digit _ _ full) in

@@ -33,7 +33,7 @@ length-rights_text r =
     ))
 
 pub length-number : (n : ℕ) → n ≤ 99999 → length (decimal n) ≤ 5
-length-number n h = length-decimal-le 5 n (omega arith) (omega (arith, h)) (omega (arith, h))
+length-number n h = length-decimal-le 5 n (omega arith) (omega arith) (omega arith)
 
 -- what is written when all fields but the last are
 pub record FiveWritten (p : Parts) (text : List ℕ) : Type 0 where
@@ -55,7 +55,7 @@ pub length-five : (p : Parts) (text : List ℕ) → FiveWritten p text → p.hal
 length-five p text five h =
     omega (
       arith,
-      ap (λ t. length t) five.whole,
+      ap length five.whole,
       length-append (placement_text p.board ++ 32 ∷ side_text p.side ++ 32 ∷ rights_text p.rights ++ 32 ∷ target_text p.target) (32 ∷ decimal p.half),
       length-append (placement_text p.board ++ 32 ∷ side_text p.side ++ 32 ∷ rights_text p.rights) (32 ∷ target_text p.target),
       length-append (placement_text p.board ++ 32 ∷ side_text p.side) (32 ∷ rights_text p.rights),
@@ -85,4 +85,4 @@ length-fen_text p half full =
     let five : FiveWritten p (placement_text p.board ++ 32 ∷ side_text p.side ++ 32 ∷ rights_text p.rights ++ 32 ∷ target_text p.target ++ 32 ∷ decimal p.half) =
     record { whole = refl } in
     let front = placement_text p.board ++ 32 ∷ side_text p.side ++ 32 ∷ rights_text p.rights ++ 32 ∷ target_text p.target ++ 32 ∷ decimal p.half in
-    omega (arith, ap (λ t. length t) (six_written p front five), length-append front (32 ∷ decimal p.full), length-five p front five half, length-number p.full full)
+    omega (arith, ap length (six_written p front five), length-append front (32 ∷ decimal p.full), length-five p front five half, length-number p.full full)

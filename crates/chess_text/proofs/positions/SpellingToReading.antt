@@ -1,5 +1,6 @@
 -- A text that spells a position is read as that position.
-use Rattle.chess_text.proofs.Words.{◌≡◌, ℕ, ◌+◌, ◌-◌, ◌<◌, ◌==◌, nat_le, nat_lt, Bool, true, false, not, ◌&&◌, ◌||◌, List, [], ◌∷◌, length, refl, sym, ◌∙◌, ap, ap₂, arith, Option, None, Some, Ok, is_none, if◌then◌else◌, list_all, join_with_byte, false≢true, eqb-true, nat_tests, list_all-append, slice_split-cons_no, Colour, White, Black, Rights, Parts, Kings, PawnOnEdge, KingCapturable, TargetRank, NumberRange, Square, square, on_board, Board, other, king_attacked, is_position, one_king, pawn_on_edge, target_fits, target_rank, ranks, is_slash, is_item, is_rank, is_placement, placement_of, side_text, side_of, rights_text, rights_of, target_text, target_of, is_digit, number_of, SpellsBoard, SpellsNumber, Fen, is_space, field, parts_or_fault, read, not-true}
+use Rattle.chess_text.proofs.Words.{◌≡◌, ℕ, ◌+◌, ◌-◌, ◌<◌, ◌==◌, nat_le, nat_lt, Bool, true, false, not, ◌&&◌, ◌||◌, List, [], ◌∷◌, length, refl, sym, ◌∙◌, ap, ap₂, arith, Option, None, Some, Ok, list_all, join_with_byte, false≢true, eqb-true, nat_tests, list_all-append, slice_split-cons_no, Colour, White, Black, Rights, Parts, Square, square, on_board, Board, is_position, target_fits, target_rank, ranks, is_slash, is_item, is_rank, is_placement, placement_of, side_text, side_of, rights_text, rights_of, target_text, target_of, is_digit, number_of, SpellsBoard, SpellsNumber, Fen, is_space, field, parts_or_fault, read, not-true}
+use Rattle.chess_text.proofs.positions.CanonicalSpells.{last_rules}
 use Rattle.chess_text.proofs.positions.RanksOfText.{slice_split-around}
 use Rattle.chess_text.proofs.positions.FieldsOfText.{lacks, first_of_two, second_of_two, SixFields, six_fields}
 
@@ -9,7 +10,7 @@ differs p c d h g = by_test _ refl
   where
     by_test : (b : Bool) → (c == d) ≡ b → not (c == d) ≡ true
     by_test false e = rw e refl
-    by_test true e = absurd (false≢true (sym h ∙ ap (λ x. p x) (sym (eqb-true c d e)) ∙ g))
+    by_test true e = absurd (false≢true (sym h ∙ ap p (sym (eqb-true c d e)) ∙ g))
 
 -- nor stands the latter in a text of such bytes
 pub all_lack : (p : ℕ → Bool) (d : ℕ) → p d ≡ false → (s : List ℕ) → list_all p s ≡ true → lacks (λ c. c == d) s ≡ true
@@ -47,7 +48,7 @@ joined_ranks s (t ∷ ss) h =
     cc (slice_split-around is_slash s 47 (join_with_byte 47 (t ∷ ss)) refl, one_part s (first_of_two (lacks is_slash s) (list_all (λ s. lacks is_slash s) (t ∷ ss)) h), joined_ranks t ss (second_of_two (lacks is_slash s) (list_all (λ s. lacks is_slash s) (t ∷ ss)) h))
 
 eight_ranks : (ss : List (List ℕ)) → length ss ≡ 8 → list_all is_rank ss ≡ true → ranks (join_with_byte 47 ss) ≡ ss
-eight_ranks [] e h = absurd (omega (arith, e))
+eight_ranks [] e h = absurd (omega arith)
 eight_ranks (s ∷ ss) e h = joined_ranks s ss (ranks_lack 47 refl (s ∷ ss) h)
 
 pub board_read : (s : List ℕ) (b : Board) → SpellsBoard s b → placement_of s ≡ Some b
@@ -75,22 +76,7 @@ pub record RightsRead (r : Rights) : Type 0 where
   pub alone : lacks is_space (rights_text r) ≡ true
 
 pub rights_read : (a b c d : Bool) → RightsRead (record { white_short = a; white_long = b; black_short = c; black_long = d })
-rights_read true true true true = record { read = refl; alone = refl }
-rights_read true true true false = record { read = refl; alone = refl }
-rights_read true true false true = record { read = refl; alone = refl }
-rights_read true true false false = record { read = refl; alone = refl }
-rights_read true false true true = record { read = refl; alone = refl }
-rights_read true false true false = record { read = refl; alone = refl }
-rights_read true false false true = record { read = refl; alone = refl }
-rights_read true false false false = record { read = refl; alone = refl }
-rights_read false true true true = record { read = refl; alone = refl }
-rights_read false true true false = record { read = refl; alone = refl }
-rights_read false true false true = record { read = refl; alone = refl }
-rights_read false true false false = record { read = refl; alone = refl }
-rights_read false false true true = record { read = refl; alone = refl }
-rights_read false false true false = record { read = refl; alone = refl }
-rights_read false false false true = record { read = refl; alone = refl }
-rights_read false false false false = record { read = refl; alone = refl }
+rights_read a b c d = grind arith
 
 -- Field 4.
 
@@ -129,21 +115,6 @@ number_lacks s n spells = all_lack is_digit 32 refl s (first_of_two _ (nat_le 1 
 
 -- The whole.
 
--- a position's target is one that its side may have
-fourth_rule : (a b c d e : Bool)
-    → is_none (if not a then Some Kings else if b then Some PawnOnEdge else if c then Some KingCapturable else if not d then Some TargetRank else if not e then Some NumberRange else None) ≡ true
-    → d ≡ true
-fourth_rule true false false true e h = refl
-fourth_rule true false false false e h = h
-fourth_rule true false true d e h = absurd (false≢true h)
-fourth_rule true true c d e h = absurd (false≢true h)
-fourth_rule false b c d e h = absurd (false≢true h)
-
-target_of_position : (p : Parts) → is_position p ≡ true → target_fits p.side p.target ≡ true
-target_of_position p h =
-    fourth_rule (one_king p.board White && one_king p.board Black) (pawn_on_edge p.board) (king_attacked p.board (other _)) _
-    (nat_le p.half 99999 && nat_le p.full 99999) (second_of_two (length p.board == 64) _ h)
-
 all_spelled : (p : Parts) (b : Option Board) (c : Option Colour) (r : Option Rights) (t : Option (Option Square)) (m n : Option ℕ)
     → b ≡ Some p.board → c ≡ Some p.side → r ≡ Some p.rights → t ≡ Some p.target → m ≡ Some p.half → n ≡ Some p.full
     → parts_or_fault b c r t m n ≡ Ok p
@@ -158,11 +129,11 @@ spelled_is_read s p fen =
     let text : List ℕ = join_with_byte 32 (fen.board ∷ side_text p.side ∷ rights_text p.rights ∷ target_text p.target ∷ fen.half ∷ fen.full ∷ []) in
     let parts : parts_or_fault (placement_of (field 1 text)) (side_of (field 2 text)) (rights_of (field 3 text)) (target_of (field 4 text)) (number_of (field 5 text)) (number_of (field 6 text)) ≡ Ok p =
     all_spelled p (placement_of (field 1 text)) (side_of (field 2 text)) (rights_of (field 3 text)) (target_of (field 4 text)) (number_of (field 5 text)) (number_of (field 6 text))
-    (ap (λ t. placement_of t) fields.first ∙ board_read fen.board p.board fen.spells_board)
-    (ap (λ t. side_of t) fields.second ∙ side_read p.side)
-    (ap (λ t. rights_of t) fields.third ∙ rights.read)
-    (ap (λ t. target_of t) fields.fourth ∙ target_read p.side p.target (target_of_position p fen.position))
-    (ap (λ t. number_of t) fields.fifth ∙ number_read fen.half p.half fen.spells_half)
-    (ap (λ t. number_of t) fields.sixth ∙ number_read fen.full p.full fen.spells_full) in
+    (ap placement_of fields.first ∙ board_read fen.board p.board fen.spells_board)
+    (ap side_of fields.second ∙ side_read p.side)
+    (ap rights_of fields.third ∙ rights.read)
+    (ap target_of fields.fourth ∙ target_read p.side p.target (last_rules p fen.position).0)
+    (ap number_of fields.fifth ∙ number_read fen.half p.half fen.spells_half)
+    (ap number_of fields.sixth ∙ number_read fen.full p.full fen.spells_full) in
     let position : is_position p ≡ true = fen.position in
-    ap (λ t. read t) fen.joined ∙ rw (parts, position) refl
+    ap read fen.joined ∙ rw (parts, position) refl

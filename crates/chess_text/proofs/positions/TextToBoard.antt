@@ -1,5 +1,6 @@
 -- The board that a text spells, rank by rank from its last one.
-use Rattle.chess_text.proofs.Words.{◌≡◌, ℕ, zero, suc, ◌+◌, ◌-◌, ◌*◌, ◌<◌, ◌≤◌, ◌==◌, Bool, true, false, ◌&&◌, List, [], ◌∷◌, ◌++◌, length, take, drop, reverse, inl, inr, refl, sym, ◌∙◌, ap, arith, append_assoc, length-append, None, Some, Result, Ok, Err, is_ok, is_err, flat_map, if◌then◌else◌, list_all, nat_tests, OnOk, false≢true, cases_lt, take-take, length-take, take_rest, reverse-append, list_all-append, Board, ranks, is_item, is_rank, is_placement, cells_of, placement_of, ranks_before}
+use mathlib.Core.Bool.{and-true, and-false}
+use Rattle.chess_text.proofs.Words.{◌≡◌, ℕ, zero, suc, ◌+◌, ◌-◌, ◌*◌, ◌<◌, ◌≤◌, ◌==◌, Bool, true, false, ◌&&◌, List, [], ◌∷◌, ◌++◌, length, take, drop, reverse, inl, inr, refl, sym, ◌∙◌, ap, arith, append_assoc, length-append, None, Some, Result, Ok, Err, is_ok, is_err, flat_map, if◌then◌else◌, list_all, nat_tests, OnOk, false≢true, and_parts, and_right, false_from_ne_true, cond_some, cases_lt, take-take, length-take, take_rest, reverse-append, list_all-append, Board, ranks, is_item, is_rank, is_placement, cells_of, placement_of, ranks_before}
 
 -- the cells are those of the ranks that were read; those before are left
 pub record ReadSoFar (text : List ℕ) (left : ℕ) (cells : Board) : Type 0 where
@@ -12,7 +13,7 @@ pub record ReadSoFar (text : List ℕ) (left : ℕ) (cells : Board) : Type 0 whe
 pub ranks_left : (text : List ℕ) (left start : ℕ) → 0 < left → start ≤ length (take (left - 1) text)
     → ranks (take (left - 1) text) ≡ ranks_before start (take (left - 1) text) ++ drop start (take (left - 1) text) ∷ []
     → ranks_before left text ≡ ranks_before start text ++ drop start (take (left - 1) text) ∷ []
-ranks_left text zero start above within cut = absurd (omega (arith, above))
+ranks_left text zero start above within cut = absurd (omega arith)
 ranks_left text (suc n) start above within cut =
     let same : suc n - 1 ≡ n = omega arith in
     cc (earlier start within)
@@ -21,27 +22,15 @@ ranks_left text (suc n) start above within cut =
     earlier zero low = refl
     earlier (suc k) low = cc (take-take k (suc n - 1) text (omega (arith, low, length-take (suc n - 1) text)))
 
-and_true : (b : Bool) → (b && true) ≡ b
-and_true true = refl
-and_true false = refl
-
-and_false : (b : Bool) → (b && false) ≡ false
-and_false true = refl
-and_false false = refl
-
 list_all-last : (before : List (List ℕ)) (last : List ℕ) → list_all is_rank (before ++ last ∷ []) ≡ (list_all is_rank before && is_rank last)
 list_all-last before last =
-    cc (list_all-append is_rank before _, and_true _)
+    cc (list_all-append is_rank before _, and-true _)
 
 cells-last : (before : List (List ℕ)) (last : List ℕ) → flat_map cells_of (reverse (before ++ last ∷ [])) ≡ cells_of last ++ flat_map cells_of (reverse before)
 cells-last before last = cc (reverse-append before _)
 
-second_true : (a b : Bool) → (a && b) ≡ true → b ≡ true
-second_true true b h = h
-second_true false b h = absurd (false≢true h)
-
 pub eight_cells : (s : List ℕ) → is_rank s ≡ true → length (cells_of s) ≡ 8
-eight_cells s h = let e = second_true (list_all is_item s) _ h in grind (arith, nat_tests)
+eight_cells s h = let e = (and_parts (list_all is_item s) _ h).1 in grind (arith, nat_tests)
 
 -- what is left when the last of the ranks is read
 pub goes_on : (text : List ℕ) (left start : ℕ) (cells : Board) (last : List ℕ) → ReadSoFar text left cells → start ≤ length text + 1
@@ -55,7 +44,7 @@ goes_on text left start cells last so_far low split good =
           ∙ ap (λ (parts : List (List ℕ)). cells ++ flat_map cells_of (reverse parts)) (sym split)
           ∙ so_far.read;
       passed =
-          sym (and_true _)
+          sym (and-true _)
           ∙ ap (λ b. list_all is_rank (ranks_before start text) && b) (sym good)
           ∙ sym (list_all-last (ranks_before start text) last)
           ∙ ap (λ (parts : List (List ℕ)). list_all is_rank parts) (sym split)
@@ -80,8 +69,8 @@ pub no_placement : (text : List ℕ) (left start : ℕ) (cells : Board) (last : 
 no_placement text left start cells last so_far split bad =
     let none =
     sym so_far.passed ∙ ap (λ (parts : List (List ℕ)). list_all is_rank parts) split ∙ list_all-last (ranks_before start text) last
-    ∙ ap (λ b. list_all is_rank (ranks_before start text) && b) bad ∙ and_false (list_all is_rank (ranks_before start text)) in
-    nothing text (ap (λ b. (length (ranks text) == 8) && b) none ∙ and_false _)
+    ∙ ap (λ b. list_all is_rank (ranks_before start text) && b) bad ∙ and-false (list_all is_rank (ranks_before start text)) in
+    nothing text (and_right (length (ranks text) == 8) _ none)
 
 not_eight : (n m : ℕ) → 64 < m → m ≤ 8 * n → (n == 8) ≡ false
 not_eight n m h g = grind (arith, nat_tests)
@@ -95,39 +84,25 @@ too_many_ranks text left start cells last so_far split full =
     nothing text (ap (λ b. b && list_all is_rank (ranks text)) (not_eight _ _ full more))
 
 -- what `read_rank` answers of the last rank, where the bytes from i on are handed to it
-missing : (s : List ℕ) → None ≡ (if is_rank s then Some (cells_of s) else None) → is_rank s ≡ false
-missing s h = by_test _ refl h
-  where
-    by_test : (b : Bool) → is_rank s ≡ b → None ≡ (if b then Some (cells_of s) else None) → is_rank s ≡ false
-    by_test false e g = e
-    by_test true e g = absurd (cc)
-
 pub rank_missing : (s : List ℕ) (i : ℕ)
     → None ≡ (if is_rank (take (length s - i) (drop i s)) then Some (cells_of (take (length s - i) (drop i s))) else None) → is_rank (drop i s) ≡ false
-rank_missing s i h = missing (drop i s) (rw (take_rest s i) at h)
+rank_missing s i h = let g = rw (take_rest s i) at h in false_from_ne_true _ (λ e. cc)
 
 pub record RankRead (s : List ℕ) (b : Board) : Type 0 where
   pub good : is_rank s ≡ true
   pub cells : b ≡ cells_of s
 
-there : (s : List ℕ) (b : Board) → Some b ≡ (if is_rank s then Some (cells_of s) else None) → RankRead s b
-there s b h = by_test _ refl h
-  where
-    by_test : (t : Bool) → is_rank s ≡ t → Some b ≡ (if t then Some (cells_of s) else None) → RankRead s b
-    by_test true e g = record { good = e; cells = cc }
-    by_test false e g = absurd (cc)
-
 pub rank_there : (s : List ℕ) (i : ℕ) (b : Board)
     → Some b ≡ (if is_rank (take (length s - i) (drop i s)) then Some (cells_of (take (length s - i) (drop i s))) else None) → RankRead (drop i s) b
-rank_there s i b h = there _ b (rw (take_rest s i) at h)
+rank_there s i b h = let (good, cells) = cond_some _ _ b (sym (rw (take_rest s i) at h)) in record { good = good; cells = sym cells }
 
 -- a call that fails where n is too much
 pub beyond : {T E : Type 0} (r : Result T E) (b : Bool) (n m : ℕ) → b ≡ is_err r → b ≡ true → (n ≤ m → is_ok r ≡ true) → m < n
 beyond r b n m e h fits = elim (cases_lt m n) [ inl low ↦ low | inr high ↦ absurd (both r (sym e ∙ h) (fits high)) ]
   where
     both : {T E : Type 0} (r : Result T E) → is_err r ≡ true → is_ok r ≡ true → ⊥
-    both (Ok x) h g = false≢true h
-    both (Err x) h g = false≢true g
+    both (Ok x) h g = cc
+    both (Err x) h g = cc
 
 pub when_no_err : {T E P : Type 0} (r : Result T E) (b : Bool) → b ≡ is_err r → b ≡ false → OnOk r P → P
 when_no_err (Ok x) b e h p = p

@@ -1,7 +1,8 @@
 -- A legal move is one of a piece of the side to move, so a mark can be computed by the moves of
 -- these pieces alone.
-use Rattle.chess_text.proofs.Words.{◌≡◌, ℕ, Bool, true, false, ◌&&◌, not, inl, inr, List, [], ◌∷◌, ◌++◌, refl, ap, ap₂, Option, None, Some, codes, if◌then◌else◌, ◌||◌, list_any, false≢true, or_cases, Move, Parts, Square, squares, at, has_colour, every_promotion, is_check, is_legal, legal, mark, san, unmarked}
+use Rattle.chess_text.proofs.Words.{◌≡◌, ℕ, Bool, true, false, ◌&&◌, not, inl, inr, List, [], ◌∷◌, ◌++◌, refl, ap, Option, None, Some, codes, if◌then◌else◌, list_any, false≢true, or_cases, Move, Parts, Square, squares, at, has_colour, every_promotion, is_check, is_legal, legal, mark, san, unmarked}
 use Rattle.chess_text.proofs.forms.MoverOfMove.{mover_colour}
+use Rattle.chess_text.proofs.names.RivalsAreCandidates.{any-same}
 
 -- some move from the square is legal, or some one to that target
 abbrev has_move_to : Parts → Square → Square → Bool
@@ -15,12 +16,8 @@ abbrev piece_has_move : Parts → Square → Bool
 piece_has_move p from = has_colour p.side (at p.board from) && has_move_from p from
 
 if_any : {X P : Type 0} (test : X → Bool) (xs : List X) → ((x : X) → test x ≡ true → P) → list_any test xs ≡ true → P
-if_any test [] found h = absurd (false≢true h)
+if_any test [] found h = cc
 if_any test (x ∷ xs) found h = elim (or_cases (test x) (list_any test xs) h) [ inl here ↦ found x here | inr later ↦ if_any test xs found later ]
-
-any_same : {X : Type 0} (f g : X → Bool) (xs : List X) → ((x : X) → f x ≡ g x) → list_any f xs ≡ list_any g xs
-any_same f g [] h = refl
-any_same f g (x ∷ xs) h = ap₂ (λ v w. v || w) (h x) (any_same f g xs h)
 
 from_piece : (p : Parts) (from : Square) → has_move_from p from ≡ piece_has_move p from
 from_piece p from =
@@ -30,9 +27,8 @@ from_piece p from =
     (λ promotion. mover_colour p (record { from = from; to = to; promotion = promotion }))))
   where
     only_if : (x y : Bool) → (y ≡ true → x ≡ true) → y ≡ (x && y)
-    only_if true y h = refl
     only_if false true h = absurd (false≢true (h refl))
-    only_if false false h = refl
+    only_if x y h = refl
 
 -- the mark, by these moves
 abbrev mark_tried : Option Parts → List ℕ
@@ -44,7 +40,7 @@ pub mark_is_tried : (o : Option Parts) → mark o ≡ mark_tried o
 mark_is_tried None = refl
 mark_is_tried (Some q) =
     ap (λ b. if is_check q && not b then codes "#" else if is_check q then codes "+" else [])
-    (any_same (has_move_from q) (piece_has_move q) squares (from_piece q))
+    (any-same (has_move_from q) (piece_has_move q) (from_piece q) squares)
 
 abbrev pub san_tried : Parts → Move → List ℕ
 san_tried p m = unmarked p m ++ mark_tried (legal p m)

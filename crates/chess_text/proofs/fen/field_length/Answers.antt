@@ -8,4 +8,4 @@ returns-then-byte-eq32-clause-value c =
 pub returns-clause-value : goal.returns-clause-value
 returns-clause-value c =
     sym (position_or_len_is is_space c.args.text.now (length c.args.text.now) 0 (omega arith)
-    (λ k h. c.loop-i.invariant k (omega (arith, c.loop-i-test.false))) (λ h. absurd (omega (arith, h))))
+    (λ k h. c.loop-i.invariant k (omega (arith, c.loop-i-test.false))) (λ h. absurd (omega arith)))

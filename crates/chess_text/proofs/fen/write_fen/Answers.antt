@@ -4,7 +4,7 @@ use Rattle.chess_text.proofs.fen.write_fen.Goals as goal
 
 -- the last field has five bytes at most
 short_number : (field : List ℕ) (n : ℕ) → field ≡ decimal n → n ≤ 99999 → length field ≤ 5
-short_number field n e h = omega (arith, ap (λ (t : List ℕ). length t) e, length-number n h)
+short_number field n e h = omega (arith, ap length e, length-number n h)
 
 pub push_field-requires : goal.push_field-requires
 push_field-requires c =
@@ -19,7 +19,7 @@ returns-clause-short c =
     omega (
       arith,
       c.push_all_but_full.ensures.short,
-      ap (λ (t : List ℕ). length t) c.push_field.ensures,
+      ap length c.push_field.ensures,
       length-append c.push_all_but_full.new.text.items (32 ∷ c.as_bytes.result.now),
       short_number c.as_bytes.result.now c.full.result (c.as_bytes.ensures.value ∙ c.format.ensures.text) c.full.ensures.limit,
     )

@@ -12,8 +12,8 @@ permuted xs ys zs same perm = rw same perm
 
 lone_is : (xs : List Square) (s : Square) → Some s ≡ lone xs → xs ≡ s ∷ []
 lone_is (x ∷ []) s e = cc
-lone_is [] s e = absurd (cc)
-lone_is (x ∷ y ∷ ys) s e = absurd (cc)
+lone_is [] s e = cc
+lone_is (x ∷ y ∷ ys) s e = cc
 
 one_there : (xs : List Square) (s : Square) → Some s ≡ lone xs → length xs ≡ 1
 one_there xs s e = cc (lone_is xs s e)
@@ -82,7 +82,7 @@ loop-origin-preserved c =
                 first_one h xs _ (with_position p c.loop-origin.found) c.loop-origin.invariant.found c.origin-item.result _ x (omega arith) tried
                 (fitting_is_played p m fits agreed ∙ is)
                 (kept_is_some p _ c.loop-origin.invariant.legal ∙ sym w.is_some.ensures ∙ w.if-is_some.false)
-                ∙ (ap (λ (o : Option Played). option_to_list o) (sym is)
+                ∙ (ap option_to_list (sym is)
                 ∙ ap (λ o. option_to_list (with_position p o)) (sym w.found-is));
             legal = rw w.found-is legal;
             tried = omega (arith, c.agrees-in-loop-origin.ensures.count, c.loop-origin.invariant.tried);
@@ -152,7 +152,7 @@ returns-in-Some-found-clause-some c =
     let h = from_square p (Man c.args.kind c.args.hints.file c.args.hints.rank c.args.to c.args.promotion) c.args.to c.args.promotion in
     let late =
     not_at_once h _ _ _ c.loop-origin.invariant.found
-    (kept_is_some p c.loop-origin.found c.loop-origin.invariant.legal ∙ ap (λ o. is_some o) c.in-Some-found.is) in
+    (kept_is_some p c.loop-origin.found c.loop-origin.invariant.legal ∙ ap is_some c.in-Some-found.is) in
     omega (arith, late, c.loop-origin.invariant.tried)
 
 pub returns-then-agrees-clause-answer : goal.returns-then-agrees-clause-answer
