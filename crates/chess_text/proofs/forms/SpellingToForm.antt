@@ -54,20 +54,17 @@ letters_read k s h = rw (one_of s _ h) assumption
 
 -- The hints.
 
-file_back : (n : ℕ) → nat_lt n 8 ≡ true → file_of (97 + n) ≡ Some n
-file_back n h = grind (arith, nat_tests)
+file_letters : (n : ℕ) → nat_lt n 8 ≡ true → (file_of (97 + n) ≡ Some n) × (rank_of (97 + n) ≡ None) × ((97 + n == 120) ≡ false)
+file_letters n h = grind (arith, nat_tests)
 
-rank_back : (n : ℕ) → nat_lt n 8 ≡ true → rank_of (49 + n) ≡ Some n
-rank_back n h = grind (arith, nat_tests)
+-- the last byte of the text of a piece's move is no mark, and ends no castling
+record Ends (c : ℕ) : Type 0 where
+  no_mark : is_mark c ≡ false
+  no_letter : (c == 79) ≡ false
+  no_zero : (c == 48) ≡ false
 
-file_no_rank : (n : ℕ) → nat_lt n 8 ≡ true → rank_of (97 + n) ≡ None
-file_no_rank n h = grind (arith, nat_tests)
-
-file_no_x : (n : ℕ) → nat_lt n 8 ≡ true → (97 + n == 120) ≡ false
-file_no_x n h = grind (arith, nat_tests)
-
-rank_no_x : (n : ℕ) → nat_lt n 8 ≡ true → (49 + n == 120) ≡ false
-rank_no_x n h = grind (arith, nat_tests)
+rank_digits : (n : ℕ) → nat_lt n 8 ≡ true → (rank_of (49 + n) ≡ Some n) × ((49 + n == 120) ≡ false) × (promotion_of (49 + n) ≡ None) × ((49 + n == 61) ≡ false) × Ends (49 + n)
+rank_digits n h = grind (arith, nat_tests)
 
 -- what a hint tells, and what stands before it
 record FileRead (s t : List ℕ) (file : Option ℕ) : Type 0 where
@@ -80,9 +77,10 @@ file_read : (s : List ℕ) (k : Kind) (file : Option ℕ) → below_eight file �
 file_read s k None h l =
     rw append-nil (record { told = l.no_file; before = cc; no_rank = l.no_rank; no_x = l.no_x })
 file_read s k (Some n) h l =
-    let last : last_byte (s ++ (97 + n) ∷ []) ≡ 97 + n = last_byte-snoc s (97 + n) in
-    let there : file_at_end (s ++ (97 + n) ∷ []) ≡ Some n = cc (file_back n h) in
-    record { told = there; before = cc (front-snoc s (97 + n)); no_rank = cc (file_no_rank n h); no_x = cc (file_no_x n h) }
+    let last = last_byte-snoc s (97 + n) in
+    let (told, no_rank, no_x) = file_letters n h in
+    let there : file_at_end (s ++ (97 + n) ∷ []) ≡ Some n = cc in
+    record { told = there; before = cc (front-snoc s (97 + n)); no_rank = cc; no_x = cc }
 
 record RankRead (s t : List ℕ) (rank : Option ℕ) : Type 0 where
   told : rank_at_end t ≡ rank
@@ -93,9 +91,10 @@ rank_read : (s : List ℕ) (rank : Option ℕ) → below_eight rank ≡ true →
 rank_read s None h none no_x =
     rw append-nil (record { told = none; before = cc; no_x = no_x })
 rank_read s (Some n) h none no_x =
-    let last : last_byte (s ++ (49 + n) ∷ []) ≡ 49 + n = last_byte-snoc s (49 + n) in
-    let there : rank_at_end (s ++ (49 + n) ∷ []) ≡ Some n = cc (rank_back n h) in
-    record { told = there; before = cc (front-snoc s (49 + n)); no_x = cc (rank_no_x n h) }
+    let last = last_byte-snoc s (49 + n) in
+    let d = rank_digits n h in
+    let there : rank_at_end (s ++ (49 + n) ∷ []) ≡ Some n = cc in
+    record { told = there; before = cc (front-snoc s (49 + n)); no_x = cc }
 
 -- The x.
 
@@ -121,34 +120,13 @@ target_read s to h =
     let last = last_byte-snoc (s ++ a ∷ []) b in
     let fore = front-snoc (s ++ a ∷ []) b in
     rw (← append_assoc s (a ∷ []) (b ∷ []))
-    (record { told = cc (last_byte-snoc s a, file_back to.file on.0, rank_back to.rank on.1); before = cc (front-snoc s a); last = last })
+    (record { told = cc (last_byte-snoc s a, (file_letters to.file on.0).0, (rank_digits to.rank on.1).0); before = cc (front-snoc s a); last = last })
 
 -- The promotion.
-
-digit_no_promotion : (n : ℕ) → nat_lt n 8 ≡ true → promotion_of (49 + n) ≡ None
-digit_no_promotion n h = grind (arith, nat_tests)
-
-digit_no_sign : (n : ℕ) → nat_lt n 8 ≡ true → (49 + n == 61) ≡ false
-digit_no_sign n h = grind (arith, nat_tests)
-
-digit_no_mark : (n : ℕ) → nat_lt n 8 ≡ true → is_mark (49 + n) ≡ false
-digit_no_mark n h = grind (arith, nat_tests)
-
-digit_no_letter : (n : ℕ) → nat_lt n 8 ≡ true → (49 + n == 79) ≡ false
-digit_no_letter n h = grind (arith, nat_tests)
-
-digit_no_zero : (n : ℕ) → nat_lt n 8 ≡ true → (49 + n == 48) ≡ false
-digit_no_zero n h = grind (arith, nat_tests)
 
 promotion_back : (q : Promotion) → promotion_of (promotion_letter q) ≡ Some q
 promotion_back promotions.Queen = refl
 promotion_back q = refl
-
--- the last byte of the text of a piece's move is no mark, and ends no castling
-record Ends (c : ℕ) : Type 0 where
-  no_mark : is_mark c ≡ false
-  no_letter : (c == 79) ≡ false
-  no_zero : (c == 48) ≡ false
 
 letter_ends : (q : Promotion) → Ends (promotion_letter q)
 letter_ends promotions.Queen = record { no_mark = refl; no_letter = refl; no_zero = refl }
@@ -162,30 +140,23 @@ record PromotionRead (s t : List ℕ) (promotion : Option Promotion) : Type 0 wh
 -- behind the digit of a rank
 promotion_read : (s p : List ℕ) (n : ℕ) (promotion : Option Promotion) → is_among p (promotion_texts promotion) ≡ true → nat_lt n 8 ≡ true → last_byte s ≡ 49 + n → PromotionRead s (s ++ p) promotion
 promotion_read s p n None h low last =
-    let none : promotion_at_end s ≡ None = cc (digit_no_promotion n low) in
-    subst (λ t. PromotionRead s t None) (sym (ap (λ u. s ++ u) (one_of p [] h) ∙ append-nil s))
-    (record {
-      told = none;
-      before = rw none refl;
-      ends = subst Ends (sym last) (record { no_mark = digit_no_mark n low; no_letter = digit_no_letter n low; no_zero = digit_no_zero n low });
-    })
+    let d = rank_digits n low in
+    let none : promotion_at_end s ≡ None = cc in
+    rw (one_of p [] h, append-nil) (record { told = none; before = rw none refl; ends = rw last d.4 })
 promotion_read s p n (Some q) h low last =
+    let d = rank_digits n low in
     elim (two_of p (promotion_letter q ∷ []) (61 ∷ promotion_letter q ∷ []) h) [
-      | inl e ↦ subst (λ u. PromotionRead s (s ++ u) (Some q)) (sym e) (by_letter s (ap (λ c. front_if (c == 61) s) last ∙ ap (λ b. front_if b s) (digit_no_sign n low)))
+      | inl e ↦ rw e (by_letter s (cc))
       | inr e ↦
-          subst (λ u. PromotionRead s (s ++ u) (Some q)) (sym e)
-          (subst (λ t. PromotionRead s t (Some q)) (append_assoc s (61 ∷ []) (promotion_letter q ∷ []))
-          (by_letter (s ++ 61 ∷ []) (ap (λ c. front_if (c == 61) (s ++ 61 ∷ [])) (last_byte-snoc s 61) ∙ front-snoc s 61)))
+          rw (e, ← append_assoc s (61 ∷ []) (promotion_letter q ∷ []))
+          (by_letter (s ++ 61 ∷ []) (cc (last_byte-snoc s 61, front-snoc s 61)))
     ]
   where
     by_letter : (t : List ℕ) → before_sign t ≡ s → PromotionRead s (t ++ promotion_letter q ∷ []) (Some q)
     by_letter t before =
-        let there : promotion_at_end (t ++ promotion_letter q ∷ []) ≡ Some q = cc (last_byte-snoc t (promotion_letter q), promotion_back q) in
-        record {
-          told = there;
-          before = rw there (ap before_sign (front-snoc t (promotion_letter q)) ∙ before);
-          ends = subst Ends (sym (last_byte-snoc t (promotion_letter q))) (letter_ends q);
-        }
+        let last = last_byte-snoc t (promotion_letter q) in
+        let there : promotion_at_end (t ++ promotion_letter q ∷ []) ≡ Some q = cc (promotion_back q) in
+        record { told = there; before = rw there (ap before_sign (front-snoc t (promotion_letter q)) ∙ before); ends = rw last (letter_ends q) }
 
 -- All of it.
 
@@ -193,71 +164,44 @@ record BareRead (s : List ℕ) (f : Form) : Type 0 where
   told : bare_form s ≡ Some f
   whole : before_marks s ≡ s
 
-ends_not : (s t : List ℕ) (c : ℕ) → (last_byte s == c) ≡ false → (last_byte t == c) ≡ true → s ≡ t → ⊥
-ends_not s t c h g e = false≢true (sym h ∙ (ap (λ u. last_byte u == c) e ∙ g))
+not_among : (s a b : List ℕ) → Ends (last_byte s) → (last_byte a == 79) ≡ true → (last_byte b == 48) ≡ true → is_among s (a ∷ b ∷ []) ≡ false
+not_among s a b ends h g =
+    false_from_ne_true (is_among s (a ∷ b ∷ [])) (λ k. elim (two_of s a b k) [ inl e ↦ cc | inr e ↦ cc ])
 
 no_castle : (s : List ℕ) → Ends (last_byte s) → castle_of s ≡ None
-no_castle s h =
-    rw (
-      false_from_ne_true (is_among s (castle_texts false)) (λ g. elim (two_of s (codes "O-O") (codes "0-0") g) [
-        | inl e ↦ ends_not s (codes "O-O") 79 h.no_letter refl e
-        | inr e ↦ ends_not s (codes "0-0") 48 h.no_zero refl e
-      ]),
-      false_from_ne_true (is_among s (castle_texts true)) (λ g. elim (two_of s (codes "O-O-O") (codes "0-0-0") g) [
-        | inl e ↦ ends_not s (codes "O-O-O") 79 h.no_letter refl e
-        | inr e ↦ ends_not s (codes "0-0-0") 48 h.no_zero refl e
-      ]),
-    ) refl
+no_castle s ends = rw (not_among s (codes "O-O") (codes "0-0") ends refl refl, not_among s (codes "O-O-O") (codes "0-0-0") ends refl refl) refl
 
 piece_move_read : (s : List ℕ) (k : Kind) (file rank : Option ℕ) (to : Square) (promotion : Option Promotion)
     → SpellsPieceMove s k file rank to promotion → is_form (Man k file rank to promotion) ≡ true → BareRead s (Man k file rank to promotion)
 piece_move_read s k file rank to promotion h g =
-    let hints : (below_eight file && below_eight rank) ≡ true = first_of_two (below_eight file && below_eight rank) (on_board to) g in
-    let here : on_board to ≡ true = second_of_two (below_eight file && below_eight rank) (on_board to) g in
-    let l : List ℕ = h.letters in
-    let a : List ℕ = l ++ hint_text file_letter file in
-    let b : List ℕ = a ++ hint_text rank_digit rank in
-    let c : List ℕ = b ++ h.capture in
-    let d : List ℕ = c ++ square_text to in
-    let letters : Letters l k = letters_read k l h.letters_fit in
-    let f : FileRead l a file = file_read l k file (first_of_two (below_eight file) (below_eight rank) hints) letters in
-    let r : RankRead a b rank = rank_read a rank (second_of_two (below_eight file) (below_eight rank) hints) f.no_rank f.no_x in
-    let x : before_capture c ≡ b = capture_read b h.capture h.capture_fits r.no_x in
-    let t : TargetRead c d to = target_read c to here in
-    let p : PromotionRead d (d ++ h.promoted) promotion =
-    promotion_read d h.promoted to.rank promotion h.promoted_fits (second_of_two (nat_lt to.file 8) (nat_lt to.rank 8) here) t.last in
+    let on = and_parts (below_eight file && below_eight rank) (on_board to) g in
+    let hints = and_parts (below_eight file) (below_eight rank) on.0 in
+    let a = h.letters ++ hint_text file_letter file in
+    let b = a ++ hint_text rank_digit rank in
+    let c = b ++ h.capture in
+    let d = c ++ square_text to in
+    let letters = letters_read k h.letters h.letters_fit in
+    let f = file_read h.letters k file hints.0 letters in
+    let r = rank_read a rank hints.1 f.no_rank f.no_x in
+    let x = capture_read b h.capture h.capture_fits r.no_x in
+    let t = target_read c to on.1 in
+    let p = promotion_read d h.promoted to.rank promotion h.promoted_fits (and_parts (nat_lt to.file 8) (nat_lt to.rank 8) on.1).1 t.last in
     let before : before_target d ≡ b = cc in
     let kind : kind_of_text (before_file (before_rank b)) ≡ Some k = ap (λ u. kind_of_text (before_file u)) r.before ∙ (ap kind_of_text f.before ∙ letters.named) in
     let file_is : file_at_end (before_rank b) ≡ file = cc in
     let piece_move : piece_move_of (d ++ h.promoted) ≡ Some (Man k file rank to promotion) =
-    ap₂ (λ u q. piece_move_at u q) p.before p.told
+    ap₂ piece_move_at p.before p.told
     ∙ (ap₂ (λ u o. piece_move_before u o promotion) before t.told
     ∙ (ap (λ o. piece_move_if o (file_at_end (before_rank b)) (rank_at_end b) (Some to) promotion) kind
     ∙ ap₂ (λ o q. piece_move_if (Some k) o q (Some to) promotion) file_is r.told)) in
-    let bare : BareRead (d ++ h.promoted) (Man k file rank to promotion) =
-    record {
-      told = cc (no_castle (d ++ h.promoted) p.ends);
-      whole = no_mark_end (d ++ h.promoted) p.ends.no_mark;
-    } in
-    subst (λ u. BareRead u (Man k file rank to promotion)) (sym h.joined) bare
-
-castle_read : (s : List ℕ) (long : Bool) → is_among s (castle_texts long) ≡ true → BareRead s (Castle long)
-castle_read s false h =
-    elim (two_of s (codes "O-O") (codes "0-0") h) [
-      | inl e ↦ rw e assumption
-      | inr e ↦ rw e assumption
-    ]
-castle_read s true h =
-    elim (two_of s (codes "O-O-O") (codes "0-0-0") h) [
-      | inl e ↦ rw e assumption
-      | inr e ↦ rw e assumption
-    ]
+    rw h.joined (record { told = cc (no_castle (d ++ h.promoted) p.ends); whole = no_mark_end (d ++ h.promoted) p.ends.no_mark })
 
 bare_read : (s : List ℕ) (f : Form) → SpellsBare s f → is_form f ≡ true → BareRead s f
-bare_read s (Castle long) h g = castle_read s long h
+bare_read s (Castle false) h g = elim (two_of s (codes "O-O") (codes "0-0") h) [ inl e ↦ rw e assumption | inr e ↦ rw e assumption ]
+bare_read s (Castle true) h g = elim (two_of s (codes "O-O-O") (codes "0-0-0") h) [ inl e ↦ rw e assumption | inr e ↦ rw e assumption ]
 bare_read s (Man k file rank to promotion) h g = piece_move_read s k file rank to promotion h g
 
 pub form_read : (s : List ℕ) (f : Form) → Spells s f → is_form f ≡ true → form_of s ≡ Some f
 form_read s f h g =
-    let bare : BareRead h.bare f = bare_read h.bare f h.spells_bare g in
+    let bare = bare_read h.bare f h.spells_bare g in
     cc (before_marks-append h.bare h.marks h.marks_alone)
