@@ -1,5 +1,5 @@
 -- A form that is read of a text is spelled by it.
-use Rattle.chess_text.proofs.Words.{◌≡◌, ℕ, ◌+◌, ◌-◌, ◌<◌, Bool, true, false, ◌&&◌, nat_lt, nat_le, ◌==◌, List, [], ◌∷◌, ◌++◌, append-nil, refl, sym, ◌∙◌, ap, ap₂, subst, arith, Option, None, Some, is_some, find, codes, if◌then◌else◌, list_all, eqb-true, cond_some, nat_tests, Kind, King, Pawn, Promotion, Square, square, on_board, Form, Castle, Man, letter, kinds, file_letter, rank_digit, square_text, SpellsBare, Spells, is_among, letter_texts, hint_text, capture_texts, promotion_letter, promotions, promotion_texts, castle_texts, is_mark, below_eight, is_form, last_byte, front, front_if, before_marks, file_of, rank_of, promotion_of, promotion_at_end, before_sign, before_promotion, square_of, target_at_end, before_capture, before_target, rank_at_end, before_rank, file_at_end, before_file, kind_of_text, piece_move_if, piece_move_of, castle_of, castle_or, bare_form, form_of, same_Some}
+use Rattle.chess_text.proofs.Words.{◌≡◌, ℕ, ◌+◌, ◌-◌, ◌<◌, Bool, true, false, ◌&&◌, nat_lt, nat_le, ◌==◌, List, [], ◌∷◌, ◌++◌, append-nil, refl, sym, ap, arith, Option, None, Some, is_some, find, codes, if◌then◌else◌, list_all, eqb-true, cond_some, nat_tests, Kind, King, Pawn, Promotion, Square, square, on_board, Form, Castle, Man, letter, kinds, file_letter, rank_digit, square_text, SpellsBare, Spells, is_among, letter_texts, hint_text, capture_texts, promotion_letter, promotions, promotion_texts, castle_texts, is_mark, below_eight, is_form, last_byte, front, front_if, before_marks, file_of, rank_of, promotion_of, promotion_at_end, before_sign, before_promotion, square_of, target_at_end, before_capture, before_target, rank_at_end, before_rank, file_at_end, before_file, kind_of_text, piece_move_if, piece_move_of, castle_of, castle_or, bare_form, form_of, same_Some}
 use Rattle.std.proofs.lemmas.List.{append_assoc}
 use Rattle.chess_rules.specs.declared.piece.Promotion.TheVariants as become
 use Rattle.chess_text.proofs.forms.SpellingToForm.{snoc_again}
@@ -34,19 +34,14 @@ file_byte c n h = let both = cond_some (nat_le 97 c && nat_le c 104) (c - 97) n 
 rank_byte : (c n : ℕ) → rank_of c ≡ Some n → (c ≡ 49 + n) × (nat_lt n 8 ≡ true)
 rank_byte c n h = let both = cond_some (nat_le 49 c && nat_le c 56) (c - 49) n h in grind (arith, nat_tests)
 
-file_spelled : (s : List ℕ) → (s ≡ before_file s ++ hint_text file_letter (file_at_end s)) × (below_eight (file_at_end s) ≡ true)
-file_spelled s = by_byte (file_at_end s) refl
+-- a hint, and what stands before it
+hint_spelled : (read : ℕ → Option ℕ) (start : ℕ) → 0 < start → ((c n : ℕ) → read c ≡ Some n → (c ≡ start + n) × (nat_lt n 8 ≡ true)) → (s : List ℕ)
+    → (s ≡ front_if (is_some (read (last_byte s))) s ++ hint_text (λ n. start + n) (read (last_byte s))) × (below_eight (read (last_byte s)) ≡ true)
+hint_spelled read start some byte s = by_byte _ refl
   where
-    by_byte : (o : Option ℕ) → file_at_end s ≡ o → (s ≡ front_if (is_some o) s ++ hint_text file_letter o) × (below_eight o ≡ true)
+    by_byte : (o : Option ℕ) → read (last_byte s) ≡ o → (s ≡ front_if (is_some o) s ++ hint_text (λ n. start + n) o) × (below_eight o ≡ true)
     by_byte None e = (sym (append-nil s), refl)
-    by_byte (Some n) e = (ends_in s (97 + n) (file_byte (last_byte s) n e).0 (omega arith), (file_byte (last_byte s) n e).1)
-
-rank_spelled : (s : List ℕ) → (s ≡ before_rank s ++ hint_text rank_digit (rank_at_end s)) × (below_eight (rank_at_end s) ≡ true)
-rank_spelled s = by_byte (rank_at_end s) refl
-  where
-    by_byte : (o : Option ℕ) → rank_at_end s ≡ o → (s ≡ front_if (is_some o) s ++ hint_text rank_digit o) × (below_eight o ≡ true)
-    by_byte None e = (sym (append-nil s), refl)
-    by_byte (Some n) e = (ends_in s (49 + n) (rank_byte (last_byte s) n e).0 (omega arith), (rank_byte (last_byte s) n e).1)
+    by_byte (Some n) e = let (is, low) = byte (last_byte s) n e in (ends_in s (start + n) is (omega arith), low)
 
 -- one of the ways to write a part, and what stands before it
 record Part (s before : List ℕ) (texts : List (List ℕ)) : Type 0 where
@@ -66,13 +61,10 @@ target_spelled s to h = by_bytes (file_of (last_byte (front s))) (rank_of (last_
   where
     by_bytes : (f r : Option ℕ) → file_of (last_byte (front s)) ≡ f → rank_of (last_byte s) ≡ r → square_of f r ≡ Some to → (s ≡ front (front s) ++ square_text to) × (on_board to ≡ true)
     by_bytes (Some f) (Some r) e g h =
-        let same : square f r ≡ to = same_Some (square f r) to h in
-        let file : (last_byte (front s) ≡ 97 + f) × (nat_lt f 8 ≡ true) = file_byte (last_byte (front s)) f e in
-        let rank : (last_byte s ≡ 49 + r) × (nat_lt r 8 ≡ true) = rank_byte (last_byte s) r g in
-        let joined : s ≡ front (front s) ++ (97 + f) ∷ (49 + r) ∷ [] =
-        ends_in s (49 + r) rank.0 (omega arith)
-        ∙ (ap (λ t. t ++ (49 + r) ∷ []) (ends_in (front s) (97 + f) file.0 (omega arith)) ∙ append_assoc (front (front s)) ((97 + f) ∷ []) ((49 + r) ∷ [])) in
-        (joined ∙ ap (λ t. front (front s) ++ square_text t) same, ap on_board (sym same) ∙ ap₂ (λ a b. a && b) file.1 rank.1)
+        let same = same_Some (square f r) to h in
+        let file = file_byte (last_byte (front s)) f e in
+        let rank = rank_byte (last_byte s) r g in
+        (cc (ends_in s (49 + r) rank.0 (omega arith), ends_in (front s) (97 + f) file.0 (omega arith), append_assoc (front (front s)) ((97 + f) ∷ []) ((49 + r) ∷ [])), cc)
     by_bytes f r e g h = cc
 
 -- what is found passes the test
@@ -87,33 +79,22 @@ found {X} p (y ∷ xs) x h = by_test (p y) refl (found p xs x) h
 promotion_byte : (c : ℕ) (q : Promotion) → promotion_of c ≡ Some q → c ≡ promotion_letter q
 promotion_byte c q h = sym (eqb-true (promotion_letter q) c (found (λ p. promotion_letter p == c) promotions q h))
 
-some_letter : (q : Promotion) → 0 < promotion_letter q
-some_letter become.Queen = omega arith
-some_letter q = omega arith
-
-with_sign : (q : Promotion) → is_among (61 ∷ promotion_letter q ∷ []) (promotion_texts (Some q)) ≡ true
-with_sign become.Queen = refl
-with_sign q = refl
-
-without_sign : (q : Promotion) → is_among (promotion_letter q ∷ []) (promotion_texts (Some q)) ≡ true
-without_sign become.Queen = refl
-without_sign q = refl
+letter_texts_of : (q : Promotion) → (0 < promotion_letter q) × (is_among (61 ∷ promotion_letter q ∷ []) (promotion_texts (Some q)) ≡ true) × (is_among (promotion_letter q ∷ []) (promotion_texts (Some q)) ≡ true)
+letter_texts_of become.Queen = (omega arith, refl, refl)
+letter_texts_of q = (omega arith, refl, refl)
 
 promotion_spelled : (s : List ℕ) → Part s (before_promotion s) (promotion_texts (promotion_at_end s))
 promotion_spelled s = by_byte (promotion_at_end s) refl
   where
     by_sign : (q : Promotion) (b : Bool) → (last_byte (front s) == 61) ≡ b → s ≡ front s ++ promotion_letter q ∷ [] → Part s (front_if b (front s)) (promotion_texts (Some q))
     by_sign q true e h =
-        record {
-          text = 61 ∷ promotion_letter q ∷ [];
-          joined = cc (is_it (front s) 61 e (omega arith), append_assoc (front (front s)) (61 ∷ []) (promotion_letter q ∷ []));
-          fits = with_sign q;
-        }
-    by_sign q false e h = record { text = promotion_letter q ∷ []; joined = h; fits = without_sign q }
+        let joined : s ≡ front (front s) ++ 61 ∷ promotion_letter q ∷ [] = cc (is_it (front s) 61 e (omega arith), append_assoc (front (front s)) (61 ∷ []) (promotion_letter q ∷ [])) in
+        record { text = 61 ∷ promotion_letter q ∷ []; joined = joined; fits = (letter_texts_of q).1 }
+    by_sign q false e h = record { text = promotion_letter q ∷ []; joined = h; fits = (letter_texts_of q).2 }
 
     by_byte : (o : Option Promotion) → promotion_at_end s ≡ o → Part s (if is_some o then before_sign (front s) else s) (promotion_texts o)
     by_byte None e = record { text = []; joined = sym (append-nil s); fits = refl }
-    by_byte (Some q) e = by_sign q (last_byte (front s) == 61) refl (ends_in s (promotion_letter q) (promotion_byte (last_byte s) q e) (some_letter q))
+    by_byte (Some q) e = by_sign q (last_byte (front s) == 61) refl (ends_in s (promotion_letter q) (promotion_byte (last_byte s) q e) (letter_texts_of q).0)
 
 own_letter : (k : Kind) → is_among (letter k ∷ []) (letter_texts k) ≡ true
 own_letter King = refl
@@ -146,22 +127,20 @@ piece_move_spelled s f h =
     by_parts k None e g h = absurd (cc)
     by_parts None (Some to) e g h = absurd (cc)
     by_parts (Some k) (Some to) e g h =
-        let a : List ℕ = before_rank b in
-        let l : List ℕ = before_file a in
-        let p : Part s d (promotion_texts (promotion_at_end s)) = promotion_spelled s in
-        let t : (d ≡ front (front d) ++ square_text to) × (on_board to ≡ true) = target_spelled d to g in
-        let x : Part (front (front d)) b capture_texts = capture_spelled (front (front d)) in
-        let r : (b ≡ a ++ hint_text rank_digit (rank_at_end b)) × (below_eight (rank_at_end b) ≡ true) = rank_spelled b in
-        let i : (a ≡ l ++ hint_text file_letter (file_at_end a)) × (below_eight (file_at_end a) ≡ true) = file_spelled a in
+        let a = before_rank b in
+        let l = before_file a in
+        let p = promotion_spelled s in
+        let t = target_spelled d to g in
+        let x = capture_spelled (front (front d)) in
+        let r = hint_spelled rank_of 49 (omega arith) rank_byte b in
+        let i = hint_spelled file_of 97 (omega arith) file_byte a in
         let r_is : b ≡ (l ++ hint_text file_letter (file_at_end a)) ++ hint_text rank_digit (rank_at_end b) = cc in
-        let x_is : front (front d) ≡ ((l ++ hint_text file_letter (file_at_end a)) ++ hint_text rank_digit (rank_at_end b)) ++ x.text = cc in
         let d_is : d ≡ (((l ++ hint_text file_letter (file_at_end a)) ++ hint_text rank_digit (rank_at_end b)) ++ x.text) ++ square_text to = cc in
-        let piece_move : Told s (Man k (file_at_end a) (rank_at_end b) to (promotion_at_end s)) =
-        record {
-          spelled = record { letters = l; capture = x.text; promoted = p.text; joined = p.joined ∙ ap (λ u. u ++ p.text) d_is; letters_fit = kind_spelled l k e; capture_fits = x.fits; promoted_fits = p.fits };
-          good = ap₂ (λ v w. v && w) (ap₂ (λ v w. v && w) i.1 r.1) t.1;
-        } in
-        subst (λ z. Told s z) (same_Some (Man k (file_at_end a) (rank_at_end b) to (promotion_at_end s)) f h) piece_move
+        rw (← same_Some (Man k (file_at_end a) (rank_at_end b) to (promotion_at_end s)) f h)
+        (record {
+          spelled = record { letters = l; capture = x.text; promoted = p.text; joined = cc; letters_fit = kind_spelled l k e; capture_fits = x.fits; promoted_fits = p.fits };
+          good = cc;
+        })
 
 bare_spelled : (s : List ℕ) (f : Form) → bare_form s ≡ Some f → Told s f
 bare_spelled s f h = by_castling (castle_of s) refl h
@@ -169,11 +148,11 @@ bare_spelled s f h = by_castling (castle_of s) refl h
     by_castling : (o : Option Bool) → castle_of s ≡ o → castle_or o (piece_move_of s) ≡ Some f → Told s f
     by_castling None e g = piece_move_spelled s f g
     by_castling (Some long) e g =
-        subst (λ z. Told s z) (same_Some (Castle long) f g)
+        rw (← same_Some (Castle long) f g)
         (record { spelled = found (λ l. is_among s (castle_texts l)) (false ∷ true ∷ []) long e; good = refl })
 
 pub form_spelled : (s : List ℕ) (f : Form) → form_of s ≡ Some f → Spells s f × (is_form f ≡ true)
 form_spelled s f h =
-    let m : Marked s = marked s in
-    let t : Told (before_marks s) f = bare_spelled (before_marks s) f h in
+    let m = marked s in
+    let t = bare_spelled (before_marks s) f h in
     (record { bare = before_marks s; marks = m.marks; joined = m.joined; spells_bare = t.spelled; marks_alone = m.alone }, t.good)
