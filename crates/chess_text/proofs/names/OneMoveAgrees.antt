@@ -1,5 +1,5 @@
 -- No other legal move agrees with the form that is written.
-use Rattle.chess_text.proofs.Words.{◌≡◌, ℕ, ◌+◌, ◌/◌, Bool, true, false, not, ◌&&◌, refl, sym, ◌∙◌, ap, ap₂, subst, arith, ◌==◌, Option, None, Some, is_none, list_any, false≢true, both_ways, and_parts, and_from, eqb-true, nat_tests, Colour, White, Black, Kind, King, Pawn, Piece, Promotion, Move, Parts, Square, square, squares, gap, same_square, at, has_piece, same_colour, same_kind, is_empty, other, is_ahead, is_position, own, captured_pawn, crossed, pawn_rank, double_rank, castles_short, castles_long, is_legal, OneKing, Man, hints_fit, same_promotion, is_castling, describes, agrees, from_square, is_rival, rivals, is_capture, on_file, on_rank}
+use Rattle.chess_text.proofs.Words.{◌≡◌, ℕ, ◌+◌, ◌/◌, Bool, true, false, not, ◌&&◌, refl, sym, ◌∙◌, ap, ap₂, subst, arith, ◌==◌, Option, None, Some, is_none, list_any, false≢true, both_ways, and_parts, and_from, not-true, not-false, eqb-true, nat_tests, Colour, White, Black, Kind, King, Pawn, Piece, Promotion, Move, Parts, Square, square, squares, gap, same_square, at, has_piece, same_colour, same_kind, is_empty, other, is_ahead, is_position, own, captured_pawn, crossed, pawn_rank, double_rank, Wing, castles, castles_short, castles_long, is_legal, OneKing, Man, hints_fit, same_promotion, is_castling, describes, agrees, from_square, is_rival, rivals, is_capture, on_file, on_rank}
 use Rattle.chess_text.proofs.forms.CastlingMoves.{stepped, squares_same, castles_ends}
 use Rattle.chess_text.proofs.forms.AgreeingAreFound.{in_squares, any_contained, promotions_same, move_of, no_promotion}
 use Rattle.chess_text.proofs.forms.PawnWays.{PawnWay, takes, passes, advances, doubles, pawn_way, pawn_takes, gap_apart}
@@ -30,15 +30,15 @@ king_alone : OneKing → (p : Parts) (m n : Move) → is_position p ≡ true →
     → describes p (king_form_by (castles_short p m) (castles_long p m) m) n ≡ true → n ≡ m
 king_alone one p m n position h g stands = by_wing _ _ refl refl
   where
+    together : (right : Bool) (wing : Wing) → castles p m right wing ≡ true → castles p n right wing ≡ true → n ≡ m
+    together right wing e d =
+        let x = castles_ends p m right wing e in
+        let y = castles_ends p n right wing d in
+        same_move n m (y.0 ∙ sym x.0) (y.1 ∙ sym x.1) (no_promotion _ y.2 ∙ sym (no_promotion _ x.2))
+
     by_wing : (a b : Bool) → castles_short p m ≡ a → castles_long p m ≡ b → describes p (king_form_by a b m) n ≡ true → n ≡ m
-    by_wing true b e f d =
-        let x = castles_ends p m _ _ e in
-        let y = castles_ends p n _ _ d in
-        same_move n m (y.0 ∙ sym x.0) (y.1 ∙ sym x.1) (no_promotion _ y.2 ∙ sym (no_promotion _ x.2))
-    by_wing false true e f d =
-        let x = castles_ends p m _ _ f in
-        let y = castles_ends p n _ _ d in
-        same_move n m (y.0 ∙ sym x.0) (y.1 ∙ sym x.1) (no_promotion _ y.2 ∙ sym (no_promotion _ x.2))
+    by_wing true b e f d = together _ _ e d
+    by_wing false true e f d = together _ _ f d
     by_wing false false e f d =
         let s = said p King None None m.to None n d in
         same_move n m (one p p.side n.from m.from position (stepped p n g).from_on (stepped p m h).from_on s.stands stands) s.there (s.named ∙ sym (unpromoted p m King h stands refl))
@@ -90,7 +90,7 @@ disambiguated_alone p k m n h g stands may_have_rivals d = by_test _ refl
     by_test : (b : Bool) → same_square n.from m.from ≡ b → n ≡ m
     by_test true e = same_move n m (squares_same _ _ e) s.there named
     by_test false e =
-        let rival : is_rival p m n.from ≡ true = is_it_rival p m n g s.there named e in
+        let rival = is_it_rival p m n g s.there named e in
         absurd (told_away m.from n.from any file rank s.hints e
         (among_rivals p k m n (λ r. true) g s.stands rival refl)
         (λ x. among_rivals p k m n (λ r. r.file == m.from.file) g s.stands rival x)
@@ -122,20 +122,6 @@ not_both c (Some x) h g = apart c x.colour (and_parts _ _ h).0 (and_parts _ _ g)
     apart Black Black e f = cc
     apart c d e f = cc
 
-module _ (p : Parts) (m n : Move) (pawn_m : own p Pawn m.from ≡ true) (pawn_n : own p Pawn n.from ≡ true) (there : n.to ≡ m.to) where
-  same_rank : is_ahead p.side m.from.rank m.to.rank ≡ true → is_ahead p.side n.from.rank n.to.rank ≡ true → n.from.rank ≡ m.from.rank
-  same_rank h g = behind _ _ _ _ (rw there at g) h
-
-  to_file : n.to.file ≡ m.to.file
-  to_file = cc
-
-  -- with the file told
-  by_file : n.from.file ≡ m.from.file → gap m.from.file m.to.file ≡ 1 → is_ahead p.side m.from.rank m.to.rank ≡ true → PawnWay p n → n.from ≡ m.from
-  by_file file aside ahead (takes g a e) = ap₂ square file (same_rank ahead a)
-  by_file file aside ahead (passes g a e f) = ap₂ square file (same_rank ahead a)
-  by_file file aside ahead (advances s a e) = absurd (gap_apart _ _ (sym file ∙ s ∙ to_file) aside)
-  by_file file aside ahead (doubles s a b e f) = absurd (gap_apart _ _ (sym file ∙ s ∙ to_file) aside)
-
 -- a pawn does not come to where another one's double step crosses, nor past it
 over : (p : Parts) (x y : Move) → own p Pawn y.from ≡ true → y.to ≡ x.to → y.from.file ≡ y.to.file → is_ahead p.side y.from.rank y.to.rank ≡ true
     → x.from.file ≡ x.to.file → x.from.rank ≡ pawn_rank p.side → x.to.rank ≡ double_rank p.side → is_empty p.board (crossed x) ≡ true → ⊥
@@ -160,6 +146,19 @@ past p x y there ahead taken file low high free =
     place = ap₂ square (ap (λ (s : Square). s.file) there ∙ sym file) (sym rank)
 
 module _ (p : Parts) (m n : Move) (pawn_m : own p Pawn m.from ≡ true) (pawn_n : own p Pawn n.from ≡ true) (there : n.to ≡ m.to) where
+  same_rank : is_ahead p.side m.from.rank m.to.rank ≡ true → is_ahead p.side n.from.rank n.to.rank ≡ true → n.from.rank ≡ m.from.rank
+  same_rank h g = behind _ _ _ _ (rw there at g) h
+
+  to_file : n.to.file ≡ m.to.file
+  to_file = cc
+
+  -- with the file told
+  by_file : n.from.file ≡ m.from.file → gap m.from.file m.to.file ≡ 1 → is_ahead p.side m.from.rank m.to.rank ≡ true → PawnWay p n → n.from ≡ m.from
+  by_file file aside ahead (takes g a e) = ap₂ square file (same_rank ahead a)
+  by_file file aside ahead (passes g a e f) = ap₂ square file (same_rank ahead a)
+  by_file file aside ahead (advances s a e) = absurd (gap_apart _ _ (sym file ∙ s ∙ to_file) aside)
+  by_file file aside ahead (doubles s a b e f) = absurd (gap_apart _ _ (sym file ∙ s ∙ to_file) aside)
+
   file_of_target : n.from.file ≡ n.to.file → m.from.file ≡ m.to.file → n.from.file ≡ m.from.file
   file_of_target h g = cc
 
@@ -174,8 +173,8 @@ module _ (p : Parts) (m n : Move) (pawn_m : own p Pawn m.from ≡ true) (pawn_n 
   straight_alone (advances s a e) (passes h b f g) file =
       absurd (not_both p.side (at p.board m.from) pawn_m
       (subst (λ (t : Square). has_piece (other p.side) Pawn (at p.board t) ≡ true)
-      (ap₂ square (ap (λ (t : Square). t.file) there ∙ sym s) (same_rank p m n pawn_m pawn_n there a b)) f))
-  straight_alone (advances s a e) (advances t b f) file = ap₂ square (file_of_target t s) (same_rank p m n pawn_m pawn_n there a b)
+      (ap₂ square (ap (λ (t : Square). t.file) there ∙ sym s) (same_rank a b)) f))
+  straight_alone (advances s a e) (advances t b f) file = ap₂ square (file_of_target t s) (same_rank a b)
   straight_alone (advances s a e) (doubles t b c f g) file = absurd (over p n m pawn_m (sym there) s a t b c f)
   straight_alone (doubles s a b e f) (takes h c g) file = absurd (not_empty g f)
   straight_alone (doubles s a b e f) (passes h c g i) file = absurd (past p m n there c g s a b e)
@@ -193,21 +192,13 @@ pawn_alone p m n h g pawn d = by_capture _ (pawn_takes p m pawn h) d
   where
     by_capture : (b : Bool) → b ≡ not (m.from.file == m.to.file) → describes p (pawn_form_by b m) n ≡ true → n ≡ m
     by_capture false e d =
-        let s : Said p Pawn None None m.to m.promotion n = said p Pawn None None m.to m.promotion n d in
-        same_move n m (straight_alone p m n pawn s.stands s.there (pawn_way p m h pawn) (pawn_way p n g s.stands) (eqb-true m.from.file m.to.file (turned _ e))) s.there s.named
-      where
-        turned : (x : Bool) → false ≡ not x → x ≡ true
-        turned true e = refl
-        turned x e = e
+        let s = said p Pawn None None m.to m.promotion n d in
+        same_move n m (straight_alone p m n pawn s.stands s.there (pawn_way p m h pawn) (pawn_way p n g s.stands) (eqb-true m.from.file m.to.file (not-false _ (sym e)))) s.there s.named
     by_capture true e d =
-        let s : Said p Pawn (Some m.from.file) None m.to m.promotion n = said p Pawn (Some m.from.file) None m.to m.promotion n d in
-        let way = aside p m n pawn s.stands s.there (pawn_way p m h pawn) (turned (m.from.file == m.to.file) e) in
-        let file : m.from.file ≡ n.from.file = eqb-true m.from.file n.from.file (and_parts (m.from.file == n.from.file) true s.hints).0 in
+        let s = said p Pawn (Some m.from.file) None m.to m.promotion n d in
+        let way = aside p m n pawn s.stands s.there (pawn_way p m h pawn) (not-true (m.from.file == m.to.file) (sym e)) in
+        let file = eqb-true m.from.file n.from.file (and_parts (m.from.file == n.from.file) true s.hints).0 in
         same_move n m (by_file p m n pawn s.stands s.there (sym file) way.0 way.1 (pawn_way p n g s.stands)) s.there s.named
-      where
-        turned : (x : Bool) → true ≡ not x → x ≡ false
-        turned true e = e
-        turned x e = refl
 
 -- All kinds.
 

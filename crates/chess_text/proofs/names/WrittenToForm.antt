@@ -130,10 +130,8 @@ pawn_good false m h g = g
 
 disambiguated_good : (k : Kind) (p : Parts) (m : Move) → on_board m.from ≡ true → on_board m.to ≡ true → is_form (disambiguated_form k p m) ≡ true
 disambiguated_good k p m h g =
-    let any = list_any (λ r. true) (rivals p k m) in
-    let file = on_file m.from (rivals p k m) in
-    let rank = on_rank m.from (rivals p k m) in
-    and_from _ _ (hints_below _ any file rank h) g
+    let others = rivals p k m in
+    and_from _ _ (hints_below _ (list_any (λ r. true) others) (on_file m.from others) (on_rank m.from others) h) g
 
 pub good_form : (k : Kind) (p : Parts) (m : Move) → is_legal p m ≡ true → is_form (written k p m) ≡ true
 good_form k p m h = by_kind k (stepped p m h)
@@ -170,7 +168,7 @@ unpromoted p m k h stands apart =
 pub piece_move_described : (p : Parts) (m : Move) (k : Kind) (file rank : Option ℕ) (promotion : Option Promotion) → own p k m.from ≡ true → hints_fit file rank m.from ≡ true → m.promotion ≡ promotion → is_castling p m ≡ false
     → describes p (Man k file rank m.to promotion) m ≡ true
 piece_move_described p m k file rank promotion stands hints becomes plain =
-    cc (and_from (own p k m.from && hints_fit file rank m.from) ((same_square m.to m.to && same_promotion m.promotion promotion) && not (is_castling p m)) (and_from (own p k m.from) (hints_fit file rank m.from) stands hints) (and_from (same_square m.to m.to && same_promotion m.promotion promotion) (not (is_castling p m)) (and_from (same_square m.to m.to) (same_promotion m.promotion promotion) (same_square-refl m.to) (subst (λ (q : Option Promotion). same_promotion m.promotion q ≡ true) becomes (same_promotion-refl m.promotion))) (ap not plain)))
+    rw (stands, hints, same_square-refl m.to, ← becomes, same_promotion-refl m.promotion, plain) refl
 
 pub itself : (n : ℕ) → (n == n) ≡ true
 itself n = eq-eqb n n refl
@@ -195,10 +193,8 @@ pawn_described p m false stands = piece_move_described p m Pawn None None _ stan
 
 disambiguated_described : (p : Parts) (m : Move) (k : Kind) → is_legal p m ≡ true → own p k m.from ≡ true → same_kind k Pawn ≡ false → same_kind King k ≡ false → describes p (disambiguated_form k p m) m ≡ true
 disambiguated_described p m k h stands a b =
-    let any = list_any (λ r. true) (rivals p k m) in
-    let file = on_file m.from (rivals p k m) in
-    let rank = on_rank m.from (rivals p k m) in
-    piece_move_described p m k _ _ None stands (own_hints _ any file rank) (unpromoted p m k h stands a) (no_castling p m k stands b)
+    let others = rivals p k m in
+    piece_move_described p m k _ _ None stands (own_hints _ (list_any (λ r. true) others) (on_file m.from others) (on_rank m.from others)) (unpromoted p m k h stands a) (no_castling p m k stands b)
 
 pub written_agrees : (k : Kind) (p : Parts) (m : Move) → is_legal p m ≡ true → own p k m.from ≡ true → agrees p (written k p m) m ≡ true
 written_agrees k p m h stands = and_from _ _ h (by_kind k stands)
