@@ -12,7 +12,7 @@ in_flat_map : {X Y : Type 0} (f : X → List Y) (xs : List X) (x : X) (y : Y) �
 in_flat_map f [] x y c d = absurd (none_in x c)
 in_flat_map {X} {Y} f (z ∷ zs) x y c d =
     elim (element z x zs c) [
-      | inl is ↦ Contains-append_left (f z) (flat_map f zs) y (subst (λ (w : X). Contains (f w) y) (sym is) d)
+      | inl is ↦ Contains-append_left (f z) (flat_map f zs) y (rw is d)
       | inr more ↦ Contains-append_right (f z) (flat_map f zs) y (in_flat_map f zs x y more d)
     ]
 
@@ -43,7 +43,7 @@ apart_from_test : (ss : List Square) → all_apart ss ≡ true → Apart ss
 apart_from_test [] h = tt
 apart_from_test (s ∷ ss) h =
     let both = and_parts (not (list_any (same_square s) ss)) (all_apart ss) h in
-    (λ t c e. both_ways (list_any (same_square s) ss) (not-true (list_any (same_square s) ss) both.0) (any_contained (same_square s) ss t c (subst (λ (u : Square). same_square s u ≡ true) e (same_square-refl s))), apart_from_test ss both.1)
+    (λ t c e. both_ways (list_any (same_square s) ss) (not-true _ both.0) (any_contained (same_square s) ss t c (rw (← e) (same_square-refl s))), apart_from_test ss both.1)
 
 tested : all_apart squares ≡ true
 unfolding squares
@@ -85,21 +85,21 @@ no_promotion (Some x) h = cc
 
 pub move_of : (m : Move) (from to : Square) (promotion : Option Promotion) → m.from ≡ from → m.to ≡ to → m.promotion ≡ promotion → m ≡ record { from = from; to = to; promotion = promotion }
 move_of m from to promotion a b c =
-    ap (λ (s : Square). record { from = s; to = m.to; promotion = m.promotion }) a
-    ∙ ap (λ (s : Square). record { from = from; to = s; promotion = m.promotion }) b
-    ∙ ap (λ (x : Option Promotion). record { from = from; to = to; promotion = x }) c
+    ap (λ s. record { from = s; to = m.to; promotion = m.promotion }) a
+    ∙ ap (λ s. record { from = from; to = s; promotion = m.promotion }) b
+    ∙ ap (λ x. record { from = from; to = to; promotion = x }) c
 
 pub is_possible : (p : Parts) (f : Form) (m : Move) → is_legal p m ≡ true → describes p f m ≡ true → Contains (moves_to_try p f) m
 is_possible p (Castle false) m legal h =
     let ends = castles_ends p m (short_right p.side p.rights) short_wing h in
-    subst (λ (n : Move). Contains (moves_to_try p (Castle false)) n) (sym (move_of m _ _ None ends.0 ends.1 (no_promotion m.promotion ends.2))) (here (castling_move p.side false) [])
+    rw (move_of m _ _ None ends.0 ends.1 (no_promotion m.promotion ends.2)) (here (castling_move p.side false) [])
 is_possible p (Castle true) m legal h =
     let ends = castles_ends p m (long_right p.side p.rights) long_wing h in
-    subst (λ (n : Move). Contains (moves_to_try p (Castle true)) n) (sym (move_of m _ _ None ends.0 ends.1 (no_promotion m.promotion ends.2))) (here (castling_move p.side true) [])
+    rw (move_of m _ _ None ends.0 ends.1 (no_promotion m.promotion ends.2)) (here (castling_move p.side true) [])
 is_possible p (Man k file rank to promotion) m legal h =
     let rest = (and_parts (own p k m.from && hints_fit file rank m.from) ((same_square m.to to && same_promotion m.promotion promotion) && not (is_castling p m)) h).1 in
     let same = and_parts (same_square m.to to) (same_promotion m.promotion promotion) (and_parts (same_square m.to to && same_promotion m.promotion promotion) (not (is_castling p m)) rest).0 in
-    subst (λ (n : Move). Contains (map (move_from to promotion) squares) n) (sym (move_of m m.from to promotion refl (squares_same m.to to same.0) (promotions_same m.promotion promotion same.1)))
+    subst (Contains (map (move_from to promotion) squares)) (sym (move_of m m.from to promotion refl (squares_same m.to to same.0) (promotions_same m.promotion promotion same.1)))
     (in_map (move_from to promotion) squares m.from (in_squares m.from (stepped p m legal).from_on))
 
 -- What is found.
@@ -141,13 +141,8 @@ unfolding agreeing
 found_agrees p f x c =
     let g = found_in (told p f) (moves_to_try p f) x c in
     let t = tells (describes p f g.at) p g.at x g.gives in
-    let after : legal p x.mv ≡ Some x.next = subst (λ (n : Move). legal p n ≡ Some x.next) (sym t.same) t.after in
-    record {
-      holds =
-          and_from (is_legal p x.mv) (describes p f x.mv) (ap is_some after)
-          (subst (λ (n : Move). describes p f n ≡ true) (sym t.same) t.says);
-      after = after;
-    }
+    let after : legal p x.mv ≡ Some x.next = rw t.same t.after in
+    record { holds = and_from (is_legal p x.mv) (describes p f x.mv) (ap is_some after) (rw t.same t.says); after = after }
 
 -- of two that are found, the moves differ
 two_differ : (p : Parts) (f : Form) (ms : List Move) → Apart ms → (x y : Played) (more : List Played) → filter_map (told p f) ms ≡ x ∷ y ∷ more → x.mv ≢ y.mv
@@ -159,7 +154,7 @@ two_differ p f (m ∷ ms) apart x y more e = by_found (told p f m) refl e (two_d
     by_found (Some w) g h rest = λ same.
         let first : w ≡ x = cc in
         let others : filter_map (told p f) ms ≡ y ∷ more = cc in
-        let k = found_in (told p f) ms y (subst (λ (ys : List Played). Contains ys y) (sym others) (here y more)) in
+        let k = found_in (told p f) ms y (subst (λ ys. Contains ys y) (sym others) (here y more)) in
         let t = tells (describes p f m) p m x (g ∙ ap Some first) in
         let u = tells (describes p f k.at) p k.at y k.gives in
         apart.0 k.at k.among (sym t.same ∙ same ∙ u.same)
@@ -175,14 +170,14 @@ module _ (p : Parts) (f : Form) where
   is_found : (xs : List Played) → agreeing p f ≡ xs → (m : Move) → agrees p f m ≡ true → (q : Parts) × (legal p m ≡ Some q) × Contains xs (record { mv = m; next = q })
   is_found xs e m h =
       let (q, after) = legal_next (legal p m) (and_parts (is_legal p m) (describes p f m) h).0 in
-      (q, after, subst (λ (ys : List Played). Contains ys (record { mv = m; next = q })) e (agreeing_found p f m q h after))
+      (q, after, rw e at (agreeing_found p f m q h after))
 
   first_agrees : (x : Played) (more : List Played) → agreeing p f ≡ x ∷ more → Agrees p f x
-  first_agrees x more e = found_agrees p f x (subst (λ (ys : List Played). Contains ys x) (sym e) (here x more))
+  first_agrees x more e = found_agrees p f x (rw e (here x more))
 
   second_agrees : (x y : Played) (more : List Played) → agreeing p f ≡ x ∷ y ∷ more → Agrees p f y
   second_agrees x y more e =
-      found_agrees p f y (subst (λ (ys : List Played). Contains ys y) (sym e) (later x y (y ∷ more) (here y more)))
+      found_agrees p f y (rw e (later x y (y ∷ more) (here y more)))
 
   alone : (x : Played) → agreeing p f ≡ x ∷ [] → (m : Move) → agrees p f m ≡ true → m ≡ x.mv
   alone x e m h =
@@ -200,9 +195,9 @@ module _ (p : Parts) (f : Form) where
   one_to x xs e h = cc
 
   one_from : (x : Played) (xs : List Played) → agreeing p f ≡ xs → agrees p f x.mv ≡ true → legal p x.mv ≡ Some x.next → ((m : Move) → agrees p f m ≡ true → m ≡ x.mv) → only xs ≡ Ok x
-  one_from x [] e h after single = absurd (none_in x (subst (λ (ys : List Played). Contains ys x) e (agreeing_found p f x.mv x.next h after)))
+  one_from x [] e h after single = absurd (none_in x (rw e at (agreeing_found p f x.mv x.next h after)))
   one_from x (y ∷ []) e h after single =
-      elim (element y x [] (subst (λ (ys : List Played). Contains ys x) e (agreeing_found p f x.mv x.next h after))) [
+      elim (element y x [] (rw e at (agreeing_found p f x.mv x.next h after))) [
         | inl is ↦ ap Ok is
         | inr more ↦ absurd (none_in x more)
       ]

@@ -54,7 +54,7 @@ module _ (p : Parts) (long : Bool) (m : Move) (is : m ≡ castling_move p.side l
 
   pub castling_illegal : is_legal p m ≡ false → Err NoMove ≡ move_of_form p (Castle long)
   castling_illegal h =
-      answer_of None (played_none _ p (castling_move p.side long) (subst (λ (n : Move). legal p n ≡ None) is (no_next _ h)))
+      answer_of None (played_none _ p (castling_move p.side long) (rw is at (no_next _ h)))
 
   pub castling_found : is_legal p m ≡ true → is_castling p m ≡ true → with_next_position p (Ok m) ≡ move_of_form p (Castle long)
   castling_found h named =
@@ -63,7 +63,7 @@ module _ (p : Parts) (long : Bool) (m : Move) (is : m ≡ castling_move p.side l
     where
       found : (q : Parts) → legal p m ≡ Some q → Ok (record { mv = m; next = q }) ≡ move_of_form p (Castle long)
       found q leads =
-          cc (answer_of (Some (record { mv = castling_move p.side long; next = q })) (played_some _ p q (castling_move p.side long) (described p long (castling_move _ long) refl ∙ subst (λ (n : Move). is_castling p n ≡ true) is named) (subst (λ (n : Move). legal p n ≡ Some q) is leads)))
+          cc (answer_of (Some (record { mv = castling_move p.side long; next = q })) (played_some _ p q (castling_move p.side long) (described p long (castling_move _ long) refl ∙ subst (λ n. is_castling p n ≡ true) is named) (subst (λ n. legal p n ≡ Some q) is leads)))
 
   pub castling_other : is_castling p m ≡ false → Err NoMove ≡ move_of_form p (Castle long)
   castling_other named =

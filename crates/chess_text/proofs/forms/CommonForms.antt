@@ -1,5 +1,5 @@
 -- The forms of texts of the commonest shapes.
-use Rattle.chess_text.proofs.Words.{◌≡◌, ℕ, ◌+◌, true, ◌&&◌, nat_lt, List, [], ◌∷◌, ◌++◌, length, get_or, append-nil, refl, sym, ap, ap₂, subst, arith, Option, None, Some, IfSome, codes, Kind, Pawn, Square, on_board, Form, Man, file_letter, square_text, is_among, letter_texts, hint_text, capture_texts, below_eight, file_of, rank_of, square_of, kind_of_text, piece_move_if, form_of}
+use Rattle.chess_text.proofs.Words.{◌≡◌, ℕ, ◌+◌, true, ◌&&◌, nat_lt, List, [], ◌∷◌, ◌++◌, length, get_or, append-nil, refl, sym, ap, ap₂, arith, Option, None, Some, IfSome, codes, Kind, Pawn, Square, on_board, Form, Man, file_letter, square_text, is_among, letter_texts, hint_text, capture_texts, below_eight, file_of, rank_of, square_of, kind_of_text, piece_move_if, form_of}
 use Rattle.chess_text.proofs.forms.SpellingToForm.{form_read}
 use Rattle.chess_text.proofs.forms.FormToSpelling.{file_byte, target_spelled, kind_spelled}
 
@@ -10,7 +10,7 @@ module _ (k : Kind) (file : Option ℕ) (a b : ℕ) (moved : Option Form) (is : 
       → ((to : Square) → a ∷ b ∷ [] ≡ square_text to → s ≡ letters ++ hint_text file_letter file ++ [] ++ capture ++ square_text to ++ [])
       → IfSome moved (λ f. form_of s ≡ Some f)
   reads s letters capture letters_fit capture_fits below joined =
-      subst (λ (o : Option Form). IfSome o (λ f. form_of s ≡ Some f)) (sym is) (by_target (square_of (file_of a) (rank_of b)) refl)
+      rw is (by_target (square_of (file_of a) (rank_of b)) refl)
     where
       by_target : (o : Option Square) → square_of (file_of a) (rank_of b) ≡ o → IfSome (piece_move_if (Some k) file None o None) (λ f. form_of s ≡ Some f)
       by_target None e = tt
@@ -43,5 +43,5 @@ pawn_capture c a b file moved named is =
 
 -- a text of four bytes with an x in it
 pub with_x : (s : List ℕ) (moved : Option Form) → length s ≡ 4 → get_or s 1 0 ≡ 120 → IfSome moved (λ f. form_of (get_or s 0 0 ∷ 120 ∷ get_or s 2 0 ∷ get_or s 3 0 ∷ []) ≡ Some f) → IfSome moved (λ f. form_of s ≡ Some f)
-with_x (c ∷ x ∷ a ∷ b ∷ []) moved four is h = subst (λ (n : ℕ). IfSome moved (λ f. form_of (c ∷ n ∷ a ∷ b ∷ []) ≡ Some f)) (sym is) h
+with_x (c ∷ x ∷ a ∷ b ∷ []) moved four is h = rw is h
 with_x s moved four is h = absurd (omega arith)

@@ -17,7 +17,7 @@ squares_long = refl
 
 pub square_at : (n : ℕ) (d : Square) → n < 64 → get_or squares n d ≡ nth_square n
 square_at n d low =
-    ap (λ (ss : List Square). get_or ss n d) squares_by_place ∙ get_or-map-range_with_len nth_square 0 64 n n d low (omega arith)
+    ap (λ ss. get_or ss n d) squares_by_place ∙ get_or-map-range_with_len nth_square 0 64 n n d low (omega arith)
 
 module _ (p : Parts) (f : Form) (i : ℕ) (low : i < 64) where
   one_more : take (i + 1) squares ≡ take i squares ++ nth_square i ∷ []
@@ -31,9 +31,9 @@ module _ (p : Parts) (f : Form) (i : ℕ) (low : i < 64) where
   kinds_more kinds long so_far =
       let within : i < length kinds = omega arith in
       take_more_set kinds i _ within
-      ∙ ap (λ (ks : List OriginKind). ks ++ origin_kind p f (nth_square i) ∷ []) so_far
+      ∙ ap (λ ks. ks ++ origin_kind p f (nth_square i) ∷ []) so_far
       ∙ sym (map-append _ _ (nth_square i ∷ []))
-      ∙ ap (λ (ss : List Square). map (origin_kind p f) ss) (sym one_more)
+      ∙ ap (λ ss. map (origin_kind p f) ss) (sym one_more)
 
   -- the pairs of one square more
   pub counts_more : count_by (λ s. is_step_of_form p f (form_move p.side f s)) (take (i + 1) squares)
@@ -111,7 +111,7 @@ agreeing_count p (Man k file rank to promotion) =
     ap length (filter_map-map _ _ squares)
     ∙ moves_count p f
 agreeing_count p (Castle long) =
-    ap (λ (ss : List Square). length (filter_map (move_at p (Castle long)) ss)) (sym (king_square_alone p.side))
+    ap (λ ss. length (filter_map (move_at p (Castle long)) ss)) (sym (king_square_alone p.side))
     ∙ ap length (filter_map-filter _ _ elsewhere squares)
     ∙ moves_count p _
   where
@@ -124,7 +124,7 @@ agreeing_count p (Castle long) =
         not_described false h = refl
         not_described true h =
             absurd (both_ways _ other
-            (subst (λ (t : Square). same_square t s ≡ true) (castling_from p long (form_move p.side (Castle long) s) h) (same_square-refl s)))
+            (subst (λ t. same_square t s ≡ true) (castling_from p long (form_move p.side (Castle long) s) h) (same_square-refl s)))
 
 -- what a list of moves means, by its length
 only_one : (xs : List Played) → ((x : Played) × (only xs ≡ Ok x)) ↔ (length xs ≡ 1)
@@ -143,7 +143,7 @@ only_several xs = (λ e. cc, λ h. absurd (omega arith))
 pub legal_origins_decide : LegalOriginsDecide
 legal_origins_decide =
     record {
-      one = λ p f. subst (λ (n : ℕ). ((x : Played) × (only (agreeing p f) ≡ Ok x)) ↔ (n ≡ 1)) (agreeing_count p f) (only_one (agreeing p f));
-      none = λ p f. subst (λ (n : ℕ). (only (agreeing p f) ≡ Err NoMove) ↔ (n ≡ 0)) (agreeing_count p f) (only_none (agreeing p f));
-      several = λ p f. subst (λ (n : ℕ). (only (agreeing p f) ≡ Err Ambiguous) ↔ (2 ≤ n)) (agreeing_count p f) (only_several (agreeing p f));
+      one = λ p f. rw (agreeing_count p f) at (only_one (agreeing p f));
+      none = λ p f. rw (agreeing_count p f) at (only_none (agreeing p f));
+      several = λ p f. rw (agreeing_count p f) at (only_several (agreeing p f));
     }

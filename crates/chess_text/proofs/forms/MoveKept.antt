@@ -28,7 +28,7 @@ kept_next p m h = by_next _ h
 
 -- what is found from a move is it with that position, if it is legal and fits, and else nothing
 pub fitting_is_played : (p : Parts) (m : Move) (fits : Bool) → (is_legal p m && fits) ≡ true → played fits p m ≡ with_next m (legal p m)
-fitting_is_played p m fits h = ap (λ (b : Bool). played b p m) (and_parts _ fits h).1
+fitting_is_played p m fits h = ap (λ b. played b p m) (and_parts _ fits h).1
 
 pub other_is_not_played : (p : Parts) (m : Move) (fits : Bool) → (is_legal p m && fits) ≡ false → played fits p m ≡ None
 other_is_not_played p m false h = refl

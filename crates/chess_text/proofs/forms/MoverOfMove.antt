@@ -20,7 +20,7 @@ mover_colour p m h =
 
 -- it stands on the origin
 pub mover_stands : (p : Parts) (m : Move) → is_legal p m ≡ true → at p.board m.from ≡ None → ⊥
-mover_stands p m h nothing = false≢true (ap (λ (cell : Option Piece). has_colour p.side cell) (sym nothing) ∙ mover_colour p m h)
+mover_stands p m h nothing = false≢true (ap (λ cell. has_colour p.side cell) (sym nothing) ∙ mover_colour p m h)
 
 same_kind-refl : (k : Kind) → same_kind k k ≡ true
 same_kind-refl King = refl
@@ -28,7 +28,7 @@ same_kind-refl k = refl
 
 pub mover : (p : Parts) (m : Move) (x : Piece) → is_legal p m ≡ true → at p.board m.from ≡ Some x → own p x.kind m.from ≡ true
 mover p m x h there =
-    cc (and_from (same_colour p.side x.colour) (same_kind x.kind x.kind) (ap (λ (cell : Option Piece). has_colour p.side cell) (sym there) ∙ mover_colour p m h) (same_kind-refl x.kind))
+    cc (and_from (same_colour p.side x.colour) (same_kind x.kind x.kind) (ap (λ cell. has_colour p.side cell) (sym there) ∙ mover_colour p m h) (same_kind-refl x.kind))
 
 -- a piece of one kind is of no other
 pub other_kind : (c : Colour) (j k : Kind) (cell : Option Piece) → has_piece c j cell ≡ true → same_kind j k ≡ false → has_piece c k cell ≡ false

@@ -1,5 +1,5 @@
 -- What a form of no castling names: all its moves come from candidates.
-use Rattle.chess_text.proofs.Words.{◌≡◌, ℕ, ◌<◌, Bool, true, false, ◌&&◌, List, get_or, refl, sym, subst, Option, None, Some, ◌==◌, length, filter_map, All, IsPermutation, both_ways, and_parts, and_from, eq-eqb, filter_passes, All-weaker, All-permutation, IsPermutation-sym, Kind, Promotion, Parts, Square, squares, same_square, own, legal, is_candidate, candidates, CandidatesComplete, Form, Man, Played, same_promotion, describes, played, move_from, agreeing, only, move_of_form, piece_move_fits}
+use Rattle.chess_text.proofs.Words.{◌≡◌, ℕ, ◌<◌, Bool, true, false, ◌&&◌, List, get_or, refl, Option, None, Some, ◌==◌, length, filter_map, All, IsPermutation, both_ways, and_parts, and_from, eq-eqb, filter_passes, All-weaker, All-permutation, IsPermutation-sym, Kind, Promotion, Parts, Square, squares, same_square, own, legal, is_candidate, candidates, CandidatesComplete, Form, Man, Played, same_promotion, describes, played, move_from, agreeing, only, move_of_form, piece_move_fits}
 use Rattle.chess_rules.specs.declared.piece.Promotion.TheVariants.{Queen}
 use Rattle.chess_text.proofs.forms.CastlingForms.{played_none}
 use Rattle.chess_text.proofs.forms.OnlyElement.{filter_map-map, filter_map-filter, only_permuted}
@@ -62,4 +62,4 @@ pub tried_at : (p : Parts) (k : Kind) (file rank : Option ℕ) (to : Square) (pr
     → (i : ℕ) (s : Square) (o : Option Played) → i < length xs → s ≡ get_or xs i s → o ≡ played (piece_move_fits p file rank (move_from to promotion s)) p (move_from to promotion s)
     → o ≡ from_square p (Man k file rank to promotion) to promotion (get_or xs i s)
 tried_at p k file rank to promotion xs perm i s o low is tried =
-    cc (tried_own p k file rank to promotion s (subst (λ (t : Square). own p k t ≡ true) (sym is) (candidates_own p k to xs perm i s low)))
+    cc (tried_own p k file rank to promotion s (rw is (candidates_own p k to xs perm i s low)))

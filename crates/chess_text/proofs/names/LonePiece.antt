@@ -28,6 +28,6 @@ module _ (complete : CandidatesComplete) (p : Parts) (k : Kind) (m : Move) (allo
 
   pub no_rivals : (test : Square → Bool) → false ≡ list_any test (rivals p k m)
   no_rivals test =
-      sym (ap (λ (xs : List Square). seen p m test xs) lone_candidate
+      sym (ap (λ xs. seen p m test xs) lone_candidate
       ∙ ap (λ b. ((not b && is_legal p (from_square m m.from)) && test m.from) || false) (same_square-refl m.from))
       ∙ rivals_seen complete p k m test (candidates p k m.to) (IsPermutation-refl _)

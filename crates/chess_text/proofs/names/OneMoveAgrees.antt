@@ -137,7 +137,7 @@ over p x y pawn there straight ahead file low high free =
 past : (p : Parts) (x y : Move) → y.to ≡ x.to → is_ahead p.side y.from.rank y.to.rank ≡ true → has_piece (other p.side) Pawn (at p.board (captured_pawn y)) ≡ true
     → x.from.file ≡ x.to.file → x.from.rank ≡ pawn_rank p.side → x.to.rank ≡ double_rank p.side → is_empty p.board (crossed x) ≡ true → ⊥
 past p x y there ahead taken file low high free =
-    no_one (other p.side) (at p.board (crossed x)) free (subst (λ (s : Square). has_piece (other p.side) Pawn (at p.board s) ≡ true) place taken)
+    no_one (other p.side) (at p.board (crossed x)) free (subst (λ s. has_piece (other p.side) Pawn (at p.board s) ≡ true) place taken)
   where
     rank : (x.from.rank + x.to.rank) / 2 ≡ y.from.rank
     rank = cc (between p.side y.from.rank x.to.rank high (rw there at ahead))
@@ -172,7 +172,7 @@ module _ (p : Parts) (m n : Move) (pawn_m : own p Pawn m.from ≡ true) (pawn_n 
   straight_alone (advances s a e) (takes h b f) file = absurd (not_empty f e)
   straight_alone (advances s a e) (passes h b f g) file =
       absurd (not_both p.side (at p.board m.from) pawn_m
-      (subst (λ (t : Square). has_piece (other p.side) Pawn (at p.board t) ≡ true)
+      (subst (λ t. has_piece (other p.side) Pawn (at p.board t) ≡ true)
       (ap₂ square (ap (λ (t : Square). t.file) there ∙ sym s) (same_rank a b)) f))
   straight_alone (advances s a e) (advances t b f) file = ap₂ square (file_of_target t s) (same_rank a b)
   straight_alone (advances s a e) (doubles t b c f g) file = absurd (over p n m pawn_m (sym there) s a t b c f)

@@ -60,7 +60,7 @@ module _ (p : Parts) (k : Kind) (m : Move) (h : is_legal p m ≡ true) (stands :
           letters = letter k ∷ [];
           capture = capture_text p m;
           promoted = [];
-          joined = ap (λ (s : List ℕ). (s ++ capture_text p m) ++ square_text m.to) joined ∙ sym (append-nil _);
+          joined = ap (λ s. (s ++ capture_text p m) ++ square_text m.to) joined ∙ sym (append-nil _);
           letters_fit = own_letter k may_have_rivals;
           capture_fits = capture_fits _;
           promoted_fits = refl;

@@ -1,5 +1,5 @@
 -- The text of a legal move is a symbol, and is read as the move.
-use Rattle.chess_text.proofs.Words.{◌≡◌, ℕ, ◌+◌, ◌≤◌, Bool, true, false, List, [], ◌∷◌, ◌++◌, length, refl, sym, ap, subst, ◌∙◌, arith, length-append, Option, None, Some, is_some, option_map, codes, bytes_eq, if◌then◌else◌, list_all, list_any, list_all-append, nat_tests, false_from_ne_true, false≢true, and_from, bytes_eq-Decides, Kind, King, Pawn, Piece, Promotion, Move, Parts, OneKing, legal, Square, on_board, move_of_form, is_digit, letter, file_letter, rank_digit, square_text, disambiguation_by, rivals, on_file, on_rank, capture_if, capture_text, pawn_capture, promotion_text, castling_text, king_text, disambiguated_text, kind_text, piece_text, mark, san, is_letter, is_move_byte, begins_with_letter, is_marker, IsMoveSymbol, WrittenMoveIsSymbol, WrittenMoveIsRead, and_left, or_right, or_from}
+use Rattle.chess_text.proofs.Words.{◌≡◌, ℕ, ◌+◌, ◌≤◌, Bool, true, false, List, [], ◌∷◌, ◌++◌, length, refl, sym, ap, subst, ◌∙◌, arith, length-append, Option, None, Some, is_some, option_map, codes, bytes_eq, if◌then◌else◌, list_all, list_any, list_all-append, nat_tests, false_from_ne_true, false≢true, and_from, bytes_eq-Decides, Kind, King, Pawn, Promotion, Move, Parts, OneKing, legal, Square, on_board, move_of_form, is_digit, letter, file_letter, rank_digit, square_text, disambiguation_by, rivals, on_file, on_rank, capture_if, capture_text, pawn_capture, promotion_text, castling_text, king_text, disambiguated_text, kind_text, piece_text, mark, san, is_letter, is_move_byte, begins_with_letter, is_marker, IsMoveSymbol, WrittenMoveIsSymbol, WrittenMoveIsRead, and_left, or_right, or_from}
 use Rattle.chess_rules.specs.declared.piece.Promotion.TheVariants as promotions
 use Rattle.chess_text.proofs.forms.AgreeingAreFound.{the_one_move_is_read}
 use Rattle.chess_text.proofs.forms.CastlingMoves.{stepped}
@@ -161,7 +161,7 @@ written_move_is_symbol p m h =
     let st = stepped p m h in
     let text = kind_symbol v.piece.kind p m st.from_on st.to_on in
     subst IsMoveSymbol
-    (sym (ap (λ (o : Option Piece). piece_text o p m ++ mark (legal p m)) v.there))
+    (sym (ap (λ o. piece_text o p m ++ mark (legal p m)) v.there))
     (marked _ (mark _) text (mark_bytes _))
 
 -- It is read as the move.

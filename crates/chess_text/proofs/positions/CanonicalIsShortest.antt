@@ -28,7 +28,7 @@ rank_is_short (c ∷ s) n h =
         → length (rank_text n (cells_of (c ∷ s))) ≤ length (run_text n) + length (c ∷ s)
     by_item true piece e f item more =
         let longer =
-        ap (λ (b : Board). rank_text n (b ++ cells_of s)) (cells_at-run c e) ∙ run_on (c - 48) n (cells_of s) in
+        ap (λ b. rank_text n (b ++ cells_of s)) (cells_at-run c e) ∙ run_on (c - 48) n (cells_of s) in
         omega (arith, ap length longer, more (n + (c - 48)), run_is_short (n + (c - 48)))
     by_item false (Some x) e f item more =
         let letter : rank_text n (cells_of (c ∷ s)) ≡ run_text n ++ piece_letter x ∷ rank_text 0 (cells_of s) = rw (e, f) refl in
@@ -48,26 +48,26 @@ same_rows b (r ∷ rs) (t ∷ ts) e good h =
     let long : length (cells_of t) ≡ 8 = eight_cells t (first_of_two _ _ good) in
     let front : row b r ≡ cells_of t = same_front (row b r) (cells_of t) (flat_map (λ r. row b r) rs) (flat_map cells_of ts) (sym long) h in
     let back : flat_map (λ r. row b r) rs ≡ flat_map cells_of ts =
-    append_cancel_left (cells_of t) (flat_map (λ r. row b r) rs) (flat_map cells_of ts) (ap (λ (c : Board). c ++ flat_map (λ r. row b r) rs) (sym front) ∙ h) in
+    append_cancel_left (cells_of t) (flat_map (λ r. row b r) rs) (flat_map cells_of ts) (ap (λ c. c ++ flat_map (λ r. row b r) rs) (sym front) ∙ h) in
     cc (same_rows b rs ts (omega arith) (second_of_two (is_rank t) (list_all is_rank ts) good) back)
 same_rows b rs ts e good h = absurd (omega arith)
 
 join_is_short : (ss : List (List ℕ)) → list_all is_rank ss ≡ true
-    → length (join_with_byte 47 (map (λ (c : Board). rank_text 0 c) (map cells_of ss))) ≤ length (join_with_byte 47 ss)
+    → length (join_with_byte 47 (map (λ c. rank_text 0 c) (map cells_of ss))) ≤ length (join_with_byte 47 ss)
 join_is_short [] h = omega arith
 join_is_short (s ∷ []) h = one_is_short s (first_of_two _ true h)
   where
     one_is_short : (s : List ℕ) → is_rank s ≡ true → length (rank_text 0 (cells_of s)) ≤ length s
     one_is_short s good = omega (arith, rank_is_short s 0 (first_of_two (list_all is_item s) (length (cells_of s) == 8) good))
 join_is_short (s ∷ t ∷ ss) h =
-    let more : length (join_with_byte 47 (map (λ (c : Board). rank_text 0 c) (map cells_of (t ∷ ss)))) ≤ length (join_with_byte 47 (t ∷ ss)) =
+    let more : length (join_with_byte 47 (map (λ c. rank_text 0 c) (map cells_of (t ∷ ss)))) ≤ length (join_with_byte 47 (t ∷ ss)) =
     join_is_short (t ∷ ss) (second_of_two (is_rank s) (list_all is_rank (t ∷ ss)) h) in
     let good : is_rank s ≡ true = first_of_two (is_rank s) (list_all is_rank (t ∷ ss)) h in
     omega (
       arith,
       more,
       rank_is_short s 0 (first_of_two (list_all is_item s) (length (cells_of s) == 8) good),
-      length-append (rank_text 0 (cells_of s)) (47 ∷ join_with_byte 47 (map (λ (c : Board). rank_text 0 c) (map cells_of (t ∷ ss)))),
+      length-append (rank_text 0 (cells_of s)) (47 ∷ join_with_byte 47 (map (λ c. rank_text 0 c) (map cells_of (t ∷ ss)))),
       length-append s (47 ∷ join_with_byte 47 (t ∷ ss)),
     )
 
@@ -93,9 +93,9 @@ board_is_short s b spells long =
     let rows : map (row b) lines ≡ map cells_of (reverse spells.rank_texts) =
     same_rows b lines (reverse spells.rank_texts) (sym (length-reverse _ ∙ spells.eight)) (all_reversed spells.rank_texts spells.each)
     (sym (board_rows b long) ∙ spells.cells) in
-    let same : placement_text b ≡ join_with_byte 47 (map (λ (c : Board). rank_text 0 c) (map cells_of spells.rank_texts)) =
-    ap (λ (bs : List Board). join_with_byte 47 (map (λ (c : Board). rank_text 0 c) (reverse bs))) rows
-    ∙ ap (λ (bs : List Board). join_with_byte 47 (map (λ (c : Board). rank_text 0 c) bs)) (there_and_back spells.rank_texts) in
+    let same : placement_text b ≡ join_with_byte 47 (map (λ c. rank_text 0 c) (map cells_of spells.rank_texts)) =
+    ap (λ bs. join_with_byte 47 (map (λ c. rank_text 0 c) (reverse bs))) rows
+    ∙ ap (λ bs. join_with_byte 47 (map (λ c. rank_text 0 c) bs)) (there_and_back spells.rank_texts) in
     omega (arith, ap length same, join_is_short spells.rank_texts spells.each, ap length spells.joined)
 
 -- A number, and the whole.

@@ -46,7 +46,7 @@ rank_stands n (None ∷ cells) h =
     record {
       items = more.items;
       spelled =
-          more.spelled ∙ ap (λ (b : Board). b ++ cells) (sym (replicate_more n None)) ∙ append_assoc _ (None ∷ []) cells;
+          more.spelled ∙ ap (λ b. b ++ cells) (sym (replicate_more n None)) ∙ append_assoc _ (None ∷ []) cells;
     }
 rank_stands n (Some x ∷ cells) h =
     let run = run_stands n (omega arith) in

@@ -40,7 +40,7 @@ goes_on text left start cells last so_far low split good =
       within = low;
       read =
           append_assoc cells _ _
-          ∙ ap (λ (b : Board). cells ++ b) (sym (cells-last (ranks_before start text) last))
+          ∙ ap (λ b. cells ++ b) (sym (cells-last (ranks_before start text) last))
           ∙ ap (λ (parts : List (List ℕ)). cells ++ flat_map cells_of (reverse parts)) (sym split)
           ∙ so_far.read;
       passed =

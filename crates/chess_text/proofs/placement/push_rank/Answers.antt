@@ -1,4 +1,4 @@
-use Rattle.chess_text.proofs.Words.{◌+◌, ◌-◌, ◌++◌, ◌∷◌, ◌∙◌, ap, sym, drop, drop_all, arith, Option, Piece, Board, row, rank_text, run_text, ℕ}
+use Rattle.chess_text.proofs.Words.{◌+◌, ◌-◌, ◌++◌, ◌∷◌, ◌∙◌, ap, sym, drop, drop_all, arith, row, rank_text, run_text}
 use Rattle.chess_text.proofs.positions.RankToText.{drop-row}
 use Rattle.chess_text.proofs.placement.push_rank.Goals as goal
 
@@ -11,8 +11,8 @@ loop-file-preserved c =
     record {
       whole =
           c.push_square-written.ensures.text rest
-          ∙ ap (λ (content : Option Piece). so_far.text.items ++ rank_text empty (content ∷ rest)) c.cell.ensures
-          ∙ ap (λ (cells : Board). so_far.text.items ++ rank_text empty cells)
+          ∙ ap (λ content. so_far.text.items ++ rank_text empty (content ∷ rest)) c.cell.ensures
+          ∙ ap (λ cells. so_far.text.items ++ rank_text empty cells)
           (sym (drop-row b c.args.rank so_far.file c.loop-file-test.true))
           ∙ so_far.invariant.whole;
       before = omega arith;
@@ -25,5 +25,5 @@ returns c =
     let so_far = c.loop-file in
     let none = drop_all so_far.file (row c.args.position.now.board c.args.rank) (omega arith) in
     c.push_run.ensures
-    ∙ ap (λ (n : ℕ). so_far.text.items ++ run_text (n - so_far.written)) (omega arith)
-    ∙ ap (λ (cells : Board). so_far.text.items ++ rank_text (so_far.file - so_far.written) cells) (sym none) ∙ so_far.invariant.whole
+    ∙ ap (λ n. so_far.text.items ++ run_text (n - so_far.written)) (omega arith)
+    ∙ ap (λ cells. so_far.text.items ++ rank_text (so_far.file - so_far.written) cells) (sym none) ∙ so_far.invariant.whole

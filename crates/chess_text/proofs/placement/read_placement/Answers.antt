@@ -1,4 +1,4 @@
-use Rattle.chess_text.proofs.Words.{◌+◌, ◌-◌, ◌++◌, length, take, drop, sym, ◌∙◌, ap, subst, arith, Board}
+use Rattle.chess_text.proofs.Words.{◌+◌, ◌-◌, ◌++◌, length, take, drop, sym, ◌∙◌, ap, subst, arith}
 use Rattle.std.proofs.Common.{length-take}
 use Rattle.chess_text.proofs.positions.TextToBoard.{ReadSoFar, ranks_left, goes_on, no_placement, too_many_ranks, rank_missing, rank_there, beyond, when_no_err, eight_cells}
 use Rattle.chess_text.proofs.placement.read_placement.Goals as goal
@@ -25,8 +25,8 @@ loop-left-preserved c =
     rank_there (take _ _) c.last_rank_start-start.result c.in-Some.rank c.in-Some.ensures in
     let more =
     when_no_err c.try_extend_from_slice.result c.is_err.result c.is_err.ensures.value c.if-is_err.false c.try_extend_from_slice.ensures.ok in
-    subst (λ (b : Board). ReadSoFar c.args.text.now c.last_rank_start-start.result b)
-    (sym (more ∙ ap (λ (b : Board). c.loop-left.cells.items ++ b) rank.cells))
+    subst (λ b. ReadSoFar c.args.text.now c.last_rank_start-start.result b)
+    (sym (more ∙ ap (λ b. c.loop-left.cells.items ++ b) rank.cells))
     (goes_on _ c.loop-left.left _ c.loop-left.cells.items _ c.loop-left.invariant
     (omega (arith, c.last_rank_start-start.ensures.within, length-take (c.loop-left.left - 1) c.args.text.now))
     (ranks_left c.args.text.now c.loop-left.left c.last_rank_start-start.result c.loop-left-test.true c.last_rank_start-start.ensures.within c.last_rank_start-start.ensures.cut)

@@ -1,4 +1,4 @@
-use Rattle.chess_text.proofs.Words.{sym, ◌∙◌, ap, is_some, not, Colour, castling_move}
+use Rattle.chess_text.proofs.Words.{sym, ◌∙◌, ap, is_some, not, castling_move}
 use Rattle.chess_text.proofs.forms.CastlingForms.{castling_illegal, castling_found, castling_other}
 use Rattle.chess_text.proofs.forms.CastlingMoves.{legal_is_step}
 use Rattle.chess_text.proofs.resolution.resolve_castling.Goals as goal
@@ -11,17 +11,17 @@ is_castling-requires c =
 pub returns-then-is_none-clause-answer : goal.returns-then-is_none-clause-answer
 returns-then-is_none-clause-answer c =
     castling_illegal _ _ c.castling_move-mv.result
-    (c.castling_move-mv.ensures ∙ ap (λ (side : Colour). castling_move side c.args.long) c.side.ensures)
+    (c.castling_move-mv.ensures ∙ ap (λ side. castling_move side c.args.long) c.side.ensures)
     (ap is_some (sym c.try_pair.ensures.after) ∙ c.is_none.ensures ∙ ap not c.if-is_none.true)
 
 pub returns-then-is_castling-clause-answer : goal.returns-then-is_castling-clause-answer
 returns-then-is_castling-clause-answer c =
     castling_found _ _ c.castling_move-mv.result
-    (c.castling_move-mv.ensures ∙ ap (λ (side : Colour). castling_move side c.args.long) c.side.ensures)
+    (c.castling_move-mv.ensures ∙ ap (λ side. castling_move side c.args.long) c.side.ensures)
     (ap is_some (sym c.try_pair.ensures.after) ∙ c.is_none.ensures ∙ ap not c.if-is_none.false)
     (sym c.is_castling.ensures ∙ c.if-is_castling.true)
 
 pub returns-else-is_castling-clause-answer : goal.returns-else-is_castling-clause-answer
 returns-else-is_castling-clause-answer c =
     castling_other _ _ c.castling_move-mv.result
-    (c.castling_move-mv.ensures ∙ ap (λ (side : Colour). castling_move side c.args.long) c.side.ensures) (sym c.is_castling.ensures ∙ c.if-is_castling.false)
+    (c.castling_move-mv.ensures ∙ ap (λ side. castling_move side c.args.long) c.side.ensures) (sym c.is_castling.ensures ∙ c.if-is_castling.false)

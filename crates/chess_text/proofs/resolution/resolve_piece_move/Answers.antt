@@ -26,7 +26,7 @@ only_found (Some x) = refl
 lone_gives : CandidatesComplete → (p : Parts) (k : Kind) (file rank : Option ℕ) (to : Square) (promotion : Option Promotion) (s : Square) → Some s ≡ lone (candidates p k to)
     → ok_or (played (piece_move_fits p file rank (move_from to promotion s)) p (move_from to promotion s)) NoMove ≡ move_of_form p (Man k file rank to promotion)
 lone_gives complete p k file rank to promotion s alone =
-    let perm : IsPermutation (candidates p k to) (s ∷ []) = subst (λ (xs : List Square). IsPermutation (candidates p k to) xs) (lone_is _ s alone) (IsPermutation-refl _) in
+    let perm : IsPermutation (candidates p k to) (s ∷ []) = subst (λ xs. IsPermutation (candidates p k to) xs) (lone_is _ s alone) (IsPermutation-refl _) in
     cc (tried_own p k file rank to promotion s (candidates_own p k to (s ∷ []) perm 0 s (omega arith)), only_found (from_square p (Man k file rank to _) to promotion s), reads_candidates p k file rank to promotion complete (s ∷ []) perm)
 
 pub returns-then-is_some-clause-answer : goal.returns-then-is_some-clause-answer
@@ -160,7 +160,7 @@ returns-then-agrees-clause-answer c =
     let p = c.args.position.now in
     let m = move_from c.args.to c.args.promotion c.in-Some.origin in
     let fits = piece_move_fits p c.args.hints.file c.args.hints.rank m in
-    ap (λ (o : Option Played). ok_or o NoMove) (sym (fitting_is_played p m fits (sym c.agrees.ensures.agrees ∙ c.if-agrees.true)))
+    ap (λ o. ok_or o NoMove) (sym (fitting_is_played p m fits (sym c.agrees.ensures.agrees ∙ c.if-agrees.true)))
     ∙ lone_gives c.candidates_are_complete.ensures p _ _ _ _ _ c.in-Some.origin (sym c.in-Some.is ∙ c.only_origin.ensures)
 
 pub returns-then-agrees-clause-legal : goal.returns-then-agrees-clause-legal
@@ -174,7 +174,7 @@ returns-else-agrees-clause-answer c =
     let p = c.args.position.now in
     let m = move_from c.args.to c.args.promotion c.in-Some.origin in
     let fits = piece_move_fits p c.args.hints.file c.args.hints.rank m in
-    ap (λ (o : Option Played). ok_or o NoMove) (sym (other_is_not_played p m fits (sym c.agrees.ensures.agrees ∙ c.if-agrees.false)))
+    ap (λ o. ok_or o NoMove) (sym (other_is_not_played p m fits (sym c.agrees.ensures.agrees ∙ c.if-agrees.false)))
     ∙ lone_gives c.candidates_are_complete.ensures p _ _ _ _ _ c.in-Some.origin (sym c.in-Some.is ∙ c.only_origin.ensures)
 
 pub returns-then-agrees-clause-each : goal.returns-then-agrees-clause-each

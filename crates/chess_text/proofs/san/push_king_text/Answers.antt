@@ -18,7 +18,7 @@ returns-clause-text c =
     c.push_square.ensures
     ∙ ap₂ (λ (s t : List ℕ). s ++ t)
     (c.push_capture.ensures
-    ∙ ap₂ (λ (s t : List ℕ). s ++ t) (c.push.ensures.items ∙ ap (λ (s : List ℕ). s ++ 75 ∷ []) c.requires.empty)
+    ∙ ap₂ (λ (s t : List ℕ). s ++ t) (c.push.ensures.items ∙ ap (λ s. s ++ 75 ∷ []) c.requires.empty)
     (ap capture_if (something c.args.position.now c.args.mv.now c.at.result _ c.at.ensures c.is_some.ensures
     ∙ sym (piece_takes c.args.position.now c.args.mv.now King c.requires.king refl))))
     refl

@@ -1,4 +1,4 @@
-use Rattle.chess_text.proofs.Words.{◌≡◌, ℕ, ◌+◌, ◌≤◌, Bool, true, false, [], ◌++◌, length, sym, ◌∙◌, ap, ap₂, subst, arith, length-append, is_some, codes, if◌then◌else◌, is_check, is_mate, MarkPairs, mark, mark_after}
+use Rattle.chess_text.proofs.Words.{◌≡◌, ◌+◌, ◌≤◌, Bool, true, false, [], ◌++◌, length, sym, ◌∙◌, ap, ap₂, subst, arith, length-append, is_some, codes, if◌then◌else◌, is_check, is_mate, MarkPairs, mark, mark_after}
 use Rattle.chess_text.proofs.san.write_san.Goals as goal
 
 pub push_unmarked-requires : goal.push_unmarked-requires
@@ -30,7 +30,7 @@ returns-clause-short c =
 
 pub returns-clause-pairs : goal.returns-clause-pairs
 returns-clause-pairs c =
-    subst (λ (n : ℕ). MarkPairs c.args.played.now.next n c.push_mark.new.probes) c.push_unmarked.ensures.pairs c.push_mark.ensures.pairs
+    subst (λ n. MarkPairs c.args.played.now.next n c.push_mark.new.probes) c.push_unmarked.ensures.pairs c.push_mark.ensures.pairs
 
 pub returns-clause-bound : goal.returns-clause-bound
 returns-clause-bound c = omega (arith, c.push_mark.ensures.pairs.most, c.push_unmarked.ensures.few)
