@@ -6,7 +6,7 @@ pub use Rattle.std.proofs.lemmas.Fmt.{decimal_nonempty, digits_decimal, digits_v
 pub use Rattle.std.proofs.lemmas.List.{append_cancel_left, drop_all, get_or-map, length-map, length-reverse, length-take, map-append, replicate_more, reverse-append, reverse-reverse, take-append-drop, take-replicate, take-take, take_all, take_more, take_more_set, take_rest}
 pub use Rattle.std.proofs.lemmas.List.Concat.{flat_map-append}
 pub use Rattle.std.proofs.lemmas.List.Elements.{All-weaker, Contains-append_left, Contains-append_right, filter_map-append, filter_passes}
-pub use Rattle.std.proofs.lemmas.List.Folds.{Any-from_list_any, list_all-append, list_all_at, list_any_at, list_any_more}
+pub use Rattle.std.proofs.lemmas.List.Folds.{Any-from_list_any, length-flat_map-take, list_all-append, list_all_at, list_any_at, list_any_more}
 pub use Rattle.std.proofs.lemmas.List.FromFn.{get_or-map-range_with_len, get_or-range_with_len, length-range_with_len}
 pub use Rattle.std.proofs.lemmas.List.Sorted.{All-permutation, Contains-permutation, IsPermutation-refl, IsPermutation-sym, length_permutation, list_any-IsPermutation, sum_by-IsPermutation}
 pub use Rattle.std.proofs.lemmas.List.Splits.{join_with_byte-slice_split, length-slice_split, slice_split-cons_no, slice_split-cons_yes}

@@ -20,12 +20,12 @@ length-lower : (b : Board) (n : ℕ) → length (lower b n) ≤ 9 * n
 length-lower b zero = omega arith
 length-lower b (suc n) =
     let row_low = length-rank_text 0 (row b n) in
-    omega (arith, length-append (rank_text 0 (row b n)) (lower b n), row_low, length-lower b n)
+    omega (arith, length-append {A = ℕ}, row_low, length-lower b n)
 
 pub length-placement_text : (b : Board) → length (placement_text b) ≤ 71
 length-placement_text b =
     let row_low = length-rank_text 0 (row b 7) in
-    omega (arith, ap length (ends b), length-append (rank_text 0 (row b 7)) (lower b 7), row_low, length-lower b 7)
+    omega (arith, ap length (ends b), length-append {A = ℕ}, row_low, length-lower b 7)
 
 pub first_rank : (b : Board) (text new : List ℕ) → text ≡ [] → new ≡ text ++ rank_text 0 (row b 7) → WrittenTo b new 0
 first_rank b text new e f =
@@ -49,8 +49,7 @@ next_rank b text slash new i so_far h e f =
         so_far.short,
         ap length f,
         ap length e,
-        length-append slash rank,
-        length-append text (47 ∷ []),
+        length-append {A = ℕ},
         length-rank_text 0 (row b (6 - i)),
       );
     }

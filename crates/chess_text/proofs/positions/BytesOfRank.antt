@@ -1,5 +1,5 @@
 -- What the bytes of a rank stand for.
-use Rattle.chess_text.proofs.Words.{◌≡◌, ℕ, ◌+◌, ◌-◌, ◌<◌, ◌≤◌, Bool, true, false, ◌&&◌, ◌==◌, nat_le, List, [], ◌∷◌, ◌++◌, length, get_or, take, drop, replicate, refl, sym, ◌∙◌, ap, arith, length-append, Option, None, Some, Result, Ok, Err, is_ok, if◌then◌else◌, OnOk, nat_tests, list_all, take-replicate, take-append-drop, take_more, flat_map-append, list_all_at, Piece, is_run, is_item, cells_at, cells_of, is_rank, and_right}
+use Rattle.chess_text.proofs.Words.{◌≡◌, ℕ, ◌+◌, ◌-◌, ◌<◌, ◌≤◌, Bool, true, false, ◌&&◌, ◌==◌, nat_le, List, [], ◌∷◌, length, get_or, take, replicate, refl, sym, ◌∙◌, ap, arith, Option, None, Some, Result, Ok, Err, is_ok, if◌then◌else◌, OnOk, nat_tests, list_all, take-replicate, list_all_at, length-flat_map-take, Piece, is_run, is_item, cells_at, cells_of, is_rank, and_right}
 use Rattle.std.specs.Bool.{OnTrue}
 
 pub on_true_from_ok : {T E P Q : Type 0} (r : Result T E) (b : Bool) → b ≡ is_ok r → OnOk r P → (P → Q) → OnTrue b Q
@@ -16,22 +16,6 @@ cells_at-run c h = rw h refl
 pub run_cells : (c : ℕ) → is_run c ≡ true → take {A = Option Piece} (c - 48) (None ∷ None ∷ None ∷ None ∷ None ∷ None ∷ None ∷ None ∷ []) ≡ cells_at c
 run_cells c h = take-replicate _ 8 None (low c h) ∙ sym (cells_at-run c h)
 
--- the squares of a text have those of its front, of the byte behind it, and of what follows
-cells-around : (s : List ℕ) (i : ℕ) → i < length s → length (cells_of (take i s)) + length (cells_at (get_or s i 0)) ≤ length (cells_of s)
-cells-around s i h =
-    let split : cells_of s ≡ cells_of (take (i + 1) s) ++ cells_of (drop (i + 1) s) =
-    ap cells_of (sym (take-append-drop (i + 1) s)) ∙ flat_map-append cells_at (take (i + 1) s) (drop (i + 1) s) in
-    let more : cells_of (take (i + 1) s) ≡ cells_of (take i s) ++ (cells_at (get_or s i 0) ++ []) =
-    ap cells_of (take_more s i 0 h) ∙ flat_map-append cells_at (take i s) (get_or s i 0 ∷ []) in
-    omega (
-      arith,
-      ap length split,
-      length-append (cells_of (take (i + 1) s)) (cells_of (drop (i + 1) s)),
-      ap length more,
-      length-append (cells_of (take i s)) (cells_at (get_or s i 0) ++ []),
-      length-append (cells_at (get_or s i 0)) [],
-    )
-
 too_many : (m n : ℕ) → nat_le m 8 ≡ false → m ≤ n → (n == 8) ≡ false
 too_many m n h le = grind (arith, nat_tests)
 
@@ -44,7 +28,7 @@ no_rank s i h test = by_item _ refl
     by_item : (b : Bool) → is_item (get_or s i 0) ≡ b → is_rank s ≡ false
     by_item false e = cc (list_all_at is_item s i 0 h e)
     by_item true e =
-        cc (and_right (list_all is_item s) (length (cells_of s) == 8) (too_many (length (cells_of (take i s)) + length (cells_at (get_or s i 0))) (length (cells_of s)) (sym (ap (λ b. b && nat_le (length (cells_of (take i s)) + length (cells_at (get_or s i 0))) 8) e) ∙ test) (cells-around s i h)))
+        cc (and_right (list_all is_item s) (length (cells_of s) == 8) (too_many (length (cells_of (take i s)) + length (cells_at (get_or s i 0))) (length (cells_of s)) (sym (ap (λ b. b && nat_le (length (cells_of (take i s)) + length (cells_at (get_or s i 0))) 8) e) ∙ test) (length-flat_map-take cells_at s i 0 h)))
 
 pub no_cells : (s : List ℕ) → is_rank s ≡ false → None ≡ (if is_rank s then Some (cells_of s) else None)
 no_cells s h = rw h refl

@@ -1,6 +1,6 @@
 -- No text of a position is shorter than the canonical one.
 use Rattle.std.proofs.Math.Seq.{take-append_seam}
-use Rattle.chess_text.proofs.Words.{◌≡◌, ℕ, zero, suc, ◌+◌, ◌-◌, ◌≤◌, ◌==◌, nat_le, Bool, true, false, ◌&&◌, List, [], ◌∷◌, ◌++◌, length, reverse, map, replicate, refl, sym, ◌∙◌, ap, arith, length-append, Option, None, Some, decimal, flat_map, list_all, join_with_byte, false≢true, nat_tests, length-decimal-le, append_cancel_left, reverse-append, reverse-reverse, length-reverse, map-append, list_all-append, digits_value_short, Piece, Parts, lines, Board, piece_letter, piece_of, is_run, is_item, is_rank, cells_of, run_text, rank_text, row, placement_text, side_text, rights_text, target_text, SpellsBoard, SpellsNumber, Fen, fen_text}
+use Rattle.chess_text.proofs.Words.{◌≡◌, ℕ, zero, suc, ◌+◌, ◌-◌, ◌≤◌, ◌==◌, Bool, true, false, List, [], ◌∷◌, ◌++◌, length, reverse, map, replicate, refl, sym, ◌∙◌, ap, arith, length-append, Option, None, Some, decimal, flat_map, list_all, join_with_byte, false≢true, and_parts, nat_tests, is_digit, length-decimal-le, append_cancel_left, reverse-append, reverse-reverse, length-reverse, map-append, list_all-append, digits_value_short, Piece, Parts, lines, Board, piece_letter, piece_of, is_run, is_item, is_rank, cells_of, run_text, rank_text, row, placement_text, side_text, rights_text, target_text, SpellsBoard, SpellsNumber, Fen, fen_text}
 use Rattle.chess_text.proofs.positions.BytesOfRank.{cells_at-run}
 use Rattle.chess_text.proofs.positions.TextToBoard.{eight_cells}
 use Rattle.chess_text.proofs.positions.FieldsOfText.{first_of_two, second_of_two}
@@ -32,7 +32,7 @@ rank_is_short (c ∷ s) n h =
         omega (arith, ap length longer, more (n + (c - 48)), run_is_short (n + (c - 48)))
     by_item false (Some x) e f item more =
         let letter : rank_text n (cells_of (c ∷ s)) ≡ run_text n ++ piece_letter x ∷ rank_text 0 (cells_of s) = rw (e, f) refl in
-        omega (arith, ap length letter, length-append (run_text n) (piece_letter x ∷ rank_text 0 (cells_of s)), more 0)
+        omega (arith, ap length letter, length-append {A = ℕ}, more 0)
     by_item false None e f item more =
         let none : is_item c ≡ false = rw (e, f) refl in absurd (false≢true (sym none ∙ item))
 
@@ -42,34 +42,23 @@ same_front : (a b c d : Board) → length a ≡ length b → a ++ c ≡ b ++ d �
 same_front a b c d e h = cc (take-append_seam a c, take-append_seam b d)
 
 same_rows : (b : Board) (rs : List ℕ) (ts : List (List ℕ)) → length rs ≡ length ts → list_all is_rank ts ≡ true
-    → flat_map (λ r. row b r) rs ≡ flat_map cells_of ts → map (λ r. row b r) rs ≡ map cells_of ts
+    → flat_map (row b) rs ≡ flat_map cells_of ts → map (row b) rs ≡ map cells_of ts
 same_rows b [] [] e good h = refl
 same_rows b (r ∷ rs) (t ∷ ts) e good h =
-    let long : length (cells_of t) ≡ 8 = eight_cells t (first_of_two _ _ good) in
-    let front : row b r ≡ cells_of t = same_front (row b r) (cells_of t) (flat_map (λ r. row b r) rs) (flat_map cells_of ts) (sym long) h in
-    let back : flat_map (λ r. row b r) rs ≡ flat_map cells_of ts =
-    append_cancel_left (cells_of t) (flat_map (λ r. row b r) rs) (flat_map cells_of ts) (ap (λ c. c ++ flat_map (λ r. row b r) rs) (sym front) ∙ h) in
-    cc (same_rows b rs ts (omega arith) (second_of_two (is_rank t) (list_all is_rank ts) good) back)
+    let both = and_parts (is_rank t) (list_all is_rank ts) good in
+    let front = same_front (row b r) (cells_of t) (flat_map (row b) rs) (flat_map cells_of ts) (sym (eight_cells t both.0)) h in
+    let back = append_cancel_left (cells_of t) (flat_map (row b) rs) (flat_map cells_of ts) (ap (λ c. c ++ flat_map (row b) rs) (sym front) ∙ h) in
+    cc (same_rows b rs ts (omega arith) both.1 back)
 same_rows b rs ts e good h = absurd (omega arith)
 
 join_is_short : (ss : List (List ℕ)) → list_all is_rank ss ≡ true
-    → length (join_with_byte 47 (map (λ c. rank_text 0 c) (map cells_of ss))) ≤ length (join_with_byte 47 ss)
+    → length (join_with_byte 47 (map (rank_text 0) (map cells_of ss))) ≤ length (join_with_byte 47 ss)
 join_is_short [] h = omega arith
-join_is_short (s ∷ []) h = one_is_short s (first_of_two _ true h)
-  where
-    one_is_short : (s : List ℕ) → is_rank s ≡ true → length (rank_text 0 (cells_of s)) ≤ length s
-    one_is_short s good = omega (arith, rank_is_short s 0 (first_of_two (list_all is_item s) (length (cells_of s) == 8) good))
+join_is_short (s ∷ []) h =
+    omega (arith, rank_is_short s 0 (first_of_two (list_all is_item s) (length (cells_of s) == 8) (first_of_two (is_rank s) true h)))
 join_is_short (s ∷ t ∷ ss) h =
-    let more : length (join_with_byte 47 (map (λ c. rank_text 0 c) (map cells_of (t ∷ ss)))) ≤ length (join_with_byte 47 (t ∷ ss)) =
-    join_is_short (t ∷ ss) (second_of_two (is_rank s) (list_all is_rank (t ∷ ss)) h) in
-    let good : is_rank s ≡ true = first_of_two (is_rank s) (list_all is_rank (t ∷ ss)) h in
-    omega (
-      arith,
-      more,
-      rank_is_short s 0 (first_of_two (list_all is_item s) (length (cells_of s) == 8) good),
-      length-append (rank_text 0 (cells_of s)) (47 ∷ join_with_byte 47 (map (λ c. rank_text 0 c) (map cells_of (t ∷ ss)))),
-      length-append s (47 ∷ join_with_byte 47 (t ∷ ss)),
-    )
+    let both = and_parts (is_rank s) _ h in
+    omega (arith, join_is_short (t ∷ ss) both.1, rank_is_short s 0 (first_of_two (list_all is_item s) (length (cells_of s) == 8) both.0), length-append {A = ℕ})
 
 reverse_next : {A : Type 0} (x : A) (xs : List A) → reverse (x ∷ xs) ≡ reverse xs ++ x ∷ []
 reverse_next x xs = reverse-append (x ∷ []) xs
@@ -89,39 +78,29 @@ there_and_back ss = cc (cells_reversed _, reverse-reverse ss)
 
 board_is_short : (s : List ℕ) (b : Board) → SpellsBoard s b → length b ≡ 64 → length (placement_text b) ≤ length s
 board_is_short s b spells long =
-    let ss : List (List ℕ) = spells.rank_texts in
-    let rows : map (row b) lines ≡ map cells_of (reverse spells.rank_texts) =
+    let rows =
     same_rows b lines (reverse spells.rank_texts) (sym (length-reverse _ ∙ spells.eight)) (all_reversed spells.rank_texts spells.each)
     (sym (board_rows b long) ∙ spells.cells) in
-    let same : placement_text b ≡ join_with_byte 47 (map (λ c. rank_text 0 c) (map cells_of spells.rank_texts)) =
-    ap (λ bs. join_with_byte 47 (map (λ c. rank_text 0 c) (reverse bs))) rows
-    ∙ ap (λ bs. join_with_byte 47 (map (λ c. rank_text 0 c) bs)) (there_and_back spells.rank_texts) in
+    let same =
+    ap (λ bs. join_with_byte 47 (map (rank_text 0) (reverse bs))) rows
+    ∙ ap (λ bs. join_with_byte 47 (map (rank_text 0) bs)) (there_and_back spells.rank_texts) in
     omega (arith, ap length same, join_is_short spells.rank_texts spells.each, ap length spells.joined)
 
 -- A number, and the whole.
 
 number_is_short : (s : List ℕ) (n : ℕ) → SpellsNumber s n → length (decimal n) ≤ length s
 number_is_short s n spells =
-    let digits_alone = first_of_two (list_all _ s) (nat_le 1 (length s) && nat_le (length s) 5) spells.digits_alone in
+    let both = and_parts (list_all is_digit s) _ spells.digits_alone in
     let some = some_digit s n spells in
-    let low = second_of_two (nat_le 1 (length s)) (nat_le (length s) 5) (second_of_two (list_all _ s) _ spells.digits_alone) in
     let five : length s ≤ 5 = grind (arith, nat_tests) in
-    let below = digits_value_short numerals s (length s) digits_alone (omega arith) in
-    let small = digits_value_short numerals s 5 digits_alone five in
+    let below = digits_value_short numerals s (length s) both.0 (omega arith) in
+    let small = digits_value_short numerals s 5 both.0 five in
     let number = spells.number in
     length-decimal-le _ n some (rw number below) (omega (arith, number, small))
 
 length_six : (a b c d e f : List ℕ)
     → length (join_with_byte 32 (a ∷ b ∷ c ∷ d ∷ e ∷ f ∷ [])) ≡ length a + length b + length c + length d + length e + length f + 5
-length_six a b c d e f =
-    omega (
-      arith,
-      length-append a (32 ∷ (b ++ 32 ∷ (c ++ 32 ∷ (d ++ 32 ∷ (e ++ 32 ∷ f))))),
-      length-append b (32 ∷ (c ++ 32 ∷ (d ++ 32 ∷ (e ++ 32 ∷ f)))),
-      length-append c (32 ∷ (d ++ 32 ∷ (e ++ 32 ∷ f))),
-      length-append d (32 ∷ (e ++ 32 ∷ f)),
-      length-append e (32 ∷ f),
-    )
+length_six a b c d e f = omega (arith, length-append {A = ℕ})
 
 pub shortest : (s : List ℕ) (p : Parts) → Fen s p → length (fen_text p) ≤ length s
 shortest s p fen =

@@ -1,5 +1,5 @@
 -- The canonical text of a rank.
-use Rattle.chess_text.proofs.Words.{◌≡◌, ℕ, zero, suc, ◌+◌, ◌<◌, ◌≤◌, ◌==◌, false, [], ◌∷◌, length, drop, refl, arith, length-append, None, Some, nat_tests, Board, at, square, piece_letter, row, run_text, rank_text}
+use Rattle.chess_text.proofs.Words.{◌≡◌, ℕ, zero, suc, ◌+◌, ◌<◌, ◌≤◌, ◌==◌, false, [], ◌∷◌, length, drop, refl, arith, length-append, None, Some, nat_tests, Board, at, square, row, run_text, rank_text}
 
 -- the squares of a rank from a file on
 pub drop-row : (b : Board) (rank file : ℕ) → file < 8 → drop file (row b rank) ≡ at b (square file rank) ∷ drop (file + 1) (row b rank)
@@ -15,4 +15,4 @@ pub length-rank_text : (n : ℕ) (cells : Board) → length (rank_text n cells) 
 length-rank_text n [] = omega (arith, length-run_text n)
 length-rank_text n (None ∷ cells) = omega (arith, length-rank_text (n + 1) cells)
 length-rank_text n (Some x ∷ cells) =
-    omega (arith, length-append (run_text n) (piece_letter x ∷ rank_text 0 cells), length-run_text n, length-rank_text 0 cells)
+    omega (arith, length-append {A = ℕ}, length-run_text n, length-rank_text 0 cells)

@@ -23,9 +23,7 @@ length-rights_text r =
     length-or_dash _
     (omega (
       arith,
-      length-append (right_letter r.white_short 75 ++ right_letter r.white_long 81 ++ right_letter r.black_short 107) (right_letter r.black_long 113),
-      length-append (right_letter r.white_short 75 ++ right_letter r.white_long 81) (right_letter r.black_short 107),
-      length-append (right_letter r.white_short 75) (right_letter r.white_long 81),
+      length-append {A = ℕ},
       length-held r.white_short 75,
       length-held r.white_long 81,
       length-held r.black_short 107,
@@ -56,10 +54,7 @@ length-five p text five h =
     omega (
       arith,
       ap length five.whole,
-      length-append (placement_text p.board ++ 32 ∷ side_text p.side ++ 32 ∷ rights_text p.rights ++ 32 ∷ target_text p.target) (32 ∷ decimal p.half),
-      length-append (placement_text p.board ++ 32 ∷ side_text p.side ++ 32 ∷ rights_text p.rights) (32 ∷ target_text p.target),
-      length-append (placement_text p.board ++ 32 ∷ side_text p.side) (32 ∷ rights_text p.rights),
-      length-append (placement_text p.board) (32 ∷ side_text p.side),
+      length-append {A = ℕ},
       length-placement_text p.board,
       length-side_text p.side,
       length-rights_text p.rights,
@@ -82,7 +77,5 @@ six_written p text five =
 -- and five spaces
 pub length-fen_text : (p : Parts) → p.half ≤ 99999 → p.full ≤ 99999 → length (fen_text p) ≤ 93
 length-fen_text p half full =
-    let five : FiveWritten p (placement_text p.board ++ 32 ∷ side_text p.side ++ 32 ∷ rights_text p.rights ++ 32 ∷ target_text p.target ++ 32 ∷ decimal p.half) =
-    record { whole = refl } in
-    let front = placement_text p.board ++ 32 ∷ side_text p.side ++ 32 ∷ rights_text p.rights ++ 32 ∷ target_text p.target ++ 32 ∷ decimal p.half in
-    omega (arith, ap length (six_written p front five), length-append front (32 ∷ decimal p.full), length-five p front five half, length-number p.full full)
+    let five : FiveWritten p _ = record { whole = refl } in
+    omega (arith, ap length (six_written p _ five), length-append {A = ℕ}, length-five p _ five half, length-number p.full full)
