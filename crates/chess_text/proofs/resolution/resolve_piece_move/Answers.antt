@@ -1,12 +1,9 @@
-use Rattle.chess_text.proofs.Words.{◌≡◌, ℕ, List, [], ◌∷◌, length, sym, refl, ◌∙◌, ap, subst, arith, Option, None, Some, is_some, cons_option, ok_or, option_to_list, IsPermutation, and_parts, IsPermutation-refl, length_permutation, Kind, Promotion, Parts, Square, candidates, lone, CandidatesComplete, Man, Played, NoMove, move_from, move_of_form, only, piece_move_fits, played}
+use Rattle.chess_text.proofs.Words.{◌≡◌, ℕ, ◌<◌, List, [], ◌∷◌, length, get_or, filter_map, sym, refl, ◌∙◌, ap, subst, arith, Option, None, Some, is_some, cons_option, ok_or, option_to_list, IsPermutation, and_parts, IsPermutation-refl, length_permutation, Kind, Promotion, Parts, Square, candidates, lone, CandidatesComplete, Man, Played, NoMove, move_from, move_of_form, only, piece_move_fits, played}
 use Rattle.chess_text.proofs.forms.MoveKept.{with_position, kept_is_some, kept_next, fitting_is_played, other_is_not_played}
 use Rattle.chess_text.proofs.forms.OnlyElement.{still_none, first_one, second_one, not_at_once, at_the_end}
 use Rattle.chess_text.proofs.forms.PieceForms.{candidates_own, from_square, reads_candidates, tried_at, tried_own}
 use Rattle.chess_text.proofs.resolution.resolve_piece_move.Goals as goal
-use Rattle.chess_text.proofs.resolution.resolve_piece_move.Goals.{then-agrees-2+else-is_some, else-agrees-2}
-
-permuted : (xs ys zs : List Square) → zs ≡ ys → IsPermutation xs ys → IsPermutation xs zs
-permuted xs ys zs same perm = rw same perm
+use Rattle.chess_text.proofs.resolution.resolve_piece_move.Goals.{After-as_slice-origin-items, then-agrees-2+else-is_some, else-agrees-2}
 
 -- There is one origin alone.
 
@@ -29,49 +26,59 @@ lone_gives complete p k file rank to promotion s alone =
     let perm : IsPermutation (candidates p k to) (s ∷ []) = subst (λ xs. IsPermutation (candidates p k to) xs) (lone_is _ s alone) (IsPermutation-refl _) in
     cc (tried_own p k file rank to promotion s (candidates_own p k to (s ∷ []) perm 0 s (omega arith)), only_found (from_square p (Man k file rank to _) to promotion s), reads_candidates p k file rank to promotion complete (s ∷ []) perm)
 
+-- The origins are the candidates.
+
+abbrev tried_from : After-as_slice-origin-items → Square → Option Played
+tried_from o = from_square o.args.position.now (Man o.args.kind o.args.hints.file o.args.hints.rank o.args.to o.args.promotion) o.args.to o.args.promotion
+
+perm : (o : After-as_slice-origin-items) → IsPermutation (candidates o.args.position.now o.args.kind o.args.to) o.as_slice-origin-items.result.now
+perm o = rw o.as_slice-origin-items.ensures.value o.origins-origins.ensures.exactly
+
+count : (o : After-as_slice-origin-items) → length o.as_slice-origin-items.result.now ≡ length (candidates o.args.position.now o.args.kind o.args.to)
+count o = let same = length_permutation (candidates _ _ _) _ (perm o) in cc
+
+reads : (o : After-as_slice-origin-items)
+    → only (filter_map (tried_from o) o.as_slice-origin-items.result.now) ≡ move_of_form o.args.position.now (Man o.args.kind o.args.hints.file o.args.hints.rank o.args.to o.args.promotion)
+reads o = reads_candidates o.args.position.now _ _ _ _ _ o.candidates_are_complete.ensures _ (perm o)
+
+tried : (o : After-as_slice-origin-items) (i : ℕ) (s : Square) → i < length o.as_slice-origin-items.result.now → s ≡ get_or o.as_slice-origin-items.result.now i s
+    → played (piece_move_fits o.args.position.now o.args.hints.file o.args.hints.rank (move_from o.args.to o.args.promotion s)) o.args.position.now (move_from o.args.to o.args.promotion s)
+    ≡ tried_from o (get_or o.as_slice-origin-items.result.now i s)
+tried o i s low is = tried_at o.args.position.now o.args.kind _ _ _ o.args.promotion _ (perm o) i s _ low is refl
+
 pub returns-then-is_some-clause-answer : goal.returns-then-is_some-clause-answer
 returns-then-is_some-clause-answer c =
+    let o = (goal.at.returns-then-is_some-clause-answer c).After-as_slice-origin-items in
     let p = c.args.position.now in
-    let xs = c.as_slice-origin-items.result.now in
-    let perm = permuted _ _ xs c.as_slice-origin-items.ensures.value c.origins-origins.ensures.exactly in
-    let h = from_square p (Man c.args.kind c.args.hints.file c.args.hints.rank c.args.to c.args.promotion) c.args.to c.args.promotion in
     let m = move_from c.args.to c.args.promotion c.origin-item.result in
     let fits = piece_move_fits p c.args.hints.file c.args.hints.rank m in
-    let tried =
-    tried_at p _ c.args.hints.file c.args.hints.rank _ c.args.promotion xs perm c.loop-origin.origin-index c.origin-item.result _ (omega arith) c.origin-item.is refl in
     let agreed = sym c.agrees-in-loop-origin.ensures.agrees ∙ c.if-agrees-2.true in
     let (x, is) = kept_next p m (and_parts _ fits agreed).0 in
-    second_one h xs c.loop-origin.origin-index (with_position p c.loop-origin.found) c.loop-origin.invariant.found c.origin-item.result _ x (omega arith) tried
+    second_one (tried_from o) _ c.loop-origin.origin-index (with_position p c.loop-origin.found) c.loop-origin.invariant.found c.origin-item.result _ x (omega arith)
+    (tried o c.loop-origin.origin-index c.origin-item.result (omega arith) c.origin-item.is)
     (fitting_is_played p m fits agreed ∙ is)
     (kept_is_some p _ c.loop-origin.invariant.legal ∙ sym c.is_some.ensures ∙ c.if-is_some.true)
-    ∙ reads_candidates p _ _ _ _ _ c.candidates_are_complete.ensures xs perm
+    ∙ reads o
 
 pub returns-then-is_some-clause-two : goal.returns-then-is_some-clause-two
 returns-then-is_some-clause-two c _ =
-    let p = c.args.position.now in
-    let h = from_square p (Man c.args.kind c.args.hints.file c.args.hints.rank c.args.to c.args.promotion) c.args.to c.args.promotion in
+    let o = (goal.at.returns-then-is_some-clause-two c).After-as_slice-origin-items in
     let late =
-    not_at_once h _ _ _ c.loop-origin.invariant.found
-    (kept_is_some p c.loop-origin.found c.loop-origin.invariant.legal ∙ (sym c.is_some.ensures ∙ c.if-is_some.true)) in
-    omega (arith, late, c.agrees-in-loop-origin.ensures.count, c.loop-origin.invariant.tried)
+    not_at_once (tried_from o) _ _ _ c.loop-origin.invariant.found
+    (kept_is_some c.args.position.now c.loop-origin.found c.loop-origin.invariant.legal ∙ (sym c.is_some.ensures ∙ c.if-is_some.true)) in
+    omega arith
 
 pub returns-then-is_some-clause-most : goal.returns-then-is_some-clause-most
 returns-then-is_some-clause-most c =
-    let p = c.args.position.now in
-    let xs = c.as_slice-origin-items.result.now in
-    let perm = permuted _ _ xs c.as_slice-origin-items.ensures.value c.origins-origins.ensures.exactly in
-    omega (arith, length_permutation (candidates p c.args.kind c.args.to) xs perm, c.agrees-in-loop-origin.ensures.count, c.loop-origin.invariant.tried)
+    omega (arith, count (goal.at.returns-then-is_some-clause-most c).After-as_slice-origin-items)
 
 pub loop-origin-preserved : goal.loop-origin-preserved
 loop-origin-preserved c =
+    let o = (goal.at.loop-origin-preserved c).After-as_slice-origin-items in
     let p = c.args.position.now in
-    let xs = c.as_slice-origin-items.result.now in
-    let perm = permuted _ _ xs c.as_slice-origin-items.ensures.value c.origins-origins.ensures.exactly in
-    let h = from_square p (Man c.args.kind c.args.hints.file c.args.hints.rank c.args.to c.args.promotion) c.args.to c.args.promotion in
     let m = move_from c.args.to c.args.promotion c.origin-item.result in
     let fits = piece_move_fits p c.args.hints.file c.args.hints.rank m in
-    let tried =
-    tried_at p c.args.kind c.args.hints.file c.args.hints.rank c.args.to c.args.promotion xs perm c.loop-origin.origin-index c.origin-item.result (played fits p m) (omega arith) c.origin-item.is refl in
+    let here = tried o c.loop-origin.origin-index c.origin-item.result (omega arith) c.origin-item.is in
     elim c.if-agrees-2.branch [
       | then-agrees-2+else-is_some w ↦
           let agreed = sym c.agrees-in-loop-origin.ensures.agrees ∙ w.if-agrees-2.true in
@@ -79,81 +86,61 @@ loop-origin-preserved c =
           let (x, is) = kept_next p m legal in
           record {
             found =
-                first_one h xs _ (with_position p c.loop-origin.found) c.loop-origin.invariant.found c.origin-item.result _ x (omega arith) tried
+                first_one (tried_from o) _ _ (with_position p c.loop-origin.found) c.loop-origin.invariant.found c.origin-item.result _ x (omega arith) here
                 (fitting_is_played p m fits agreed ∙ is)
                 (kept_is_some p _ c.loop-origin.invariant.legal ∙ sym w.is_some.ensures ∙ w.if-is_some.false)
-                ∙ (ap option_to_list (sym is)
-                ∙ ap (λ o. option_to_list (with_position p o)) (sym w.found-is));
+                ∙ (ap option_to_list (sym is) ∙ ap (λ o. option_to_list (with_position p o)) (sym w.found-is));
             legal = rw w.found-is legal;
-            tried = omega (arith, c.agrees-in-loop-origin.ensures.count, c.loop-origin.invariant.tried);
+            tried = omega arith;
           }
       | else-agrees-2 w ↦
           record {
             found =
-                still_none h xs _ (with_position p c.loop-origin.found) c.loop-origin.invariant.found c.origin-item.result _ (omega arith) tried
+                still_none (tried_from o) _ _ (with_position p c.loop-origin.found) c.loop-origin.invariant.found c.origin-item.result _ (omega arith) here
                 (other_is_not_played p m fits (sym c.agrees-in-loop-origin.ensures.agrees ∙ w.if-agrees-2.false))
                 ∙ ap (λ o. option_to_list (with_position p o)) (sym w.found-is);
             legal = rw w.found-is c.loop-origin.invariant.legal;
-            tried = omega (arith, c.agrees-in-loop-origin.ensures.count, c.loop-origin.invariant.tried);
+            tried = omega arith;
           }
     ]
 
 pub returns-in-None-clause-answer : goal.returns-in-None-clause-answer
 returns-in-None-clause-answer c =
+    let o = (goal.at.returns-in-None-clause-answer c).After-as_slice-origin-items in
     let p = c.args.position.now in
-    let xs = c.as_slice-origin-items.result.now in
-    let perm = permuted _ _ xs c.as_slice-origin-items.ensures.value c.origins-origins.ensures.exactly in
-    let h = from_square p (Man c.args.kind c.args.hints.file c.args.hints.rank c.args.to c.args.promotion) c.args.to c.args.promotion in
-    ap (λ o. ok_or (with_position p o) NoMove) (sym c.in-None.is)
-    ∙ (at_the_end h xs c.loop-origin.origin-index (with_position p c.loop-origin.found) c.loop-origin.invariant.found (omega (arith, c.loop-origin-test.false))
-    ∙ reads_candidates p _ _ _ _ _ c.candidates_are_complete.ensures xs perm)
+    ap (λ x. ok_or (with_position p x) NoMove) (sym c.in-None.is)
+    ∙ (at_the_end (tried_from o) _ c.loop-origin.origin-index (with_position p c.loop-origin.found) c.loop-origin.invariant.found (omega arith) ∙ reads o)
 
 pub returns-in-None-clause-each : goal.returns-in-None-clause-each
 returns-in-None-clause-each c _ =
-    let p = c.args.position.now in
-    let xs = c.as_slice-origin-items.result.now in
-    let perm = permuted _ _ xs c.as_slice-origin-items.ensures.value c.origins-origins.ensures.exactly in
-    omega (arith, length_permutation (candidates p c.args.kind c.args.to) xs perm, c.loop-origin.invariant.tried, c.loop-origin-test.false, c.loop-origin.auto.origin-index-end)
+    omega (arith, count (goal.at.returns-in-None-clause-each c).After-as_slice-origin-items)
 
 pub returns-in-None-clause-most : goal.returns-in-None-clause-most
 returns-in-None-clause-most c =
-    let p = c.args.position.now in
-    let xs = c.as_slice-origin-items.result.now in
-    let perm = permuted _ _ xs c.as_slice-origin-items.ensures.value c.origins-origins.ensures.exactly in
-    omega (arith, length_permutation (candidates p c.args.kind c.args.to) xs perm, c.loop-origin.invariant.tried, c.loop-origin.auto.origin-index-end)
+    omega (arith, count (goal.at.returns-in-None-clause-most c).After-as_slice-origin-items)
 
 pub returns-in-Some-found-clause-answer : goal.returns-in-Some-found-clause-answer
 returns-in-Some-found-clause-answer c =
+    let o = (goal.at.returns-in-Some-found-clause-answer c).After-as_slice-origin-items in
     let p = c.args.position.now in
-    let xs = c.as_slice-origin-items.result.now in
-    let perm = permuted _ _ xs c.as_slice-origin-items.ensures.value c.origins-origins.ensures.exactly in
-    let h = from_square p (Man c.args.kind c.args.hints.file c.args.hints.rank c.args.to c.args.promotion) c.args.to c.args.promotion in
-    ap (λ o. ok_or (with_position p o) NoMove) (sym c.in-Some-found.is)
-    ∙ (at_the_end h xs c.loop-origin.origin-index (with_position p c.loop-origin.found) c.loop-origin.invariant.found (omega (arith, c.loop-origin-test.false))
-    ∙ reads_candidates p _ _ _ _ _ c.candidates_are_complete.ensures xs perm)
+    ap (λ x. ok_or (with_position p x) NoMove) (sym c.in-Some-found.is)
+    ∙ (at_the_end (tried_from o) _ c.loop-origin.origin-index (with_position p c.loop-origin.found) c.loop-origin.invariant.found (omega arith) ∙ reads o)
 
 pub returns-in-Some-found-clause-each : goal.returns-in-Some-found-clause-each
 returns-in-Some-found-clause-each c _ =
-    let p = c.args.position.now in
-    let xs = c.as_slice-origin-items.result.now in
-    let perm = permuted _ _ xs c.as_slice-origin-items.ensures.value c.origins-origins.ensures.exactly in
-    omega (arith, length_permutation (candidates p c.args.kind c.args.to) xs perm, c.loop-origin.invariant.tried, c.loop-origin-test.false, c.loop-origin.auto.origin-index-end)
+    omega (arith, count (goal.at.returns-in-Some-found-clause-each c).After-as_slice-origin-items)
 
 pub returns-in-Some-found-clause-most : goal.returns-in-Some-found-clause-most
 returns-in-Some-found-clause-most c =
-    let p = c.args.position.now in
-    let xs = c.as_slice-origin-items.result.now in
-    let perm = permuted _ _ xs c.as_slice-origin-items.ensures.value c.origins-origins.ensures.exactly in
-    omega (arith, length_permutation (candidates p c.args.kind c.args.to) xs perm, c.loop-origin.invariant.tried, c.loop-origin.auto.origin-index-end)
+    omega (arith, count (goal.at.returns-in-Some-found-clause-most c).After-as_slice-origin-items)
 
 pub returns-in-Some-found-clause-some : goal.returns-in-Some-found-clause-some
 returns-in-Some-found-clause-some c =
-    let p = c.args.position.now in
-    let h = from_square p (Man c.args.kind c.args.hints.file c.args.hints.rank c.args.to c.args.promotion) c.args.to c.args.promotion in
+    let o = (goal.at.returns-in-Some-found-clause-some c).After-as_slice-origin-items in
     let late =
-    not_at_once h _ _ _ c.loop-origin.invariant.found
-    (kept_is_some p c.loop-origin.found c.loop-origin.invariant.legal ∙ ap is_some c.in-Some-found.is) in
-    omega (arith, late, c.loop-origin.invariant.tried)
+    not_at_once (tried_from o) _ _ _ c.loop-origin.invariant.found
+    (kept_is_some c.args.position.now c.loop-origin.found c.loop-origin.invariant.legal ∙ ap is_some c.in-Some-found.is) in
+    omega arith
 
 pub returns-then-agrees-clause-answer : goal.returns-then-agrees-clause-answer
 returns-then-agrees-clause-answer c =
