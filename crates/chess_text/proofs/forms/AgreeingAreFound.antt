@@ -17,7 +17,7 @@ in_flat_map {X} {Y} f (z ∷ zs) x y c d =
     ]
 
 in_lines : (n : ℕ) → n < 8 → Contains lines n
-in_lines n low = (n, omega (arith, length-range_with_len 0 8, low), get_or-range_with_len 0 8 n n low ∙ omega arith)
+in_lines n low = (n, omega (arith, length-range_with_len 0 8), get_or-range_with_len 0 8 n n low ∙ omega arith)
 
 pub in_squares : (s : Square) → on_board s ≡ true → Contains squares s
 unfolding squares

@@ -94,7 +94,7 @@ near_file s t h =
 far_is_castling : (p : Parts) (m : Move) → Stepped p m → own p King m.from ≡ true → 1 < abs_diff m.from.file m.to.file → is_castling p m ≡ true
 far_is_castling p m st king far =
     elim st.way [
-      | piece_goes a b c hits ↦ absurd (omega (arith, near_file m.from m.to (king_attacks p.side (at p.board m.from) p.board m.from m.to king hits), far))
+      | piece_goes a b c hits ↦ absurd (omega (arith, near_file m.from m.to (king_attacks p.side (at p.board m.from) p.board m.from m.to king hits)))
       | pawn_goes stands g ↦ absurd (no_pawn p.side (at p.board m.from) king stands)
       | pawn_passes stands g ↦ absurd (no_pawn p.side (at p.board m.from) king stands)
       | king_castles g ↦ g

@@ -22,7 +22,7 @@ marked (c ∷ s) = by_test (list_all is_mark (c ∷ s)) refl (marked s)
 -- The last byte that is of use stands there.
 
 ends_in : (s : List ℕ) (n : ℕ) → last_byte s ≡ n → 0 < n → s ≡ front s ++ n ∷ []
-ends_in [] n e h = absurd (omega (arith, e, h))
+ends_in [] n e h = absurd (omega arith)
 ends_in (c ∷ s) n e h = cc (snoc_again (c ∷ s) (omega arith))
 
 is_it : (s : List ℕ) (n : ℕ) → (last_byte s == n) ≡ true → 0 < n → s ≡ front s ++ n ∷ []

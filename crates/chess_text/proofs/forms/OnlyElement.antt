@@ -19,7 +19,7 @@ pub none_in : {X : Type 0} (y : X) → Contains [] y → ⊥
 none_in y (k, low, is) = omega arith
 
 pub in_map : {X Y : Type 0} (f : X → Y) (xs : List X) (x : X) → Contains xs x → Contains (map f xs) (f x)
-in_map f xs x (k, low, is) = (k, omega (arith, length-map xs f, low), get_or-map f xs k x (f x) low ∙ ap f is)
+in_map f xs x (k, low, is) = (k, omega (arith, length-map xs f), get_or-map f xs k x (f x) low ∙ ap f is)
 
 pub record MapsTo {X Y : Type 0} (f : X → Y) (xs : List X) (y : Y) : Type 0 where
   pub at : X

@@ -77,7 +77,7 @@ pawn_way p m h pawn_stands =
         ]
 
 pub gap_apart : (a b : ℕ) → a ≡ b → gap a b ≡ 1 → ⊥
-gap_apart a b e h = omega (arith, e, h)
+gap_apart a b e h = omega arith
 
 -- It takes exactly if it changes its file.
 

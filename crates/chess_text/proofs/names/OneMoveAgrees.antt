@@ -105,8 +105,8 @@ behind Black a b t h g = grind (arith, nat_tests)
 
 -- the rank that a double step crosses
 between : (c : Colour) (a t : ℕ) → t ≡ double_rank c → is_ahead c a t ≡ true → (pawn_rank c + double_rank c) / 2 ≡ a
-between White a t e h = let rank = eqb-true t _ h in omega (arith, e, rank)
-between Black a t e h = let rank = eqb-true a _ h in omega (arith, e, rank)
+between White a t e h = let rank = eqb-true t _ h in omega arith
+between Black a t e h = let rank = eqb-true a _ h in omega arith
 
 -- what stands on the square crossed
 no_one : (c : Colour) (cell : Option Piece) → is_none cell ≡ true → has_piece c Pawn cell ≡ true → ⊥

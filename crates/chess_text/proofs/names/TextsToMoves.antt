@@ -94,7 +94,7 @@ record Flags (j : ℕ) (any file rank : Bool) : Type 0 where
   rank_is : 2 < j → rank ≡ true
 
 letter_is_digit : (f r : ℕ) → r < 8 → (97 + f) ∷ [] ≡ (49 + r) ∷ [] → ⊥
-letter_is_digit f r low e = let same : 97 + f ≡ 49 + r = cc in omega (arith, same, low)
+letter_is_digit f r low e = let same : 97 + f ≡ 49 + r = cc in omega arith
 
 flags : (s : Square) (any file rank : Bool) (j : ℕ) → s.rank < 8 → j < 4 → disambiguation_by s any file rank ≡ slice_index_or (disambiguations s) j [] → Flags j any file rank
 flags s any file rank zero low high told = record { any_is = λ h. absurd (omega arith); file_is = λ h. absurd (omega arith); rank_is = λ h. absurd (omega arith) }
@@ -133,4 +133,4 @@ less p k m i j h stands may_have_rivals low high told =
         two_named p k m h stands may_have_rivals None (Some m.from.rank) (rank_digit m.from.rank ∷ []) refl begins.1 (itself m.from.rank)
         (passing p k m (λ s. s.rank == m.from.rank) (λ s. hints_fit None (Some m.from.rank) s) (λ s e. turn s.rank m.from.rank e)
         (some_rival p k m (λ s. s.rank == m.from.rank) (f.rank_is low)))
-    by_step (suc (suc (suc i))) low f = absurd (omega (arith, low, high))
+    by_step (suc (suc (suc i))) low f = absurd (omega arith)

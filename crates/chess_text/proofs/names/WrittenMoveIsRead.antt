@@ -16,7 +16,7 @@ bytes_append : (m n : ℕ) (xs ys : List ℕ) → Bytes m xs → Bytes n ys → 
 bytes_append m n xs ys a b =
     record {
       all = list_all-append is_move_byte xs ys ∙ and_from _ _ a.all b.all;
-      fits = omega (arith, a.fits, b.fits, length-append xs ys);
+      fits = omega (arith, length-append xs ys);
     }
 
 -- the bytes of squares
@@ -44,7 +44,7 @@ square_bytes : (s : Square) → on_board s ≡ true → Bytes 2 (square_text s)
 square_bytes s on = bytes_append 1 1 (file_letter _ ∷ []) (rank_digit _ ∷ []) (file_bytes s on) (rank_bytes s on)
 
 more : (m n : ℕ) (s : List ℕ) → m ≤ n → Bytes m s → Bytes n s
-more m n s less h = record { all = h.all; fits = omega (arith, h.fits) }
+more m n s less h = record { all = h.all; fits = omega arith }
 
 -- the parts of a text
 apart_bytes : (s : Square) (any file rank : Bool) → on_board s ≡ true → Bytes 2 (disambiguation_by s any file rank)

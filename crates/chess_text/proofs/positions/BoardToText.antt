@@ -20,18 +20,18 @@ length-lower : (b : Board) (n : ℕ) → length (lower b n) ≤ 9 * n
 length-lower b zero = omega arith
 length-lower b (suc n) =
     let row_low = length-rank_text 0 (row b n) in
-    omega (arith, length-append {A = ℕ}, row_low, length-lower b n)
+    omega (arith, length-append {A = ℕ}, length-lower b n)
 
 pub length-placement_text : (b : Board) → length (placement_text b) ≤ 71
 length-placement_text b =
     let row_low = length-rank_text 0 (row b 7) in
-    omega (arith, ap length (ends b), length-append {A = ℕ}, row_low, length-lower b 7)
+    omega (arith, ap length (ends b), length-append {A = ℕ}, length-lower b 7)
 
 pub first_rank : (b : Board) (text new : List ℕ) → text ≡ [] → new ≡ text ++ rank_text 0 (row b 7) → WrittenTo b new 0
 first_rank b text new e f =
     let row_low = length-rank_text 0 (row b 7) in
     let same : new ≡ rank_text 0 (row b 7) = cc in
-    record { whole = cc (ends b); short = omega (arith, ap length same, row_low) }
+    record { whole = cc (ends b); short = omega (arith, ap length same) }
 
 pub next_rank : (b : Board) (text slash new : List ℕ) (i : ℕ) → WrittenTo b text i → i < 7 → slash ≡ text ++ 47 ∷ []
     → new ≡ slash ++ rank_text 0 (row b (6 - i)) → WrittenTo b new (i + 1)
@@ -44,14 +44,7 @@ next_rank b text slash new i so_far h e f =
           ap (λ t. t ++ lower b (7 - (i + 1))) (f ∙ ap (λ t. t ++ rank) e)
           ∙ append_assoc (text ++ 47 ∷ []) rank _ ∙ append_assoc text (47 ∷ []) _
           ∙ ap (λ t. text ++ t) (sym (ap (λ n. lower b n) one_less ∙ ap (λ n. 47 ∷ (rank ++ lower b n)) same)) ∙ so_far.whole;
-      short = omega (
-        arith,
-        so_far.short,
-        ap length f,
-        ap length e,
-        length-append {A = ℕ},
-        length-rank_text 0 (row b (6 - i)),
-      );
+      short = omega (arith, ap length f, ap length e, length-append {A = ℕ}, length-rank_text 0 (row b (6 - i)));
     }
 
 pub last_rank_written : (b : Board) (text : List ℕ) (i : ℕ) → WrittenTo b text i → 7 ≤ i → text ≡ placement_text b

@@ -96,7 +96,7 @@ number_is_short s n spells =
     let below = digits_value_short numerals s (length s) both.0 (omega arith) in
     let small = digits_value_short numerals s 5 both.0 five in
     let number = spells.number in
-    length-decimal-le _ n some (rw number below) (omega (arith, number, small))
+    length-decimal-le _ n some (rw number below) (omega arith)
 
 length_six : (a b c d e f : List ℕ)
     → length (join_with_byte 32 (a ∷ b ∷ c ∷ d ∷ e ∷ f ∷ [])) ≡ length a + length b + length c + length d + length e + length f + 5

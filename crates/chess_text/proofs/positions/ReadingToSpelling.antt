@@ -65,7 +65,7 @@ some_digit s n spells =
 
 pub spaced : (s : List ℕ) → 0 < length (after_first is_space s) → s ≡ before_first is_space s ++ 32 ∷ after_first is_space s
 spaced s h =
-    let inside : position_or_len is_space s < length s = omega (arith, h, length-drop (position_or_len is_space s + 1) s) in
+    let inside : position_or_len is_space s < length s = omega (arith, length-drop (position_or_len is_space s + 1) s) in
     cc (split_at_first is_space s 0 inside, eqb-true (get_or s _ 0) 32 (passes_at_first _ s 0 inside))
 
 not_shorter : (s : List ℕ) → length (before_first is_space s) ≤ length s

@@ -20,7 +20,7 @@ ranks_left text (suc n) start above within cut =
   where
     earlier : (k : ℕ) → k ≤ length (take (suc n - 1) text) → ranks_before k (take (suc n - 1) text) ≡ ranks_before k text
     earlier zero low = refl
-    earlier (suc k) low = cc (take-take k (suc n - 1) text (omega (arith, low, length-take (suc n - 1) text)))
+    earlier (suc k) low = cc (take-take k (suc n - 1) text (omega (arith, length-take (suc n - 1) text)))
 
 list_all-last : (before : List (List ℕ)) (last : List ℕ) → list_all is_rank (before ++ last ∷ []) ≡ (list_all is_rank before && is_rank last)
 list_all-last before last =
@@ -56,7 +56,6 @@ goes_on text left start cells last so_far low split good =
             eight_cells last good,
             ap (λ (parts : List (List ℕ)). length parts) split,
             length-append (ranks_before start text) (last ∷ []),
-            so_far.count,
           );
     }
 
@@ -80,7 +79,7 @@ pub too_many_ranks : (text : List ℕ) (left start : ℕ) (cells : Board) (last 
     → ranks_before left text ≡ ranks_before start text ++ last ∷ [] → 64 < length cells + 8 → None ≡ placement_of text
 too_many_ranks text left start cells last so_far split full =
     let more : length cells + 8 ≤ 8 * length (ranks text) =
-    omega (arith, so_far.count, ap (λ (parts : List (List ℕ)). length parts) split, length-append (ranks_before start text) (last ∷ [])) in
+    omega (arith, ap (λ (parts : List (List ℕ)). length parts) split, length-append (ranks_before start text) (last ∷ [])) in
     nothing text (ap (λ b. b && list_all is_rank (ranks text)) (not_eight _ _ full more))
 
 -- what `read_rank` answers of the last rank, where the bytes from i on are handed to it

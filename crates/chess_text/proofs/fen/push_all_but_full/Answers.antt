@@ -19,4 +19,4 @@ returns c =
     (c.push_field.ensures ∙ ap (behind _) (c.as_slice.ensures.value ∙ c.rights_text.ensures ∙ ap rights_text c.rights.ensures))
     (behind_space _ _ _ _ c.push-3.ensures.items (c.push_target.ensures ∙ ap (λ t. c.push-3.new.self.items ++ target_text t) c.target.ensures))
     (c.push_field-2.ensures ∙ ap (behind _) (c.as_bytes.ensures.value ∙ c.format.ensures.text ∙ ap decimal c.half.ensures.value)) in
-    record { text = six_written p _ five; short = length-five p _ five (omega (arith, c.half.ensures.value, c.half.ensures.limit)) }
+    record { text = six_written p _ five; short = length-five p _ five (omega arith) }

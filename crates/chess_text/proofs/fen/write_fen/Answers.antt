@@ -10,7 +10,6 @@ pub push_field-requires : goal.push_field-requires
 push_field-requires c =
     omega (
       arith,
-      c.push_all_but_full.ensures.short,
       short_number c.as_bytes.result.now c.full.result (c.as_bytes.ensures.value ∙ c.format.ensures.text) c.full.ensures.limit,
     )
 
@@ -18,7 +17,6 @@ pub returns-clause-short : goal.returns-clause-short
 returns-clause-short c =
     omega (
       arith,
-      c.push_all_but_full.ensures.short,
       ap length c.push_field.ensures,
       length-append c.push_all_but_full.new.text.items (32 ∷ c.as_bytes.result.now),
       short_number c.as_bytes.result.now c.full.result (c.as_bytes.ensures.value ∙ c.format.ensures.text) c.full.ensures.limit,

@@ -7,6 +7,6 @@ pub returns : goal.returns
 returns c =
     cut_where _ _ c.loop-end.invariant.within c.loop-end.invariant.marks_alone
     (elim c.loop-end-test.branch [
-      | then-loop-end-test+else-is_mark w ↦ inr (omega (arith, w.loop-end-test.true), sym w.is_mark.ensures ∙ w.if-is_mark.false)
-      | else-loop-end-test w ↦ inl (omega (arith, w.loop-end-test.false))
+      | then-loop-end-test+else-is_mark w ↦ inr (omega arith, sym w.is_mark.ensures ∙ w.if-is_mark.false)
+      | else-loop-end-test w ↦ inl (omega arith)
     ])

@@ -17,8 +17,8 @@ loop-index-preserved c =
       so_far =
           ap (λ k. take (i + 1) (slice_set c.loop-index.kinds i k)) kind
           ∙ kinds_more p f i c.loop-index-test.true c.loop-index.kinds c.loop-index.invariant.long c.loop-index.invariant.so_far;
-      tried = omega (arith, pairs, more, c.loop-index.invariant.tried);
-      few = omega (arith, pairs, few, c.loop-index.invariant.few);
+      tried = omega arith;
+      few = omega arith;
     }
 
 pub returns-clause-kinds : goal.returns-clause-kinds
@@ -26,8 +26,8 @@ unfolding origins_of_form
 returns-clause-kinds c =
     let p = c.args.position.now in
     let f = c.args.form.now in
-    let all : length c.loop-index.kinds ≤ c.loop-index.index = omega (arith, c.loop-index.invariant.long, c.loop-index-test.false) in
-    let every : length squares ≤ c.loop-index.index = omega (arith, squares_long, c.loop-index-test.false) in
+    let all : length c.loop-index.kinds ≤ c.loop-index.index = omega arith in
+    let every : length squares ≤ c.loop-index.index = omega (arith, squares_long) in
     sym (take_all _ _ all)
     ∙ c.loop-index.invariant.so_far
     ∙ ap (λ ss. map (origin_kind p f) ss) (take_all _ squares every)
@@ -37,6 +37,6 @@ unfolding count_steps
 returns-clause-count c =
     let p = c.args.position.now in
     let f = c.args.form.now in
-    let every : length squares ≤ c.loop-index.index = omega (arith, squares_long, c.loop-index-test.false) in
+    let every : length squares ≤ c.loop-index.index = omega (arith, squares_long) in
     c.loop-index.invariant.tried
     ∙ ap (λ ss. c.args.probes.now + count_by (λ s. is_step_of_form p f (form_move p.side f s)) ss) (take_all _ squares every)

@@ -17,7 +17,7 @@ returns-then-is_err c =
     beyond c.try_extend_from_slice.result c.is_err.result (length c.loop-left.cells.items + length c.in-Some.rank) 64 c.is_err.ensures.value c.if-is_err.true c.try_extend_from_slice.ensures.variant.1 in
     too_many_ranks c.args.text.now c.loop-left.left c.last_rank_start-start.result c.loop-left.cells.items _ c.loop-left.invariant
     (ranks_left c.args.text.now c.loop-left.left c.last_rank_start-start.result c.loop-left-test.true c.last_rank_start-start.ensures.within c.last_rank_start-start.ensures.cut)
-    (omega (arith, full, ap length rank.cells, eight_cells (drop c.last_rank_start-start.result (take _ _)) rank.good))
+    (omega (arith, ap length rank.cells, eight_cells (drop c.last_rank_start-start.result (take _ _)) rank.good))
 
 pub loop-left-preserved : goal.loop-left-preserved
 loop-left-preserved c =
@@ -28,6 +28,6 @@ loop-left-preserved c =
     subst (λ b. ReadSoFar c.args.text.now c.last_rank_start-start.result b)
     (sym (more ∙ ap (λ b. c.loop-left.cells.items ++ b) rank.cells))
     (goes_on _ c.loop-left.left _ c.loop-left.cells.items _ c.loop-left.invariant
-    (omega (arith, c.last_rank_start-start.ensures.within, length-take (c.loop-left.left - 1) c.args.text.now))
+    (omega (arith, length-take (c.loop-left.left - 1) c.args.text.now))
     (ranks_left c.args.text.now c.loop-left.left c.last_rank_start-start.result c.loop-left-test.true c.last_rank_start-start.ensures.within c.last_rank_start-start.ensures.cut)
     rank.good)

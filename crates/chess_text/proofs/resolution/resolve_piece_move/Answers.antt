@@ -165,13 +165,13 @@ returns-else-agrees-clause-answer c =
     ∙ lone_gives c.candidates_are_complete.ensures p _ _ _ _ _ c.in-Some.origin (sym c.in-Some.is ∙ c.only_origin.ensures)
 
 pub returns-then-agrees-clause-each : goal.returns-then-agrees-clause-each
-returns-then-agrees-clause-each c _ = omega (arith, one_there (candidates _ _ _) c.in-Some.origin (sym c.in-Some.is ∙ c.only_origin.ensures), c.agrees.ensures.count)
+returns-then-agrees-clause-each c _ = omega (arith, one_there (candidates _ _ _) c.in-Some.origin (sym c.in-Some.is ∙ c.only_origin.ensures))
 
 pub returns-then-agrees-clause-most : goal.returns-then-agrees-clause-most
-returns-then-agrees-clause-most c = omega (arith, one_there (candidates _ _ _) c.in-Some.origin (sym c.in-Some.is ∙ c.only_origin.ensures), c.agrees.ensures.count)
+returns-then-agrees-clause-most c = omega (arith, one_there (candidates _ _ _) c.in-Some.origin (sym c.in-Some.is ∙ c.only_origin.ensures))
 
 pub returns-else-agrees-clause-each : goal.returns-else-agrees-clause-each
-returns-else-agrees-clause-each c _ = omega (arith, one_there (candidates _ _ _) c.in-Some.origin (sym c.in-Some.is ∙ c.only_origin.ensures), c.agrees.ensures.count)
+returns-else-agrees-clause-each c _ = omega (arith, one_there (candidates _ _ _) c.in-Some.origin (sym c.in-Some.is ∙ c.only_origin.ensures))
 
 pub returns-else-agrees-clause-most : goal.returns-else-agrees-clause-most
-returns-else-agrees-clause-most c = omega (arith, one_there (candidates _ _ _) c.in-Some.origin (sym c.in-Some.is ∙ c.only_origin.ensures), c.agrees.ensures.count)
+returns-else-agrees-clause-most c = omega (arith, one_there (candidates _ _ _) c.in-Some.origin (sym c.in-Some.is ∙ c.only_origin.ensures))

@@ -10,7 +10,7 @@ loop-origin-preserved c =
           found_more _ _ _ _ c.origin-item.result c.is_rival-is_rival.result
           c.loop-origin.found.any c.loop-origin.found.on_file c.loop-origin.found.on_rank _ _ _
           c.loop-origin-test.true c.origin-item.is c.is_rival-is_rival.ensures.rival c.loop-origin.invariant.found c.with-found.ensures.any c.with-found.ensures.file c.with-found.ensures.rank;
-      tried = omega (arith, c.is_rival-is_rival.ensures.pairs, c.loop-origin.invariant.tried);
+      tried = omega arith;
     }
 
 -- the piece is alone
@@ -24,8 +24,8 @@ returns-then-not-may_have_two_origins c =
       any = none (λ s. true);
       file = none _;
       rank = none _;
-      pairs = omega (arith, c.count_own_pair.ensures, ap length (lone_candidate c.candidates_are_complete.ensures p _ m c.requires.legal c.requires.own few));
-      few = omega (arith, c.count_own_pair.ensures);
+      pairs = omega (arith, ap length (lone_candidate c.candidates_are_complete.ensures p _ m c.requires.legal c.requires.own few));
+      few = omega arith;
     }
 
 -- the origins are the candidates
@@ -52,10 +52,4 @@ returns-clause-rank c = c.loop-origin.invariant.found.rank_is ∙ whole c _
 
 pub returns-clause-pairs : goal.returns-clause-pairs
 returns-clause-pairs c =
-    omega (
-      arith,
-      length_permutation (candidates _ _ _) c.as_slice-origin-items.result.now (perm c),
-      c.loop-origin.invariant.tried,
-      c.loop-origin-test.false,
-      c.loop-origin.auto.origin-index-end,
-    )
+    omega (arith, length_permutation (candidates _ _ _) c.as_slice-origin-items.result.now (perm c))

@@ -2,11 +2,11 @@ use Rattle.chess_text.proofs.Words.{◌≡◌, ◌+◌, ◌≤◌, Bool, true, f
 use Rattle.chess_text.proofs.san.write_san.Goals as goal
 
 pub push_unmarked-requires : goal.push_unmarked-requires
-push_unmarked-requires c = record { empty = c.new-text.ensures; legal = ap is_some c.requires.legal; room = omega (arith, c.requires.room) }
+push_unmarked-requires c = record { empty = c.new-text.ensures; legal = ap is_some c.requires.legal; room = omega arith }
 
 pub push_mark-requires : goal.push_mark-requires
 push_mark-requires c =
-    record { space = c.push_unmarked.ensures.short; room = omega (arith, c.push_unmarked.ensures.few, c.requires.room) }
+    record { space = c.push_unmarked.ensures.short; room = omega arith }
 
 pub returns-clause-text : goal.returns-clause-text
 returns-clause-text c = c.push_mark.ensures.text ∙ ap₂ (λ s o. s ++ mark o) c.push_unmarked.ensures.text (sym c.requires.legal)
@@ -21,16 +21,16 @@ joined : (c : goal.After-push_mark) → length c.push_mark.new.text.items ≡ le
 joined c = ap length c.push_mark.ensures.text ∙ length-append _ _
 
 pub returns-clause-some : goal.returns-clause-some
-returns-clause-some c = omega (arith, joined c, c.push_unmarked.ensures.some)
+returns-clause-some c = omega (arith, joined c)
 
 pub returns-clause-short : goal.returns-clause-short
 returns-clause-short c =
     let q = c.args.played.now.next in
-    omega (arith, joined c, c.push_unmarked.ensures.short, mark_short (is_mate q) (is_check q))
+    omega (arith, joined c, mark_short (is_mate q) (is_check q))
 
 pub returns-clause-pairs : goal.returns-clause-pairs
 returns-clause-pairs c =
     subst (λ n. MarkPairs c.args.played.now.next n c.push_mark.new.probes) c.push_unmarked.ensures.pairs c.push_mark.ensures.pairs
 
 pub returns-clause-bound : goal.returns-clause-bound
-returns-clause-bound c = omega (arith, c.push_mark.ensures.pairs.most, c.push_unmarked.ensures.few)
+returns-clause-bound c = omega arith
