@@ -73,51 +73,33 @@ not_shorter s = omega (arith, length-take (position_or_len is_space s) s)
 
 -- The whole.
 
-record AllThere (p : Parts) (b : Option Board) (c : Option Colour) (r : Option Rights) (t : Option (Option Square)) (m n : Option ℕ) : Type 0 where
-  board : b ≡ Some p.board
-  side : c ≡ Some p.side
-  rights : r ≡ Some p.rights
-  target : t ≡ Some p.target
-  half : m ≡ Some p.half
-  full : n ≡ Some p.full
+all_there : (p : Parts) (b : Option Board) (c : Option Colour) (r : Option Rights) (t : Option (Option Square)) (m n : Option ℕ) → parts_or_fault b c r t m n ≡ Ok p
+    → (b ≡ Some p.board) × (c ≡ Some p.side) × (r ≡ Some p.rights) × (t ≡ Some p.target) × (m ≡ Some p.half) × (n ≡ Some p.full)
+all_there p (Some b) (Some c) (Some r) (Some t) (Some m) (Some n) h =
+    let same : record { board = b; side = c; rights = r; target = t; half = m; full = n } ≡ p = cc in (cc, cc, cc, cc, cc, cc)
+all_there p b c r t m n h = cc
 
-there : (p : Parts) (b : Option Board) (c : Option Colour) (r : Option Rights) (t : Option (Option Square)) (m n : Option ℕ)
-    → parts_or_fault b c r t m n ≡ Ok p → AllThere p b c r t m n
-there p (Some b) (Some c) (Some r) (Some t) (Some m) (Some n) h =
-    let same : record { board = b; side = c; rights = r; target = t; half = m; full = n } ≡ p = cc in
-    record { board = cc; side = cc; rights = cc; target = cc; half = cc; full = cc }
-there p b c r t m n h = cc
-
-record Good (p : Parts) (r : Result Parts FenFault) : Type 0 where
-  parts : r ≡ Ok p
-  position : is_position p ≡ true
-
-good : (p : Parts) (r : Result Parts FenFault) → if_position r ≡ Ok p → Good p r
-good p (Err f) h = cc
-good p (Ok q) h = by_test _ refl h
+good : (p : Parts) (r : Result Parts FenFault) → if_position r ≡ Ok p → (r ≡ Ok p) × (is_position p ≡ true)
+good p (Err f) h = absurd (cc)
+good p (Ok q) h = let (same, position) = by_test _ refl h in (ap Ok same, position)
   where
-    by_test : (b : Bool) → is_position q ≡ b → (if b then Ok q else at_field 7) ≡ Ok p → Good p (Ok q)
-    by_test true e g = record { parts = g; position = cc }
+    by_test : (b : Bool) → is_position q ≡ b → (if b then Ok q else at_field 7) ≡ Ok p → (q ≡ p) × (is_position p ≡ true)
+    by_test true e g = let same : q ≡ p = cc in (same, cc)
     by_test false e g = cc
 
 pub read_is_spelled : (s : List ℕ) (p : Parts) → read s ≡ Ok p → Fen s p
 read_is_spelled s p h =
-    let fine = good p (parts_read s) h in
-    let all =
-    there p (placement_of (field 1 s)) (side_of (field 2 s)) (rights_of (field 3 s)) (target_of (field 4 s)) (number_of (field 5 s)) (number_of (field 6 s)) fine.parts in
-    let side = side_spelled (field 2 s) p.side all.side in
-    let rights = rights_spelled (field 3 s) p.rights all.rights in
-    let target = target_spelled (field 4 s) p.target all.target in
-    let half = number_spelled (field 5 s) p.half all.half in
-    let full = number_spelled (field 6 s) p.full all.full in
-    let one =
-    spaced s (omega (arith, not_shorter (rest 1 s), ap length side, some_side p.side)) in
-    let two =
-    spaced (rest 1 s) (omega (arith, not_shorter (rest 2 s), ap length rights, some_rights p.rights)) in
-    let three =
-    spaced (rest 2 s) (omega (arith, not_shorter (rest 3 s), ap length target, some_target p.target)) in
-    let four =
-    spaced (rest 3 s) (omega (arith, not_shorter (rest 4 s), some_digit (field 5 s) p.half half)) in
+    let (parts, position) = good p (parts_read s) h in
+    let all = all_there p (placement_of (field 1 s)) (side_of (field 2 s)) (rights_of (field 3 s)) (target_of (field 4 s)) (number_of (field 5 s)) (number_of (field 6 s)) parts in
+    let side = side_spelled (field 2 s) p.side all.1 in
+    let rights = rights_spelled (field 3 s) p.rights all.2 in
+    let target = target_spelled (field 4 s) p.target all.3 in
+    let half = number_spelled (field 5 s) p.half all.4 in
+    let full = number_spelled (field 6 s) p.full all.5 in
+    let one = spaced s (omega (arith, not_shorter (rest 1 s), ap length side, some_side p.side)) in
+    let two = spaced (rest 1 s) (omega (arith, not_shorter (rest 2 s), ap length rights, some_rights p.rights)) in
+    let three = spaced (rest 2 s) (omega (arith, not_shorter (rest 3 s), ap length target, some_target p.target)) in
+    let four = spaced (rest 3 s) (omega (arith, not_shorter (rest 4 s), some_digit (field 5 s) p.half half)) in
     let five = spaced (rest 4 s) (some_digit _ _ full) in
     record {
       board = field 1 s;
@@ -128,8 +110,8 @@ read_is_spelled s p h =
           (two ∙ ap₂ (λ u t. u ++ 32 ∷ t) side
           (three ∙ ap₂ (λ u t. u ++ 32 ∷ t) rights
           (four ∙ ap₂ (λ u t. u ++ 32 ∷ t) target five)));
-      spells_board = board_spelled _ _ all.board;
+      spells_board = board_spelled _ _ all.0;
       spells_half = half;
       spells_full = full;
-      position = fine.position;
+      position = position;
     }

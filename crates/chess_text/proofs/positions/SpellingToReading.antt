@@ -1,51 +1,43 @@
 -- A text that spells a position is read as that position.
-use Rattle.chess_text.proofs.Words.{◌≡◌, ℕ, ◌+◌, ◌-◌, ◌<◌, ◌==◌, nat_le, nat_lt, Bool, true, false, not, ◌&&◌, ◌||◌, List, [], ◌∷◌, length, refl, sym, ◌∙◌, ap, ap₂, arith, Option, None, Some, Ok, list_all, join_with_byte, false≢true, eqb-true, nat_tests, list_all-append, slice_split-cons_no, Colour, White, Black, Rights, Parts, Square, square, on_board, Board, is_position, target_fits, target_rank, ranks, is_slash, is_item, is_rank, is_placement, placement_of, side_text, side_of, rights_text, rights_of, target_text, target_of, is_digit, number_of, SpellsBoard, SpellsNumber, Fen, is_space, field, parts_or_fault, read, not-true}
+use Rattle.chess_text.proofs.Words.{◌≡◌, ℕ, ◌+◌, ◌-◌, ◌<◌, ◌==◌, nat_le, Bool, true, false, not, ◌&&◌, List, [], ◌∷◌, length, refl, sym, ◌∙◌, ap, ap₂, arith, Option, None, Some, Ok, list_all, join_with_byte, false≢true, false_from_ne_true, and_parts, is_target, eqb-true, nat_tests, list_all-append, slice_split-cons_no, Colour, White, Black, Rights, Parts, Square, square, Board, target_fits, ranks, is_slash, is_item, is_rank, is_placement, placement_of, side_text, side_of, rights_text, rights_of, target_text, target_of, is_digit, number_of, SpellsBoard, SpellsNumber, Fen, is_space, parts_or_fault, read, not-true}
 use Rattle.chess_text.proofs.positions.CanonicalSpells.{last_rules}
 use Rattle.chess_text.proofs.positions.RanksOfText.{slice_split-around}
-use Rattle.chess_text.proofs.positions.FieldsOfText.{lacks, first_of_two, second_of_two, SixFields, six_fields}
+use Rattle.chess_text.proofs.positions.FieldsOfText.{lacks, first_of_two, six_fields}
 
 -- a byte that passes is not one that does not
 differs : (p : ℕ → Bool) (c d : ℕ) → p d ≡ false → p c ≡ true → not (c == d) ≡ true
-differs p c d h g = by_test _ refl
-  where
-    by_test : (b : Bool) → (c == d) ≡ b → not (c == d) ≡ true
-    by_test false e = rw e refl
-    by_test true e = absurd (false≢true (sym h ∙ ap p (sym (eqb-true c d e)) ∙ g))
+differs p c d h g = ap not (false_from_ne_true (c == d) (λ e. false≢true (sym h ∙ ap p (sym (eqb-true c d e)) ∙ g)))
 
 -- nor stands the latter in a text of such bytes
 pub all_lack : (p : ℕ → Bool) (d : ℕ) → p d ≡ false → (s : List ℕ) → list_all p s ≡ true → lacks (λ c. c == d) s ≡ true
 all_lack p d h [] g = refl
-all_lack p d h (c ∷ s) g =
-    cc (differs p c d h (first_of_two (p c) (list_all p s) g), all_lack p d h s (second_of_two (p c) (list_all p s) g))
+all_lack p d h (c ∷ s) g = let both = and_parts (p c) (list_all p s) g in cc (differs p c d h both.0, all_lack p d h s both.1)
 
 -- Field 1.
 
-rank_lacks : (d : ℕ) → is_item d ≡ false → (s : List ℕ) → is_rank s ≡ true → lacks (λ c. c == d) s ≡ true
-rank_lacks d h s g = all_lack is_item d h s (first_of_two _ _ g)
-
-ranks_lack : (d : ℕ) → is_item d ≡ false → (ss : List (List ℕ)) → list_all is_rank ss ≡ true → list_all (λ s. lacks (λ c. c == d) s) ss ≡ true
+ranks_lack : (d : ℕ) → is_item d ≡ false → (ss : List (List ℕ)) → list_all is_rank ss ≡ true → list_all (lacks (λ c. c == d)) ss ≡ true
 ranks_lack d h [] g = refl
 ranks_lack d h (s ∷ ss) g =
-    cc (rank_lacks d h s (first_of_two (is_rank s) (list_all is_rank ss) g), ranks_lack d h ss (second_of_two (is_rank s) (list_all is_rank ss) g))
+    let both = and_parts (is_rank s) (list_all is_rank ss) g in
+    cc (all_lack is_item d h s (first_of_two (list_all is_item s) _ both.0), ranks_lack d h ss both.1)
 
-joined_lacks : (ss : List (List ℕ)) → list_all (λ s. lacks is_space s) ss ≡ true → lacks is_space (join_with_byte 47 ss) ≡ true
+joined_lacks : (ss : List (List ℕ)) → list_all (lacks is_space) ss ≡ true → lacks is_space (join_with_byte 47 ss) ≡ true
 joined_lacks [] g = refl
 joined_lacks (s ∷ []) g = first_of_two _ true g
 joined_lacks (s ∷ t ∷ ss) g =
-    cc (list_all-append (λ c. not (is_space c)) s (47 ∷ join_with_byte 47 (t ∷ ss)), first_of_two (lacks is_space s) (list_all (λ s. lacks is_space s) (t ∷ ss)) g, joined_lacks (t ∷ ss) (second_of_two (lacks is_space s) (list_all (λ s. lacks is_space s) (t ∷ ss)) g))
+    let both = and_parts (lacks is_space s) (list_all (lacks is_space) (t ∷ ss)) g in
+    cc (list_all-append (λ c. not (is_space c)) s (47 ∷ join_with_byte 47 (t ∷ ss)), both.0, joined_lacks (t ∷ ss) both.1)
 
 one_part : (s : List ℕ) → lacks is_slash s ≡ true → ranks s ≡ s ∷ []
 one_part [] h = refl
-one_part (c ∷ s) h =
-    let rest = one_part s (second_of_two _ _ h) in
-    let no = not-true _ (first_of_two _ _ h) in
-    slice_split-cons_no is_slash c s no ∙ rw rest refl
+one_part (c ∷ s) h = let both = and_parts (not (is_slash c)) (lacks is_slash s) h in cc (slice_split-cons_no is_slash c s (not-true _ both.0), one_part s both.1)
 
 -- what was joined by slashes
-joined_ranks : (s : List ℕ) (ss : List (List ℕ)) → list_all (λ s. lacks is_slash s) (s ∷ ss) ≡ true → ranks (join_with_byte 47 (s ∷ ss)) ≡ s ∷ ss
+joined_ranks : (s : List ℕ) (ss : List (List ℕ)) → list_all (lacks is_slash) (s ∷ ss) ≡ true → ranks (join_with_byte 47 (s ∷ ss)) ≡ s ∷ ss
 joined_ranks s [] h = one_part s (first_of_two _ true h)
 joined_ranks s (t ∷ ss) h =
-    cc (slice_split-around is_slash s 47 (join_with_byte 47 (t ∷ ss)) refl, one_part s (first_of_two (lacks is_slash s) (list_all (λ s. lacks is_slash s) (t ∷ ss)) h), joined_ranks t ss (second_of_two (lacks is_slash s) (list_all (λ s. lacks is_slash s) (t ∷ ss)) h))
+    let both = and_parts (lacks is_slash s) (list_all (lacks is_slash) (t ∷ ss)) h in
+    cc (slice_split-around is_slash s 47 (join_with_byte 47 (t ∷ ss)) refl, one_part s both.0, joined_ranks t ss both.1)
 
 eight_ranks : (ss : List (List ℕ)) → length ss ≡ 8 → list_all is_rank ss ≡ true → ranks (join_with_byte 47 ss) ≡ ss
 eight_ranks [] e h = absurd (omega arith)
@@ -83,20 +75,13 @@ rights_read a b c d = grind arith
 shifted : (n k : ℕ) → k + n - k ≡ n
 shifted n k = omega arith
 
-file_fits : (n : ℕ) → nat_lt n 8 ≡ true → (nat_le 97 (97 + n) && nat_le (97 + n) 104) ≡ true
-file_fits n h = grind (arith, nat_tests)
-
-rank_fits : (c : Colour) (n : ℕ) → (n == target_rank c) ≡ true → (49 + n == 51 || 49 + n == 54) ≡ true
-rank_fits White n h = let e = eqb-true n 5 h in rw e refl
-rank_fits Black n h = let e = eqb-true n 2 h in rw e refl
+text_fits : (c : Colour) (t : Square) → target_fits c (Some t) ≡ true → is_target (97 + t.file) (49 + t.rank) ≡ true
+text_fits White t h = grind (arith, nat_tests)
+text_fits Black t h = grind (arith, nat_tests)
 
 pub target_read : (c : Colour) (t : Option Square) → target_fits c t ≡ true → target_of (target_text t) ≡ Some t
 target_read c None h = refl
-target_read c (Some t) h =
-    let on = first_of_two _ _ h in
-    let fits =
-    ap₂ (λ a b. a && b) (file_fits _ (first_of_two _ (nat_lt t.rank 8) on)) (rank_fits c t.rank (second_of_two (on_board t) (t.rank == target_rank c) h)) in
-    rw fits (ap₂ (λ file rank. Some (Some (square file rank))) (shifted t.file 97) (shifted t.rank 49))
+target_read c (Some t) h = rw (text_fits c t h) (ap₂ (λ file rank. Some (Some (square file rank))) (shifted t.file 97) (shifted t.rank 49))
 
 target_lacks : (t : Option Square) → lacks is_space (target_text t) ≡ true
 target_lacks None = refl
@@ -122,18 +107,17 @@ all_spelled p b c r t m n e f g h i j = rw (e, f, g, h, i, j) refl
 
 pub spelled_is_read : (s : List ℕ) (p : Parts) → Fen s p → read s ≡ Ok p
 spelled_is_read s p fen =
-    let rights : RightsRead p.rights = rights_read p.rights.white_short p.rights.white_long p.rights.black_short p.rights.black_long in
-    let fields : SixFields (join_with_byte 32 (fen.board ∷ side_text p.side ∷ rights_text p.rights ∷ target_text p.target ∷ fen.half ∷ fen.full ∷ [])) fen.board (side_text p.side) (rights_text p.rights) (target_text p.target) fen.half fen.full =
+    let rights = rights_read p.rights.white_short p.rights.white_long p.rights.black_short p.rights.black_long in
+    let fields =
     six_fields fen.board (side_text p.side) (rights_text p.rights) (target_text p.target) fen.half fen.full
     (board_lacks fen.board p.board fen.spells_board) (side_lacks p.side) rights.alone (target_lacks p.target) (number_lacks fen.half p.half fen.spells_half) in
-    let text : List ℕ = join_with_byte 32 (fen.board ∷ side_text p.side ∷ rights_text p.rights ∷ target_text p.target ∷ fen.half ∷ fen.full ∷ []) in
-    let parts : parts_or_fault (placement_of (field 1 text)) (side_of (field 2 text)) (rights_of (field 3 text)) (target_of (field 4 text)) (number_of (field 5 text)) (number_of (field 6 text)) ≡ Ok p =
-    all_spelled p (placement_of (field 1 text)) (side_of (field 2 text)) (rights_of (field 3 text)) (target_of (field 4 text)) (number_of (field 5 text)) (number_of (field 6 text))
+    let parts =
+    all_spelled p _ _ _ _ _ _
     (ap placement_of fields.first ∙ board_read fen.board p.board fen.spells_board)
     (ap side_of fields.second ∙ side_read p.side)
     (ap rights_of fields.third ∙ rights.read)
     (ap target_of fields.fourth ∙ target_read p.side p.target (last_rules p fen.position).0)
     (ap number_of fields.fifth ∙ number_read fen.half p.half fen.spells_half)
     (ap number_of fields.sixth ∙ number_read fen.full p.full fen.spells_full) in
-    let position : is_position p ≡ true = fen.position in
+    let position = fen.position in
     ap read fen.joined ∙ rw (parts, position) refl
