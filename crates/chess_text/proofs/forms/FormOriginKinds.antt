@@ -1,4 +1,5 @@
 -- The kinds of squares for a form, one after another, and how many legal moves they count.
+use mathlib.Core.Bool.{and-false}
 use Rattle.chess_text.proofs.Words.{◌≡◌, ℕ, ◌+◌, ◌<◌, ◌≤◌, Bool, true, false, cond, ◌&&◌, List, [], ◌∷◌, ◌++◌, map, length, take, set, get_or, refl, sym, ◌∙◌, ap, subst, arith, Option, None, Some, Ok, Err, ◌↔◌, is_some, count_by, if◌then◌else◌, range_with_len, filter, filter_map, cons_option, take_more, take_more_set, map-append, get_or-map-range_with_len, sum_by-cons, sum_by_more, both_ways, Colour, White, Black, Move, Parts, Square, square, squares, same_square, step, home, home_rank, if_safe, Form, Castle, Man, OriginKind, Played, NoMove, Ambiguous, describes, with_next, played, agreeing, only, form_move, is_step_of_form, kind_of_move, origin_kind, origins_of_form, step_count, nth_square, is_legal_kind, count_legal, LegalOriginsDecide}
 use Rattle.chess_text.specs.declared.form_origins.OriginKind.TheVariants.{NoStep, Unsafe, Legal}
 use Rattle.chess_text.proofs.forms.CastlingMoves.{castles_ends}
@@ -56,10 +57,6 @@ pairs_few p f s = by_test _
 kind_counts : (p : Parts) (f : Form) (m : Move) → length (cons_option (played (describes p f m) p m) []) ≡ cond (is_legal_kind (kind_of_move p f m)) 1 0
 kind_counts p f m = by_described _
   where
-    undescribed : (x : Bool) (k : OriginKind) → ◌≡◌ {A = ℕ} 0 (cond (is_legal_kind (if x && false then k else NoStep)) 1 0)
-    undescribed true k = refl
-    undescribed false k = refl
-
     by_safe : (q : Parts) (safe : Bool)
         → length (cons_option (with_next m (if safe then Some q else None)) []) ≡ cond (is_legal_kind (if is_some (if safe then Some q else None) then Legal else Unsafe)) 1 0
     by_safe q true = refl
@@ -73,7 +70,7 @@ kind_counts p f m = by_described _
     by_described : (b : Bool)
         → length (cons_option (played b p m) []) ≡ cond (is_legal_kind (if is_some (step p m) && b then (if is_some (if_safe (step p m)) then Legal else Unsafe) else NoStep)) 1 0
     by_described true = by_step _
-    by_described false = undescribed _ _
+    by_described false = rw (and-false (is_some (step p m))) refl
 
 found_counts : {X : Type 0} (h : X → Option Played) (k : X → OriginKind) → ((x : X) → length (cons_option (h x) []) ≡ cond (is_legal_kind (k x)) 1 0)
     → (xs : List X) → length (filter_map h xs) ≡ count_by is_legal_kind (map k xs)

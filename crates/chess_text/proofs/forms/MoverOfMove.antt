@@ -1,6 +1,6 @@
 -- Whose move a legal move is, and which ones take.
 use mathlib.Core.Bool.{or-false}
-use Rattle.chess_text.proofs.Words.{◌≡◌, ℕ, Bool, true, false, not, ◌||◌, refl, sym, ◌∙◌, ap, arith, ◌==◌, Option, None, Some, is_none, is_some, codes, if◌then◌else◌, ◌++◌, false≢true, and_parts, and_from, nat_tests, Colour, Kind, King, Pawn, Piece, Move, Parts, Square, at, has_colour, has_piece, same_colour, same_kind, is_empty, own, is_en_passant, castles_short, castles_long, is_legal, square_text, is_castling, is_capture, capture_text, castling_text, king_text, has_rivals, and_right, false_from_ne_true}
+use Rattle.chess_text.proofs.Words.{◌≡◌, ℕ, List, Bool, true, false, not, ◌||◌, refl, sym, ◌∙◌, ap, arith, ◌==◌, Option, None, Some, is_none, is_some, codes, if◌then◌else◌, ◌++◌, false≢true, and_parts, and_from, nat_tests, Colour, Kind, King, Pawn, Piece, Move, Parts, Square, at, has_colour, has_piece, same_colour, same_kind, is_empty, own, is_en_passant, castles_short, castles_long, is_legal, square_text, is_castling, is_capture, capture_text, castling_text, king_text, has_rivals, and_right, or_parts, false_from_ne_true}
 use Rattle.chess_text.proofs.forms.CastlingMoves.{piece_goes, pawn_goes, pawn_passes, king_castles, passing_parts, stepped, castles_ends, castling_goes_far}
 
 -- The piece that moves is of the side to move.
@@ -67,18 +67,16 @@ something p m cell b e f = cc (full cell)
 
 -- The king.
 
+abbrev pub king_text_by : Bool → Bool → Parts → Move → List ℕ
+king_text_by short long p m = if short then castling_text false else if long then castling_text true else codes "K" ++ capture_text p m ++ square_text m.to
+
 pub castling_written : (p : Parts) (m : Move) → is_castling p m ≡ true → castling_text (m.to.file == 2) ≡ king_text p m
 castling_written p m h = by_wing _ _ refl refl h
   where
-    by_wing : (a b : Bool) → castles_short p m ≡ a → castles_long p m ≡ b → (a || b) ≡ true
-        → castling_text (m.to.file == 2) ≡ (if a then castling_text false else if b then castling_text true else codes "K" ++ capture_text p m ++ square_text m.to)
+    by_wing : (a b : Bool) → castles_short p m ≡ a → castles_long p m ≡ b → (a || b) ≡ true → castling_text (m.to.file == 2) ≡ king_text_by a b p m
     by_wing true b e f g = let file = ap (λ (s : Square). s.file) (castles_ends p m _ _ e).1 in rw file refl
     by_wing false true e f g = let file = ap (λ (s : Square). s.file) (castles_ends p m _ _ f).1 in rw file refl
     by_wing false false e f g = cc
 
 pub step_written : (p : Parts) (m : Move) → is_castling p m ≡ false → king_text p m ≡ codes "K" ++ capture_text p m ++ square_text m.to
-step_written p m h = by_wing _ _ h
-  where
-    by_wing : (a b : Bool) → (a || b) ≡ false → (if a then castling_text false else if b then castling_text true else codes "K" ++ capture_text p m ++ square_text m.to) ≡ codes "K" ++ capture_text p m ++ square_text m.to
-    by_wing false false g = refl
-    by_wing a b g = cc
+step_written p m h = let (short, long) = or_parts (castles_short p m) _ h in rw (short, long) refl

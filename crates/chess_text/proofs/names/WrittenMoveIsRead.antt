@@ -1,8 +1,9 @@
 -- The text of a legal move is a symbol, and is read as the move.
-use Rattle.chess_text.proofs.Words.{◌≡◌, ℕ, ◌+◌, ◌≤◌, Bool, true, false, List, [], ◌∷◌, ◌++◌, length, refl, sym, ap, subst, ◌∙◌, arith, length-append, Option, None, Some, is_some, option_map, codes, bytes_eq, if◌then◌else◌, list_all, list_any, list_all-append, nat_tests, false_from_ne_true, false≢true, and_from, bytes_eq-Decides, Kind, King, Pawn, Promotion, Move, Parts, OneKing, legal, Square, on_board, move_of_form, is_digit, letter, file_letter, rank_digit, square_text, disambiguation_by, rivals, on_file, on_rank, capture_if, capture_text, pawn_capture, promotion_text, castling_text, king_text, disambiguated_text, kind_text, piece_text, mark, san, is_letter, is_move_byte, begins_with_letter, is_marker, IsMoveSymbol, WrittenMoveIsSymbol, WrittenMoveIsRead, and_left, or_right, or_from}
+use Rattle.chess_text.proofs.Words.{◌≡◌, ℕ, ◌+◌, ◌≤◌, Bool, true, false, List, [], ◌∷◌, ◌++◌, length, refl, sym, ap, subst, ◌∙◌, arith, length-append, Option, None, Some, is_some, option_map, codes, bytes_eq, if◌then◌else◌, list_all, list_any, list_all-append, nat_tests, false_from_ne_true, false≢true, and_from, bytes_eq-Decides, Kind, King, Pawn, Promotion, Move, Parts, OneKing, legal, Square, on_board, move_of_form, is_digit, letter, file_letter, rank_digit, square_text, disambiguation_by, rivals, on_file, on_rank, capture_if, capture_text, pawn_capture, promotion_text, king_text, disambiguated_text, kind_text, piece_text, mark, san, is_letter, is_move_byte, begins_with_letter, is_marker, IsMoveSymbol, WrittenMoveIsSymbol, WrittenMoveIsRead, and_left, or_right, or_from}
 use Rattle.chess_rules.specs.declared.piece.Promotion.TheVariants as promotions
 use Rattle.chess_text.proofs.forms.AgreeingAreFound.{the_one_move_is_read}
 use Rattle.chess_text.proofs.forms.CastlingMoves.{stepped}
+use Rattle.chess_text.proofs.forms.MoverOfMove.{king_text_by}
 use Rattle.chess_text.proofs.forms.SpellingToForm.{form_read}
 use Rattle.chess_text.proofs.names.TextsToMoves.{single}
 use Rattle.chess_text.proofs.names.WrittenToForm.{moved}
@@ -48,26 +49,26 @@ more m n s less h = record { all = h.all; fits = omega arith }
 
 -- the parts of a text
 apart_bytes : (s : Square) (any file rank : Bool) → on_board s ≡ true → Bytes 2 (disambiguation_by s any file rank)
-apart_bytes s false file rank on = record { all = refl; fits = omega arith }
+apart_bytes s false file rank on = grind arith
 apart_bytes s true false rank on = more 1 2 _ (omega arith) (file_bytes s on)
 apart_bytes s true true false on = more 1 2 _ (omega arith) (rank_bytes s on)
 apart_bytes s true true true on = square_bytes s on
 
 capture_bytes : (takes : Bool) → Bytes 1 (capture_if takes)
-capture_bytes true = record { all = refl; fits = omega arith }
-capture_bytes false = record { all = refl; fits = omega arith }
+capture_bytes true = grind arith
+capture_bytes false = grind arith
 
 promotion_bytes : (q : Option Promotion) → Bytes 2 (promotion_text q)
-promotion_bytes (Some promotions.Queen) = record { all = refl; fits = omega arith }
-promotion_bytes q = record { all = refl; fits = omega arith }
+promotion_bytes (Some promotions.Queen) = grind arith
+promotion_bytes q = grind arith
 
 mark_bytes : (o : Option Parts) → Bytes 1 (mark o)
-mark_bytes None = record { all = refl; fits = omega arith }
+mark_bytes None = grind arith
 mark_bytes (Some q) = by_tests _ _
   where
     by_tests : (a b : Bool) → Bytes 1 (if a then codes "#" else if b then codes "+" else [])
-    by_tests false false = record { all = refl; fits = omega arith }
-    by_tests a b = record { all = refl; fits = omega arith }
+    by_tests false false = grind arith
+    by_tests a b = grind arith
 
 letter_is_letter : (k : Kind) → is_letter (letter k) ≡ true
 letter_is_letter King = refl
@@ -104,10 +105,9 @@ king_symbol p m to = by_wing _ _
         let whole = bytes_append 2 2 _ (square_text m.to) front (square_bytes m.to to) in
         record { begins = refl; bytes = more 4 6 _ (omega arith) whole }
 
-    by_wing : (a b : Bool) → Unmarked (if a then castling_text false
-        else if b then castling_text true else codes "K" ++ capture_text p m ++ square_text m.to)
+    by_wing : (a b : Bool) → Unmarked (king_text_by a b p m)
     by_wing false false = plain
-    by_wing a b = record { begins = refl; bytes = record { all = refl; fits = omega arith } }
+    by_wing a b = record { begins = refl; bytes = grind arith }
 
 pawn_symbol : (takes : Bool) (m : Move) → on_board m.from ≡ true → on_board m.to ≡ true
     → Unmarked (pawn_capture takes m ++ square_text m.to ++ promotion_text m.promotion)

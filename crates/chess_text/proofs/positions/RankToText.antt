@@ -6,9 +6,13 @@ pub drop-row : (b : Board) (rank file : ℕ) → file < 8 → drop file (row b r
 drop-row b rank (suc (suc (suc (suc (suc (suc (suc (suc file)))))))) h = absurd (omega arith)
 drop-row b rank file h = refl
 
+pub run_is_short : (n : ℕ) → length (run_text n) ≤ 1
+run_is_short zero = omega arith
+run_is_short (suc n) = let some : (suc n == 0) ≡ false = grind (arith, nat_tests) in rw some (omega arith)
+
 length-run_text : (n : ℕ) → length (run_text n) ≤ n
 length-run_text zero = omega arith
-length-run_text (suc n) = let some : (suc n == 0) ≡ false = grind (arith, nat_tests) in let one : length (run_text (suc n)) ≡ 1 = rw some refl in omega arith
+length-run_text (suc n) = omega (arith, run_is_short (suc n))
 
 -- a run takes a digit at most, and a piece its letter
 pub length-rank_text : (n : ℕ) (cells : Board) → length (rank_text n cells) ≤ n + length cells

@@ -12,8 +12,8 @@ lone_is (x ∷ []) s e = cc
 lone_is [] s e = cc
 lone_is (x ∷ y ∷ ys) s e = cc
 
-one_there : (xs : List Square) (s : Square) → Some s ≡ lone xs → length xs ≡ 1
-one_there xs s e = cc (lone_is xs s e)
+one_there : (xs : List Square) (o : Option Square) (s : Square) → o ≡ Some s → o ≡ lone xs → length xs ≡ 1
+one_there xs o s e f = cc (lone_is xs s (sym e ∙ f))
 
 only_found : (o : Option Played) → ok_or o NoMove ≡ only (cons_option o [])
 only_found None = refl
@@ -165,13 +165,13 @@ returns-else-agrees-clause-answer c =
     ∙ lone_gives c.candidates_are_complete.ensures p _ _ _ _ _ c.in-Some.origin (sym c.in-Some.is ∙ c.only_origin.ensures)
 
 pub returns-then-agrees-clause-each : goal.returns-then-agrees-clause-each
-returns-then-agrees-clause-each c _ = omega (arith, one_there (candidates _ _ _) c.in-Some.origin (sym c.in-Some.is ∙ c.only_origin.ensures))
+returns-then-agrees-clause-each c _ = omega (arith, one_there (candidates _ _ _) _ _ c.in-Some.is c.only_origin.ensures)
 
 pub returns-then-agrees-clause-most : goal.returns-then-agrees-clause-most
-returns-then-agrees-clause-most c = omega (arith, one_there (candidates _ _ _) c.in-Some.origin (sym c.in-Some.is ∙ c.only_origin.ensures))
+returns-then-agrees-clause-most c = omega (arith, one_there (candidates _ _ _) _ _ c.in-Some.is c.only_origin.ensures)
 
 pub returns-else-agrees-clause-each : goal.returns-else-agrees-clause-each
-returns-else-agrees-clause-each c _ = omega (arith, one_there (candidates _ _ _) c.in-Some.origin (sym c.in-Some.is ∙ c.only_origin.ensures))
+returns-else-agrees-clause-each c _ = omega (arith, one_there (candidates _ _ _) _ _ c.in-Some.is c.only_origin.ensures)
 
 pub returns-else-agrees-clause-most : goal.returns-else-agrees-clause-most
-returns-else-agrees-clause-most c = omega (arith, one_there (candidates _ _ _) c.in-Some.origin (sym c.in-Some.is ∙ c.only_origin.ensures))
+returns-else-agrees-clause-most c = omega (arith, one_there (candidates _ _ _) _ _ c.in-Some.is c.only_origin.ensures)
