@@ -1,5 +1,5 @@
 -- What the texts of legal moves name.
-use Rattle.chess_text.proofs.Words.{◌≡◌, ◌≢◌, ℕ, zero, suc, ◌+◌, ◌<◌, Bool, true, false, not, ◌&&◌, List, [], ◌∷◌, ◌++◌, append-nil, refl, sym, ◌∙◌, ap, arith, ◌==◌, nat_lt, Option, None, Some, slice_index_or, list_any, Any, false≢true, and_parts, and_from, ltb-true, Any-from_list_any, Kind, King, Pawn, Move, Parts, Square, squares, same_square, same_kind, own, is_legal, OneKing, Man, letter, file_letter, rank_digit, square_text, Spells, is_form, below_eight, hint_text, hints_fit, capture_text, from_square, is_rival, rivals, on_file, on_rank, disambiguation_by, has_rivals, mark, san, Names, SingleReading, disambiguations, text_with, ShorterIsAmbiguous, same_Some, not-true}
+use Rattle.chess_text.proofs.Words.{◌≡◌, ◌≢◌, ℕ, zero, suc, ◌<◌, Bool, true, false, not, ◌&&◌, List, [], ◌∷◌, ◌++◌, append-nil, refl, sym, ◌∙◌, ap, arith, ◌==◌, nat_lt, Option, None, Some, slice_index_or, list_any, Any, false≢true, and_parts, and_from, ltb-true, Any-from_list_any, Kind, King, Pawn, Move, Parts, Square, squares, same_square, same_kind, own, is_legal, OneKing, Man, letter, file_letter, rank_digit, square_text, Spells, is_form, below_eight, hint_text, hints_fit, capture_text, from_square, is_rival, rivals, on_file, on_rank, disambiguation_by, has_rivals, mark, san, Names, SingleReading, disambiguations, text_with, ShorterIsAmbiguous, same_Some, not-true}
 use Rattle.chess_text.proofs.forms.CastlingMoves.{stepped}
 use Rattle.chess_text.proofs.forms.SpellingToForm.{form_read}
 use Rattle.chess_text.proofs.forms.PieceForms.{same_square-refl}
@@ -33,15 +33,15 @@ record Rival (p : Parts) (k : Kind) (m : Move) (test : Square → Bool) : Type 0
   goes : is_legal p (from_square m on) ≡ true
   passes : test on ≡ true
 
-some_rival : (p : Parts) (k : Kind) (m : Move) (test : Square → Bool) → list_any test (rivals p k m) ≡ true → Rival p k m test
-some_rival p k m test h = by_place (Any-from_list_any _ squares (sym (any-filter test _ squares) ∙ h))
+some_rival : (p : Parts) (k : Kind) (m : Move) (test other : Square → Bool) → ((s : Square) → test s ≡ true → other s ≡ true) → list_any test (rivals p k m) ≡ true → Rival p k m other
+some_rival p k m test other implied h = by_place (Any-from_list_any _ squares (sym (any-filter test _ squares) ∙ h))
   where
-    by_place : Any (λ s. ((own p k s && is_rival p m s) && test s) ≡ true) squares → Rival p k m test
+    by_place : Any (λ s. ((own p k s && is_rival p m s) && test s) ≡ true) squares → Rival p k m other
     by_place (i, s, low, there, holds) =
         let both = and_parts _ _ holds in
         let first = and_parts (own p k s) (is_rival p m s) both.0 in
         let rival = and_parts (not (same_square s _)) (is_legal p (from_square m s)) first.1 in
-        record { on = s; stands = first.0; other = not-true (same_square s _) rival.0; goes = rival.1; passes = both.1 }
+        record { on = s; stands = first.0; other = not-true (same_square s _) rival.0; goes = rival.1; passes = implied s both.1 }
 
 pub another : (n m : Move) → same_square n.from m.from ≡ false → n ≢ m
 another n m other e = false≢true (sym other ∙ ap (λ (x : Move). same_square x.from m.from) e ∙ same_square-refl m.from)
@@ -93,24 +93,9 @@ record Flags (j : ℕ) (any file rank : Bool) : Type 0 where
   file_is : 1 < j → file ≡ true
   rank_is : 2 < j → rank ≡ true
 
-letter_is_digit : (f r : ℕ) → r < 8 → (97 + f) ∷ [] ≡ (49 + r) ∷ [] → ⊥
-letter_is_digit f r low e = let same : 97 + f ≡ 49 + r = cc in omega arith
-
 flags : (s : Square) (any file rank : Bool) (j : ℕ) → s.rank < 8 → j < 4 → disambiguation_by s any file rank ≡ slice_index_or (disambiguations s) j [] → Flags j any file rank
-flags s any file rank zero low high told = record { any_is = λ h. absurd (omega arith); file_is = λ h. absurd (omega arith); rank_is = λ h. absurd (omega arith) }
-flags s false file rank (suc zero) low high told = cc
-flags s false file rank (suc (suc zero)) low high told = cc
-flags s false file rank (suc (suc (suc zero))) low high told = cc
-flags s true file rank (suc zero) low high told = record { any_is = λ h. refl; file_is = λ h. absurd (omega arith); rank_is = λ h. absurd (omega arith) }
-flags s true false rank (suc (suc zero)) low high told = absurd (letter_is_digit _ _ low told)
-flags s true false rank (suc (suc (suc zero))) low high told = cc
-flags s true true rank (suc (suc zero)) low high told = record { any_is = λ h. refl; file_is = λ h. refl; rank_is = λ h. absurd (omega arith) }
-flags s true true false (suc (suc (suc zero))) low high told = cc
-flags s true true true (suc (suc (suc zero))) low high told = record { any_is = λ h. refl; file_is = λ h. refl; rank_is = λ h. refl }
-flags s any file rank (suc (suc (suc (suc j)))) low high told = absurd (omega arith)
-
-passing : (p : Parts) (k : Kind) (m : Move) (test other_test : Square → Bool) → ((s : Square) → test s ≡ true → other_test s ≡ true) → Rival p k m test → Rival p k m other_test
-passing p k m test other_test h r = record { on = r.on; stands = r.stands; other = r.other; goes = r.goes; passes = h r.on r.passes }
+flags s any file rank (suc (suc (suc (suc j)))) low high told = grind arith
+flags s any file rank j low high told = grind arith
 
 pub less : ShorterIsAmbiguous
 less p k m i j h stands may_have_rivals low high told =
@@ -123,14 +108,12 @@ less p k m i j h stands may_have_rivals low high told =
     by_step : (i : ℕ) → i < j → Flags j (list_any (λ r. true) (rivals p k m)) (on_file m.from (rivals p k m)) (on_rank m.from (rivals p k m))
         → Names p (text_with p k m (slice_index_or (disambiguations m.from) i [])) m
         × ((n : Move) × (n ≢ m) × Names p (text_with p k m (slice_index_or (disambiguations m.from) i [])) n)
-    by_step zero low f = two_named p k m h stands may_have_rivals None None [] refl refl refl (some_rival p k m (λ s. true) (f.any_is low))
+    by_step zero low f = two_named p k m h stands may_have_rivals None None [] refl refl refl (some_rival p k m (λ s. true) (λ s. true) (λ s e. e) (f.any_is low))
     by_step (suc zero) low f =
         two_named p k m h stands may_have_rivals (Some m.from.file) None (file_letter m.from.file ∷ []) refl (and_from (nat_lt m.from.file 8) true begins.0 refl)
         (and_from (m.from.file == m.from.file) true (itself m.from.file) refl)
-        (passing p k m (λ s. s.file == m.from.file) (λ s. hints_fit (Some m.from.file) None s) (λ s e. and_from (m.from.file == s.file) true (turn s.file m.from.file e) refl)
-        (some_rival p k m (λ s. s.file == m.from.file) (f.file_is low)))
+        (some_rival p k m (λ s. s.file == m.from.file) (λ s. hints_fit (Some m.from.file) None s) (λ s e. and_from (m.from.file == s.file) true (turn s.file m.from.file e) refl) (f.file_is low))
     by_step (suc (suc zero)) low f =
         two_named p k m h stands may_have_rivals None (Some m.from.rank) (rank_digit m.from.rank ∷ []) refl begins.1 (itself m.from.rank)
-        (passing p k m (λ s. s.rank == m.from.rank) (λ s. hints_fit None (Some m.from.rank) s) (λ s e. turn s.rank m.from.rank e)
-        (some_rival p k m (λ s. s.rank == m.from.rank) (f.rank_is low)))
+        (some_rival p k m (λ s. s.rank == m.from.rank) (λ s. hints_fit None (Some m.from.rank) s) (λ s e. turn s.rank m.from.rank e) (f.rank_is low))
     by_step (suc (suc (suc i))) low f = absurd (omega arith)
