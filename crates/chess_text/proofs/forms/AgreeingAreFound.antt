@@ -75,13 +75,10 @@ same_kinds Knight Knight h = refl
 same_kinds x y h = cc
 
 pub promotions_same : (x y : Option Promotion) → same_promotion x y ≡ true → x ≡ y
-promotions_same None None h = refl
-promotions_same (Some x) (Some y) h = ap Some (same_kinds x y h)
-promotions_same x y h = cc
+promotions_same x y h = grind arith
 
 pub no_promotion : (x : Option Promotion) → is_none x ≡ true → x ≡ None
-no_promotion None h = refl
-no_promotion (Some x) h = cc
+no_promotion x h = grind arith
 
 pub move_of : (m : Move) (from to : Square) (promotion : Option Promotion) → m.from ≡ from → m.to ≡ to → m.promotion ≡ promotion → m ≡ record { from = from; to = to; promotion = promotion }
 move_of m from to promotion a b c =

@@ -11,8 +11,7 @@ pub described : (p : Parts) (long : Bool) (m : Move) → m.to ≡ (castling_move
 described p false m to = first_alone (castles_short p m) (castles_long p m) no_long
   where
     first_alone : (x y : Bool) → (y ≡ true → ⊥) → x ≡ (x || y)
-    first_alone false true h = absurd (h refl)
-    first_alone x y h = refl
+    first_alone x y h = grind arith
 
     no_long : castles_long p m ≡ true → ⊥
     no_long h =
@@ -21,8 +20,7 @@ described p false m to = first_alone (castles_short p m) (castles_long p m) no_l
 described p true m to = second_alone _ _ no_short
   where
     second_alone : (x y : Bool) → (x ≡ true → ⊥) → y ≡ (x || y)
-    second_alone true y h = absurd (h refl)
-    second_alone false y h = refl
+    second_alone x y h = grind arith
 
     no_short : castles_short p m ≡ true → ⊥
     no_short h =
@@ -45,8 +43,7 @@ pub played_not : (b : Bool) (p : Parts) (m : Move) → b ≡ false → played b 
 played_not b p m e = cc
 
 no_next : (o : Option Parts) → is_some o ≡ false → o ≡ None
-no_next None h = refl
-no_next (Some q) h = cc
+no_next o h = grind arith
 
 module _ (p : Parts) (long : Bool) (m : Move) (is : m ≡ castling_move p.side long) where
   answer_of : (o : Option Played) → played (describes p (Castle long) (castling_move p.side long)) p (castling_move p.side long) ≡ o → only (cons_option o []) ≡ move_of_form p (Castle long)

@@ -1,5 +1,5 @@
 -- Which steps and legal moves are castling.
-use Rattle.chess_text.proofs.Words.{◌≡◌, ℕ, ◌<◌, ◌≤◌, Bool, true, false, not, ◌&&◌, ◌||◌, inl, inr, refl, sym, ◌∙◌, ap₂, arith, ◌==◌, nat_lt, nat_le, Option, None, Some, is_none, is_some, option_map, if◌then◌else◌, abs_diff, and_parts, and_from, or_cases, eqb-true, leb-true, lt-ltb, ltb-true, Colour, Kind, King, Pawn, Piece, Move, Parts, Square, square, gap, same_square, is_adjacent, Board, at, has_colour, has_piece, same_kind, attacks, cell_attacks, kind_attacks, own, home, Wing, short_wing, long_wing, short_right, long_right, is_piece_step, is_pawn_way, is_pawn_step, promotion_fits, is_en_passant, captured_pawn, other, is_king_move, stand_ready, is_unattacked, castles, castles_short, castles_long, carried, en_passant_board, castled, is_on_board, on_board, after, board_after, step, is_legal, if_safe, is_castling}
+use Rattle.chess_text.proofs.Words.{◌≡◌, ℕ, ◌<◌, ◌≤◌, Bool, true, false, not, ◌&&◌, ◌||◌, inl, inr, refl, sym, ◌∙◌, ap₂, arith, ◌==◌, nat_lt, Option, None, Some, is_none, is_some, option_map, if◌then◌else◌, abs_diff, and_parts, and_from, or_cases, eqb-true, lt-ltb, ltb-true, Colour, Kind, King, Pawn, Piece, Move, Parts, Square, square, same_square, is_adjacent, Board, at, has_colour, has_piece, same_kind, attacks, cell_attacks, kind_attacks, own, home, Wing, short_wing, long_wing, short_right, long_right, is_piece_step, is_pawn_way, is_pawn_step, promotion_fits, is_en_passant, captured_pawn, other, is_king_move, stand_ready, is_unattacked, castles, castles_short, castles_long, carried, en_passant_board, castled, is_on_board, on_board, after, board_after, step, is_legal, if_safe, is_castling, nat_tests}
 
 -- what each way of a step says
 pub data StepWay (p : Parts) (m : Move) : Type 0 where
@@ -87,9 +87,7 @@ abbrev pub goes_far : Parts → Move → Bool
 goes_far p m = own p King m.from && nat_lt 1 (abs_diff m.from.file m.to.file)
 
 near_file : (s t : Square) → is_adjacent s t ≡ true → abs_diff s.file t.file ≤ 1
-near_file s t h =
-    let near = and_parts (nat_le (gap s.file t.file) 1 && nat_le (gap s.rank t.rank) 1) (not (same_square s t)) h in
-    leb-true _ 1 (and_parts _ (nat_le (gap _ _) 1) near.0).0
+near_file s t h = grind (arith, nat_tests)
 
 far_is_castling : (p : Parts) (m : Move) → Stepped p m → own p King m.from ≡ true → 1 < abs_diff m.from.file m.to.file → is_castling p m ≡ true
 far_is_castling p m st king far =
@@ -122,9 +120,7 @@ castling_goes_far p m h =
 
 -- two tests that imply one another
 same_tests : (x y : Bool) → (x ≡ true → y ≡ true) → (y ≡ true → x ≡ true) → x ≡ y
-same_tests true y h g = sym (h refl)
-same_tests false true h g = g refl
-same_tests false false h g = refl
+same_tests x y h g = grind arith
 
 pub castling_is_far : (p : Parts) (m : Move) → is_some (step p m) ≡ true → is_castling p m ≡ goes_far p m
 castling_is_far p m h =
@@ -135,8 +131,7 @@ castling_is_far p m h =
 
 -- the second of two tests, where the first holds
 and_second : (x y : Bool) → x ≡ true → (x && y) ≡ y
-and_second true y h = refl
-and_second false y h = cc
+and_second x y h = rw h refl
 
 -- where the code has seen the king
 pub castling_by_files : (p : Parts) (m : Move) (king : Bool) (files : ℕ) → is_some (step p m) ≡ true → king ≡ own p King m.from → king ≡ true → files ≡ abs_diff m.from.file m.to.file → nat_lt 1 files ≡ is_castling p m

@@ -48,8 +48,7 @@ pub pairs_few : (p : Parts) (f : Form) (s : Square) → step_count p f s ≤ 1
 pairs_few p f s = by_test _
   where
     by_test : (b : Bool) → cond b 1 0 ≤ 1
-    by_test true = omega arith
-    by_test false = omega arith
+    by_test b = grind arith
 
 -- As many squares have a legal move of the form as moves agree with it.
 
@@ -59,8 +58,7 @@ kind_counts p f m = by_described _
   where
     by_safe : (q : Parts) (safe : Bool)
         → length (cons_option (with_next m (if safe then Some q else None)) []) ≡ cond (is_legal_kind (if is_some (if safe then Some q else None) then Legal else Unsafe)) 1 0
-    by_safe q true = refl
-    by_safe q false = refl
+    by_safe q safe = grind arith
 
     by_step : (o : Option Parts)
         → length (cons_option (with_next m (if_safe o)) []) ≡ cond (is_legal_kind (if is_some o && true then (if is_some (if_safe o) then Legal else Unsafe) else NoStep)) 1 0
@@ -81,8 +79,7 @@ found_counts h k same (x ∷ xs) =
     cc (first_apart (h x) (filter_map h xs), same x)
   where
     first_apart : (o : Option Played) (ys : List Played) → length (cons_option o ys) ≡ length (cons_option o []) + length ys
-    first_apart None ys = omega arith
-    first_apart (Some y) ys = omega arith
+    first_apart o ys = grind arith
 
 module _ (p : Parts) (f : Form) where
   abbrev move_at : Square → Option Played
@@ -129,13 +126,10 @@ only_one (x ∷ []) = (λ h. refl, λ h. (x, refl))
 only_one xs = (λ (z, e). cc, λ h. absurd (omega arith))
 
 only_none : (xs : List Played) → (only xs ≡ Err NoMove) ↔ (length xs ≡ 0)
-only_none [] = (λ h. refl, λ h. refl)
-only_none (x ∷ []) = (λ e. cc, λ h. absurd (omega arith))
-only_none xs = (λ e. cc, λ h. absurd (omega arith))
+only_none xs = grind arith
 
 only_several : (xs : List Played) → (only xs ≡ Err Ambiguous) ↔ (2 ≤ length xs)
-only_several (x ∷ y ∷ more) = (λ h. omega arith, λ h. refl)
-only_several xs = (λ e. cc, λ h. absurd (omega arith))
+only_several xs = grind arith
 
 pub legal_origins_decide : LegalOriginsDecide
 legal_origins_decide =

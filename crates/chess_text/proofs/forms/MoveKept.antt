@@ -1,5 +1,5 @@
 -- The move that a search has kept, with the position after it.
-use Rattle.chess_text.proofs.Words.{◌≡◌, Bool, true, false, ◌&&◌, refl, ap, Option, None, Some, is_some, and_parts, Move, Parts, legal, is_legal, Played, with_next, played}
+use Rattle.chess_text.proofs.Words.{◌≡◌, Bool, true, false, ◌&&◌, refl, ap, Option, None, Some, is_some, and_parts, Move, Parts, legal, is_legal, Played, with_next, played, arith}
 
 abbrev pub with_position : Parts → Option Move → Option Played
 with_position p None = None
@@ -11,8 +11,7 @@ IsLegalIfAny p None = Unit {0}
 IsLegalIfAny p (Some m) = is_legal p m ≡ true
 
 some_next : (m : Move) (o : Option Parts) → is_some o ≡ true → is_some (with_next m o) ≡ true
-some_next m None h = cc
-some_next m (Some q) h = refl
+some_next m o h = grind arith
 
 pub kept_is_some : (p : Parts) (o : Option Move) → IsLegalIfAny p o → is_some (with_position p o) ≡ is_some o
 kept_is_some p None h = refl

@@ -1,13 +1,12 @@
 -- Whose move a legal move is, and which ones take.
 use mathlib.Core.Bool.{or-false}
-use Rattle.chess_text.proofs.Words.{◌≡◌, ℕ, List, Bool, true, false, not, ◌||◌, refl, sym, ◌∙◌, ap, arith, ◌==◌, Option, None, Some, is_none, is_some, codes, if◌then◌else◌, ◌++◌, false≢true, and_parts, and_from, nat_tests, Colour, Kind, King, Pawn, Piece, Move, Parts, Square, at, has_colour, has_piece, same_colour, same_kind, is_empty, own, is_en_passant, castles_short, castles_long, is_legal, square_text, is_castling, is_capture, capture_text, castling_text, king_text, has_rivals, and_right, or_parts, false_from_ne_true}
+use Rattle.chess_text.proofs.Words.{◌≡◌, ℕ, List, Bool, true, false, not, ◌||◌, refl, sym, ◌∙◌, ap, arith, ◌==◌, Option, None, Some, is_none, is_some, codes, if◌then◌else◌, ◌++◌, false≢true, and_parts, and_from, nat_tests, Colour, Kind, King, Pawn, Piece, Move, Parts, Square, at, has_colour, has_piece, same_colour, same_kind, is_empty, own, is_en_passant, castles_short, castles_long, is_legal, square_text, is_castling, is_capture, capture_text, castling_text, king_text, has_rivals, or_parts, false_from_ne_true}
 use Rattle.chess_text.proofs.forms.CastlingMoves.{piece_goes, pawn_goes, pawn_passes, king_castles, passing_parts, stepped, castles_ends, castling_goes_far}
 
 -- The piece that moves is of the side to move.
 
 coloured : (c : Colour) (k : Kind) (cell : Option Piece) → has_piece c k cell ≡ true → has_colour c cell ≡ true
-coloured c k None h = h
-coloured c k (Some x) h = (and_parts _ _ h).0
+coloured c k cell h = grind arith
 
 pub mover_colour : (p : Parts) (m : Move) → is_legal p m ≡ true → has_colour p.side (at p.board m.from) ≡ true
 mover_colour p m h =
@@ -32,13 +31,7 @@ mover p m x h there =
 
 -- a piece of one kind is of no other
 pub other_kind : (c : Colour) (j k : Kind) (cell : Option Piece) → has_piece c j cell ≡ true → same_kind j k ≡ false → has_piece c k cell ≡ false
-other_kind c j k None h apart = refl
-other_kind c j k (Some x) h apart =
-    and_right (same_colour c _) (same_kind k _)
-    (differs _ _ _ (and_parts _ _ h).1 apart)
-  where
-    differs : (a b y : ℕ) → (a == y) ≡ true → (a == b) ≡ false → (b == y) ≡ false
-    differs a b y h apart = grind (arith, nat_tests)
+other_kind c j k cell h apart = grind (arith, nat_tests)
 
 -- Another piece takes exactly what stands on its target.
 
@@ -49,8 +42,7 @@ piece_takes p m k h apart =
 -- The kinds that have rivals.
 
 pub pawn_has_no_rivals : (k : Kind) → has_rivals k ≡ true → same_kind k Pawn ≡ false
-pawn_has_no_rivals Pawn h = cc
-pawn_has_no_rivals k h = refl
+pawn_has_no_rivals k h = grind arith
 
 pub may_have_rivals : (k : Kind) → (k ≡ King → ⊥) → (k ≡ Pawn → ⊥) → has_rivals k ≡ true
 may_have_rivals King h g = absurd (h refl)

@@ -124,8 +124,7 @@ found_more {X} {Y} h xs i d o low is =
     cc (take_more xs i d low, filter_map-append h (take i xs) (get_or xs i d ∷ []))
 
 pub only_so_far : (o : Option Played) → ok_or o NoMove ≡ only (option_to_list o)
-only_so_far None = refl
-only_so_far (Some x) = refl
+only_so_far o = grind arith
 
 -- a second one, wherever it was found
 pub only_two : {X : Type 0} (h : X → Option Played) (xs : List X) (n : ℕ) (x y : Played) → filter_map h (take n xs) ≡ (x ∷ []) ++ (y ∷ []) → only (filter_map h xs) ≡ Err Ambiguous
@@ -143,8 +142,7 @@ module _ {X : Type 0} (h : X → Option Played) (xs : List X) (i : ℕ) (found :
       cc (found_more h xs i d o low is, nothing found none)
     where
       nothing : (f : Option Played) → is_some f ≡ false → option_to_list f ≡ []
-      nothing None e = refl
-      nothing (Some x) e = cc
+      nothing f e = grind arith
 
   pub second_one : (d : X) (o : Option Played) (y : Played) → i < length xs → o ≡ h (get_or xs i d) → o ≡ Some y → is_some found ≡ true → Err Ambiguous ≡ only (filter_map h xs)
   second_one d o y low is some one = by_found found one so_far

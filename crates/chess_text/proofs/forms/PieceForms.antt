@@ -1,6 +1,5 @@
 -- What a form of no castling names: all its moves come from candidates.
-use Rattle.chess_text.proofs.Words.{◌≡◌, ℕ, ◌<◌, Bool, true, false, ◌&&◌, List, get_or, refl, Option, None, Some, ◌==◌, length, filter_map, All, IsPermutation, both_ways, and_parts, and_from, eq-eqb, filter_passes, All-weaker, All-permutation, IsPermutation-sym, Kind, Promotion, Parts, Square, squares, same_square, own, legal, is_candidate, candidates, CandidatesComplete, Form, Man, Played, same_promotion, describes, played, move_from, agreeing, only, move_of_form, piece_move_fits}
-use Rattle.chess_rules.specs.declared.piece.Promotion.TheVariants.{Queen}
+use Rattle.chess_text.proofs.Words.{◌≡◌, ℕ, ◌<◌, Bool, true, false, ◌&&◌, List, get_or, refl, Option, None, Some, ◌==◌, length, filter_map, All, IsPermutation, both_ways, and_parts, and_from, eq-eqb, filter_passes, All-weaker, All-permutation, IsPermutation-sym, Kind, Promotion, Parts, Square, squares, same_square, own, legal, is_candidate, candidates, CandidatesComplete, Form, Man, Played, same_promotion, describes, played, move_from, agreeing, only, move_of_form, piece_move_fits, arith}
 use Rattle.chess_text.proofs.forms.CastlingForms.{played_none}
 use Rattle.chess_text.proofs.forms.OnlyElement.{filter_map-map, filter_map-filter, only_permuted}
 
@@ -12,12 +11,10 @@ pub same_square-refl : (s : Square) → same_square s s ≡ true
 same_square-refl s = and_from (s.file == s.file) (s.rank == s.rank) (eq-eqb _ _ refl) (eq-eqb _ _ refl)
 
 pub same_promotion-refl : (x : Option Promotion) → same_promotion x x ≡ true
-same_promotion-refl (Some Queen) = refl
-same_promotion-refl x = refl
+same_promotion-refl x = grind arith
 
 rest_of : (a b c d e : Bool) → a ≡ true → c ≡ true → d ≡ true → ((a && b) && ((c && d) && e)) ≡ (b && e)
-rest_of true b true true e f g h = refl
-rest_of a b c d e f g h = cc
+rest_of a b c d e f g h = grind arith
 
 module _ (p : Parts) (k : Kind) (file rank : Option ℕ) (to : Square) (promotion : Option Promotion) where
   -- from a square with such a piece

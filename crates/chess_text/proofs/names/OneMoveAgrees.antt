@@ -1,5 +1,5 @@
 -- No other legal move agrees with the form that is written.
-use Rattle.chess_text.proofs.Words.{◌≡◌, ℕ, ◌+◌, ◌/◌, Bool, true, false, not, ◌&&◌, refl, sym, ◌∙◌, ap, ap₂, subst, arith, ◌==◌, Option, None, Some, is_none, list_any, false≢true, both_ways, and_parts, and_from, not-true, not-false, eqb-true, nat_tests, Colour, White, Black, Kind, King, Pawn, Piece, Promotion, Move, Parts, Square, square, squares, gap, same_square, at, has_piece, same_colour, same_kind, is_empty, other, is_ahead, is_position, own, captured_pawn, crossed, pawn_rank, double_rank, Wing, castles, castles_short, castles_long, is_legal, OneKing, Man, hints_fit, same_promotion, is_castling, describes, agrees, from_square, is_rival, rivals, is_capture, on_file, on_rank}
+use Rattle.chess_text.proofs.Words.{◌≡◌, ℕ, ◌+◌, ◌/◌, Bool, true, false, not, ◌&&◌, refl, sym, ◌∙◌, ap, ap₂, subst, arith, ◌==◌, Option, None, Some, is_none, list_any, both_ways, and_parts, and_from, not-true, not-false, eqb-true, nat_tests, Colour, White, Black, Kind, King, Pawn, Piece, Promotion, Move, Parts, Square, square, squares, gap, same_square, at, has_piece, same_kind, is_empty, other, is_ahead, is_position, own, captured_pawn, crossed, pawn_rank, double_rank, Wing, castles, castles_short, castles_long, is_legal, OneKing, Man, hints_fit, same_promotion, is_castling, describes, agrees, from_square, is_rival, rivals, is_capture, on_file, on_rank}
 use Rattle.chess_text.proofs.forms.CastlingMoves.{stepped, squares_same, castles_ends}
 use Rattle.chess_text.proofs.forms.AgreeingAreFound.{in_squares, any_contained, promotions_same, move_of, no_promotion}
 use Rattle.chess_text.proofs.forms.PawnWays.{PawnWay, takes, passes, advances, doubles, pawn_way, pawn_takes, gap_apart}
@@ -62,12 +62,7 @@ turn x y h = grind (arith, nat_tests)
 -- a rival does not fit the hints that tell it apart
 told_away : (s t : Square) (any file rank : Bool) → hints_fit (file_by s any file rank) (rank_by s any file rank) t ≡ true → same_square t s ≡ false
     → any ≡ true → ((t.file == s.file) ≡ true → file ≡ true) → ((t.rank == s.rank) ≡ true → rank ≡ true) → ⊥
-told_away s t false file rank fits apart a b c = cc
-told_away s t true false rank fits apart a b c = false≢true (b (turn _ _ (and_parts _ true fits).0))
-told_away s t true true false fits apart a b c = false≢true (c (turn _ _ fits))
-told_away s t true true true fits apart a b c =
-    let both = and_parts (s.file == t.file) (s.rank == t.rank) fits in
-    false≢true (sym apart ∙ and_from (t.file == s.file) (t.rank == s.rank) (turn _ _ both.0) (turn _ _ both.1))
+told_away s t any file rank fits apart a b c = grind (arith, nat_tests)
 
 disambiguated_alone : (p : Parts) (k : Kind) (m n : Move) → is_legal p m ≡ true → is_legal p n ≡ true → own p k m.from ≡ true → same_kind k Pawn ≡ false → describes p (disambiguated_form k p m) n ≡ true → n ≡ m
 disambiguated_alone p k m n h g stands may_have_rivals d = by_test _ refl
@@ -100,8 +95,7 @@ disambiguated_alone p k m n h g stands may_have_rivals d = by_test _ refl
 
 -- one rank ahead: from one rank alone
 behind : (c : Colour) (a b t : ℕ) → is_ahead c a t ≡ true → is_ahead c b t ≡ true → a ≡ b
-behind White a b t h g = grind (arith, nat_tests)
-behind Black a b t h g = grind (arith, nat_tests)
+behind c a b t h g = grind (arith, nat_tests)
 
 -- the rank that a double step crosses
 between : (c : Colour) (a t : ℕ) → t ≡ double_rank c → is_ahead c a t ≡ true → (pawn_rank c + double_rank c) / 2 ≡ a
@@ -110,17 +104,10 @@ between Black a t e h = let rank = eqb-true a _ h in omega arith
 
 -- what stands on the square crossed
 no_one : (c : Colour) (cell : Option Piece) → is_none cell ≡ true → has_piece c Pawn cell ≡ true → ⊥
-no_one c None h g = cc
-no_one c (Some x) h g = cc
+no_one c cell h g = grind arith
 
 not_both : (c : Colour) (cell : Option Piece) → has_piece c Pawn cell ≡ true → has_piece (other c) Pawn cell ≡ true → ⊥
-not_both c None h g = cc
-not_both c (Some x) h g = apart c x.colour (and_parts _ _ h).0 (and_parts _ _ g).0
-  where
-    apart : (c d : Colour) → same_colour c d ≡ true → same_colour (other c) d ≡ true → ⊥
-    apart White White e f = cc
-    apart Black Black e f = cc
-    apart c d e f = cc
+not_both c cell h g = grind arith
 
 -- a pawn does not come to where another one's double step crosses, nor past it
 over : (p : Parts) (x y : Move) → own p Pawn y.from ≡ true → y.to ≡ x.to → y.from.file ≡ y.to.file → is_ahead p.side y.from.rank y.to.rank ≡ true

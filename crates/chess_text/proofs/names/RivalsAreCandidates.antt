@@ -1,10 +1,9 @@
 -- The rivals of a move, found among the candidates for its target.
-use Rattle.chess_text.proofs.Words.{◌≡◌, ℕ, ◌+◌, ◌<◌, ◌≤◌, Bool, true, false, cond, ◌&&◌, ◌||◌, List, [], ◌∷◌, length, take, get_or, refl, sym, ◌∙◌, ap, ◌==◌, Option, None, Some, is_some, list_any, IsPermutation, false≢true, and_parts, take_all, list_any_more, list_any-IsPermutation, Kind, Move, Parts, Square, squares, own, legal, sees, candidates, CandidatesComplete, from_square, is_rival, rivals, on_file, on_rank, disambiguation_by, disambiguation}
+use Rattle.chess_text.proofs.Words.{◌≡◌, ℕ, ◌+◌, ◌<◌, ◌≤◌, Bool, true, false, cond, ◌&&◌, ◌||◌, List, [], ◌∷◌, length, take, get_or, refl, sym, ◌∙◌, ap, ◌==◌, Option, None, Some, is_some, list_any, IsPermutation, and_parts, take_all, list_any_more, list_any-IsPermutation, Kind, Move, Parts, Square, squares, own, legal, sees, candidates, CandidatesComplete, from_square, is_rival, rivals, on_file, on_rank, disambiguation_by, disambiguation, arith}
 use Rattle.std.specs.Prelude.{filter}
 
 any-cond : {Y : Type 0} (test : Y → Bool) (b : Bool) (y : Y) (ys : List Y) → list_any test (cond b (y ∷ ys) ys) ≡ ((b && test y) || list_any test ys)
-any-cond test true y ys = refl
-any-cond test false y ys = refl
+any-cond test b y ys = grind arith
 
 pub any-filter : {Y : Type 0} (test p : Y → Bool) (ys : List Y) → list_any test (filter p ys) ≡ list_any (λ y. p y && test y) ys
 any-filter test p [] = refl
@@ -26,8 +25,7 @@ rival_sees complete p k m s h g = by_legal _ refl (and_parts _ _ g).1
     by_legal (Some q) e f = (and_parts (own p k s) (sees k p s m.to) (complete p q _ k e h)).1
 
 same_test : (o g r t : Bool) → (o ≡ true → r ≡ true → g ≡ true) → ((o && g) && (r && t)) ≡ ((o && r) && t)
-same_test true false true t h = absurd (false≢true (h refl refl))
-same_test o g r t h = refl
+same_test o g r t h = grind arith
 
 pub rivals_seen : CandidatesComplete → (p : Parts) (k : Kind) (m : Move) (test : Square → Bool) (xs : List Square)
     → IsPermutation (candidates p k m.to) xs → seen p m test xs ≡ list_any test (rivals p k m)

@@ -1,5 +1,5 @@
 -- The form that the text of a legal move spells.
-use Rattle.chess_text.proofs.Words.{◌≡◌, ℕ, inl, inr, Bool, true, false, not, ◌&&◌, ◌||◌, [], ◌∷◌, ◌++◌, append-nil, refl, sym, ◌∙◌, ap, ap₂, ◌==◌, Option, None, Some, codes, if◌then◌else◌, list_all, list_any, false≢true, and_parts, and_from, or_cases, eq-eqb, Kind, King, Pawn, Piece, Promotion, Move, Parts, Square, on_board, at, has_colour, same_kind, own, castles_short, castles_long, short_right, long_right, short_wing, long_wing, legal, is_legal, Form, Castle, Man, letter, file_letter, rank_digit, square_text, SpellsBare, Spells, is_among, letter_texts, hint_text, capture_texts, promotion_texts, is_mark, below_eight, is_form, hints_fit, is_castling, describes, agrees, is_capture, capture_if, capture_text, pawn_capture, promotion_text, king_text, disambiguated_text, kind_text, mark, san, disambiguation_by, rivals, on_file, on_rank, has_rivals, false_from_ne_true}
+use Rattle.chess_text.proofs.Words.{◌≡◌, ℕ, inl, inr, Bool, true, false, not, ◌&&◌, ◌||◌, [], ◌∷◌, ◌++◌, append-nil, refl, sym, ◌∙◌, ap, ap₂, ◌==◌, Option, None, Some, codes, if◌then◌else◌, list_all, list_any, false≢true, and_parts, and_from, or_cases, eq-eqb, Kind, King, Pawn, Piece, Promotion, Move, Parts, Square, on_board, at, has_colour, same_kind, own, castles_short, castles_long, short_right, long_right, short_wing, long_wing, legal, is_legal, Form, Castle, Man, letter, file_letter, rank_digit, square_text, SpellsBare, Spells, is_among, letter_texts, hint_text, capture_texts, promotion_texts, is_mark, below_eight, is_form, hints_fit, is_castling, describes, agrees, is_capture, capture_if, capture_text, pawn_capture, promotion_text, king_text, disambiguated_text, kind_text, mark, san, disambiguation_by, rivals, on_file, on_rank, has_rivals, false_from_ne_true, arith, nat_tests}
 use Rattle.chess_rules.specs.declared.piece.Promotion.TheVariants as promotions
 use Rattle.chess_text.proofs.forms.CastlingMoves.{piece_goes, pawn_goes, pawn_passes, king_castles, Stepped, stepped, castles_ends, castling_goes_far}
 use Rattle.chess_text.proofs.forms.PieceForms.{same_square-refl, same_promotion-refl}
@@ -115,18 +115,13 @@ san_spelled p m v =
 -- It is a form.
 
 hints_below : (s : Square) (any file rank : Bool) → on_board s ≡ true → (below_eight (file_by s any file rank) && below_eight (rank_by s any file rank)) ≡ true
-hints_below s false file rank h = refl
-hints_below s true false rank h = and_from _ true (and_parts _ _ h).0 refl
-hints_below s true true false h = (and_parts _ _ h).1
-hints_below s true true true h = h
+hints_below s any file rank h = grind arith
 
 king_good : (a b : Bool) (m : Move) → on_board m.to ≡ true → is_form (king_form_by a b m) ≡ true
-king_good false false m h = h
-king_good a b m h = refl
+king_good a b m h = grind arith
 
 pawn_good : (b : Bool) (m : Move) → on_board m.from ≡ true → on_board m.to ≡ true → is_form (pawn_form_by b m) ≡ true
-pawn_good true m h g = and_from _ _ (and_from _ true (and_parts _ _ h).0 refl) g
-pawn_good false m h g = g
+pawn_good b m h g = grind arith
 
 disambiguated_good : (k : Kind) (p : Parts) (m : Move) → on_board m.from ≡ true → on_board m.to ≡ true → is_form (disambiguated_form k p m) ≡ true
 disambiguated_good k p m h g =
@@ -174,10 +169,7 @@ pub itself : (n : ℕ) → (n == n) ≡ true
 itself n = eq-eqb n n refl
 
 own_hints : (s : Square) (any file rank : Bool) → hints_fit (file_by s any file rank) (rank_by s any file rank) s ≡ true
-own_hints s false file rank = refl
-own_hints s true false rank = and_from _ true (itself _) refl
-own_hints s true true false = itself _
-own_hints s true true true = and_from (s.file == s.file) (s.rank == s.rank) (itself _) (itself _)
+own_hints s any file rank = grind (arith, nat_tests)
 
 king_described : (p : Parts) (m : Move) → is_legal p m ≡ true → own p King m.from ≡ true → describes p (king_form_by (castles_short p m) (castles_long p m) m) m ≡ true
 king_described p m h stands = by_wing _ _ refl refl

@@ -124,8 +124,7 @@ number_spelled n h =
 fourth_and_fifth : (a b c d e : Bool)
     → is_none (if not a then Some Kings else if b then Some PawnOnEdge else if c then Some KingCapturable else if not d then Some TargetRank else if not e then Some NumberRange else None) ≡ true
     → (d ≡ true) × (e ≡ true)
-fourth_and_fifth true false false true true h = (refl, refl)
-fourth_and_fifth a b c d e h = cc
+fourth_and_fifth a b c d e h = grind arith
 
 pub last_rules : (p : Parts) → is_position p ≡ true → (target_fits p.side p.target ≡ true) × ((nat_le p.half 99999 && nat_le p.full 99999) ≡ true)
 last_rules p h =

@@ -45,8 +45,7 @@ is_shortest s p fen = shortest s p fen
 
 -- a square that is read lies where some side's target may lie
 fits_on : (c : Colour) (file rank : ℕ) → is_target file rank ≡ true → (rank == 49 + target_rank c) ≡ true → target_fits c (Some (square (file - 97) (rank - 49))) ≡ true
-fits_on White file rank h e = grind (arith, nat_tests)
-fits_on Black file rank h e = grind (arith, nat_tests)
+fits_on c file rank h e = grind (arith, nat_tests)
 
 target_side : (s : List ℕ) (t : Option Square) → target_of s ≡ Some t → (c : Colour) × (target_fits c t ≡ true)
 target_side (c ∷ []) t h = (White, ap (target_fits White) (sym (cond_some (c == 45) None t h).1))

@@ -52,8 +52,7 @@ some_rights : (r : Rights) → 0 < length (rights_text r)
 some_rights r = some _
   where
     some : (s : List ℕ) → 0 < length (or_dash s)
-    some [] = omega arith
-    some (c ∷ s) = omega arith
+    some s = grind arith
 
 some_target : (t : Option Square) → 0 < length (target_text t)
 some_target None = omega arith

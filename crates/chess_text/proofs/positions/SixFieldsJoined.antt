@@ -1,5 +1,5 @@
 -- The six fields of the canonical text, one after another, and how long they are.
-use Rattle.chess_text.proofs.Words.{◌≡◌, ℕ, ◌≤◌, Bool, true, false, List, [], ◌∷◌, ◌++◌, length, append_assoc, refl, ◌∙◌, ap, arith, length-append, Option, None, Some, decimal, join_with_byte, length-decimal-le, Colour, White, Black, Rights, Parts, Square, placement_text, side_text, rights_text, or_dash, right_letter, target_text, fen_text}
+use Rattle.chess_text.proofs.Words.{◌≡◌, ℕ, ◌≤◌, Bool, List, [], ◌∷◌, ◌++◌, length, append_assoc, refl, ◌∙◌, ap, arith, length-append, Option, decimal, join_with_byte, length-decimal-le, Colour, White, Black, Rights, Parts, Square, placement_text, side_text, rights_text, or_dash, right_letter, target_text, fen_text}
 use Rattle.chess_text.proofs.positions.BoardToText.{length-placement_text}
 
 length-side_text : (c : Colour) → length (side_text c) ≡ 1
@@ -7,16 +7,13 @@ length-side_text White = refl
 length-side_text Black = refl
 
 length-target_text : (t : Option Square) → length (target_text t) ≤ 2
-length-target_text None = omega arith
-length-target_text (Some t) = omega arith
+length-target_text t = grind arith
 
 length-held : (b : Bool) (c : ℕ) → length (right_letter b c) ≤ 1
-length-held true c = omega arith
-length-held false c = omega arith
+length-held b c = grind arith
 
 length-or_dash : (s : List ℕ) → length s ≤ 4 → length (or_dash s) ≤ 4
-length-or_dash [] h = omega arith
-length-or_dash (c ∷ s) h = h
+length-or_dash s h = grind arith
 
 length-rights_text : (r : Rights) → length (rights_text r) ≤ 4
 length-rights_text r =

@@ -76,8 +76,7 @@ shifted : (n k : ℕ) → k + n - k ≡ n
 shifted n k = omega arith
 
 text_fits : (c : Colour) (t : Square) → target_fits c (Some t) ≡ true → is_target (97 + t.file) (49 + t.rank) ≡ true
-text_fits White t h = grind (arith, nat_tests)
-text_fits Black t h = grind (arith, nat_tests)
+text_fits c t h = grind (arith, nat_tests)
 
 pub target_read : (c : Colour) (t : Option Square) → target_fits c t ≡ true → target_of (target_text t) ≡ Some t
 target_read c None h = refl
