@@ -1,5 +1,5 @@
 -- Which steps and legal moves are castling.
-use Rattle.chess_text.proofs.Words.{◌≡◌, ℕ, ◌<◌, ◌≤◌, Bool, true, false, not, ◌&&◌, ◌||◌, inl, inr, refl, sym, ◌∙◌, ap₂, arith, ◌==◌, nat_lt, Option, None, Some, is_none, is_some, option_map, if◌then◌else◌, abs_diff, and_parts, and_from, or_cases, eqb-true, lt-ltb, ltb-true, Colour, Kind, King, Pawn, Piece, Move, Parts, Square, square, same_square, is_adjacent, Board, at, has_colour, has_piece, same_kind, attacks, cell_attacks, kind_attacks, own, home, Wing, short_wing, long_wing, short_right, long_right, is_piece_step, is_pawn_way, is_pawn_step, promotion_fits, is_en_passant, captured_pawn, other, is_king_move, stand_ready, is_unattacked, castles, castles_short, castles_long, carried, en_passant_board, castled, is_on_board, on_board, after, board_after, step, is_legal, if_safe, is_castling, nat_tests}
+use Rattle.chess_text.proofs.Words.{◌≡◌, ℕ, ◌<◌, ◌≤◌, Bool, true, false, not, ◌&&◌, ◌||◌, inl, inr, refl, sym, ◌∙◌, ap₂, arith, ◌==◌, nat_lt, Option, None, Some, is_none, is_some, option_map, if◌then◌else◌, abs_diff, and_parts, and_from, or_cases, eqb-true, lt-ltb, ltb-true, Colour, King, Pawn, Piece, Move, Parts, Square, square, same_square, is_adjacent, Board, at, has_colour, has_piece, attacks, cell_attacks, own, home, Wing, short_wing, long_wing, short_right, long_right, is_piece_step, is_pawn_way, is_pawn_step, promotion_fits, is_en_passant, captured_pawn, other, is_king_move, stand_ready, is_unattacked, castles, castles_short, castles_long, carried, en_passant_board, castled, is_on_board, on_board, after, board_after, step, is_legal, if_safe, is_castling, nat_tests}
 
 -- what each way of a step says
 pub data StepWay (p : Parts) (m : Move) : Type 0 where
@@ -66,21 +66,11 @@ squares_same s t h =
 
 -- a king is no pawn
 pub no_pawn : (c : Colour) (cell : Option Piece) → has_piece c King cell ≡ true → has_piece c Pawn cell ≡ true → ⊥
-no_pawn c None h g = cc
-no_pawn c (Some x) h g = by_kind x.kind (and_parts _ _ h).1 (and_parts _ _ g).1
-  where
-    by_kind : (k : Kind) → same_kind King k ≡ true → same_kind Pawn k ≡ true → ⊥
-    by_kind King a b = cc
-    by_kind k a b = cc
+no_pawn c cell h g = grind (arith, nat_tests)
 
 -- a king attacks the squares beside it
 king_attacks : (c : Colour) (cell : Option Piece) (b : Board) (s t : Square) → has_piece c King cell ≡ true → cell_attacks cell b s t ≡ true → is_adjacent s t ≡ true
-king_attacks c None b s t h g = cc
-king_attacks c (Some x) b s t h g = by_kind _ (and_parts _ _ h).1 g
-  where
-    by_kind : (k : Kind) → same_kind King k ≡ true → kind_attacks k x.colour b s t ≡ true → is_adjacent s t ≡ true
-    by_kind King a g = g
-    by_kind k a g = cc
+king_attacks c cell b s t h g = grind (arith, nat_tests)
 
 -- as the code asks
 abbrev pub goes_far : Parts → Move → Bool

@@ -1,7 +1,6 @@
 -- A form that is read of a text is spelled by it.
-use Rattle.chess_text.proofs.Words.{◌≡◌, ℕ, ◌+◌, ◌-◌, ◌<◌, Bool, true, false, ◌&&◌, nat_lt, nat_le, ◌==◌, List, [], ◌∷◌, ◌++◌, append-nil, refl, sym, ap, arith, Option, None, Some, is_some, find, codes, if◌then◌else◌, list_all, eqb-true, cond_some, nat_tests, Kind, King, Pawn, Promotion, Square, square, on_board, Form, Castle, Man, letter, kinds, file_letter, rank_digit, square_text, SpellsBare, Spells, is_among, letter_texts, hint_text, capture_texts, promotion_letter, promotions, promotion_texts, castle_texts, is_mark, below_eight, is_form, last_byte, front, front_if, before_marks, file_of, rank_of, promotion_of, promotion_at_end, before_sign, before_promotion, square_of, target_at_end, before_capture, before_target, rank_at_end, before_rank, file_at_end, before_file, kind_of_text, piece_move_if, piece_move_of, castle_of, castle_or, bare_form, form_of, same_Some}
+use Rattle.chess_text.proofs.Words.{◌≡◌, ℕ, ◌+◌, ◌-◌, ◌<◌, Bool, true, false, ◌&&◌, nat_lt, nat_le, ◌==◌, List, [], ◌∷◌, ◌++◌, append-nil, refl, sym, ap, arith, Option, None, Some, is_some, find, codes, if◌then◌else◌, list_all, eqb-true, cond_some, nat_tests, Kind, Pawn, Promotion, Square, square, on_board, Form, Castle, Man, letter, kinds, file_letter, rank_digit, square_text, SpellsBare, Spells, is_among, letter_texts, hint_text, capture_texts, promotion_letter, promotions, promotion_texts, castle_texts, is_mark, below_eight, is_form, last_byte, front, front_if, before_marks, file_of, rank_of, promotion_of, promotion_at_end, before_sign, before_promotion, square_of, target_at_end, before_capture, before_target, rank_at_end, before_rank, file_at_end, before_file, kind_of_text, piece_move_if, piece_move_of, castle_of, castle_or, bare_form, form_of, same_Some}
 use Rattle.std.proofs.lemmas.List.{append_assoc}
-use Rattle.chess_rules.specs.declared.piece.Promotion.TheVariants as become
 use Rattle.chess_text.proofs.forms.SpellingToForm.{snoc_again}
 
 -- What stands before the marks, and the marks.
@@ -80,8 +79,7 @@ promotion_byte : (c : ℕ) (q : Promotion) → promotion_of c ≡ Some q → c �
 promotion_byte c q h = sym (eqb-true (promotion_letter q) c (found (λ p. promotion_letter p == c) promotions q h))
 
 letter_texts_of : (q : Promotion) → (0 < promotion_letter q) × (is_among (61 ∷ promotion_letter q ∷ []) (promotion_texts (Some q)) ≡ true) × (is_among (promotion_letter q ∷ []) (promotion_texts (Some q)) ≡ true)
-letter_texts_of become.Queen = (omega arith, refl, refl)
-letter_texts_of q = (omega arith, refl, refl)
+letter_texts_of q = grind arith
 
 promotion_spelled : (s : List ℕ) → Part s (before_promotion s) (promotion_texts (promotion_at_end s))
 promotion_spelled s = by_byte (promotion_at_end s) refl
@@ -97,8 +95,7 @@ promotion_spelled s = by_byte (promotion_at_end s) refl
     by_byte (Some q) e = by_sign q (last_byte (front s) == 61) refl (ends_in s (promotion_letter q) (promotion_byte (last_byte s) q e) (letter_texts_of q).0)
 
 own_letter : (k : Kind) → is_among (letter k ∷ []) (letter_texts k) ≡ true
-own_letter King = refl
-own_letter k = refl
+own_letter k = grind arith
 
 pub kind_spelled : (s : List ℕ) (k : Kind) → kind_of_text s ≡ Some k → is_among s (letter_texts k) ≡ true
 kind_spelled [] k h = cc (same_Some Pawn k h)

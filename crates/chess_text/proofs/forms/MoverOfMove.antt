@@ -22,8 +22,7 @@ pub mover_stands : (p : Parts) (m : Move) → is_legal p m ≡ true → at p.boa
 mover_stands p m h nothing = false≢true (ap (λ cell. has_colour p.side cell) (sym nothing) ∙ mover_colour p m h)
 
 same_kind-refl : (k : Kind) → same_kind k k ≡ true
-same_kind-refl King = refl
-same_kind-refl k = refl
+same_kind-refl k = grind arith
 
 pub mover : (p : Parts) (m : Move) (x : Piece) → is_legal p m ≡ true → at p.board m.from ≡ Some x → own p x.kind m.from ≡ true
 mover p m x h there =
@@ -45,17 +44,14 @@ pub pawn_has_no_rivals : (k : Kind) → has_rivals k ≡ true → same_kind k Pa
 pawn_has_no_rivals k h = grind arith
 
 pub may_have_rivals : (k : Kind) → (k ≡ King → ⊥) → (k ≡ Pawn → ⊥) → has_rivals k ≡ true
-may_have_rivals King h g = absurd (h refl)
-may_have_rivals Pawn h g = absurd (g refl)
-may_have_rivals k h g = refl
+may_have_rivals k h g = grind arith
 
 -- as the code asks
 pub something : (p : Parts) (m : Move) (cell : Option Piece) (b : Bool) → cell ≡ at p.board m.to → b ≡ is_some cell → b ≡ not (is_empty p.board m.to)
 something p m cell b e f = cc (full cell)
   where
     full : (x : Option Piece) → is_some x ≡ not (is_none x)
-    full None = refl
-    full (Some y) = refl
+    full x = grind arith
 
 -- The king.
 

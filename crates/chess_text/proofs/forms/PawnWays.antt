@@ -1,5 +1,5 @@
 -- The ways in which a pawn goes.
-use Rattle.chess_text.proofs.Words.{◌≡◌, ℕ, inl, inr, true, false, not, ◌&&◌, ◌||◌, refl, sym, ◌∙◌, ap, arith, ◌==◌, Option, None, Some, is_none, false≢true, and_parts, or_cases, eqb-true, eq-eqb, nat_tests, Colour, Kind, King, Pawn, Piece, Move, Parts, Square, gap, Board, at, has_colour, has_piece, same_colour, same_kind, is_empty, other, attacks, cell_attacks, kind_attacks, is_ahead, own, is_advance, is_double_step, is_pawn_capture, is_pawn_way, captured_pawn, crossed, pawn_rank, double_rank, is_en_passant, is_legal, is_castling, is_capture, false_from_ne_true}
+use Rattle.chess_text.proofs.Words.{◌≡◌, ℕ, inl, inr, true, false, not, ◌&&◌, ◌||◌, refl, sym, ◌∙◌, ap, arith, ◌==◌, Option, is_none, false≢true, and_parts, or_cases, eqb-true, eq-eqb, nat_tests, Colour, King, Pawn, Piece, Move, Parts, Square, gap, Board, at, has_colour, has_piece, is_empty, other, attacks, cell_attacks, is_ahead, own, is_advance, is_double_step, is_pawn_capture, is_pawn_way, captured_pawn, crossed, pawn_rank, double_rank, is_en_passant, is_legal, is_castling, is_capture, false_from_ne_true}
 use mathlib.Core.Bool.{or-true}
 use Rattle.chess_text.proofs.forms.CastlingMoves.{piece_goes, pawn_goes, pawn_passes, king_castles, passing_parts, stepped, castling_goes_far}
 use Rattle.chess_text.proofs.forms.MoverOfMove.{other_kind}
@@ -12,17 +12,7 @@ pub data PawnWay (p : Parts) (m : Move) : Type 0 where
   doubles : m.from.file ≡ m.to.file → m.from.rank ≡ pawn_rank p.side → m.to.rank ≡ double_rank p.side → is_empty p.board (crossed m) ≡ true → is_empty p.board m.to ≡ true → PawnWay p m
 
 pawn_attack : (c : Colour) (cell : Option Piece) (b : Board) (s t : Square) → has_piece c Pawn cell ≡ true → cell_attacks cell b s t ≡ true → (gap s.file t.file ≡ 1) × (is_ahead c s.rank t.rank ≡ true)
-pawn_attack c None b s t h g = cc
-pawn_attack c (Some x) b s t h g = by_kind x.kind (and_parts (same_colour c x.colour) (same_kind Pawn x.kind) h).1 g
-  where
-    ahead : (c d : Colour) → same_colour c d ≡ true → is_ahead d s.rank t.rank ≡ true → is_ahead c s.rank t.rank ≡ true
-    ahead c d e f = grind arith
-
-    by_kind : (k : Kind) → same_kind Pawn k ≡ true → kind_attacks k x.colour b s t ≡ true → (gap s.file t.file ≡ 1) × (is_ahead c s.rank t.rank ≡ true)
-    by_kind Pawn a g =
-        let both = and_parts (gap s.file t.file == 1) (is_ahead x.colour s.rank t.rank) g in
-        (eqb-true (gap s.file t.file) 1 both.0, ahead c x.colour (and_parts (same_colour c x.colour) (same_kind Pawn x.kind) h).0 both.1)
-    by_kind k a g = cc
+pawn_attack c cell b s t h g = grind (arith, nat_tests)
 
 full : (c : Colour) (cell : Option Piece) → has_colour c cell ≡ true → is_none cell ≡ false
 full c cell g = grind arith

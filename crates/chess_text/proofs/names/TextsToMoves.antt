@@ -21,9 +21,7 @@ single one p m position h =
 -- With an earlier step.
 
 no_king : (k : Kind) → has_rivals k ≡ true → (same_kind King k ≡ false) × (same_kind k Pawn ≡ false)
-no_king King h = cc
-no_king Pawn h = cc
-no_king k h = (refl, refl)
+no_king k h = grind arith
 
 -- a rival that passes a test
 record Rival (p : Parts) (k : Kind) (m : Move) (test : Square → Bool) : Type 0 where

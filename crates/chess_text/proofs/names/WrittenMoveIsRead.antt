@@ -1,6 +1,5 @@
 -- The text of a legal move is a symbol, and is read as the move.
 use Rattle.chess_text.proofs.Words.{◌≡◌, ℕ, ◌+◌, ◌≤◌, Bool, true, false, List, [], ◌∷◌, ◌++◌, length, refl, sym, ap, subst, ◌∙◌, arith, length-append, Option, None, Some, is_some, option_map, codes, bytes_eq, if◌then◌else◌, list_all, list_any, list_all-append, nat_tests, false_from_ne_true, false≢true, and_from, bytes_eq-Decides, Kind, King, Pawn, Promotion, Move, Parts, OneKing, legal, Square, on_board, move_of_form, is_digit, letter, file_letter, rank_digit, square_text, disambiguation_by, rivals, on_file, on_rank, capture_if, capture_text, pawn_capture, promotion_text, king_text, disambiguated_text, kind_text, piece_text, mark, san, is_letter, is_move_byte, begins_with_letter, is_marker, IsMoveSymbol, WrittenMoveIsSymbol, WrittenMoveIsRead, and_left, or_right, or_from}
-use Rattle.chess_rules.specs.declared.piece.Promotion.TheVariants as promotions
 use Rattle.chess_text.proofs.forms.AgreeingAreFound.{the_one_move_is_read}
 use Rattle.chess_text.proofs.forms.CastlingMoves.{stepped}
 use Rattle.chess_text.proofs.forms.MoverOfMove.{king_text_by}
@@ -55,11 +54,9 @@ apart_bytes s true true false on = more 1 2 _ (omega arith) (rank_bytes s on)
 apart_bytes s true true true on = square_bytes s on
 
 capture_bytes : (takes : Bool) → Bytes 1 (capture_if takes)
-capture_bytes true = grind arith
-capture_bytes false = grind arith
+capture_bytes takes = grind arith
 
 promotion_bytes : (q : Option Promotion) → Bytes 2 (promotion_text q)
-promotion_bytes (Some promotions.Queen) = grind arith
 promotion_bytes q = grind arith
 
 mark_bytes : (o : Option Parts) → Bytes 1 (mark o)
@@ -67,12 +64,10 @@ mark_bytes None = grind arith
 mark_bytes (Some q) = by_tests _ _
   where
     by_tests : (a b : Bool) → Bytes 1 (if a then codes "#" else if b then codes "+" else [])
-    by_tests false false = grind arith
     by_tests a b = grind arith
 
 letter_is_letter : (k : Kind) → is_letter (letter k) ≡ true
-letter_is_letter King = refl
-letter_is_letter k = refl
+letter_is_letter k = grind arith
 
 letter_bytes : (k : Kind) → Bytes 1 (letter k ∷ [])
 letter_bytes k = letter_byte _ (letter_is_letter k)

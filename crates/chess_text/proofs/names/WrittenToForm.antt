@@ -1,6 +1,5 @@
 -- The form that the text of a legal move spells.
 use Rattle.chess_text.proofs.Words.{◌≡◌, ℕ, inl, inr, Bool, true, false, not, ◌&&◌, ◌||◌, [], ◌∷◌, ◌++◌, append-nil, refl, sym, ◌∙◌, ap, ap₂, ◌==◌, Option, None, Some, codes, if◌then◌else◌, list_all, list_any, false≢true, and_parts, and_from, or_cases, eq-eqb, Kind, King, Pawn, Piece, Promotion, Move, Parts, Square, on_board, at, has_colour, same_kind, own, castles_short, castles_long, short_right, long_right, short_wing, long_wing, legal, is_legal, Form, Castle, Man, letter, file_letter, rank_digit, square_text, SpellsBare, Spells, is_among, letter_texts, hint_text, capture_texts, promotion_texts, is_mark, below_eight, is_form, hints_fit, is_castling, describes, agrees, is_capture, capture_if, capture_text, pawn_capture, promotion_text, king_text, disambiguated_text, kind_text, mark, san, disambiguation_by, rivals, on_file, on_rank, has_rivals, false_from_ne_true, arith, nat_tests}
-use Rattle.chess_rules.specs.declared.piece.Promotion.TheVariants as promotions
 use Rattle.chess_text.proofs.forms.CastlingMoves.{piece_goes, pawn_goes, pawn_passes, king_castles, Stepped, stepped, castles_ends, castling_goes_far}
 use Rattle.chess_text.proofs.forms.PieceForms.{same_square-refl, same_promotion-refl}
 use Rattle.chess_text.proofs.forms.MoverOfMove.{king_text_by, mover, mover_colour, other_kind}
@@ -33,17 +32,14 @@ written k p m = disambiguated_form k p m
 -- It is spelled.
 
 pub capture_fits : (b : Bool) → is_among (capture_if b) capture_texts ≡ true
-capture_fits true = refl
-capture_fits false = refl
+capture_fits b = grind arith
 
 hints_written : (l : ℕ) (s : Square) (any file rank : Bool)
     → (l ∷ []) ++ disambiguation_by s any file rank ≡ ((l ∷ []) ++ hint_text file_letter (file_by s any file rank)) ++ hint_text rank_digit (rank_by s any file rank)
-hints_written l s true true true = refl
-hints_written l s any file rank = refl
+hints_written l s any file rank = grind arith
 
 pub own_letter : (k : Kind) → has_rivals k ≡ true → is_among (letter k ∷ []) (letter_texts k) ≡ true
-own_letter Pawn h = cc
-own_letter k h = refl
+own_letter k h = grind arith
 
 disambiguated_spelled : (k : Kind) (p : Parts) (m : Move) → has_rivals k ≡ true → SpellsBare (disambiguated_text k p m) (disambiguated_form k p m)
 disambiguated_spelled k p m h =
@@ -69,8 +65,7 @@ king_spelled p m = by_wing _ _
     by_wing a b = refl
 
 promotion_written : (q : Option Promotion) → is_among (promotion_text q) (promotion_texts q) ≡ true
-promotion_written (Some promotions.Queen) = refl
-promotion_written q = refl
+promotion_written q = grind arith
 
 pawn_spelled : (takes : Bool) (m : Move) → SpellsBare (pawn_capture takes m ++ square_text m.to ++ promotion_text m.promotion) (pawn_form_by takes m)
 pawn_spelled true m = record { letters = []; capture = codes "x"; promoted = promotion_text _; joined = refl; letters_fit = refl; capture_fits = refl; promoted_fits = promotion_written m.promotion }
@@ -86,8 +81,7 @@ marks_alone None = refl
 marks_alone (Some q) = by_tests _ _
   where
     by_tests : (a b : Bool) → list_all is_mark (if a then codes "#" else if b then codes "+" else []) ≡ true
-    by_tests false false = refl
-    by_tests a b = refl
+    by_tests a b = grind arith
 
 -- the piece that moves
 pub record Moved (p : Parts) (m : Move) : Type 0 where

@@ -1,18 +1,16 @@
 -- The fields of a text, which stand between its spaces.
 use Rattle.std.proofs.Math.Seq.{take-append_seam, drop-append-add}
-use Rattle.chess_text.proofs.Words.{◌≡◌, ℕ, Bool, true, false, not, ◌&&◌, List, [], ◌∷◌, ◌++◌, length, refl, arith, list_all, before_first, after_first, position_or_len, join_with_byte, is_space, rest, field}
+use Rattle.chess_text.proofs.Words.{◌≡◌, ℕ, Bool, true, not, ◌&&◌, List, [], ◌∷◌, ◌++◌, length, refl, arith, list_all, before_first, after_first, position_or_len, join_with_byte, is_space, rest, field}
 
 -- no byte of the text passes
 abbrev pub lacks : (ℕ → Bool) → List ℕ → Bool
 lacks p s = list_all (λ c. not (p c)) s
 
 pub first_of_two : (a b : Bool) → (a && b) ≡ true → a ≡ true
-first_of_two true b h = refl
-first_of_two false b h = h
+first_of_two a b h = grind arith
 
 pub second_of_two : (a b : Bool) → (a && b) ≡ true → b ≡ true
-second_of_two true b h = h
-second_of_two false b h = cc
+second_of_two a b h = grind arith
 
 position_past : (p : ℕ → Bool) (t : List ℕ) (y : ℕ) (r : List ℕ) → lacks p t ≡ true → p y ≡ true → position_or_len p (t ++ y ∷ r) ≡ length t
 position_past p [] y r h e = rw e refl

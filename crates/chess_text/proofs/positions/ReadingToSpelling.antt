@@ -45,8 +45,7 @@ number_spelled s n h = let (digits, is) = cond_some _ _ n h in record { digits_a
 -- No spelling is empty, so that a space stands before it.
 
 some_side : (c : Colour) → 0 < length (side_text c)
-some_side White = omega arith
-some_side Black = omega arith
+some_side c = grind arith
 
 some_rights : (r : Rights) → 0 < length (rights_text r)
 some_rights r = some _
@@ -55,8 +54,7 @@ some_rights r = some _
     some s = grind arith
 
 some_target : (t : Option Square) → 0 < length (target_text t)
-some_target None = omega arith
-some_target (Some t) = omega arith
+some_target t = grind arith
 
 pub some_digit : (s : List ℕ) (n : ℕ) → SpellsNumber s n → 0 < length s
 some_digit s n spells =

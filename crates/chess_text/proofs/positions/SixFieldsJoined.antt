@@ -1,10 +1,9 @@
 -- The six fields of the canonical text, one after another, and how long they are.
-use Rattle.chess_text.proofs.Words.{◌≡◌, ℕ, ◌≤◌, Bool, List, [], ◌∷◌, ◌++◌, length, append_assoc, refl, ◌∙◌, ap, arith, length-append, Option, decimal, join_with_byte, length-decimal-le, Colour, White, Black, Rights, Parts, Square, placement_text, side_text, rights_text, or_dash, right_letter, target_text, fen_text}
+use Rattle.chess_text.proofs.Words.{◌≡◌, ℕ, ◌≤◌, Bool, List, [], ◌∷◌, ◌++◌, length, append_assoc, refl, ◌∙◌, ap, arith, length-append, Option, decimal, join_with_byte, length-decimal-le, Colour, Rights, Parts, Square, placement_text, side_text, rights_text, or_dash, right_letter, target_text, fen_text}
 use Rattle.chess_text.proofs.positions.BoardToText.{length-placement_text}
 
 length-side_text : (c : Colour) → length (side_text c) ≡ 1
-length-side_text White = refl
-length-side_text Black = refl
+length-side_text c = grind arith
 
 length-target_text : (t : Option Square) → length (target_text t) ≤ 2
 length-target_text t = grind arith

@@ -1,5 +1,5 @@
 -- A text that spells a position is read as that position.
-use Rattle.chess_text.proofs.Words.{◌≡◌, ℕ, ◌+◌, ◌-◌, ◌<◌, ◌==◌, nat_le, Bool, true, false, not, ◌&&◌, List, [], ◌∷◌, length, refl, sym, ◌∙◌, ap, ap₂, arith, Option, None, Some, Ok, list_all, join_with_byte, false≢true, false_from_ne_true, and_parts, is_target, eqb-true, nat_tests, list_all-append, slice_split-cons_no, Colour, White, Black, Rights, Parts, Square, square, Board, target_fits, ranks, is_slash, is_item, is_rank, is_placement, placement_of, side_text, side_of, rights_text, rights_of, target_text, target_of, is_digit, number_of, SpellsBoard, SpellsNumber, Fen, is_space, parts_or_fault, read, not-true}
+use Rattle.chess_text.proofs.Words.{◌≡◌, ℕ, ◌+◌, ◌-◌, ◌<◌, ◌==◌, nat_le, Bool, true, false, not, ◌&&◌, List, [], ◌∷◌, length, refl, sym, ◌∙◌, ap, ap₂, arith, Option, None, Some, Ok, list_all, join_with_byte, false≢true, false_from_ne_true, and_parts, is_target, eqb-true, nat_tests, list_all-append, slice_split-cons_no, Colour, Rights, Parts, Square, square, Board, target_fits, ranks, is_slash, is_item, is_rank, is_placement, placement_of, side_text, side_of, rights_text, rights_of, target_text, target_of, is_digit, number_of, SpellsBoard, SpellsNumber, Fen, is_space, parts_or_fault, read, not-true}
 use Rattle.chess_text.proofs.positions.CanonicalSpells.{last_rules}
 use Rattle.chess_text.proofs.positions.RanksOfText.{slice_split-around}
 use Rattle.chess_text.proofs.positions.FieldsOfText.{lacks, first_of_two, six_fields}
@@ -56,12 +56,10 @@ board_lacks s b spells = cc (joined_lacks spells.rank_texts (ranks_lack 32 refl 
 -- Fields 2 and 3.
 
 pub side_read : (c : Colour) → side_of (side_text c) ≡ Some c
-side_read White = refl
-side_read Black = refl
+side_read c = grind arith
 
 side_lacks : (c : Colour) → lacks is_space (side_text c) ≡ true
-side_lacks White = refl
-side_lacks Black = refl
+side_lacks c = grind arith
 
 pub record RightsRead (r : Rights) : Type 0 where
   pub read : rights_of (rights_text r) ≡ Some r

@@ -1,6 +1,6 @@
 -- A legal move is one of a piece of the side to move, so a mark can be computed by the moves of
 -- these pieces alone.
-use Rattle.chess_text.proofs.Words.{◌≡◌, ℕ, Bool, true, false, ◌&&◌, not, inl, inr, List, [], ◌∷◌, ◌++◌, refl, ap, Option, None, Some, codes, if◌then◌else◌, list_any, false≢true, or_cases, Move, Parts, Square, squares, at, has_colour, every_promotion, is_check, is_legal, legal, mark, san, unmarked}
+use Rattle.chess_text.proofs.Words.{◌≡◌, ℕ, Bool, true, ◌&&◌, not, inl, inr, List, [], ◌∷◌, ◌++◌, refl, ap, Option, None, Some, codes, if◌then◌else◌, list_any, or_cases, Move, Parts, Square, squares, at, has_colour, every_promotion, is_check, is_legal, legal, mark, san, unmarked, arith}
 use Rattle.chess_text.proofs.forms.MoverOfMove.{mover_colour}
 use Rattle.chess_text.proofs.names.RivalsAreCandidates.{any-same}
 
@@ -27,8 +27,7 @@ from_piece p from =
     (λ promotion. mover_colour p (record { from = from; to = to; promotion = promotion }))))
   where
     only_if : (x y : Bool) → (y ≡ true → x ≡ true) → y ≡ (x && y)
-    only_if false true h = absurd (false≢true (h refl))
-    only_if x y h = refl
+    only_if x y h = grind arith
 
 -- the mark, by these moves
 abbrev mark_tried : Option Parts → List ℕ

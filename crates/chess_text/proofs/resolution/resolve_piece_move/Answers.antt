@@ -1,4 +1,4 @@
-use Rattle.chess_text.proofs.Words.{◌≡◌, ℕ, ◌<◌, List, [], ◌∷◌, length, get_or, filter_map, sym, refl, ◌∙◌, ap, subst, arith, Option, None, Some, is_some, cons_option, ok_or, option_to_list, IsPermutation, and_parts, IsPermutation-refl, length_permutation, Kind, Promotion, Parts, Square, candidates, lone, CandidatesComplete, Man, Played, NoMove, move_from, move_of_form, only, piece_move_fits, played}
+use Rattle.chess_text.proofs.Words.{◌≡◌, ℕ, ◌<◌, List, [], ◌∷◌, length, get_or, filter_map, sym, refl, ◌∙◌, ap, subst, arith, Option, Some, is_some, cons_option, ok_or, option_to_list, IsPermutation, and_parts, IsPermutation-refl, length_permutation, Kind, Promotion, Parts, Square, candidates, lone, CandidatesComplete, Man, Played, NoMove, move_from, move_of_form, only, piece_move_fits, played}
 use Rattle.chess_text.proofs.forms.MoveKept.{with_position, kept_is_some, kept_next, fitting_is_played, other_is_not_played}
 use Rattle.chess_text.proofs.forms.OnlyElement.{still_none, first_one, second_one, not_at_once, at_the_end}
 use Rattle.chess_text.proofs.forms.PieceForms.{candidates_own, from_square, reads_candidates, tried_at, tried_own}
@@ -8,16 +8,13 @@ use Rattle.chess_text.proofs.resolution.resolve_piece_move.Goals.{After-as_slice
 -- There is one origin alone.
 
 lone_is : (xs : List Square) (s : Square) → Some s ≡ lone xs → xs ≡ s ∷ []
-lone_is (x ∷ []) s e = cc
-lone_is [] s e = cc
-lone_is (x ∷ y ∷ ys) s e = cc
+lone_is xs s e = grind arith
 
 one_there : (xs : List Square) (o : Option Square) (s : Square) → o ≡ Some s → o ≡ lone xs → length xs ≡ 1
 one_there xs o s e f = cc (lone_is xs s (sym e ∙ f))
 
 only_found : (o : Option Played) → ok_or o NoMove ≡ only (cons_option o [])
-only_found None = refl
-only_found (Some x) = refl
+only_found o = grind arith
 
 -- what its move gives is all that is found
 lone_gives : CandidatesComplete → (p : Parts) (k : Kind) (file rank : Option ℕ) (to : Square) (promotion : Option Promotion) (s : Square) → Some s ≡ lone (candidates p k to)

@@ -1,4 +1,4 @@
-use Rattle.chess_text.proofs.Words.{◌≡◌, ◌+◌, ◌≤◌, Bool, true, false, [], ◌++◌, length, sym, ◌∙◌, ap, ap₂, subst, arith, length-append, is_some, codes, if◌then◌else◌, is_check, is_mate, MarkPairs, mark, mark_after}
+use Rattle.chess_text.proofs.Words.{◌≡◌, ◌+◌, ◌≤◌, Bool, [], ◌++◌, length, sym, ◌∙◌, ap, ap₂, subst, arith, length-append, is_some, codes, if◌then◌else◌, is_check, is_mate, MarkPairs, mark, mark_after}
 use Rattle.chess_text.proofs.san.write_san.Goals as goal
 
 pub push_unmarked-requires : goal.push_unmarked-requires
@@ -13,9 +13,7 @@ returns-clause-text c = c.push_mark.ensures.text ∙ ap₂ (λ s o. s ++ mark o)
 
 -- a mark is one byte, or none
 mark_short : (mates checks : Bool) → length (if mates then codes "#" else if checks then codes "+" else []) ≤ 1
-mark_short true checks = omega arith
-mark_short false true = omega arith
-mark_short false false = omega arith
+mark_short mates checks = grind arith
 
 joined : (c : goal.After-push_mark) → length c.push_mark.new.text.items ≡ length c.push_unmarked.new.text.items + length (mark_after c.args.played.now.next)
 joined c = ap length c.push_mark.ensures.text ∙ length-append _ _
