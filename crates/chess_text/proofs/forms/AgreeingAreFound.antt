@@ -1,5 +1,5 @@
 -- The moves that agree with a form are those that are found, and none is found twice.
-use Rattle.chess_text.proofs.Words.{◌≡◌, ◌≢◌, ℕ, ◌<◌, inl, inr, Bool, true, false, not, ◌&&◌, List, [], ◌∷◌, map, refl, sym, ◌∙◌, ap, subst, arith, Option, None, Some, Ok, Err, is_some, is_none, nat_lt, flat_map, filter_map, cons_option, list_any, list_any_at, Contains, both_ways, not-true, and_parts, and_from, ltb-true, get_or-range_with_len, length-range_with_len, Contains-append_left, Contains-append_right, Promotion, Move, Parts, Square, square, squares, lines, on_board, same_square, same_kind, own, kind_of, short_wing, long_wing, short_right, long_right, legal, is_legal, Form, Castle, Man, Played, NoMove, Ambiguous, hints_fit, same_promotion, is_castling, describes, agrees, with_next, played, castling_move, move_from, moves_to_try, agreeing, only, TheOneMoveIsRead, NoMoveIsRead, TwoMovesAreAmbiguous}
+use Rattle.chess_text.proofs.Words.{◌≡◌, ◌≢◌, ℕ, ◌<◌, inl, inr, Bool, true, false, not, ◌&&◌, List, [], ◌∷◌, map, refl, sym, ◌∙◌, ap, subst, arith, Option, None, Some, Ok, Err, is_some, is_none, nat_lt, flat_map, filter_map, cons_option, list_any, list_any_at, Contains, both_ways, not-true, and_parts, and_from, ltb-true, get_or-range_with_len, length-range_with_len, Contains-append_left, Contains-append_right, Promotion, Move, Parts, Square, square, squares, lines, on_board, same_square, same_kind, kind_of, short_wing, long_wing, short_right, long_right, legal, is_legal, Form, Castle, Man, Played, NoMove, Ambiguous, same_promotion, describes, agrees, with_next, played, castling_move, move_from, moves_to_try, agreeing, only, TheOneMoveIsRead, NoMoveIsRead, TwoMovesAreAmbiguous, hints_fit, is_castling, own, Kind}
 use Rattle.chess_rules.specs.declared.piece.Promotion.TheVariants.{Queen, Rook, Bishop, Knight}
 use Rattle.chess_text.proofs.forms.CastlingMoves.{stepped, squares_same, castles_ends}
 use Rattle.chess_text.proofs.forms.CastlingForms.{legal_next, played_some}
@@ -86,6 +86,21 @@ move_of m from to promotion a b c =
     ∙ ap (λ s. record { from = from; to = s; promotion = m.promotion }) b
     ∙ ap (λ x. record { from = from; to = to; promotion = x }) c
 
+five_hold : (a b c d e : Bool) → ((a && b) && ((c && d) && e)) ≡ true → (a ≡ true) × (b ≡ true) × (c ≡ true) × (d ≡ true)
+five_hold a b c d e h = grind arith
+
+-- what a form of no castling says of a move
+pub record Said (p : Parts) (k : Kind) (file rank : Option ℕ) (to : Square) (promotion : Option Promotion) (n : Move) : Type 0 where
+  pub stands : own p k n.from ≡ true
+  pub hints : hints_fit file rank n.from ≡ true
+  pub there : n.to ≡ to
+  pub named : n.promotion ≡ promotion
+
+pub said : (p : Parts) (k : Kind) (file rank : Option ℕ) (to : Square) (promotion : Option Promotion) (n : Move) → describes p (Man k file rank to promotion) n ≡ true → Said p k file rank to promotion n
+said p k file rank to promotion n h =
+    let (stands, hints, there, named) = five_hold (own p k n.from) (hints_fit file rank n.from) (same_square n.to to) (same_promotion n.promotion promotion) (not (is_castling p n)) h in
+    record { stands = stands; hints = hints; there = squares_same n.to to there; named = promotions_same _ _ named }
+
 pub is_possible : (p : Parts) (f : Form) (m : Move) → is_legal p m ≡ true → describes p f m ≡ true → Contains (moves_to_try p f) m
 is_possible p (Castle false) m legal h =
     let ends = castles_ends p m (short_right p.side p.rights) short_wing h in
@@ -94,9 +109,8 @@ is_possible p (Castle true) m legal h =
     let ends = castles_ends p m (long_right p.side p.rights) long_wing h in
     rw (move_of m _ _ None ends.0 ends.1 (no_promotion m.promotion ends.2)) (here (castling_move p.side true) [])
 is_possible p (Man k file rank to promotion) m legal h =
-    let rest = (and_parts (own p k m.from && hints_fit file rank m.from) ((same_square m.to to && same_promotion m.promotion promotion) && not (is_castling p m)) h).1 in
-    let same = and_parts (same_square m.to to) (same_promotion m.promotion promotion) (and_parts (same_square m.to to && same_promotion m.promotion promotion) (not (is_castling p m)) rest).0 in
-    subst (Contains (map (move_from to promotion) squares)) (sym (move_of m m.from to promotion refl (squares_same m.to to same.0) (promotions_same m.promotion promotion same.1)))
+    let s = said p k file rank to promotion m h in
+    subst (Contains (map (move_from to promotion) squares)) (sym (move_of m m.from to promotion refl s.there s.named))
     (in_map (move_from to promotion) squares m.from (in_squares m.from (stepped p m legal).from_on))
 
 -- What is found.

@@ -1,5 +1,6 @@
 -- Which steps and legal moves are castling.
-use Rattle.chess_text.proofs.Words.{◌≡◌, ℕ, ◌<◌, ◌≤◌, Bool, true, false, not, ◌&&◌, ◌||◌, inl, inr, refl, sym, ◌∙◌, ap₂, arith, ◌==◌, nat_lt, Option, None, Some, is_none, is_some, option_map, if◌then◌else◌, abs_diff, and_parts, and_from, or_cases, eqb-true, lt-ltb, ltb-true, Colour, King, Pawn, Piece, Move, Parts, Square, square, same_square, is_adjacent, Board, at, has_colour, has_piece, attacks, cell_attacks, own, home, Wing, short_wing, long_wing, short_right, long_right, is_piece_step, is_pawn_way, is_pawn_step, promotion_fits, is_en_passant, captured_pawn, other, is_king_move, stand_ready, is_unattacked, castles, castles_short, castles_long, carried, en_passant_board, castled, is_on_board, on_board, after, board_after, step, is_legal, if_safe, is_castling, nat_tests}
+use Rattle.chess_rules.specs.Step.{is_target}
+use Rattle.chess_text.proofs.Words.{◌≡◌, ℕ, ◌<◌, ◌≤◌, Bool, true, false, not, ◌&&◌, ◌||◌, inl, inr, refl, sym, ◌∙◌, ap₂, arith, ◌==◌, nat_lt, Option, None, Some, is_none, is_some, option_map, if◌then◌else◌, abs_diff, and_parts, and_from, or_cases, eqb-true, lt-ltb, ltb-true, Colour, King, Pawn, Piece, Move, Parts, Square, square, same_square, is_adjacent, Board, at, has_colour, has_piece, attacks, cell_attacks, own, home, Wing, short_wing, long_wing, short_right, long_right, is_piece_step, is_pawn_way, is_pawn_step, promotion_fits, is_en_passant, captured_pawn, other, stand_ready, castles, castles_short, castles_long, carried, en_passant_board, castled, is_on_board, on_board, after, board_after, step, is_legal, if_safe, is_castling, nat_tests, is_empty}
 
 -- what each way of a step says
 pub data StepWay (p : Parts) (m : Move) : Type 0 where
@@ -13,21 +14,24 @@ pub record Stepped (p : Parts) (m : Move) : Type 0 where
   pub to_on : on_board m.to ≡ true
   pub way : StepWay p m
 
+-- six tests that hold together
+six_hold : (a b c d e f : Bool) → (((a && b) && (c && d)) && (e && f)) ≡ true → (a ≡ true) × (b ≡ true) × (c ≡ true) × (d ≡ true) × (e ≡ true) × (f ≡ true)
+six_hold a b c d e f h = grind arith
+
+four_hold : (a b c d e : Bool) → (((a && b) && c) && (d && e)) ≡ true → (a ≡ true) × (b ≡ true) × (c ≡ true) × (d ≡ true)
+four_hold a b c d e h = grind arith
+
 pub passing_parts : (p : Parts) (m : Move) → is_en_passant p m ≡ true → (own p Pawn m.from ≡ true) × (attacks p.board m.from m.to ≡ true) × (has_piece (other p.side) Pawn (at p.board (captured_pawn m)) ≡ true)
 passing_parts p m h =
-    let both = and_parts _ (attacks p.board m.from m.to && has_piece (other p.side) Pawn (at p.board (captured_pawn m))) h in
-    let takes = and_parts (attacks p.board m.from m.to) _ both.1 in
-    ((and_parts _ _ (and_parts _ _ both.0).0).0, takes.0, takes.1)
+    let six = six_hold (own p Pawn m.from) _ (is_target p.target m.to) (is_empty p.board m.to) (attacks p.board m.from m.to) _ h in (six.0, six.4, six.5)
 
 pub way_of_step : (p : Parts) (m : Move) → is_some (step p m) ≡ true → Stepped p m
 way_of_step p m h = by_on _ refl h
   where
     by_piece : is_piece_step p m ≡ true → StepWay p m
     by_piece g =
-        let both = and_parts _ (attacks p.board m.from m.to && not (has_colour p.side (at p.board m.to))) g in
-        let stands = and_parts _ (is_none m.promotion) both.0 in
-        let mover = and_parts _ _ stands.0 in
-        piece_goes mover.0 mover.1 stands.1 (and_parts (attacks p.board m.from m.to) _ both.1).0
+        let (stands, no_pawn, plain, goes) = four_hold (has_colour p.side (at p.board m.from)) (not (own p Pawn m.from)) (is_none m.promotion) (attacks p.board m.from m.to) _ g in
+        piece_goes stands no_pawn plain goes
 
     by_pawn : is_pawn_step p m ≡ true → StepWay p m
     by_pawn g = let both = and_parts _ (is_pawn_way p m && promotion_fits p m) g in pawn_goes both.0 (and_parts _ _ both.1).0
@@ -91,10 +95,8 @@ far_is_castling p m st king far =
 -- where castling leads, and that king and rook are ready
 pub castles_ends : (p : Parts) (m : Move) (right : Bool) (wing : Wing) → castles p m right wing ≡ true → (m.from ≡ home p 4) × (m.to ≡ home p wing.end) × (is_none m.promotion ≡ true) × (stand_ready p wing.rook ≡ true)
 castles_ends p m right wing h =
-    let moved = and_parts ((right && is_none _) && is_king_move p m _) (stand_ready p _ && (is_unattacked p 4 && (is_unattacked p _ && is_unattacked p _))) h in
-    let leads = and_parts (right && is_none _) (is_king_move p m _) moved.0 in
-    let ends = and_parts (same_square m.from (home p 4)) (same_square m.to _) leads.1 in
-    (squares_same _ _ ends.0, squares_same m.to _ ends.1, (and_parts right _ leads.0).1, (and_parts (stand_ready p _) (is_unattacked p 4 && (is_unattacked p _ && is_unattacked p _)) moved.1).0)
+    let six = six_hold right (is_none m.promotion) (same_square m.from (home p 4)) (same_square m.to (home p wing.end)) (stand_ready p wing.rook) _ h in
+    (squares_same _ _ six.2, squares_same m.to _ six.3, six.1, six.4)
 
 castles_far : (p : Parts) (m : Move) (right : Bool) (wing : Wing) → 1 < abs_diff 4 wing.end → castles p m right wing ≡ true → goes_far p m ≡ true
 castles_far p m right wing far h =

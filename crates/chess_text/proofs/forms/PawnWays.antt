@@ -1,5 +1,5 @@
 -- The ways in which a pawn goes.
-use Rattle.chess_text.proofs.Words.{◌≡◌, ℕ, inl, inr, true, false, not, ◌&&◌, ◌||◌, refl, sym, ◌∙◌, ap, arith, ◌==◌, Option, is_none, false≢true, and_parts, or_cases, eqb-true, eq-eqb, nat_tests, Colour, King, Pawn, Piece, Move, Parts, Square, gap, Board, at, has_colour, has_piece, is_empty, other, attacks, cell_attacks, is_ahead, own, is_advance, is_double_step, is_pawn_capture, is_pawn_way, captured_pawn, crossed, pawn_rank, double_rank, is_en_passant, is_legal, is_castling, is_capture, false_from_ne_true}
+use Rattle.chess_text.proofs.Words.{◌≡◌, ℕ, inl, inr, true, false, not, ◌&&◌, ◌||◌, refl, sym, ◌∙◌, ap, arith, ◌==◌, Option, is_none, false≢true, and_parts, or_cases, eq-eqb, nat_tests, Colour, King, Pawn, Piece, Move, Parts, Square, gap, Board, at, has_colour, has_piece, is_empty, other, attacks, cell_attacks, is_ahead, own, is_advance, is_double_step, is_pawn_capture, is_pawn_way, captured_pawn, crossed, pawn_rank, double_rank, is_en_passant, is_legal, is_castling, is_capture, false_from_ne_true, Bool}
 use mathlib.Core.Bool.{or-true}
 use Rattle.chess_text.proofs.forms.CastlingMoves.{piece_goes, pawn_goes, pawn_passes, king_castles, passing_parts, stepped, castling_goes_far}
 use Rattle.chess_text.proofs.forms.MoverOfMove.{other_kind}
@@ -13,6 +13,12 @@ pub data PawnWay (p : Parts) (m : Move) : Type 0 where
 
 pawn_attack : (c : Colour) (cell : Option Piece) (b : Board) (s t : Square) → has_piece c Pawn cell ≡ true → cell_attacks cell b s t ≡ true → (gap s.file t.file ≡ 1) × (is_ahead c s.rank t.rank ≡ true)
 pawn_attack c cell b s t h g = grind (arith, nat_tests)
+
+advance_parts : (f t : ℕ) (ahead free : Bool) → (((f == t) && ahead) && free) ≡ true → (f ≡ t) × (ahead ≡ true) × (free ≡ true)
+advance_parts f t ahead free h = grind (arith, nat_tests)
+
+double_parts : (f t r a s b : ℕ) (over free : Bool) → (((f == t) && ((r == a) && (s == b))) && (over && free)) ≡ true → (f ≡ t) × (r ≡ a) × (s ≡ b) × (over ≡ true) × (free ≡ true)
+double_parts f t r a s b over free h = grind (arith, nat_tests)
 
 full : (c : Colour) (cell : Option Piece) → has_colour c cell ≡ true → is_none cell ≡ false
 full c cell g = grind arith
@@ -35,17 +41,13 @@ pawn_way p m h pawn_stands =
 
     by_advance : is_advance p m ≡ true → PawnWay p m
     by_advance g =
-        let both = and_parts ((m.from.file == m.to.file) && is_ahead p.side m.from.rank m.to.rank) (is_empty p.board m.to) g in
-        let way = and_parts (m.from.file == m.to.file) (is_ahead p.side m.from.rank m.to.rank) both.0 in
-        advances (eqb-true m.from.file m.to.file way.0) way.1 both.1
+        let (file, ahead, free) = advance_parts m.from.file m.to.file (is_ahead p.side m.from.rank m.to.rank) (is_empty p.board m.to) g in advances file ahead free
 
     by_double : is_double_step p m ≡ true → PawnWay p m
     by_double g =
-        let both = and_parts ((m.from.file == m.to.file) && ((m.from.rank == pawn_rank p.side) && (m.to.rank == double_rank p.side))) (is_empty p.board (crossed m) && is_empty p.board m.to) g in
-        let way = and_parts (m.from.file == m.to.file) ((m.from.rank == pawn_rank p.side) && (m.to.rank == double_rank p.side)) both.0 in
-        let ranks = and_parts (m.from.rank == pawn_rank p.side) (m.to.rank == double_rank p.side) way.1 in
-        let free = and_parts (is_empty p.board (crossed m)) (is_empty p.board m.to) both.1 in
-        doubles (eqb-true m.from.file m.to.file way.0) (eqb-true m.from.rank (pawn_rank p.side) ranks.0) (eqb-true m.to.rank (double_rank p.side) ranks.1) free.0 free.1
+        let (file, low, high, over, free) =
+        double_parts m.from.file m.to.file m.from.rank (pawn_rank p.side) m.to.rank (double_rank p.side) (is_empty p.board (crossed m)) (is_empty p.board m.to) g in
+        doubles file low high over free
 
     by_capture : is_pawn_capture p m ≡ true → PawnWay p m
     by_capture g =

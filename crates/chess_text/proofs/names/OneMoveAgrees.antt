@@ -1,7 +1,7 @@
 -- No other legal move agrees with the form that is written.
-use Rattle.chess_text.proofs.Words.{◌≡◌, ℕ, ◌+◌, ◌/◌, Bool, true, false, not, ◌&&◌, refl, sym, ◌∙◌, ap, ap₂, subst, arith, ◌==◌, Option, None, Some, is_none, list_any, both_ways, and_parts, and_from, not-true, not-false, eqb-true, nat_tests, Colour, White, Black, Kind, King, Pawn, Piece, Promotion, Move, Parts, Square, square, squares, gap, same_square, at, has_piece, same_kind, is_empty, other, is_ahead, is_position, own, captured_pawn, crossed, pawn_rank, double_rank, Wing, castles, castles_short, castles_long, is_legal, OneKing, Man, hints_fit, same_promotion, is_castling, describes, agrees, from_square, is_rival, rivals, is_capture, on_file, on_rank}
+use Rattle.chess_text.proofs.Words.{◌≡◌, ℕ, ◌+◌, ◌/◌, Bool, true, false, not, refl, sym, ◌∙◌, ap, ap₂, subst, arith, ◌==◌, Option, None, Some, is_none, list_any, both_ways, and_parts, and_from, not-true, not-false, eqb-true, nat_tests, Colour, White, Black, Kind, King, Pawn, Piece, Move, Parts, Square, square, squares, gap, same_square, at, has_piece, same_kind, is_empty, other, is_ahead, is_position, own, captured_pawn, crossed, pawn_rank, double_rank, Wing, castles, castles_short, castles_long, is_legal, OneKing, hints_fit, describes, agrees, from_square, is_rival, rivals, is_capture, on_file, on_rank}
 use Rattle.chess_text.proofs.forms.CastlingMoves.{stepped, squares_same, castles_ends}
-use Rattle.chess_text.proofs.forms.AgreeingAreFound.{in_squares, any_contained, promotions_same, move_of, no_promotion}
+use Rattle.chess_text.proofs.forms.AgreeingAreFound.{Said, said, in_squares, any_contained, move_of, no_promotion}
 use Rattle.chess_text.proofs.forms.PawnWays.{PawnWay, takes, passes, advances, doubles, pawn_way, pawn_takes, gap_apart}
 use Rattle.chess_text.proofs.names.RivalsAreCandidates.{any-filter}
 use Rattle.chess_text.proofs.names.WrittenToForm.{file_by, rank_by, disambiguated_form, king_form_by, pawn_form_by, written, unpromoted, itself}
@@ -9,20 +9,6 @@ use Rattle.chess_text.proofs.names.WrittenToForm.{file_by, rank_by, disambiguate
 -- a move is its squares and its promotion
 same_move : (n m : Move) → n.from ≡ m.from → n.to ≡ m.to → n.promotion ≡ m.promotion → n ≡ m
 same_move n m from to promotion = move_of n _ m.to _ from to promotion
-
--- what a form of no castling says of a move
-pub record Said (p : Parts) (k : Kind) (file rank : Option ℕ) (to : Square) (promotion : Option Promotion) (n : Move) : Type 0 where
-  pub stands : own p k n.from ≡ true
-  pub hints : hints_fit file rank n.from ≡ true
-  pub there : n.to ≡ to
-  pub named : n.promotion ≡ promotion
-
-pub said : (p : Parts) (k : Kind) (file rank : Option ℕ) (to : Square) (promotion : Option Promotion) (n : Move) → describes p (Man k file rank to promotion) n ≡ true → Said p k file rank to promotion n
-said p k file rank to promotion n h =
-    let both = and_parts (own p k _ && hints_fit file rank _) ((same_square n.to to && same_promotion n.promotion promotion) && not (is_castling p n)) h in
-    let first = and_parts _ _ both.0 in
-    let second = and_parts (same_square n.to to) (same_promotion n.promotion promotion) (and_parts _ (not _) both.1).0 in
-    record { stands = first.0; hints = first.1; there = squares_same n.to to second.0; named = promotions_same _ _ second.1 }
 
 -- The king: a position has one of each colour.
 
