@@ -1,6 +1,6 @@
 -- The words that proofs of this crate name, under one path.
 pub use Rattle.std.proofs.Common.{Bool, List, [], add-one, ap, append-nil, append_assoc, ap₂, arith, cond, drop, drop-cons, false, get_or, inl, inr, length, length-append, length-drop, map, nat_le, not, refl, replicate, reverse, rules, set, subst, suc, sym, take, true, zero, ℕ, ◌&&◌, ◌*◌, ◌++◌, ◌+◌, ◌-◌, ◌/◌, ◌<◌, ◌^◌, ◌||◌, ◌∙◌, ◌∷◌, ◌≡◌, ◌≢◌, ◌≤◌, ◌⊎◌}
-pub use Rattle.std.proofs.lemmas.Bool.{and_from, and_left, and_parts, and_right, both_ways, cases_lt, eq-eqb, eqb-true, false_from_ne_true, false≢true, leb-true, lt-ltb, ltb-true, not-false, not-true, or_cases, or_from, or_parts, or_right}
+pub use Rattle.std.proofs.lemmas.Bool.{and_from, and_left, and_parts, and_right, both_ways, cases_Bool, cases_lt, eq-eqb, eqb-true, false_from_ne_true, false≢true, leb-true, lt-ltb, ltb-true, not-false, not-true, or_cases, or_from, or_parts, or_right}
 pub use Rattle.std.proofs.lemmas.Bool.Decides.{nat_tests}
 pub use Rattle.std.proofs.lemmas.Fmt.{decimal_nonempty, digits_decimal, digits_value-decimal, length-decimal-le}
 pub use Rattle.std.proofs.lemmas.List.{append_cancel_left, drop_all, get_or-map, length-map, length-reverse, length-take, map-append, replicate_more, reverse-append, reverse-reverse, take-append-drop, take-replicate, take-take, take_all, take_more, take_more_set, take_rest}

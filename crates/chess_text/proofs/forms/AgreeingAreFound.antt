@@ -80,11 +80,12 @@ promotions_same x y h = grind arith
 pub no_promotion : (x : Option Promotion) → is_none x ≡ true → x ≡ None
 no_promotion x h = grind arith
 
-pub move_of : (m : Move) (from to : Square) (promotion : Option Promotion) → m.from ≡ from → m.to ≡ to → m.promotion ≡ promotion → m ≡ record { from = from; to = to; promotion = promotion }
-move_of m from to promotion a b c =
-    ap (λ s. record { from = s; to = m.to; promotion = m.promotion }) a
-    ∙ ap (λ s. record { from = from; to = s; promotion = m.promotion }) b
-    ∙ ap (λ x. record { from = from; to = to; promotion = x }) c
+-- a move is its squares and its promotion
+pub same_move : (n m : Move) → n.from ≡ m.from → n.to ≡ m.to → n.promotion ≡ m.promotion → n ≡ m
+same_move n m a b c =
+    ap (λ s. record { from = s; to = n.to; promotion = n.promotion }) a
+    ∙ ap (λ s. record { from = m.from; to = s; promotion = n.promotion }) b
+    ∙ ap (λ x. record { from = m.from; to = m.to; promotion = x }) c
 
 five_hold : (a b c d e : Bool) → ((a && b) && ((c && d) && e)) ≡ true → (a ≡ true) × (b ≡ true) × (c ≡ true) × (d ≡ true)
 five_hold a b c d e h = grind arith
@@ -104,13 +105,13 @@ said p k file rank to promotion n h =
 pub is_possible : (p : Parts) (f : Form) (m : Move) → is_legal p m ≡ true → describes p f m ≡ true → Contains (moves_to_try p f) m
 is_possible p (Castle false) m legal h =
     let ends = castles_ends p m (short_right p.side p.rights) short_wing h in
-    rw (move_of m _ _ None ends.0 ends.1 (no_promotion m.promotion ends.2)) (here (castling_move p.side false) [])
+    rw (same_move m (castling_move p.side false) ends.0 ends.1 (no_promotion m.promotion ends.2)) (here (castling_move p.side false) [])
 is_possible p (Castle true) m legal h =
     let ends = castles_ends p m (long_right p.side p.rights) long_wing h in
-    rw (move_of m _ _ None ends.0 ends.1 (no_promotion m.promotion ends.2)) (here (castling_move p.side true) [])
+    rw (same_move m (castling_move p.side true) ends.0 ends.1 (no_promotion m.promotion ends.2)) (here (castling_move p.side true) [])
 is_possible p (Man k file rank to promotion) m legal h =
     let s = said p k file rank to promotion m h in
-    subst (Contains (map (move_from to promotion) squares)) (sym (move_of m m.from to promotion refl s.there s.named))
+    subst (Contains (map (move_from to promotion) squares)) (sym (same_move m (move_from to promotion m.from) refl s.there s.named))
     (in_map (move_from to promotion) squares m.from (in_squares m.from (stepped p m legal).from_on))
 
 -- What is found.

@@ -6,26 +6,20 @@ pub legal_next : (o : Option Parts) → is_some o ≡ true → (q : Parts) × (o
 legal_next None h = cc
 legal_next (Some q) h = (q, refl)
 
+first_alone : (x y : Bool) → (y ≡ true → ⊥) → x ≡ (x || y)
+first_alone x y h = grind arith
+
+second_alone : (x y : Bool) → (x ≡ true → ⊥) → y ≡ (x || y)
+second_alone x y h = grind arith
+
 -- the castling that the form names is the only one to its target
 pub described : (p : Parts) (long : Bool) (m : Move) → m.to ≡ (castling_move p.side long).to → describes p (Castle long) m ≡ is_castling p m
-described p false m to = first_alone (castles_short p m) (castles_long p m) no_long
-  where
-    first_alone : (x y : Bool) → (y ≡ true → ⊥) → x ≡ (x || y)
-    first_alone x y h = grind arith
-
-    no_long : castles_long p m ≡ true → ⊥
-    no_long h =
-        let files = ap (λ (s : Square). s.file) (sym to ∙ (castles_ends p m _ _ h).1) in
-        omega arith
-described p true m to = second_alone _ _ no_short
-  where
-    second_alone : (x y : Bool) → (x ≡ true → ⊥) → y ≡ (x || y)
-    second_alone x y h = grind arith
-
-    no_short : castles_short p m ≡ true → ⊥
-    no_short h =
-        let files = ap (λ (s : Square). s.file) (sym to ∙ (castles_ends p m _ _ h).1) in
-        omega arith
+described p false m to =
+    first_alone (castles_short p m) (castles_long p m)
+    (λ h. let files = ap (λ (s : Square). s.file) (sym to ∙ (castles_ends p m _ _ h).1) in omega arith)
+described p true m to =
+    second_alone (castles_short p m) (castles_long p m)
+    (λ h. let files = ap (λ (s : Square). s.file) (sym to ∙ (castles_ends p m _ _ h).1) in omega arith)
 
 reads_one : (p : Parts) (long : Bool) → move_of_form p (Castle long) ≡ only (cons_option (played (describes p (Castle long) (castling_move p.side long)) p (castling_move p.side long)) [])
 unfolding agreeing
@@ -56,11 +50,7 @@ module _ (p : Parts) (long : Bool) (m : Move) (is : m ≡ castling_move p.side l
   pub castling_found : is_legal p m ≡ true → is_castling p m ≡ true → with_next_position p (Ok m) ≡ move_of_form p (Castle long)
   castling_found h named =
       let (q, leads) = legal_next (legal p m) h in
-      cc (found q leads)
-    where
-      found : (q : Parts) → legal p m ≡ Some q → Ok (record { mv = m; next = q }) ≡ move_of_form p (Castle long)
-      found q leads =
-          cc (answer_of (Some (record { mv = castling_move p.side long; next = q })) (played_some _ p q (castling_move p.side long) (described p long (castling_move _ long) refl ∙ subst (λ n. is_castling p n ≡ true) is named) (subst (λ n. legal p n ≡ Some q) is leads)))
+      cc (answer_of (Some (record { mv = castling_move p.side long; next = q })) (played_some _ p q (castling_move p.side long) (described p long (castling_move _ long) refl ∙ rw is at named) (subst (λ n. legal p n ≡ Some q) is leads)))
 
   pub castling_other : is_castling p m ≡ false → Err NoMove ≡ move_of_form p (Castle long)
   castling_other named =

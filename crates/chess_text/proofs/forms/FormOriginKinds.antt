@@ -1,6 +1,6 @@
 -- The kinds of squares for a form, one after another, and how many legal moves they count.
 use mathlib.Core.Bool.{and-false}
-use Rattle.chess_text.proofs.Words.{◌≡◌, ℕ, ◌+◌, ◌<◌, ◌≤◌, Bool, true, false, cond, ◌&&◌, List, [], ◌∷◌, ◌++◌, map, length, take, set, get_or, refl, sym, ◌∙◌, ap, subst, arith, Option, None, Some, Ok, Err, ◌↔◌, is_some, count_by, if◌then◌else◌, range_with_len, filter, filter_map, cons_option, take_more, take_more_set, map-append, get_or-map-range_with_len, sum_by-cons, sum_by_more, both_ways, Colour, White, Black, Move, Parts, Square, square, squares, same_square, step, home, home_rank, if_safe, Form, Castle, Man, OriginKind, Played, NoMove, Ambiguous, describes, with_next, played, agreeing, only, form_move, is_step_of_form, kind_of_move, origin_kind, origins_of_form, step_count, nth_square, is_legal_kind, count_legal, LegalOriginsDecide}
+use Rattle.chess_text.proofs.Words.{◌≡◌, ℕ, ◌+◌, ◌<◌, ◌≤◌, Bool, true, false, cond, ◌&&◌, List, [], ◌∷◌, ◌++◌, map, length, take, set, get_or, refl, sym, ◌∙◌, ap, subst, arith, Option, None, Some, Ok, Err, ◌↔◌, is_some, count_by, if◌then◌else◌, range_with_len, filter, filter_map, cons_option, take_more, take_more_set, map-append, get_or-map-range_with_len, sum_by-cons, sum_by_more, both_ways, false_from_ne_true, Colour, White, Black, Move, Parts, Square, square, squares, same_square, step, home, home_rank, if_safe, Form, Castle, Man, OriginKind, Played, NoMove, Ambiguous, describes, with_next, played, agreeing, only, form_move, is_step_of_form, kind_of_move, origin_kind, origins_of_form, step_count, nth_square, is_legal_kind, count_legal, LegalOriginsDecide}
 use Rattle.chess_text.specs.declared.form_origins.OriginKind.TheVariants.{NoStep, Unsafe, Legal}
 use Rattle.chess_text.proofs.forms.CastlingMoves.{castles_ends}
 use Rattle.chess_text.proofs.forms.CastlingForms.{played_not}
@@ -112,13 +112,7 @@ agreeing_count p (Castle long) =
     elsewhere : (s : Square) → same_square (square 4 (home_rank p.side)) s ≡ false → move_at p (Castle long) s ≡ None
     elsewhere s other =
         played_not _ p (form_move p.side (Castle long) s)
-        (not_described _ refl)
-      where
-        not_described : (b : Bool) → describes p (Castle long) (form_move p.side (Castle long) s) ≡ b → b ≡ false
-        not_described false h = refl
-        not_described true h =
-            absurd (both_ways _ other
-            (subst (λ t. same_square t s ≡ true) (castling_from p long (form_move p.side (Castle long) s) h) (same_square-refl s)))
+        (false_from_ne_true _ (λ h. both_ways _ other (subst (λ t. same_square t s ≡ true) (castling_from p long (form_move p.side (Castle long) s) h) (same_square-refl s))))
 
 -- what a list of moves means, by its length
 only_one : (xs : List Played) → ((x : Played) × (only xs ≡ Ok x)) ↔ (length xs ≡ 1)

@@ -185,11 +185,7 @@ piece_move_read s k file rank to promotion h g =
     let before : before_target d ≡ b = cc in
     let kind : kind_of_text (before_file (before_rank b)) ≡ Some k = ap (λ u. kind_of_text (before_file u)) r.before ∙ (ap kind_of_text f.before ∙ letters.named) in
     let file_is : file_at_end (before_rank b) ≡ file = cc in
-    let piece_move : piece_move_of (d ++ h.promoted) ≡ Some (Man k file rank to promotion) =
-    ap₂ piece_move_at p.before p.told
-    ∙ (ap₂ (λ u o. piece_move_before u o promotion) before t.told
-    ∙ (ap (λ o. piece_move_if o (file_at_end (before_rank b)) (rank_at_end b) (Some to) promotion) kind
-    ∙ ap₂ (λ o q. piece_move_if (Some k) o q (Some to) promotion) file_is r.told)) in
+    let piece_move : piece_move_of (d ++ h.promoted) ≡ Some (Man k file rank to promotion) = cc in
     rw h.joined (record { told = cc (no_castle (d ++ h.promoted) p.ends); whole = no_mark_end (d ++ h.promoted) p.ends.no_mark })
 
 bare_read : (s : List ℕ) (f : Form) → SpellsBare s f → is_form f ≡ true → BareRead s f

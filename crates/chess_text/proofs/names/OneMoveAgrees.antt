@@ -1,14 +1,10 @@
 -- No other legal move agrees with the form that is written.
-use Rattle.chess_text.proofs.Words.{◌≡◌, ℕ, ◌+◌, ◌/◌, Bool, true, false, not, refl, sym, ◌∙◌, ap, ap₂, subst, arith, ◌==◌, Option, None, Some, is_none, list_any, both_ways, and_parts, and_from, not-true, not-false, eqb-true, nat_tests, Colour, White, Black, Kind, King, Pawn, Piece, Move, Parts, Square, square, squares, gap, same_square, at, has_piece, same_kind, is_empty, other, is_ahead, is_position, own, captured_pawn, crossed, pawn_rank, double_rank, Wing, castles, castles_short, castles_long, is_legal, OneKing, hints_fit, describes, agrees, from_square, is_rival, rivals, is_capture, on_file, on_rank}
+use Rattle.chess_text.proofs.Words.{inl, inr, cases_Bool, ◌≡◌, ℕ, ◌+◌, ◌/◌, Bool, true, false, not, refl, sym, ◌∙◌, ap, ap₂, subst, arith, ◌==◌, Option, None, Some, is_none, list_any, both_ways, and_parts, and_from, not-true, not-false, eqb-true, nat_tests, Colour, White, Black, Kind, King, Pawn, Piece, Move, Parts, Square, square, squares, gap, same_square, at, has_piece, same_kind, is_empty, other, is_ahead, is_position, own, captured_pawn, crossed, pawn_rank, double_rank, Wing, castles, castles_short, castles_long, is_legal, OneKing, hints_fit, describes, agrees, from_square, is_rival, rivals, is_capture, on_file, on_rank}
 use Rattle.chess_text.proofs.forms.CastlingMoves.{stepped, squares_same, castles_ends}
-use Rattle.chess_text.proofs.forms.AgreeingAreFound.{Said, said, in_squares, any_contained, move_of, no_promotion}
+use Rattle.chess_text.proofs.forms.AgreeingAreFound.{Said, said, in_squares, any_contained, same_move, no_promotion}
 use Rattle.chess_text.proofs.forms.PawnWays.{PawnWay, takes, passes, advances, doubles, pawn_way, pawn_takes, gap_apart}
 use Rattle.chess_text.proofs.names.RivalsAreCandidates.{any-filter}
 use Rattle.chess_text.proofs.names.WrittenToForm.{file_by, rank_by, disambiguated_form, king_form_by, pawn_form_by, written, unpromoted, itself}
-
--- a move is its squares and its promotion
-same_move : (n m : Move) → n.from ≡ m.from → n.to ≡ m.to → n.promotion ≡ m.promotion → n ≡ m
-same_move n m from to promotion = move_of n _ m.to _ from to promotion
 
 -- The king: a position has one of each colour.
 
@@ -51,31 +47,15 @@ told_away : (s t : Square) (any file rank : Bool) → hints_fit (file_by s any f
 told_away s t any file rank fits apart a b c = grind (arith, nat_tests)
 
 disambiguated_alone : (p : Parts) (k : Kind) (m n : Move) → is_legal p m ≡ true → is_legal p n ≡ true → own p k m.from ≡ true → same_kind k Pawn ≡ false → describes p (disambiguated_form k p m) n ≡ true → n ≡ m
-disambiguated_alone p k m n h g stands may_have_rivals d = by_test _ refl
-  where
-    any : Bool
-    any = list_any (λ r. true) (rivals p k m)
-
-    file : Bool
-    file = on_file m.from (rivals p k m)
-
-    rank : Bool
-    rank = on_rank m.from (rivals p k m)
-
-    s : Said p k (file_by m.from any file rank) (rank_by m.from any file rank) m.to None n
-    s = said p k _ _ m.to None n d
-
-    named : n.promotion ≡ m.promotion
-    named = s.named ∙ sym (unpromoted p m k h stands may_have_rivals)
-
-    by_test : (b : Bool) → same_square n.from m.from ≡ b → n ≡ m
-    by_test true e = same_move n m (squares_same _ _ e) s.there named
-    by_test false e =
-        let rival = is_it_rival p m n g s.there named e in
-        absurd (told_away m.from n.from any file rank s.hints e
-        (among_rivals p k m n (λ r. true) g s.stands rival refl)
-        (λ x. among_rivals p k m n (λ r. r.file == m.from.file) g s.stands rival x)
-        (λ x. among_rivals p k m n (λ r. r.rank == m.from.rank) g s.stands rival x))
+disambiguated_alone p k m n h g stands may_have_rivals d =
+    let s = said p k _ _ m.to None n d in
+    let named = s.named ∙ sym (unpromoted p m k h stands may_have_rivals) in
+    elim (cases_Bool (same_square n.from m.from)) [
+      | inl e ↦ same_move n m (squares_same _ _ e) s.there named
+      | inr e ↦
+          let among = λ (test : Square → Bool). among_rivals p k m n test g s.stands (is_it_rival p m n g s.there named e) in
+          absurd (told_away m.from n.from _ _ _ s.hints e (among (λ r. true) refl) (among (λ r. r.file == m.from.file)) (among (λ r. r.rank == m.from.rank)))
+    ]
 
 -- A pawn.
 

@@ -1,6 +1,6 @@
 -- The board that a text spells, rank by rank from its last one.
 use mathlib.Core.Bool.{and-true, and-false}
-use Rattle.chess_text.proofs.Words.{◌≡◌, ℕ, zero, suc, ◌+◌, ◌-◌, ◌*◌, ◌<◌, ◌≤◌, ◌==◌, Bool, true, false, ◌&&◌, List, [], ◌∷◌, ◌++◌, length, take, drop, reverse, inl, inr, refl, sym, ◌∙◌, ap, arith, append_assoc, length-append, None, Some, Result, Ok, Err, is_ok, is_err, flat_map, if◌then◌else◌, list_all, nat_tests, OnOk, false≢true, and_parts, and_right, false_from_ne_true, cond_some, cases_lt, take-take, length-take, take_rest, reverse-append, list_all-append, Board, ranks, is_item, is_rank, is_placement, cells_of, placement_of, ranks_before}
+use Rattle.chess_text.proofs.Words.{◌≡◌, ℕ, zero, suc, ◌+◌, ◌-◌, ◌*◌, ◌<◌, ◌≤◌, ◌==◌, Bool, true, false, ◌&&◌, List, [], ◌∷◌, ◌++◌, length, take, drop, reverse, inl, inr, refl, sym, ◌∙◌, ap, arith, append_assoc, length-append, None, Some, Result, Ok, Err, is_ok, is_err, flat_map, if◌then◌else◌, list_all, nat_tests, OnOk, false≢true, and_parts, and_left, and_right, false_from_ne_true, cond_some, cases_lt, take-take, length-take, take_rest, reverse-append, list_all-append, Board, ranks, is_item, is_rank, is_placement, cells_of, placement_of, ranks_before}
 
 -- the cells are those of the ranks that were read; those before are left
 pub record ReadSoFar (text : List ℕ) (left : ℕ) (cells : Board) : Type 0 where
@@ -32,55 +32,35 @@ cells-last before last = cc (reverse-append before _)
 pub eight_cells : (s : List ℕ) → is_rank s ≡ true → length (cells_of s) ≡ 8
 eight_cells s h = let e = (and_parts (list_all is_item s) _ h).1 in grind (arith, nat_tests)
 
--- what is left when the last of the ranks is read
-pub goes_on : (text : List ℕ) (left start : ℕ) (cells : Board) (last : List ℕ) → ReadSoFar text left cells → start ≤ length text + 1
-    → ranks_before left text ≡ ranks_before start text ++ last ∷ [] → is_rank last ≡ true → ReadSoFar text start (cells ++ cells_of last)
-goes_on text left start cells last so_far low split good =
-    record {
-      within = low;
-      read =
-          append_assoc cells _ _
-          ∙ ap (λ b. cells ++ b) (sym (cells-last (ranks_before start text) last))
-          ∙ ap (λ (parts : List (List ℕ)). cells ++ flat_map cells_of (reverse parts)) (sym split)
-          ∙ so_far.read;
-      passed =
-          sym (and-true _)
-          ∙ ap (λ b. list_all is_rank (ranks_before start text) && b) (sym good)
-          ∙ sym (list_all-last (ranks_before start text) last)
-          ∙ ap (λ (parts : List (List ℕ)). list_all is_rank parts) (sym split)
-          ∙ so_far.passed;
-      count =
-          omega (
-            arith,
-            length-append cells (cells_of last),
-            eight_cells last good,
-            ap (λ (parts : List (List ℕ)). length parts) split,
-            length-append (ranks_before start text) (last ∷ []),
-          );
-    }
-
 nothing : (s : List ℕ) → is_placement s ≡ false → None ≡ placement_of s
 nothing s h = rw h refl
-
--- a rank that is none
-pub no_placement : (text : List ℕ) (left start : ℕ) (cells : Board) (last : List ℕ) → ReadSoFar text left cells
-    → ranks_before left text ≡ ranks_before start text ++ last ∷ [] → is_rank last ≡ false → None ≡ placement_of text
-no_placement text left start cells last so_far split bad =
-    let none =
-    sym so_far.passed ∙ ap (λ (parts : List (List ℕ)). list_all is_rank parts) split ∙ list_all-last (ranks_before start text) last
-    ∙ ap (λ b. list_all is_rank (ranks_before start text) && b) bad ∙ and-false (list_all is_rank (ranks_before start text)) in
-    nothing text (and_right (length (ranks text) == 8) _ none)
 
 not_eight : (n m : ℕ) → 64 < m → m ≤ 8 * n → (n == 8) ≡ false
 not_eight n m h g = grind (arith, nat_tests)
 
--- a rank more than eight
-pub too_many_ranks : (text : List ℕ) (left start : ℕ) (cells : Board) (last : List ℕ) → ReadSoFar text left cells
-    → ranks_before left text ≡ ranks_before start text ++ last ∷ [] → 64 < length cells + 8 → None ≡ placement_of text
-too_many_ranks text left start cells last so_far split full =
-    let more : length cells + 8 ≤ 8 * length (ranks text) =
-    omega (arith, ap (λ (parts : List (List ℕ)). length parts) split, length-append (ranks_before start text) (last ∷ [])) in
-    nothing text (ap (λ b. b && list_all is_rank (ranks text)) (not_eight _ _ full more))
+-- where the last of the ranks that are left begins
+module _ (text : List ℕ) (left start : ℕ) (cells : Board) (last : List ℕ) (so_far : ReadSoFar text left cells) (split : ranks_before left text ≡ ranks_before start text ++ last ∷ []) where
+  -- what is left when it is read
+  pub goes_on : start ≤ length text + 1 → is_rank last ≡ true → ReadSoFar text start (cells ++ cells_of last)
+  goes_on low good =
+      record {
+        within = low;
+        read = cc (append_assoc cells (cells_of last) (flat_map cells_of (reverse (ranks_before start text))), cells-last (ranks_before start text) last);
+        passed = cc (list_all-last (ranks_before start text) last, and-true (list_all is_rank (ranks_before start text)));
+        count = omega (arith, length-append cells (cells_of last), eight_cells last good, ap length split, length-append (ranks_before start text) (last ∷ []));
+      }
+
+  -- a rank that is none
+  pub no_placement : is_rank last ≡ false → None ≡ placement_of text
+  no_placement bad =
+      let none : list_all is_rank (ranks text) ≡ false = cc (list_all-last (ranks_before start text) last, and-false (list_all is_rank (ranks_before start text))) in
+      nothing text (and_right (length (ranks text) == 8) _ none)
+
+  -- a rank more than eight
+  pub too_many_ranks : 64 < length cells + 8 → None ≡ placement_of text
+  too_many_ranks full =
+      let more : length cells + 8 ≤ 8 * length (ranks text) = omega (arith, ap length split, length-append (ranks_before start text) (last ∷ [])) in
+      nothing text (and_left (length (ranks text) == 8) _ (not_eight _ _ full more))
 
 -- what `read_rank` answers of the last rank, where the bytes from i on are handed to it
 pub rank_missing : (s : List ℕ) (i : ℕ)
@@ -97,11 +77,8 @@ rank_there s i b h = let (good, cells) = cond_some _ _ b (sym (rw (take_rest s i
 
 -- a call that fails where n is too much
 pub beyond : {T E : Type 0} (r : Result T E) (b : Bool) (n m : ℕ) → b ≡ is_err r → b ≡ true → (n ≤ m → is_ok r ≡ true) → m < n
-beyond r b n m e h fits = elim (cases_lt m n) [ inl low ↦ low | inr high ↦ absurd (both r (sym e ∙ h) (fits high)) ]
-  where
-    both : {T E : Type 0} (r : Result T E) → is_err r ≡ true → is_ok r ≡ true → ⊥
-    both (Ok x) h g = cc
-    both (Err x) h g = cc
+beyond (Ok x) b n m e h fits = absurd (false≢true (sym e ∙ h))
+beyond (Err x) b n m e h fits = elim (cases_lt m n) [ inl low ↦ low | inr high ↦ absurd (false≢true (fits high)) ]
 
 pub when_no_err : {T E P : Type 0} (r : Result T E) (b : Bool) → b ≡ is_err r → b ≡ false → OnOk r P → P
 when_no_err (Ok x) b e h p = p

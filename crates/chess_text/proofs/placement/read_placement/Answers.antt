@@ -28,6 +28,5 @@ loop-left-preserved c =
     subst (λ b. ReadSoFar c.args.text.now c.last_rank_start-start.result b)
     (sym (more ∙ ap (λ b. c.loop-left.cells.items ++ b) rank.cells))
     (goes_on _ c.loop-left.left _ c.loop-left.cells.items _ c.loop-left.invariant
-    (omega (arith, length-take (c.loop-left.left - 1) c.args.text.now))
     (ranks_left c.args.text.now c.loop-left.left c.last_rank_start-start.result c.loop-left-test.true c.last_rank_start-start.ensures.within c.last_rank_start-start.ensures.cut)
-    rank.good)
+    (omega (arith, length-take (c.loop-left.left - 1) c.args.text.now)) rank.good)
