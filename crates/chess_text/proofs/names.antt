@@ -1,5 +1,4 @@
 -- SAN: the text that is written for a move.
-pub mod LonePiece
 pub mod OneMoveAgrees
 pub mod RivalsAreCandidates
 pub mod TextsToMoves

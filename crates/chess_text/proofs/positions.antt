@@ -5,8 +5,6 @@ pub mod CanonicalIsShortest
 pub mod CanonicalSpells
 pub mod FenLaws
 pub mod FieldsOfText
-pub mod RankToText
-pub mod RanksOfText
 pub mod ReadingToSpelling
 pub mod SixFieldsJoined
 pub mod SpellingToReading

@@ -1,5 +1,5 @@
 -- The forms of texts of the commonest shapes.
-use Rattle.chess_text.proofs.Words.{◌≡◌, ℕ, ◌+◌, true, ◌&&◌, nat_lt, List, [], ◌∷◌, ◌++◌, length, get_or, append-nil, refl, sym, ap, ap₂, arith, Option, None, Some, IfSome, codes, Kind, Pawn, Square, on_board, Form, Man, file_letter, square_text, is_among, letter_texts, hint_text, capture_texts, below_eight, file_of, rank_of, square_of, kind_of_text, piece_move_if, form_of}
+use Rattle.chess_text.proofs.Words.{◌≡◌, ℕ, true, ◌&&◌, List, [], ◌∷◌, ◌++◌, length, get_or, append-nil, refl, sym, ap, ap₂, arith, Option, None, Some, IfSome, codes, Kind, Pawn, Square, Form, Man, file_letter, square_text, is_among, letter_texts, hint_text, capture_texts, below_eight, file_of, rank_of, square_of, kind_of_text, piece_move_if, form_of}
 use Rattle.chess_text.proofs.forms.SpellingToForm.{form_read}
 use Rattle.chess_text.proofs.forms.FormToSpelling.{file_byte, target_spelled, kind_spelled}
 

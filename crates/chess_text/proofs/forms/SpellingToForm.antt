@@ -1,5 +1,5 @@
 -- A text that spells a form is read as that form.
-use Rattle.chess_text.proofs.Words.{◌≡◌, ℕ, ◌+◌, ◌-◌, ◌<◌, ◌⊎◌, inl, inr, true, false, ◌&&◌, nat_lt, ◌==◌, List, [], ◌∷◌, ◌++◌, length, append-nil, append_assoc, or_cases, length-append, refl, sym, ◌∙◌, ap, ap₂, arith, Option, None, Some, bytes_eq, codes, nat_tests, and_parts, take_more, take_all, bytes_eq-Decides, Kind, King, Pawn, Promotion, Square, on_board, Form, Castle, Man, file_letter, rank_digit, square_text, SpellsPieceMove, SpellsBare, Spells, is_among, letter_texts, hint_text, capture_texts, promotion_letter, promotion_texts, is_mark, below_eight, is_form, last_byte, front, before_marks, file_of, rank_of, promotion_of, promotion_at_end, before_sign, before_promotion, target_at_end, before_capture, before_target, rank_at_end, before_rank, file_at_end, before_file, kind_of_text, piece_move_if, piece_move_before, piece_move_at, piece_move_of, castle_of, bare_form, form_of, false_from_ne_true}
+use Rattle.chess_text.proofs.Words.{◌≡◌, ℕ, ◌+◌, ◌-◌, ◌<◌, ◌⊎◌, inl, inr, true, false, ◌&&◌, nat_lt, ◌==◌, List, [], ◌∷◌, ◌++◌, length, append-nil, append_assoc, or_cases, length-append, refl, sym, ◌∙◌, ap, arith, Option, None, Some, bytes_eq, codes, nat_tests, and_parts, take_more, take_all, bytes_eq-Decides, Kind, King, Pawn, Promotion, Square, on_board, Form, Castle, Man, file_letter, rank_digit, square_text, SpellsPieceMove, SpellsBare, Spells, is_among, letter_texts, hint_text, capture_texts, promotion_letter, promotion_texts, is_mark, below_eight, is_form, last_byte, front, before_marks, file_of, rank_of, promotion_of, promotion_at_end, before_sign, before_promotion, target_at_end, before_capture, before_target, rank_at_end, before_rank, file_at_end, before_file, kind_of_text, piece_move_of, castle_of, bare_form, form_of, false_from_ne_true}
 use Rattle.std.proofs.Math.Seq.{get_or-append_seam, take-append_seam}
 use mathlib.Core.Bool.{or-false}
 use Rattle.chess_text.proofs.forms.BeforeMarks.{before_marks-append, before_marks-last}

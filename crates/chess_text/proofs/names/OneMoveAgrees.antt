@@ -1,7 +1,7 @@
 -- No other legal move agrees with the form that is written.
-use Rattle.chess_text.proofs.Words.{inl, inr, cases_Bool, ◌≡◌, ℕ, ◌+◌, ◌/◌, Bool, true, false, not, refl, sym, ◌∙◌, ap, ap₂, subst, arith, ◌==◌, Option, None, Some, is_none, list_any, both_ways, and_parts, and_from, not-true, not-false, eqb-true, nat_tests, Colour, White, Black, Kind, King, Pawn, Piece, Move, Parts, Square, square, squares, gap, same_square, at, has_piece, same_kind, is_empty, other, is_ahead, is_position, own, captured_pawn, crossed, pawn_rank, double_rank, Wing, castles, castles_short, castles_long, is_legal, OneKing, hints_fit, describes, agrees, from_square, is_rival, rivals, is_capture, on_file, on_rank}
+use Rattle.chess_text.proofs.Words.{inl, inr, cases_Bool, ◌≡◌, ℕ, ◌+◌, ◌/◌, Bool, true, false, not, refl, sym, ◌∙◌, ap, ap₂, subst, arith, ◌==◌, Option, None, Some, is_none, list_any, both_ways, and_parts, and_from, not-true, not-false, eqb-true, nat_tests, Colour, White, Black, Kind, King, Pawn, Piece, Move, Parts, Square, square, squares, gap, same_square, at, has_piece, same_kind, is_empty, other, is_ahead, is_position, own, captured_pawn, crossed, pawn_rank, double_rank, Wing, castles, castles_short, castles_long, is_legal, OneKing, hints_fit, describes, agrees, from_square, is_rival, rivals, is_capture}
 use Rattle.chess_text.proofs.forms.CastlingMoves.{stepped, squares_same, castles_ends}
-use Rattle.chess_text.proofs.forms.AgreeingAreFound.{Said, said, in_squares, any_contained, same_move, no_promotion}
+use Rattle.chess_text.proofs.forms.AgreeingAreFound.{said, in_squares, any_contained, same_move, no_promotion}
 use Rattle.chess_text.proofs.forms.PawnWays.{PawnWay, takes, passes, advances, doubles, pawn_way, pawn_takes, gap_apart}
 use Rattle.chess_text.proofs.names.RivalsAreCandidates.{any-filter}
 use Rattle.chess_text.proofs.names.WrittenToForm.{file_by, rank_by, disambiguated_form, king_form_by, pawn_form_by, written, unpromoted, itself}

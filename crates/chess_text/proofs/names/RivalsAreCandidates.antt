@@ -1,6 +1,9 @@
 -- The rivals of a move, found among the candidates for its target.
-use Rattle.chess_text.proofs.Words.{◌≡◌, ℕ, ◌+◌, ◌<◌, ◌≤◌, Bool, true, false, cond, ◌&&◌, ◌||◌, List, [], ◌∷◌, length, take, get_or, refl, sym, ◌∙◌, ap, ◌==◌, Option, None, Some, is_some, list_any, IsPermutation, and_parts, take_all, list_any_more, list_any-IsPermutation, Kind, Move, Parts, Square, squares, own, legal, sees, candidates, CandidatesComplete, from_square, is_rival, rivals, on_file, on_rank, disambiguation_by, disambiguation, arith}
+use Rattle.chess_text.proofs.Words.{◌≡◌, ℕ, ◌+◌, ◌<◌, ◌≤◌, Bool, true, false, cond, ◌&&◌, ◌||◌, List, [], ◌∷◌, length, take, get_or, refl, sym, ◌∙◌, ap, ◌==◌, Option, None, Some, is_some, list_any, IsPermutation, and_parts, take_all, list_any_more, list_any-IsPermutation, Kind, Move, Parts, Square, squares, own, legal, sees, candidates, CandidatesComplete, from_square, is_rival, rivals, on_file, on_rank, disambiguation_by, disambiguation, arith, inl, inr, not, and_from, or_cases, IsPermutation-refl, same_square, is_legal, is_candidate}
 use Rattle.std.specs.Prelude.{filter}
+use Rattle.chess_text.proofs.forms.CastlingMoves.{stepped, squares_same}
+use Rattle.chess_text.proofs.forms.AgreeingAreFound.{in_squares, any_contained}
+use Rattle.chess_text.proofs.forms.PieceForms.{same_square-refl}
 
 any-cond : {Y : Type 0} (test : Y → Bool) (b : Bool) (y : Y) (ys : List Y) → list_any test (cond b (y ∷ ys) ys) ≡ ((b && test y) || list_any test ys)
 any-cond test b y ys = grind arith
@@ -70,3 +73,32 @@ pub apart_same : (s : Square) (others : List Square) (any file rank : Bool) → 
     → disambiguation_by s any file rank ≡ disambiguation s others
 apart_same s others any file rank a b c =
     cc
+
+-- A piece that alone of its kind may go to the target has no rivals.
+
+only_one : (s : Square) (xs : List Square) → length xs ≤ 1 → list_any (same_square s) xs ≡ true → xs ≡ s ∷ []
+only_one s [] few h = cc
+only_one s (x ∷ []) few h = elim (or_cases _ false h) [ inl e ↦ ap (λ y. y ∷ []) (sym (squares_same s x e)) | inr none ↦ cc ]
+only_one s (x ∷ y ∷ ys) few h = absurd (omega arith)
+
+module _ (complete : CandidatesComplete) (p : Parts) (k : Kind) (m : Move) (allowed : is_legal p m ≡ true) (stands : own p k m.from ≡ true) (few : length (candidates p k m.to) ≤ 1) where
+  own_candidate : is_candidate p k m.to m.from ≡ true
+  own_candidate = by_legal _ refl allowed
+    where
+      by_legal : (o : Option Parts) → legal p m ≡ o → is_some o ≡ true → is_candidate p k m.to m.from ≡ true
+      by_legal None e h = cc
+      by_legal (Some q) e h = complete p q m k e stands
+
+  pub lone_candidate : candidates p k m.to ≡ m.from ∷ []
+  lone_candidate =
+      only_one _ _ few
+      (any-filter _ _ squares
+      ∙ any_contained _ squares m.from
+      (in_squares _ (stepped p m allowed).from_on)
+      (and_from (is_candidate p k m.to _) (same_square m.from m.from) own_candidate (same_square-refl m.from)))
+
+  pub no_rivals : (test : Square → Bool) → false ≡ list_any test (rivals p k m)
+  no_rivals test =
+      sym (ap (λ xs. seen p m test xs) lone_candidate
+      ∙ ap (λ b. ((not b && is_legal p (from_square m m.from)) && test m.from) || false) (same_square-refl m.from))
+      ∙ rivals_seen complete p k m test (candidates p k m.to) (IsPermutation-refl _)

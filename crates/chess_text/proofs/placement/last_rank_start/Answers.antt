@@ -1,4 +1,4 @@
-use Rattle.chess_text.proofs.positions.RanksOfText.{ranks_cut}
+use Rattle.chess_text.proofs.positions.TextToBoard.{ranks_cut}
 use Rattle.chess_text.proofs.placement.last_rank_start.Goals as goal
 
 pub returns-else-text-start-ne47-clause-cut : goal.returns-else-text-start-ne47-clause-cut

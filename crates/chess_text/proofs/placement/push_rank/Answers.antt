@@ -1,5 +1,5 @@
 use Rattle.chess_text.proofs.Words.{◌+◌, ◌-◌, ◌++◌, ◌∷◌, ◌∙◌, ap, sym, drop, drop_all, arith, row, rank_text, run_text}
-use Rattle.chess_text.proofs.positions.RankToText.{drop-row}
+use Rattle.chess_text.proofs.positions.BoardToText.{drop-row}
 use Rattle.chess_text.proofs.placement.push_rank.Goals as goal
 
 pub loop-file-preserved : goal.loop-file-preserved

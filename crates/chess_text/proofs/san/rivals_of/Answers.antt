@@ -1,6 +1,5 @@
 use Rattle.chess_text.proofs.Words.{◌≡◌, Bool, true, length, take, ◌∙◌, ap, arith, list_any, IsPermutation, length_permutation, Square, candidates, rivals}
-use Rattle.chess_text.proofs.names.LonePiece.{lone_candidate, no_rivals}
-use Rattle.chess_text.proofs.names.RivalsAreCandidates.{seen, found_more, all_found, rivals_seen}
+use Rattle.chess_text.proofs.names.RivalsAreCandidates.{seen, found_more, all_found, rivals_seen, lone_candidate, no_rivals}
 use Rattle.chess_text.proofs.san.rivals_of.Goals as goal
 
 pub loop-origin-preserved : goal.loop-origin-preserved
