@@ -11,8 +11,18 @@ use Rattle.pgn_layout.specs.Laws.{LinesAreThosePut, TokensDetermineLines}
 abbrev pub letters : ℕ → List ℕ
 letters n = replicate n 97
 
-abbrev token : (t : List ℕ) → 0 < length t → length t ≤ 79 → IsToken t
-token t not_empty fits = record { not_empty = not_empty; fits = fits }
+abbrev whole_line : List (List ℕ)
+whole_line = letters 79 ∷ []
+
+-- two tokens that fit on a line of 79 bytes, and two of which the line would have 80
+abbrev pub on_one_line : List (List ℕ)
+on_one_line = letters 40 ∷ letters 38 ∷ []
+
+abbrev pub on_two_lines : List (List ℕ)
+on_two_lines = letters 40 ∷ letters 39 ∷ []
+
+abbrev pub few : List (List ℕ)
+few = codes "e4" ∷ codes "e5" ∷ []
 
 one_fits : (t : List ℕ) → IsToken t → All IsToken (t ∷ [])
 one_fits t it = All-cons IsToken t [] it (All-nil IsToken)
@@ -20,57 +30,35 @@ one_fits t it = All-cons IsToken t [] it (All-nil IsToken)
 two_fit : (t u : List ℕ) → IsToken t → IsToken u → All IsToken (t ∷ u ∷ [])
 two_fit t u it iu = All-cons IsToken t (u ∷ []) it (one_fits u iu)
 
-fit_whole : All IsToken (letters 79 ∷ [])
-fit_whole = one_fits _ (token _ (omega arith) (omega arith))
+fit_79 : All IsToken on_one_line
+fit_79 = two_fit _ _ (omega arith) (omega arith)
 
-fit_79 : All IsToken (letters 40 ∷ letters 38 ∷ [])
-fit_79 = two_fit _ _ (token _ (omega arith) (omega arith)) (token _ (omega arith) (omega arith))
+fit_80 : All IsToken on_two_lines
+fit_80 = two_fit _ _ (omega arith) (omega arith)
 
-fit_80 : All IsToken (letters 40 ∷ letters 39 ∷ [])
-fit_80 = two_fit _ _ (token _ (omega arith) (omega arith)) (token _ (omega arith) (omega arith))
-
-few_fit : All IsToken (codes "e4" ∷ codes "e5" ∷ [])
-few_fit = two_fit _ _ (token _ (omega arith) (omega arith)) (token _ (omega arith) (omega arith))
+few_fit : All IsToken few
+few_fit = two_fit _ _ (omega arith) (omega arith)
 
 -- Without tokens there is no line.
 pub no_line : Lines [] []
 no_line = record { parts = []; in_order = refl; texts = refl; full = tt }
 
 -- A token of 79 bytes fills its line.
-full_token : Lines (letters 79 ∷ []) (letters 79 ∷ [])
+full_token : Lines whole_line whole_line
 full_token = record { parts = record { first = letters 79; others = [] } ∷ []; in_order = refl; texts = refl; full = omega arith }
 
 -- 40 bytes, a space and 38 bytes are 79 bytes: one line.
-pub full_line : Lines (letters 40 ∷ letters 38 ∷ []) ((letters 40 ++ 32 ∷ letters 38) ∷ [])
+pub full_line : Lines on_one_line ((letters 40 ++ 32 ∷ letters 38) ∷ [])
 full_line = record { parts = record { first = letters 40; others = letters 38 ∷ [] } ∷ []; in_order = refl; texts = refl; full = omega arith }
 
 -- 40 bytes, a space and 39 bytes are 80 bytes: two lines.
-pub two_lines : Lines (letters 40 ∷ letters 39 ∷ []) (letters 40 ∷ letters 39 ∷ [])
+pub two_lines : Lines on_two_lines on_two_lines
 two_lines = record {
   parts = record { first = letters 40; others = [] } ∷ record { first = letters 39; others = [] } ∷ [];
   in_order = refl;
   texts = refl;
   full = omega arith;
 }
-
--- The law at these tokens, in both directions.
-
-full_token_by_law : TokensDetermineLines → Lines (letters 79 ∷ []) (letters 79 ∷ [])
-full_token_by_law law = (law (letters 79 ∷ []) (letters 79 ∷ []) fit_whole).1 refl
-
-full_line_by_law : TokensDetermineLines → Lines (letters 40 ∷ letters 38 ∷ []) ((letters 40 ++ 32 ∷ letters 38) ∷ [])
-full_line_by_law law = (law _ ((letters 40 ++ 32 ∷ letters 38) ∷ []) fit_79).1 refl
-
-two_lines_by_law : TokensDetermineLines → lines_of (letters 40 ∷ letters 39 ∷ []) ≡ letters 40 ∷ letters 39 ∷ []
-two_lines_by_law law = sym ((law _ _ fit_80).0 two_lines)
-
--- A line of 80 bytes is none, though its tokens are in order.
-line_of_80 : TokensDetermineLines → Lines (letters 40 ∷ letters 39 ∷ []) ((letters 40 ++ 32 ∷ letters 39) ∷ []) → ⊥
-line_of_80 law h = omega (arith, ap length ((law _ _ fit_80).0 h))
-
--- A line that could have taken the next token is none.
-line_with_room : TokensDetermineLines → Lines (letters 40 ∷ letters 38 ∷ []) (letters 40 ∷ letters 38 ∷ []) → ⊥
-line_with_room law h = omega (arith, ap length ((law _ _ fit_79).0 h))
 
 -- the bytes of the first line
 abbrev first_of : List (List ℕ) → List ℕ
@@ -82,17 +70,21 @@ abbrev second : List ℕ → ℕ
 second (a ∷ b ∷ bs) = b
 second _ = 0
 
-other_order : TokensDetermineLines → Lines (codes "e4" ∷ codes "e5" ∷ []) (codes "e5 e4" ∷ []) → ⊥
-other_order law h = omega (arith, ap (λ ls. second (first_of ls)) ((law _ _ few_fit).0 h))
-
-two_spaces : TokensDetermineLines → Lines (codes "e4" ∷ codes "e5" ∷ []) (codes "e4  e5" ∷ []) → ⊥
-two_spaces law h = omega (arith, ap (λ ls. length (first_of ls)) ((law _ _ few_fit).0 h))
-
-empty_line : TokensDetermineLines → Lines (codes "e4" ∷ codes "e5" ∷ []) (codes "e4 e5" ∷ [] ∷ []) → ⊥
-empty_line law h = omega (arith, ap length ((law _ _ few_fit).0 h))
-
-lost_token : TokensDetermineLines → Lines (codes "e4" ∷ codes "e5" ∷ []) (codes "e4" ∷ []) → ⊥
-lost_token law h = omega (arith, ap (λ ls. length (first_of ls)) ((law _ _ few_fit).0 h))
+-- The law at these tokens, in both directions.
+tokens_determine_lines : TokensDetermineLines → Unit {0}
+tokens_determine_lines law =
+    let full_token : Lines whole_line whole_line = (law whole_line _ (one_fits _ (omega arith))).1 refl in
+    let full_line : Lines on_one_line ((letters 40 ++ 32 ∷ letters 38) ∷ []) = (law on_one_line _ fit_79).1 refl in
+    let two_lines : lines_of on_two_lines ≡ on_two_lines = sym ((law _ _ fit_80).0 two_lines) in
+    -- A line of 80 bytes is none, though its tokens are in order.
+    let line_of_80 : Lines on_two_lines ((letters 40 ++ 32 ∷ letters 39) ∷ []) → ⊥ = λ h. omega (arith, ap length ((law _ _ fit_80).0 h)) in
+    -- A line that could have taken the next token is none.
+    let line_with_room : Lines on_one_line on_one_line → ⊥ = λ h. omega (arith, ap length ((law _ _ fit_79).0 h)) in
+    let other_order : Lines few (codes "e5 e4" ∷ []) → ⊥ = λ h. omega (arith, ap (λ ls. second (first_of ls)) ((law _ _ few_fit).0 h)) in
+    let two_spaces : Lines few (codes "e4  e5" ∷ []) → ⊥ = λ h. omega (arith, ap (λ ls. length (first_of ls)) ((law _ _ few_fit).0 h)) in
+    let empty_line : Lines few (codes "e4 e5" ∷ [] ∷ []) → ⊥ = λ h. omega (arith, ap length ((law _ _ few_fit).0 h)) in
+    let lost_token : Lines few (codes "e4" ∷ []) → ⊥ = λ h. omega (arith, ap (λ ls. length (first_of ls)) ((law _ _ few_fit).0 h)) in
+    tt
 
 -- A token of more than 79 bytes has no lines.
 no_line_takes : (t : List ℕ) → 79 < length t → (parts : List Line) → tokens_over parts ≡ t ∷ [] → AreFull parts → ⊥
@@ -128,7 +120,7 @@ ArePut tokens lines = laid_from [] (map Put tokens) ≡ record { written = text_
 
 -- It is false without the premise that the lines are those of the tokens.
 fails_at_other_lines : ((tokens lines : List (List ℕ)) → All IsToken tokens → ArePut tokens lines) → ⊥
-fails_at_other_lines law = omega (arith, ap (λ l. length l.line) (law (codes "e4" ∷ codes "e5" ∷ []) (codes "e4" ∷ []) few_fit))
+fails_at_other_lines law = omega (arith, ap (λ l. length l.line) (law few (codes "e4" ∷ []) few_fit))
 
 -- It is false for an empty token: that has lines, but the space after it is not put.
 empty_token : Lines ([] ∷ codes "e4" ∷ []) (codes " e4" ∷ [])

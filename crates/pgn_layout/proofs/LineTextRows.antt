@@ -7,32 +7,20 @@ use Rattle.std.proofs.lemmas.Bool.{false≢true}
 use Rattle.pgn_layout.specs.Laws.{LinesKeepTokens, LinesOfKeepTokens}
 use Rattle.pgn_layout.specs.LineText.{is_gap, IsTextOf, no_token, next_token}
 use Rattle.pgn_layout.specs.Lines.{text_of}
-use Rattle.pgn_layout.proofs.LineRows.{letters, full_line, two_lines, no_line}
+use Rattle.pgn_layout.proofs.LineRows.{letters, few, on_one_line, on_two_lines, full_line, two_lines, no_line}
 
-abbrev few : List (List ℕ)
-few = codes "e4" ∷ codes "e5" ∷ []
+texts_by_rules : Unit {0}
+texts_by_rules =
+    let one_line : IsTextOf few (codes "e4 e5\n") = next_token (codes "e4") 32 _ _ refl (next_token (codes "e5") 10 _ _ refl no_token) in
+    let two_lines : IsTextOf few (codes "e4\ne5\n") = next_token (codes "e4") 10 _ _ refl (next_token (codes "e5") 10 _ _ refl no_token) in
+    tt
 
--- ---- texts, from the rules alone
-
--- `e4 e5` and LF, and each on a line of its own
-on_one_line : IsTextOf few (codes "e4 e5\n")
-on_one_line = next_token (codes "e4") 32 _ _ refl (next_token (codes "e5") 10 _ _ refl no_token)
-
-on_two_lines : IsTextOf few (codes "e4\ne5\n")
-on_two_lines = next_token (codes "e4") 10 _ _ refl (next_token (codes "e5") 10 _ _ refl no_token)
-
--- ---- by the law, of lines
-
-one_line_by_law : LinesKeepTokens
-    → IsTextOf (letters 40 ∷ letters 38 ∷ []) (letters 40 ++ 32 ∷ letters 38 ++ 10 ∷ [])
-one_line_by_law law = law _ _ full_line
-
-two_lines_by_law : LinesKeepTokens
-    → IsTextOf (letters 40 ∷ letters 39 ∷ []) (letters 40 ++ 10 ∷ letters 39 ++ 10 ∷ [])
-two_lines_by_law law = law _ _ two_lines
-
-nothing_by_law : LinesKeepTokens → IsTextOf [] []
-nothing_by_law law = law _ _ no_line
+texts_by_law : LinesKeepTokens → Unit {0}
+texts_by_law law =
+    let one_line : IsTextOf on_one_line (letters 40 ++ 32 ∷ letters 38 ++ 10 ∷ []) = law _ _ full_line in
+    let two_lines : IsTextOf on_two_lines (letters 40 ++ 10 ∷ letters 39 ++ 10 ∷ []) = law _ _ two_lines in
+    let nothing : IsTextOf [] [] = law _ _ no_line in
+    tt
 
 -- also a token that no line can take, which `Lines` has none for
 long_token_by_law : LinesOfKeepTokens → IsTextOf (letters 80 ∷ []) (letters 80 ++ 10 ∷ [])

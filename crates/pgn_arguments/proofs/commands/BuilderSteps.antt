@@ -1,6 +1,7 @@
 -- What each step of a builder does to what a parse reads.
 use Rattle.std.proofs.lemmas.Grind.{common_steps}
-use Rattle.std.proofs.Common.{arith, ◌≡◌, ap, Bool, true, false, ◌&&◌, not, true≢false, refl, Some}
+use Rattle.std.proofs.Common.{arith, ◌≡◌, ap, Bool, true, false, Some}
+use Rattle.std.proofs.lemmas.Bool.{and_parts, not-true}
 use Rattle.std.specs.Borrow.{Bor}
 use Rattle.std.specs.Prelude.{ℕ, List}
 use Rattle.clap.specs.Words.{App, app_of, rule_of}
@@ -51,18 +52,8 @@ app_required c d b e = ap app_of_fields e
 
 -- ---- a plain command has no global argument
 
-and_left : (a b : Bool) → (a && b) ≡ true → a ≡ true
-and_left true b e = refl
-and_left false b e = e
-
-and_right : (a b : Bool) → (a && b) ≡ true → b ≡ true
-and_right a b h1 = grind (arith, common_steps, true≢false)
-
-not_true : (b : Bool) → not b ≡ true → b ≡ false
-not_true b h1 = grind (arith, common_steps, true≢false)
-
 pub is_local : (c : Command) (a : App) → app_of c ≡ a → a.top.is_plain ≡ true → (out-Command c).has_globals ≡ false
-is_local c a e plain = grind (arith, common_steps, not_true, and_left, and_right)
+is_local c a e plain = grind (arith, common_steps, not-true, and_parts)
 
 pub rule_required : (a b : Arg) (flag : Bool) → b ≡ record a { required = flag } → rule_of b ≡ record (rule_of a) { required = flag }
 rule_required a b flag e = ap rule_of e

@@ -1,6 +1,7 @@
 -- How an answer follows from the kinds that a parse may fail by.
 use Rattle.std.proofs.lemmas.Grind.{common_steps}
-use Rattle.std.proofs.Common.{arith, ◌≡◌, ◌||◌, Bool, true, false, true≢false, refl, inl, inr, ◌⊎◌, [], ◌∷◌}
+use Rattle.std.proofs.Common.{arith, ◌≡◌, Bool, true, true≢false, inl, inr, ◌⊎◌, [], ◌∷◌}
+use Rattle.std.proofs.lemmas.Bool.{or_left, or_right}
 use Rattle.std.specs.Prelude.{Err, IfErr, Option, Result, List}
 use Rattle.std.specs.List.{list_any}
 use Rattle.clap.specs.Words.{IsAmong, Kinds, Text}
@@ -9,13 +10,6 @@ use Rattle.clap.specs.declared.error.kind.ErrorKind.TheVariants.{OutOfMemory}
 use Rattle.pgn_arguments.specs.Requests.{AnswersBy, AnswersError, LacksFile, Request, refusals, request_in}
 use Rattle.pgn_arguments.specs.declared.arguments.Task.{Task}
 use Rattle.pgn_arguments.specs.declared.arguments.ParseFault.{ParseFault}
-
-or_right : (a b : Bool) → b ≡ true → (a || b) ≡ true
-or_right true b e = refl
-or_right false b e = e
-
-or_left : (a b : Bool) → a ≡ true → (a || b) ≡ true
-or_left a b h1 = grind (arith, common_steps, true≢false)
 
 passes_among : (test : ErrorKind → Bool) (kinds : Kinds) (kind : ErrorKind) → IsAmong kind kinds → test kind ≡ true
     → list_any test kinds ≡ true

@@ -1,10 +1,11 @@
 -- The subcommand that a parse meets, and the request that it makes.
 use Rattle.std.proofs.lemmas.Grind.{common_steps}
 use Rattle.std.proofs.Common.{arith, ◌≡◌, ◌≢◌, ◌∙◌, ◌||◌, ap, ap₂, Bool, true, false, true≢false, refl, sym, List, [], ◌∷◌, Option, Some, None, option_map, codes, bytes_eq}
-use Rattle.std.specs.Prelude.{IsSome, find, is_some, unwrap_or, ◌&&◌}
+use Rattle.std.specs.Prelude.{IsSome, find, is_some, unwrap_or}
 use Rattle.std.specs.List.{list_all}
 use Rattle.std.specs.Option.{option_map_or}
 use Rattle.std.specs.Str.Parse.{ParsesBool}
+use Rattle.std.proofs.lemmas.Bool.{and_parts}
 use Rattle.std.proofs.lemmas.Slice.Eq.{bytes_eq-Decides}
 use Rattle.clap.specs.Words.{App, HasMatchesOf, IsParsedFrom, ReadsOne, Row, Shape, Text, app_of, built, has_subcommand, is_simple, subcommand_name_of, subcommand_of, subcommand_rows_of}
 use Rattle.clap.specs.Simple.{entered, rows_at}
@@ -16,22 +17,26 @@ use Rattle.pgn_arguments.specs.CommandLine.{bare_program, check_command, checked
 use Rattle.pgn_arguments.specs.Requests.{request_from, request_named}
 use Rattle.pgn_arguments.proofs.commands.BuilderSteps.{is_local}
 
+unfoldable pub whole_line : Unit {0}
+unfolding clap_on_literals command_line bare_program export_command check_command list_command split_command reduced_rule checked_rule file_rule dir_rule
+whole_line = tt
+
 -- ---- the command line is one whose matches and refusals `clap` defines
 
 pub line_is_simple : is_simple command_line ≡ true
-unfolding clap_on_literals command_line bare_program export_command check_command list_command split_command reduced_rule checked_rule file_rule dir_rule
+unfolding whole_line
 line_is_simple = refl
 
 pub line_is_free : is_simple_and_free command_line ≡ true
-unfolding clap_on_literals command_line bare_program export_command check_command list_command split_command reduced_rule checked_rule file_rule dir_rule
+unfolding whole_line
 line_is_free = refl
 
 pub line_is_plain : command_line.top.is_plain ≡ true
-unfolding command_line bare_program export_command check_command list_command split_command reduced_rule checked_rule file_rule dir_rule
+unfolding whole_line
 line_is_plain = refl
 
 pub line_wants_subcommand : command_line.top.subcommand_required ≡ true
-unfolding command_line bare_program export_command check_command list_command split_command reduced_rule checked_rule file_rule dir_rule
+unfolding whole_line
 line_wants_subcommand = refl
 
 -- ---- a subcommand that is met is one that makes a request
@@ -42,9 +47,6 @@ is_known name = bytes_eq name (codes "export") || (bytes_eq name (codes "check")
 known_request : (name : Text) (rows : List Row) → is_known name ≡ true → IsSome (request_named name rows)
 known_request name rows known = grind (arith, common_steps)
 
-and_both : (a b : Bool) → (a && b) ≡ true → (a ≡ true) × (b ≡ true)
-and_both a b h1 = grind (arith, common_steps, true≢false)
-
 abbrev asked : List Text → Option Shape → Option (Text × List Row)
 asked words = option_map (λ s. rows_at s words)
 
@@ -52,7 +54,7 @@ found_is_known : (subs : List Shape) (test : Shape → Bool) (words : List Text)
     → is_some (asked words (find test subs)) ≡ true → IsSome (request_from (asked words (find test subs)))
 unfolding request_from
 found_is_known [] test words known met = absurd (true≢false (sym met))
-found_is_known (s ∷ rest) test words known met = grind (arith, common_steps, known_request, and_both, found_is_known rest test words)
+found_is_known (s ∷ rest) test words known met = grind (arith, common_steps, known_request, and_parts, found_is_known rest test words)
 
 entered_is_known : (a : App) (stop : Option (Text × List Text)) → list_all (λ s. is_known s.name) a.subs ≡ true
     → is_some (entered a stop) ≡ true → IsSome (request_from (entered a stop))
@@ -60,7 +62,7 @@ entered_is_known a None known met = absurd (true≢false (sym met))
 entered_is_known a (Some p) known met = found_is_known a.subs _ p.1 known met
 
 line_is_known : list_all (λ s. is_known s.name) (built command_line).subs ≡ true
-unfolding clap_on_literals command_line bare_program export_command check_command list_command split_command reduced_rule checked_rule file_rule dir_rule
+unfolding whole_line
 line_is_known = refl
 
 words_are_known : (words : List Text) → is_some (subcommand_of command_line words) ≡ true

@@ -2,15 +2,14 @@
 use Prim.Native.String.{String}
 use Rattle.std.proofs.Common.{◌≡◌, ℕ, List, refl, codes, true, false, [], ◌∷◌, ◌++◌, Some, None}
 use Rattle.std.specs.Prelude.{◌==◌, if◌then◌else◌}
-use Rattle.clap.proofs.OnLiterals.{clap_on_literals}
 use Rattle.clap.specs.Words.{Text}
 use Rattle.clap.specs.declared.error.kind.ErrorKind.{ErrorKind}
 use Rattle.clap.specs.declared.error.kind.ErrorKind.TheVariants.{ArgumentConflict, DisplayHelp, DisplayVersion, InvalidSubcommand, MissingRequiredArgument, MissingSubcommand, UnknownArgument}
-use Rattle.pgn_arguments.specs.CommandLine.{bare_program, check_command, checked_rule, command_line, export_command, dir_rule, file_rule, list_command, reduced_rule, split_command}
+use Rattle.pgn_arguments.proofs.commands.SubcommandToRequest.{whole_line}
 use Rattle.pgn_arguments.specs.Requests.{Request, check, checked, export, listing, splitting, refusals, request_from, request_in}
 
 unfoldable line_on_words : Unit {0}
-unfolding clap_on_literals command_line bare_program export_command check_command list_command split_command reduced_rule checked_rule file_rule dir_rule refusals request_from request_in
+unfolding whole_line refusals request_from request_in
 line_on_words = tt
 
 -- the words between spaces, behind a first one
