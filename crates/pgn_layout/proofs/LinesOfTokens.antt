@@ -43,12 +43,7 @@ text_on-grown l t = grind (arith, common_steps, spaced-append, append-nil, appen
 
 pub in_order : (l : Line) (ts : List (List ℕ)) → tokens_over (parts_from l ts) ≡ tokens_on l ++ ts
 in_order l [] = refl
-in_order l (t ∷ ts) =
-    elim (has_room (text_on l) t)
-    as (λ v. tokens_over (elim v [ true ↦ parts_from (grown l t) ts | false ↦ l ∷ parts_from (alone t) ts ]) ≡ tokens_on l ++ t ∷ ts) [
-      | true ↦ in_order (grown l t) ts ∙ append_assoc (tokens_on l) (t ∷ []) ts
-      | false ↦ ap (λ k. tokens_on l ++ k) (in_order (alone t) ts)
-    ]
+in_order l (t ∷ ts) = grind (arith, common_steps, append_assoc, in_order (grown l t) ts, in_order (alone t) ts)
 
 full_onto : (l m : Line) (ts : List (List ℕ)) → length (text_on l) ≤ 79 → 79 < length (text_on l) + 1 + length m.first
     → AreFull (parts_from m ts) → AreFull (l ∷ parts_from m ts)

@@ -1,7 +1,7 @@
 -- The text of lines is their tokens, each with the byte after it.
 use Rattle.std.proofs.lemmas.Grind.{common_steps}
-use Rattle.std.proofs.Common.{arith, ◌≡◌, ℕ, true, false, List, [], ◌∷◌, ◌++◌, map, refl, ap, ◌∙◌, append_assoc, append-nil}
-use Rattle.pgn_layout.specs.Lines.{Line, spaced, text_on, tokens_over, has_room, lines_from, text_of}
+use Rattle.std.proofs.Common.{arith, ◌≡◌, ℕ, List, [], ◌∷◌, ◌++◌, map, refl, ap, ◌∙◌, append_assoc, append-nil}
+use Rattle.pgn_layout.specs.Lines.{Line, spaced, text_on, tokens_over, lines_from, text_of}
 use Rattle.pgn_layout.specs.LineText.{IsTextOf, no_token, next_token}
 use Rattle.pgn_layout.specs.Laws.{LinesKeepTokens, LinesOfKeepTokens}
 use Rattle.pgn_layout.proofs.LinesOfTokens.{alone, grown, parts_from, text_on-grown, in_order}
@@ -32,16 +32,7 @@ lines_keep_tokens tokens lines h = grind (arith, common_steps, parts_text)
 texts_from : (l : Line) (ts : List (List ℕ))
     → map text_on (parts_from l ts) ≡ lines_from (text_on l) ts
 texts_from l [] = refl
-texts_from l (t ∷ ts) =
-    elim (has_room (text_on l) t)
-    as (λ v.
-    map text_on (elim v [ true ↦ parts_from (grown l t) ts | false ↦ l ∷ parts_from (alone t) ts ])
-    ≡ elim v [ true ↦ lines_from (text_on l ++ 32 ∷ t) ts | false ↦ text_on l ∷ lines_from t ts ]) [
-      | true ↦ texts_from (grown l t) ts ∙ ap (λ s. lines_from s ts) (text_on-grown l t)
-      | false ↦
-          ap (λ ls. text_on l ∷ ls)
-          (texts_from (alone t) ts ∙ ap (λ s. lines_from s ts) (append-nil t))
-    ]
+texts_from l (t ∷ ts) = grind (arith, common_steps, append-nil, text_on-grown, texts_from (grown l t) ts, texts_from (alone t) ts)
 
 pub lines_of_keep_tokens : LinesOfKeepTokens
 lines_of_keep_tokens [] = no_token
