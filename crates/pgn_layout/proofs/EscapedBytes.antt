@@ -27,20 +27,10 @@ length_escaped-take value i h = grind (arith, common_steps, escaped-take, length
 -- the first bytes have no longer text than all
 pub length_escaped-front : (value : List ℕ) (i : ℕ) → length (escaped (take i value)) ≤ length (escaped value)
 length_escaped-front value i =
-    omega (
-      arith,
-      ap length (ap escaped (sym (take-append-drop i value)) ∙ escaped-append (take i value) (drop i value)),
-      length-append (escaped (take i value)) (escaped (drop i value)),
-    )
+    omega (arith, ap length (ap escaped (sym (take-append-drop i value)) ∙ escaped-append (take i value) (drop i value)), length-append {A = ℕ})
 
 -- that byte's text is part of all
 pub line_fits : (front value line : List ℕ) (i : ℕ) → i < length value → line ≡ front ++ escaped (take i value)
     → length line + length (escape_of (get_or value i 0)) ≤ length front + length (escaped value)
 line_fits front value line i h e =
-    omega (
-      arith,
-      ap length e,
-      length-append front (escaped (take i value)),
-      length_escaped-take value i h,
-      length_escaped-front value (i + 1),
-    )
+    omega (arith, ap length e, length-append {A = ℕ}, length_escaped-take value i h, length_escaped-front value (i + 1))

@@ -1,9 +1,10 @@
 -- `lines_of` gives the lines of the tokens, and there are no others.
 use Rattle.std.proofs.lemmas.Grind.{common_steps}
-use Rattle.std.proofs.Common.{◌≡◌, ℕ, ◌+◌, ◌<◌, ◌≤◌, Bool, true, false, List, [], ◌∷◌, ◌++◌, map, length, refl, sym, ap, ◌∙◌, append_assoc, append-nil, arith, length-append}
+use Rattle.std.proofs.Common.{◌≡◌, ℕ, ◌+◌, ◌<◌, ◌≤◌, true, false, List, [], ◌∷◌, ◌++◌, map, length, refl, sym, ap, ◌∙◌, append_assoc, append-nil, arith, length-append}
 use Rattle.std.specs.Prelude.{All}
 use Rattle.std.proofs.lemmas.List.Elements.{All-head, All-tail}
-use Rattle.std.proofs.lemmas.Bool.{le-leb, lt-leb, leb-true, leb-false}
+use Rattle.std.proofs.lemmas.Bool.Decides.{nat_tests}
+use Rattle.std.proofs.lemmas.Bool.{le-leb, lt-leb}
 use Rattle.pgn_layout.specs.Lines.{Line, tokens_on, spaced, text_on, tokens_over, AreFull, Lines, IsToken, has_room, lines_from, lines_of}
 use Rattle.pgn_layout.specs.Laws.{TokensDetermineLines}
 
@@ -53,19 +54,9 @@ full_onto l m (t ∷ ts) fits long full = grind (arith, common_steps, full_onto 
 full_from : (l : Line) (ts : List (List ℕ)) → length (text_on l) ≤ 79 → All IsToken ts → AreFull (parts_from l ts)
 full_from l [] fits each = fits
 full_from l (t ∷ ts) fits each =
-    let n = length (text_on l) + 1 + length t in
     let one = All-head IsToken t ts each in
     let rest = All-tail IsToken t ts each in
-    let P : Bool → Type 0 =
-    λ v. has_room (text_on l) t ≡ v → AreFull (elim v [ true ↦ parts_from (grown l t) ts | false ↦ l ∷ parts_from (alone t) ts ]) in
-    let step : P (has_room (text_on l) t) =
-    elim (has_room (text_on l) t) as P [
-      | true ↦ λ e. full_from (grown l t) ts
-          (omega (arith, leb-true n 79 e, ap length (text_on-grown l t), length-append (text_on l) (32 ∷ t))) rest
-      | false ↦ λ e. full_onto l (alone t) ts fits (leb-false n 79 e)
-          (full_from (alone t) ts (rw (append-nil t) one.fits) rest)
-    ] in
-    step refl
+    grind (arith, common_steps, nat_tests, text_on-grown, length-append, append-nil, full_onto l (alone t) ts fits, full_from (grown l t) ts, full_from (alone t) ts)
 
 -- Tokens that lines can take have lines.
 pub lines_hold : (tokens : List (List ℕ)) → All IsToken tokens → Lines tokens (lines_of tokens)
