@@ -73,13 +73,7 @@ kind_counts p f m = by_described _
 found_counts : {X : Type 0} (h : X → Option Played) (k : X → OriginKind) → ((x : X) → length (cons_option (h x) []) ≡ cond (is_legal_kind (k x)) 1 0)
     → (xs : List X) → length (filter_map h xs) ≡ count_by is_legal_kind (map k xs)
 found_counts h k same [] = refl
-found_counts h k same (x ∷ xs) =
-    let others = found_counts h k same xs in
-    let more = sum_by-cons (λ y. cond (is_legal_kind y) 1 0) (k x) (map k xs) in
-    cc (first_apart (h x) (filter_map h xs), same x)
-  where
-    first_apart : (o : Option Played) (ys : List Played) → length (cons_option o ys) ≡ length (cons_option o []) + length ys
-    first_apart o ys = grind arith
+found_counts h k same (x ∷ xs) = grind (arith, sum_by-cons (λ y. cond (is_legal_kind y) 1 0) (k x) (map k xs), same x, found_counts h k same xs)
 
 module _ (p : Parts) (f : Form) where
   abbrev move_at : Square → Option Played

@@ -69,11 +69,7 @@ target_spelled s to h = by_bytes (file_of (last_byte (front s))) (rank_of (last_
 -- what is found passes the test
 found : {X : Type 0} (p : X → Bool) (xs : List X) (x : X) → find p xs ≡ Some x → p x ≡ true
 found p [] x h = cc
-found {X} p (y ∷ xs) x h = by_test (p y) refl (found p xs x) h
-  where
-    by_test : (b : Bool) → p y ≡ b → (find p xs ≡ Some x → p x ≡ true) → (if b then Some y else find p xs) ≡ Some x → p x ≡ true
-    by_test true e more g = cc
-    by_test false e more g = more g
+found p (y ∷ xs) x h = grind (arith, found p xs x)
 
 promotion_byte : (c : ℕ) (q : Promotion) → promotion_of c ≡ Some q → c ≡ promotion_letter q
 promotion_byte c q h = sym (eqb-true (promotion_letter q) c (found (λ p. promotion_letter p == c) promotions q h))

@@ -1,5 +1,5 @@
 -- Lists of what is found, and the only element of one.
-use Rattle.chess_text.proofs.Words.{◌≡◌, ◌⊎◌, inl, inr, ℕ, zero, suc, ◌+◌, ◌<◌, ◌≤◌, Bool, true, false, cond, List, [], ◌∷◌, ◌++◌, map, length, take, drop, get_or, append-nil, Option, None, Some, refl, sym, ◌∙◌, ap, ap₂, arith, Ok, Err, sum_by, option_to_list, ok_or, filter, filter_map, cons_option, Contains, IsPermutation, get_or-map, length-map, take_more, take_all, take-append-drop, sum_by-cons, filter_map-append, Contains-permutation, sum_by-IsPermutation, Played, NoMove, Ambiguous, only}
+use Rattle.chess_text.proofs.Words.{◌≡◌, ◌⊎◌, inl, inr, ℕ, zero, suc, ◌+◌, ◌<◌, ◌≤◌, Bool, true, false, List, [], ◌∷◌, ◌++◌, map, length, take, drop, get_or, append-nil, Option, None, Some, refl, sym, ◌∙◌, ap, ap₂, arith, Ok, Err, sum_by, option_to_list, ok_or, filter, filter_map, cons_option, Contains, IsPermutation, get_or-map, length-map, take_more, take_all, take-append-drop, sum_by-cons, filter_map-append, Contains-permutation, sum_by-IsPermutation, Played, NoMove, Ambiguous, only}
 use Rattle.std.specs.Option.{is_some}
 
 -- Elements.
@@ -78,11 +78,7 @@ count_found h x = length (cons_option (h x) [])
 
 pub length-found : {X Y : Type 0} (h : X → Option Y) (xs : List X) → length (filter_map h xs) ≡ sum_by (count_found h) xs
 length-found h [] = refl
-length-found {X} {Y} h (x ∷ xs) = by_found _ (length-found h xs) ∙ sym (sum_by-cons _ x xs)
-  where
-    by_found : (o : Option Y) → length (filter_map h xs) ≡ sum_by (count_found h) xs → length (cons_option o (filter_map h xs)) ≡ length (cons_option o []) + sum_by (count_found h) xs
-    by_found None e = omega arith
-    by_found (Some y) e = omega arith
+length-found h (x ∷ xs) = grind (arith, sum_by-cons (count_found h) x xs, length-found h xs)
 
 pub filter_map-map : {X Y Z : Type 0} (h : Y → Option Z) (f : X → Y) (xs : List X) → filter_map h (map f xs) ≡ filter_map (λ x. h (f x)) xs
 filter_map-map h f [] = refl
@@ -91,11 +87,7 @@ filter_map-map {X} {Y} {Z} h f (x ∷ xs) = cc (filter_map-map h f xs)
 -- a filter that loses nothing
 pub filter_map-filter : {X Y : Type 0} (h : X → Option Y) (c : X → Bool) → ((x : X) → c x ≡ false → h x ≡ None) → (xs : List X) → filter_map h (filter c xs) ≡ filter_map h xs
 filter_map-filter h c lost [] = refl
-filter_map-filter {X} {Y} h c lost (x ∷ xs) = by_test _ refl (filter_map-filter h c lost xs)
-  where
-    by_test : (b : Bool) → c x ≡ b → filter_map h (filter c xs) ≡ filter_map h xs → filter_map h (cond b (x ∷ filter c xs) (filter c xs)) ≡ filter_map h (x ∷ xs)
-    by_test true e rest = cc
-    by_test false e rest = cc (lost x e)
+filter_map-filter h c lost (x ∷ xs) = grind (arith, lost, filter_map-filter h c lost xs)
 
 -- The only element.
 
@@ -153,12 +145,7 @@ module _ {X : Type 0} (h : X → Option Played) (xs : List X) (i : ℕ) (found :
           sym (only_two h xs (i + 1) x y (found_more h xs i d o low is ∙ ap₂ (λ (ys : List Played) (p : Option Played). ys ++ cons_option p []) g some))
 
   pub not_at_once : is_some found ≡ true → 1 ≤ i
-  not_at_once one = by_count i found one so_far
-    where
-      by_count : (n : ℕ) (f : Option Played) → is_some f ≡ true → filter_map h (take n xs) ≡ option_to_list f → 1 ≤ n
-      by_count (suc n) f e g = omega arith
-      by_count zero None e g = cc
-      by_count zero (Some x) e g = cc
+  not_at_once one = grind arith
 
   pub at_the_end : length xs ≤ i → ok_or found NoMove ≡ only (filter_map h xs)
   at_the_end all =

@@ -1,5 +1,5 @@
 -- What the bytes of a rank stand for.
-use Rattle.chess_text.proofs.Words.{◌≡◌, ℕ, ◌+◌, ◌-◌, ◌<◌, ◌≤◌, Bool, true, false, ◌&&◌, ◌==◌, nat_le, List, [], ◌∷◌, length, get_or, take, replicate, refl, sym, ◌∙◌, ap, arith, Option, None, Some, Result, Ok, Err, is_ok, if◌then◌else◌, OnOk, nat_tests, list_all, take-replicate, list_all_at, length-flat_map-take, Piece, is_run, is_item, cells_at, cells_of, is_rank, and_right}
+use Rattle.chess_text.proofs.Words.{◌≡◌, ℕ, ◌+◌, ◌-◌, ◌<◌, ◌≤◌, Bool, true, false, ◌&&◌, ◌==◌, nat_le, List, [], ◌∷◌, length, get_or, take, replicate, refl, sym, ◌∙◌, arith, Option, None, Some, Result, Ok, Err, is_ok, if◌then◌else◌, OnOk, nat_tests, take-replicate, list_all_at, length-flat_map-take, Piece, is_run, is_item, cells_at, cells_of, is_rank}
 use Rattle.std.specs.Bool.{OnTrue}
 
 pub on_true_from_ok : {T E P Q : Type 0} (r : Result T E) (b : Bool) → b ≡ is_ok r → OnOk r P → (P → Q) → OnTrue b Q
@@ -23,12 +23,10 @@ too_many m n h le = grind (arith, nat_tests)
 pub no_rank : (s : List ℕ) (i : ℕ) → i < length s
     → (is_item (get_or s i 0) && nat_le (length (cells_of (take i s)) + length (cells_at (get_or s i 0))) 8) ≡ false
     → is_rank s ≡ false
-no_rank s i h test = by_item _ refl
-  where
-    by_item : (b : Bool) → is_item (get_or s i 0) ≡ b → is_rank s ≡ false
-    by_item false e = cc (list_all_at is_item s i 0 h e)
-    by_item true e =
-        cc (and_right (list_all is_item s) (length (cells_of s) == 8) (too_many (length (cells_of (take i s)) + length (cells_at (get_or s i 0))) (length (cells_of s)) (sym (ap (λ b. b && nat_le (length (cells_of (take i s)) + length (cells_at (get_or s i 0))) 8) e) ∙ test) (length-flat_map-take cells_at s i 0 h)))
+no_rank s i h test =
+    let fails = list_all_at is_item s i 0 h in
+    let long = length-flat_map-take cells_at s i 0 h in
+    grind (arith, nat_tests)
 
 pub no_cells : (s : List ℕ) → is_rank s ≡ false → None ≡ (if is_rank s then Some (cells_of s) else None)
 no_cells s h = rw h refl

@@ -1,6 +1,6 @@
 -- No text of a position is shorter than the canonical one.
 use Rattle.std.proofs.Math.Seq.{take-append_seam}
-use Rattle.chess_text.proofs.Words.{◌≡◌, ℕ, zero, suc, ◌+◌, ◌-◌, ◌≤◌, ◌==◌, Bool, true, false, List, [], ◌∷◌, ◌++◌, length, reverse, map, replicate, refl, sym, ◌∙◌, ap, arith, length-append, Option, None, Some, decimal, flat_map, list_all, join_with_byte, false≢true, and_parts, nat_tests, is_digit, length-decimal-le, append_cancel_left, reverse-append, reverse-reverse, length-reverse, map-append, list_all-append, digits_value_short, Piece, Parts, lines, Board, piece_letter, piece_of, is_run, is_item, is_rank, cells_of, run_text, rank_text, row, placement_text, side_text, rights_text, target_text, SpellsBoard, SpellsNumber, Fen, fen_text}
+use Rattle.chess_text.proofs.Words.{◌≡◌, ℕ, zero, suc, ◌+◌, ◌≤◌, ◌==◌, true, List, [], ◌∷◌, ◌++◌, length, reverse, map, replicate, refl, sym, ◌∙◌, ap, arith, length-append, None, decimal, flat_map, list_all, join_with_byte, and_parts, nat_tests, is_digit, length-decimal-le, append_cancel_left, reverse-append, reverse-reverse, length-reverse, map-append, list_all-append, digits_value_short, Parts, lines, Board, is_item, is_rank, cells_of, run_text, rank_text, row, placement_text, side_text, rights_text, target_text, SpellsBoard, SpellsNumber, Fen, fen_text}
 use Rattle.chess_text.proofs.positions.BoardToText.{run_is_short}
 use Rattle.chess_text.proofs.positions.BytesOfRank.{cells_at-run}
 use Rattle.chess_text.proofs.positions.TextToBoard.{eight_cells}
@@ -18,20 +18,8 @@ run_on (suc k) n cells = let same : n + 1 + k ≡ n + suc k = omega arith in cc 
 rank_is_short : (s : List ℕ) (n : ℕ) → list_all is_item s ≡ true → length (rank_text n (cells_of s)) ≤ length (run_text n) + length s
 rank_is_short [] n h = omega arith
 rank_is_short (c ∷ s) n h =
-    by_item _ _ refl refl (first_of_two _ _ h) (λ m. rank_is_short s m (second_of_two _ _ h))
-  where
-    by_item : (run : Bool) (piece : Option Piece) → is_run c ≡ run → piece_of c ≡ piece → is_item c ≡ true
-        → ((m : ℕ) → length (rank_text m (cells_of s)) ≤ length (run_text m) + length s)
-        → length (rank_text n (cells_of (c ∷ s))) ≤ length (run_text n) + length (c ∷ s)
-    by_item true piece e f item more =
-        let longer =
-        ap (λ b. rank_text n (b ++ cells_of s)) (cells_at-run c e) ∙ run_on (c - 48) n (cells_of s) in
-        omega (arith, ap length longer, more (n + (c - 48)), run_is_short (n + (c - 48)))
-    by_item false (Some x) e f item more =
-        let letter : rank_text n (cells_of (c ∷ s)) ≡ run_text n ++ piece_letter x ∷ rank_text 0 (cells_of s) = rw (e, f) refl in
-        omega (arith, ap length letter, length-append {A = ℕ}, more 0)
-    by_item false None e f item more =
-        let none : is_item c ≡ false = rw (e, f) refl in absurd (false≢true (sym none ∙ item))
+    let both = and_parts (is_item c) (list_all is_item s) h in
+    grind (arith, nat_tests, cells_at-run, run_on, run_is_short, length-append, rank_is_short s)
 
 -- A board.
 

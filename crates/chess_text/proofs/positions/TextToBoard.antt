@@ -10,14 +10,7 @@ onto_first-append x (part ∷ a) b h = refl
 pub slice_split-around : {X : Type 0} (p : X → Bool) (xs : List X) (y : X) (ys : List X) → p y ≡ true
     → slice_split p (xs ++ y ∷ ys) ≡ slice_split p xs ++ slice_split p ys
 slice_split-around p [] y ys h = slice_split-cons_yes p y ys h
-slice_split-around {X} p (x ∷ xs) y ys h = by_test _ (slice_split-around p xs y ys h) refl
-  where
-    by_test : (b : Bool) → slice_split p (xs ++ y ∷ ys) ≡ slice_split p xs ++ slice_split p ys → p x ≡ b
-        → slice_split p (x ∷ (xs ++ y ∷ ys)) ≡ slice_split p (x ∷ xs) ++ slice_split p ys
-    by_test true within e =
-        cc (slice_split-cons_yes p x _ e, slice_split-cons_yes p x xs e)
-    by_test false within e =
-        cc (slice_split-cons_no p x (xs ++ y ∷ ys) e, onto_first-append x (slice_split p xs) (slice_split p ys) (omega (arith, length-slice_split p xs)), slice_split-cons_no p x xs e)
+slice_split-around p (x ∷ xs) y ys h = grind (arith, slice_split-cons_yes, slice_split-cons_no, length-slice_split, onto_first-append, slice_split-around p xs y ys h)
 
 -- the ranks of a text, where its last one begins at the byte n
 pub ranks_cut : (n : ℕ) (s : List ℕ) → 0 < n → n ≤ length s → get_or s (n - 1) 0 ≡ 47 → ranks (drop n s) ≡ drop n s ∷ []
