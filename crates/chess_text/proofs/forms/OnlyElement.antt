@@ -31,11 +31,8 @@ of_map f [] y c = absurd (none_in y c)
 of_map {X} {Y} f (x ∷ xs) y c =
     elim (element _ y _ c) [
       | inl is ↦ record { at = x; among = here x xs; gives = is }
-      | inr more ↦ further (of_map f xs y more)
+      | inr more ↦ let g = of_map f xs y more in record { at = g.at; among = later x g.at xs g.among; gives = g.gives }
     ]
-  where
-    further : MapsTo f xs y → MapsTo f (x ∷ xs) y
-    further g = record { at = g.at; among = later x g.at xs g.among; gives = g.gives }
 
 -- What is found.
 

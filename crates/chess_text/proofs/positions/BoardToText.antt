@@ -1,5 +1,5 @@
 -- The canonical text of a board, rank by rank.
-use Rattle.chess_text.proofs.Words.{◌≡◌, ℕ, zero, suc, ◌+◌, ◌-◌, ◌*◌, ◌<◌, ◌≤◌, List, [], ◌∷◌, ◌++◌, length, append_assoc, append-nil, sym, ◌∙◌, ap, arith, length-append, Board, rank_text, row, placement_text, ◌==◌, false, drop, refl, None, Some, nat_tests, at, square, run_text}
+use Rattle.chess_text.proofs.Words.{◌≡◌, ℕ, zero, suc, ◌+◌, ◌-◌, ◌*◌, ◌<◌, ◌≤◌, List, [], ◌∷◌, ◌++◌, length, append_assoc, append-nil, ap, arith, length-append, Board, rank_text, row, placement_text, ◌==◌, false, drop, refl, None, Some, nat_tests, at, square, run_text}
 
 -- the squares of a rank from a file on
 pub drop-row : (b : Board) (rank file : ℕ) → file < 8 → drop file (row b rank) ≡ at b (square file rank) ∷ drop (file + 1) (row b rank)
@@ -59,13 +59,10 @@ next_rank b text slash new i so_far h e f =
     let one_less : 7 - i ≡ suc (6 - i) = omega arith in
     let same : 6 - i ≡ 7 - (i + 1) = omega arith in
     record {
-      whole =
-          ap (λ t. t ++ lower b (7 - (i + 1))) (f ∙ ap (λ t. t ++ rank) e)
-          ∙ append_assoc (text ++ 47 ∷ []) rank _ ∙ append_assoc text (47 ∷ []) _
-          ∙ ap (λ t. text ++ t) (sym (ap (λ n. lower b n) one_less ∙ ap (λ n. 47 ∷ (rank ++ lower b n)) same)) ∙ so_far.whole;
+      whole = cc (ap (lower b) one_less, append_assoc (text ++ 47 ∷ []) rank (lower b (7 - (i + 1))), append_assoc text (47 ∷ []) (rank ++ lower b (7 - (i + 1))));
       short = omega (arith, ap length f, ap length e, length-append {A = ℕ}, length-rank_text 0 (row b (6 - i)));
     }
 
 pub last_rank_written : (b : Board) (text : List ℕ) (i : ℕ) → WrittenTo b text i → 7 ≤ i → text ≡ placement_text b
 last_rank_written b text i so_far h =
-    let none : 7 - i ≡ 0 = omega arith in sym (append-nil text) ∙ ap (λ n. text ++ lower b n) (sym none) ∙ so_far.whole
+    let none : 7 - i ≡ 0 = omega arith in cc (ap (lower b) none, append-nil text)

@@ -27,10 +27,7 @@ run_stands (suc n) h =
     let some : (suc n == 0) ≡ false = grind (arith, nat_tests) in
     let run = digit_runs _ (omega arith) h in
     let same : 48 + suc n - 48 ≡ suc n = omega arith in
-    record {
-      items = rw some (rw run refl);
-      cells = rw some (rw run (append-nil _ ∙ ap (λ k. replicate k None) same));
-    }
+    record { items = rw some (rw run refl); cells = rw some (rw run (append-nil _ ∙ ap (λ k. replicate k None) same)) }
 
 -- the text of the squares that follow a run of n empty ones spells the run and the squares
 record RankStands (n : ℕ) (cells : Board) : Type 0 where
@@ -43,23 +40,12 @@ rank_stands n [] h =
     record { items = run.items; spelled = run.cells ∙ sym (append-nil _) }
 rank_stands n (None ∷ cells) h =
     let more = rank_stands _ cells (omega arith) in
-    record {
-      items = more.items;
-      spelled =
-          more.spelled ∙ ap (λ b. b ++ cells) (sym (replicate_more n None)) ∙ append_assoc _ (None ∷ []) cells;
-    }
+    record { items = more.items; spelled = more.spelled ∙ ap (λ b. b ++ cells) (sym (replicate_more n None)) ∙ append_assoc _ (None ∷ []) cells }
 rank_stands n (Some x ∷ cells) h =
     let run = run_stands n (omega arith) in
     let letter = letter_stands x.colour x.kind in
     let more = rank_stands 0 cells (omega arith) in
-    record {
-      items =
-          list_all-append is_item (run_text n) (piece_letter x ∷ rank_text 0 cells)
-          ∙ ap₂ (λ a b. a && b) run.items (ap₂ (λ a b. a && b) letter.item more.items);
-      spelled =
-          flat_map-append cells_at (run_text n) (piece_letter x ∷ rank_text 0 cells)
-          ∙ ap₂ (λ (a b : Board). a ++ b) run.cells (ap₂ (λ (a b : Board). a ++ b) letter.cells more.spelled);
-    }
+    grind (arith, list_all-append, flat_map-append)
 
 pub rank_spelled : (cells : Board) → length cells ≡ 8 → cells_of (rank_text 0 cells) ≡ cells
 rank_spelled cells h = (rank_stands 0 cells (omega arith)).spelled

@@ -1,5 +1,5 @@
 -- The laws of the definitions of texts.
-use Rattle.chess_text.proofs.Words.{◌≡◌, ℕ, ◌+◌, ◌-◌, ◌==◌, nat_le, ◌&&◌, Bool, true, false, List, [], ◌∷◌, sym, ◌∙◌, ap, arith, inl, inr, or_cases, and_parts, cond_some, nat_tests, Option, None, Some, Ok, Err, is_some, if◌then◌else◌, prefix_len, Colour, Rights, Parts, White, Black, Square, square, Board, target_fits, target_rank, FenFault, side_of, rights_of, target_of, is_target, at_field, parts_or_fault, if_position, ReadingIsSpelling, FenOnce, FaultIsLowest, CanonicalSpells, CanonicalFits, CanonicalIsShortest, FieldsAreSpellings}
+use Rattle.chess_text.proofs.Words.{◌≡◌, ℕ, ◌+◌, ◌-◌, ◌==◌, nat_le, ◌&&◌, true, List, [], ◌∷◌, sym, ◌∙◌, ap, arith, inl, inr, or_cases, and_parts, cond_some, nat_tests, Option, None, Some, Err, is_some, prefix_len, Colour, Rights, White, Black, Square, square, Board, target_fits, target_rank, FenFault, side_of, rights_of, target_of, is_target, at_field, parts_or_fault, if_position, ReadingIsSpelling, FenOnce, FaultIsLowest, CanonicalSpells, CanonicalFits, CanonicalIsShortest, FieldsAreSpellings}
 use Rattle.chess_text.proofs.positions.SixFieldsJoined.{length-fen_text}
 use Rattle.chess_text.proofs.positions.SpellingToReading.{spelled_is_read, board_read, side_read, rights_read, target_read, number_read}
 use Rattle.chess_text.proofs.positions.ReadingToSpelling.{read_is_spelled, board_spelled, side_spelled, rights_spelled, target_spelled, number_spelled}
@@ -18,18 +18,7 @@ answered k fault h = let same : fault ≡ record { field = k } = cc in cc
 lowest_of : (b : Option Board) (c : Option Colour) (r : Option Rights) (t : Option (Option Square)) (m n : Option ℕ) (fault : FenFault)
     → if_position (parts_or_fault b c r t m n) ≡ Err fault
     → fault.field ≡ prefix_len (λ x. x) (is_some b ∷ is_some c ∷ is_some r ∷ is_some t ∷ is_some m ∷ is_some n ∷ []) + 1
-lowest_of None c r t m n fault h = answered 1 fault h
-lowest_of (Some b) None r t m n fault h = answered 2 fault h
-lowest_of (Some b) (Some c) None t m n fault h = answered 3 fault h
-lowest_of (Some b) (Some c) (Some r) None m n fault h = answered 4 fault h
-lowest_of (Some b) (Some c) (Some r) (Some t) None n fault h = answered 5 fault h
-lowest_of (Some b) (Some c) (Some r) (Some t) (Some m) None fault h = answered 6 fault h
-lowest_of (Some b) (Some c) (Some r) (Some t) (Some m) (Some n) fault h =
-    by_test _ _ h
-  where
-    by_test : (p : Parts) (good : Bool) → (if good then Ok p else at_field 7) ≡ Err fault → fault.field ≡ 7
-    by_test p true g = cc
-    by_test p false g = answered 7 fault g
+lowest_of b c r t m n fault h = grind arith
 
 pub lowest : FaultIsLowest
 lowest s fault h = lowest_of _ _ _ _ _ _ fault h

@@ -38,12 +38,7 @@ pub five_written : (p : Parts) (board side rights target half : List ℕ)
     → board ≡ placement_text p.board → side ≡ board ++ 32 ∷ side_text p.side → rights ≡ side ++ 32 ∷ rights_text p.rights
     → target ≡ rights ++ 32 ∷ target_text p.target → half ≡ target ++ 32 ∷ decimal p.half → FiveWritten p half
 five_written p board side rights target half e f g h i =
-    record {
-      whole =
-          i ∙ ap (λ t. t ++ 32 ∷ decimal p.half)
-          (h ∙ ap (λ t. t ++ 32 ∷ target_text p.target)
-          (g ∙ ap (λ t. t ++ 32 ∷ rights_text p.rights) (f ∙ ap (λ t. t ++ 32 ∷ side_text p.side) e)));
-    }
+    record { whole = cc }
 
 pub length-five : (p : Parts) (text : List ℕ) → FiveWritten p text → p.half ≤ 99999 → length text ≤ 87
 length-five p text five h =
