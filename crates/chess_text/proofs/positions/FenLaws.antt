@@ -1,10 +1,9 @@
 -- The laws of the definitions of texts.
-use Rattle.chess_text.proofs.Words.{◌≡◌, ℕ, ◌+◌, ◌-◌, ◌==◌, nat_le, ◌&&◌, true, List, [], ◌∷◌, sym, ◌∙◌, ap, arith, inl, inr, or_cases, and_parts, cond_some, nat_tests, Option, None, Some, Err, is_some, prefix_len, Colour, Rights, White, Black, Square, square, Board, target_fits, target_rank, FenFault, side_of, rights_of, target_of, is_target, at_field, parts_or_fault, if_position, ReadingIsSpelling, FenOnce, FaultIsLowest, CanonicalSpells, CanonicalFits, CanonicalIsShortest, FieldsAreSpellings}
+use Rattle.chess_text.proofs.Words.{◌≡◌, ℕ, ◌+◌, ◌-◌, ◌==◌, nat_le, ◌&&◌, true, List, [], ◌∷◌, sym, ◌∙◌, ap, arith, inl, inr, or_cases, and_parts, cond_some, nat_tests, Option, None, Some, Err, is_some, prefix_len, Colour, Rights, White, Black, Square, square, Board, target_fits, target_rank, FenFault, side_of, rights_of, target_of, is_target, at_field, parts_or_fault, if_position, ReadingIsSpelling, FenOnce, FaultIsLowest, CanonicalFits, FieldsAreSpellings}
 use Rattle.chess_text.proofs.positions.SixFieldsJoined.{length-fen_text}
 use Rattle.chess_text.proofs.positions.SpellingToReading.{spelled_is_read, board_read, side_read, rights_read, target_read, number_read}
 use Rattle.chess_text.proofs.positions.ReadingToSpelling.{read_is_spelled, board_spelled, side_spelled, rights_spelled, target_spelled, number_spelled}
-use Rattle.chess_text.proofs.positions.CanonicalIsShortest.{shortest}
-use Rattle.chess_text.proofs.positions.CanonicalSpells.{canonical_spells, half_low, full_low}
+use Rattle.chess_text.proofs.positions.CanonicalSpells.{half_low, full_low}
 
 pub reading_is_spelling : ReadingIsSpelling
 reading_is_spelling s p = (spelled_is_read s p, read_is_spelled s p)
@@ -23,14 +22,8 @@ lowest_of b c r t m n fault h = grind arith
 pub lowest : FaultIsLowest
 lowest s fault h = lowest_of _ _ _ _ _ _ fault h
 
-pub canonical : CanonicalSpells
-canonical p h = canonical_spells p h
-
 pub fits : CanonicalFits
 fits p h = length-fen_text p (half_low p h) (full_low p h)
-
-pub is_shortest : CanonicalIsShortest
-is_shortest s p fen = shortest s p fen
 
 -- a square that is read lies where some side's target may lie
 fits_on : (c : Colour) (file rank : ℕ) → is_target file rank ≡ true → (rank == 49 + target_rank c) ≡ true → target_fits c (Some (square (file - 97) (rank - 49))) ≡ true

@@ -1,5 +1,5 @@
-use Rattle.chess_text.proofs.positions.FenLaws.{is_shortest}
+use Rattle.chess_text.proofs.positions.CanonicalIsShortest.{shortest}
 use Rattle.chess_text.proofs.laws.canonical_text_is_shortest.Goals as goal
 
 pub returns : goal.returns
-returns c = is_shortest
+returns c = shortest
