@@ -133,15 +133,13 @@ record Tells (b : Bool) (p : Parts) (m : Move) (x : Played) : Type 0 where
   same : x.mv ≡ m
   after : legal p m ≡ Some x.next
 
+told_next : (m : Move) (o : Option Parts) (x : Played) → with_next m o ≡ Some x → (x.mv ≡ m) × (o ≡ Some x.next)
+told_next m None x h = absurd (cc)
+told_next m (Some q) x h = let is : record { mv = m; next = q } ≡ x = cc in (cc, ap (λ (y : Played). Some y.next) is)
+
 tells : (b : Bool) (p : Parts) (m : Move) (x : Played) → played b p m ≡ Some x → Tells b p m x
 tells false p m x h = cc
-tells true p m x h = by_next (legal p m) refl h
-  where
-    by_next : (o : Option Parts) → legal p m ≡ o → with_next m o ≡ Some x → Tells true p m x
-    by_next None e g = cc
-    by_next (Some q) e g =
-        let is : record { mv = m; next = q } ≡ x = cc in
-        record { says = refl; same = cc; after = e ∙ ap (λ (y : Played). Some y.next) is }
+tells true p m x h = let (same, after) = told_next m (legal p m) x h in record { says = refl; same = same; after = after }
 
 -- each move that is found agrees, and the position after it is with it
 pub record Agrees (p : Parts) (f : Form) (x : Played) : Type 0 where

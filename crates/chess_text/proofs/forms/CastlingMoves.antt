@@ -57,8 +57,7 @@ pub legal_is_step : (p : Parts) (m : Move) → is_legal p m ≡ true → is_some
 legal_is_step p m h = by_step _ h
   where
     by_step : (o : Option Parts) → is_some (if_safe o) ≡ true → is_some o ≡ true
-    by_step None g = g
-    by_step (Some q) g = refl
+    by_step o g = grind arith
 
 pub stepped : (p : Parts) (m : Move) → is_legal p m ≡ true → Stepped p m
 stepped p m h = way_of_step p m (legal_is_step p m h)

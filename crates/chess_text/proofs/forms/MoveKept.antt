@@ -1,5 +1,6 @@
 -- The move that a search has kept, with the position after it.
 use Rattle.chess_text.proofs.Words.{◌≡◌, Bool, true, false, ◌&&◌, refl, ap, Option, None, Some, is_some, and_parts, Move, Parts, legal, is_legal, Played, with_next, played, arith}
+use Rattle.chess_text.proofs.forms.CastlingForms.{legal_next}
 
 abbrev pub with_position : Parts → Option Move → Option Played
 with_position p None = None
@@ -19,11 +20,7 @@ kept_is_some p (Some m) h = some_next m _ h
 
 -- a legal move has a position after it
 pub kept_next : (p : Parts) (m : Move) → is_legal p m ≡ true → (x : Played) × (with_next m (legal p m) ≡ Some x)
-kept_next p m h = by_next _ h
-  where
-    by_next : (o : Option Parts) → is_some o ≡ true → (x : Played) × (with_next m o ≡ Some x)
-    by_next None g = cc
-    by_next (Some q) g = (record { mv = m; next = q }, refl)
+kept_next p m h = let (q, leads) = legal_next (legal p m) h in (record { mv = m; next = q }, ap (with_next m) leads)
 
 -- what is found from a move is it with that position, if it is legal and fits, and else nothing
 pub fitting_is_played : (p : Parts) (m : Move) (fits : Bool) → (is_legal p m && fits) ≡ true → played fits p m ≡ with_next m (legal p m)
@@ -34,5 +31,4 @@ other_is_not_played p m false h = refl
 other_is_not_played p m true h = by_next _ h
   where
     by_next : (o : Option Parts) → (is_some o && true) ≡ false → with_next m o ≡ None
-    by_next None g = refl
-    by_next (Some q) g = cc
+    by_next o g = grind arith

@@ -1,5 +1,6 @@
 -- The rivals of a move, found among the candidates for its target.
-use Rattle.chess_text.proofs.Words.{◌≡◌, ℕ, ◌+◌, ◌<◌, ◌≤◌, Bool, true, false, cond, ◌&&◌, ◌||◌, List, [], ◌∷◌, length, take, get_or, refl, sym, ◌∙◌, ap, ◌==◌, Option, None, Some, is_some, list_any, IsPermutation, and_parts, take_all, list_any_more, list_any-IsPermutation, Kind, Move, Parts, Square, squares, own, legal, sees, candidates, CandidatesComplete, from_square, is_rival, rivals, on_file, on_rank, disambiguation_by, disambiguation, arith, inl, inr, not, and_from, or_cases, IsPermutation-refl, same_square, is_legal, is_candidate}
+use Rattle.chess_text.proofs.Words.{◌≡◌, ℕ, ◌+◌, ◌<◌, ◌≤◌, Bool, true, false, cond, ◌&&◌, ◌||◌, List, [], ◌∷◌, length, take, get_or, refl, sym, ◌∙◌, ap, ◌==◌, list_any, IsPermutation, and_parts, take_all, list_any_more, list_any-IsPermutation, Kind, Move, Parts, Square, squares, own, legal, sees, candidates, CandidatesComplete, from_square, is_rival, rivals, on_file, on_rank, disambiguation_by, disambiguation, arith, inl, inr, not, and_from, or_cases, IsPermutation-refl, same_square, is_legal, is_candidate}
+use Rattle.chess_text.proofs.forms.CastlingForms.{legal_next}
 use Rattle.std.specs.Prelude.{filter}
 use Rattle.chess_text.proofs.forms.CastlingMoves.{stepped, squares_same}
 use Rattle.chess_text.proofs.forms.AgreeingAreFound.{in_squares, any_contained}
@@ -21,11 +22,8 @@ seen p m test xs = list_any (λ s. is_rival p m s && test s) xs
 
 -- a rival is a candidate
 rival_sees : CandidatesComplete → (p : Parts) (k : Kind) (m : Move) (s : Square) → own p k s ≡ true → is_rival p m s ≡ true → sees k p s m.to ≡ true
-rival_sees complete p k m s h g = by_legal _ refl (and_parts _ _ g).1
-  where
-    by_legal : (o : Option Parts) → legal p (from_square m s) ≡ o → is_some o ≡ true → sees k p s m.to ≡ true
-    by_legal None e f = cc
-    by_legal (Some q) e f = (and_parts (own p k s) (sees k p s m.to) (complete p q _ k e h)).1
+rival_sees complete p k m s h g =
+    let (q, leads) = legal_next (legal p (from_square m s)) (and_parts _ _ g).1 in (and_parts (own p k s) (sees k p s m.to) (complete p q _ k leads h)).1
 
 same_test : (o g r t : Bool) → (o ≡ true → r ≡ true → g ≡ true) → ((o && g) && (r && t)) ≡ ((o && r) && t)
 same_test o g r t h = grind arith
@@ -83,11 +81,7 @@ only_one s (x ∷ y ∷ ys) few h = absurd (omega arith)
 
 module _ (complete : CandidatesComplete) (p : Parts) (k : Kind) (m : Move) (allowed : is_legal p m ≡ true) (stands : own p k m.from ≡ true) (few : length (candidates p k m.to) ≤ 1) where
   own_candidate : is_candidate p k m.to m.from ≡ true
-  own_candidate = by_legal _ refl allowed
-    where
-      by_legal : (o : Option Parts) → legal p m ≡ o → is_some o ≡ true → is_candidate p k m.to m.from ≡ true
-      by_legal None e h = cc
-      by_legal (Some q) e h = complete p q m k e stands
+  own_candidate = let (q, leads) = legal_next (legal p m) allowed in complete p q m k leads stands
 
   pub lone_candidate : candidates p k m.to ≡ m.from ∷ []
   lone_candidate =

@@ -171,7 +171,7 @@ king_described p m h stands = by_wing _ _ refl refl
     by_wing : (a b : Bool) → castles_short p m ≡ a → castles_long p m ≡ b → describes p (king_form_by a b m) m ≡ true
     by_wing true b e g = e
     by_wing false true e g = g
-    by_wing false false e g = piece_move_described p m King None None None stands refl (unpromoted p m King h stands refl) (ap₂ (λ a b. a || b) e g)
+    by_wing false false e g = piece_move_described p m King None None None stands refl (unpromoted p m King h stands refl) (ap₂ ◌||◌ e g)
 
 pawn_described : (p : Parts) (m : Move) (takes : Bool) → own p Pawn m.from ≡ true → describes p (pawn_form_by takes m) m ≡ true
 pawn_described p m true stands = piece_move_described p m Pawn (Some m.from.file) None _ stands (and_from _ true (itself _) refl) refl (no_castling p m Pawn stands refl)

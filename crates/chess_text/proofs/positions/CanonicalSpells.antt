@@ -101,7 +101,7 @@ number_spelled : (n : ℕ) → n ≤ 99999 → SpellsNumber (decimal n) n
 number_spelled n h =
     let fits : n < 2 ^ 64 = omega arith in
     record {
-      digits_alone = ap₂ (λ a b. a && b) (digits_decimal numerals n fits) (in_range (length (decimal n)) (decimal_nonempty n fits) (length-number n h));
+      digits_alone = ap₂ ◌&&◌ (digits_decimal numerals n fits) (in_range (length (decimal n)) (decimal_nonempty n fits) (length-number n h));
       number = sym (digits_value-decimal numerals n fits);
     }
 

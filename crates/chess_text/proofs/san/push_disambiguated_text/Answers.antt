@@ -9,11 +9,11 @@ returns-clause-text c =
     let m = c.args.mv.now in
     let k = c.args.kind in
     c.push_square.ensures
-    ∙ ap₂ (λ (s t : List ℕ). s ++ t)
+    ∙ ap₂ ◌++◌
     (c.push_capture.ensures
-    ∙ ap₂ (λ (s t : List ℕ). s ++ t)
+    ∙ ap₂ ◌++◌
     (c.push_disambiguation.ensures.text
-    ∙ ap₂ (λ (s t : List ℕ). s ++ t)
+    ∙ ap₂ ◌++◌
     (c.push.ensures.items ∙ ap₂ (λ (s : List ℕ) d. s ++ d ∷ []) c.requires.empty c.letter.ensures.value)
     (apart_same m.from (rivals p k m) _ c.rivals_of-rivals.result.on_file c.rivals_of-rivals.result.on_rank
     c.rivals_of-rivals.ensures.any c.rivals_of-rivals.ensures.file c.rivals_of-rivals.ensures.rank))

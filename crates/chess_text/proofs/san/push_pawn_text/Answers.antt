@@ -1,4 +1,4 @@
-use Rattle.chess_text.proofs.Words.{ℕ, List, ◌++◌, refl, sym, ◌∙◌, ap, ap₂, pawn_capture}
+use Rattle.chess_text.proofs.Words.{◌++◌, refl, sym, ◌∙◌, ap, ap₂, pawn_capture}
 use Rattle.chess_text.proofs.forms.PawnWays.{pawn_takes}
 use Rattle.chess_text.proofs.san.push_pawn_text.Goals as goal
 
@@ -6,11 +6,11 @@ pub returns-clause-text : goal.returns-clause-text
 returns-clause-text c =
     let m = c.args.mv.now in
     c.push_promotion.ensures.text
-    ∙ ap₂ (λ (s t : List ℕ). s ++ t)
+    ∙ ap₂ ◌++◌
     (c.push_square.ensures
-    ∙ ap₂ (λ (s t : List ℕ). s ++ t)
+    ∙ ap₂ ◌++◌
     (c.push_pawn_capture.ensures.text
-    ∙ ap₂ (λ (s t : List ℕ). s ++ t) c.requires.empty
+    ∙ ap₂ ◌++◌ c.requires.empty
     (sym (ap (λ b. pawn_capture b m) (pawn_takes c.args.position.now m c.requires.pawn c.requires.legal))))
     refl)
     refl
