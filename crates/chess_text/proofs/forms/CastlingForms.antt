@@ -1,5 +1,5 @@
 -- What a form of castling names: the one move that is tried, or none.
-use Rattle.chess_text.proofs.Words.{◌≡◌, Bool, true, false, ◌||◌, [], refl, sym, ◌∙◌, ap, subst, arith, Option, None, Some, Ok, Err, is_some, cons_option, Move, Parts, Square, castles_short, castles_long, legal, is_legal, Castle, Played, NoMove, is_castling, describes, with_next_position, played, castling_move, agreeing, only, move_of_form}
+use Rattle.chess_text.proofs.Words.{◌≡◌, Bool, true, false, ◌||◌, [], refl, sym, ◌∙◌, ap, subst, arith, Option, None, Some, Ok, Err, is_some, cons_option, Move, Parts, Square, castles_short, castles_long, legal, is_legal, Castle, Played, NoMove, is_castling, describes, with_next_position, played, castling_move, agreeing, only, move_of_form, false_from_ne_true}
 use Rattle.chess_text.proofs.forms.CastlingMoves.{castles_ends}
 
 pub legal_next : (o : Option Parts) → is_some o ≡ true → (q : Parts) × (o ≡ Some q)
@@ -38,6 +38,10 @@ played_not b p m e = cc
 
 no_next : (o : Option Parts) → is_some o ≡ false → o ≡ None
 no_next o h = grind arith
+
+pub played_unless : (b : Bool) (p : Parts) (m : Move) → (b ≡ true → is_legal p m ≡ true → ⊥) → played b p m ≡ None
+played_unless false p m h = refl
+played_unless true p m h = played_none true p m (no_next (legal p m) (false_from_ne_true _ (h refl)))
 
 module _ (p : Parts) (long : Bool) (m : Move) (is : m ≡ castling_move p.side long) where
   answer_of : (o : Option Played) → played (describes p (Castle long) (castling_move p.side long)) p (castling_move p.side long) ≡ o → only (cons_option o []) ≡ move_of_form p (Castle long)

@@ -1,5 +1,5 @@
 -- A form that is read of a text is spelled by it.
-use Rattle.chess_text.proofs.Words.{◌≡◌, ℕ, ◌+◌, ◌-◌, ◌<◌, Bool, true, false, ◌&&◌, nat_lt, nat_le, ◌==◌, List, [], ◌∷◌, ◌++◌, append-nil, refl, sym, ap, arith, Option, None, Some, is_some, find, codes, if◌then◌else◌, list_all, eqb-true, cond_some, nat_tests, Kind, Pawn, Promotion, Square, square, on_board, Form, Castle, Man, letter, kinds, file_letter, rank_digit, square_text, SpellsBare, Spells, is_among, letter_texts, hint_text, capture_texts, promotion_letter, promotions, promotion_texts, castle_texts, is_mark, below_eight, is_form, last_byte, front, front_if, before_marks, file_of, rank_of, promotion_of, promotion_at_end, before_sign, before_promotion, square_of, target_at_end, before_capture, before_target, rank_at_end, before_rank, file_at_end, before_file, kind_of_text, piece_move_if, piece_move_of, castle_of, castle_or, bare_form, form_of, same_Some}
+use Rattle.chess_text.proofs.Words.{◌≡◌, ℕ, ◌+◌, ◌-◌, ◌<◌, Bool, true, false, ◌&&◌, nat_lt, nat_le, ◌==◌, List, [], ◌∷◌, ◌++◌, append-nil, refl, sym, ap, arith, Option, None, Some, is_some, find, codes, if◌then◌else◌, list_all, eqb-true, cond_some, nat_tests, Kind, Pawn, Promotion, Square, square, on_board, Form, Castle, Man, letter, kinds, file_letter, rank_digit, square_text, SpellsBare, Spells, is_among, letter_texts, hint_text, capture_texts, promotion_letter, promotions, promotion_texts, castle_texts, is_mark, below_eight, is_form, last_byte, front, front_if, before_marks, file_of, rank_of, promotion_of, promotion_at_end, before_sign, before_promotion, square_of, target_at_end, before_capture, before_target, rank_at_end, before_rank, file_at_end, before_file, kind_of_text, piece_move_if, piece_move_of, castle_of, castle_or, bare_form, form_of, same_Some, and_from}
 use Rattle.std.proofs.lemmas.List.{append_assoc}
 use Rattle.chess_text.proofs.forms.SpellingToForm.{snoc_again}
 
@@ -55,16 +55,15 @@ capture_spelled s = by_test (last_byte s == 120) refl
     by_test true e = record { text = codes "x"; joined = is_it s 120 e (omega arith); fits = refl }
     by_test false e = record { text = []; joined = sym (append-nil s); fits = refl }
 
+square_parts : (f r : Option ℕ) (to : Square) → square_of f r ≡ Some to → (f ≡ Some to.file) × (r ≡ Some to.rank)
+square_parts f r to h = grind arith
+
 pub target_spelled : (s : List ℕ) (to : Square) → target_at_end s ≡ Some to → (s ≡ front (front s) ++ square_text to) × (on_board to ≡ true)
-target_spelled s to h = by_bytes (file_of (last_byte (front s))) (rank_of (last_byte s)) refl refl h
-  where
-    by_bytes : (f r : Option ℕ) → file_of (last_byte (front s)) ≡ f → rank_of (last_byte s) ≡ r → square_of f r ≡ Some to → (s ≡ front (front s) ++ square_text to) × (on_board to ≡ true)
-    by_bytes (Some f) (Some r) e g h =
-        let same = same_Some (square f r) to h in
-        let file = file_byte (last_byte (front s)) f e in
-        let rank = rank_byte (last_byte s) r g in
-        (cc (ends_in s (49 + r) rank.0 (omega arith), ends_in (front s) (97 + f) file.0 (omega arith), append_assoc (front (front s)) ((97 + f) ∷ []) ((49 + r) ∷ [])), cc)
-    by_bytes f r e g h = cc
+target_spelled s to h =
+    let both = square_parts (file_of (last_byte (front s))) (rank_of (last_byte s)) to h in
+    let file = file_byte (last_byte (front s)) to.file both.0 in
+    let rank = rank_byte (last_byte s) to.rank both.1 in
+    (cc (ends_in s (49 + to.rank) rank.0 (omega arith), ends_in (front s) (97 + to.file) file.0 (omega arith), append_assoc (front (front s)) ((97 + to.file) ∷ []) ((49 + to.rank) ∷ [])), and_from _ _ file.1 rank.1)
 
 -- what is found passes the test
 found : {X : Type 0} (p : X → Bool) (xs : List X) (x : X) → find p xs ≡ Some x → p x ≡ true

@@ -1,6 +1,6 @@
 -- What a form of no castling names: all its moves come from candidates.
 use Rattle.chess_text.proofs.Words.{◌≡◌, ℕ, ◌<◌, Bool, true, false, ◌&&◌, List, get_or, refl, Option, None, Some, ◌==◌, length, filter_map, All, IsPermutation, both_ways, and_parts, and_from, eq-eqb, filter_passes, All-weaker, All-permutation, IsPermutation-sym, Kind, Promotion, Parts, Square, squares, same_square, own, legal, is_candidate, candidates, CandidatesComplete, Form, Man, Played, same_promotion, describes, played, move_from, agreeing, only, move_of_form, piece_move_fits, arith}
-use Rattle.chess_text.proofs.forms.CastlingForms.{played_none}
+use Rattle.chess_text.proofs.forms.CastlingForms.{played_unless, legal_next}
 use Rattle.chess_text.proofs.forms.OnlyElement.{filter_map-map, filter_map-filter, only_permuted}
 
 -- what the form names from that square
@@ -28,18 +28,11 @@ module _ (p : Parts) (k : Kind) (file rank : Option ℕ) (to : Square) (promotio
 
   -- from no other square than a candidate
   only_candidates : CandidatesComplete → (s : Square) → is_candidate p k to s ≡ false → from_square p (Man k file rank to promotion) to promotion s ≡ None
-  only_candidates complete s other = by_described _ refl _ refl
-    where
-      stands : describes p (Man k file rank to promotion) (move_from to promotion s) ≡ true → own p k s ≡ true
-      stands h =
-          (and_parts _ _
-          (and_parts _ _ h).0).0
-
-      by_described : (b : Bool) → describes p (Man k file rank to promotion) (move_from to promotion s) ≡ b → (o : Option Parts) → legal p (move_from to promotion s) ≡ o → played b p (move_from to promotion s) ≡ None
-      by_described false e o g = refl
-      by_described true e None g = played_none true p (move_from to _ s) g
-      by_described true e (Some q) g =
-          absurd (both_ways (is_candidate p k to s) other (complete p q (move_from to _ s) k g (stands e)))
+  only_candidates complete s other =
+      played_unless _ p (move_from to promotion s)
+      (λ e legal_here.
+      let (q, leads) = legal_next (legal p (move_from to promotion s)) legal_here in
+      both_ways (is_candidate p k to s) other (complete p q (move_from to promotion s) k leads (and_parts _ _ (and_parts _ _ e).0).0))
 
   -- what is found from the candidates, in any order, decides
   pub reads_candidates : CandidatesComplete → (xs : List Square) → IsPermutation (candidates p k to) xs

@@ -17,13 +17,10 @@ board_spelled s b h =
     }
 
 pub side_spelled : (s : List ℕ) (c : Colour) → side_of s ≡ Some c → s ≡ side_text c
-side_spelled s c h = by_tests _ _ refl refl h
-  where
-    by_tests : (w b : Bool) → bytes_eq s (codes "w") ≡ w → bytes_eq s (codes "b") ≡ b
-        → (if w then Some White else (if b then Some Black else None)) ≡ Some c → s ≡ side_text c
-    by_tests true b e f g = cc (same_bytes s _ e, same_Some White c g)
-    by_tests false true e f g = cc (same_bytes s _ f, same_Some Black c g)
-    by_tests false false e f g = cc
+side_spelled s c h =
+    let white = same_bytes s (codes "w") in
+    let black = same_bytes s (codes "b") in
+    grind arith
 
 pub rights_spelled : (s : List ℕ) (r : Rights) → rights_of s ≡ Some r → s ≡ rights_text r
 rights_spelled s r h = let (named, is) = cond_some _ _ r h in same_bytes s _ named ∙ ap rights_text is
