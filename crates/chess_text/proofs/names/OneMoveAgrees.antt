@@ -76,27 +76,18 @@ not_both : (c : Colour) (cell : Option Piece) → has_piece c Pawn cell ≡ true
 not_both c cell h g = grind arith
 
 -- a pawn does not come to where another one's double step crosses, nor past it
-over : (p : Parts) (x y : Move) → own p Pawn y.from ≡ true → y.to ≡ x.to → y.from.file ≡ y.to.file → is_ahead p.side y.from.rank y.to.rank ≡ true
-    → x.from.file ≡ x.to.file → x.from.rank ≡ pawn_rank p.side → x.to.rank ≡ double_rank p.side → is_empty p.board (crossed x) ≡ true → ⊥
-over p x y pawn there straight ahead file low high free =
-    no_one p.side _ free (rw place at pawn)
-  where
-    rank : (x.from.rank + x.to.rank) / 2 ≡ y.from.rank
-    rank = cc (between p.side y.from.rank x.to.rank high (rw there at ahead))
+module _ (p : Parts) (x y : Move) (there : y.to ≡ x.to) (ahead : is_ahead p.side y.from.rank y.to.rank ≡ true)
+    (file : x.from.file ≡ x.to.file) (low : x.from.rank ≡ pawn_rank p.side) (high : x.to.rank ≡ double_rank p.side) (free : is_empty p.board (crossed x) ≡ true) where
+  onto : (f : ℕ) → f ≡ y.to.file → square f y.from.rank ≡ crossed x
+  onto f e =
+      let rank = between p.side y.from.rank x.to.rank high (rw there at ahead) in
+      ap₂ square (e ∙ ap (λ (s : Square). s.file) there ∙ sym file) (sym (ap (λ n. (n + x.to.rank) / 2) low ∙ ap (λ n. (pawn_rank p.side + n) / 2) high ∙ rank))
 
-    place : y.from ≡ crossed x
-    place = ap₂ square (straight ∙ ap (λ (s : Square). s.file) there ∙ sym file) (sym rank)
+  over : own p Pawn y.from ≡ true → y.from.file ≡ y.to.file → ⊥
+  over pawn straight = no_one p.side _ free (subst (λ s. own p Pawn s ≡ true) (onto _ straight) pawn)
 
-past : (p : Parts) (x y : Move) → y.to ≡ x.to → is_ahead p.side y.from.rank y.to.rank ≡ true → has_piece (other p.side) Pawn (at p.board (captured_pawn y)) ≡ true
-    → x.from.file ≡ x.to.file → x.from.rank ≡ pawn_rank p.side → x.to.rank ≡ double_rank p.side → is_empty p.board (crossed x) ≡ true → ⊥
-past p x y there ahead taken file low high free =
-    no_one (other p.side) (at p.board (crossed x)) free (subst (λ s. has_piece (other p.side) Pawn (at p.board s) ≡ true) place taken)
-  where
-    rank : (x.from.rank + x.to.rank) / 2 ≡ y.from.rank
-    rank = cc (between p.side y.from.rank x.to.rank high (rw there at ahead))
-
-    place : captured_pawn y ≡ crossed x
-    place = ap₂ square (ap (λ (s : Square). s.file) there ∙ sym file) (sym rank)
+  past : has_piece (other p.side) Pawn (at p.board (captured_pawn y)) ≡ true → ⊥
+  past taken = no_one (other p.side) (at p.board (crossed x)) free (subst (λ s. has_piece (other p.side) Pawn (at p.board s) ≡ true) (onto _ refl) taken)
 
 module _ (p : Parts) (m n : Move) (pawn_m : own p Pawn m.from ≡ true) (pawn_n : own p Pawn n.from ≡ true) (there : n.to ≡ m.to) where
   same_rank : is_ahead p.side m.from.rank m.to.rank ≡ true → is_ahead p.side n.from.rank n.to.rank ≡ true → n.from.rank ≡ m.from.rank
@@ -128,10 +119,10 @@ module _ (p : Parts) (m n : Move) (pawn_m : own p Pawn m.from ≡ true) (pawn_n 
       (subst (λ t. has_piece (other p.side) Pawn (at p.board t) ≡ true)
       (ap₂ square (ap (λ (t : Square). t.file) there ∙ sym s) (same_rank a b)) f))
   straight_alone (advances s a e) (advances t b f) file = ap₂ square (file_of_target t s) (same_rank a b)
-  straight_alone (advances s a e) (doubles t b c f g) file = absurd (over p n m pawn_m (sym there) s a t b c f)
+  straight_alone (advances s a e) (doubles t b c f g) file = absurd (over p n m (sym there) a t b c f pawn_m s)
   straight_alone (doubles s a b e f) (takes h c g) file = absurd (not_empty g f)
-  straight_alone (doubles s a b e f) (passes h c g i) file = absurd (past p m n there c g s a b e)
-  straight_alone (doubles s a b e f) (advances t c g) file = absurd (over p m n pawn_n there t c s a b e)
+  straight_alone (doubles s a b e f) (passes h c g i) file = absurd (past p m n there c s a b e g)
+  straight_alone (doubles s a b e f) (advances t c g) file = absurd (over p m n there c s a b e pawn_n t)
   straight_alone (doubles s a b e f) (doubles t c d g h) file = ap₂ square (file_of_target t s) (c ∙ sym a)
 
   aside : PawnWay p m → (m.from.file == m.to.file) ≡ false → (gap m.from.file m.to.file ≡ 1) × (is_ahead p.side m.from.rank m.to.rank ≡ true)
