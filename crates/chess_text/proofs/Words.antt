@@ -1,6 +1,6 @@
 -- The words that proofs of this crate name, under one path.
 pub use Rattle.std.proofs.Common.{Bool, List, [], add-one, ap, append-nil, append_assoc, ap₂, arith, cond, drop, drop-cons, false, get_or, inl, inr, length, length-append, length-drop, map, nat_le, not, refl, replicate, reverse, rules, set, subst, suc, sym, take, true, zero, ℕ, ◌&&◌, ◌*◌, ◌++◌, ◌+◌, ◌-◌, ◌/◌, ◌<◌, ◌^◌, ◌||◌, ◌∙◌, ◌∷◌, ◌≡◌, ◌≢◌, ◌≤◌, ◌⊎◌}
-pub use Rattle.std.proofs.lemmas.Bool.{and_from, and_left, and_parts, and_right, both_ways, cases_Bool, cases_lt, eq-eqb, eqb-true, false_from_ne_true, false≢true, leb-true, lt-ltb, ltb-true, not-false, not-true, or_cases, or_from, or_parts, or_right}
+pub use Rattle.std.proofs.lemmas.Bool.{and_from, and_left, and_parts, and_right, both_ways, cases_Bool, cases_lt, eq-eqb, eqb-true, false_from_ne_true, false≢true, lt-ltb, ltb-true, not-false, not-true, or_cases, or_from, or_parts, or_right}
 pub use Rattle.std.proofs.lemmas.Bool.Decides.{nat_tests}
 pub use Rattle.std.proofs.lemmas.Fmt.{decimal_nonempty, digits_decimal, digits_value-decimal, length-decimal-le}
 pub use Rattle.std.proofs.lemmas.List.{append_cancel_left, drop_all, get_or-map, length-map, length-reverse, length-take, map-append, replicate_more, reverse-append, reverse-reverse, take-append-drop, take-replicate, take-take, take_all, take_more, take_more_set, take_rest}
@@ -20,7 +20,7 @@ pub use Rattle.std.specs.List.Sorted.{IsPermutation}
 pub use Rattle.std.specs.Option.{ok_or, option_to_list}
 pub use Rattle.std.specs.Prelude.{Err, IfSome, IsTrue, None, Ok, Option, Result, Some, bytes_eq, codes, count_by, decimal, find, flat_map, fold, if◌then◌else◌, is_err, is_none, is_ok, is_some, nat_lt, option_map, slice_index_or, slice_set, sum_by, ◌==◌, ◌↔◌}
 pub use Rattle.std.specs.Result.{OnOk}
-pub use Rattle.chess_rules.specs.Attacks.{attacks, cell_attacks, is_ahead, kind_attacks, king_attacked}
+pub use Rattle.chess_rules.specs.Attacks.{attacks, cell_attacks, is_ahead, king_attacked}
 pub use Rattle.chess_rules.specs.Board.{Board, at, has_colour, has_piece, is_empty, other, same_colour, same_kind}
 pub use Rattle.chess_rules.specs.Candidate.{candidates, is_candidate, lone, sees}
 pub use Rattle.chess_rules.specs.Laws.{CandidatesComplete, OneKing}
@@ -28,7 +28,7 @@ pub use Rattle.chess_rules.specs.Legal.{every_promotion, if_safe, is_check, is_l
 pub use Rattle.chess_rules.specs.Position.{built_unless, initial, is_position, one_king, pawn_on_edge, position_fault, target_fits, target_rank}
 pub use Rattle.chess_rules.specs.Square.{Square, gap, is_adjacent, lines, on_board, same_square, square}
 unfoldable pub use Rattle.chess_rules.specs.Square.{squares}
-pub use Rattle.chess_rules.specs.Step.{Wing, after, board_after, captured_pawn, carried, castled, castles, castles_long, castles_short, crossed, double_rank, en_passant_board, home, home_rank, is_advance, is_double_step, is_en_passant, is_king_move, is_on_board, is_pawn_capture, is_pawn_step, is_pawn_way, is_piece_step, is_unattacked, kind_of, long_right, long_wing, own, pawn_rank, promotion_fits, short_right, short_wing, stand_ready, step}
+pub use Rattle.chess_rules.specs.Step.{Wing, captured_pawn, castles, castles_long, castles_short, crossed, double_rank, home, home_rank, is_advance, is_double_step, is_en_passant, is_pawn_capture, is_pawn_way, kind_of, long_right, long_wing, own, pawn_rank, short_right, short_wing, step}
 pub use Rattle.chess_rules.specs.declared.piece.Colour.{Colour}
 pub use Rattle.chess_rules.specs.declared.piece.Colour.TheVariants.{Black, White}
 pub use Rattle.chess_rules.specs.declared.piece.Kind.{Kind}
@@ -41,11 +41,11 @@ pub use Rattle.chess_rules.specs.declared.position.PositionFault.TheVariants.{Ki
 pub use Rattle.chess_rules.specs.declared.position.Rights.{Rights}
 pub use Rattle.chess_text.specs.Fen.{Fen, SpellsBoard, SpellsNumber, at_field, fen_text, field, if_position, is_space, parts_or_fault, parts_read, read, rest}
 pub use Rattle.chess_text.specs.Field.{is_digit, is_target, number_of, or_dash, right_letter, rights_of, rights_text, side_of, side_text, target_of, target_text, value}
-pub use Rattle.chess_text.specs.Form.{Spells, SpellsBare, SpellsPieceMove, bare_form, before_capture, before_file, before_marks, before_promotion, before_rank, before_sign, before_target, below_eight, capture_texts, castle_of, castle_or, castle_texts, file_at_end, file_of, form_of, front, front_if, hint_text, is_among, is_form, is_mark, kind_of_text, last_byte, letter_texts, piece_move_at, piece_move_before, piece_move_if, piece_move_of, promotion_at_end, promotion_letter, promotion_of, promotion_texts, promotions, rank_at_end, rank_of, square_of, target_at_end}
+pub use Rattle.chess_text.specs.Form.{Spells, SpellsBare, SpellsPieceMove, bare_form, before_capture, before_file, before_marks, before_promotion, before_rank, before_sign, before_target, below_eight, capture_texts, castle_of, castle_or, castle_texts, file_at_end, file_of, form_of, front, front_if, hint_text, is_among, is_form, is_mark, kind_of_text, last_byte, letter_texts, piece_move_if, piece_move_of, promotion_at_end, promotion_letter, promotion_of, promotion_texts, promotions, rank_at_end, rank_of, square_of, target_at_end}
 pub use Rattle.chess_text.specs.FormOrigins.{LegalOriginsDecide, count_legal, form_move, is_legal_kind, is_step_of_form, kind_of_move, nth_square, origin_kind, step_count}
 unfoldable pub use Rattle.chess_text.specs.FormOrigins.{count_steps, origins_of_form}
-pub use Rattle.chess_text.specs.Laws.{CanonicalFits, CanonicalIsShortest, CanonicalSpells, FaultIsLowest, FenOnce, FieldsAreSpellings, Names, NoMoveIsRead, ReadingIsSpelling, ShorterIsAmbiguous, SingleReading, TheOneMoveIsRead, TwoMovesAreAmbiguous, disambiguations, text_with}
-pub use Rattle.chess_text.specs.Letter.{file_letter, kinds, letter, piece_letter, piece_of, rank_digit, square_text}
+pub use Rattle.chess_text.specs.Laws.{CanonicalIsShortest, Names, NoMoveIsRead, ShorterIsAmbiguous, SingleReading, TheOneMoveIsRead, TwoMovesAreAmbiguous, disambiguations, text_with}
+pub use Rattle.chess_text.specs.Letter.{file_letter, kinds, letter, piece_letter, rank_digit, square_text}
 pub use Rattle.chess_text.specs.MoveOfForm.{agrees, castling_move, describes, form_pairs, hints_fit, is_castling, move_from, move_of_form, moves_to_try, only, piece_move_fits, played, same_promotion, with_next, with_next_position}
 unfoldable pub use Rattle.chess_text.specs.MoveOfForm.{agreeing}
 pub use Rattle.chess_text.specs.Placement.{cells_at, cells_of, is_item, is_placement, is_rank, is_run, is_slash, placement_of, placement_text, rank_text, ranks, row, run_text}

@@ -1,6 +1,6 @@
 -- Which steps and legal moves are castling.
-use Rattle.chess_rules.specs.Step.{is_target}
-use Rattle.chess_text.proofs.Words.{◌≡◌, ℕ, ◌<◌, ◌≤◌, Bool, true, false, not, ◌&&◌, ◌||◌, inl, inr, refl, sym, ◌∙◌, ap₂, arith, ◌==◌, nat_lt, Option, None, Some, is_none, is_some, option_map, if◌then◌else◌, abs_diff, and_parts, and_from, or_cases, eqb-true, lt-ltb, ltb-true, Colour, King, Pawn, Piece, Move, Parts, Square, square, same_square, is_adjacent, Board, at, has_colour, has_piece, attacks, cell_attacks, own, home, Wing, short_wing, long_wing, short_right, long_right, is_piece_step, is_pawn_way, is_pawn_step, promotion_fits, is_en_passant, captured_pawn, other, stand_ready, castles, castles_short, castles_long, carried, en_passant_board, castled, is_on_board, on_board, after, board_after, step, is_legal, if_safe, is_castling, nat_tests, is_empty}
+use Rattle.chess_rules.specs.Step.{is_target, after, board_after, carried, castled, en_passant_board, is_on_board, is_pawn_step, is_piece_step, promotion_fits, stand_ready}
+use Rattle.chess_text.proofs.Words.{◌≡◌, ℕ, ◌<◌, ◌≤◌, Bool, true, false, not, ◌&&◌, ◌||◌, inl, inr, refl, sym, ◌∙◌, ap₂, arith, ◌==◌, nat_lt, Option, None, Some, is_none, is_some, option_map, if◌then◌else◌, abs_diff, and_parts, and_from, or_cases, eqb-true, lt-ltb, ltb-true, Colour, King, Pawn, Piece, Move, Parts, Square, square, same_square, is_adjacent, Board, at, has_colour, has_piece, attacks, cell_attacks, own, home, Wing, short_wing, long_wing, short_right, long_right, is_pawn_way, is_en_passant, captured_pawn, other, castles, castles_short, castles_long, on_board, step, is_legal, if_safe, is_castling, nat_tests, is_empty}
 
 -- what each way of a step says
 pub data StepWay (p : Parts) (m : Move) : Type 0 where
