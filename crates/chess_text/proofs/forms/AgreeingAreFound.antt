@@ -1,9 +1,8 @@
 -- The moves that agree with a form are those that are found, and none is found twice.
-use Rattle.chess_text.proofs.Words.{◌≡◌, ◌≢◌, ℕ, ◌<◌, inl, inr, Bool, true, false, not, ◌&&◌, List, [], ◌∷◌, map, refl, sym, ◌∙◌, ap, subst, arith, Option, None, Some, Ok, Err, is_some, is_none, nat_lt, flat_map, filter_map, cons_option, list_any, list_any_at, Contains, both_ways, not-true, and_parts, and_from, ltb-true, get_or-range_with_len, length-range_with_len, Contains-append_left, Contains-append_right, Promotion, Move, Parts, Square, square, squares, lines, on_board, same_square, same_kind, kind_of, short_wing, long_wing, short_right, long_right, legal, is_legal, Form, Castle, Man, Played, NoMove, Ambiguous, same_promotion, describes, agrees, with_next, played, castling_move, move_from, moves_to_try, agreeing, only, TheOneMoveIsRead, NoMoveIsRead, TwoMovesAreAmbiguous, hints_fit, is_castling, own, Kind}
-use Rattle.chess_rules.specs.declared.piece.Promotion.TheVariants.{Queen, Rook, Bishop, Knight}
+use Rattle.chess_text.proofs.Words.{◌≡◌, ◌≢◌, ℕ, ◌<◌, inl, inr, Bool, true, false, not, ◌&&◌, List, [], ◌∷◌, map, refl, sym, ◌∙◌, ap, subst, arith, Option, None, Some, Ok, Err, is_some, is_none, nat_lt, flat_map, filter_map, cons_option, list_any, list_any_at, Contains, both_ways, not-true, and_parts, and_from, ltb-true, get_or-range_with_len, length-range_with_len, Contains-append_left, Contains-append_right, Promotion, Move, Parts, Square, square, squares, lines, on_board, same_square, short_wing, long_wing, short_right, long_right, legal, is_legal, Form, Castle, Man, Played, NoMove, Ambiguous, same_promotion, describes, agrees, with_next, played, castling_move, move_from, moves_to_try, agreeing, only, TheOneMoveIsRead, NoMoveIsRead, TwoMovesAreAmbiguous, hints_fit, is_castling, own, Kind}
 use Rattle.chess_text.proofs.forms.CastlingMoves.{stepped, squares_same, castles_ends}
 use Rattle.chess_text.proofs.forms.CastlingForms.{legal_next, played_some}
-use Rattle.chess_text.proofs.forms.OnlyElement.{here, later, element, none_in, in_map, of_map, in_found, found_in}
+use Rattle.chess_text.proofs.forms.OnlyElement.{here, only_in, later, element, none_in, in_map, of_map, in_found, found_in}
 use Rattle.chess_text.proofs.forms.PieceForms.{same_square-refl}
 
 -- All squares are among the 64, and none twice.
@@ -66,13 +65,6 @@ possible_apart p (Castle long) = ((λ m c. absurd (none_in m c)), tt)
 possible_apart p (Man k file rank to promotion) = moves_apart to promotion squares squares_apart
 
 -- A move that agrees is possible.
-
-same_kinds : (x y : Promotion) → same_kind (kind_of x) (kind_of y) ≡ true → x ≡ y
-same_kinds Queen Queen h = refl
-same_kinds Rook Rook h = refl
-same_kinds Bishop Bishop h = refl
-same_kinds Knight Knight h = refl
-same_kinds x y h = cc
 
 pub promotions_same : (x y : Option Promotion) → same_promotion x y ≡ true → x ≡ y
 promotions_same x y h = grind arith
@@ -192,10 +184,7 @@ module _ (p : Parts) (f : Form) where
   alone : (x : Played) → agreeing p f ≡ x ∷ [] → (m : Move) → agrees p f m ≡ true → m ≡ x.mv
   alone x e m h =
       let (q, after, c) = is_found (x ∷ []) e m h in
-      elim (element x (record { mv = m; next = q }) [] c) [
-        | inl is ↦ sym (ap (λ (y : Played). y.mv) is)
-        | inr more ↦ absurd (none_in (record { mv = m; next = q }) more)
-      ]
+      sym (ap (λ (y : Played). y.mv) (only_in x (record { mv = m; next = q }) c))
 
   one_to : (x : Played) (xs : List Played) → agreeing p f ≡ xs → only xs ≡ Ok x → (agrees p f x.mv ≡ true) × (legal p x.mv ≡ Some x.next) × ((m : Move) → agrees p f m ≡ true → m ≡ x.mv)
   one_to x (y ∷ []) e h =
@@ -206,11 +195,7 @@ module _ (p : Parts) (f : Form) where
 
   one_from : (x : Played) (xs : List Played) → agreeing p f ≡ xs → agrees p f x.mv ≡ true → legal p x.mv ≡ Some x.next → ((m : Move) → agrees p f m ≡ true → m ≡ x.mv) → only xs ≡ Ok x
   one_from x [] e h after single = absurd (none_in x (rw e at (agreeing_found p f x.mv x.next h after)))
-  one_from x (y ∷ []) e h after single =
-      elim (element y x [] (rw e at (agreeing_found p f x.mv x.next h after))) [
-        | inl is ↦ ap Ok is
-        | inr more ↦ absurd (none_in x more)
-      ]
+  one_from x (y ∷ []) e h after single = ap Ok (only_in y x (rw e at (agreeing_found p f x.mv x.next h after)))
   one_from x (y ∷ z ∷ more) e h after single =
       absurd (agreeing_differ p f y z more e (single y.mv (first_agrees y (z ∷ more) e).holds ∙ sym (single z.mv (second_agrees y z more e).holds)))
 

@@ -18,6 +18,10 @@ element x y xs (suc k, low, is) = inr (k, omega arith, is)
 pub none_in : {X : Type 0} (y : X) → Contains [] y → ⊥
 none_in y (k, low, is) = omega arith
 
+pub only_in : {X : Type 0} (x y : X) → Contains (x ∷ []) y → x ≡ y
+only_in x y (zero, low, is) = is
+only_in x y (suc k, low, is) = absurd (omega arith)
+
 pub in_map : {X Y : Type 0} (f : X → Y) (xs : List X) (x : X) → Contains xs x → Contains (map f xs) (f x)
 in_map f xs x (k, low, is) = (k, omega (arith, length-map xs f), get_or-map f xs k x (f x) low ∙ ap f is)
 
@@ -90,11 +94,7 @@ filter_map-filter h c lost (x ∷ xs) = grind (arith, lost, filter_map-filter h 
 
 only_same : (xs ys : List Played) → length xs ≡ length ys → ((x : Played) → Contains xs x → Contains ys x) → only xs ≡ only ys
 only_same [] [] e among = refl
-only_same (x ∷ []) (y ∷ []) e among =
-    elim (element y x [] (among x (here x []))) [
-      | inl is ↦ ap Ok (sym is)
-      | inr more ↦ absurd (none_in x more)
-    ]
+only_same (x ∷ []) (y ∷ []) e among = ap Ok (sym (only_in y x (among x (here x []))))
 only_same (x ∷ w ∷ ws) (y ∷ z ∷ zs) e among = refl
 only_same xs ys e among = absurd (omega arith)
 

@@ -1,5 +1,5 @@
 -- What the bytes of a rank stand for.
-use Rattle.chess_text.proofs.Words.{◌≡◌, ℕ, ◌+◌, ◌-◌, ◌<◌, ◌≤◌, Bool, true, false, ◌&&◌, ◌==◌, nat_le, List, [], ◌∷◌, length, get_or, take, replicate, refl, sym, ◌∙◌, arith, Option, None, Some, Result, Ok, Err, is_ok, if◌then◌else◌, OnOk, nat_tests, take-replicate, list_all_at, length-flat_map-take, Piece, is_run, is_item, cells_at, cells_of, is_rank}
+use Rattle.chess_text.proofs.Words.{◌≡◌, ℕ, ◌+◌, ◌-◌, ◌<◌, ◌≤◌, Bool, true, false, ◌&&◌, nat_le, List, [], ◌∷◌, length, get_or, take, replicate, refl, sym, ◌∙◌, arith, Option, None, Some, Result, Ok, Err, is_ok, if◌then◌else◌, OnOk, nat_tests, take-replicate, list_all_at, length-flat_map-take, Piece, is_run, is_item, cells_at, cells_of, is_rank}
 use Rattle.std.specs.Bool.{OnTrue}
 
 pub on_true_from_ok : {T E P Q : Type 0} (r : Result T E) (b : Bool) → b ≡ is_ok r → OnOk r P → (P → Q) → OnTrue b Q
@@ -15,9 +15,6 @@ cells_at-run c h = rw h refl
 -- as many cells of an empty rank as the digit says
 pub run_cells : (c : ℕ) → is_run c ≡ true → take {A = Option Piece} (c - 48) (None ∷ None ∷ None ∷ None ∷ None ∷ None ∷ None ∷ None ∷ []) ≡ cells_at c
 run_cells c h = take-replicate _ 8 None (low c h) ∙ sym (cells_at-run c h)
-
-too_many : (m n : ℕ) → nat_le m 8 ≡ false → m ≤ n → (n == 8) ≡ false
-too_many m n h le = grind (arith, nat_tests)
 
 -- a byte that is no item, or goes past the eighth square, stands in no rank
 pub no_rank : (s : List ℕ) (i : ℕ) → i < length s

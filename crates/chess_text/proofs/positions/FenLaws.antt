@@ -1,6 +1,6 @@
 -- The laws of the definitions of texts.
 use Rattle.chess_text.specs.Laws.{CanonicalFits, FaultIsLowest, FenOnce, FieldsAreSpellings, ReadingIsSpelling}
-use Rattle.chess_text.proofs.Words.{◌≡◌, ℕ, ◌+◌, ◌-◌, ◌==◌, nat_le, ◌&&◌, true, List, [], ◌∷◌, sym, ◌∙◌, ap, arith, inl, inr, or_cases, and_parts, cond_some, nat_tests, Option, None, Some, Err, is_some, prefix_len, Colour, Rights, White, Black, Square, square, Board, target_fits, target_rank, FenFault, side_of, rights_of, target_of, is_target, at_field, parts_or_fault, if_position}
+use Rattle.chess_text.proofs.Words.{◌≡◌, ℕ, ◌+◌, ◌-◌, ◌==◌, nat_le, ◌&&◌, true, List, [], ◌∷◌, sym, ◌∙◌, ap, arith, inl, inr, or_cases, and_parts, cond_some, nat_tests, Option, None, Some, Err, is_some, prefix_len, Colour, Rights, White, Black, Square, square, Board, target_fits, target_rank, FenFault, side_of, rights_of, target_of, is_target, parts_or_fault, if_position}
 use Rattle.chess_text.proofs.positions.SixFieldsJoined.{length-fen_text}
 use Rattle.chess_text.proofs.positions.SpellingToReading.{spelled_is_read, board_read, side_read, rights_read, target_read, number_read}
 use Rattle.chess_text.proofs.positions.ReadingToSpelling.{read_is_spelled, board_spelled, side_spelled, rights_spelled, target_spelled, number_spelled}
@@ -11,9 +11,6 @@ reading_is_spelling s p = (spelled_is_read s p, read_is_spelled s p)
 
 pub once : FenOnce
 once s p q f g = let same = sym (spelled_is_read s p f) ∙ spelled_is_read s q g in cc
-
-answered : (k : ℕ) (fault : FenFault) → at_field k ≡ Err fault → fault.field ≡ k
-answered k fault h = let same : fault ≡ record { field = k } = cc in cc
 
 lowest_of : (b : Option Board) (c : Option Colour) (r : Option Rights) (t : Option (Option Square)) (m n : Option ℕ) (fault : FenFault)
     → if_position (parts_or_fault b c r t m n) ≡ Err fault
