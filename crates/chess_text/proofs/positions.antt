@@ -1,6 +1,5 @@
 -- FEN: reading and writing positions.
 pub mod BoardToText
-pub mod BytesOfRank
 pub mod CanonicalIsShortest
 pub mod CanonicalSpells
 pub mod FenLaws

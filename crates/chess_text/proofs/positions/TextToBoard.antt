@@ -1,6 +1,37 @@
 -- The board that a text spells, rank by rank from its last one.
 use mathlib.Core.Bool.{and-true, and-false}
-use Rattle.chess_text.proofs.Words.{◌≡◌, ℕ, zero, suc, ◌+◌, ◌-◌, ◌*◌, ◌<◌, ◌≤◌, ◌==◌, Bool, true, false, ◌&&◌, List, [], ◌∷◌, ◌++◌, length, take, drop, reverse, inl, inr, refl, sym, ◌∙◌, ap, arith, append_assoc, length-append, None, Some, Result, Ok, Err, is_ok, is_err, flat_map, if◌then◌else◌, list_all, nat_tests, OnOk, false≢true, and_parts, and_left, and_right, false_from_ne_true, cond_some, cases_lt, take-take, length-take, take_rest, reverse-append, list_all-append, Board, ranks, is_item, is_rank, is_placement, cells_of, placement_of, ranks_before, get_or, drop-cons, slice_split, onto_first, take-append-drop, slice_split-cons_yes, slice_split-cons_no, length-slice_split, is_slash}
+use Rattle.chess_text.proofs.Words.{◌≡◌, ℕ, zero, suc, ◌+◌, ◌-◌, ◌*◌, ◌<◌, ◌≤◌, ◌==◌, Bool, true, false, ◌&&◌, List, [], ◌∷◌, ◌++◌, length, take, drop, reverse, inl, inr, refl, sym, ◌∙◌, ap, arith, append_assoc, length-append, None, Some, Result, Ok, Err, is_ok, is_err, flat_map, if◌then◌else◌, list_all, nat_tests, OnOk, false≢true, and_parts, and_left, and_right, false_from_ne_true, cond_some, cases_lt, take-take, length-take, take_rest, reverse-append, list_all-append, Board, ranks, is_item, is_rank, is_placement, cells_of, placement_of, ranks_before, get_or, drop-cons, slice_split, onto_first, take-append-drop, slice_split-cons_yes, slice_split-cons_no, length-slice_split, is_slash, nat_le, replicate, Option, take-replicate, list_all_at, length-flat_map-take, Piece, is_run, cells_at}
+use Rattle.std.specs.Bool.{OnTrue}
+
+pub on_true_from_ok : {T E P Q : Type 0} (r : Result T E) (b : Bool) → b ≡ is_ok r → OnOk r P → (P → Q) → OnTrue b Q
+on_true_from_ok (Ok x) b e p f = rw e (f p)
+on_true_from_ok (Err x) b e p f = rw e tt
+
+-- What the bytes of a rank stand for.
+
+low : (c : ℕ) → is_run c ≡ true → c - 48 ≤ 8
+low c h = grind (arith, nat_tests)
+
+pub cells_at-run : (c : ℕ) → is_run c ≡ true → cells_at c ≡ replicate (c - 48) None
+cells_at-run c h = rw h refl
+
+-- as many cells of an empty rank as the digit says
+pub run_cells : (c : ℕ) → is_run c ≡ true → take {A = Option Piece} (c - 48) (None ∷ None ∷ None ∷ None ∷ None ∷ None ∷ None ∷ None ∷ []) ≡ cells_at c
+run_cells c h = take-replicate _ 8 None (low c h) ∙ sym (cells_at-run c h)
+
+-- a byte that is no item, or goes past the eighth square, stands in no rank
+pub no_rank : (s : List ℕ) (i : ℕ) → i < length s
+    → (is_item (get_or s i 0) && nat_le (length (cells_of (take i s)) + length (cells_at (get_or s i 0))) 8) ≡ false
+    → is_rank s ≡ false
+no_rank s i h test =
+    let fails = list_all_at is_item s i 0 h in
+    let long = length-flat_map-take cells_at s i 0 h in
+    grind (arith, nat_tests)
+
+pub no_cells : (s : List ℕ) → is_rank s ≡ false → None ≡ (if is_rank s then Some (cells_of s) else None)
+no_cells s h = rw h refl
+
+-- What stands between the slashes of a text.
 
 onto_first-append : {X : Type 0} (x : X) (a b : List (List X)) → 0 < length a → onto_first x (a ++ b) ≡ onto_first x a ++ b
 onto_first-append x [] b h = absurd (omega arith)

@@ -1,5 +1,5 @@
 use Rattle.chess_text.proofs.Words.{◌++◌, sym, ◌∙◌, ap}
-use Rattle.chess_text.proofs.positions.BytesOfRank.{on_true_from_ok, run_cells}
+use Rattle.chess_text.proofs.positions.TextToBoard.{on_true_from_ok, run_cells}
 use Rattle.chess_text.proofs.placement.push_item.Goals as goal
 
 pub returns-then-is_run-clause-added : goal.returns-then-is_run-clause-added

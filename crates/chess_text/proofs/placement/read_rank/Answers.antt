@@ -1,5 +1,5 @@
 use Rattle.chess_text.proofs.Words.{◌+◌, ◌&&◌, length, get_or, nat_le, sym, ◌∙◌, ap, is_item, cells_at}
-use Rattle.chess_text.proofs.positions.BytesOfRank.{no_rank, no_cells}
+use Rattle.chess_text.proofs.positions.TextToBoard.{no_rank, no_cells}
 use Rattle.chess_text.proofs.placement.read_rank.Goals as goal
 
 pub returns-then-not-push_item : goal.returns-then-not-push_item
