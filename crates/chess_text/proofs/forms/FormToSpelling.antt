@@ -126,8 +126,6 @@ piece_move_spelled s f h =
         let x = capture_spelled (front (front d)) in
         let r = hint_spelled rank_of 49 (omega arith) rank_byte b in
         let i = hint_spelled file_of 97 (omega arith) file_byte a in
-        let r_is : b ≡ (l ++ hint_text file_letter (file_at_end a)) ++ hint_text rank_digit (rank_at_end b) = cc in
-        let d_is : d ≡ (((l ++ hint_text file_letter (file_at_end a)) ++ hint_text rank_digit (rank_at_end b)) ++ x.text) ++ square_text to = cc in
         rw (← same_Some (Man k (file_at_end a) (rank_at_end b) to (promotion_at_end s)) f h)
         (record {
           spelled = record { letters = l; capture = x.text; promoted = p.text; joined = cc; letters_fit = kind_spelled l k e; capture_fits = x.fits; promoted_fits = p.fits };

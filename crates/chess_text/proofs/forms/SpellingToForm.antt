@@ -183,8 +183,6 @@ piece_move_read s k file rank to promotion h g =
     let t = target_read c to on.1 in
     let p = promotion_read d h.promoted to.rank promotion h.promoted_fits (and_parts (nat_lt to.file 8) (nat_lt to.rank 8) on.1).1 t.last in
     let before : before_target d ≡ b = cc in
-    let kind : kind_of_text (before_file (before_rank b)) ≡ Some k = ap (λ u. kind_of_text (before_file u)) r.before ∙ (ap kind_of_text f.before ∙ letters.named) in
-    let file_is : file_at_end (before_rank b) ≡ file = cc in
     let piece_move : piece_move_of (d ++ h.promoted) ≡ Some (Man k file rank to promotion) = cc in
     rw h.joined (record { told = cc (no_castle (d ++ h.promoted) p.ends); whole = no_mark_end (d ++ h.promoted) p.ends.no_mark })
 

@@ -16,7 +16,7 @@ position_past : (p : ℕ → Bool) (t : List ℕ) (y : ℕ) (r : List ℕ) → l
 position_past p [] y r h e = rw e refl
 position_past p (x ∷ t) y r h e =
     let passed = first_of_two _ (lacks p t) h in
-    let more : position_or_len p (t ++ y ∷ r) ≡ length t = position_past p t y r (second_of_two (not (p x)) (lacks p t) h) e in
+    let more = position_past p t y r (second_of_two (not (p x)) (lacks p t) h) e in
     rw passed (omega arith)
 
 pub before_it : (p : ℕ → Bool) (t : List ℕ) (y : ℕ) (r : List ℕ) → lacks p t ≡ true → p y ≡ true → before_first p (t ++ y ∷ r) ≡ t
