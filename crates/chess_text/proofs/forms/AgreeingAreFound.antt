@@ -178,8 +178,7 @@ module _ (p : Parts) (f : Form) where
   first_agrees x more e = found_agrees p f x (rw e (here x more))
 
   second_agrees : (x y : Played) (more : List Played) → agreeing p f ≡ x ∷ y ∷ more → Agrees p f y
-  second_agrees x y more e =
-      found_agrees p f y (rw e (later x y (y ∷ more) (here y more)))
+  second_agrees x y more e = found_agrees p f y (rw e (later x y (y ∷ more) (here y more)))
 
   alone : (x : Played) → agreeing p f ≡ x ∷ [] → (m : Move) → agrees p f m ≡ true → m ≡ x.mv
   alone x e m h =

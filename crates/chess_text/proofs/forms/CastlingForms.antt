@@ -48,8 +48,7 @@ module _ (p : Parts) (long : Bool) (m : Move) (is : m ≡ castling_move p.side l
   answer_of o h = cc (reads_one p long)
 
   pub castling_illegal : is_legal p m ≡ false → Err NoMove ≡ move_of_form p (Castle long)
-  castling_illegal h =
-      answer_of None (played_none _ p (castling_move p.side long) (rw is at (no_next _ h)))
+  castling_illegal h = answer_of None (played_none _ p (castling_move p.side long) (rw is at (no_next _ h)))
 
   pub castling_found : is_legal p m ≡ true → is_castling p m ≡ true → with_next_position p (Ok m) ≡ move_of_form p (Castle long)
   castling_found h named =

@@ -117,14 +117,12 @@ only_so_far o = grind arith
 
 -- a second one, wherever it was found
 pub only_two : {X : Type 0} (h : X → Option Played) (xs : List X) (n : ℕ) (x y : Played) → filter_map h (take n xs) ≡ (x ∷ []) ++ (y ∷ []) → only (filter_map h xs) ≡ Err Ambiguous
-only_two {X} h xs n x y e =
-    cc (take-append-drop n xs, filter_map-append h (take n xs) (drop n xs))
+only_two {X} h xs n x y e = cc (take-append-drop n xs, filter_map-append h (take n xs) (drop n xs))
 
 -- What a loop has found after the first i elements: nothing, or one.
 module _ {X : Type 0} (h : X → Option Played) (xs : List X) (i : ℕ) (found : Option Played) (so_far : filter_map h (take i xs) ≡ option_to_list found) where
   pub still_none : (d : X) (o : Option Played) → i < length xs → o ≡ h (get_or xs i d) → o ≡ None → filter_map h (take (i + 1) xs) ≡ option_to_list found
-  still_none d o low is none =
-      cc (found_more h xs i d o low is, append-nil _)
+  still_none d o low is none = cc (found_more h xs i d o low is, append-nil _)
 
   pub first_one : (d : X) (o : Option Played) (y : Played) → i < length xs → o ≡ h (get_or xs i d) → o ≡ Some y → is_some found ≡ false → filter_map h (take (i + 1) xs) ≡ y ∷ []
   first_one d o y low is some none =
@@ -145,5 +143,4 @@ module _ {X : Type 0} (h : X → Option Played) (xs : List X) (i : ℕ) (found :
   not_at_once one = grind arith
 
   pub at_the_end : length xs ≤ i → ok_or found NoMove ≡ only (filter_map h xs)
-  at_the_end all =
-      cc (only_so_far found, take_all i xs all)
+  at_the_end all = cc (only_so_far found, take_all i xs all)

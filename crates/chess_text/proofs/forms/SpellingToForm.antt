@@ -86,8 +86,7 @@ record RankRead (s t : List ℕ) (rank : Option ℕ) : Type 0 where
   no_x : (last_byte t == 120) ≡ false
 
 rank_read : (s : List ℕ) (rank : Option ℕ) → below_eight rank ≡ true → rank_of (last_byte s) ≡ None → (last_byte s == 120) ≡ false → RankRead s (s ++ hint_text rank_digit rank) rank
-rank_read s None h none no_x =
-    rw append-nil (record { told = none; before = cc; no_x = no_x })
+rank_read s None h none no_x = rw append-nil (record { told = none; before = cc; no_x = no_x })
 rank_read s (Some n) h none no_x =
     let last = last_byte-snoc s (49 + n) in
     let d = rank_digits n h in

@@ -1,4 +1,5 @@
 -- The rivals of a move, found among the candidates for its target.
+use mathlib.Core.Bool.{and-true}
 use Rattle.chess_text.proofs.Words.{◌≡◌, ℕ, ◌+◌, ◌<◌, ◌≤◌, Bool, true, false, cond, ◌&&◌, ◌||◌, List, [], ◌∷◌, length, take, get_or, refl, sym, ◌∙◌, ap, ◌==◌, list_any, IsPermutation, and_parts, take_all, list_any_more, list_any-IsPermutation, Kind, Move, Parts, Square, squares, own, legal, sees, candidates, CandidatesComplete, from_square, is_rival, rivals, on_file, on_rank, disambiguation_by, disambiguation, arith, inl, inr, not, and_from, or_cases, IsPermutation-refl, same_square, is_legal, is_candidate}
 use Rattle.chess_text.proofs.forms.CastlingForms.{legal_next}
 use Rattle.std.specs.Prelude.{filter}
@@ -43,14 +44,9 @@ pub record Found (p : Parts) (m : Move) (xs : List Square) (n : ℕ) (any file r
   pub file_is : file ≡ seen p m (λ s. s.file == m.from.file) (take n xs)
   pub rank_is : rank ≡ seen p m (λ s. s.rank == m.from.rank) (take n xs)
 
-and_true : (b : Bool) → b ≡ (b && true)
-and_true true = refl
-and_true false = refl
-
 one_more : (p : Parts) (m : Move) (test : Square → Bool) (xs : List Square) (n : ℕ) (s : Square) (before after rival : Bool)
     → n < length xs → s ≡ get_or xs n s → rival ≡ is_rival p m s → before ≡ seen p m test (take n xs) → after ≡ (before || (rival && test s)) → after ≡ seen p m test (take (n + 1) xs)
-one_more p m test xs n s before after rival low is e f g =
-    cc (list_any_more _ xs n s low)
+one_more p m test xs n s before after rival low is e f g = cc (list_any_more _ xs n s low)
 
 pub found_more : (p : Parts) (m : Move) (xs : List Square) (n : ℕ) (s : Square) (rival any file rank any' file' rank' : Bool)
     → n < length xs → s ≡ get_or xs n s → rival ≡ is_rival p m s → Found p m xs n any file rank
@@ -58,7 +54,7 @@ pub found_more : (p : Parts) (m : Move) (xs : List Square) (n : ℕ) (s : Square
     → Found p m xs (n + 1) any' file' rank'
 found_more p m xs n s rival any file rank any' file' rank' low is e f a b c =
     record {
-      any_is = one_more p m _ xs n s any any' rival low is e f.any_is (a ∙ ap (λ r. any || r) (and_true rival));
+      any_is = one_more p m _ xs n s any any' rival low is e f.any_is (a ∙ ap (λ r. any || r) (sym (and-true rival)));
       file_is = one_more p m _ xs n s file file' rival low is e f.file_is b;
       rank_is = one_more p m _ xs n s rank rank' rival low is e f.rank_is c;
     }
@@ -69,8 +65,7 @@ all_found p m test xs n h = cc (take_all n xs h)
 
 pub apart_same : (s : Square) (others : List Square) (any file rank : Bool) → any ≡ list_any (λ r. true) others → file ≡ on_file s others → rank ≡ on_rank s others
     → disambiguation_by s any file rank ≡ disambiguation s others
-apart_same s others any file rank a b c =
-    cc
+apart_same s others any file rank a b c = cc
 
 -- A piece that alone of its kind may go to the target has no rivals.
 

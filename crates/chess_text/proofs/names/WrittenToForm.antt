@@ -1,5 +1,5 @@
 -- The form that the text of a legal move spells.
-use Rattle.chess_text.proofs.Words.{◌≡◌, ℕ, inl, inr, Bool, true, false, not, ◌&&◌, ◌||◌, [], ◌∷◌, ◌++◌, append-nil, refl, sym, ◌∙◌, ap, ap₂, ◌==◌, Option, None, Some, codes, if◌then◌else◌, list_all, list_any, false≢true, and_parts, and_from, or_cases, eq-eqb, Kind, King, Pawn, Piece, Promotion, Move, Parts, Square, on_board, at, has_colour, same_kind, own, castles_short, castles_long, short_right, long_right, short_wing, long_wing, legal, is_legal, Form, Castle, Man, letter, file_letter, rank_digit, square_text, SpellsBare, Spells, is_among, letter_texts, hint_text, capture_texts, promotion_texts, is_mark, below_eight, is_form, hints_fit, is_castling, describes, agrees, is_capture, capture_if, capture_text, pawn_capture, promotion_text, king_text, disambiguated_text, kind_text, mark, san, disambiguation_by, rivals, on_file, on_rank, has_rivals, false_from_ne_true, arith, nat_tests}
+use Rattle.chess_text.proofs.Words.{◌≡◌, ℕ, inl, inr, Bool, true, false, not, ◌||◌, [], ◌∷◌, ◌++◌, append-nil, refl, sym, ◌∙◌, ap, ap₂, ◌==◌, Option, None, Some, codes, if◌then◌else◌, list_all, list_any, false≢true, and_parts, and_from, or_cases, eq-eqb, Kind, King, Pawn, Piece, Promotion, Move, Parts, Square, on_board, at, has_colour, same_kind, own, castles_short, castles_long, short_right, long_right, short_wing, long_wing, legal, is_legal, Form, Castle, Man, letter, file_letter, rank_digit, square_text, SpellsBare, Spells, is_among, letter_texts, hint_text, capture_texts, promotion_texts, is_mark, is_form, hints_fit, is_castling, describes, agrees, is_capture, capture_if, capture_text, pawn_capture, promotion_text, king_text, disambiguated_text, kind_text, mark, san, disambiguation_by, rivals, on_file, on_rank, has_rivals, false_from_ne_true, arith, nat_tests}
 use Rattle.chess_text.proofs.forms.CastlingMoves.{piece_goes, pawn_goes, pawn_passes, king_castles, Stepped, stepped, castles_ends, castling_goes_far}
 use Rattle.chess_text.proofs.forms.PieceForms.{same_square-refl, same_promotion-refl}
 use Rattle.chess_text.proofs.forms.MoverOfMove.{king_text_by, mover, mover_colour, other_kind}
@@ -12,11 +12,12 @@ file_by s any file rank = if not any then None else if not file then Some s.file
 abbrev pub rank_by : Square → Bool → Bool → Bool → Option ℕ
 rank_by s any file rank = if not any then None else if not file then None else Some s.rank
 
+abbrev hinted : Kind → Move → Bool → Bool → Bool → Form
+hinted k m any file rank = Man k (file_by m.from any file rank) (rank_by m.from any file rank) m.to None
+
 -- the form of a move of a queen, a rook, a bishop or a knight
 abbrev pub disambiguated_form : Kind → Parts → Move → Form
-disambiguated_form k p m =
-    Man k (file_by m.from (list_any (λ r. true) (rivals p k m)) (on_file m.from (rivals p k m)) (on_rank m.from (rivals p k m)))
-    (rank_by m.from (list_any (λ r. true) (rivals p k m)) (on_file m.from (rivals p k m)) (on_rank m.from (rivals p k m))) m.to None
+disambiguated_form k p m = hinted k m (list_any (λ r. true) (rivals p k m)) (on_file m.from (rivals p k m)) (on_rank m.from (rivals p k m))
 
 abbrev pub king_form_by : Bool → Bool → Move → Form
 king_form_by short long m = if short then Castle false else if long then Castle true else Man King None None m.to None
@@ -47,10 +48,7 @@ disambiguated_spelled k p m h =
       letters = letter k ∷ [];
       capture = capture_text p m;
       promoted = [];
-      joined =
-          ap (λ s. (s ++ capture_text p m) ++ square_text m.to)
-          (hints_written _ _ _ _ _)
-          ∙ sym (append-nil _);
+      joined = ap (λ s. (s ++ capture_text p m) ++ square_text m.to) (hints_written _ _ _ _ _) ∙ sym (append-nil _);
       letters_fit = own_letter k h;
       capture_fits = capture_fits _;
       promoted_fits = refl;
@@ -108,8 +106,8 @@ san_spelled p m v =
 
 -- It is a form.
 
-hints_below : (s : Square) (any file rank : Bool) → on_board s ≡ true → (below_eight (file_by s any file rank) && below_eight (rank_by s any file rank)) ≡ true
-hints_below s any file rank h = grind arith
+hinted_good : (k : Kind) (m : Move) (any file rank : Bool) → on_board m.from ≡ true → on_board m.to ≡ true → is_form (hinted k m any file rank) ≡ true
+hinted_good k m any file rank h g = grind arith
 
 king_good : (a b : Bool) (m : Move) → on_board m.to ≡ true → is_form (king_form_by a b m) ≡ true
 king_good a b m h = grind arith
@@ -117,18 +115,13 @@ king_good a b m h = grind arith
 pawn_good : (b : Bool) (m : Move) → on_board m.from ≡ true → on_board m.to ≡ true → is_form (pawn_form_by b m) ≡ true
 pawn_good b m h g = grind arith
 
-disambiguated_good : (k : Kind) (p : Parts) (m : Move) → on_board m.from ≡ true → on_board m.to ≡ true → is_form (disambiguated_form k p m) ≡ true
-disambiguated_good k p m h g =
-    let others = rivals p k m in
-    and_from _ _ (hints_below _ (list_any (λ r. true) others) (on_file m.from others) (on_rank m.from others) h) g
-
 pub good_form : (k : Kind) (p : Parts) (m : Move) → is_legal p m ≡ true → is_form (written k p m) ≡ true
 good_form k p m h = by_kind k (stepped p m h)
   where
     by_kind : (k : Kind) → Stepped p m → is_form (written k p m) ≡ true
     by_kind King s = king_good _ _ m s.to_on
     by_kind Pawn s = pawn_good _ m s.from_on s.to_on
-    by_kind k s = disambiguated_good k p m s.from_on s.to_on
+    by_kind k s = hinted_good k m (list_any (λ r. true) (rivals p k m)) (on_file m.from (rivals p k m)) (on_rank m.from (rivals p k m)) s.from_on s.to_on
 
 -- The move agrees with it.
 

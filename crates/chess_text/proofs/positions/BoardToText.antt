@@ -32,8 +32,7 @@ pub record WrittenTo (b : Board) (text : List ℕ) (i : ℕ) : Type 0 where
   pub short : length text ≤ 9 * i + 8
 
 ends : (b : Board) → rank_text 0 (row b 7) ++ lower b 7 ≡ placement_text b
-ends b =
-    cc (append-nil _)
+ends b = cc (append-nil _)
 
 length-lower : (b : Board) (n : ℕ) → length (lower b n) ≤ 9 * n
 length-lower b zero = omega arith

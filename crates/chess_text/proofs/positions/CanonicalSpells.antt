@@ -65,8 +65,7 @@ gets b k (suc n) = get_or b k None ∷ gets b (k + 1) n
 
 gets_are : (b : Board) (k n : ℕ) → k + n ≡ length b → drop k b ≡ gets b k n
 gets_are b k zero h = drop_all k b (omega arith)
-gets_are b k (suc n) h =
-    cc (drop-cons b k None (omega arith), add-one k, gets_are b (k + 1) n (omega arith))
+gets_are b k (suc n) h = cc (drop-cons b k None (omega arith), add-one k, gets_are b (k + 1) n (omega arith))
 
 pub board_rows : (b : Board) → length b ≡ 64 → b ≡ flat_map (λ rank. row b rank) (0 ∷ 1 ∷ 2 ∷ 3 ∷ 4 ∷ 5 ∷ 6 ∷ 7 ∷ [])
 board_rows b h = gets_are b 0 64 (sym h)

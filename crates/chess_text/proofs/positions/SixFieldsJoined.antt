@@ -61,8 +61,7 @@ six_joined a b c d e f =
     ∙ append_assoc a (32 ∷ b) (32 ∷ (c ++ 32 ∷ (d ++ 32 ∷ (e ++ 32 ∷ f))))
 
 pub six_written : (p : Parts) (text : List ℕ) → FiveWritten p text → text ++ 32 ∷ decimal p.full ≡ fen_text p
-six_written p text five =
-    cc (six_joined _ _ _ _ _ _)
+six_written p text five = cc (six_joined _ _ _ _ _ _)
 
 -- 71 bytes for the board, 1 for the side, 4 for the rights, 2 for the target, 5 for each number,
 -- and five spaces

@@ -71,8 +71,7 @@ ranks_left text (suc n) start above within cut =
     earlier (suc k) low = cc (take-take k (suc n - 1) text (omega (arith, length-take (suc n - 1) text)))
 
 list_all-last : (before : List (List ℕ)) (last : List ℕ) → list_all is_rank (before ++ last ∷ []) ≡ (list_all is_rank before && is_rank last)
-list_all-last before last =
-    cc (list_all-append is_rank before _, and-true _)
+list_all-last before last = cc (list_all-append is_rank before _, and-true _)
 
 cells-last : (before : List (List ℕ)) (last : List ℕ) → flat_map cells_of (reverse (before ++ last ∷ [])) ≡ cells_of last ++ flat_map cells_of (reverse before)
 cells-last before last = cc (reverse-append before _)
