@@ -28,7 +28,7 @@ pub use Rattle.chess_rules.specs.Legal.{every_promotion, if_safe, is_check, is_l
 pub use Rattle.chess_rules.specs.Position.{built_unless, initial, is_position, one_king, pawn_on_edge, position_fault, target_fits, target_rank}
 pub use Rattle.chess_rules.specs.Square.{Square, gap, is_adjacent, lines, on_board, same_square, square}
 unfoldable pub use Rattle.chess_rules.specs.Square.{squares}
-pub use Rattle.chess_rules.specs.Step.{Wing, captured_pawn, castles, castles_long, castles_short, crossed, double_rank, home, home_rank, is_advance, is_double_step, is_en_passant, is_pawn_capture, is_pawn_way, kind_of, long_right, long_wing, own, pawn_rank, short_right, short_wing, step}
+pub use Rattle.chess_rules.specs.Step.{Wing, captured_pawn, castles, castles_long, castles_short, crossed, double_rank, home, home_rank, is_advance, is_double_step, is_en_passant, is_pawn_capture, is_pawn_way, long_right, long_wing, own, pawn_rank, short_right, short_wing, step}
 pub use Rattle.chess_rules.specs.declared.piece.Colour.{Colour}
 pub use Rattle.chess_rules.specs.declared.piece.Colour.TheVariants.{Black, White}
 pub use Rattle.chess_rules.specs.declared.piece.Kind.{Kind}

@@ -164,7 +164,7 @@ steps_and_texts =
     let square_is_written : Writes queens Queen h4e1 3 = refl in
     let file_is_written : Writes queens Queen e4e1 1 = refl in
     let nothing_is_written : Writes knights Knight g1e2 4 = refl in
-    -- Without a legal move: the shorter text names the move of the other knight, not the pinned one's.
+    -- Without a legal move: the shorter text names the move of the other knight, not of this one.
     let file_of_the_pinned : Writes knights Knight c3e2 1 = refl in
     let pinned_unnamed : Names knights (with_step knights Knight c3e2 0) c3e2 → ⊥ =
     unnamed knights (codes "Ne2") c3e2 (to_square Knight None None "e2") refl refl in
@@ -182,8 +182,8 @@ steps_and_texts =
     tt
 
 -- The text names the move alone with the step that is written and no earlier one, with a step
--- before the square (3) where the file (1) is written, and with a step past the four, which gives no
--- text, as where there is no rival.
+-- before the square (3) where the file (1) is written, and with a step past the four, which gives
+-- no text, as where there is no rival.
 one_is_named : SingleReading → Unit {0}
 unfolding squares
 one_is_named law =
