@@ -1,5 +1,5 @@
 -- What the texts of legal moves name.
-use Rattle.chess_text.proofs.Words.{◌≡◌, ◌≢◌, ℕ, zero, suc, ◌<◌, Bool, true, false, not, ◌&&◌, List, [], ◌∷◌, ◌++◌, append-nil, refl, sym, ◌∙◌, ap, arith, ◌==◌, nat_lt, Option, None, Some, slice_index_or, list_any, Any, false≢true, and_parts, and_from, ltb-true, Any-from_list_any, Kind, King, Pawn, Move, Parts, Square, squares, same_square, same_kind, own, is_legal, OneKing, Man, letter, file_letter, rank_digit, square_text, Spells, is_form, below_eight, hint_text, hints_fit, capture_text, from_square, is_rival, rivals, on_file, on_rank, disambiguation_by, has_rivals, mark, san, Names, SingleReading, disambiguations, text_with, ShorterIsAmbiguous, same_Some, not-true}
+use Rattle.chess_text.proofs.Words.{◌≡◌, ◌≢◌, ℕ, zero, suc, ◌<◌, Bool, true, false, not, ◌&&◌, List, [], ◌∷◌, ◌++◌, append-nil, refl, sym, ◌∙◌, ap, arith, ◌==◌, nat_lt, Option, None, Some, slice_index_or, list_any, Any, false≢true, and_parts, and_from, ltb-true, Any-from_list_any, Kind, King, Pawn, Move, Parts, Square, squares, same_square, same_kind, own, is_legal, OneKing, Man, letter, file_letter, rank_digit, square_text, Spells, is_form, below_eight, hint_text, hints_fit, capture_text, from_square, is_rival, rivals, on_file, on_rank, disambiguation_by, has_rivals, mark, san, Names, SingleReading, disambiguations, text_with, ShorterIsAmbiguous, same_Some}
 use Rattle.chess_text.proofs.forms.CastlingMoves.{stepped}
 use Rattle.chess_text.proofs.forms.SpellingToForm.{form_read}
 use Rattle.chess_text.proofs.forms.PieceForms.{same_square-refl}
@@ -31,15 +31,16 @@ record Rival (p : Parts) (k : Kind) (m : Move) (test : Square → Bool) : Type 0
   goes : is_legal p (from_square m on) ≡ true
   passes : test on ≡ true
 
+four_hold : (a b c d : Bool) → ((a && (not b && c)) && d) ≡ true → (a ≡ true) × (b ≡ false) × (c ≡ true) × (d ≡ true)
+four_hold a b c d h = grind arith
+
 some_rival : (p : Parts) (k : Kind) (m : Move) (test other : Square → Bool) → ((s : Square) → test s ≡ true → other s ≡ true) → list_any test (rivals p k m) ≡ true → Rival p k m other
 some_rival p k m test other implied h = by_place (Any-from_list_any _ squares (sym (any-filter test _ squares) ∙ h))
   where
     by_place : Any (λ s. ((own p k s && is_rival p m s) && test s) ≡ true) squares → Rival p k m other
     by_place (i, s, low, there, holds) =
-        let both = and_parts _ _ holds in
-        let first = and_parts (own p k s) (is_rival p m s) both.0 in
-        let rival = and_parts (not (same_square s _)) (is_legal p (from_square m s)) first.1 in
-        record { on = s; stands = first.0; other = not-true (same_square s _) rival.0; goes = rival.1; passes = implied s both.1 }
+        let (stands, other_square, goes, passes) = four_hold (own p k s) (same_square s m.from) (is_legal p (from_square m s)) (test s) holds in
+        record { on = s; stands = stands; other = other_square; goes = goes; passes = implied s passes }
 
 pub another : (n m : Move) → same_square n.from m.from ≡ false → n ≢ m
 another n m other e = false≢true (sym other ∙ ap (λ (x : Move). same_square x.from m.from) e ∙ same_square-refl m.from)

@@ -78,8 +78,7 @@ record Unmarked (s : List ℕ) : Type 0 where
   bytes : Bytes 6 s
 
 -- of a queen, a rook, a bishop or a knight
-piece_symbol : (k : Kind) (p : Parts) (m : Move) → on_board m.from ≡ true → on_board m.to ≡ true
-    → Unmarked (disambiguated_text k p m)
+piece_symbol : (k : Kind) (p : Parts) (m : Move) → on_board m.from ≡ true → on_board m.to ≡ true → Unmarked (disambiguated_text k p m)
 piece_symbol k p m from to =
     let others = rivals p k m in
     let any = list_any (λ r. true) others in
@@ -114,8 +113,7 @@ pawn_symbol false m from to =
     let whole = bytes_append 2 2 (square_text m.to) (promotion_text _) (square_bytes m.to to) (promotion_bytes _) in
     record { begins = file_is_letter m.to to; bytes = more 4 6 _ (omega arith) whole }
 
-kind_symbol : (k : Kind) (p : Parts) (m : Move) → on_board m.from ≡ true → on_board m.to ≡ true
-    → Unmarked (kind_text k p m)
+kind_symbol : (k : Kind) (p : Parts) (m : Move) → on_board m.from ≡ true → on_board m.to ≡ true → Unmarked (kind_text k p m)
 kind_symbol King p m from to = king_symbol p m to
 kind_symbol Pawn p m from to = pawn_symbol _ m from to
 kind_symbol k p m from to = piece_symbol k p m from to

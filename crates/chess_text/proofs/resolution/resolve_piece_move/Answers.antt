@@ -20,7 +20,7 @@ only_found o = grind arith
 lone_gives : CandidatesComplete → (p : Parts) (k : Kind) (file rank : Option ℕ) (to : Square) (promotion : Option Promotion) (s : Square) → Some s ≡ lone (candidates p k to)
     → ok_or (played (piece_move_fits p file rank (move_from to promotion s)) p (move_from to promotion s)) NoMove ≡ move_of_form p (Man k file rank to promotion)
 lone_gives complete p k file rank to promotion s alone =
-    let perm : IsPermutation (candidates p k to) (s ∷ []) = subst (λ xs. IsPermutation (candidates p k to) xs) (lone_is _ s alone) (IsPermutation-refl _) in
+    let perm = subst (IsPermutation (candidates p k to)) (lone_is _ s alone) (IsPermutation-refl _) in
     cc (tried_own p k file rank to promotion s (candidates_own p k to (s ∷ []) perm 0 s (omega arith)), only_found (from_square p (Man k file rank to _) to promotion s), reads_candidates p k file rank to promotion complete (s ∷ []) perm)
 
 -- The origins are the candidates.
