@@ -1,12 +1,5 @@
-use Rattle.chess_text.proofs.Words.{◌≡◌, ◌+◌, ◌≤◌, Bool, [], ◌++◌, length, sym, ◌∙◌, ap, ap₂, subst, arith, length-append, is_some, codes, if◌then◌else◌, is_check, is_mate, MarkPairs, mark, mark_after}
+use Rattle.chess_text.proofs.Words.{◌≡◌, ◌+◌, ◌≤◌, Bool, [], ◌++◌, length, sym, ◌∙◌, ap, ap₂, subst, arith, length-append, codes, if◌then◌else◌, is_check, is_mate, MarkPairs, mark, mark_after}
 use Rattle.chess_text.proofs.san.write_san.Goals as goal
-
-pub push_unmarked-requires : goal.push_unmarked-requires
-push_unmarked-requires c = record { empty = c.new-text.ensures; legal = ap is_some c.requires.legal; room = omega arith }
-
-pub push_mark-requires : goal.push_mark-requires
-push_mark-requires c =
-    record { space = c.push_unmarked.ensures.short; room = omega arith }
 
 pub returns-clause-text : goal.returns-clause-text
 returns-clause-text c = c.push_mark.ensures.text ∙ ap₂ (λ s o. s ++ mark o) c.push_unmarked.ensures.text (sym c.requires.legal)
@@ -29,6 +22,3 @@ returns-clause-short c =
 pub returns-clause-pairs : goal.returns-clause-pairs
 returns-clause-pairs c =
     subst (λ n. MarkPairs c.args.played.now.next n c.push_mark.new.probes) c.push_unmarked.ensures.pairs c.push_mark.ensures.pairs
-
-pub returns-clause-bound : goal.returns-clause-bound
-returns-clause-bound c = omega arith
