@@ -24,7 +24,7 @@ brace_tokens place goes b s c = onto place (begins_brace place goes c b s) (toke
 abbrev line_tokens : ℕ → Bool → ℕ → List ℕ → CommentClass → List Token
 line_tokens place goes b s c = onto place (begins_line place goes c b s) (tokens_from (place + 1) (after_line c) s)
 
--- between the words of a comment in braces, and between those of one that goes to the end of its line
+-- between the words of a comment in braces, and of one that goes to the end of its line
 pub brace_gives : (c : CommentClass) (place b : ℕ) (h : PartialToken) (ended : List Token) (waits : ℕ) → length h.text ≤ 255
     → Gives (front_by place b ended waits (λ s. brace_tokens place false b s c)) (byte_result.brace place h b c)
 brace_gives c place b h ended waits h1 = grind arith
