@@ -130,8 +130,8 @@ pub record TakesToken (q : Profile) (part : Part) (told : Option CodeMark) (t : 
 pub data TokenFails (q : Profile) (part : Part) (told : Option CodeMark) (t : Token) (before after : Option (List ℕ)) : Fault → Type 0 where
   refused : (reason : Reason) → refusal q part t.kind ≡ Some reason → Appends before after []
       → TokenFails q part told t before after (record { at = t.at; reason = reason })
-  other : rejects told q part t ≡ true → is_some told ≡ true → Appends before after []
-      → TokenFails q part told t before after (record { at = t.at; reason = Changed })
+  other : (reason : Reason) → changed_reason reason ≡ Changed → rejects told q part t ≡ true → is_some told ≡ true → Appends before after []
+      → TokenFails q part told t before after (record { at = t.at; reason = reason })
   unwritten : rejects told q part t ≡ false → AppendsFront before after (gain (as_written (profile_under q told)) part t.kind)
       → TokenFails q part told t before after (record { at = t.at; reason = WriteFault })
 
@@ -144,12 +144,6 @@ abbrev pub TakesKind : Option CodeMark → Kind → ℕ → ReaderState → Read
 TakesKind told k at old new result before after =
     (q : Profile) (part : Part) → q.missing_result ≡ takes_the_marker → old.profile ≡ profile_under q told → Agrees old part
     → AfterToken q part told (record { at = at; kind = k }) old new result before after
-
--- a game that was finished ends by its marker, at this place
-abbrev pub EndsGame : Option (List ℕ) → ℕ → Taken → Type 0
-EndsGame (Some marker) at (GameEnd m) = model_mark m ≡ record { text = marker; at = at }
-EndsGame (Some marker) at _ = ⊥
-EndsGame None at taken = Unit {0}
 
 -- how many games were finished, with this token
 abbrev pub games_with : Taken → ℕ → ℕ

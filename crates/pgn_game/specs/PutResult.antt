@@ -3,8 +3,9 @@ use Rattle.std.specs.Prelude.{◌≡◌, ℕ, ◌+◌, ◌≤◌, ◌<◌, max, 
 use Rattle.std.specs.Io.KnownBytes.{Appends}
 use Rattle.chess_rules.specs.declared.position.Move.{Move}
 use Rattle.chess_rules.specs.Legal.{is_legal}
-use Rattle.pgn_layout.specs.Device.{AppendsFront, Counts, Device, Writes}
+use Rattle.pgn_layout.specs.Device.{AppendsFront, Counts, Device, IsStill, Writes}
 use Rattle.pgn_lexer.specs.Tokens.{Kind}
+use Rattle.pgn_game.specs.declared.marker.Marker.{Marker}
 use Rattle.pgn_game.specs.declared.mode.Mode.{Mode}
 use Rattle.pgn_game.specs.declared.stage.Stage.{Stage}
 use Rattle.pgn_game.specs.declared.stage.Stage.TheVariants.{AfterTags, InMovetext}
@@ -12,6 +13,8 @@ use Rattle.pgn_game.specs.declared.accepted.Accepted.{Accepted}
 use Rattle.pgn_game.specs.declared.accepted.Accepted.TheVariants.{More, Finished}
 use Rattle.pgn_game.specs.declared.reason.Reason.{Reason}
 use Rattle.pgn_game.specs.declared.reason.Reason.TheVariants.{WriteFault}
+use Rattle.pgn_game.specs.Markers.{marker_text}
+use Rattle.pgn_game.specs.FaultTable.{marker_of}
 use Rattle.pgn_game.specs.Profile.{Profile, known_result}
 use Rattle.pgn_game.specs.Pairs.{Pair}
 use Rattle.pgn_game.specs.Chess.{first_position, move_of}
@@ -69,6 +72,15 @@ pub record PutResult (old : ReaderState) (IsOf : Part → Type 0) (to : Part →
   pub stays : Stays old new r
   pub counted : CountsWrites r d
 
+-- The result of a token, where a call answers only that the game goes on, or only that it ended.
+abbrev pub continued : Result Unit Reason → Result Accepted Reason
+continued (Ok done) = Ok More
+continued (Err reason) = Err reason
+
+abbrev pub ended : Result Unit Reason → Result Accepted Reason
+ended (Ok done) = Ok Finished
+ended (Err reason) = Err reason
+
 -- a game goes on, or a write failed
 abbrev pub FinishesNone : Result Accepted Reason → Type 0
 FinishesNone (Ok More) = Unit {0}
@@ -98,6 +110,25 @@ TakesToken old k new r d = Takes old (Agrees old) k new r d
 abbrev pub TakesEntry : ReaderState → Kind → ReaderState → Result Accepted Reason → Device → Type 0
 TakesEntry old k new r d = Takes old (IsEntry old k) k new r d
 
+-- A marker is left, and nothing has changed.
+pub record LeavesMarker (old : ReaderState) (k : Kind) (marker : Marker) (new : ReaderState) (d : Device) : Type 0 where
+  pub is : marker_of k ≡ Some (marker_text marker)
+  pub same : new ≡ old
+  pub unwritten : d.after ≡ d.before
+  pub still : IsStill d
+
+-- a token of movetext that is no marker is taken
+pub record TakesOther (old : ReaderState) (k : Kind) (new : ReaderState) (r : Result Accepted Reason)
+    (d : Device) : Type 0 where
+  pub no_marker : marker_of k ≡ None
+  pub takes : TakesEntry old k new r d
+
+-- A token of movetext is taken, unless it is a marker.
+abbrev pub MeetsEntry : ReaderState → Kind → ReaderState → Result (Option Marker) Reason → Device → Type 0
+MeetsEntry old k new (Ok (Some marker)) d = LeavesMarker old k marker new d
+MeetsEntry old k new (Ok None) d = TakesOther old k new (Ok More) d
+MeetsEntry old k new (Err reason) d = TakesOther old k new (Err reason) d
+
 -- a sink in which nothing is written, and a token for which nothing is
 abbrev pub unused : Option (List ℕ) → ℕ → Device
 unused taken failures =
@@ -118,6 +149,20 @@ pub record EntersMovetext (old : ReaderState) (k : Kind) (ready : ReaderState) :
 abbrev pub TakesOutside : ReaderState → Kind → ReaderState → Option (Result Accepted Reason) → Type 0
 TakesOutside old k new (Some r) = TakesUnwritten old k new r
 TakesOutside old k new None = EntersMovetext old k new
+
+-- The token is a marker that is left, after which the reader is ready to take it.
+pub record MeetsMarker (old : ReaderState) (k : Kind) (marker : Marker) (ready : ReaderState) (d : Device) : Type 0 where
+  pub is : marker_of k ≡ Some (marker_text marker)
+  pub enters : EntersMovetext old k ready
+  pub unwritten : d.after ≡ d.before
+  pub still : IsStill d
+
+-- A token is taken, unless it is a marker that may end the game. A write fails for no marker.
+abbrev pub TakesUnlessMarker : ReaderState → Kind → ReaderState → Result (Option Marker) Reason → Device → Type 0
+TakesUnlessMarker old k new (Ok (Some marker)) d = MeetsMarker old k marker new d
+TakesUnlessMarker old k new (Ok None) d = TakesToken old k new (Ok More) d
+TakesUnlessMarker old k new (Err reason) d =
+    TakesToken old k new (Err reason) d × (reason ≡ WriteFault → marker_of k ≡ None)
 
 -- Moves.
 

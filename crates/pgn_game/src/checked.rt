@@ -1,21 +1,19 @@
 //! Converts an input that is read twice, so that a missing Result takes the marker.
 ghost use Rattle.std.specs.Prelude.{◌≡◌, ◌-◌, ◌+◌, ◌≤◌, ◌<◌, ◌^◌, length, max, false, [], ℕ, List};
-ghost use Rattle.std.specs.Prelude.{Option, None, OnOk, IfOk, IfSome};
+ghost use Rattle.std.specs.Prelude.{Option, None, Some, OnOk, IfOk, IfSome};
 ghost use Rattle.pgn_layout.specs.Device.{device};
 ghost use Rattle.pgn_lexer.specs.Scanned.{kind_of};
 ghost use Rattle.pgn_lexer.specs.Tokens.{HasLength};
 ghost use Rattle.pgn_game.specs.declared.reason.Reason.TheVariants.{Changed};
 ghost use Rattle.pgn_game.specs.Checked.{checked_profile};
 ghost use Rattle.pgn_game.specs.CheckedConversion.{TwoReadingsConvert, TwoReadingsCount};
-ghost use Rattle.pgn_game.specs.FaultTable.{marker_of};
+ghost use Rattle.pgn_game.specs.Markers.{marker_text};
 ghost use Rattle.pgn_game.specs.Pass.{CountsStep, Fills, GoesOn, HasGiven, IsGoing, Keeps};
 ghost use Rattle.pgn_game.specs.Pass.{KeepsGoing, ReadsGame, Steps, TakesKind, TellsEnd};
-ghost use Rattle.pgn_game.specs.Pass.{EndsGame, WritesGame, as_changed, games_with};
-ghost use Rattle.pgn_game.specs.Pass.{marks_differ as do_marks_differ};
+ghost use Rattle.pgn_game.specs.Pass.{WritesGame, as_changed, games_with, marks_differ};
 ghost use Rattle.pgn_game.specs.ReaderState.{whole_plies};
 ghost use Rattle.pgn_game.specs.Size.{HoldsTwice};
 
-use crate::accepted::Accepted;
 use crate::conversion::Totals;
 use crate::converter::{MAX_INPUT_LENGTH, lexical};
 use crate::marker::{Marker, MissingResult};
@@ -315,8 +313,7 @@ impl<const T: usize, const L: usize> Pass<T, L> {
 
 // Takes a token.
 //
-// Another marker than the one that was told does not go to the reader. The end does, and is a
-// difference then.
+// Another mark than the one that was told is not taken. The end is, and is a difference then.
 #[inline(always)]
 fn take_token<const T: usize, const L: usize, W: Sink>(
     kind: TokenKind<'_>,
@@ -331,22 +328,28 @@ fn take_token<const T: usize, const L: usize, W: Sink>(
     requires token { HasLength (kind_of kind) }
     ensures takes { TakesKind told (kind_of kind.entry) at reader.old reader.new result
         (W.taken out.old) (W.taken out.new) }
-    ensures plies { reader.new.earlier_plies + reader.new.text.plies
-        ≤ reader.old.earlier_plies + reader.old.text.plies + 1 }
+    ensures plies { OnOk result (reader.new.earlier_plies + reader.new.text.plies
+        ≤ reader.old.earlier_plies + reader.old.text.plies + 1) }
     ensures games { IfOk result (λ taken. games.new ≡ games_with taken games.old) }
     ensures end { IfOk result (TellsEnd (kind_of kind.entry)) }
     ensures counted { (n : ℕ) → CountsStep result n n (W.failures out.old) (W.failures out.new) }
 {
-    if marks_differ(told, kind, at) {
-        return Err(differs(at));
-    }
-    match reader.accept(kind, out) {
+    match reader.accept_unless_marker(kind, out) {
         Err(reason) => Err(Fault { at, reason }),
-        Ok(Accepted::Finished) => {
-            *games += 1;
-            Ok(game_end(kind, at))
+        Ok(Some(marker)) => {
+            let mark = Mark { marker, at };
+            if is_other(told, mark) {
+                return Err(differs(at));
+            }
+            match reader.end_game(marker, out) {
+                Err(reason) => Err(Fault { at, reason }),
+                Ok(()) => {
+                    *games += 1;
+                    Ok(Taken::Game(mark))
+                }
+            }
         }
-        Ok(Accepted::More) => {
+        Ok(None) => {
             if !is_end(kind) {
                 return Ok(Taken::More);
             }
@@ -368,30 +371,14 @@ fn differs(at: u64) -> Fault
     }
 }
 
-// Whether the token is a marker that differs from the mark that the other reading has told, or is
-// at another place. False if no mark was told.
-#[inline(always)]
-fn marks_differ(told: Option<Mark>, kind: TokenKind<'_>, at: u64) -> bool
-    ensures { result ≡ do_marks_differ told (marker_of (kind_of kind.entry)) at }
+// Whether the mark differs from the one that the other reading has told. False if none was told.
+fn is_other(told: Option<Mark>, mark: Mark) -> bool
+    ensures { result ≡ marks_differ told (Some (marker_text mark.marker)) mark.at }
 {
     let Some(told) = told else {
         return false;
     };
-    let Some(marker) = Marker::of(kind) else {
-        return false;
-    };
-    marker.text() != told.marker.text() || at != told.at
-}
-
-// The end of a game by a token, which is its marker.
-fn game_end(kind: TokenKind<'_>, at: u64) -> Taken
-    ensures { EndsGame (marker_of (kind_of kind.entry)) at result }
-{
-    match Marker::of(kind) {
-        Some(marker) => Taken::Game(Mark { marker, at }),
-        // Never: only a marker finishes a game.
-        None => Taken::More,
-    }
+    mark.marker.text() != told.marker.text() || mark.at != told.at
 }
 
 // How many bytes to ask the source for: as many as fit into both the buffer and the room. If there

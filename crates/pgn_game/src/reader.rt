@@ -1,6 +1,6 @@
 //! Reads games token by token, stage by stage.
 ghost use Rattle.std.specs.Prelude.{◌≡◌, ◌+◌, ◌-◌, ◌≤◌, ◌<◌, ◌^◌, ◌&&◌, ◌∷◌, [], false, not};
-ghost use Rattle.std.specs.Prelude.{Some, IsTrue, ◌↔◌, bytes_eq, codes, max};
+ghost use Rattle.std.specs.Prelude.{None, Some, option_map, IsTrue, ◌↔◌, bytes_eq, codes, max};
 ghost use Rattle.std.specs.Option.{option_copied};
 ghost use Rattle.pgn_layout.specs.Device.{device};
 ghost use Rattle.pgn_lexer.specs.declared.token.TokenKind.{TokenKind};
@@ -18,8 +18,9 @@ ghost use Rattle.pgn_game.specs.ReaderState.{Accepts, Stays, FinishesAtMarker, C
 ghost use Rattle.pgn_game.specs.ReaderState.{whole_plies};
 ghost use Rattle.pgn_game.specs.TokenInMovetext.{ItemFits, is_frequent, may_have_movetext, model_item};
 ghost use Rattle.pgn_game.specs.TokenInMovetext.{fen_position as position_in_fen};
-ghost use Rattle.pgn_game.specs.PutResult.{BeginsText, CountsMove, Finds, PutsItems};
-ghost use Rattle.pgn_game.specs.PutResult.{TakesEntry, TakesOutside, TakesUnwritten, at_game_start};
+ghost use Rattle.pgn_game.specs.PutResult.{BeginsText, CountsMove, Finds, MeetsEntry, PutsItems};
+ghost use Rattle.pgn_game.specs.PutResult.{TakesEntry, TakesOutside, TakesUnlessMarker};
+ghost use Rattle.pgn_game.specs.PutResult.{TakesUnwritten, at_game_start, continued, ended};
 ghost use Rattle.pgn_game.specs.FaultTable as spec;
 ghost use Rattle.pgn_game.specs.FaultTable.{is_reduced, marker_of};
 
@@ -195,17 +196,43 @@ impl<const T: usize, const L: usize> Reader<T, L> {
             ≤ self.old.earlier_plies + self.old.text.plies + 1 }
         ensures probes { self.old.most_probes ≤ self.new.most_probes }
     {
+        match self.accept_unless_marker(kind, out)? {
+            None => Ok(Accepted::More),
+            Some(marker) => {
+                self.end_game(marker, out)?;
+                Ok(Accepted::Finished)
+            }
+        }
+    }
+
+    /// Takes one token as `accept` does, but for a marker that may end the game: it is only
+    /// returned, and `end_game` takes it.
+    #[inline(always)]
+    pub fn accept_unless_marker<W: Sink>(
+        &mut self,
+        kind: TokenKind<'_>,
+        out: &mut W,
+    ) -> Result<Option<Marker>, Reason>
+        requires few { self.old.earlier_plies + self.old.text.plies < 2 ^ 64 - 1 }
+        requires token { HasLength (kind_of kind) }
+        ensures { TakesUnlessMarker self.old (kind_of kind.entry) self.new result
+            (device W.taken W.failures out.old out.new) }
+    {
         match self.accept_outside(kind) {
-            Some(result) => result,
+            Some(result) => {
+                result?;
+                Ok(None)
+            }
             None => self.accept_entry(kind, out),
         }
     }
 
     // Takes a token outside movetext. `None` if it belongs to movetext, which begins or goes on.
     #[inline(always)]
-    fn accept_outside(&mut self, kind: TokenKind<'_>) -> Option<Result<Accepted, Reason>>
+    fn accept_outside(&mut self, kind: TokenKind<'_>) -> Option<Result<(), Reason>>
         requires { self.old.earlier_plies + self.old.text.plies < 2 ^ 64 - 1 }
-        ensures { TakesOutside self.old (kind_of kind.entry) self.new result }
+        ensures { TakesOutside self.old (kind_of kind.entry) self.new
+            (option_map continued result) }
     {
         match self.stage {
             Stage::InMovetext => None,
@@ -219,13 +246,14 @@ impl<const T: usize, const L: usize> Reader<T, L> {
 
     // Takes a token between games. A game without tag pairs is one whose tag pairs are complete, so
     // the stage of its first token is the one after them.
-    fn accept_between(&mut self, kind: TokenKind<'_>) -> Option<Result<Accepted, Reason>>
+    fn accept_between(&mut self, kind: TokenKind<'_>) -> Option<Result<(), Reason>>
         requires few { self.old.earlier_plies + self.old.text.plies < 2 ^ 64 - 1 }
         requires stage { self.old.stage ≡ Between }
-        ensures { TakesOutside self.old (kind_of kind.entry) self.new result }
+        ensures { TakesOutside self.old (kind_of kind.entry) self.new
+            (option_map continued result) }
     {
         if is_comment(kind) || is_end(kind) {
-            return Some(Ok(Accepted::More));
+            return Some(Ok(()));
         }
         self.begin_game();
         self.accept_after_tags(kind)
@@ -244,12 +272,13 @@ impl<const T: usize, const L: usize> Reader<T, L> {
     }
 
     // Takes the name of a pair, or a comment before it.
-    fn accept_name(&mut self, kind: TokenKind<'_>) -> Result<Accepted, Reason>
+    fn accept_name(&mut self, kind: TokenKind<'_>) -> Result<(), Reason>
         requires stage { self.old.stage ≡ AfterLeftBracket }
-        ensures { TakesUnwritten self.old (kind_of kind.entry) self.new result }
+        ensures { TakesUnwritten self.old (kind_of kind.entry) self.new
+            (continued result) }
     {
         if is_comment(kind) {
-            return Ok(Accepted::More);
+            return Ok(());
         }
         let TokenKind::Symbol(name) = kind else {
             return Err(Reason::ExpectedName);
@@ -268,16 +297,17 @@ impl<const T: usize, const L: usize> Reader<T, L> {
         }
         self.tags.begin(name);
         self.stage = Stage::AfterName;
-        Ok(Accepted::More)
+        Ok(())
     }
 
     // Takes the value of a pair, or a comment before it.
-    fn accept_value(&mut self, kind: TokenKind<'_>) -> Result<Accepted, Reason>
+    fn accept_value(&mut self, kind: TokenKind<'_>) -> Result<(), Reason>
         requires stage { self.old.stage ≡ AfterName }
-        ensures { TakesUnwritten self.old (kind_of kind.entry) self.new result }
+        ensures { TakesUnwritten self.old (kind_of kind.entry) self.new
+            (continued result) }
     {
         if is_comment(kind) {
-            return Ok(Accepted::More);
+            return Ok(());
         }
         let TokenKind::Str(value) = kind else {
             return Err(Reason::ExpectedValue);
@@ -296,30 +326,32 @@ impl<const T: usize, const L: usize> Reader<T, L> {
         self.tags.complete(value);
         self.text.begin_at(start);
         self.stage = Stage::AfterValue;
-        Ok(Accepted::More)
+        Ok(())
     }
 
     // Takes the `]` of a pair, or a comment before it.
-    fn accept_right_bracket(&mut self, kind: TokenKind<'_>) -> Result<Accepted, Reason>
+    fn accept_right_bracket(&mut self, kind: TokenKind<'_>) -> Result<(), Reason>
         requires stage { self.old.stage ≡ AfterValue }
-        ensures { TakesUnwritten self.old (kind_of kind.entry) self.new result }
+        ensures { TakesUnwritten self.old (kind_of kind.entry) self.new
+            (continued result) }
     {
         if is_comment(kind) {
-            return Ok(Accepted::More);
+            return Ok(());
         }
         match kind {
             TokenKind::RightBracket => {
                 self.stage = Stage::AfterTags;
-                Ok(Accepted::More)
+                Ok(())
             }
             _ => Err(Reason::ExpectedBracket),
         }
     }
 
     // Takes a token after a whole tag pair, or before the first. `None` if movetext begins with it.
-    fn accept_after_tags(&mut self, kind: TokenKind<'_>) -> Option<Result<Accepted, Reason>>
+    fn accept_after_tags(&mut self, kind: TokenKind<'_>) -> Option<Result<(), Reason>>
         requires { self.old.stage ≡ AfterTags }
-        ensures { TakesOutside self.old (kind_of kind.entry) self.new result }
+        ensures { TakesOutside self.old (kind_of kind.entry) self.new
+            (option_map continued result) }
     {
         match kind {
             TokenKind::LeftBracket => {
@@ -327,7 +359,7 @@ impl<const T: usize, const L: usize> Reader<T, L> {
                     return Some(Err(Reason::TooManyTags));
                 }
                 self.stage = Stage::AfterLeftBracket;
-                Some(Ok(Accepted::More))
+                Some(Ok(()))
             }
             TokenKind::End => Some(Err(Reason::UnexpectedEnd)),
             _ => {
@@ -364,42 +396,49 @@ impl<const T: usize, const L: usize> Reader<T, L> {
         let _ = self.find(text, &mut probes);
     }
 
-    // Takes a token of movetext, or the first one. The caller has taken the `[` of another pair.
+    // Takes a token of movetext, or the first one, unless it is a marker. The caller has taken the
+    // `[` of another pair.
     #[inline(always)]
     fn accept_entry<W: Sink>(
         &mut self,
         kind: TokenKind<'_>,
         out: &mut W,
-    ) -> Result<Accepted, Reason>
+    ) -> Result<Option<Marker>, Reason>
         requires few { self.old.text.plies < 2 ^ 64 - 1 }
         requires stage { IsTrue (may_have_movetext self.old.stage) }
         requires token { HasLength (kind_of kind) }
-        ensures { TakesEntry self.old (kind_of kind.entry) self.new result
+        ensures { MeetsEntry self.old (kind_of kind.entry) self.new result
             (device W.taken W.failures out.old out.new) }
     {
         match kind {
             TokenKind::Symbol(text) => self.accept_symbol(text, out),
-            TokenKind::Period => self.pass(out),
-            TokenKind::Word(word) => self.put(Annotation::Word(word), out),
-            _ => self.accept_other(kind, out),
+            TokenKind::Period => {
+                self.pass(out)?;
+                Ok(None)
+            }
+            TokenKind::Word(word) => {
+                self.put(Annotation::Word(word), out)?;
+                Ok(None)
+            }
+            TokenKind::Asterisk => Ok(Some(Marker::Unknown)),
+            _ => {
+                self.accept_other(kind, out)?;
+                Ok(None)
+            }
         }
     }
 
-    // Takes a token of movetext that is no symbol, period or word. It is not inlined, since few
-    // tokens are such.
+    // Takes a token of movetext that is no symbol, period, word or marker. It is not inlined, since
+    // few tokens are such.
     #[inline(never)]
-    fn accept_other<W: Sink>(
-        &mut self,
-        kind: TokenKind<'_>,
-        out: &mut W,
-    ) -> Result<Accepted, Reason>
+    fn accept_other<W: Sink>(&mut self, kind: TokenKind<'_>, out: &mut W) -> Result<(), Reason>
         requires stage { IsTrue (may_have_movetext self.old.stage) }
         requires other { is_frequent (kind_of kind) ≡ false }
-        ensures { TakesEntry self.old (kind_of kind.entry) self.new result
+        requires no_marker { marker_of (kind_of kind) ≡ None }
+        ensures { TakesEntry self.old (kind_of kind.entry) self.new (continued result)
             (device W.taken W.failures out.old out.new) }
     {
         match kind {
-            TokenKind::Asterisk => self.end_game(Marker::Unknown, out),
             TokenKind::Glyph(glyph) => self.put(Annotation::Glyph(glyph), out),
             TokenKind::CommentOpen => self.put(Annotation::CommentOpen, out),
             TokenKind::CommentClose => self.put(Annotation::CommentClose, out),
@@ -409,39 +448,42 @@ impl<const T: usize, const L: usize> Reader<T, L> {
             TokenKind::LeftBracket => Err(Reason::TagInMovetext),
             TokenKind::RightBracket => Err(Reason::NotAMove),
             TokenKind::Str(_) => Err(Reason::NotAMove),
+            TokenKind::Asterisk => Err(Reason::NotAMove),
             TokenKind::Symbol(_) => Err(Reason::NotAMove),
             TokenKind::Period => Err(Reason::NotAMove),
             TokenKind::Word(_) => Err(Reason::NotAMove),
         }
     }
 
-    // Takes a symbol in movetext: a move number (PGN 8.2.2.1), a marker, or a move.
+    // Takes a symbol in movetext: a move number (PGN 8.2.2.1) or a move. A marker is returned.
     #[inline(always)]
-    fn accept_symbol<W: Sink>(&mut self, text: &[u8], out: &mut W) -> Result<Accepted, Reason>
+    fn accept_symbol<W: Sink>(&mut self, text: &[u8], out: &mut W) -> Result<Option<Marker>, Reason>
         requires few { self.old.text.plies < 2 ^ 64 - 1 }
         requires stage { IsTrue (may_have_movetext self.old.stage) }
-        ensures { TakesEntry self.old (symbol text.now) self.new result
+        ensures { MeetsEntry self.old (symbol text.now) self.new result
             (device W.taken W.failures out.old out.new) }
     {
         if may_be_score_or_number(text) {
             if is_number(text) {
-                return self.pass(out);
+                self.pass(out)?;
+                return Ok(None);
             }
             if let Some(marker) = Marker::of_symbol(text) {
-                return self.end_game(marker, out);
+                return Ok(Some(marker));
             }
         }
-        self.accept_move(text, out)
+        self.accept_move(text, out)?;
+        Ok(None)
     }
 
     // Finds the move that a symbol names, and plays it (PGN 8.2.3).
     #[inline(always)]
-    fn accept_move<W: Sink>(&mut self, text: &[u8], out: &mut W) -> Result<Accepted, Reason>
+    fn accept_move<W: Sink>(&mut self, text: &[u8], out: &mut W) -> Result<(), Reason>
         requires few { self.old.text.plies < 2 ^ 64 - 1 }
         requires stage { IsTrue (may_have_movetext self.old.stage) }
         requires number { spec.is_number text.now ≡ false }
         requires score { spec.is_score text.now ≡ false }
-        ensures { TakesEntry self.old (symbol text.now) self.new result
+        ensures { TakesEntry self.old (symbol text.now) self.new (continued result)
             (device W.taken W.failures out.old out.new) }
     {
         let mut probes = Probes::new();
@@ -454,7 +496,7 @@ impl<const T: usize, const L: usize> Reader<T, L> {
                     .put_move(self.mode, &mv, &mut probes, &mut self.line, out);
                 self.count_probes(&probes);
                 put?;
-                Ok(Accepted::More)
+                Ok(())
             }
         }
     }
@@ -482,9 +524,9 @@ impl<const T: usize, const L: usize> Reader<T, L> {
     }
 
     // Takes a `(`, which begins a variation (PGN 8.2.5).
-    fn open_variation<W: Sink>(&mut self, out: &mut W) -> Result<Accepted, Reason>
+    fn open_variation<W: Sink>(&mut self, out: &mut W) -> Result<(), Reason>
         requires { IsTrue (may_have_movetext self.old.stage) }
-        ensures { TakesEntry self.old left_paren self.new result
+        ensures { TakesEntry self.old left_paren self.new (continued result)
             (device W.taken W.failures out.old out.new) }
     {
         if !self.text.has_own_move() {
@@ -497,9 +539,9 @@ impl<const T: usize, const L: usize> Reader<T, L> {
     }
 
     // Takes a `)`, which ends a variation (PGN 8.2.5).
-    fn close_variation<W: Sink>(&mut self, out: &mut W) -> Result<Accepted, Reason>
+    fn close_variation<W: Sink>(&mut self, out: &mut W) -> Result<(), Reason>
         requires { IsTrue (may_have_movetext self.old.stage) }
-        ensures { TakesEntry self.old right_paren self.new result
+        ensures { TakesEntry self.old right_paren self.new (continued result)
             (device W.taken W.failures out.old out.new) }
     {
         if self.text.depth() == 0 {
@@ -510,34 +552,34 @@ impl<const T: usize, const L: usize> Reader<T, L> {
 
     // Takes a move number or a period, which add nothing but the tag section (PGN 8.2.2.1).
     #[inline(always)]
-    fn pass<W: Sink>(&mut self, out: &mut W) -> Result<Accepted, Reason>
+    fn pass<W: Sink>(&mut self, out: &mut W) -> Result<(), Reason>
         requires { IsTrue (may_have_movetext self.old.stage) }
-        ensures { PutsItems self.old [] self.new result
+        ensures { PutsItems self.old [] self.new (continued result)
             (device W.taken W.failures out.old out.new) }
     {
         self.begin_movetext(out)?;
-        Ok(Accepted::More)
+        Ok(())
     }
 
     // Writes an item, and moves the levels.
     #[inline(always)]
-    fn put<W: Sink>(&mut self, item: Annotation<'_>, out: &mut W) -> Result<Accepted, Reason>
+    fn put<W: Sink>(&mut self, item: Annotation<'_>, out: &mut W) -> Result<(), Reason>
         requires stage { IsTrue (may_have_movetext self.old.stage) }
         requires fits { ItemFits L self.old.text item }
-        ensures { PutsItems self.old (model_item item.entry ∷ []) self.new result
+        ensures { PutsItems self.old (model_item item.entry ∷ []) self.new (continued result)
             (device W.taken W.failures out.old out.new) }
     {
         self.begin_movetext(out)?;
         self.text.put(self.mode, &item, &mut self.line, out)?;
-        Ok(Accepted::More)
+        Ok(())
     }
 
-    // Ends the game with its marker (PGN 8.2.6).
+    /// Ends the game with its marker, which `accept_unless_marker` has returned (PGN 8.2.6).
     #[inline(never)]
-    fn end_game<W: Sink>(&mut self, marker: Marker, out: &mut W) -> Result<Accepted, Reason>
+    pub fn end_game<W: Sink>(&mut self, marker: Marker, out: &mut W) -> Result<(), Reason>
         requires { IsTrue (may_have_movetext self.old.stage) }
         ensures { (k : TokenKind) → marker_of (kind_of k) ≡ Some (marker_text marker)
-            → TakesEntry self.old (kind_of k) self.new result
+            → TakesEntry self.old (kind_of k) self.new (ended result)
             (device W.taken W.failures out.old out.new) }
     {
         if self.text.depth() > 0 {
@@ -551,7 +593,7 @@ impl<const T: usize, const L: usize> Reader<T, L> {
         self.line.put(marker.text(), out)?;
         self.line.end_game(out)?;
         self.stage = Stage::Between;
-        Ok(Accepted::Finished)
+        Ok(())
     }
 
     // Whether movetext has begun.

@@ -1,6 +1,7 @@
 -- What putting a marker comes to, and a token of movetext whose section cannot be written.
-use Rattle.pgn_game.proofs.Words.{◌≡◌, ℕ, List, [], ◌∷◌, ◌++◌, length, drop, Option, refl, sym, ap, subst, ◌∙◌, append_assoc, arith, IsTrue, Ok, Err, All, lit<, lit≤, drop-append_seam, Appends-trans, Appends, Move, AppendsFront, Device, one_more, IsToken, lines_of, full_lines, last_line, text_of as text_of_lines, Put, EndGame, text_at, line_at, Finished, Marker, WhiteWins, BlackWins, Draw, Unknown, marker_text, Mode, Stage, Between, AfterTags, InMovetext, Profile, counts_as, known_result, Pair, Item, Part, Level as ModelLevel, Levels as ModelLevels, depth, start_of, outermost, replayed, last_position, tag_section, levels_of_part, tokens_out, full_text, torn_for, Next, whole, StoredLevel, ReaderState, IsBehind, as_written, plies_behind, IsOpen, game_of, may_have_movetext, BeginsText, PutResult, gain_to, section_due, section_due_of}
+use Rattle.pgn_game.proofs.Words.{◌≡◌, ℕ, List, [], ◌∷◌, ◌++◌, length, drop, Option, Some, Result, refl, sym, ap, subst, ◌∙◌, append_assoc, arith, IsTrue, Ok, Err, All, lit<, lit≤, drop-append_seam, Appends-trans, Appends, Move, AppendsFront, Device, one_more, IsToken, lines_of, full_lines, last_line, text_of as text_of_lines, Put, EndGame, text_at, line_at, Accepted, Finished, TokenKind, kind_of, Reason, marker_of, TakesEntry, TakesToken, Marker, WhiteWins, BlackWins, Draw, Unknown, marker_text, Mode, Stage, Between, AfterTags, InMovetext, Profile, counts_as, known_result, Pair, Item, Part, Level as ModelLevel, Levels as ModelLevels, depth, start_of, outermost, replayed, last_position, tag_section, levels_of_part, tokens_out, full_text, torn_for, Next, whole, StoredLevel, ReaderState, IsBehind, as_written, plies_behind, IsOpen, game_of, may_have_movetext, BeginsText, PutResult, gain_to, section_due, section_due_of}
 use Rattle.pgn_layout.specs.declared.sink.WriteFault.{WriteFault}
+use Rattle.pgn_game.specs.PutResult.{MeetsMarker}
 use Rattle.pgn_game.specs.declared.reason.Reason.TheVariants as reasons
 use Rattle.pgn_game.proofs.putting.WritesInTurn.{front_of_more, front_after}
 use Rattle.pgn_game.proofs.putting.ItemToMovetext.{from_to}
@@ -140,3 +141,11 @@ ends_ill old begun new marker text a b c n m k ends front rest counted =
     subst (AppendsFront a c) (ap (λ (l : List ℕ). section_due_of old ++ ending l (marker_text marker)) (of_line old begun begins.begun)
     ∙ due_is old part (marker_text marker) ends.at (marker_token marker) is)
     (front_after a b c _ _ begins.text (subst (λ (t : List ℕ). AppendsFront b c (ending begun.line t)) ends.spells front)))
+
+-- A marker that was left is taken after all.
+pub marker_taken : (old ready new : ReaderState) (k : TokenKind) (marker : Marker) (r : Result Accepted Reason) (a b c : Option (List ℕ)) (n m l : ℕ)
+    → MeetsMarker old (kind_of k) marker ready (from_to a b n m) → ((k : TokenKind) → marker_of (kind_of k) ≡ Some (marker_text marker) → TakesEntry ready (kind_of k) new r (from_to b c m l))
+    → TakesToken old (kind_of k) new r (from_to a c n l)
+marker_taken old ready new k marker r a b c n m l meets takes =
+    subst (λ x. TakesToken old (kind_of k) new r (from_to a c x l)) meets.still
+    (subst (λ x. TakesToken old (kind_of k) new r (from_to x c m l)) meets.unwritten (meets.enters.takes new r _ (takes k meets.is)))

@@ -4,11 +4,11 @@ use Rattle.pgn_game.specs.declared.accepted.Accepted.TheVariants.{More as Contin
 use Rattle.pgn_game.specs.declared.checked.Mark.{Mark as CodeMark}
 use Rattle.pgn_game.specs.declared.checked.Taken.{Taken}
 use Rattle.pgn_game.specs.declared.checked.Taken.TheVariants.{More, Game as GameEnd, End}
-use Rattle.pgn_game.proofs.Words.{Kind, Token, Reason, Changed, Stage, Between, Profile, takes_the_marker, Pair, Item, Part, ◌≡◌, ℕ, ◌+◌, ◌<◌, IsTrue, inl, inr, Bool, true, false, List, [], length, take, drop, Option, None, Some, Err, refl, sym, ap, subst, ◌∙◌, arith, ◌||◌, ◌==◌, bytes_eq, is_some, and_parts, not-false, bytes_eq-Decides, drop-length, Appends-nil, Appends, marker_text, refusal, is_end, marker_of, torn, gain, text_next, Next, going, whole, next, Answers, IsAccepted, Leads, ReaderState, as_written, game_of, is_other}
+use Rattle.pgn_game.proofs.Words.{Kind, Token, Reason, Changed, WriteFault, Stage, Between, Profile, takes_the_marker, Pair, Item, Part, ◌≡◌, ℕ, ◌<◌, inl, inr, Bool, true, false, List, [], length, take, drop, Option, None, Some, Err, refl, sym, ap, subst, ◌∙◌, arith, true≢false, ◌||◌, ◌==◌, bytes_eq, is_some, and_parts, not-false, bytes_eq-Decides, drop-length, Appends-nil, Appends, marker_text, refusal, is_end, marker_of, torn, gain, text_next, Next, going, whole, next, Answers, IsAccepted, Leads, ReaderState, as_written, game_of, is_other}
 use Rattle.pgn_game.specs.ReaderState as reader_state
-use Rattle.pgn_game.specs.Pass.{LeadsTo, TakesToken, TokenFails, EndsGame, TellsEnd, accepted_of, games_with, marks_differ, model_mark, other, profile_under, refused, rejects, shows_other, unwritten}
-use Rattle.pgn_game.proofs.tokens.StepsAtEnd.{end_at, is_the_end, marker_or_end}
-use Rattle.pgn_game.proofs.twice.MarkerCounts.{accepted_under, marker_finishes, no_marker_goes, refusal_counting, same_mode}
+use Rattle.pgn_game.specs.Pass.{LeadsTo, TakesToken, TokenFails, accepted_of, marks_differ, model_mark, other, profile_under, refused, rejects, shows_other, unwritten}
+use Rattle.pgn_game.proofs.tokens.StepsAtEnd.{end_at, is_the_end}
+use Rattle.pgn_game.proofs.twice.MarkerCounts.{accepted_under, changes, marker_finishes, no_marker_goes, refusal_counting, refusals_are_inside, same_mode}
 
 -- The end adds nothing.
 end_part : (s : Stage) (ps : List Pair) (name : List ℕ) (items : List Item) → s ≡ Between
@@ -40,12 +40,19 @@ goes_on : (n : Next) (new : ReaderState) → Leads n Continues new → (to : Par
 goes_on (going to) new h = (to, refl)
 goes_on (whole g) new h = absurd h
 
--- so a marker is answered as the end of a game, and is not the end
-pub one_game : (k : Kind) (o : Option (List ℕ)) (at n : ℕ) (taken : Taken) → marker_of k ≡ o → IsTrue (is_some o) → EndsGame o at taken → (n + 1 ≡ games_with taken n) × TellsEnd k taken
-one_game k (Some marker) at n (GameEnd m) is some h = (refl, marker_or_end k (ap is_some is))
-one_game k (Some marker) at n More is some h = absurd h
-one_game k (Some marker) at n End is some h = absurd h
-one_game k None at n taken is some h = absurd (cc)
+-- a token that is no marker has none that differs
+pub no_mark : (told : Option CodeMark) (o : Option (List ℕ)) (at : ℕ) → o ≡ None → marks_differ told o at ≡ false
+no_mark None o at is = refl
+no_mark (Some m) o at is = ap (λ x. marks_differ (Some m) x at) is
+
+-- so it is with one that only goes on
+pub goes_unmarked : (told : Option CodeMark) (at : ℕ) (old new : ReaderState) (part : Part) (k : Kind) (a c : Option (List ℕ)) → IsAccepted old part k new Continues a c
+    → marks_differ told (marker_of k) at ≡ false
+goes_unmarked told at old new part k a c h = by_marker (marker_of k) refl
+  where
+    by_marker : (o : Option (List ℕ)) → marker_of k ≡ o → marks_differ told (marker_of k) at ≡ false
+    by_marker None is = no_mark told (marker_of k) at is
+    by_marker (Some text) is = absurd (subst (λ n. Leads n Continues new) (marker_finishes old.profile part k text is h.free) h.leads)
 
 module _ (q : Profile) (part : Part) (told : Option CodeMark) (t : Token) (old new : ReaderState) (a c : Option (List ℕ)) (takes : q.missing_result ≡ takes_the_marker)
     (under : old.profile ≡ profile_under q told) where
@@ -85,16 +92,11 @@ module _ (q : Profile) (part : Part) (told : Option CodeMark) (t : Token) (old n
           accepted = accepted_under q part k old new (accepted_of taken) a c (ap (λ (p : Profile). p.mode) under ∙ same_mode q told) kept row h;
         }
 
-    pub taken_game : (taken : Taken) → EndsGame (marker_of k) t.at taken → new.profile ≡ old.profile → IsAccepted old part k new Finished a c → TakesToken q part told t old new taken a c
-    taken_game taken ends kept h = by_marker taken (marker_of k) refl ends
-      where
-        by_marker : (taken : Taken) (o : Option (List ℕ)) → marker_of k ≡ o → EndsGame o t.at taken → TakesToken q part told t old new taken a c
-        by_marker (GameEnd m) (Some text) is ends =
-            let free = sym row ∙ h.free in
-            takes_token (GameEnd m) kept h (finishes text is free ∙ differ) (subst (λ n. LeadsTo n t (GameEnd m)) (sym (marker_finishes q part k text is free)) ends)
-        by_marker More (Some text) is ends = absurd ends
-        by_marker End (Some text) is ends = absurd ends
-        by_marker taken None is ends = absurd (subst (λ n. Leads n Finished new) (no_marker_goes part k is).1 h.leads)
+    pub taken_game : (m : CodeMark) (text : List ℕ) → marker_of k ≡ Some text → model_mark m ≡ record { text = text; at = t.at } → new.profile ≡ old.profile → IsAccepted old part k new Finished a c
+        → TakesToken q part told t old new (GameEnd m) a c
+    taken_game m text is ends kept h =
+        let free = sym row ∙ h.free in
+        takes_token (GameEnd m) kept h (finishes text is free ∙ differ) (subst (λ n. LeadsTo n t (GameEnd m)) (sym (marker_finishes q part k text is free)) ends)
 
     -- a token that goes on differs by being the end alone
     module _ (kept : new.profile ≡ old.profile) (h : IsAccepted old part k new Continues a c) where
@@ -118,7 +120,7 @@ module _ (q : Profile) (part : Part) (told : Option CodeMark) (t : Token) (old n
       pub fails_at_end : is_end k ≡ true → is_some told ≡ true → TokenFails q part told t a c (record { at = t.at; reason = Changed })
       fails_at_end at_end some =
           let free = sym row ∙ h.free in
-          other (not_rejected free true (differs_by told true at_end some)) some (subst (Appends a c) (end_gains_nothing q (as_written old.profile) part k at_end free) h.appended)
+          other Changed refl (not_rejected free true (differs_by told true at_end some)) some (subst (Appends a c) (end_gains_nothing q (as_written old.profile) part k at_end free) h.appended)
 
     -- a write failed: so the token is not the end, which adds nothing
     shows_none : refusal q part k ≡ None → (n : ℕ) → n < length (gain (as_written old.profile) part k) → shows_other told (next part k) t ≡ false
@@ -139,14 +141,28 @@ module _ (q : Profile) (part : Part) (told : Option CodeMark) (t : Token) (old n
         (n, subst (λ p. n < length (gain (as_written p) part k)) under short, subst (λ p. Appends a c (take n (gain (as_written p) part k))) under wrote)
 
   -- a marker that differs is not taken
-  pub fails_marks : (o : Option (List ℕ)) → marks_differ told (marker_of k) t.at ≡ true → TokenFails q part told t o o (record { at = t.at; reason = Changed })
-  fails_marks o differ = by_both told (marker_of k) refl refl differ
+  rejected : marks_differ told (marker_of k) t.at ≡ true → (rejects told q part t ≡ true) × (is_some told ≡ true)
+  rejected differ = by_both told (marker_of k) refl refl differ
     where
       by_refusal : (text : List ℕ) → marker_of k ≡ Some text → (r : Option Reason) → refusal q part k ≡ r → rejects told q part t ≡ true
       by_refusal text is None free = not_rejected free true (finishes text is free ∙ differ)
       by_refusal text is (Some reason) some = ap (λ (o : Option Reason). is_some o || shows_other told (next part k) t) some
 
-      by_both : (x : Option CodeMark) (y : Option (List ℕ)) → told ≡ x → marker_of k ≡ y → marks_differ x y t.at ≡ true → TokenFails q part told t o o (record { at = t.at; reason = Changed })
-      by_both (Some m) (Some text) told_is is same = other (by_refusal text is (refusal q part k) refl) (ap is_some told_is) (Appends-nil o)
+      by_both : (x : Option CodeMark) (y : Option (List ℕ)) → told ≡ x → marker_of k ≡ y → marks_differ x y t.at ≡ true → (rejects told q part t ≡ true) × (is_some told ≡ true)
+      by_both (Some m) (Some text) told_is is same = (by_refusal text is (refusal q part k) refl, ap is_some told_is)
       by_both None y told_is is same = absurd (cc)
       by_both (Some m) None told_is is same = absurd (cc)
+
+  pub fails_marks : (o : Option (List ℕ)) → marks_differ told (marker_of k) t.at ≡ true → TokenFails q part told t o o (record { at = t.at; reason = Changed })
+  fails_marks o differ = let r = rejected differ in other Changed refl r.0 r.1 (Appends-nil o)
+
+  -- nor is a token that is rejected before it is compared
+  pub fails_unless : (reason : Reason) → Answers old part k new (Err reason) a c → (reason ≡ WriteFault → marker_of k ≡ None) → TokenFails q part told t a c (record { at = t.at; reason = reason })
+  fails_unless reason answers unmarked = by_mark (marks_differ told (marker_of k) t.at) refl reason unmarked answers
+    where
+      by_mark : (b : Bool) → marks_differ told (marker_of k) t.at ≡ b → (why : Reason) → (why ≡ WriteFault → marker_of k ≡ None) → Answers old part k new (Err why) a c
+          → TokenFails q part told t a c (record { at = t.at; reason = why })
+      by_mark false is why unmarked h = fails is why h
+      by_mark true is why unmarked (reader_state.refused reason some wrote tries here) =
+          let r = rejected is in other reason (changes reason (refusals_are_inside old.profile part k reason some)) r.0 r.1 wrote
+      by_mark true is why unmarked (reader_state.unwritten none short tries) = absurd (true≢false (sym is ∙ no_mark told (marker_of k) t.at (unmarked refl)))

@@ -6,7 +6,7 @@ use Rattle.std.proofs.lemmas.Bool.{and_parts, not-true}
 use Rattle.pgn_lexer.specs.Tokens as tokens
 use Rattle.pgn_lexer.specs.declared.token.LexReason.{LexReason}
 use Rattle.pgn_lexer.specs.declared.token.LexReason.TheVariants as lex_reasons
-use Rattle.pgn_game.proofs.Words.{Kind, Reason, Lexical, BadTagName, ResultDiffers, Mode, Stage, Between, AfterLeftBracket, AfterName, AfterValue, AfterTags, InMovetext, Profile, Missing, counts_as, takes_the_marker, Game, Part, no_part, ◌≡◌, ℕ, ◌⊎◌, Bool, true, false, ◌&&◌, not, List, [], ◌∷◌, ◌++◌, take, drop, Option, None, Some, inl, inr, refl, sym, ap, subst, ◌∙◌, true≢false, IsTrue, ◌==◌, list_all, Accepted, More, Finished, counting, with_missing, depth, start_of, Row, row, rows, first_holding, refusal, in_name, is_score, is_outside_tag_pairs, has_other_result, levels_of_part, marker_of, position_in, game_text, Next, going, whole, at_stage, items_of, in_text, next, next_in, CostsUnlessRefused, Tries, added, HoldsItems, ReaderState, Agrees, HoldsText, IsAccepted, Leads, is_outside_the_table, game_of, or_else, with_items, profile_under, reading_under}
+use Rattle.pgn_game.proofs.Words.{Kind, Reason, Changed, Lexical, ReadFault, WriteFault, BadTagName, ResultDiffers, changed_reason, Mode, Stage, Between, AfterLeftBracket, AfterName, AfterValue, AfterTags, InMovetext, Profile, Missing, counts_as, takes_the_marker, Game, Part, no_part, ◌≡◌, ℕ, ◌⊎◌, Bool, true, false, ◌&&◌, not, List, [], ◌∷◌, ◌++◌, take, drop, Option, None, Some, inl, inr, refl, sym, ap, subst, ◌∙◌, true≢false, IsTrue, ◌==◌, list_all, Accepted, More, Finished, counting, with_missing, depth, start_of, Row, row, rows, first_holding, refusal, in_name, is_score, is_outside_tag_pairs, has_other_result, levels_of_part, marker_of, position_in, game_text, Next, going, whole, at_stage, items_of, in_text, next, next_in, CostsUnlessRefused, Tries, added, HoldsItems, ReaderState, Agrees, HoldsText, IsAccepted, Leads, is_outside_the_table, game_of, or_else, with_items, profile_under, reading_under}
 use Rattle.pgn_game.specs.declared.checked.Mark.{Mark as CodeMark}
 use Rattle.pgn_game.proofs.MarkerTexts.{score_marker, marker_no_name}
 use Rattle.pgn_game.proofs.refusals.RefusalsByStage.{name_refusal, test_failed}
@@ -156,6 +156,12 @@ pub refusals_are_inside : (q : Profile) (part : Part) (k : Kind) (reason : Reaso
 unfolding refusal
 refusals_are_inside q part (tokens.refused r) reason is = let same : Lexical r ≡ reason = cc in ap is_outside_the_table (sym same) ∙ lexical_inside r
 refusals_are_inside q part k reason is = first_inside (rows q part k) reason refl is
+
+-- and such a reason shows a change
+pub changes : (reason : Reason) → is_outside_the_table reason ≡ false → changed_reason reason ≡ Changed
+changes ReadFault h = absurd (cc)
+changes WriteFault h = absurd (cc)
+changes _ h = refl
 
 -- a game has the same export text
 pub same_game_text : (q : Profile) (g : Game) → q.missing_result ≡ takes_the_marker → game_text (counting q g.marker) g ≡ game_text q g

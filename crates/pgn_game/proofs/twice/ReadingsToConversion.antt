@@ -1,6 +1,6 @@
 -- From what the calls of each game return, in both readings, to the conversion.
 use Rattle.std.proofs.lemmas.Option.{IfSome_then}
-use Rattle.pgn_game.proofs.Words.{Token, Reason, Changed, ReadFault, WriteFault, Fault, Profile, Missing, takes_the_marker, Game, no_part, ◌≡◌, inl, inr, ◌||◌, is_some, Err, ℕ, ◌+◌, ◌<◌, ◌≤◌, max, Bool, true, false, List, [], ◌∷◌, ◌++◌, length, take, Option, None, Some, Ok, IfSome, refl, sym, ap, subst, ◌∙◌, append_assoc, append-nil, length-append, arith, IsTrue, map, sum, take-append-add, Appends-nil, Appends-trans, and_parts, not-false, bytes_eq-Decides, Appends, Consumes, Device, FailsOnce, tokens_of, decided, Standing, coming, plies_of, text_next, gain, is_outside_the_table, whole_plies, play_moves, verdict_in, MostTried, Mark, marks_from, is_other, is_changed, marks_after, Comparison, compared_from, compared, with_mark, torn_before, written_by, earlier_fault}
+use Rattle.pgn_game.proofs.Words.{Token, Reason, Changed, ReadFault, WriteFault, Fault, Profile, Missing, takes_the_marker, Game, no_part, ◌≡◌, inl, inr, ◌||◌, is_some, Err, ℕ, ◌+◌, ◌<◌, ◌≤◌, max, Bool, true, false, List, [], ◌∷◌, ◌++◌, length, take, Option, None, Some, Ok, IfSome, refl, sym, ap, subst, ◌∙◌, append_assoc, append-nil, length-append, arith, IsTrue, map, sum, take-append-add, Appends-nil, Appends-trans, and_parts, not-false, bytes_eq-Decides, Appends, Consumes, Device, FailsOnce, tokens_of, decided, Standing, coming, plies_of, text_next, gain, whole_plies, play_moves, verdict_in, MostTried, Mark, marks_from, is_other, is_changed, marks_after, Comparison, compared_from, compared, with_mark, torn_before, written_by, earlier_fault}
 use Rattle.pgn_game.specs.declared.conversion.Totals.{Totals}
 use Rattle.pgn_game.specs.declared.checked.Mark.{Mark as CodeMark}
 use Rattle.pgn_game.specs.Text.{game_text, text_of, torn}
@@ -13,7 +13,7 @@ use Rattle.pgn_game.proofs.tokens.NextGrows.{next_is}
 use Rattle.pgn_game.proofs.tokens.OneMoreToken.{read-refuses, text_of-snoc}
 use Rattle.pgn_game.proofs.tokens.AcceptedToConverter.{follows_first, in_games}
 use Rattle.pgn_game.proofs.tokens.WholeInput.{known_left}
-use Rattle.pgn_game.proofs.twice.MarkerCounts.{refusals_are_inside}
+use Rattle.pgn_game.proofs.twice.MarkerCounts.{changes, refusals_are_inside}
 use Rattle.pgn_game.proofs.twice.MarksInTurn.{matched_mark, not_changed, both_read}
 use Rattle.pgn_game.proofs.twice.StepsToGame.{end_marked, game, game_marked, game_matched, game_written, one_game, stands, tokens as tokens_read}
 
@@ -185,7 +185,7 @@ module _ (q : Profile) (first second sink : Device) (first_now : Option (List �
 
   first_at : (f : Fault) (tokens : List Token) (t : Token) (a c : Option (List ℕ)) → (read q tokens).fault ≡ None → HasMarked q tokens so.marks → ComesNext first.before tokens t
       → TokenFails q (part_after q tokens) None t a c f → (f.reason ≡ WriteFault → ⊥) → TwoReadingsFail q first second sink f
-  first_at f tokens t a c passes marked comes (other differs told wrote) no_write = absurd (cc)
+  first_at f tokens t a c passes marked comes (other reason changed differs told wrote) no_write = absurd (cc)
   first_at f tokens t a c passes marked comes (unwritten same wrote) no_write = absurd (no_write refl)
   first_at f tokens t a c passes marked comes (refused reason rejected wrote) no_write =
       let f : Fault = record { at = t.at; reason = reason } in
@@ -207,12 +207,6 @@ module _ (q : Profile) (first second sink : Device) (first_now : Option (List �
       by_last : AfterStep q first.before first.after None r.so.tokens new_a (Err f) r.mid None → TwoReadingsFail q first second sink f
       by_last (inl fails) = first_at f r.so.tokens fails.token r.mid None passes (r.so.marked so.marks so.marked) fails.comes fails.fails no_write
       by_last (inr (fails, wrote)) = first_unread r.so.tokens passes (r.so.marked so.marks so.marked) counts fails
-
--- a reason of the fault table shows a change
-changes : (reason : Reason) → is_outside_the_table reason ≡ false → changed_reason reason ≡ Changed
-changes ReadFault h = absurd (cc)
-changes WriteFault h = absurd (cc)
-changes _ h = refl
 
 module _ (q : Profile) (first second sink : Device) (first_now second_now mid : Option (List ℕ)) (a b : Pass)
     (so : BothSoFar q first.before first_now second.before second_now a b sink.before mid) (m : CodeMark) (new_a new_b : Pass) (e : Fault)
@@ -326,7 +320,8 @@ module _ (q : Profile) (first second sink : Device) (first_now second_now mid : 
   second_at t comes (refused reason some wrote) =
       subst (λ r. TwoReadingsFail q first second sink (record { at = t.at; reason = r })) (sym (changes reason (refusals_are_inside q c.part t.kind reason some)))
       (second_differs t comes (ap (λ (o : Option Reason). is_some o || is_other mark (next c.part t.kind) t) some) wrote)
-  second_at t comes (other differs told wrote) = second_differs t comes differs wrote
+  second_at t comes (other reason changed differs told wrote) =
+      subst (λ r. TwoReadingsFail q first second sink (record { at = t.at; reason = r })) (sym changed) (second_differs t comes differs wrote)
   second_at t comes (unwritten same (n, short, wrote)) =
       TwoReadingsFail.unwritten t.at
       (IfSome_then second.before {P = λ r. (us : List Token) × (tokens_of r ≡ tokens ++ t ∷ us)} {Q = λ r. WriteStops q first (tokens_of r) t.at sink} comes

@@ -1,4 +1,6 @@
 use Rattle.pgn_game.proofs.Words.{◌≡◌, ◌||◌, Bool, true, refl, sym, ap, subst, ◌∙◌, arith, or_right, kind_of, is_comment, is_end, ReaderState, TakesOutside}
+use Rattle.std.specs.Prelude.{option_map}
+use Rattle.pgn_game.specs.PutResult.{continued}
 use Rattle.pgn_game.proofs.ReaderLemmas.{reader_alike, passes_first, takes_outside_first}
 use Rattle.pgn_game.proofs.reader.Reader.accept_between.Goals as goal
 use Rattle.pgn_game.proofs.reader.Reader.accept_between.Goals.{then-is_comment-via-then-is_comment, then-is_comment-via-else-is_comment+then-is_end}
@@ -23,5 +25,5 @@ pub returns : goal.returns
 returns g c =
     let old = c.args.self.now in
     let k = kind_of c.args.kind in
-    takes_outside_first old _ c.args.kind c.accept_after_tags.result c.requires.stage (sym c.is_comment.ensures ∙ c.if-is_comment.false) (sym c.is_end.ensures ∙ c.if-is_end.false)
-    (subst (λ (r : ReaderState). TakesOutside r k c.accept_after_tags.new.self c.accept_after_tags.result) c.begin_game.ensures c.accept_after_tags.ensures)
+    takes_outside_first old _ c.args.kind (option_map continued c.accept_after_tags.result) c.requires.stage (sym c.is_comment.ensures ∙ c.if-is_comment.false) (sym c.is_end.ensures ∙ c.if-is_end.false)
+    (subst (λ (r : ReaderState). TakesOutside r k c.accept_after_tags.new.self (option_map continued c.accept_after_tags.result)) c.begin_game.ensures c.accept_after_tags.ensures)

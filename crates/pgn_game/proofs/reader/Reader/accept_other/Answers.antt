@@ -1,12 +1,11 @@
-use Rattle.pgn_game.proofs.Words.{◌≡◌, false, refl, sym, subst, false≢true, kind_of, TokenKind, is_frequent, NotAMove, TagInMovetext, UnexpectedEnd}
+use Rattle.pgn_game.proofs.Words.{◌≡◌, false, refl, sym, subst, false≢true, kind_of, TokenKind, None, marker_of, is_frequent, NotAMove, TagInMovetext, UnexpectedEnd}
 use Rattle.pgn_lexer.specs.Tokens as tokens
-use Rattle.pgn_lexer.specs.declared.token.TokenKind.TheVariants as token_kinds
 use Rattle.pgn_game.specs.declared.annotation.Annotation.TheVariants.{Glyph, CommentOpen, CommentClose}
 use Rattle.pgn_game.proofs.ReaderLemmas.{entry_refused, item_entry}
 use Rattle.pgn_game.proofs.reader.Reader.accept_other.Goals as goal
 
 pub returns-in-Asterisk : goal.returns-in-Asterisk
-returns-in-Asterisk g c = rw c.in-Asterisk.is (c.end_game.ensures token_kinds.Asterisk refl)
+returns-in-Asterisk g c = absurd (cc (subst (λ (k : TokenKind). marker_of (kind_of k) ≡ None) c.in-Asterisk.is c.requires.no_marker))
 
 pub returns-in-Glyph : goal.returns-in-Glyph
 returns-in-Glyph g c =

@@ -1,19 +1,31 @@
-use Rattle.pgn_game.proofs.Words.{◌≡◌, Option, None, Some, is_some, false, refl, sym, ◌∙◌, symbol, Marker, is_number, is_score}
-use Rattle.pgn_lexer.specs.declared.token.TokenKind.TheVariants as token_kinds
+use Rattle.pgn_game.proofs.Words.{◌≡◌, ℕ, List, [], Option, None, Some, Result, Err, is_some, true, false, refl, sym, ap, ◌∙◌, err_from_is_err_and, Device, symbol, Reason, ReaderState, Accepted, Marker, marker_of, is_number, is_score}
+use Rattle.pgn_game.specs.PutResult.{PutsItems, TakesOther}
 use Rattle.pgn_game.proofs.ReaderLemmas.{reader_alike, number_no_score, number_free, number_leads, number_untried, passes_entry}
 use Rattle.pgn_game.proofs.reader.Reader.accept_symbol.Goals as goal
 use Rattle.pgn_game.proofs.reader.Reader.accept_symbol.Goals.{then-may_be_score_or_number+else-is_number+in_default, else-may_be_score_or_number}
 
+-- a number is no marker
+unmarked : (s : List ℕ) → is_score s ≡ false → marker_of (symbol s) ≡ None
+unmarked s is = rw (is, marker_of) refl
+
+number_entry : (old new : ReaderState) (s : List ℕ) (r : Result Accepted Reason) (d : Device) → is_number s ≡ true → PutsItems old [] new r d → TakesOther old (symbol s) new r d
+number_entry old new s r d number puts =
+    let score = number_no_score s number in
+    record {
+      no_marker = unmarked s score;
+      takes = passes_entry old new (symbol s) r d puts (λ part is. (number_free old.profile part s number score, number_leads part s number score)) (λ part. number_untried part s number);
+    }
+
+pub returns-in_err-pass : goal.returns-in_err-pass
+returns-in_err-pass g c =
+    let p = err_from_is_err_and c.from_residual.result c.from_residual.ensures.1 in
+    rw (p.1 ∙ ap Err p.2) (number_entry c.args.self.now _ c.args.text.now _ _ (sym c.is_number.ensures ∙ c.if-is_number.true) c.in_err-pass.ensures)
+
 pub returns-then-is_number : goal.returns-then-is_number
-returns-then-is_number g c =
-    let old = c.args.self.now in
-    let s = c.args.text.now in
-    let number = sym c.is_number.ensures ∙ c.if-is_number.true in
-    passes_entry old _ (symbol s) _ _ c.pass.ensures
-    (λ part is. (number_free old.profile part s number (number_no_score s number), number_leads part s number (number_no_score s number))) (λ part. number_untried part s number)
+returns-then-is_number g c = number_entry c.args.self.now _ c.args.text.now _ _ (sym c.is_number.ensures ∙ c.if-is_number.true) c.in_ok-pass.ensures
 
 pub returns-in-Some : goal.returns-in-Some
-returns-in-Some g c = c.end_game.ensures (token_kinds.Symbol c.args.text) (sym c.in-Some.ensures.text)
+returns-in-Some g c = record { is = sym c.in-Some.ensures.text; same = refl; unwritten = refl; still = refl }
 
 no_marker : (o : Option Marker) → ((m : Marker) → o ≡ Some m → ⊥) → is_some o ≡ false
 no_marker None other = refl
