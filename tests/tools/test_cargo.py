@@ -133,6 +133,16 @@ class Built(unittest.TestCase):
     def test_the_tests_of_the_program_pass(self):
         self.check_tests("pgn_tool", 18, "*_tests", ())
 
+    def test_the_examples_of_the_docstrings_pass(self):
+        files = [it for name in LIBRARIES for it in glob.glob("%s/crates/%s/src/*.rt" % (ROOT, name))]
+        fences = sum(len(re.findall(r"^ *//[/!] ```", read(it), re.M)) for it in files)
+        self.assertGreaterEqual(fences, 44)
+        ran = cargo("test", "--doc", *("--package=" + it for it in LIBRARIES))
+        said = (ran.stdout + ran.stderr).decode()
+        self.assertEqual(ran.returncode, 0, said)
+        passed = sum(map(int, re.findall(r"(\d+) passed; 0 failed", said)))
+        self.assertEqual(2 * passed, fences)
+
     def check_conditions(self, env, expected):
         """The tests that are written for Cargo: of the libraries, and of pgn_c."""
         words = ["test", "--package", "pgn_game", "--package", "pgn_lexer", "--package",

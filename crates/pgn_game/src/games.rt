@@ -26,7 +26,7 @@ use std::marker::Model;
 /// ```
 /// use pgn_game::{Games, Inlet, Mode, Nowhere};
 ///
-/// let mut source = Inlet::new(b"1. e4 e5 * [White \"Ada\"] 1. d4 1-0".as_slice());
+/// let mut source = Inlet::new(b"1. e4 e5 * [White \"Ada\"] 1. d4 *".as_slice());
 /// let mut games = Games::<64, 33>::new(Mode::Full);
 /// assert!(games.next(&mut source, &mut Nowhere).unwrap());
 /// assert_eq!(games.plies(), 2);
