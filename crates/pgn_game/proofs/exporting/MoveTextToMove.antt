@@ -45,7 +45,8 @@ begins [] e = absurd (cc)
 begins (c ∷ s) e = rw e
 
 as_symbol : {s : List ℕ} → IsMoveSymbol s → IsSymbol s
-as_symbol h = search (rules, each_of, move_byte, begins)
+as_symbol {s} h =
+    let fits = h.fits in record { begins = begins s h.begins; bytes = each_of is_move_byte _ s move_byte h.bytes; fits = omega arith }
 
 no_score : (s : List ℕ) → IsMoveSymbol s → IsFalse (is_score s)
 no_score s h = (or_parts _ (bytes_eq s _) h.no_marker).0

@@ -1,5 +1,5 @@
 -- From the grammar to reading: tokens that spell games run, and finish these games.
-use Rattle.pgn_game.proofs.Words.{◌≡◌, ℕ, ◌<◌, Bool, true, false, ◌&&◌, not, List, [], ◌∷◌, ◌++◌, length, nat_le, refl, sym, ap, subst, ◌∙◌, arith, append_assoc, append-nil, Option, None, Some, ◌==◌, codes, bytes_eq, unwrap_or, IsTrue, IsFalse, list_all, bytes_eq-Decides, and_parts, nat_tests, Played, Kind, Mode, TooDeep, MarkerInVariation, ResultDiffers, Stage, Between, AfterLeftBracket, AfterName, AfterTags, InMovetext, Profile, Pair, value_of, has_pair, insert_pair, Item, Game, Part, no_part, Level, Levels, levels_of, depth, here, replayed, without_last, start_of, refusal, is_comment, is_end, is_reduced, marker_of, lacks_fen, next, going, whole, AreDropped, SpellsPair, pair, SpellsPairs, no_pair, next_pair, IsPair, by_name, IsSetUp, Names, new_level, SpellsText, no_more, token, move, variation, BeginsBare, IsResult, SpellsGame, SpellsGames, no_game, next_game, rules}
+use Rattle.pgn_game.proofs.Words.{◌≡◌, ℕ, ◌<◌, Bool, true, false, ◌&&◌, not, List, [], ◌∷◌, ◌++◌, length, nat_le, refl, sym, ap, subst, ◌∙◌, arith, append_assoc, append-nil, Option, None, Some, ◌==◌, codes, bytes_eq, unwrap_or, IsTrue, IsFalse, list_all, bytes_eq-Decides, and_parts, nat_tests, Played, Kind, Mode, TooDeep, MarkerInVariation, ResultDiffers, Stage, Between, AfterLeftBracket, AfterName, AfterTags, InMovetext, Profile, Pair, value_of, has_pair, insert_pair, Item, Game, Part, no_part, Level, Levels, levels_of, depth, here, replayed, without_last, start_of, refusal, is_comment, is_end, is_reduced, marker_of, lacks_fen, next, going, whole, AreDropped, SpellsPair, pair, SpellsPairs, no_pair, next_pair, IsPair, by_name, IsSetUp, Names, new_level, SpellsText, no_more, token, move, variation, BeginsBare, IsResult, SpellsGame, SpellsGames, no_game, next_game, rules, none-some}
 use Rattle.pgn_lexer.specs.Tokens as tokens
 use Rattle.pgn_game.specs.Game as games
 use Rattle.pgn_game.proofs.reading.RunsToEnd.{at, Runs, ends, goes, finishes}
@@ -158,8 +158,10 @@ runs_alike p part other ks gs alike h6 = search (rules, ends, goes, finishes)
 
 textual : (p : Profile) (ps : List Pair) (name : List ℕ) (items : List Item) (k : Kind) → refusal p (at InMovetext ps name items) k ≡ None → IsTrue (is_textual k)
 unfolding refusal
-textual p ps name items tokens.left_bracket free = absurd (cc)
-textual p ps name items _ free = cc
+textual p ps name items tokens.left_bracket free = absurd (none-some _ (sym free))
+textual p ps name items tokens.end free = absurd (none-some _ (sym free))
+textual p ps name items (tokens.refused r) free = absurd (none-some _ (sym free))
+textual p ps name items _ free = refl
 
 begins_after_tags : (p : Profile) (ps : List Pair) (name : List ℕ) (items : List Item) (ks : List Kind) (gs : List Game) → lacks_fen ps ≡ false
     → Runs p (at InMovetext ps name items) ks gs → Runs p (at AfterTags ps name items) ks gs

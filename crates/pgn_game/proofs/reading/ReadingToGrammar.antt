@@ -221,20 +221,24 @@ symbol_step : {p : Profile} {ps : List Pair} (name : List ℕ) {items : List Ite
     → After p (symbol_next (at InMovetext ps name items) s is_digits score o) ks gs → Text_left p ps items (tokens.symbol s ∷ ks) gs
 symbol_step name s true false o digits is_marker one free after = token_step (number s digits) (after tt)
 symbol_step {p} {ps} name {items} s false false (Some (Ok played)) digits is_marker one free after =
-    search (rules, adds_move, test_failed, text_more)
-symbol_step name s false false None digits is_marker one free after = absurd (cc)
-symbol_step name s false false (Some (Err NoMove)) digits is_marker one free after = absurd (cc)
-symbol_step name s false false (Some (Err Ambiguous)) digits is_marker one free after = absurd (cc)
+    let names : Names (here (start_of ps) (levels_of items)) s played =
+    record { no_number = digits; no_marker = is_marker; one = one; within = test_failed _ _ _ free } in
+    text_more _ (adds_move p ps items s played names) (after tt)
+symbol_step name s false false None digits is_marker one free after = absurd (none-some _ (sym free))
+symbol_step name s false false (Some (Err NoMove)) digits is_marker one free after = absurd (none-some _ (sym free))
+symbol_step name s false false (Some (Err Ambiguous)) digits is_marker one free after = absurd (none-some _ (sym free))
 symbol_step name s true true o digits is_marker one free after =
-    search (rules, marker_if, marker_step, rest_passed, test_failed)
+    marker_step (ap (λ b. marker_if b s) is_marker) (test_failed _ MarkerInVariation _ free)
+    (test_failed _ ResultDiffers None (rest_passed (nat_le 1 _) MarkerInVariation free)) after
 symbol_step name s false true o digits is_marker one free after =
-    search (rules, marker_if, marker_step, rest_passed, test_failed)
+    marker_step (ap (λ b. marker_if b s) is_marker) (test_failed _ MarkerInVariation _ free)
+    (test_failed _ ResultDiffers None (rest_passed (nat_le 1 _) MarkerInVariation free)) after
 
 text_step : {p : Profile} {ps : List Pair} (name : List ℕ) {items : List Item} (k : Kind) {ks : List Kind} {gs : List Game} → refusal p (at InMovetext ps name items) k ≡ None
     → is_end k ≡ false → After p (next (at InMovetext ps name items) k) ks gs → Text_left p ps items (k ∷ ks) gs
 unfolding refusal
-text_step {p} name tokens.left_paren free end after = search (rules, open_step)
-text_step {p} name tokens.right_paren free end after = search (rules, close_step)
+text_step name tokens.left_paren free end after = open_step _ name free (after tt)
+text_step name tokens.right_paren free end after = close_step _ name free (after tt)
 text_step name tokens.period free end after = token_step period (after tt)
 text_step name (tokens.glyph n) free end after = token_step (glyph n) (after tt)
 text_step name tokens.comment_open free end after = token_step comment_open (after tt)
@@ -248,8 +252,8 @@ text_step {p} {ps} name {items} (tokens.symbol s) free end after =
     let place = here (start_of ps) (levels_of items) in
     symbol_step name s _ _ _ refl refl refl
     (sym (text_row p (at InMovetext ps name items) (tokens.symbol s) refl ∙ symbol_refusal p (at InMovetext ps name items) s _ refl refl) ∙ free) after
-text_step name tokens.end free end after = absurd (cc)
-text_step name _ free end after = absurd (cc)
+text_step name tokens.end free end after = absurd (false≢true (sym end))
+text_step name _ free end after = absurd (none-some _ (sym free))
 
 -- Pairs, token by token.
 dropped_more : (k : Kind) (ks : List Kind) → IsTrue (is_comment k) → AreDropped ks → AreDropped (k ∷ ks)
@@ -282,8 +286,9 @@ unfolding refusal
 bracket_step name tokens.comment_open none free after = one_dropped _ refl (after none)
 bracket_step name (tokens.word s) none free after = one_dropped _ refl (after none)
 bracket_step name tokens.comment_close none free after = one_dropped _ refl (after none)
-bracket_step name tokens.right_bracket {ks} none free after = search (rules, none_dropped)
-bracket_step name _ none free after = absurd (cc)
+bracket_step name tokens.right_bracket {ks} none free after =
+    none_dropped _ (record { behind = ks; kinds = refl; tags = after none })
+bracket_step name _ none free after = absurd (none-some _ (sym free))
 
 value_given : (p : Profile) {ps : List Pair} {name : List ℕ} (items : List Item) (s : List ℕ) {ks : List Kind} {gs : List Game}
     → refusal p (at AfterName ps name items) (tokens.str s) ≡ None → Bracket_left p (insert_pair (record { name = name; value = s }) ps) ks gs
@@ -310,8 +315,8 @@ unfolding refusal
 value_step tokens.comment_open none free after = one_dropped _ refl (after none)
 value_step (tokens.word s) none free after = one_dropped _ refl (after none)
 value_step tokens.comment_close none free after = one_dropped _ refl (after none)
-value_step {p} {items} (tokens.str s) none free after = search (rules, value_given)
-value_step _ none free after = absurd (cc)
+value_step {p} {items} (tokens.str s) none free after = value_given p items s free (after none)
+value_step _ none free after = absurd (none-some _ (sym free))
 
 name_given : (p : Profile) (ps : List Pair) (name : List ℕ) (items : List Item) (s : List ℕ) (ks : List Kind) {gs : List Game}
     → refusal p (at AfterLeftBracket ps name items) (tokens.symbol s) ≡ None → Value_left p ps s ks gs → Name_left p ps (tokens.symbol s ∷ ks) gs
@@ -477,7 +482,7 @@ at_end : (p : Profile) (stage : Stage) (ps : List Pair) (name : List ℕ) (items
     → Left p stage ps name items (tokens.end ∷ []) []
 unfolding refusal
 at_end p Between ps name items free = no_game [] refl
-at_end p _ ps name items free = absurd (cc)
+at_end p _ ps name items free = absurd (none-some _ (sym free))
 
 left : (p : Profile) (part : Part) (ks : List Kind) (gs : List Game) → Runs p part ks gs → Fits part.stage part.pairs part.items
     → Left p part.stage part.pairs part.name part.items ks gs

@@ -1,7 +1,7 @@
 -- Steps behind the last piece.
 use Rattle.pgn_lexer.specs.Tokens as tokens
 use Rattle.pgn_lexer.specs.PartialToken.{refusal as refusal_token}
-use Rattle.pgn_game.proofs.Words.{Kind, Token, Stage, Between, Reason, Lexical, Fault, Profile, Pair, Item, Game, ◌≡◌, ℕ, ◌+◌, ◌<◌, ◌≤◌, Bool, true, false, List, [], ◌∷◌, ◌++◌, length, Option, None, Some, Result, Ok, Err, refl, sym, subst, append-nil, append_assoc, length-append, le_refl, arith, ◌*◌, ◌^◌, IsTrue, is_some, ◌↔◌, Device, tokens_of, Standing, waiting, HasLeft, IsNext, FinishGivesToken, Accepted, More, Finished, refusal, is_end, marker_of, next, progress_with, Progress, read, ReaderState, Answers, IsKnown, as_written, Stays, FinishesAtMarker, CountsWrites, SameGames, AfterStepAtEnd, StepAtEndAdvances, AtEndSoFar, StaysBetween, outcome_at, is_ended, games_after, none_at_end, fault_of_step, LexFault, Converter, IsSound, game_in_reader, game_in_reader_if, IsLastGame as IsLast, HasRead, Stands, Finishes, FinishesToFault, CountsFault, CountsReason, rules, ap, ◌∙◌, coming}
+use Rattle.pgn_game.proofs.Words.{Kind, Token, Stage, Between, Reason, Lexical, Fault, Profile, Pair, Item, Game, ◌≡◌, ℕ, ◌+◌, ◌<◌, ◌≤◌, Bool, true, false, List, [], ◌∷◌, ◌++◌, length, Option, None, Some, Result, Ok, Err, refl, sym, subst, append-nil, append_assoc, length-append, le_refl, arith, ◌*◌, ◌^◌, IsTrue, is_some, ◌↔◌, Device, tokens_of, Standing, waiting, HasLeft, IsNext, FinishGivesToken, Accepted, More, Finished, refusal, is_end, marker_of, next, progress_with, Progress, read, ReaderState, Answers, IsKnown, as_written, Stays, FinishesAtMarker, CountsWrites, SameGames, AfterStepAtEnd, StepAtEndAdvances, AtEndSoFar, StaysBetween, outcome_at, is_ended, games_after, none_at_end, fault_of_step, LexFault, Converter, IsSound, game_in_reader, game_in_reader_if, IsLastGame as IsLast, HasRead, Stands, Finishes, FinishesToFault, CountsFault, CountsReason, rules, ap, ◌∙◌, coming, none-some}
 use Rattle.pgn_game.proofs.tokens.OneMoreToken.{gains_none, gains_more, stops_more, games_still, counts_still, position_still, read-passes}
 use Rattle.pgn_game.proofs.tokens.NoneBeforeFault.{none_before_fault}
 use Rattle.pgn_game.proofs.tokens.AcceptedToConverter.{stepped, gains_token, same_games, has_read_more, one_game, has_read_game, at_fault, at_lexical}
@@ -40,7 +40,7 @@ pub end_at : (p : Profile) (s : Stage) (ps : List Pair) (name : List ℕ) (items
     → refusal p (record { stage = s; pairs = ps; name = name; items = items }) tokens.end ≡ None → s ≡ Between
 unfolding refusal
 end_at p Between ps name items h = refl
-end_at p _ ps name items h = absurd (cc)
+end_at p _ ps name items h = absurd (none-some _ (sym h))
 
 between_after : {s : Stage} (ps : List Pair) (name : List ℕ) (items : List Item) (games : List Game) → s ≡ Between
     → (progress_with games (next (record { stage = s; pairs = ps; name = name; items = items }) tokens.end)).part.stage ≡ Between
