@@ -22,8 +22,8 @@ loop-preserved g c =
     let counted = c.in_ok-next_game.ensures.counted c.loop.invariant.fault in
     record {
       fault = c.in_ok-next_game.ensures.fault;
-      source = cc;
-      sink = cc;
+      source = counted.0 ∙ c.loop.invariant.source;
+      sink = counted.1 ∙ c.loop.invariant.sink;
       read = games_more _ _ _ _ (games_of c.loop.converter c.loop.buffer) _ _ _ so (next _ _ _ so.have_read);
     }
 

@@ -1,4 +1,5 @@
-use Rattle.std.proofs.lemmas.Result.{err_from_is_err_and}
+use Rattle.std.specs.Result.{is_ok}
+use Rattle.pgn_game.proofs.Words.{◌≡◌, Bool, true, Result, Fault, IfOk, refl, sym, ap, subst, ◌∙◌, err_from_is_err_and, false≢true}
 use Rattle.pgn_game.proofs.ReaderFitsInMemory.{fits_alike}
 use Rattle.pgn_game.proofs.games.feed_rest.Goals as goal
 
@@ -30,7 +31,7 @@ returns-in-Game g c =
           (c.in-Game.used, c.skip.ensures, rw (c.in-Game.is, c.unused.ensures) at c.in_ok-feed.ensures.feeds);
       game = rw c.in-Game.is at c.in_ok-feed.ensures.games;
       short = c.in_ok-feed.ensures.short;
-      kept = λ same. absurd (cc);
+      kept = λ same. absurd (false≢true (subst (λ (r : Result Bool Fault). IfOk r (λ b. b ≡ true)) same refl));
       not_finished = c.feed.ensures.not_finished;
       fault = c.in_ok-feed.ensures.fault;
       counted = c.in_ok-feed.ensures.counted c.requires.no_fault;
@@ -44,7 +45,7 @@ returns-in_err-feed g c =
           rw (e.1, e.2) (rw c.unused.ensures at c.in_err-feed.ensures.feeds);
       game = rw e.1 tt;
       short = rw e.1 tt;
-      kept = λ same. absurd (cc (e.1, same));
+      kept = λ same. absurd (false≢true (ap is_ok (sym e.1 ∙ same)));
       not_finished = c.feed.ensures.not_finished;
       fault = rw (e.1, e.2) c.in_err-feed.ensures.fault;
       counted = rw (e.1, e.2) (c.in_err-feed.ensures.counted c.requires.no_fault);

@@ -1,4 +1,4 @@
-use Rattle.pgn_game.proofs.Words.{◌≡◌, ℕ, List, Option, None, refl, sym, ◌∙◌, Token, Profile, Games, HaveRead, games_of, within, at_end}
+use Rattle.pgn_game.proofs.Words.{◌≡◌, ℕ, List, Option, None, refl, sym, ◌∙◌, Token, Profile, Games, HaveRead, games_of, within, at_end, false≢true, none-some, Bool, true, Result, Fault, IfOk, subst}
 use Rattle.pgn_game.proofs.ReaderFitsInMemory.{fits_alike}
 use Rattle.pgn_game.proofs.tokens.GamesInTurn.{at_end_again}
 use Rattle.pgn_game.proofs.games.next_game.Goals as goal
@@ -34,10 +34,10 @@ returns-then-is_finished g c =
       reads = λ p u given have.
           at_end_again p u given _ (games_of c.args.converter.now c.args.buffer.now) c.forget_game.new.self _ have
           (sym c.is_finished.ensures ∙ c.if-is_finished.true) c.forget_game.ensures;
-      fewer = λ same. absurd (cc);
+      fewer = λ same. absurd (false≢true (subst (λ (r : Result Bool Fault). IfOk r (λ b. b ≡ true)) (sym same) refl));
       fault = rw c.forget_game.ensures (sym c.fault.ensures ∙ c.in_default.is);
       at_end = λ none finished. rw c.forget_game.ensures (refl, refl, refl, refl);
-      again = λ f is. absurd (cc);
+      again = λ f is. absurd (none-some f (sym (sym c.fault.ensures ∙ c.in_default.is) ∙ is));
       counted = λ none. (refl, refl);
     }
 
@@ -51,7 +51,7 @@ returns g c =
       reads = c.read_game.ensures.reads;
       fewer = c.read_game.ensures.fewer;
       fault = c.read_game.ensures.fault;
-      at_end = λ none finished. absurd (cc);
-      again = λ f is. absurd (cc);
+      at_end = λ none finished. absurd (false≢true (sym (sym c.is_finished.ensures ∙ c.if-is_finished.false) ∙ finished));
+      again = λ f is. absurd (none-some f (sym (sym c.fault.ensures ∙ c.in_default.is) ∙ is));
       counted = λ none. c.read_game.ensures.counted;
     }

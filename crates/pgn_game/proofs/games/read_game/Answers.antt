@@ -1,4 +1,5 @@
-use Rattle.pgn_game.proofs.Words.{Reason, ReadFault, WriteFault, Changed, Fault, ◌≡◌, ℕ, Bool, Result, Ok, Err, refl, ap, subst, ◌∙◌, arith, err_from_is_err_and, Device, one_more, CountsDevices, Converter, CountsReason, CountsFault, games_of, CountsNext}
+use Rattle.std.specs.Result.{is_ok}
+use Rattle.pgn_game.proofs.Words.{Reason, ReadFault, WriteFault, Changed, Fault, ◌≡◌, ℕ, Bool, Result, Ok, Err, refl, ap, subst, ◌∙◌, arith, err_from_is_err_and, Device, one_more, CountsDevices, Converter, CountsReason, CountsFault, games_of, CountsNext, false≢true, sym}
 use Rattle.pgn_game.proofs.ReaderFitsInMemory.{fits_alike}
 use Rattle.pgn_game.proofs.tokens.AcceptedToConverter.{follows_own}
 use Rattle.pgn_game.proofs.tokens.GamesInTurn.{none_yet, game_read, rest_read, rest_stops, filled, unread, finished}
@@ -38,7 +39,7 @@ returns-in_err-feed_rest g c =
           let e = err_from_is_err_and c.from_residual.result c.from_residual.ensures.1 in
           rw (e.1, e.2) (rest_stops p u given _ _ (games_of c.loop-converter.converter c.loop-converter.buffer) _ _ so _ c.feed_rest.new.converter _
           (c.in_err-feed_rest.ensures.feeds p _ _ _ so.reads_on.stands (follows_own c.loop-converter.buffer)));
-      fewer = λ same. absurd (cc (e.1, same));
+      fewer = λ same. absurd (false≢true (ap is_ok (sym e.1 ∙ same)));
       fault = rw (e.1, e.2) c.in_err-feed_rest.ensures.fault;
       counted = rw (e.1, e.2) (counts_fault _ _ _ _ _ _ c.loop-converter.invariant.source c.loop-converter.invariant.sink c.in_err-feed_rest.ensures.counted);
     }
@@ -70,7 +71,7 @@ returns-in_err-read_more g c =
           let more = c.in_err-read_more.ensures.more in
           let e = err_from_is_err_and c.from_residual-in_err-read_more.result c.from_residual-in_err-read_more.ensures.1 in
           rw (e.1, e.2) (unread p u given _ _ _ c.feed_rest.new.converter _ _ now _ _ more.2 more.0);
-      fewer = λ same. absurd (cc (e.1, same));
+      fewer = λ same. absurd (false≢true (ap is_ok (sym e.1 ∙ same)));
       fault = rw (e.1, e.2) c.in_err-read_more.ensures.fault;
       counted =
           rw (e.1, e.2, c.in_err-read_more.ensures.more.0) (
@@ -127,3 +128,10 @@ finish-requires g c =
 
 pub read_more-requires : goal.read_more-requires
 read_more-requires g c = (search fits_alike, c.in_ok-feed_rest.ensures.fault)
+
+pub loop-converter-smaller : goal.loop-converter-smaller
+loop-converter-smaller g c =
+    let fed = rw c.if-branch.false at c.in_ok-feed_rest.ensures.game in
+    let more = rw c.if-not-branch.false at c.in_ok-read_more.ensures.more in
+    let count = ap (λ (s : Converter). s.lexer.count) more.0 in
+    omega (arith, fed, count, more.1, c.in_ok-feed_rest.ensures.short, c.read_more.ensures.fits)

@@ -1,4 +1,4 @@
-use Rattle.pgn_game.proofs.Words.{◌≡◌, ℕ, true, List, ◌++◌, take, drop, refl, codes, err_from_is_err_and, Appends-trans, tag_line, index_of, Pair, has_pair, text_by, other_line, other_pairs, tag_lines, with_set_up, arith, rules}
+use Rattle.pgn_game.proofs.Words.{◌≡◌, ℕ, true, List, ◌++◌, take, drop, refl, ap, sym, ◌∙◌, codes, err_from_is_err_and, Appends-trans, one_more, tag_line, index_of, Pair, has_pair, text_by, other_line, other_pairs, tag_lines, with_set_up, arith, rules}
 use Rattle.pgn_game.proofs.putting.WritesInTurn.{counts_behind, front_of_more, front_after, Writes-append}
 use Rattle.pgn_game.proofs.pairs.SectionByLines.{others_without_fen, others_with_fen, lines_about}
 use Rattle.pgn_game.proofs.section.write_others.Goals as goal
@@ -17,7 +17,7 @@ split_at-requires g c = c.index_of.ensures.within
 
 pub returns-in_err-write_pairs : goal.returns-in_err-write_pairs
 returns-in_err-write_pairs g c =
-    let some : has_pair c.args.pairs.now (codes "FEN") ≡ true = cc in
+    let some : has_pair c.args.pairs.now (codes "FEN") ≡ true = sym c.has_fen.ensures ∙ c.if-not-has_fen.false in
     let first = c.in_err-write_pairs.ensures in
     rw (err_from_is_err_and c.from_residual.result c.from_residual.ensures.1).1
     (record {
@@ -28,23 +28,23 @@ returns-in_err-write_pairs g c =
 
 pub returns-in_err-write_tag : goal.returns-in_err-write_tag
 returns-in_err-write_tag g c =
-    let some : has_pair c.args.pairs.now (codes "FEN") ≡ true = cc in
+    let some : has_pair c.args.pairs.now (codes "FEN") ≡ true = sym c.has_fen.ensures ∙ c.if-not-has_fen.false in
     let first = c.in_ok-write_pairs.ensures in
     rw (err_from_is_err_and c.from_residual-in_err-write_tag.result c.from_residual-in_err-write_tag.ensures.1).1
     (record {
       written = rw (← both_sides c.args.pairs.now _ _ _ _ refl c.index_of.ensures.index c.split_at.ensures.front c.split_at.ensures.back some)
           (front_of_more _ _ _ _ (front_after _ _ _ _ _ first.written c.in_err-write_tag.ensures.text));
-      counted = search rules;
+      counted = c.in_err-write_tag.ensures.counted ∙ ap one_more first.counted;
     })
 
 pub returns : goal.returns
 returns g c =
-    let some : has_pair c.args.pairs.now (codes "FEN") ≡ true = cc in
+    let some : has_pair c.args.pairs.now (codes "FEN") ≡ true = sym c.has_fen.ensures ∙ c.if-not-has_fen.false in
     let first = c.in_ok-write_pairs.ensures in
     let set_up = c.in_ok-write_tag.ensures in
     let others = c.write_pairs-3.ensures in
     record {
       written = rw (← both_sides c.args.pairs.now _ _ _ _ refl c.index_of.ensures.index c.split_at.ensures.front c.split_at.ensures.back some)
           (Writes-append _ _ _ _ _ _ (Appends-trans _ _ _ _ _ first.written set_up.text) others.written);
-      counted = search (rules, counts_behind);
+      counted = counts_behind _ _ _ _ (set_up.counted ∙ first.counted) others.counted;
     }

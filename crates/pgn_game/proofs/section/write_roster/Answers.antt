@@ -1,4 +1,4 @@
-use Rattle.pgn_game.proofs.Words.{◌≡◌, ℕ, ◌+◌, List, take, Option, Some, slice_get, unwrap_or, err_from_is_err_and, take_all, Appends, AppendsFront, tag_line, missing_of, known_result, Pair, value_of, roster_line, text_by, roster, rules}
+use Rattle.pgn_game.proofs.Words.{◌≡◌, ℕ, ◌+◌, List, ◌∙◌, take, Option, Some, slice_get, unwrap_or, ap, err_from_is_err_and, take_all, Appends, AppendsFront, one_more, tag_line, missing_of, known_result, Pair, value_of, roster_line, text_by, roster, rules}
 use Rattle.pgn_game.proofs.pairs.ExportedValues.{seven}
 use Rattle.pgn_game.proofs.putting.WritesInTurn.{next_text, next_front, within_at}
 use Rattle.pgn_game.proofs.section.write_roster.Goals as goal
@@ -23,7 +23,7 @@ returns-in_err-write_tag g c =
     (record {
       written = front_of_line (known_result (missing_of c.args.missing_result)) c.args.pairs.now c.loop-index.index c.roster_pair.result.0.now c.roster_pair.result.1.now c.value_or-value.result.now _ _ _
           c.roster_pair.ensures.pair c.value_or-value.ensures.value c.loop-index.invariant.1 c.in_err-write_tag.ensures.text;
-      counted = search rules;
+      counted = c.in_err-write_tag.ensures.counted ∙ ap one_more c.loop-index.invariant.0;
     })
 
 pub loop-index-preserved : goal.loop-index-preserved

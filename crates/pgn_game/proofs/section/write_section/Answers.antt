@@ -1,4 +1,4 @@
-use Rattle.pgn_game.proofs.Words.{err_from_is_err_and, Appends-trans, missing_of, known_result, rules}
+use Rattle.pgn_game.proofs.Words.{◌∙◌, ap, err_from_is_err_and, Appends-trans, one_more, missing_of, known_result, rules}
 use Rattle.pgn_game.proofs.putting.WritesInTurn.{counts_behind, front_of_more, front_after, Writes-append}
 use Rattle.pgn_game.proofs.pairs.SectionByLines.{reduced_section, full_section, roster_first}
 use Rattle.pgn_game.proofs.section.write_section.Goals as goal
@@ -22,7 +22,7 @@ returns-in_err-write_others-in-Full g c =
     (record {
       written = rw (c.in-Full.is, ← full_section (known_result (missing_of c.args.missing_result)) c.args.pairs.now)
           (front_of_more _ _ _ _ (front_after _ _ _ _ _ roster.written others.written));
-      counted = cc;
+      counted = others.counted ∙ ap one_more roster.counted;
     })
 
 pub returns-in_ok-write_others-in-Full : goal.returns-in_ok-write_others-in-Full
@@ -32,5 +32,5 @@ returns-in_ok-write_others-in-Full g c =
     record {
       written = rw (c.in-Full.is, ← full_section (known_result (missing_of c.args.missing_result)) c.args.pairs.now)
           (Writes-append _ _ _ _ _ _ (Appends-trans _ _ _ _ _ roster.written others.written) c.end_tags-in-Full.ensures.text);
-      counted = search (rules, counts_behind);
+      counted = counts_behind _ _ _ _ (others.counted ∙ roster.counted) c.end_tags-in-Full.ensures.counted;
     }

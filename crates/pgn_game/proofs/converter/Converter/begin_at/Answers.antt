@@ -1,4 +1,4 @@
-use Rattle.pgn_game.proofs.Words.{◌-◌, [], arith, refl, sym, ap, subst, no_progress, no_part, ReaderState, Agrees, IsKnown, whole_plies, profile_of}
+use Rattle.pgn_game.proofs.Words.{◌-◌, [], arith, refl, sym, ap, subst, no_progress, no_part, ReaderState, Agrees, IsKnown, whole_plies, profile_of, false≢true}
 use Rattle.pgn_game.specs.MostTried.{MostTried, none}
 use Rattle.pgn_game.proofs.ReaderFitsInMemory.{fits_reader}
 use Rattle.pgn_game.proofs.tokens.SoundAtStart.{sound_at_start}
@@ -18,7 +18,7 @@ returns g c =
               agrees = subst (λ (r : ReaderState). Agrees r no_part) (sym is) (record { stage = refl; pairs = refl; text = refl });
               games = refl;
               plies = ap whole_plies is;
-              probed = λ moves. absurd (cc);
+              probed = λ moves. absurd (false≢true moves);
               tried = subst (MostTried (profile_of g.row.T (g.row.L - 1) c.args.mode) []) (sym (ap (λ (r : ReaderState). r.most_probes) is)) (none no_progress);
               just_finished = tt;
             };

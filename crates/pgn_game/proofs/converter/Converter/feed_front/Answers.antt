@@ -1,5 +1,4 @@
 use Rattle.pgn_game.proofs.Words.{◌≡◌, ℕ, ◌+◌, ◌-◌, ◌^◌, ◌<◌, length, take, drop, arith, refl, sym, ap, subst, ◌∙◌, length-drop, le_refl, Ok, None, Some, More, Finished, take_rest, waiting, Converter, Stands}
-use Rattle.std.proofs.Math.Nat.{add_assoc}
 use Rattle.pgn_game.proofs.ReaderFitsInMemory.{fits_alike}
 use Rattle.pgn_game.proofs.pairs.ValuesByName.{no_value}
 use Rattle.pgn_game.proofs.tokens.StepsAtEnd.{sound_at_none}
@@ -117,7 +116,7 @@ returns-in-Ok-Some-Finished g c =
           fed_game p u b given c.args.piece.now c.loop-at.at _ _ _ _ here c.loop-at-test.true _ _
           (omega (arith, stands.lexer.count, c.requires.short))
           (after p _ _ (stands_here p u b given c.args.piece.now c.loop-at.at _ _ _ here c.loop-at-test.true));
-      count = cc (step.count, so.count, add_assoc c.args.self.now.lexer.count c.loop-at.at c.step-step.result.used);
+      count = omega (arith, step.count, so.count);
       advances = omega (arith, advances, so.goes);
       not_finished = step.finished ∙ so.not_finished;
       fault = rw is at step.fault;

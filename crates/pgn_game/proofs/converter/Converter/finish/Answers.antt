@@ -1,5 +1,5 @@
 use Rattle.pgn_game.proofs.Words.{rules, arith, le_refl, le_trans, refl, sym, ap, subst, ◌∙◌, Ok, None, Some, none-some, Converter, Stands, AfterStepAtEnd}
-use Rattle.pgn_game.proofs.ReaderFitsInMemory.{fits_reader}
+use Rattle.pgn_game.proofs.ReaderFitsInMemory.{fits_reader, fits_alike}
 use Rattle.pgn_game.proofs.tokens.StepsAtEnd.{sound_at_none, left_of, closed_none, closed_more, closed_game, closed_end, closed_fault}
 use Rattle.pgn_game.proofs.tokens.StepsInPiece.{counts_step}
 use Rattle.pgn_game.proofs.converter.Converter.finish.Goals as goal
@@ -17,7 +17,7 @@ loop-finished_game-init g c =
     }
 
 pub step_at_end-requires : goal.step_at_end-requires
-step_at_end-requires g c = (search rules, (c.loop-finished_game.invariant.fault, (c.loop-finished_game.invariant.not_finished, c.loop-finished_game.invariant.none_just_finished)))
+step_at_end-requires g c = (search fits_alike, (c.loop-finished_game.invariant.fault, (c.loop-finished_game.invariant.not_finished, c.loop-finished_game.invariant.none_just_finished)))
 
 pub loop-finished_game-smaller-in-Ok-Some-More : goal.loop-finished_game-smaller-in-Ok-Some-More
 loop-finished_game-smaller-in-Ok-Some-More g c = rw (c.in-Ok-Some-More.is ∙ ap Ok (c.in-Ok-Some-More.field-0-is ∙ ap Some c.in-Ok-Some-More.field-0-0-is)) at c.step_at_end.ensures.advances

@@ -6,7 +6,7 @@ use Rattle.pgn_game.proofs.tags.TagPairs.begin.Goals.{then-self-len, else-self-l
 pub push-requires : goal.push-requires
 push-requires g c =
     let count = held-count c.self.invariant c.self.view_is c.requires.whole in
-    (search rules, omega arith)
+    (search rules, omega (arith, c.requires.room, count))
 
 pub returns : goal.returns
 returns g c =
@@ -16,9 +16,9 @@ returns g c =
     elim c.if-self-len.branch [
       | then-self-len w ↦
           rw w.self-inside-is (place-of-new c.self.inside.pairs.items w.push.new.self.items w.default.result w.push.ensures.items same
-          (omega arith) (omega arith))
+          (omega arith) (omega (arith, count, c.requires.room)))
       | else-self-len w ↦
-          rw w.self-inside-is (place-of-old c.self.invariant.room same (omega arith))
+          rw w.self-inside-is (place-of-old c.self.invariant.room same (omega (arith, c.self.invariant.within)))
     ] in
     rw (c.as_mut_slice-pairs.ensures.value, put-in-place c.set_name.new.self has, c.set_name.ensures)
     (pairs_seen-snoc (record { name = c.args.name.now; value = [] }))
@@ -31,9 +31,9 @@ invariant_of-self g c =
     elim c.if-self-len.branch [
       | then-self-len w ↦
           rw w.self-inside-is (place-of-new c.self.inside.pairs.items w.push.new.self.items w.default.result w.push.ensures.items same
-          (omega arith) (omega arith))
+          (omega arith) (omega (arith, count, c.requires.room)))
       | else-self-len w ↦
-          rw w.self-inside-is (place-of-old c.self.invariant.room same (omega arith))
+          rw w.self-inside-is (place-of-old c.self.invariant.room same (omega (arith, c.self.invariant.within)))
     ] in
     rw c.as_mut_slice-pairs.ensures.value
     (stays-in-place c.set_name.new.self has)

@@ -9,4 +9,4 @@ returns-clause-full g c =
 pub returns-clause-room : goal.returns-clause-room
 returns-clause-room g c =
     rw (held-count c.self.invariant c.self.view_is c.requires)
-    (omega arith)
+    (omega (arith, c.self.invariant.room, c.self.invariant.within))
