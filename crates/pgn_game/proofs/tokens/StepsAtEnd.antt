@@ -1,7 +1,8 @@
 -- Steps behind the last piece.
 use Rattle.pgn_lexer.specs.Tokens as tokens
 use Rattle.pgn_lexer.specs.PartialToken.{refusal as refusal_token}
-use Rattle.pgn_game.proofs.Words.{Kind, Token, Stage, Between, Reason, Lexical, Fault, Profile, Pair, Item, Game, ◌≡◌, ℕ, ◌+◌, ◌<◌, ◌≤◌, Bool, true, false, List, [], ◌∷◌, ◌++◌, length, Option, None, Some, Result, Ok, Err, refl, sym, subst, append-nil, append_assoc, length-append, le_refl, arith, ◌*◌, ◌^◌, IsTrue, is_some, ◌↔◌, Device, tokens_of, Standing, waiting, HasLeft, IsNext, FinishGivesToken, Accepted, More, Finished, refusal, is_end, marker_of, next, progress_with, Progress, read, ReaderState, Answers, IsKnown, as_written, Stays, FinishesAtMarker, CountsWrites, SameGames, AfterStepAtEnd, StepAtEndAdvances, AtEndSoFar, StaysBetween, outcome_at, is_ended, games_after, none_at_end, fault_of_step, LexFault, Converter, IsSound, game_in_reader, game_in_reader_if, IsLastGame as IsLast, HasRead, Stands, Finishes, FinishesToFault, CountsFault, CountsReason, rules, ap, ◌∙◌, coming, none-some}
+use Rattle.pgn_game.proofs.Words.{Kind, Token, Stage, Between, Reason, Lexical, Fault, Profile, Pair, Item, Game, ◌≡◌, ℕ, ◌+◌, ◌<◌, ◌≤◌, Bool, true, false, List, [], ◌∷◌, ◌++◌, length, Option, None, Some, Result, Ok, Err, refl, sym, subst, append-nil, append_assoc, length-append, le_refl, arith, ◌*◌, ◌^◌, IsTrue, is_some, ◌↔◌, Device, tokens_of, Standing, waiting, HasLeft, IsNext, FinishGivesToken, Accepted, More, Finished, refusal, is_end, marker_of, next, progress_with, Progress, read, ReaderState, Answers, IsKnown, as_written, Stays, FinishesAtMarker, CountsWrites, SameGames, AfterStepAtEnd, StepAtEndAdvances, AtEndSoFar, StaysBetween, outcome_at, is_ended, games_after, none_at_end, fault_of_step, LexFault, Converter, IsSound, game_in_reader, game_in_reader_if, IsLastGame as IsLast, HasRead, Stands, Finishes, FinishesToFault, CountsFault, CountsReason, rules, ap, ◌∙◌, coming, none-some, false≢true}
+use Rattle.pgn_game.specs.ConverterSteps.{finished_game as is_of_game}
 use Rattle.pgn_game.proofs.tokens.OneMoreToken.{gains_none, gains_more, stops_more, games_still, counts_still, position_still, read-passes}
 use Rattle.pgn_game.proofs.tokens.NoneBeforeFault.{none_before_fault}
 use Rattle.pgn_game.proofs.tokens.AcceptedToConverter.{stepped, gains_token, same_games, has_read_more, one_game, has_read_game, at_fault, at_lexical}
@@ -112,9 +113,13 @@ fault_of_closed false (Ok o) = refl
 fault_of_closed e (Err f) = refl
 
 -- a token that finishes no game is counted as none, and the end is no marker
-pub games_of_closed : (k : Kind) (after : ReaderState) (at : ℕ) (e : Bool) (r : Result Accepted Reason) (games : ℕ) → is_end k ≡ e → FinishesAtMarker k after r
+games_at_end : (k : Kind) (after : ReaderState) (at : ℕ) (e : Bool) (r : Result Accepted Reason) (games : ℕ) → is_end k ≡ e → FinishesAtMarker k after r
     → games_after (outcome_at at r) games ≡ games_after (none_at_end e (outcome_at at r)) games
-games_of_closed k after at e r games h1 h2 = search (rules, no_marker_at_end)
+games_at_end k after at e r games h1 h2 = search (rules, no_marker_at_end)
+
+pub games_of_closed : (k : Kind) (after : ReaderState) (at : ℕ) (r : Result Accepted Reason) (games : ℕ) {e : Bool} {outcome closed : Result (Option Accepted) Fault}
+    → outcome ≡ outcome_at at r → e ≡ is_end k → closed ≡ none_at_end e outcome → FinishesAtMarker k after r → games_after outcome games ≡ games_after closed games
+games_of_closed k after at r games is e_is closed_is finished = rw (closed_is, is) (games_at_end k after at _ r games (sym e_is) finished)
 
 -- an error of the reader counts as the fault that it is
 counts_reason : (r : Reason) (sink : Device) → CountsWrites (Err r) sink → CountsReason r sink.failures sink.failures_after
@@ -124,10 +129,14 @@ pub counts_token : (at : ℕ) (r : Result Accepted Reason) (sink : Device) → C
 counts_token at (Ok accepted) sink h = h
 counts_token at (Err reason) sink h = counts_reason reason sink h
 
-pub counts_closed : (e : Bool) (outcome : Result (Option Accepted) Fault) (sink : Device) → CountsFault outcome sink → CountsFault (none_at_end e outcome) sink
-counts_closed true (Ok o) sink h = h
-counts_closed false (Ok o) sink h = h
-counts_closed e (Err f) sink h = h
+counts_at_end : (e : Bool) (outcome : Result (Option Accepted) Fault) (sink : Device) → CountsFault outcome sink → CountsFault (none_at_end e outcome) sink
+counts_at_end true (Ok o) sink h = h
+counts_at_end false (Ok o) sink h = h
+counts_at_end e (Err f) sink h = h
+
+pub counts_closed : (at : ℕ) (r : Result Accepted Reason) (e : Bool) (sink : Device) {outcome closed : Result (Option Accepted) Fault} → outcome ≡ outcome_at at r
+    → closed ≡ none_at_end e outcome → CountsWrites r sink → CountsFault closed sink
+counts_closed at r e sink is closed_is h = rw (closed_is, is) (counts_at_end e _ sink (counts_token at r sink h))
 
 -- after a fault a converter owes nothing
 pub sound_behind_fault : (lexer : Standing) (reading : ReaderState) (games : ℕ) (is_finished : Bool) (f : Fault) → IsKnown reading.profile → IsSound lexer reading games false is_finished (Some f)
@@ -145,6 +154,35 @@ pub sound_behind : (old new : Standing) (before after : ReaderState) (games at :
     → after.earlier_plies + after.text.plies ≤ before.earlier_plies + before.text.plies + 1 → IsKnown after.profile
     → IsSound new after (games_after (outcome_at at r) games) false (is_ended (none_at_end e (outcome_at at r))) (fault_of_step (outcome_at at r))
 sound_behind old new before after games at k e r h1 h2 h3 h4 h5 h6 h7 h8 = search (rules, no_marker_at_end, one_more, sound_behind_fault)
+
+-- A token in a piece keeps them small too.
+pub sound_token : (old new : Standing) (before after : ReaderState) (games at used n : ℕ) (k : Kind) (r : Result Accepted Reason) {e : Bool} {games_now : ℕ} {had has : Bool} {before_fault fault : Option Fault} {outcome : Result (Option Accepted) Fault}
+    → outcome ≡ outcome_at at r → games_now ≡ games_after outcome games → has ≡ is_of_game outcome → fault ≡ fault_of_step outcome
+    → IsSound old before games had e before_fault → before_fault ≡ None → new.count ≡ old.count + used → used ≤ n → old.count + n ≤ 2 ^ 62 → waiting new < 2 * used + waiting old
+    → FinishesAtMarker k after r → after.profile ≡ before.profile → after.earlier_plies + after.text.plies ≤ before.earlier_plies + before.text.plies + 1
+    → IsSound new after games_now has e fault
+sound_token old new before after games at used n k r {e} o games_is has_is fault_is sound none count within short sooner finishes profile plies =
+    rw (games_is, has_is, fault_is, o) (by_result r finishes)
+  where
+    known : IsKnown after.profile
+    known = subst IsKnown (sym profile) sound.known
+
+    by_result : (r : Result Accepted Reason) → FinishesAtMarker k after r
+        → IsSound new after (games_after (outcome_at at r) games) (is_of_game (outcome_at at r)) e (fault_of_step (outcome_at at r))
+    by_result (Err why) finishes = sound_behind_fault new after games _ _ known
+    by_result (Ok accepted) finishes = record {
+      known = known;
+      count = λ is. omega (arith, count, within, short);
+      few = λ is. omega (arith, sound.few none, count, sooner, one_more accepted games);
+      few_plies = λ is. omega (arith, sound.few_plies none, count, sooner, plies);
+      fewer_plies = λ is not_over. omega (arith, sound.fewer_plies none not_over, count, sooner, plies);
+      between = λ is. ends accepted finishes is;
+      no_fault = λ is. refl;
+    }
+      where
+        ends : (accepted : Accepted) → FinishesAtMarker k after (Ok accepted) → IsTrue (is_of_game (Ok (Some accepted))) → after.stage ≡ Between
+        ends More finishes is = absurd (false≢true is)
+        ends Finished finishes is = finishes.1
 
 pub not_just_finished : (b : Bool) (r : ReaderState) → game_in_reader_if b r ≡ None → b ≡ false
 not_just_finished true r h = absurd (cc)
@@ -224,9 +262,13 @@ module _ (p : Profile) (u : List ℕ) (given : List Token) (now new : Converter)
       }
 
 -- behind the last piece a token was waiting, unless it is the end
-pub closes_sooner : (old new : Standing) (after : ReaderState) (at : ℕ) (k : Kind) (e : Bool) (r : Result Accepted Reason) → is_end k ≡ e → Nearer e old new
+sooner_at_end : (old new : Standing) (after : ReaderState) (at : ℕ) (k : Kind) (e : Bool) (r : Result Accepted Reason) → is_end k ≡ e → Nearer e old new
     → FinishesAtMarker k after r → StepAtEndAdvances old new (none_at_end e (outcome_at at r))
-closes_sooner old new after at k e r h1 h2 h3 = search (rules, no_marker_at_end)
+sooner_at_end old new after at k e r h1 h2 h3 = search (rules, no_marker_at_end)
+
+pub closes_sooner : (old new : Standing) (after : ReaderState) (at : ℕ) (k : Kind) (r : Result Accepted Reason) {e : Bool} {outcome closed : Result (Option Accepted) Fault}
+    → outcome ≡ outcome_at at r → e ≡ is_end k → closed ≡ none_at_end e outcome → Nearer (is_end k) old new → FinishesAtMarker k after r → StepAtEndAdvances old new closed
+closes_sooner old new after at k r is e_is closed_is near finished = rw (closed_is, is, e_is) (sooner_at_end old new after at k _ r refl near finished)
 
 -- while no game is just finished a converter owes no more
 pub sound_at_none : (lexer : Standing) (reading : ReaderState) (games : ℕ) (has_finished_game is_finished : Bool) (fault : Option Fault) → IsSound lexer reading games has_finished_game is_finished fault

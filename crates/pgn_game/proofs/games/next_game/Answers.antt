@@ -1,4 +1,5 @@
-use Rattle.pgn_game.proofs.Words.{◌≡◌, ℕ, List, Option, None, refl, sym, ◌∙◌, Token, Profile, Games, HaveRead, games_of, within, at_end, false≢true, none-some, Bool, true, Result, Fault, IfOk, subst}
+use Rattle.std.specs.Result.{is_ok}
+use Rattle.pgn_game.proofs.Words.{◌≡◌, ℕ, List, Option, None, refl, sym, ◌∙◌, Token, Profile, Games, HaveRead, games_of, within, at_end, false≢true, none-some, Bool, true, Result, Fault, IfOk, subst, ap, Err, same_Some}
 use Rattle.pgn_game.proofs.ReaderFitsInMemory.{fits_alike}
 use Rattle.pgn_game.proofs.tokens.GamesInTurn.{at_end_again}
 use Rattle.pgn_game.proofs.games.next_game.Goals as goal
@@ -13,13 +14,14 @@ fault-requires g c = search fits_alike
 
 pub returns-in-Some : goal.returns-in-Some
 returns-in-Some g c =
+    let fault = sym c.fault.ensures ∙ c.in-Some.is in
     record {
-      reads = λ p u given have. absurd (cc (no_fault p _ u _ given have));
-      fewer = λ same. absurd (cc);
-      fault = sym c.fault.ensures ∙ c.in-Some.is;
-      at_end = λ none. absurd (cc);
-      again = λ f is. (cc, refl, refl, refl);
-      counted = λ none. absurd (cc);
+      reads = λ p u given have. absurd (none-some _ (sym (no_fault p _ u _ given have) ∙ fault));
+      fewer = λ same. absurd (false≢true (ap is_ok same));
+      fault = fault;
+      at_end = λ none. absurd (none-some _ (sym none ∙ fault));
+      again = λ f is. (ap Err (same_Some _ _ (sym fault ∙ is)), refl, refl, refl);
+      counted = λ none. absurd (none-some _ (sym none ∙ fault));
     }
 
 pub is_finished-requires : goal.is_finished-requires

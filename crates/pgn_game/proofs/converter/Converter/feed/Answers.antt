@@ -14,6 +14,9 @@ whole_count new old k piece count whole = omega (arith, count, whole, length-tak
 stays_short : (new old used now held : ℕ) → new ≡ old + used → used ≤ 2 ^ 62 - now → now ≡ held → held ≤ 2 ^ 62 → held ≡ old → new ≤ 2 ^ 62
 stays_short new old used now held count room is within view = omega (arith, count, room, is, within, view)
 
+limit_at : {place old held now : ℕ} → old ≡ place → held ≡ old → now ≡ held → held ≤ 2 ^ 62 → place + (2 ^ 62 - now) ≡ 2 ^ 62
+limit_at is view count within = omega arith
+
 pub returns-in_err-used : goal.returns-in_err-used
 returns-in_err-used g c =
     let e = err_from_is_err_and c.from_residual.result c.from_residual.ensures.1 in
@@ -72,13 +75,7 @@ returns-then-front-piece g c =
       used = tt;
       feeds = λ p u b given stands follows.
           rw c.too_long.ensures.fault (front_too_long p u b given piece _ _ _ c.feed_front.new.self _ _
-          (omega (
-            arith,
-            stands.lexer.count,
-            ap (λ (s : Converter). s.lexer.count) c.self.view_is,
-            c.count.ensures,
-            c.self.invariant.count c.in_default.is,
-          ))
+          (limit_at stands.lexer.count (ap (λ (s : Converter). s.lexer.count) c.self.view_is) c.count.ensures (c.self.invariant.count c.in_default.is))
           (limit_left piece _ more) (ap (λ (s : Converter). s.reading) c.self-2.view_is) (feeds p u b given stands (follows_front b piece _ follows)));
       count = tt;
       short = tt;

@@ -1,4 +1,4 @@
-use Rattle.pgn_game.proofs.Words.{◌≡◌, ℕ, ◌+◌, ◌-◌, ◌^◌, ◌<◌, length, take, drop, arith, refl, sym, ap, subst, ◌∙◌, length-drop, le_refl, Ok, None, Some, More, Finished, take_rest, waiting, Converter, Stands}
+use Rattle.pgn_game.proofs.Words.{◌≡◌, ℕ, ◌+◌, ◌-◌, ◌^◌, ◌<◌, length, take, drop, arith, refl, sym, ap, subst, ◌∙◌, length-drop, le_refl, Ok, None, Some, More, Finished, take_rest, waiting, Converter, Stands, ◌≤◌}
 use Rattle.pgn_game.proofs.ReaderFitsInMemory.{fits_alike}
 use Rattle.pgn_game.proofs.pairs.ValuesByName.{no_value}
 use Rattle.pgn_game.proofs.tokens.StepsAtEnd.{sound_at_none}
@@ -114,7 +114,7 @@ returns-in-Ok-Some-Finished g c =
       feeds = λ p u b given stands follows.
           let here = so.feeds p u b given stands follows in
           fed_game p u b given c.args.piece.now c.loop-at.at _ _ _ _ here c.loop-at-test.true _ _
-          (omega (arith, stands.lexer.count, c.requires.short))
+          (subst (λ n. n + length c.args.piece.now ≤ 2 ^ 62) stands.lexer.count c.requires.short)
           (after p _ _ (stands_here p u b given c.args.piece.now c.loop-at.at _ _ _ here c.loop-at-test.true));
       count = omega (arith, step.count, so.count);
       advances = omega (arith, advances, so.goes);

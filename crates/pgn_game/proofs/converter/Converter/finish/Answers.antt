@@ -98,6 +98,10 @@ invariant_of-self g c =
 pub is_between-self-inside-requires : goal.is_between-self-inside-requires
 is_between-self-inside-requires g c = search fits_reader
 
+pub returns-in-Some-clause-ends : goal.returns-in-Some-clause-ends
+returns-in-Some-clause-ends g c = λ p u b given stands.
+    absurd (none-some c.in-Some.fault (sym stands.has_read.no_fault ∙ ap (λ (s : Converter). s.fault) (sym c.self.view_is) ∙ c.in-Some.is))
+
 pub returns-in-Some-clause-fault : goal.returns-in-Some-clause-fault
 returns-in-Some-clause-fault g c = ap (λ (s : Converter). s.fault) (sym c.self.view_is) ∙ c.in-Some.is
 

@@ -1,6 +1,6 @@
-use Rattle.pgn_game.proofs.Words.{◌+◌, ◌*◌, ◌<◌, is_some, arith, sym, ap, subst, refl, ◌∙◌, waiting, first, Stands, Converter}
+use Rattle.pgn_game.proofs.Words.{◌+◌, ◌*◌, ◌<◌, is_some, arith, sym, ap, subst, refl, ◌∙◌, waiting, first, Stands, Converter, ◌≤◌, ◌^◌, length, kind_of}
 use Rattle.pgn_game.specs.ConverterSteps.{games_after, finished_game as is_of_game}
-use Rattle.pgn_game.proofs.tokens.StepsAtEnd.{counts_token}
+use Rattle.pgn_game.proofs.tokens.StepsAtEnd.{counts_token, sound_token}
 use Rattle.pgn_game.proofs.ReaderFitsInMemory.{fits_reader}
 use Rattle.pgn_game.proofs.tokens.AcceptedToConverter.{is_some_held, advances_token, took, took_none, took_fault, follows_own, written_known}
 use Rattle.pgn_game.proofs.converter.Converter.step.Goals as goal
@@ -71,6 +71,15 @@ returns-in-Fault g c =
       finished = ap (λ (s : Converter). s.is_finished) c.self.view_is;
       counted = rw (c.fail.ensures.outcome, c.lexical.ensures) refl;
     }
+
+pub invariant_of-self-in-Token : goal.invariant_of-self-in-Token
+invariant_of-self-in-Token g c =
+    let sooner = rw c.in-Token.is at c.next-scan.follows.holds-at-none.advances in
+    sound_token c.self.inside.lexer c.next-scan.follows.lender-at-none c.self.inside.reader c.accept-accepted.new.self c.self.inside.games c.in-Token.token.at c.next-scan.result.used
+    (length c.args.piece.now) (kind_of c.in-Token.token.kind) c.accept-accepted.result c.settle-outcome.ensures.outcome c.settle-outcome.ensures.games c.finished_game-self-inside.ensures c.settle-outcome.ensures.fault
+    c.self.invariant (ap (λ (s : Converter). s.fault) c.self.view_is ∙ c.requires.no_fault) c.next-scan.follows.holds-at-none.count c.next-scan.ensures.used
+    (subst (λ (s : Converter). s.lexer.count + length c.args.piece.now ≤ 2 ^ 62) (sym c.self.view_is) c.requires.short) sooner c.accept-accepted.ensures.finished
+    c.accept-accepted.ensures.profile c.accept-accepted.ensures.plies
 
 pub settle-outcome-requires-clause-no_fault : goal.settle-outcome-requires-clause-no_fault
 settle-outcome-requires-clause-no_fault g c = ap (λ (s : Converter). s.fault) c.self.view_is ∙ c.requires.no_fault

@@ -19,18 +19,18 @@ returns-in-Token g c =
       advances =
           let gives = rw c.in-Token.is at c.finish.follows.holds-at-none.closes in
           let near = nearer_by _ c.self.inside.lexer c.finish.follows.lender-at-none _ gives in
-          rw (c.none_at_end-closed.ensures, c.settle-outcome.ensures.outcome, c.is_end-is_end.ensures)
-          (subst (λ (s : Converter). StepAtEndAdvances s.lexer c.finish.follows.lender-at-none (none_at_end (is_end (kind_of c.in-Token.token.kind)) (outcome_at c.in-Token.token.at c.accept-accepted.result))) c.self.view_is
-          (closes_sooner c.self.inside.lexer c.finish.follows.lender-at-none c.accept-accepted.new.self c.in-Token.token.at _ _ c.accept-accepted.result refl near c.accept-accepted.ensures.finished));
+          subst (λ (s : Converter). StepAtEndAdvances s.lexer c.finish.follows.lender-at-none c.none_at_end-closed.result) c.self.view_is
+          (closes_sooner c.self.inside.lexer c.finish.follows.lender-at-none c.accept-accepted.new.self c.in-Token.token.at _ c.accept-accepted.result c.settle-outcome.ensures.outcome
+          c.is_end-is_end.ensures c.none_at_end-closed.ensures near c.accept-accepted.ensures.finished);
       fault = rw c.none_at_end-closed.ensures (c.settle-outcome.ensures.fault ∙ fault_of_closed c.is_end-is_end.result c.settle-outcome.result);
       games =
-          rw (c.none_at_end-closed.ensures, c.settle-outcome.ensures.games, c.settle-outcome.ensures.outcome, c.is_end-is_end.ensures)
-          (ap (games_after (outcome_at c.in-Token.token.at c.accept-accepted.result)) (ap (λ (s : Converter). s.games) c.self.view_is)
-          ∙ games_of_closed _ c.accept-accepted.new.self c.in-Token.token.at _ c.accept-accepted.result _ refl c.accept-accepted.ensures.finished);
+          c.settle-outcome.ensures.games ∙ ap (λ (s : Converter). games_after c.settle-outcome.result s.games) c.self.view_is
+          ∙ games_of_closed _ c.accept-accepted.new.self c.in-Token.token.at c.accept-accepted.result _ c.settle-outcome.ensures.outcome c.is_end-is_end.ensures
+          c.none_at_end-closed.ensures c.accept-accepted.ensures.finished;
       probes = omega (arith, ap (λ (s : Converter). s.reading.most_probes) c.self.view_is, c.accept-accepted.ensures.probes);
       none_just_finished = ap (λ b. game_in_reader_if b c.accept-accepted.new.self) (not_just_finished _ _ (ap (λ (s : Converter). s.just_finished) c.self.view_is ∙ c.requires.none_just_finished));
       finished = c.is_ended-self-inside.ensures;
-      counted = rw (c.none_at_end-closed.ensures, c.settle-outcome.ensures.outcome) (counts_closed c.is_end-is_end.result _ _ (counts_token c.in-Token.token.at c.accept-accepted.result _ c.accept-accepted.ensures.counted));
+      counted = counts_closed c.in-Token.token.at c.accept-accepted.result c.is_end-is_end.result _ c.settle-outcome.ensures.outcome c.none_at_end-closed.ensures c.accept-accepted.ensures.counted;
     }
 
 pub returns-in-Fault : goal.returns-in-Fault
