@@ -184,6 +184,23 @@ sound_token old new before after games at used n k r {e} o games_is has_is fault
         ends More finishes is = absurd (false≢true is)
         ends Finished finishes is = finishes.1
 
+pub sound_finished : (lexer : Standing) (reading : ReaderState) (games : ℕ) {had has is_finished : Bool} {fault : Option Fault} → IsSound lexer reading games had is_finished fault
+    → (IsTrue has → reading.stage ≡ Between) → fault ≡ None → IsSound lexer reading games has is_finished fault
+sound_finished lexer reading games sound between none = record {
+  known = sound.known;
+  count = sound.count;
+  few = sound.few;
+  few_plies = sound.few_plies;
+  fewer_plies = sound.fewer_plies;
+  between = between;
+  no_fault = λ is. none;
+}
+
+-- with a fault no game is just finished
+pub none_by_fault : (b : Bool) (r : ReaderState) {o : Option Fault} {f : Fault} → (IsTrue b → o ≡ None) → o ≡ Some f → game_in_reader_if b r ≡ None
+none_by_fault true r h e = absurd (none-some _ (sym (h refl) ∙ e))
+none_by_fault false r h e = refl
+
 pub not_just_finished : (b : Bool) (r : ReaderState) → game_in_reader_if b r ≡ None → b ≡ false
 not_just_finished true r h = absurd (cc)
 not_just_finished false r h = refl

@@ -1,6 +1,6 @@
-use Rattle.pgn_game.proofs.Words.{◌≡◌, ℕ, ◌+◌, ◌≤◌, ◌-◌, ◌^◌, List, length, take, arith, sym, ap, ◌∙◌, le_refl, length-take, none-some, err_from_is_err_and, Converter, at_token}
+use Rattle.pgn_game.proofs.Words.{◌≡◌, ℕ, ◌+◌, ◌≤◌, ◌-◌, ◌^◌, List, length, take, arith, sym, ap, ◌∙◌, le_refl, length-take, none-some, err_from_is_err_and, Converter, at_token, Err, same_Some, refl}
 use Rattle.pgn_game.proofs.ReaderFitsInMemory.{fits_alike}
-use Rattle.pgn_game.proofs.tokens.StepsAtEnd.{not_just_finished, sound_behind_fault}
+use Rattle.pgn_game.proofs.tokens.StepsAtEnd.{none_by_fault, not_just_finished, sound_behind_fault}
 use Rattle.pgn_game.proofs.tokens.StepsInPiece.{follows_front, front_all, front_game, front_fault, front_too_long, limit_left, front_used}
 use Rattle.pgn_game.proofs.converter.Converter.feed.Goals as goal
 
@@ -16,6 +16,18 @@ stays_short new old used now held count room is within view = omega (arith, coun
 
 limit_at : {place old held now : ℕ} → old ≡ place → held ≡ old → now ≡ held → held ≤ 2 ^ 62 → place + (2 ^ 62 - now) ≡ 2 ^ 62
 limit_at is view count within = omega arith
+
+pub returns-in-Some-clause-feeds : goal.returns-in-Some-clause-feeds
+returns-in-Some-clause-feeds g c = λ p u b given stands follows.
+    absurd (none-some _ (sym stands.has_read.no_fault ∙ ap (λ (s : Converter). s.fault) (sym c.self.view_is) ∙ c.in-Some.is))
+
+pub returns-in-Some-clause-games : goal.returns-in-Some-clause-games
+returns-in-Some-clause-games g c =
+    (refl, ap (λ (s : Converter). s.just_finished) (sym c.self.view_is) ∙ none_by_fault c.self.inside.has_finished_game c.self.inside.reader c.self.invariant.no_fault c.in-Some.is)
+
+pub returns-in-Some-clause-again : goal.returns-in-Some-clause-again
+returns-in-Some-clause-again g c = λ f is.
+    (ap Err (same_Some _ _ (sym c.in-Some.is ∙ ap (λ (s : Converter). s.fault) c.self.view_is ∙ is)), refl, refl)
 
 pub returns-in_err-used : goal.returns-in_err-used
 returns-in_err-used g c =

@@ -1,6 +1,6 @@
-use Rattle.pgn_game.proofs.Words.{rules, arith, le_refl, le_trans, refl, sym, ap, subst, ◌∙◌, Ok, None, Some, none-some, Converter, Stands, AfterStepAtEnd}
+use Rattle.pgn_game.proofs.Words.{rules, arith, le_refl, le_trans, refl, sym, ap, subst, ◌∙◌, Ok, None, Some, none-some, Converter, Stands, AfterStepAtEnd, Err, same_Some, false≢true}
 use Rattle.pgn_game.proofs.ReaderFitsInMemory.{fits_reader, fits_alike}
-use Rattle.pgn_game.proofs.tokens.StepsAtEnd.{sound_at_none, left_of, closed_none, closed_more, closed_game, closed_end, closed_fault}
+use Rattle.pgn_game.proofs.tokens.StepsAtEnd.{none_by_fault, sound_at_none, sound_finished, left_of, closed_none, closed_more, closed_game, closed_end, closed_fault}
 use Rattle.pgn_game.proofs.tokens.StepsInPiece.{counts_step}
 use Rattle.pgn_game.proofs.converter.Converter.finish.Goals as goal
 use Rattle.pgn_game.proofs.converter.Converter.finish.Goals.{then-finished_game, else-finished_game}
@@ -101,6 +101,25 @@ is_between-self-inside-requires g c = search fits_reader
 pub returns-in-Some-clause-ends : goal.returns-in-Some-clause-ends
 returns-in-Some-clause-ends g c = λ p u b given stands.
     absurd (none-some c.in-Some.fault (sym stands.has_read.no_fault ∙ ap (λ (s : Converter). s.fault) (sym c.self.view_is) ∙ c.in-Some.is))
+
+pub returns-in-Some-clause-none_just_finished : goal.returns-in-Some-clause-none_just_finished
+returns-in-Some-clause-none_just_finished g c =
+    ap (λ (s : Converter). s.just_finished) (sym c.self.view_is) ∙ none_by_fault c.self.inside.has_finished_game c.self.inside.reader c.self.invariant.no_fault c.in-Some.is
+
+pub returns-in-Some-clause-again : goal.returns-in-Some-clause-again
+returns-in-Some-clause-again g c = λ f is.
+    (ap Err (same_Some _ _ (sym c.in-Some.is ∙ ap (λ (s : Converter). s.fault) c.self.view_is ∙ is)), refl, refl)
+
+pub invariant_of-self-in-Ok-None : goal.invariant_of-self-in-Ok-None
+invariant_of-self-in-Ok-None g c =
+    let is = c.in-Ok-None.is ∙ ap Ok c.in-Ok-None.field-0-is in
+    let self = c.self-in-loop-finished_game in
+    sound_finished self.inside.lexer self.inside.reader self.inside.games self.invariant
+    (λ is. elim c.if-finished_game.branch [
+      | then-finished_game w ↦ w.is_between-self-inside.ensures.0 (sym w.self-is ∙ is)
+      | else-finished_game w ↦ absurd (false≢true (sym w.if-finished_game.false ∙ sym w.self-is ∙ is))
+    ])
+    (ap (λ (s : Converter). s.fault) self.view_is ∙ (rw is at c.step_at_end.ensures.fault))
 
 pub returns-in-Some-clause-fault : goal.returns-in-Some-clause-fault
 returns-in-Some-clause-fault g c = ap (λ (s : Converter). s.fault) (sym c.self.view_is) ∙ c.in-Some.is
