@@ -1,5 +1,5 @@
 -- Two equal readings: no token of the second shows a difference, also where one stops early.
-use Rattle.pgn_game.proofs.Words.{◌≡◌, ℕ, Bool, true, false, List, [], ◌∷◌, ◌++◌, inl, inr, Option, None, Some, refl, ap, ◌∙◌, append-nil, ◌==◌, bytes_eq-Decides, tokens_of, RisesTo, TokensRise, Token, Reason, Changed, Fault, Profile, takes_the_marker, Game, Part, refusal, is_end, Next, going, whole, next, Progress, no_progress, progress_after, read, read_from, eqb_tells, arith, rules, Mark, mark_at, marks_from, Comparison, compared_from, compared, written_by, is_other, is_changed, marks_after, written_so_far as written, verdict_of}
+use Rattle.pgn_game.proofs.Words.{◌≡◌, ℕ, Bool, true, false, List, [], ◌∷◌, ◌++◌, inl, inr, Option, None, Some, refl, ap, ◌∙◌, append-nil, ◌==◌, bytes_eq-Decides, tokens_of, RisesTo, TokensRise, Token, Reason, Changed, Fault, Profile, takes_the_marker, Game, Part, refusal, is_end, Next, going, whole, next, Progress, no_progress, progress_after, read, read_from, eqb_tells, arith, rules, Mark, mark_at, marks_from, Comparison, compared_from, compared, written_by, is_other, is_changed, marks_after, written_so_far as written, verdict_of, sym}
 use Rattle.pgn_game.specs.EqualReadings.{EqualReadings}
 use Rattle.pgn_game.proofs.tokens.OneMoreToken.{by_token}
 use Rattle.pgn_game.proofs.reading.RunsToEnd.{not_end}
@@ -87,12 +87,12 @@ rest_ends t (u ∷ ts) last = last.1
 
 -- The second reading has the tokens of the first, and more.
 pub compared_same : (p : Profile) (b : Progress) (ts more : List Token) → Ends ts → Same (compared_from p (marks_from p b ts) b (ts ++ more)) (read_from p b ts).progress.games
-compared_same p b [] more last = search (rules, no_mark)
+compared_same p b [] more last = (rw (no_mark p b more) (record { fault = refl; marks_left = refl; games = refl }))
 compared_same p b (t ∷ ts) more last =
     by_token p b t ts (λ r. Same (compared_from p (marks_from p b (t ∷ ts)) b (t ∷ ts ++ more)) r.progress.games)
     (λ reason is. rw (rejected_token p b t ts (ts ++ more) is) (record { fault = refl; marks_left = refl; games = refl }))
     (λ is.
-    same_token (λ (f : Comparison). Same f (read_from p (progress_after b t) ts).progress.games) (λ b c alike so. record { fault = refl; marks_left = refl; games = cc }) p b t ts (ts ++ more) last is
+    same_token (λ (f : Comparison). Same f (read_from p (progress_after b t) ts).progress.games) (λ b c alike so. record { fault = refl; marks_left = refl; games = sym alike ∙ so.games }) p b t ts (ts ++ more) last is
     (compared_same p (progress_after b t) ts more (rest_ends t ts last)))
 
 -- What is written at the last mark: the finished games, as in one reading.

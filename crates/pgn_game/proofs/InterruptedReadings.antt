@@ -21,8 +21,8 @@ longer [] ys vs ws same = inl (ys, refl)
 longer (x ∷ xs) [] vs ws same = inr (x ∷ xs, refl)
 longer (x ∷ xs) (y ∷ ys) vs ws same =
     elim (longer xs ys vs ws cc) [
-      | inl h ↦ inl (h.0, cc)
-      | inr h ↦ inr (h.0, cc)
+      | inl h ↦ inl (h.0, cc (h.1, same))
+      | inr h ↦ inr (h.0, cc (h.1, same))
     ]
 
 module _ (p : Profile) (takes : p.missing_result ≡ takes_the_marker) where
@@ -83,7 +83,7 @@ module _ (p : Profile) (takes : p.missing_result ≡ takes_the_marker) where
   -- The first reading has the tokens of the second, and more.
   compared_within : (b : Progress) (us more : List Token) → Ends (us ++ more)
       → Within (read_from p b us).progress (read_from p b (us ++ more)).progress (compared_from p (marks_from p b (us ++ more)) b us)
-  compared_within b [] more last = search (rules, waits)
+  compared_within b [] more last = waits b more (marks_from p b more) refl
   compared_within b (t ∷ us) more last =
       by_token p b t us (λ r. ForToken b t us more r (read_from p b (t ∷ us ++ more)))
       (λ reason is. subst (Within b _) (sym (rejected_token p b t (us ++ more) us is)) (none_written (games_grow b (t ∷ us ++ more))))
@@ -110,7 +110,7 @@ module _ (p : Profile) (takes : p.missing_result ≡ takes_the_marker) where
       by_length : ((z : List Token) × (us ≡ ts ++ z)) ⊎ ((z : List Token) × (ts ≡ us ++ z)) → AreWrittenWithin p (compared p ts us) (due p us) (due p (us ++ more))
       by_length (inl h) =
           let none : (compared p ts us).marks_left ≡ [] =
-          search (rules, Ends, first_stops, front_ends) in
+          rw h.1 ((first_stops ts h.0 (subst Ends h.1 (front_ends us more last))).no_mark_left) in
           absurd (cc (none, ahead))
       by_length (inr h) =
           let so = second_stops us h.0 (subst Ends h.1 (front_ends ts rest (subst Ends same last))) in
@@ -128,7 +128,7 @@ module _ (p : Profile) (takes : p.missing_result ≡ takes_the_marker) where
       by_length : ((z : List Token) × (us ≡ ts ++ z)) ⊎ ((z : List Token) × (ts ≡ us ++ z)) → IsPrefix (written_by p (compared p ts us)) (due p (ts ++ rest))
       by_length (inl h) =
           let so = first_stops ts h.0 (subst Ends h.1 (front_ends us more (subst Ends same last))) in
-          let is : written_by p (compared p ts us) ≡ due p ts = cc in
+          let is : written_by p (compared p ts us) ≡ due p ts = rw h.1 so.written in
           subst (λ (l : List ℕ). IsPrefix l (due p (ts ++ rest))) (sym is) (due_grows p ts rest)
       by_length (inr h) =
           let so = second_stops us h.0 (subst Ends h.1 (front_ends ts rest last)) in

@@ -26,7 +26,7 @@ marker_shown : (k : Kind) {marker : List ℕ} → marker_of k ≡ Some marker �
 marker_shown k is = rw (marker_written k is) at (next_shown _ [] (written k) [] (single k) none_shown)
 
 with_kinds : {ks ls : List Kind} {s : List ℕ} → ks ≡ ls → PiecesOf ks s → PiecesOf ls s
-with_kinds e a = record { pieces = a.pieces; text = a.text; kinds = cc; sound = a.sound; ended = a.ended }
+with_kinds e a = record { pieces = a.pieces; text = a.text; kinds = a.kinds ∙ e; sound = a.sound; ended = a.ended }
 
 with_feed : {ks : List Kind} {s : List ℕ} → PiecesOf ks s → PiecesOf ks (s ++ 10 ∷ [])
 with_feed {ks} a = with_kinds (append-nil ks) (both_pieces a line_feed)
@@ -79,7 +79,7 @@ module _ (one_read : TheOneMoveIsRead) (leaves : LeavesPosition) (is_symbol : Wr
     keeps = e.keeps;
     sorted = refl;
     set_up = is_set_up_again p.mode g.marker g.pairs (by_name (exported_pairs _ g)) h.set_up e.same;
-    bare = search (rules, some_exported);
+    bare = λ none. absurd (some_exported _ _ _ none);
     items = rw (same_start p g e) k.spells;
     marker = h.marker;
     result = result_meets p g h e;
@@ -151,7 +151,7 @@ module _ (one_read : TheOneMoveIsRead) (leaves : LeavesPosition) (is_symbol : Wr
         record {
           pieces = w.pieces.sound;
           ended = subst AreEnded (append-nil ps) (w.pieces.ended [] tt);
-          comments = search rules;
+          comments = (rw w.pieces.kinds w.closes);
         } in
         let same = ap (λ s. kinds (tokens_of s)) (sym w.pieces.text) ∙ read_back ps readable ∙ ap (λ ks. ks ++ tokens.end ∷ []) w.pieces.kinds in
         rw same w.spells

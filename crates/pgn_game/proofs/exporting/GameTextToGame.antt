@@ -48,7 +48,7 @@ sound_roster m is =
     (record { name = search (rules, symbol_of); value = data_of refl (omega arith) })
     (unknown_pair (symbol_of refl refl (omega arith))) (unknown_pair (symbol_of refl refl (omega arith)))
     (unknown_pair (symbol_of refl refl (omega arith)))
-    (record { name = search (rules, symbol_of); value = let marker = result_marker m is in rw marker.1 (marker_data marker.0) })
+    (record { name = symbol_of refl refl (omega arith); value = let marker = result_marker m is in rw marker.1 (marker_data marker.0) })
 
 sound_exported : (mode : Mode) (m : List ℕ) (ps : List Pair) → is_result m ≡ true → AllByRecursion IsSoundPair ps → AllByRecursion IsSoundPair (exported mode m ps)
 sound_exported mode m ps is h = search (rules, set_up, all-exported, IsSoundPair, symbol_of, data_of, sound_roster)
@@ -86,7 +86,7 @@ exported_of p g h room =
     let keeps = keeps_exported p g.marker g.pairs is order each room in
     record {
       keeps = keeps;
-      sound = search (rules, sound_exported);
+      sound = sound_exported p.mode g.marker g.pairs is sound;
       order = order;
       each = each;
       same = λ n. by_name_values p n keeps;

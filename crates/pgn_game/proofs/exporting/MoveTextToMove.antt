@@ -41,7 +41,7 @@ move_byte : (c : ℕ) → is_move_byte c ≡ true → continues_symbol c ≡ tru
 move_byte c = search (rules, continues)
 
 begins : (s : List ℕ) → IsTrue (begins_with_letter s) → IsTrue (begins_with starts_symbol s)
-begins [] e = absurd (cc)
+begins [] e = absurd (false≢true e)
 begins (c ∷ s) e = rw e
 
 as_symbol : {s : List ℕ} → IsMoveSymbol s → IsSymbol s

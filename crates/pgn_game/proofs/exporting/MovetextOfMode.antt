@@ -73,7 +73,7 @@ main {first} (move deep l s x ks items names rest) sound =
       spells = move deep l s x r.kinds (main_items first _ items) names r.spells;
       sound = (sound.0, r.sound);
       closes = r.closes;
-      placed = cc;
+      placed = rw r.placed;
       levels = r.levels;
     }
 main (variation deep l ks ls items more holds room inner rest) sound =
@@ -119,7 +119,7 @@ module _ (one_read : TheOneMoveIsRead) (leaves : LeavesPosition) (is_symbol : Wr
         shown = r.shown;
         writable = r.writable;
         closes = λ more then f h. r.closes false more then f;
-        again = cc;
+        again = ap (tokens_out Full first) same;
         moves = ap main_moves same;
       }
   kept_text Reduced first items start text sound =

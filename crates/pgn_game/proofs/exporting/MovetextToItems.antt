@@ -117,8 +117,8 @@ variation_again {deep} l {ks} {ls} {items} more us holds room a b = record {
   kinds = tokens.left_paren ∷ (a.kinds ++ tokens.right_paren ∷ b.kinds);
   spells = variation deep l _ _ items more holds room a.spells b.spells;
   shown = next_shown _ _ _ _ (single _) (shown-append a.shown (next_shown _ _ _ us (single _) b.shown));
-  writable = search (rules, All-append, IsWritable);
-  closes = search (rules, variation_closes);
+  writable = (tt, All-append IsWritable a.kinds (tokens.right_paren ∷ b.kinds) a.writable (tt, b.writable));
+  closes = variation_closes a.kinds ks ls b.kinds a.closes b.closes;
 }
 
 tokens_of_variation : {p : Profile} {first : Parts} (deep : ℕ) (l : Level) {ks : List Kind} {items : List Item} (more : List Item)

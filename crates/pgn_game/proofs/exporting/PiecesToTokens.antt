@@ -1,5 +1,5 @@
 -- Texts in pieces that a lexer reads back: tag lines, and the lines of movetext.
-use Rattle.pgn_game.proofs.Words.{◌≡◌, ℕ, Bool, true, false, List, [], ◌∷◌, ◌++◌, refl, append_assoc, codes, decimal, IsTrue, All-append, AllByRecursion, or_cases, eqb-true, tag_line, escaped, is_space, IsSymbol, IsData, CommentsClose, Piece, text_of_pieces, kinds_in, IsPiece, IsEndedBy, AreEnded, Kind, Pair, tag_lines, SpellsPairs, no_pair, next_pair, pair, arith, rules}
+use Rattle.pgn_game.proofs.Words.{◌≡◌, ℕ, Bool, true, false, List, [], ◌∷◌, ◌++◌, refl, append_assoc, codes, decimal, IsTrue, All-append, AllByRecursion, or_cases, eqb-true, tag_line, escaped, is_space, IsSymbol, IsData, CommentsClose, Piece, text_of_pieces, kinds_in, IsPiece, IsEndedBy, AreEnded, Kind, Pair, tag_lines, SpellsPairs, no_pair, next_pair, pair, arith, rules, sym, ◌∙◌}
 use Rattle.pgn_layout.specs.LineText.{is_gap, IsTextOf, no_token, next_token}
 use Rattle.pgn_lexer.specs.Tokens as tokens
 use Rattle.pgn_lexer.specs.Written as written
@@ -67,25 +67,25 @@ shown_pieces b (single k) h gap = record {
   text = refl;
   kinds = refl;
   sound = (h.0, (gap_is_space b gap, tt));
-  ended = search (rules, gap_ends);
+  ended = λ more rest. (gap_ends b (text_of_pieces more) k gap, rest);
 }
 shown_pieces b (white n) h gap = record {
   pieces = written.token _ ∷ written.token _ ∷ written.space b ∷ [];
-  text = search (rules, append_assoc);
+  text = sym (append_assoc (decimal n) (codes ".") (b ∷ []));
   kinds = refl;
-  sound = search (rules, gap_is_space);
+  sound = (h.0, (tt, (gap_is_space b gap, tt)));
   ended = λ more rest. (refl, (tt, rest));
 }
 shown_pieces b (black n) h gap = record {
   pieces = written.token _ ∷ written.token _ ∷ written.token _ ∷ written.token _ ∷ written.space b ∷ [];
-  text = search (rules, append_assoc);
+  text = sym (append_assoc (decimal n) (codes "...") (b ∷ []));
   kinds = refl;
-  sound = search (rules, gap_is_space);
+  sound = (h.0, (tt, (tt, (tt, (gap_is_space b gap, tt)))));
   ended = λ more rest. (refl, (tt, (tt, (tt, rest))));
 }
 
 pub at_text : {ks : List Kind} {s t : List ℕ} → s ≡ t → PiecesOf ks s → PiecesOf ks t
-at_text e a = record { pieces = a.pieces; text = cc; kinds = a.kinds; sound = a.sound; ended = a.ended }
+at_text e a = record { pieces = a.pieces; text = a.text ∙ e; kinds = a.kinds; sound = a.sound; ended = a.ended }
 
 pub line_pieces : {ks : List Kind} {ts : List (List ℕ)} {s : List ℕ} → AllShown ks ts → AllByRecursion IsWritable ks → IsTextOf ts s → PiecesOf ks s
 line_pieces none_shown h no_token = no_pieces

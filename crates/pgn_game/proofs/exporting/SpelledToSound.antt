@@ -1,5 +1,5 @@
 -- What is known of a game that a text spells: its tokens are sound, and its comments close.
-use Rattle.pgn_game.proofs.Words.{◌≡◌, ℕ, Bool, true, false, List, [], ◌∷◌, ◌++◌, refl, ap, append_assoc, Some, codes, AllByRecursion, list_all, All-append, and_parts, IsSoundKind, CommentsClose, written, is_comment, is_result, marker_of, Parts, Kind, Item, Game, Pair, value_of, Profile, Level, start_of, AreDropped, SpellsPair, pair, SpellsPairs, no_pair, next_pair, KeepsTags, by_name, IsSetUp, SpellsText, no_more, token, move, variation, StandsFor, number, new_level, BeginsBare, IsResult, SpellsGame, arith, rules}
+use Rattle.pgn_game.proofs.Words.{◌≡◌, ℕ, Bool, true, false, List, [], ◌∷◌, ◌++◌, refl, ap, append_assoc, Some, codes, AllByRecursion, list_all, All-append, and_parts, IsSoundKind, CommentsClose, written, is_comment, is_result, marker_of, Parts, Kind, Item, Game, Pair, value_of, Profile, Level, start_of, AreDropped, SpellsPair, pair, SpellsPairs, no_pair, next_pair, KeepsTags, by_name, IsSetUp, SpellsText, no_more, token, move, variation, StandsFor, number, new_level, BeginsBare, IsResult, SpellsGame, arith, rules, false≢true}
 use Rattle.pgn_lexer.specs.Tokens as tokens
 use Rattle.pgn_game.proofs.AllOfJoined.{all_front, all_behind}
 use Rattle.pgn_game.proofs.refusals.RefusalsInMovetext.{score_of}
@@ -22,7 +22,7 @@ around_token tokens.comment_open false ks on h = (true, h, λ is. absurd (cc))
 around_token (tokens.word s) false ks on h = absurd h
 around_token (tokens.word s) true ks on h = (true, h, λ is. absurd (cc))
 around_token tokens.comment_close false ks on h = absurd h
-around_token tokens.comment_close true ks on h = search rules
+around_token tokens.comment_close true ks on h = (false, h, λ is. absurd (cc))
 around_token _ false ks on h = (false, h, λ is. (refl, refl))
 around_token _ true ks on h = absurd h
 
@@ -38,7 +38,7 @@ behind [] c ks on h = (c, h)
 behind (x ∷ xs) c ks on h = let next = around_token x c _ on.0 h in behind xs next.0 ks on.1 next.1
 
 comment_goes_on : (k : Kind) → is_comment k ≡ true → GoesOn k
-comment_goes_on (tokens.refused r) is = absurd (cc)
+comment_goes_on (tokens.refused r) is = absurd (false≢true is)
 comment_goes_on _ is = tt
 
 dropped_go_on : (xs : List Kind) → AreDropped xs → AllByRecursion GoesOn xs
@@ -98,9 +98,10 @@ bare_text ks c k ls on bare is h = search (rules, plain, marker_plain)
 before_text : {tags : List Kind} (text : List Kind) {given : List Pair} (c : Bool) (k : Kind) {marker : List ℕ} (ls : List Kind)
     → SpellsPairs tags given → (given ≡ [] → BeginsBare text) → AllByRecursion GoesOn text → marker_of k ≡ Some marker
     → CommentsClose c (tags ++ (text ++ k ∷ ls)) → CommentsClose false (text ++ k ∷ ls)
-before_text text c k ls no_pair bare on is h = search (rules, bare_text)
+before_text text c k ls no_pair bare on is h = bare_text text c k ls on (bare refl) is h
 before_text text c k ls (next_pair ks js q qs one rest) bare on is h =
-    search (rules, append_assoc, behind_pair, behind_pairs)
+    behind_pairs (text ++ k ∷ ls) rest
+    (behind_pair c (js ++ (text ++ k ∷ ls)) one (rw (append_assoc ks js (text ++ k ∷ ls)) at h))
 
 sound_pair : {ks : List Kind} {q : Pair} → SpellsPair ks q → AllByRecursion IsSoundKind ks → IsSoundPair q
 sound_pair h2 sound = search (rules, all_behind)

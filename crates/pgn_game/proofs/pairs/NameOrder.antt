@@ -16,7 +16,7 @@ by_rest : (x y : ℕ) {rest : Bool} → x ≡ y → rest ≡ true → goes_first
 by_rest x y e f = cc (le-ltb x y (omega arith), eq-eqb x y e)
 
 never_itself : (a : List ℕ) → comes_before a a ≡ true → ⊥
-never_itself [] e = cc
+never_itself [] e = false≢true e
 never_itself (x ∷ xs) e =
     elim (first_cases x x e) [
       | inl h ↦ absurd (omega arith)
@@ -24,8 +24,8 @@ never_itself (x ∷ xs) e =
     ]
 
 before-trans : (a b c : List ℕ) → comes_before a b ≡ true → comes_before b c ≡ true → comes_before a c ≡ true
-before-trans a [] c e f = absurd (cc)
-before-trans a (y ∷ ys) [] e f = absurd (cc)
+before-trans a [] c e f = absurd (false≢true e)
+before-trans a (y ∷ ys) [] e f = absurd (false≢true f)
 before-trans [] (y ∷ ys) (z ∷ zs) e f = refl
 before-trans (x ∷ xs) (y ∷ ys) (z ∷ zs) e f =
     by_cases (before-trans xs ys zs) (first_cases x y e) (first_cases y z f)
@@ -109,7 +109,7 @@ same_behind p q ps qs n h k same e = by_test _ refl
   where
     by_test : (b : Bool) → bytes_eq p.name n ≡ b → value_of ps n ≡ value_of qs n
     by_test true is = let here = bytes_eq-true _ n is in cc (here, same, absent _ ps h, absent _ qs k)
-    by_test false is = cc
+    by_test false is = cc (is, same, value_of-cons p ps n, value_of-cons q qs n, e)
 
 pub same_pairs : (ps qs : List Pair) → InOrder ps → InOrder qs → ((name : List ℕ) → value_of ps name ≡ value_of qs name) → ps ≡ qs
 same_pairs [] [] h k e = refl

@@ -39,7 +39,7 @@ some_last p [] e = cc
 some_last p (q ∷ ps) e = some_last q ps e
 
 pub whole-held : (ps : List Pair) (b : Bool) {t : TagPairs} → pairs_seen ps b ≡ t → t.pending_name ≡ None → (IsTrue b → 0 < length ps) → ps ≡ t.held
-whole-held ps false e none some = cc
+whole-held ps false e none some = ap (λ s. s.held) e
 whole-held [] true e none some = absurd (omega (arith, some refl))
 whole-held (p ∷ ps) true e none some = absurd (some_last p ps (ap (λ s. s.pending_name) e ∙ none))
 
@@ -76,7 +76,7 @@ pub begun-last : {most : ℕ} {ps : List Pair} {n : ℕ} (b : Bool) {t : TagPair
     → p ≡ get_or ps (n - 1) p → IsSome t.pending_name → t.pending_name ≡ Some p.name
 begun-last {ps} {n} true {p} fits e at begun =
     let more : n ≡ suc (n - 1) = omega (arith, fits.some refl) in
-    let split : take n ps ≡ take (n - 1) ps ++ p ∷ [] = cc (more, take-suc ps (n - 1) p (omega arith), at) in
+    let split : take n ps ≡ take (n - 1) ps ++ p ∷ [] = cc (more, take-suc ps (n - 1) p (omega (arith, fits.some refl, fits.within)), at) in
     rw (← e) (ap last_name split ∙ last_name-snoc (take (n - 1) ps) p)
 begun-last {ps} {n} false fits e at begun = cc
 

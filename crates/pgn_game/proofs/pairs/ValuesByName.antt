@@ -16,7 +16,7 @@ bytes_eq-sym xs ys = grind (arith, bytes_eq-true, bytes_eq-refl, same_bool)
 
 pub no_value : {A : Type 0} (o : Option A) → is_some o ≡ false → o ≡ None
 no_value None e = refl
-no_value (Some v) e = absurd (cc)
+no_value (Some v) e = absurd (false≢true (sym e))
 
 -- The value of a name, from whether the first pair has this name.
 abbrev pub pick : Bool → List ℕ → Option (List ℕ) → Option (List ℕ)

@@ -1,5 +1,5 @@
 -- Worked rows of the grammar: what some inputs spell, and what they don't.
-use Rattle.pgn_game.proofs.Words.{◌≡◌, ℕ, ◌<◌, List, [], ◌∷◌, ◌++◌, Kind, refl, arith, codes, tokens_of, RisesTo, Played, Full, Profile, counts_as, Pair, Item, Game, first_position, refusal, Spells, SpellsText, Names, pair, no_pair, next_pair, no_game, next_game, no_more, token, move, variation, number, period, comment_open, word, comment_close, new_level, level_after_move, rules}
+use Rattle.pgn_game.proofs.Words.{◌≡◌, ℕ, ◌<◌, List, [], ◌∷◌, ◌++◌, Kind, refl, arith, codes, tokens_of, RisesTo, Played, Full, Profile, counts_as, Pair, Item, Game, first_position, refusal, Spells, SpellsText, Names, pair, no_pair, next_pair, no_game, next_game, no_more, token, move, variation, number, period, comment_open, word, comment_close, new_level, level_after_move, rules, inl}
 use Rattle.pgn_lexer.specs.Tokens as tokens
 use Rattle.pgn_game.specs.Game as games
 use Rattle.pgn_game.proofs.reading.RunsToEnd.{kinds, runs_as_read}
@@ -69,7 +69,7 @@ has_no_item e = search rules
 comment_is_dropped : Spells plain (tokens_of (codes ";\n*")) (game [] (games.comment_open ∷ games.comment_close ∷ []) ∷ []) → ⊥
 unfolding refusal
 comment_is_dropped h =
-    let rises : RisesTo (tokens_of (codes ";\n*")) = search rules in
+    let rises : RisesTo (tokens_of (codes ";\n*")) = (λ x. x, inl (omega arith), (λ x. x, inl (omega arith), (λ x. x, inl (omega arith), tt))) in
     let was_read = (runs_as_read plain (tokens_of (codes ";\n*")) _ rises).0 (games_run plain (kinds (tokens_of (codes ";\n*"))) _ h) in
     has_no_item was_read.1
 

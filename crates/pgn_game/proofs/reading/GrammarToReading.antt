@@ -5,7 +5,7 @@ use Rattle.pgn_game.specs.Game as games
 use Rattle.pgn_game.proofs.reading.RunsToEnd.{at, Runs, ends, goes, finishes}
 use Rattle.pgn_game.proofs.refusals.RefusalsByStage.{pass, drops_comments, comment_free, comment_stays, comment_goes, open_refusal, open_between, name_refusal, value_refusal, close_refusal, is_textual, after_tags, leads_after_tags, between, leads_between, is_lexical, text_row}
 use Rattle.pgn_game.proofs.reading.PairsInTurn.{with_pairs, Takes, takes}
-use Rattle.pgn_game.proofs.refusals.RefusalsInMovetext.{move_refusal, marker_refusal}
+use Rattle.pgn_game.proofs.refusals.RefusalsInMovetext.{move_refusal, marker_refusal, symbol_leads, marker_whole}
 use Rattle.pgn_game.proofs.reading.MovetextTokens.{levels_more, result_meets, stands_free, stands_leads, stands_levels, stands_goes}
 
 dropped_run : (p : Profile) (stage : Stage) (ps : List Pair) (name : List ℕ) (items : List Item) → IsTrue (drops_comments stage)
@@ -64,7 +64,7 @@ move_free p ps name items s played h =
 
 move_leads : (ps : List Pair) (name : List ℕ) (items : List Item) (s : List ℕ) (played : Played) → Names (here (start_of ps) (levels_of items)) s played
     → next (at InMovetext ps name items) (tokens.symbol s) ≡ going (at InMovetext ps name (items ++ games.move played.mv ∷ []))
-move_leads ps name items s played h = cc
+move_leads ps name items s played h = cc (symbol_leads (at InMovetext ps name items) s false h.no_number h.no_marker)
 
 opens_free : (p : Profile) (ps : List Pair) (name : List ℕ) (items : List Item) → (levels_of items).present.has_own_move ≡ true → depth (levels_of items) < p.depth
     → refusal p (at InMovetext ps name items) tokens.left_paren ≡ None
@@ -97,22 +97,22 @@ text_run {p} ps name (token _ _ k ks item items stands text) before all rest gs 
     (text_run ps name text _ all rest gs (stands_levels before stands ∙ at_level) at_depth
     (append_assoc before item items ∙ same) further)
 text_run {p} ps name {l} (move _ _ s played ks items names text) before all rest gs at_level at_depth same further =
-    let placed : replayed (start_of ps) l.trail ≡ here (start_of ps) (levels_of before) = cc in
+    let placed : replayed (start_of ps) l.trail ≡ here (start_of ps) (levels_of before) = ap (λ (x : Levels). here (start_of ps) x) (sym at_level) in
     let named : Names (here (start_of ps) (levels_of before)) s played = rw placed at names in
     goes _ _ _ _ gs (move_free p ps name before s played named) refl (move_leads ps name before s played named)
     (text_run ps name text _ all rest gs (rw at_level at (levels_more before (games.move played.mv))) at_depth
     (append_assoc before _ items ∙ same) further)
 text_run {p} ps name {deep} {l} (variation _ _ ks ls items more holds room inner text) before all {around} rest gs at_level at_depth same further =
     let opened : levels_of (before ++ games.open_variation ∷ []) ≡ leveled (new_level (without_last l.trail)) (l ∷ around) =
-    search (rules, at, levels_more) in
+    rw at_level at (levels_more before games.open_variation) in
     let middle : List Item = (before ++ games.open_variation ∷ []) ++ items in
-    let holding : (levels_of before).present.has_own_move ≡ true = cc in
-    let deepness : depth (levels_of before) ≡ deep = cc in
+    let holding : (levels_of before).present.has_own_move ≡ true = rw at_level holds in
+    let deepness : depth (levels_of before) ≡ deep = rw at_level at_depth in
     let deeper : depth (levels_of before) < p.depth = omega arith in
     rw (append_assoc ks (tokens.right_paren ∷ ls) rest) (goes _ _ _ _ gs
     (opens_free p ps name before holding deeper) refl refl (text_run ps name inner _ middle _ gs
     opened (omega arith) refl (λ m inside.
-    let some : 0 < depth (levels_of middle) = search rules in
+    let some : 0 < depth (levels_of middle) = rw inside (omega arith) in
     goes _ _ _ _ gs (closes_free p ps name middle some) refl refl (text_run ps name text _ all rest gs
     (rw inside at (levels_more middle games.close_variation)) at_depth (joined before items more ∙ same) further))))
   where
@@ -140,7 +140,7 @@ marker_finishes p ps name items k {marker} is outside result =
           text_row p (at InMovetext ps name items) k plain.0 ∙ marker_refusal p (at InMovetext ps name items) k is
           ∙ pass _ MarkerInVariation _ shallow ∙ pass _ ResultDiffers None (ap (λ b. b && (depth (levels_of items) == 0)) same);
       goes = plain.1;
-      leads = cc;
+      leads = marker_whole (at InMovetext ps name items) k marker is;
     }
   where
     plain_marker : (k : Kind) (marker : List ℕ) → marker_of k ≡ Some marker → (is_lexical k ≡ false) × (is_end k ≡ false)
@@ -206,8 +206,9 @@ tags_run p rest gs h5 h6 set_up bare runs = search (rules, with_pairs, takes, pa
 game_run : (p : Profile) {ks : List Kind} (rest : List Kind) (g : Game) (gs : List Game) → SpellsGame p ks g → Runs p no_part rest gs → Runs p no_part (ks ++ rest) (g ∷ gs)
 game_run p {ks} rest g gs h runs =
     let behind : List Kind = h.text ++ h.last ∷ rest in
-    let whole_text : (n : List ℕ) → Runs p (at InMovetext (by_name h.given) n []) behind (g ∷ gs) = search (rules, Runs, at, whole_text_run) in
-    let set_up : IsSetUp (by_name h.given) = search rules in
+    let whole_text : (n : List ℕ) → Runs p (at InMovetext (by_name h.given) n []) behind (g ∷ gs) = λ n.
+    subst (λ ps. Runs p (at InMovetext ps n []) behind (g ∷ gs)) h.sorted (whole_text_run p g.pairs n rest h.last gs h.items h.marker h.result runs) in
+    let set_up : IsSetUp (by_name h.given) = subst IsSetUp h.sorted h.set_up in
     let e : ks ++ rest ≡ h.before ++ (h.tags ++ behind) = rw h.tokens (simp append_assoc) in
     subst (λ js. Runs p no_part js (g ∷ gs)) (sym e)
     (dropped_run p Between [] [] [] refl h.before (h.tags ++ behind) (g ∷ gs) h.dropped
@@ -215,5 +216,5 @@ game_run p {ks} rest g gs h runs =
 
 pub games_run : (p : Profile) (ks : List Kind) (gs : List Game) → SpellsGames p ks gs → Runs p no_part ks gs
 unfolding refusal
-games_run p _ _ (no_game ks are) = search (rules, dropped_run, ends)
+games_run p _ _ (no_game ks are) = dropped_run p Between [] [] [] refl ks (tokens.end ∷ []) [] are (ends no_part refl)
 games_run p _ _ (next_game ks ls g gs first others) = game_run p ls g gs first (games_run p ls gs others)

@@ -1,5 +1,5 @@
 -- From reading to the grammar: tokens that run to their end spell the games that they finish.
-use Rattle.pgn_game.proofs.Words.{◌≡◌, ℕ, ◌+◌, ◌<◌, ◌≤◌, Bool, true, false, ◌&&◌, ◌||◌, not, List, [], ◌∷◌, ◌++◌, length, nat_lt, nat_le, refl, sym, ap, subst, ◌∙◌, arith, append_assoc, append-nil, Option, None, Some, ◌==◌, codes, bytes_eq, is_some, unwrap_or, IsTrue, IsFalse, Result, Ok, Err, list_all, bytes_eq-Decides, false≢true, not-false, leb-false, ltb-false, none-some, FenFault, NoMove, Ambiguous, escaped, Parts, Played, SanFault, Kind, Mode, Full, Reduced, BadTagName, DuplicateTag, TooManyTags, BadResult, BadFen, TagLineTooLong, SetUpWithoutFen, NoMoveBefore, TooDeep, UnmatchedClose, MarkerInVariation, ResultDiffers, Stage, Between, AfterLeftBracket, AfterName, AfterValue, AfterTags, InMovetext, Profile, Pair, value_of, has_pair, insert_pair, Item, Game, Part, no_part, position_of, move_of, Level, levels_of, levels_after, depth, here, without_last, start_of, refusal, is_comment, in_name, is_result, is_score, is_number, is_end, is_reduced, fen_fault_field, marker_of, lacks_fen, Next, next, going, whole, AreDropped, pair, SpellsPairs, no_pair, next_pair, IsSetUp, StandsFor, number, period, glyph, comment_open, word, comment_close, Names, new_level, level_after_move, SpellsText, no_more, token, move, variation, BeginsBare, IsResult, SpellsGame, SpellsGames, no_game, next_game, rules}
+use Rattle.pgn_game.proofs.Words.{◌≡◌, ℕ, ◌+◌, ◌<◌, ◌≤◌, Bool, true, false, ◌&&◌, ◌||◌, not, List, [], ◌∷◌, ◌++◌, length, nat_lt, nat_le, refl, sym, ap, subst, ◌∙◌, arith, append_assoc, append-nil, Option, None, Some, ◌==◌, codes, bytes_eq, is_some, unwrap_or, IsTrue, IsFalse, Result, Ok, Err, list_all, bytes_eq-Decides, false≢true, not-false, leb-false, ltb-false, none-some, FenFault, NoMove, Ambiguous, escaped, Parts, Played, SanFault, Kind, Mode, Full, Reduced, BadTagName, DuplicateTag, TooManyTags, BadResult, BadFen, TagLineTooLong, SetUpWithoutFen, NoMoveBefore, TooDeep, UnmatchedClose, MarkerInVariation, ResultDiffers, Stage, Between, AfterLeftBracket, AfterName, AfterValue, AfterTags, InMovetext, Profile, Pair, value_of, has_pair, insert_pair, Item, Game, Part, no_part, position_of, move_of, Level, levels_of, levels_after, depth, here, without_last, start_of, refusal, is_comment, in_name, is_result, is_score, is_number, is_end, is_reduced, fen_fault_field, marker_of, lacks_fen, Next, next, going, whole, AreDropped, pair, SpellsPairs, no_pair, next_pair, IsSetUp, StandsFor, number, period, glyph, comment_open, word, comment_close, Names, new_level, level_after_move, SpellsText, no_more, token, move, variation, BeginsBare, IsResult, SpellsGame, SpellsGames, no_game, next_game, rules, ReducedFen}
 use Rattle.pgn_lexer.specs.Tokens as tokens
 use Rattle.pgn_game.specs.Game as games
 use Rattle.pgn_game.proofs.reading.RunsToEnd.{at, Runs, ends, goes, finishes}
@@ -53,7 +53,7 @@ add_close p first l m around ks items rest = inside l m around [] ks [] items (n
 
 nothing_left : (p : Profile) (first : Parts) (l : Level) (around : List Level) → length around ≡ 0 → Closes p first l around [] []
 nothing_left p first l [] e = outermost l [] [] (no_more 0 l)
-nothing_left p first l (m ∷ around) e = absurd (cc)
+nothing_left p first l (m ∷ around) e = absurd (omega (arith, e))
 
 -- What is left of a game in its movetext, and the games behind it.
 record Text_left (p : Profile) (ps : List Pair) (items : List Item) (ks : List Kind) (gs : List Game) : Type 0 where
@@ -209,7 +209,7 @@ marker_step {p} {items} {k} {marker} {ks} is shallow same after =
       kinds = refl;
       closes = nothing_left p _ _ _ outside;
       is_marker = is;
-      result = search (rules, result_is, same_at_zero);
+      result = result_is _ _ marker (same_at_zero _ _ shallow same);
       games = cc (append-nil items);
       others = after.2;
     }
@@ -275,7 +275,7 @@ one_dropped : (P : List Kind → Type 0) {k : Kind} {ks : List Kind} → IsTrue 
     → Dropping P (k ∷ ks)
 one_dropped P {k} is h =
     let kinds = ap (λ xs. k ∷ xs) h.kinds in
-    record { front = k ∷ h.front; rest = h.rest; kinds = kinds; dropped = cc; left = h.left }
+    record { front = k ∷ h.front; rest = h.rest; kinds = kinds; dropped = dropped_more k h.front is h.dropped; left = h.left }
 
 none_dropped : (P : List Kind → Type 0) {ks : List Kind} → P ks → Dropping P ks
 none_dropped P {ks} h = record { front = []; rest = ks; kinds = refl; dropped = refl; left = h }
@@ -304,8 +304,9 @@ value_given p {name} items s {ks} free h =
       behind = ks;
       kinds = refl;
       room = ltb-false 249 _ short;
-      result = search (rules, bytes_eq-Decides, forced, not-false, test_failed);
-      fen = search (rules, bytes_eq-Decides, forced, position_is);
+      result = λ is. not-false _
+          (forced (bytes_eq name _) (test_failed (bytes_eq name _ && not _) BadResult _ e) ((bytes_eq-Decides name _).1 is));
+      fen = λ is. position_is _ (forced (bytes_eq name _) is_position ((bytes_eq-Decides name _).1 is));
       bracket = h;
     })
 
@@ -330,7 +331,9 @@ name_given p ps name items s ks free h =
       kinds = refl;
       fresh = test_failed _ DuplicateTag _ f;
       is_name = not-false _ (test_failed _ BadTagName _ e);
-      full = search (rules, bytes_eq-Decides, is_full, test_failed);
+      full = λ is.
+          is_full _ (test_failed _ ReducedFen None g)
+          ((bytes_eq-Decides s _).1 is);
       value = h;
     })
 
@@ -353,14 +356,19 @@ pair_step p {ps} {ks} free dn =
     let zs = db.front in
     let q : Pair = record { name = n.name; value = v.value } in
     let whole : ks ≡ xs ++ tokens.symbol n.name ∷ (ys ++ tokens.str v.value ∷ (zs ++ tokens.right_bracket ∷ (t.tags ++ t.behind))) =
-    cc in (
+    cc (dn.kinds, n.kinds, dv.kinds, v.kinds, db.kinds, b.kinds, t.kinds) in (
       record {
         tags = (tokens.left_bracket ∷ (xs ++ tokens.symbol n.name ∷ (ys ++ tokens.str v.value ∷ (zs ++ tokens.right_bracket ∷ [])))) ++ t.tags;
         given = q ∷ t.given;
         behind = t.behind;
         kinds = (rw whole (simp append_assoc));
         pairs = next_pair _ t.tags q t.given (pair xs ys zs _ _ dn.dropped dv.dropped db.dropped) t.pairs;
-        takes = search (rules, leb-false);
+        takes = (
+          leb-false p.tags (length ps) free,
+          n.fresh,
+          record { name = n.is_name; room = v.room; result = v.result; fen = λ is. let h = v.fen is in (n.full is, h.0, h.1) },
+          t.takes,
+        );
         set_up = t.set_up;
         text = t.text;
       },
@@ -404,7 +412,7 @@ game_drops k is h = record {
   last = h.last;
   given = h.given;
   tokens = cc;
-  dropped = cc;
+  dropped = dropped_more k h.before is h.dropped;
   pairs = h.pairs;
   keeps = h.keeps;
   sorted = h.sorted;
@@ -451,7 +459,7 @@ game_begins {p} {ps} none t bare =
 
 bare_from : {k : Kind} {ks : List Kind} (text : List Kind) (last : Kind) (behind : List Kind) → IsFalse (is_comment k) → k ∷ ks ≡ text ++ last ∷ behind → BeginsBare text
 bare_from [] last behind is e = tt
-bare_from {k} (j ∷ js) last behind is e = cc
+bare_from {k} (j ∷ js) last behind is e = let same : j ≡ k = cc in cc
 
 between_text : (p : Profile) {ps : List Pair} (name : List ℕ) {items : List Item} (k : Kind) {ks : List Kind} {gs : List Game} → ps ≡ [] → items ≡ [] → IsTrue (is_textual k)
     → IsFalse (is_comment k) → refusal p (at Between ps name items) k ≡ None → is_end k ≡ false → After p (next (at Between ps name items) k) ks gs → SpellsGames p (k ∷ ks) gs

@@ -42,7 +42,7 @@ pub comment_stays : {stage : Stage} (part : Part) (k : Kind) → IsTrue (drops_c
 comment_stays part k drops is = grind (arith, false≢true)
 
 pub comment_goes : (k : Kind) → IsTrue (is_comment k) → is_end k ≡ false
-comment_goes tokens.end is = absurd (cc)
+comment_goes tokens.end is = absurd (false≢true is)
 comment_goes _ is = refl
 
 pub comment_passes : (p : Profile) {part : Part} (k : TokenKind) {stage : Stage} → stage ≡ part.stage → IsTrue (drops_comments stage)
@@ -145,9 +145,9 @@ textual k bracket over = grind arith
 pub after_tags : (p : Profile) (part : Part) (k : Kind) → IsTrue (is_textual k)
     → refusal p (at_stage AfterTags part) k ≡ or_else (lacks_fen part.pairs) SetUpWithoutFen (refusal p (at_stage InMovetext part) k)
 unfolding refusal
-after_tags p part tokens.left_bracket is = absurd (cc)
-after_tags p part tokens.end is = absurd (cc)
-after_tags p part (tokens.refused r) is = absurd (cc)
+after_tags p part tokens.left_bracket is = absurd (false≢true is)
+after_tags p part tokens.end is = absurd (false≢true is)
+after_tags p part (tokens.refused r) is = absurd (false≢true is)
 after_tags p part _ is = refl
 
 pub leads_after_tags : (part : Part) (k : Kind) → IsTrue (is_textual k) → next (at_stage AfterTags part) k ≡ next (at_stage InMovetext part) k

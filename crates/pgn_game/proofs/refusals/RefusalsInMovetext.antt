@@ -178,4 +178,4 @@ test_of held value d known missing marker test tags same found text is tested =
 
 pub none_around : {A : Type 0} (ls : List A) → length ls ≡ 0 → ls ≡ []
 none_around [] e = refl
-none_around (l ∷ ls) e = absurd (cc)
+none_around (l ∷ ls) e = absurd (omega (arith, e))

@@ -1,7 +1,7 @@
 -- One token that the lexer gave, and what the reader answered to it.
 use Rattle.pgn_lexer.specs.PartialToken.{refusal as refusal_token}
 use Rattle.pgn_lexer.specs.Scanned.{token, more, fault}
-use Rattle.pgn_game.proofs.Words.{Reason, Lexical, WriteFault, Fault, Profile, Game, Part, ◌≡◌, ℕ, ◌+◌, ◌*◌, is_some, ◌<◌, ◌≤◌, ◌⊎◌, Bool, false, true, List, [], ◌∷◌, ◌++◌, length, take, drop, Option, None, Some, Result, Ok, Err, refl, sym, ap, subst, ◌∙◌, append_assoc, append-nil, length-append, le_refl, arith, IsTrue, map, sum, take-append-drop, map-append, list_any-append, or_cases, Appends-nil, Appends, Token, EndsAt, tokens_of, Standing, coming, waiting, StandsAfter, Follows, AfterScan, first, still, Accepted, More, Finished, refusal, position_if_move, position_in, Next, going, whole, next, Progress, progress_with, progress_after, Read, read, gain, Gains, plies_of, has_move, ReaderState, Agrees, IsKnown, as_written, IsBehind, whole_plies, plies_next, Leads, Answers, AppendsFront, MostTried, Raises, Tries, TriesUnwritten, sum_by-append, sum_by-cons, LexFault, FinishedGame, finished_game_of, Converter, game_in_reader, game_in_reader_if, play_moves, has_played_move, HasRead, Stands, refused_stop as refused, unwritten, AreNext, reported_position, FedToFault, FaultAtEnd, SameGames, OneGame, AfterStep, outcome_at, finished_game, games_after, fault_of_step, StepAdvances, written_so_far as written, rules, inl, inr}
+use Rattle.pgn_game.proofs.Words.{Reason, Lexical, WriteFault, Fault, Profile, Game, Part, ◌≡◌, ℕ, ◌+◌, ◌*◌, is_some, ◌<◌, ◌≤◌, ◌⊎◌, Bool, false, true, List, [], ◌∷◌, ◌++◌, length, take, drop, Option, None, Some, Result, Ok, Err, refl, sym, ap, subst, ◌∙◌, append_assoc, append-nil, length-append, le_refl, arith, IsTrue, map, sum, take-append-drop, map-append, list_any-append, or_cases, Appends-nil, Appends, Token, EndsAt, tokens_of, Standing, coming, waiting, StandsAfter, Follows, AfterScan, first, still, Accepted, More, Finished, refusal, position_if_move, position_in, Next, going, whole, next, Progress, progress_with, progress_after, Read, read, gain, Gains, plies_of, has_move, ReaderState, Agrees, IsKnown, as_written, IsBehind, whole_plies, plies_next, Leads, Answers, AppendsFront, MostTried, Raises, Tries, TriesUnwritten, sum_by-append, sum_by-cons, LexFault, FinishedGame, finished_game_of, Converter, game_in_reader, game_in_reader_if, play_moves, has_played_move, HasRead, Stands, refused_stop as refused, unwritten, AreNext, reported_position, FedToFault, FaultAtEnd, SameGames, OneGame, AfterStep, outcome_at, finished_game, games_after, fault_of_step, StepAdvances, written_so_far as written, rules, inl, inr, position_at_fault, due}
 use Rattle.pgn_game.specs.ReaderState as reader_state
 use Rattle.pgn_game.proofs.tokens.PairsTriedForToken.{most_with, most_to_refused, part_probed, raises_none}
 use Rattle.pgn_game.proofs.tokens.OneMoreToken.{read-passes, read-refuses, due-passes, gains_none}
@@ -31,7 +31,7 @@ leads_finished (whole g) games r h = (g, refl, h.agrees, h, refl)
 
 -- what the reader still holds of the game that it is behind
 finished_behind : {r : ReaderState} {g : Game} → IsBehind r g → game_in_reader r ≡ finished_game_of g
-finished_behind h = cc
+finished_behind h = cc (h.pairs, h.plies, h.position)
 
 plies-snoc : (games : List Game) (g : Game) → sum (map plies_of (games ++ g ∷ [])) ≡ sum (map plies_of games) + plies_of g
 plies-snoc games g = search (rules, map-append, sum_by-append, sum_by-cons)
@@ -76,7 +76,7 @@ module _ (p : Profile) (old : Converter) (given : List Token) (t : Token) (l : S
   most_tried h tries = most_with p t has_read.tried has_read.passes (passes h) (raised tries)
 
   probed_before : IsTrue (has_played_move b) → 0 < new.most_probes
-  probed_before moves = let some = has_read.probed moves in omega arith
+  probed_before moves = let some = has_read.probed moves in omega (arith, some, probes)
 
   pub same_games : refusal old.reading.profile b.part t.kind ≡ None → Leads (next b.part t.kind) More new → SameGames p given (given ++ t ∷ [])
   same_games h leads = rw (reads h) ((leads_more (next b.part t.kind) b.games new leads).0)
@@ -141,10 +141,10 @@ module _ (p : Profile) (old : Converter) (given : List Token) (t : Token) (l : S
       let ends = read-refuses p given t us reason has_read.passes some in
       record {
         stops = refused (record { at = t.at; reason = reason }) (ap (λ (r : Read). r.fault) ends)
-            (record { text = []; due_for = search (rules, append-nil); appended = wrote });
-        no_game = cc;
+            (record { text = []; due_for = rw ends (sym (append-nil (due p given))); appended = wrote });
+        no_game = ap (λ (r : Read). r.progress.games) ends;
         counts = record { tried = search (rules, most_to_refused, raised); probed = search (rules, probed_before) };
-        position = cc;
+        position = here ∙ sym (ap position_at_fault ends);
       }
 
   -- what is written is the profile's
@@ -169,11 +169,11 @@ module _ (p : Profile) (old : Converter) (given : List Token) (t : Token) (l : S
             place = refl;
             passes = rw (reads h);
             text = gain p b.part t.kind;
-            due_for = search (rules, due-passes, passes);
+            due_for = due-passes p given t has_read.passes (passes h);
             count = n;
             least = omega arith;
-            short = search (rules, shown);
-            appended = search (rules, shown);
+            short = subst (λ q. n < length (gain q b.part t.kind)) shown short;
+            appended = subst (λ q. Appends a c (take n (gain q b.part t.kind))) shown wrote;
           });
           no_game = refl;
           counts = record { tried = search rules; probed = probed_before };
@@ -182,7 +182,7 @@ module _ (p : Profile) (old : Converter) (given : List Token) (t : Token) (l : S
 
     pub at_fault : (us : List Token) {a c : Option (List ℕ)} {why : Reason} → Answers old.reading b.part t.kind new (Err why) a c
         → FaultAtEnd p given (given ++ t ∷ us) (record { at = t.at; reason = why }) new a c
-    at_fault us (reader_state.refused reason some wrote tries here) = search (rules, at_refused)
+    at_fault us (reader_state.refused reason some wrote tries here) = at_refused us some wrote tries here
     at_fault us (reader_state.unwritten none wrote tries) = at_unwritten us none wrote tries
 
 -- a text that goes on behind the bytes used goes on behind the piece
@@ -216,10 +216,10 @@ pub took : (p : Profile) (old : Converter) (u : List ℕ) (given : List Token) (
 took p old u given piece used t l new finished a c (Ok More) stands scan ends count profile probes written h = (
   t,
   record {
-    stands = record { lexer = scan.0; has_read = search (rules, has_read_more) };
+    stands = record { lexer = scan.0; has_read = has_read_more p old given t l new finished stands.has_read profile probes h.free h.leads h.plies h.tried };
     decided = scan.1;
-    ends = search rules;
-    gains = search (rules, gains_token);
+    ends = subst (EndsAt t.kind t.at) (rw stands.lexer.count at count) ends;
+    gains = gains_token p old given t l new finished stands.has_read profile probes written h.free h.appended;
   },
   same_games p old given t l new finished stands.has_read profile probes h.free h.leads,
 )
@@ -227,10 +227,10 @@ took p old u given piece used t l new finished a c (Ok Finished) stands scan end
     let one = one_game p old given t l new finished stands.has_read profile probes h.free h.leads in (
       t,
       record {
-        stands = record { lexer = scan.0; has_read = search (rules, has_read_game) };
+        stands = record { lexer = scan.0; has_read = has_read_game p old given t l new finished stands.has_read profile probes h.free h.leads h.plies h.tried };
         decided = scan.1;
-        ends = search rules;
-        gains = search (rules, gains_token);
+        ends = subst (EndsAt t.kind t.at) (rw stands.lexer.count at count) ends;
+        gains = gains_token p old given t l new finished stands.has_read profile probes written h.free h.appended;
       },
       (one.0, one.1, ap (λ (finished : FinishedGame). Some finished) one.2),
     )

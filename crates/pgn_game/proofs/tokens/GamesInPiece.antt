@@ -36,7 +36,7 @@ module _ (p : Profile) (u : List ℕ) (given : List Token) (piece : List ℕ) (a
   all_fed new fed =
       record {
         tokens = fed.tokens;
-        stands = search (rules, behind_first, whole_piece);
+        stands = rw (behind_first (drop at piece)) at (rw (whole_piece u piece at) at fed.stands);
         decided = which (drop at piece) refl;
         gains = gains_more so.gains fed.gains;
       }
@@ -71,7 +71,7 @@ module _ (p : Profile) (u : List ℕ) (given : List Token) (piece : List ℕ) (a
 
       which : (xs : List ℕ) → front ≡ xs → fed.tokens ≡ decided (u ++ (take at piece ++ front))
       which [] e =
-          let here : (u ++ take at piece) ++ front ≡ u ++ take at piece = search (rules, append-nil) in
+          let here : (u ++ take at piece) ++ front ≡ u ++ take at piece = rw e (append-nil (u ++ take at piece)) in
           fed.empty (ap (length {A = ℕ}) e) ∙ so.at_limit (sym (ap (length {A = ℕ}) here) ∙ end) ∙ ap decided (sym here ∙ text)
       which (x ∷ xs) e = fed.decided (rw e (omega arith)) ∙ ap decided text
 

@@ -1,6 +1,6 @@
 -- Games read in turn from a source.
 use Rattle.std.specs.Io.KnownBytes.{Keeps, IsAtEnd}
-use Rattle.pgn_game.proofs.Words.{Token, ReadFault, Fault, Profile, Game, no_part, ◌≡◌, ℕ, ◌^◌, ◌≤◌, Bool, true, false, List, [], ◌∷◌, ◌++◌, length, drop, Option, None, Some, Result, Ok, Err, refl, sym, ap, subst, ◌∙◌, inl, inr, append-nil, append_assoc, length-append, arith, take-append-drop, Consumes-nil, Consumes-trans, tokens_of, decided, coming, IsDecided, first, Gains, Games, games_of, HasReadAll, HaveRead, within, at_end, NextGame, NoGame, NextStops, AfterNext, NextSoFar, IsTrue, is_ok, Consumes, text_of_games as text_of, whole, next, Progress, read, read_from, written_so_far as written, Converter, FedAll, FedGame, FedToFault, StopsIn, at_token, too_long, AfterFinish, Finishes, FinishesToFault, rules, Reason, refusal, Next, going, progress_with, Read}
+use Rattle.pgn_game.proofs.Words.{Token, ReadFault, Fault, Profile, Game, no_part, ◌≡◌, ℕ, ◌^◌, ◌≤◌, Bool, true, false, List, [], ◌∷◌, ◌++◌, length, drop, Option, None, Some, Result, Ok, Err, refl, sym, ap, subst, ◌∙◌, inl, inr, append-nil, append_assoc, length-append, arith, take-append-drop, Consumes-nil, Consumes-trans, tokens_of, decided, coming, IsDecided, first, Gains, Games, games_of, HasReadAll, HaveRead, within, at_end, NextGame, NoGame, NextStops, AfterNext, NextSoFar, IsTrue, is_ok, Consumes, text_of_games as text_of, whole, next, Progress, read, read_from, written_so_far as written, Converter, FedAll, FedGame, FedToFault, StopsIn, at_token, too_long, AfterFinish, Finishes, FinishesToFault, rules, Reason, refusal, Next, going, progress_with, Read, take, finished_game_of, HasRead}
 use Rattle.pgn_game.specs.GamesCalls as games_calls
 use Rattle.pgn_game.proofs.tokens.OneMoreToken.{read-passes, read-refuses, stops_from, torn-none, gains_none, gains_more, stops_more, games_still, counts_still}
 use Rattle.pgn_game.proofs.tokens.StepsInPiece.{decided_at_end, stands_before_any}
@@ -58,7 +58,7 @@ none_yet p u given left now o (within on) not_finished =
       no_game = refl;
       gains = gains_none;
     }
-none_yet p u given left now o (at_end all) not_finished = absurd (cc)
+none_yet p u given left now o (at_end all) not_finished = absurd (cc (all.finished))
 
 pub at_end_again : (p : Profile) (u : List ℕ) (given : List Token) (left : Option (List ℕ)) (now : Games) (new : Converter) (o : Option (List ℕ)) → HaveRead p left u now given
     → now.converter.is_finished ≡ true → new ≡ record now.converter { just_finished = None } → NoGame p u given left left (games_of new now.unused) o o
@@ -95,11 +95,19 @@ module _ (p : Profile) (u : List ℕ) (given : List Token) (left_old left : Opti
         more = so.more;
         consumed = so.consumed;
         tokens = ts;
-        have_read = search (rules, append_assoc, take-append-drop);
+        have_read = within (record {
+          used = so.reads_on.used ++ take used now.unused;
+          bytes = cc (so.reads_on.bytes, take-append-drop used now.unused, append_assoc so.reads_on.used (take used now.unused) (drop used now.unused));
+          stands = fed.stands;
+          at_limit = fed.at_limit;
+          decided = fed.decided;
+          not_finished = not_finished;
+        });
         game = fed.game;
-        one_game = cc;
+        one_game = rw so.no_game at fed.one_game;
         just_finished = fed.just_finished;
-        whole = search (rules, due_between, none_behind);
+        whole = due_between p (read p ts).progress
+            (none_behind p fed.tokens fed.marker fed.game fed.stands.has_read.passes (rw fed.no_game fed.one_game));
         gains = gains_more so.gains fed.gains;
       }
 
@@ -114,13 +122,13 @@ module _ (p : Profile) (u : List ℕ) (given : List Token) (left_old left : Opti
         tokens = fed.tokens;
         reads_on = record {
           used = so.reads_on.used ++ now.unused;
-          bytes = search (rules, append-nil);
-          stands = search (rules, behind_first);
+          bytes = so.reads_on.bytes ∙ sym (append-nil (so.reads_on.used ++ now.unused));
+          stands = rw (behind_first now.unused) at fed.stands;
           at_limit = λ h. is;
           decided = inl is;
           not_finished = not_finished;
         };
-        no_game = cc;
+        no_game = fed.no_game ∙ so.no_game;
         gains = gains_more so.gains fed.gains;
       }
 
@@ -134,8 +142,8 @@ module _ (p : Profile) (u : List ℕ) (given : List Token) (left_old left : Opti
         tokens = to.fed.tokens;
         next = rw so.reads_on.bytes (rw (behind_first now.unused) at to.fed.next);
         stops = stops_more so.gains to.fed.stops;
-        no_game = search (rules, games_still);
-        counts = search (rules, counts_still);
+        no_game = games_still so.gains to.fed.stops ∙ to.no_game ∙ so.no_game;
+        counts = counts_still so.gains to.fed.stops to.counts;
       })
   rest_stops new f (too_long front rest cut place some (n, fed, same)) =
       let full : front ≡ [] → so.tokens ≡ decided so.reads_on.used =
@@ -161,14 +169,14 @@ module _ (p : Profile) (u : List ℕ) (given : List Token) (left_old left left_n
   filled piece consumed =
       record {
         more = so.more ++ piece;
-        consumed = search (rules, Consumes-trans);
+        consumed = Consumes-trans left_old left left_new so.more piece so.consumed consumed;
         tokens = so.tokens;
         reads_on = record {
           used = so.reads_on.used;
-          bytes = search (rules, all_used, append_assoc);
+          bytes = rw all_used at (sym (append_assoc u so.more piece));
           stands = stands_before_any so.reads_on.stands;
           at_limit = so.reads_on.at_limit;
-          decided = search (rules, decided_before);
+          decided = decided_before so.reads_on.used piece so.reads_on.decided;
           not_finished = so.reads_on.not_finished;
         };
         no_game = so.no_game;
@@ -177,12 +185,12 @@ module _ (p : Profile) (u : List ℕ) (given : List Token) (left_old left left_n
 
   pub unread : (f : Fault) (most : ℕ) → Keeps left left_new → f ≡ record { at = now.lexer.count; reason = ReadFault } → NextStops p u given left_old left_new most a c f
   unread f most keeps is =
-      let place : now.lexer.count ≡ length (u ++ so.more) = search (rules, all_used) in
+      let place : now.lexer.count ≡ length (u ++ so.more) = so.reads_on.stands.lexer.count ∙ ap (length {A = ℕ}) (sym all_used) in
       subst (NextStops p u given left_old left_new most a c) (sym (is ∙ ap (λ n. record { at = n; reason = ReadFault }) place))
       (games_calls.unread so.more (keeps_consumed left_old left left_new so.more so.consumed keeps) (record {
         reads = record {
           tokens = so.tokens;
-          decided = search (rules, all_used, decided_at_end);
+          decided = decided_at_end so.reads_on.used so.tokens so.reads_on.decided ∙ ap decided (sym all_used);
           passes = so.reads_on.stands.has_read.passes;
           gains = so.gains;
         };
@@ -216,8 +224,8 @@ module _ (p : Profile) (u : List ℕ) (given : List Token) (left_old left left_n
               at_end = end;
               short = omega (arith, so.reads_on.stands.lexer.count, few, ap (length {A = ℕ}) all_used);
               whole = refl;
-              none_begun = search (rules, left_none_begun, reads);
-              has_read = search rules;
+              none_begun = rw (← reads, text) at (left_none_begun p (read p so.tokens).progress now.lexer (rw reads at fed.has_read.passes));
+              has_read = subst (HasRead p new) text fed.has_read;
               finished = finished;
             }
 
@@ -231,8 +239,8 @@ module _ (p : Profile) (u : List ℕ) (given : List Token) (left_old left left_n
               more = so.more;
               consumed = all;
               have_read_all = read_all;
-              no_game = search rules;
-              none_just_finished = search rules;
+              no_game = rw (← text) (same ∙ so.no_game);
+              none_just_finished = fed.none_just_finished (is ∙ ends);
               gains = gains;
             }
 
@@ -248,8 +256,8 @@ module _ (p : Profile) (u : List ℕ) (given : List Token) (left_old left left_n
               tokens = tokens_of (u ++ so.more);
               have_read = at_end read_all;
               game = g;
-              one_game = search rules;
-              just_finished = cc;
+              one_game = rw (← text) (rw so.no_game at adds_one);
+              just_finished = rw (last.3 ∙ ap finished_game_of same) at finished_game.1;
               whole = read_all.none_begun;
               gains = gains;
             }
@@ -267,8 +275,8 @@ module _ (p : Profile) (u : List ℕ) (given : List Token) (left_old left left_n
     ended_at_fault f fed =
         games_calls.at_end f so.more all end (rw all_used (record {
           stops = stops_more so.gains fed.stops;
-          no_game = search (rules, games_still);
-          counts = search (rules, counts_still);
+          no_game = games_still so.gains fed.stops ∙ fed.no_game ∙ so.no_game;
+          counts = counts_still so.gains fed.stops fed.counts;
         }))
 
     pub finished : (r : Result Bool Fault) → AfterFinish p so.reads_on.used so.tokens new r c d → new.is_finished ≡ is_ok r → now.lexer.count ≤ 2 ^ 62

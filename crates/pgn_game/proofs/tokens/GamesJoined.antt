@@ -1,5 +1,5 @@
 -- Calls of `next` one after another.
-use Rattle.pgn_game.proofs.Words.{Profile, Game, ◌≡◌, ℕ, ◌∷◌, ◌++◌, true, false, List, [], map, Option, Some, Ok, Err, refl, subst, Consumes-nil, Consumes-trans, Appends, Consumes, coming, first, Token, tokens_of, plies_of, FinishedGame, finished_game_of, Games, HaveRead, ReadSoFar, NextGame, games_read, append_assoc, append-nil, map-append, length-map, IfSome, rules}
+use Rattle.pgn_game.proofs.Words.{Profile, Game, ◌≡◌, ℕ, ◌∷◌, ◌++◌, true, false, List, [], map, Option, Some, Ok, Err, refl, subst, Consumes-nil, Consumes-trans, Appends, Consumes, coming, first, Token, tokens_of, plies_of, FinishedGame, finished_game_of, Games, HaveRead, ReadSoFar, NextGame, games_read, append_assoc, append-nil, map-append, length-map, IfSome, rules, length, sum, sym, ap, read, totals, ◌∙◌}
 use Rattle.pgn_game.specs.GamesCalls as games_calls
 use Rattle.pgn_game.specs.GamesJoined as games_joined
 use Rattle.pgn_game.specs.GamesJoined.{TakesGames, GamesJoin}
@@ -53,9 +53,9 @@ module _ (p : Profile) (left before : Option (List ℕ)) (first : Games) (begins
         reads = record {
           bytes = so.reads.bytes ++ next.more;
           tokens = next.tokens;
-          consumed = search (rules, Consumes-trans);
+          consumed = Consumes-trans left source.before source.after so.reads.bytes next.more so.reads.consumed next.consumed;
           have_read = next.have_read;
-          gains = search (rules, gains_more);
+          gains = gains_more so.reads.gains next.gains;
         };
         games = taken_more game so next e;
       }
@@ -66,7 +66,7 @@ games_join p left before first old new taken (Ok true) source sink begins calls 
     let next = reads p so.reads.bytes so.reads.tokens so.reads.have_read in
     record {
       bytes = so.reads.bytes ++ next.more;
-      consumed = search (rules, Consumes-trans);
+      consumed = Consumes-trans left source.before source.after so.reads.bytes next.more so.reads.consumed next.consumed;
       tokens = next.tokens;
       of_text = first_of_text left
           (Consumes-trans left source.before source.after so.reads.bytes next.more so.reads.consumed next.consumed) next.have_read;
@@ -77,14 +77,17 @@ games_join p left before first old new taken (Ok false) source sink begins calls
     let so = so_far p left before first begins calls in
     let end = reads p so.reads.bytes so.reads.tokens so.reads.have_read in
     let text = so.reads.bytes ++ end.more in
-    let same : taken ≡ finished (games_read p (tokens_of text)) = cc in
+    let same : taken ≡ finished (games_read p (tokens_of text)) = so.games ∙ ap finished (sym end.no_game) in
     let games = games_read p (tokens_of text) in
     known_whole left source.after text (λ s. games_joined.TookAll p s taken before sink.after)
     (Consumes-trans left source.before source.after so.reads.bytes end.more so.reads.consumed end.consumed) end.have_read_all.at_end
     (record {
       games = same;
-      counts = search (rules, length-map, plies_taken, verdict_passes);
-      written = search (rules, appended, gains_more);
+      counts = verdict_passes (read p (tokens_of text)) end.have_read_all.has_read.passes
+          ∙ ap (λ n. totals (record { games = n; plies = sum (map plies_of games) })) (sym (length-map games finished_game_of) ∙ ap length (sym same))
+          ∙ ap (λ l. totals (record { games = length taken; plies = sum l })) (sym (plies_taken games) ∙ ap (map (λ (game : FinishedGame). game.plies)) (sym same));
+      written = appended
+          (gains_more so.reads.gains end.gains);
     })
 games_join p left before first old new taken (Err f) source sink begins calls reads =
     let so = so_far p left before first begins calls in

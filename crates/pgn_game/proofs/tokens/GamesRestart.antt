@@ -1,7 +1,7 @@
 -- A text that is converted from the end of a game on.
 use Rattle.pgn_lexer.specs.Tokens as tokens
 use Rattle.pgn_lexer.specs.WhiteSpace.{white_space}
-use Rattle.pgn_game.proofs.Words.{Kind, Token, Profile, Game, no_part, ◌≡◌, ℕ, ◌+◌, false, List, [], ◌∷◌, ◌++◌, length, Some, refl, sym, ap, ◌∙◌, append_assoc, append-nil, length-append, map, sum, tokens_of, plies_of, marker_of, games_read, counting_also, GamesRestart, sum-map, sum_by-append, TextsRestart, CanBeMarker, game_text, text_of_games as text_of, Next, going, whole, next, Progress, progress_with, progress_after, no_progress, Read, read_from, read, written_so_far as written, verdict_of, rules}
+use Rattle.pgn_game.proofs.Words.{Kind, Token, Profile, Game, no_part, ◌≡◌, ℕ, ◌+◌, false, List, [], ◌∷◌, ◌++◌, length, Some, refl, sym, ap, ◌∙◌, append_assoc, append-nil, length-append, map, sum, tokens_of, plies_of, marker_of, games_read, counting_also, GamesRestart, sum-map, sum_by-append, TextsRestart, CanBeMarker, game_text, text_of_games as text_of, Next, going, whole, next, Progress, progress_with, progress_after, no_progress, Read, read_from, read, written_so_far as written, verdict_of, rules, Part}
 use Rattle.pgn_game.proofs.tokens.OneMoreToken.{by_token, goes_on, read_from-test, after_test}
 use Rattle.pgn_game.proofs.tokens.GamesInTurn.{none_behind}
 use Rattle.pgn_game.proofs.tokens.MarkerEndsGame.{games_end_by_marker}
@@ -17,7 +17,7 @@ reads_with_front games r = record { progress = with_front games r.progress; faul
 
 front_of_next : (games : List Game) (b : List Game) (nx : Next) → progress_with (games ++ b) nx ≡ with_front games (progress_with b nx)
 front_of_next games b (going part) = refl
-front_of_next games b (whole g) = search (rules, append_assoc)
+front_of_next games b (whole g) = rw (append_assoc games b (g ∷ []))
 
 front_stays : (p : Profile) (games : List Game) (b : Progress) (ts : List Token)
     → read_from p (with_front games b) ts ≡ reads_with_front games (read_from p b ts)
@@ -55,7 +55,8 @@ games_restart restart p u s given rest marker cut ends finishes =
     let later : List ℕ = white_space (length u) false ++ s in
     let kind : CanBeMarker marker.kind = can_be marker.kind finishes.game.marker (games_end_by_marker p given marker finishes).is_marker in
     let progress : (read p ts).progress ≡ record { games = gs; part = no_part } =
-    search (rules, none_behind) in
+    ap (λ (part : Part). record { games = gs; part = part })
+    (none_behind p given marker finishes.game finishes.passes finishes.one_more) in
     let same : rest ≡ tokens_of later = restart u s given rest marker cut ends kind in
     let joined : read p (tokens_of (u ++ s)) ≡ reads_with_front gs (read p (tokens_of later)) =
     ap (read p) (cut ∙ sym (append_assoc given (marker ∷ []) rest))
@@ -63,7 +64,7 @@ games_restart restart p u s given rest marker cut ends finishes =
     ∙ ap (λ (c : Progress). read_from p c rest) (progress ∙ ap (λ (l : List Game). record { games = l; part = no_part }) (sym (append-nil gs)))
     ∙ front_stays p gs no_progress rest ∙ ap (λ (us : List Token). reads_with_front gs (read p us)) same in
     record {
-      same_games = search rules;
-      same_output = search (rules, written_with_front);
-      same_verdict = search (rules, verdict_with_front);
+      same_games = ap (λ (r : Read). r.progress.games) joined;
+      same_output = rw joined (written_with_front p gs (read p (tokens_of later)).progress);
+      same_verdict = ap verdict_of joined ∙ verdict_with_front gs (read p (tokens_of later));
     }

@@ -5,7 +5,7 @@ use Rattle.pgn_lexer.specs.declared.partial_token.Mode.TheVariants as modes
 use Rattle.pgn_lexer.specs.declared.partial_token.SuffixRun.{SuffixRun}
 use Rattle.pgn_lexer.specs.declared.partial_token.SuffixRun.TheVariants as suffix_runs
 use Rattle.pgn_lexer.specs.Tokens as tokens
-use Rattle.pgn_game.proofs.Words.{Kind, Token, Reason, Profile, Missing, counts_as, takes_the_marker, Stage, Between, Pair, Item, Game, Part, no_part, ◌≡◌, ℕ, ◌<◌, Bool, true, false, List, [], ◌∷◌, ◌++◌, length, length-append, Option, None, Some, refl, ap, subst, ◌∙◌, append-nil, arith, inl, inr, ◌⊎◌, IsLast, Standing, coming, refusal, if◌then◌else◌, LexReason, SymbolTooLong, WordTooLong, GlyphRange, gives, stops, onto, tokens_to_come_in, text_of_games as text_of, torn, Progress, Next, Read, progress_after, progress_with, going, next, next_in, read_from, whole, written_so_far as written, rules}
+use Rattle.pgn_game.proofs.Words.{Kind, Token, Reason, Profile, Missing, counts_as, takes_the_marker, Stage, Between, Pair, Item, Game, Part, no_part, ◌≡◌, ℕ, ◌<◌, Bool, true, false, List, [], ◌∷◌, ◌++◌, length, length-append, Option, None, Some, refl, ap, subst, ◌∙◌, append-nil, arith, inl, inr, ◌⊎◌, IsLast, Standing, coming, refusal, if◌then◌else◌, LexReason, SymbolTooLong, WordTooLong, GlyphRange, gives, stops, onto, tokens_to_come_in, text_of_games as text_of, torn, Progress, Next, Read, progress_after, progress_with, going, next, next_in, read_from, whole, written_so_far as written, rules, nat_le, sym}
 use Rattle.pgn_game.proofs.tokens.OneMoreToken.{after_test, by_token, first_passes, goes_on, read_from-test}
 
 reads_on : (p : Profile) (b : Progress) (t : Token) (ts : List Token) {o : Option Reason} → refusal p b.part t.kind ≡ o → read_from p b (t ∷ ts) ≡ after_test p b t ts o
@@ -143,7 +143,7 @@ left_in modes.AfterEfBb = none _ (refused _, tt) tt
 left_in modes.LineStart = none _ (end, tt) tt
 left_in modes.Outside = none _ (end, tt) tt
 left_in modes.EscapeLine = none _ (end, tt) tt
-left_in modes.Symbol {text} = search (rules, symbol_left)
+left_in modes.Symbol {text} = symbol_left (nat_le (length (text ++ [])) 255)
 left_in modes.Str = none _ (refused _, tt) tt
 left_in modes.AfterBackslash = none _ (refused _, tt) tt
 left_in modes.Dollar = none _ (refused _, tt) tt
@@ -185,9 +185,10 @@ none_finished_before p b l front token rest cut passes more = by_last front (com
         → length (written p (progress_after b m)) < length (written p (progress_after (progress_after b m) last)) → (progress_after b m).games ≡ b.games
     by_next m last (going part) is leads more = ap (λ (n : Next). (progress_with b.games n).games) leads
     by_next m last (whole g) is leads more =
-        let after : progress_after b m ≡ record { games = b.games ++ g ∷ []; part = no_part } = cc in
+        let after : progress_after b m ≡ record { games = b.games ++ g ∷ []; part = no_part } = ap (progress_with b.games) leads in
         let same : written p (progress_after (progress_after b m) last) ≡ written p (progress_after b m) =
-        search rules in
+        ap (λ (c : Progress). written p (progress_with c.games (next c.part last.kind))) after
+        ∙ ap (λ k. written p (progress_with (b.games ++ g ∷ []) (next no_part k))) is ∙ ap (written p) (sym after) in
         absurd (omega (arith, more, ap (length {A = ℕ}) same))
 
     by_last : (front ts : List Token) → AreLast ts → ts ≡ front ++ token ∷ rest → (read_from p b (front ++ token ∷ [])).fault ≡ None

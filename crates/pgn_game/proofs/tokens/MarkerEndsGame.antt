@@ -1,6 +1,6 @@
 -- The token that finishes a game is its marker, which is the Result of its tag section.
 use Rattle.pgn_lexer.specs.Tokens as tokens
-use Rattle.pgn_game.proofs.Words.{Kind, Token, Reason, Stage, AfterLeftBracket, AfterName, AfterValue, Profile, value_of, Game, Part, ◌≡◌, ℕ, false, List, [], ◌∷◌, ◌++◌, Option, None, Some, refl, codes, unwrap_or, IsTrue, IsFalse, not-false, bytes_eq-Decides, refusal, marker_of, is_comment, result_for, text_refusal, Next, going, whole, next, next_in, in_text, at_stage, progress_with, read, games_read, FinishesGame, EndsByMarker, GamesEndByMarker, rules, MarkerInVariation, ResultDiffers, SetUpWithoutFen, Between, AfterTags, InMovetext, ◌&&◌, not, nat_le, sym, ◌∙◌, ◌==◌, bytes_eq, levels_of_part, lacks_fen, depth, ap, Read}
+use Rattle.pgn_game.proofs.Words.{Kind, Token, Reason, Stage, AfterLeftBracket, AfterName, AfterValue, Profile, value_of, Game, Part, ◌≡◌, ℕ, false, List, [], ◌∷◌, ◌++◌, Option, None, Some, refl, codes, unwrap_or, IsTrue, IsFalse, not-false, bytes_eq-Decides, refusal, marker_of, is_comment, result_for, text_refusal, Next, going, whole, next, next_in, in_text, at_stage, progress_with, read, games_read, FinishesGame, EndsByMarker, GamesEndByMarker, rules, MarkerInVariation, ResultDiffers, SetUpWithoutFen, Between, AfterTags, InMovetext, ◌&&◌, not, nat_le, sym, ◌∙◌, ◌==◌, bytes_eq, levels_of_part, lacks_fen, depth, ap, Read, subst}
 use Rattle.pgn_game.proofs.exporting.PairsExportedAgain.{result_of}
 use Rattle.pgn_game.proofs.pairs.ExportedValues.{exported_known}
 use Rattle.pgn_game.proofs.refusals.RefusalsByStage.{is_textual, is_lexical, after_tags, between, rest_passed, test_failed, text_row}
@@ -79,15 +79,17 @@ module _ (p : Profile) (given : List Token) (marker : Token) (finishes : Finishe
   of_game : (g : Game) → refusal p part marker.kind ≡ None → next part marker.kind ≡ whole g → g ≡ finishes.game
       → EndsByMarker p given marker finishes.game
   of_game g free leads same =
-      let led : Leads marker.kind part (whole g) = search (rules, leads_in) in
+      let led : Leads marker.kind part (whole g) = subst (Leads marker.kind part) leads (leads_in part.stage part marker.kind) in
       let kind : marker_of marker.kind ≡ Some finishes.game.marker = rw same at led.0 in
       let text_free = passes_in_text p part.stage part marker.kind g (plain marker.kind g.marker led.0) free leads in
       let result = same_result p part marker.kind finishes.game.marker kind text_free in
       let known = result_for p.missing_result finishes.game.marker in
       record {
         is_marker = kind;
-        result = search (rules, exported_known, result_of);
-        whole = search (rules, due_between, none_behind);
+        result = exported_known p.mode known finishes.game.pairs (codes "Result") (result_of known)
+            ∙ ap (λ ps. Some (unwrap_or (value_of ps (codes "Result")) known)) (ap (λ (h : Game). h.pairs) (sym same) ∙ led.1)
+            ∙ ap Some (sym result);
+        whole = due_between p (read p (given ++ marker ∷ [])).progress (none_behind p given marker finishes.game finishes.passes finishes.one_more);
       }
 
   by_next : (nx : Next) → refusal p part marker.kind ≡ None → next part marker.kind ≡ nx

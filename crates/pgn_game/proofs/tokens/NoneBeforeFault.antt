@@ -8,7 +8,7 @@ pub reads_behind : (p : Profile) (b : Progress) (ts us : List Token) → (read_f
 reads_behind p b [] us e = refl
 reads_behind p b (t ∷ ts) us e =
     let none = first_passes p b t ts e in
-    let here : read_from p b (t ∷ ts) ≡ read_from p (progress_after b t) ts = cc in
+    let here : read_from p b (t ∷ ts) ≡ read_from p (progress_after b t) ts = goes_on p b t ts none in
     goes_on p b t (ts ++ us) none ∙ reads_behind p (progress_after b t) ts us (ap (λ (r : Read). r.fault) (sym here) ∙ e)
     ∙ ap (λ (r : Read). read_from p r.progress us) (sym here)
 
@@ -21,7 +21,7 @@ Parted xs ys behind_xs behind_ys =
 
 parted : (xs ys : List Token) {behind_xs behind_ys : List Token} → xs ++ behind_xs ≡ ys ++ behind_ys → Parted xs ys behind_xs behind_ys
 parted [] ys e = inl (ys, refl, e)
-parted (x ∷ xs) [] e = search rules
+parted (x ∷ xs) [] e = inr (x ∷ xs, refl, sym e)
 parted (x ∷ xs) (y ∷ ys) {behind_xs} {behind_ys} e = further (parted xs ys (cc))
   where
     head_same : x ≡ y
@@ -46,7 +46,7 @@ module _ (p : Profile) (given : List Token) (l : Standing) (ts : List Token) (pa
 
   by_parts : Parted given writing.front (coming l []) (writing.token ∷ writing.rest) → (read p writing.front).progress.games ≡ (read p given).progress.games
   by_parts (inl (mid, is, parts)) = behind_given mid is parts
-  by_parts (inr ([], is, parts)) = search (rules, append-nil)
+  by_parts (inr ([], is, parts)) = rw (is ∙ append-nil writing.front)
   by_parts (inr (m ∷ mid, is, parts)) =
       let all : given ≡ (writing.front ++ writing.token ∷ []) ++ mid =
       is ∙ ap (λ x. writing.front ++ x ∷ mid) (sym (head parts)) ∙ sym (append_assoc writing.front (writing.token ∷ []) mid) in

@@ -1,5 +1,5 @@
 -- One token more: what was read, and what is due for it.
-use Rattle.pgn_game.proofs.Words.{Kind, Token, Reason, Fault, Mode, Profile, Missing, counts_as, takes_the_marker, Game, Part, no_part, ◌≡◌, ℕ, ◌+◌, List, [], ◌∷◌, ◌++◌, length, Option, None, Some, refl, sym, ap, ◌∙◌, append_assoc, append-nil, length-append, arith, take-append-add, Appends-trans, Appends-nil, refusal, text_next, gain, Gains, game_text, text_of_games as text_of, torn_for, Next, next, Progress, progress_with, progress_after, no_progress, Read, read_from, read, written_so_far as written, due, IsPrefix, DueGrows, Stops, refused_stop as refused, unwritten, StopsWriting, games_before, position_at_stop, ProbesAtStop, rules}
+use Rattle.pgn_game.proofs.Words.{Kind, Token, Reason, Fault, Mode, Profile, Missing, counts_as, takes_the_marker, Game, Part, no_part, ◌≡◌, ℕ, ◌+◌, List, [], ◌∷◌, ◌++◌, length, Option, None, Some, refl, sym, ap, ◌∙◌, append_assoc, append-nil, length-append, arith, take-append-add, Appends-trans, Appends-nil, refusal, text_next, gain, Gains, game_text, text_of_games as text_of, torn_for, Next, next, Progress, progress_with, progress_after, no_progress, Read, read_from, read, written_so_far as written, due, IsPrefix, DueGrows, Stops, refused_stop as refused, unwritten, StopsWriting, games_before, position_at_stop, ProbesAtStop, rules, subst, Appends}
 use Rattle.pgn_game.proofs.tokens.NextGrows.{next_is}
 
 abbrev read_as : Progress → Option Fault → Read
@@ -31,10 +31,10 @@ goes_on p b t ts none = read_from-test p b t ts ∙ ap (after_test p b t ts) non
 
 after_those : (p : Profile) (b : Progress) (ts : List Token) (t : Token) (us : List Token) → (read_from p b ts).fault ≡ None
     → read_from p b (ts ++ t ∷ us) ≡ after_test p (read_from p b ts).progress t us (refusal p (read_from p b ts).progress.part t.kind)
-after_those p b [] t us e = cc
+after_those p b [] t us e = read_from-test p b t us
 after_those p b (x ∷ xs) t us e =
     let none = first_passes p b x xs e in
-    let here : read_from p b (x ∷ xs) ≡ read_from p (progress_after b x) xs = cc in
+    let here : read_from p b (x ∷ xs) ≡ read_from p (progress_after b x) xs = goes_on p b x xs none in
     cc (goes_on p b x (xs ++ t ∷ us) none, after_those p (progress_after b x) xs t us (rw here at e), here)
 
 pub read-passes : (p : Profile) (given : List Token) (t : Token) → (read p given).fault ≡ None → refusal p (read p given).progress.part t.kind ≡ None
@@ -82,11 +82,11 @@ writing_more p x a b c first more =
       place = more.place;
       passes = more.passes;
       text = first.text ++ more.text;
-      due_for = search (rules, append_assoc);
+      due_for = more.due_for ∙ ap (λ l. l ++ more.text) first.due_for ∙ append_assoc (due p x) first.text more.text;
       count = length first.text + more.count;
       least = omega (arith, more.least, ap (length {A = ℕ}) first.due_for, length-append (due p x) first.text);
       short = omega (arith, more.short, length-append first.text more.text);
-      appended = search (rules, Appends-trans, take-append-add);
+      appended = subst (Appends a c) (sym (take-append-add first.text more.text more.count)) (Appends-trans a b c _ _ first.appended more.appended);
     }
 
 pub stops_more : {p : Profile} {x y tokens : List Token} {f : Fault} {a b c : Option (List ℕ)} → Gains p x y a b → Stops p y tokens b c f → Stops p x tokens a c f

@@ -1,4 +1,5 @@
 -- How many pairs were tried for a token: from what the reader counts to what is said of tokens.
+use Rattle.pgn_game.proofs.tokens.OneMoreToken.{goes_on}
 use Rattle.pgn_lexer.specs.Tokens as tokens
 use Rattle.pgn_game.proofs.Words.{Parts, Kind, Token, Mode, Full, Reduced, Reason, InMovetext, Profile, ◌≡◌, ◌⊎◌, inl, ℕ, ◌<◌, max, Bool, true, false, ◌||◌, List, [], ◌∷◌, ◌++◌, None, Some, is_some, Result, Ok, Err, refl, sym, subst, arith, IsTrue, drop-append_seam, drop-length, and_right, or_right, false≢true, Move, kind_of, TokenKind, Accepted, depth, refusal, is_at, is_number, is_outside_tag_pairs, is_score, levels_of_part, marker_of, position_in, Next, going, Progress, progress_after, read_from, read, Costs, CostsIf, CostsToFind, is_written, CostsToWrite, added, CostsToAdd, Tries, MostFrom, MostTried, Raises, has_move, ReaderState, Agrees, IsOpen, may_have_movetext, model_item, with_items, TriesItem, writes, LexReason, Annotation, Item, Part, rules}
 use Rattle.pgn_game.specs.Game.{move}
@@ -11,10 +12,10 @@ use Rattle.pgn_game.proofs.refusals.ReaderToPart.{held_at, text_at}
 most_then : (p : Profile) {b : Progress} {ts : List Token} {most : ℕ} → MostFrom p b ts most → (us : List Token) (n : ℕ)
     → (read_from p b ts).fault ≡ None → MostFrom p (read_from p b ts).progress us n
     → MostFrom p b (ts ++ us) (max most n)
-most_then p (most_tried.none c) us n clear then = search rules
+most_then p (most_tried.none c) us n clear then = let most_of_one : n ≡ max 0 n = omega arith in subst (MostFrom p c us) most_of_one then
 most_then p (most_tried.refused c x xs m reason some h) us n clear then = cc
 most_then p (most_tried.passes c x xs m rest is h more) us n clear then =
-    let same : read_from p c (x ∷ xs) ≡ read_from p (progress_after c x) xs = cc in
+    let same : read_from p c (x ∷ xs) ≡ read_from p (progress_after c x) xs = goes_on p c x xs is in
     let again : max m (max rest n) ≡ max (max m rest) n = omega arith in
     subst (MostFrom p c (x ∷ xs ++ us)) again (most_tried.passes c x (xs ++ us) m (max rest n) is h
     (most_then p more us n (rw same at clear) (rw same at then)))

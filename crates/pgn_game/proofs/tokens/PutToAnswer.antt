@@ -2,7 +2,7 @@
 use Rattle.std.proofs.Math.Nat.{le-max_left}
 use Rattle.pgn_lexer.specs.declared.token.TokenKind.TheVariants as token_kinds
 use Rattle.pgn_game.specs.Game.{move}
-use Rattle.pgn_game.proofs.Words.{Parts, Played, Kind, Reason, Stage, Between, AfterTags, InMovetext, Profile, Item, Part, no_part, ◌≡◌, ◌⊎◌, ℕ, max, true, false, ◌||◌, [], ◌∷◌, List, length, drop, Option, None, Some, Bor, Result, Ok, Err, IsFalse, IsTrue, is_some, refl, sym, ap, subst, ◌∙◌, arith, or_parts, Move, legal, Appends-nil, AppendsFront, Device, kind_of, TokenKind, symbol, Accepted, More, Marker, marker_text, move_of, found_in, torn, refusal, is_at, is_comment, is_end, is_number, is_outside_tag_pairs, is_score, marker_of, position_if_move, position_in, Next, going, at_stage, in_text, next, gain, text_next, CostsToFind, Tries, TriesUnwritten, ReaderState, Agrees, Answers, as_written, IsStopped, is_outside_the_table, FinishesAtMarker, IsEntry, IsOpen, may_have_movetext, model_item, text_refusal, with_items, Annotation, CountsMove, EntersMovetext, Finds, FinishesNone, GoesTo, PutResult, PutsItems, Takes, TakesEntry, TakesOutside, TakesToken, TakesUnwritten, at_game_start, counting_probes, unused, rules, inl, inr}
+use Rattle.pgn_game.proofs.Words.{Parts, Played, Kind, Reason, Stage, Between, AfterTags, InMovetext, Profile, Item, Part, no_part, ◌≡◌, ◌⊎◌, ℕ, max, true, false, ◌||◌, [], ◌∷◌, List, length, drop, Option, None, Some, Bor, Result, Ok, Err, IsFalse, IsTrue, is_some, refl, sym, ap, subst, ◌∙◌, arith, or_parts, Move, legal, Appends-nil, AppendsFront, Device, kind_of, TokenKind, symbol, Accepted, More, Marker, marker_text, move_of, found_in, torn, refusal, is_at, is_comment, is_end, is_number, is_outside_tag_pairs, is_score, marker_of, position_if_move, position_in, Next, going, at_stage, in_text, next, gain, text_next, CostsToFind, Tries, TriesUnwritten, ReaderState, Agrees, Answers, as_written, IsStopped, is_outside_the_table, FinishesAtMarker, IsEntry, IsOpen, may_have_movetext, model_item, text_refusal, with_items, Annotation, CountsMove, EntersMovetext, Finds, FinishesNone, GoesTo, PutResult, PutsItems, Takes, TakesEntry, TakesOutside, TakesToken, TakesUnwritten, at_game_start, counting_probes, unused, rules, inl, inr, IllegalMove, false≢true, ok_or, with_next, Appends, plies_behind, plies_next, whole_plies, ◌+◌}
 use Rattle.pgn_game.specs.ReaderState as reader_state
 use Rattle.pgn_game.proofs.refusals.RefusalsByStage.{begins_alike, comment_passes, drops_comments, passes_between}
 use Rattle.pgn_game.proofs.refusals.RefusalsInMovetext.{marker_whole, move_free, move_leads, move_refused as move_row_refused, position_is, refused_inside}
@@ -27,10 +27,10 @@ refused_after old new IsOf k reason n o m counted inside why costs here = record
       (record {
         tried = n;
         allowed = record { found = n; finds = costs part is; writes = rw (why part is) };
-        most = cc;
+        most = rw counted;
       }) (rw counted (here part is));
   keeps = record {
-    profile = cc;
+    profile = rw counted;
     plies = omega (arith, ap (λ (r : ReaderState). r.earlier_plies) counted, ap (λ (r : ReaderState). r.text.plies) counted);
     probes = omega (arith, ap (λ (r : ReaderState). r.most_probes) counted, le-max_left old.most_probes n);
   };
@@ -64,9 +64,9 @@ module _ (old counted new : ReaderState) (part : Part) (k : Kind) (to : Next) (d
   answers : (r : Result Accepted Reason) → GoesTo counted part to new r d → TriesPut old.profile part to r n more → Answers old part k new r d.before d.after
   answers (Ok accepted) goes costs = record {
     free = says.0;
-    leads = search rules;
-    plies = cc;
-    appended = search (rules, gain_is);
+    leads = rw says.1 goes.leads;
+    plies = goes.plies ∙ ap (λ n. n + plies_next to) (ap whole_plies same) ∙ ap (λ (x : Next). whole_plies old + plies_next x) (sym says.1);
+    appended = subst (Appends d.before d.after) gain_is goes.appended;
     tried = record { tried = more; allowed = tries costs; most = most };
   }
   answers (Err reason) (is, front) costs =
@@ -115,7 +115,7 @@ puts_entry : {old new : ReaderState} (k : Kind) {items : List Item} {r : Result 
     → TakesEntry old k new r d
 puts_entry {old} {new} k {items} {r} put costs says finds =
     takes_put old (IsEntry old k) (IsOpen old) k 0 0 (counting_none old) put.puts (finishes_none k new r put.goes_on) (λ at. refl)
-    (omega arith) (λ part is. is.is_open) (λ part is. (is.row ∙ (says part is.is_open).0, is.leads ∙ (says part is.is_open).1)) (λ part is. finds part)
+    (omega (arith, put.probes)) (λ part is. is.is_open) (λ part is. (is.row ∙ (says part is.is_open).0, is.leads ∙ (says part is.is_open).1)) (λ part is. finds part)
     (λ part is. tries_put old.profile part (going (with_items part items)) r 0 0 (costs old.profile part))
 
 pub passes_entry : (old new : ReaderState) (k : Kind) (r : Result Accepted Reason) (d : Device) → PutsItems old [] new r d
@@ -155,17 +155,18 @@ answers_alike : (old new : ReaderState) (k : TokenKind) (r : Result Accepted Rea
     → refusal old.profile no_pairs (kind_of k) ≡ refusal old.profile no_part (kind_of k) → next no_pairs (kind_of k) ≡ next no_part (kind_of k)
     → Answers (at_game_start old) no_pairs (kind_of k) new r a b → Answers old no_part (kind_of k) new r a b
 answers_alike old new k (Ok accepted) a b at row leads h = record {
-  free = cc;
-  leads = search rules;
-  plies = cc;
-  appended = search (rules, gain_alike);
-  tried = record { tried = h.tried.tried; allowed = search (rules, tries_alike); most = h.tried.most };
+  free = sym row ∙ h.free;
+  leads = rw leads at h.leads;
+  plies = h.plies ∙ ap (λ (s : ℕ). s + plies_next (next no_pairs (kind_of k))) (sym (ap (λ (s : Stage). plies_behind s old.earlier_plies old.text.plies) at))
+      ∙ ap (λ (x : Next). whole_plies old + plies_next x) leads;
+  appended = subst (Appends a b) (gain_alike old.profile k row leads) h.appended;
+  tried = record { tried = h.tried.tried; allowed = tries_alike old.profile k row leads h.tried.allowed; most = h.tried.most };
 }
 answers_alike old new k (Err reason) a b at row leads (reader_state.refused why is none t here) =
-    reader_state.refused why (sym row ∙ is) none (record { tried = t.tried; allowed = search (rules, tries_alike); most = t.most }) here
+    reader_state.refused why (sym row ∙ is) none (record { tried = t.tried; allowed = tries_alike old.profile k row leads t.allowed; most = t.most }) here
 answers_alike old new k (Err reason) a b at row leads (reader_state.unwritten free front t) =
     reader_state.unwritten (sym row ∙ free) (subst (AppendsFront a b) (gain_alike old.profile k row leads) front)
-    (record { tried = t.tried; allowed = search (rules, unwritten_alike); most = t.most })
+    (record { tried = t.tried; allowed = unwritten_alike old.profile k row leads t.allowed; most = t.most })
 
 pub takes_first : (old new : ReaderState) (k : TokenKind) (r : Result Accepted Reason) (d : Device) → old.stage ≡ Between → is_comment (kind_of k) ≡ false → is_end (kind_of k) ≡ false
     → TakesToken (at_game_start old) (kind_of k) new r d → TakesToken old (kind_of k) new r d
@@ -176,7 +177,7 @@ pub takes_marker : (old new : ReaderState) (k : TokenKind) (marker : Marker) (r 
     → FinishesAtMarker (kind_of k) new r → new.most_probes ≡ old.most_probes → marker_of (kind_of k) ≡ Some (marker_text marker)
     → ((part : Part) → IsOpen old part → text_refusal old.profile part (kind_of k) ≡ None) → TakesEntry old (kind_of k) new r d
 takes_marker old new k marker r d puts finished most is free =
-    takes_put old (IsEntry old (kind_of k)) (IsOpen old) (kind_of k) 0 0 (counting_none old) puts finished (λ at. refl) (omega arith) (λ part at. at.is_open)
+    takes_put old (IsEntry old (kind_of k)) (IsOpen old) (kind_of k) 0 0 (counting_none old) puts finished (λ at. refl) (omega (arith, most)) (λ part at. at.is_open)
     (λ part at. (at.row ∙ free part at.is_open, at.leads ∙ marker_whole part (kind_of k) (marker_text marker) is)) (λ part at. marker_untried part k (ap is_some is))
     (λ part at. tries_put old.profile part (to_game marker part) r 0 0 refl)
 
@@ -206,7 +207,7 @@ module _ (old found : ReaderState) (s : List ℕ) (n : ℕ) (at : IsTrue (may_ha
       let here = old.text.levels.present.present in
       let (q, leads) = next_of (legal here mv) finds.legal in
       let played : Played = record { mv = mv; next = q } in
-      let is_found : Ok played ≡ found_in here (move_of here s) = cc in
+      let is_found : Ok played ≡ found_in here (move_of here s) = sym (ap (λ (o : Option Parts). ok_or (with_next mv o) IllegalMove) leads) ∙ finds.found in
       takes_put old (IsEntry old (symbol s)) (IsOpen found) (symbol s) n more finds.counted puts (finishes_none (symbol s) new r none)
       (λ between. not_between (rw finds.counted at between)) most
       (λ part is. rw finds.counted (open_counted n is.is_open)) (λ part is. (
@@ -215,11 +216,11 @@ module _ (old found : ReaderState) (s : List ℕ) (n : ℕ) (at : IsTrue (may_ha
       )) (λ part is. costs_found s n is.is_open at number score finds.tried) (λ part is. costs part is.is_open)
     where
       not_between : old.stage ≡ Between → found ≡ old
-      not_between between = let h : IsTrue (may_have_movetext Between) = cc in absurd (cc)
+      not_between between = let h : IsTrue (may_have_movetext Between) = rw between at at in absurd (cc)
 
 -- A token between games that begins none.
 bare_untried : (k : TokenKind) (part : Part) → (is_comment (kind_of k) || is_end (kind_of k)) ≡ true → CostsToFind part (kind_of k) 0
-bare_untried (token_kinds.Symbol s) part is = absurd (cc)
+bare_untried (token_kinds.Symbol s) part is = absurd (false≢true is)
 bare_untried _ part is = refl
 
 pub passes_first : (old new : ReaderState) (k : TokenKind) (o : Option (List ℕ)) (m : ℕ) → new ≡ old → old.stage ≡ Between → (is_comment (kind_of k) || is_end (kind_of k)) ≡ true
@@ -239,9 +240,9 @@ move_counted old found s r n at plain finds = search (rules, costs_found, open_a
 -- The first token of a game is taken as after pairs, of which there is none.
 pub takes_outside_first : (old new : ReaderState) (k : TokenKind) (o : Option (Result Accepted Reason)) → old.stage ≡ Between → is_comment (kind_of k) ≡ false → is_end (kind_of k) ≡ false
     → TakesOutside (at_game_start old) (kind_of k) new o → TakesOutside old (kind_of k) new o
-takes_outside_first old new k (Some r) at comment over t = search (rules, takes_first)
+takes_outside_first old new k (Some r) at comment over t = λ taken failures. takes_first old new k r (unused taken failures) at comment over (t taken failures)
 takes_outside_first old new k None at comment over t = record {
   stage = t.stage;
-  plies = omega arith;
+  plies = omega (arith, t.plies);
   takes = λ newer r d entry. takes_first old newer k r d at comment over (t.takes newer r d entry);
 }

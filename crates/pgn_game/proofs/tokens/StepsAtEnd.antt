@@ -1,7 +1,7 @@
 -- Steps behind the last piece.
 use Rattle.pgn_lexer.specs.Tokens as tokens
 use Rattle.pgn_lexer.specs.PartialToken.{refusal as refusal_token}
-use Rattle.pgn_game.proofs.Words.{Kind, Token, Stage, Between, Reason, Lexical, Fault, Profile, Pair, Item, Game, ◌≡◌, ℕ, ◌+◌, ◌<◌, ◌≤◌, Bool, true, false, List, [], ◌∷◌, ◌++◌, length, Option, None, Some, Result, Ok, Err, refl, sym, subst, append-nil, append_assoc, length-append, le_refl, arith, ◌*◌, ◌^◌, IsTrue, is_some, ◌↔◌, Device, tokens_of, Standing, waiting, HasLeft, IsNext, FinishGivesToken, Accepted, More, Finished, refusal, is_end, marker_of, next, progress_with, Progress, read, ReaderState, Answers, IsKnown, as_written, Stays, FinishesAtMarker, CountsWrites, SameGames, AfterStepAtEnd, StepAtEndAdvances, AtEndSoFar, StaysBetween, outcome_at, is_ended, games_after, none_at_end, fault_of_step, LexFault, Converter, IsSound, game_in_reader, game_in_reader_if, IsLastGame as IsLast, HasRead, Stands, Finishes, FinishesToFault, CountsFault, CountsReason, rules, ap, ◌∙◌, coming, none-some, false≢true}
+use Rattle.pgn_game.proofs.Words.{Kind, Token, Stage, Between, Reason, Lexical, Fault, Profile, Pair, Item, Game, ◌≡◌, ℕ, ◌+◌, ◌<◌, ◌≤◌, Bool, true, false, List, [], ◌∷◌, ◌++◌, length, Option, None, Some, Result, Ok, Err, refl, sym, subst, append-nil, append_assoc, length-append, le_refl, arith, ◌*◌, ◌^◌, IsTrue, is_some, ◌↔◌, Device, tokens_of, Standing, waiting, HasLeft, IsNext, FinishGivesToken, Accepted, More, Finished, refusal, is_end, marker_of, next, progress_with, Progress, read, ReaderState, Answers, IsKnown, as_written, Stays, FinishesAtMarker, CountsWrites, SameGames, AfterStepAtEnd, StepAtEndAdvances, AtEndSoFar, StaysBetween, outcome_at, is_ended, games_after, none_at_end, fault_of_step, LexFault, Converter, IsSound, game_in_reader, game_in_reader_if, IsLastGame as IsLast, HasRead, Stands, Finishes, FinishesToFault, CountsFault, CountsReason, rules, ap, ◌∙◌, coming, none-some, false≢true, FaultAtEnd}
 use Rattle.pgn_game.specs.ConverterSteps.{finished_game as is_of_game}
 use Rattle.pgn_game.proofs.tokens.OneMoreToken.{gains_none, gains_more, stops_more, games_still, counts_still, position_still, read-passes}
 use Rattle.pgn_game.proofs.tokens.NoneBeforeFault.{none_before_fault}
@@ -78,7 +78,7 @@ closes p old u given t l new finished a c true (Ok More) is_e has_read left prof
         has_read = let_go p _ _ more;
         between = cc (more.agrees.stage, read-passes p given t has_read.passes passes, end_passes p (read p given).progress t.kind is_e passes);
         same = same_games p old given t l new finished has_read profile probes h.free h.leads;
-        gains = search (rules, gains_token);
+        gains = gains_token p old given t l new finished has_read profile probes written h.free h.appended;
       },
       stays,
     )
@@ -100,7 +100,9 @@ closes p old u given t l new finished a c false (Ok Finished) is_e has_read left
   one_game p old given t l new finished has_read profile probes h.free h.leads,
 )
 closes p old u given t l new finished a c e (Err why) is_e has_read left profile probes written stopped stays at_marker =
-    search (rules, at_fault, tokens_left)
+    let rest = tokens_left u given e l t left in
+    subst (λ ts. FaultAtEnd p given ts (record { at = t.at; reason = why }) new a c) (sym rest.1)
+    (at_fault p old given t l new finished has_read profile probes written rest.0 stopped)
 
 pub closes_fault : (p : Profile) (old new : Converter) (u : List ℕ) (given : List Token) (f : LexFault) (o : Option (List ℕ)) → HasRead p old given
     → tokens_of u ≡ given ++ refusal_token f ∷ [] → new.reading ≡ old.reading → AfterStepAtEnd p u given old new (Err (record { at = f.at; reason = Lexical f.reason })) o o
@@ -228,7 +230,7 @@ module _ (p : Profile) (u : List ℕ) (given : List Token) (now new : Converter)
         tokens = so.tokens ++ t ∷ [];
         left = took.left;
         has_read = took.has_read;
-        no_fewer = search rules;
+        no_fewer = rw same so.no_fewer;
         game = same_length _ same;
         last = held_still _ same stays;
         gains = gains_more so.gains took.gains;
@@ -272,10 +274,10 @@ module _ (p : Profile) (u : List ℕ) (given : List Token) (now new : Converter)
       let stops = stops_more so.gains to.stops in
       record {
         stops = stops;
-        no_game = search (rules, none_before_fault);
-        games = search (rules, games_still);
-        counts = search (rules, counts_still);
-        position = search (rules, position_still);
+        no_game = none_before_fault p u l left passes stops;
+        games = same ∙ so.has_read.games ∙ sym (ap (length {A = Game}) (games_still so.gains to.stops ∙ to.no_game));
+        counts = counts_still so.gains to.stops to.counts;
+        position = to.position ∙ sym (position_still so.gains to.stops);
       }
 
 -- behind the last piece a token was waiting, unless it is the end

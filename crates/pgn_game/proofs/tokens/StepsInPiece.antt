@@ -1,6 +1,6 @@
 -- Steps in turn in a piece.
 use Rattle.std.proofs.Common.{length-take-le, take_all}
-use Rattle.pgn_game.proofs.Words.{Reason, InputTooLong, Fault, Profile, take-append-drop, take-take, drop-take, drop-drop, Token, tokens_of, decided, Follows, IsDecided, first, still, More, Finished, ReaderState, Converter, Stands, FedAll, FedGame, FedToFault, StopsIn, too_long, CountsReason, ◌≡◌, ℕ, ◌+◌, ◌-◌, ◌<◌, ◌≤◌, ◌^◌, zero, suc, List, [], ◌∷◌, ◌++◌, length, take, drop, Option, None, Some, refl, sym, ap, subst, ◌∙◌, append_assoc, append-nil, length-append, length-drop, length-take, le_refl, drop_of_length-le, inl, inr, arith, Ok, Err, take-add, AfterStep, next_at, SoFar, rules}
+use Rattle.pgn_game.proofs.Words.{Reason, InputTooLong, Fault, Profile, take-append-drop, take-take, drop-take, drop-drop, Token, tokens_of, decided, Follows, IsDecided, first, still, More, Finished, ReaderState, Converter, Stands, FedAll, FedGame, FedToFault, StopsIn, too_long, CountsReason, ◌≡◌, ℕ, ◌+◌, ◌-◌, ◌<◌, ◌≤◌, ◌^◌, zero, suc, List, [], ◌∷◌, ◌++◌, length, take, drop, Option, None, Some, refl, sym, ap, subst, ◌∙◌, append_assoc, append-nil, length-append, length-drop, length-take, le_refl, drop_of_length-le, inl, inr, arith, Ok, Err, take-add, AfterStep, next_at, SoFar, rules, EndsAt}
 use Rattle.pgn_game.proofs.tokens.OneMoreToken.{gains_none, gains_more, stops_more, games_still, counts_still, position_still}
 use Rattle.pgn_game.proofs.tokens.AcceptedToConverter.{still_none, still_none-none}
 
@@ -24,7 +24,7 @@ next_within b (x ∷ xs) at h = refl
 
 next_behind : (b : Option ℕ) (piece : List ℕ) → next_at b piece (length piece) ≡ still b piece
 next_behind b [] = refl
-next_behind b (x ∷ xs) = search (rules, drop_of_length-le, le_refl)
+next_behind b (x ∷ xs) = ap first (drop_of_length-le (x ∷ xs) (le_refl (length (x ∷ xs))))
 
 pub further : (u piece : List ℕ) (at used : ℕ) → (u ++ take at piece) ++ take used (drop at piece) ≡ u ++ take (at + used) piece
 further u piece at used = rw (take-add at used piece) (append_assoc u (take at piece) (take used (drop at piece)))
@@ -66,10 +66,10 @@ module _ (p : Profile) (u : List ℕ) (b : Option ℕ) (given : List Token) (pie
   so_far_more new used (t, took, same) =
       record {
         tokens = so.tokens ++ t ∷ [];
-        stands = search (rules, next_within, some, stands_further);
-        decided = search (rules, decided_further);
-        empty = search rules;
-        no_game = cc;
+        stands = rw (next_within b piece (at + used) some) (stands_further used took.stands);
+        decided = λ h. decided_further used took.decided;
+        empty = λ none. absurd (omega (arith, none));
+        no_game = same ∙ so.no_game;
         gains = gains_more so.gains took.gains;
       }
 
@@ -77,8 +77,8 @@ module _ (p : Profile) (u : List ℕ) (b : Option ℕ) (given : List Token) (pie
   fed_all new used (all, stands, is_decided, gains) finished =
       record {
         tokens = so.tokens;
-        stands = search (rules, some, still_none, whole_piece);
-        decided = search (rules, whole_piece);
+        stands = rw (still_none b piece some) (rw (whole_piece u piece at) at stands);
+        decided = λ h. is_decided ∙ ap decided (whole_piece u piece at);
         empty = so.empty;
         no_game = so.no_game;
         none_just_finished = finished;
@@ -98,9 +98,9 @@ module _ (p : Profile) (u : List ℕ) (b : Option ℕ) (given : List Token) (pie
         at_limit = λ h. decided_at_end (u ++ take (at + used) piece) _ (subst (λ xs. IsDecided (u ++ take (at + used) piece) xs (so.tokens ++ t ∷ []))
             (drop_of_length-le piece (omega (arith, h, short, length-append u (take (at + used) piece), length-take (at + used) piece))) (decided_further used took.decided));
         decided = decided_further used took.decided;
-        ends = search rules;
+        ends = subst (EndsAt t.kind t.at) place took.ends;
         no_game = so.no_game;
-        one_game = cc;
+        one_game = rw so.no_game at one;
         just_finished = finished;
         gains = gains_more so.gains took.gains;
       }
@@ -114,9 +114,9 @@ module _ (p : Profile) (u : List ℕ) (b : Option ℕ) (given : List Token) (pie
           next = rw (still_none-none (drop at piece) ∙ sym (still_none b piece some)) at (rw (whole_piece u piece at) at fed.next);
           stops = stops_more so.gains fed.stops;
         };
-        no_game = search (rules, games_still);
-        counts = search (rules, counts_still);
-        position = search (rules, position_still);
+        no_game = games_still so.gains fed.stops ∙ to_fault.no_game ∙ so.no_game;
+        counts = counts_still so.gains fed.stops to_fault.counts;
+        position = to_fault.position ∙ sym (position_still so.gains fed.stops);
       }
 
 -- ---- a front of the piece
@@ -129,12 +129,12 @@ pub stands_before_any : {p : Profile} {c : Converter} {u : List ℕ} {b : Option
 stands_before_any stands = search rules
 
 before_more : {p : Profile} {c : Converter} {u : List ℕ} {given : List Token} (xs : List ℕ) (n : ℕ) → Stands p c u (first (take n xs)) given → Stands p c u (first xs) given
-before_more {p} {c} {u} {given} [] n stands = search (rules, take_all)
+before_more {p} {c} {u} {given} [] n stands = subst (λ ys. Stands p c u (first ys) given) (take_all n [] (omega arith)) stands
 before_more (x ∷ xs) zero stands = stands_before_any stands
 before_more (x ∷ xs) (suc n) stands = stands
 
 decided_before : (u : List ℕ) {given : List Token} (xs : List ℕ) (n : ℕ) → IsDecided u (take n xs) given → IsDecided u xs given
-decided_before u {given} [] n h = search (rules, take_all)
+decided_before u {given} [] n h = subst (λ ys. IsDecided u ys given) (take_all n [] (omega arith)) h
 decided_before u {given} (x ∷ xs) zero h = inl (decided_at_end u given h)
 decided_before u (x ∷ xs) (suc n) h = h
 
@@ -154,16 +154,16 @@ module _ (p : Profile) (u : List ℕ) (b : Option ℕ) (given : List Token) (pie
   pub front_game : (new : Converter) (used : ℕ) → used ≤ n → FedGame p u given (take n piece) used new a c → FedGame p u given piece used new a c
   front_game new used within fed =
       let same : take used (take n piece) ≡ take used piece = take-take used n piece within in
-      let more : n ≡ used + (n - used) = omega arith in
+      let more : n ≡ used + (n - used) = omega (arith, within) in
       let rest : drop used (take n piece) ≡ take (n - used) (drop used piece) =
-      search (rules, drop-take) in
+      ap (λ k. drop used (take k piece)) more ∙ drop-take used (n - used) piece in
       let ts = fed.tokens ++ fed.marker ∷ [] in
       record {
         tokens = fed.tokens;
         marker = fed.marker;
         game = fed.game;
         stands = before_more (drop used piece) (n - used) (rw rest at (rw same at fed.stands));
-        at_limit = search rules;
+        at_limit = λ h. fed.at_limit (ap (λ xs. length (u ++ xs)) same ∙ h) ∙ ap (λ xs. decided (u ++ xs)) same;
         decided = decided_before (u ++ take used piece) (drop used piece) (n - used)
             (rw rest at (rw same at fed.decided));
         ends = fed.ends;
@@ -204,7 +204,7 @@ module _ (p : Profile) (u : List ℕ) (b : Option ℕ) (given : List Token) (pie
       → StopsIn u piece AtToken (λ front. (c' : Converter) × FedAll p u b given front c' a c × (reading ≡ c'.reading)) (record { at = 2 ^ 62; reason = InputTooLong })
   front_too_long now reading AtToken place more same fed =
       too_long (take n piece) (drop n piece) (sym (take-append-drop n piece))
-      (omega (arith, place, length-append u (take n piece), length-take-le n piece (omega arith)))
+      (omega (arith, place, length-append u (take n piece), length-take-le n piece (omega (arith, more))))
       (omega (arith, length-drop n piece, more)) (now, fed, same)
 
 -- what a step counts, after steps that counted nothing

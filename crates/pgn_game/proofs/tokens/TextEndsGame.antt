@@ -94,7 +94,7 @@ module _ (stand : SymbolsStandInText) (ends : GamesEndByMarker) (p : Profile) (c
           let none_more : games_read p (tokens_of u) ≡ games_read p (given ++ t ∷ []) =
           ap (games_read p) cut ∙ ap (λ (r : Read). r.progress.games) (reads_behind p no_progress (given ++ t ∷ []) (end_at place ∷ []) before)
           ∙ quiet_games p (read p (given ++ t ∷ [])).progress (end_at place ∷ []) (end, tt) in
-          record { game = record { passes = before; game = g; one_more = cc }; passes = passes; same = none_more }
+          record { game = record { passes = before; game = g; one_more = sym none_more ∙ one }; passes = passes; same = none_more }
 
   last : (t : Token) → coming l [] ≡ t ∷ end_at l.count ∷ [] → EndsAt t.kind t.at (length u) → LastGame p u given
   last t is ends_there =
@@ -103,7 +103,7 @@ module _ (stand : SymbolsStandInText) (ends : GamesEndByMarker) (p : Profile) (c
         finishes = (finishes t l.count is).game;
         passes = (finishes t l.count is).passes;
         same = (finishes t l.count is).same;
-        tokens = search (rules, end_at, left_over);
+        tokens = left_over ∙ ap (λ ts. given ++ ts) is ∙ ap (λ n. given ++ t ∷ end_at n ∷ []) stands.lexer.count;
         ends = ends_there;
       }
 
@@ -115,8 +115,8 @@ module _ (stand : SymbolsStandInText) (ends : GamesEndByMarker) (p : Profile) (c
       let marker = (ends p given t finished).is_marker in
       let short = score_short (text ++ []) (score_of (text ++ []) finished.game.marker (is_score (text ++ [])) refl marker).0 in
       let short_enough : length text ≤ 254 = omega (arith, short, length-append text []) in
-      let one : GoesOn l.count l.held.at text 49 = search (rules, fits_digit, symbol_given) in
-      let two : GoesOn l.count l.held.at text 50 = search (rules, fits_digit, symbol_given) in
+      let one : GoesOn l.count l.held.at text 49 = symbol_given l.held.at (text ++ 49 ∷ []) _ _ (fits_digit text 49 short_enough) in
+      let two : GoesOn l.count l.held.at text 50 = symbol_given l.held.at (text ++ 50 ∷ []) _ _ (fits_digit text 50 short_enough) in
       last t is (ends_with_text u l.held.at text
       (stand (u ++ 49 ∷ []) given one.0 (token_at l.held.at (tokens.symbol (text ++ 49 ∷ [])))
       (stands.lexer.tokens (49 ∷ []) tt ∙ ap (λ m. given ++ tokens_to_come_in m l.count l.held.at text (49 ∷ [])) mode ∙ ap (λ ts. given ++ ts) one.1))

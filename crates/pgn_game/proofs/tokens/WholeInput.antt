@@ -1,6 +1,6 @@
 -- Conversions of whole inputs.
 use Rattle.std.specs.Io.KnownBytes.{Keeps, IsAtEnd}
-use Rattle.pgn_game.proofs.Words.{Token, InputTooLong, Fault, Profile, ◌≡◌, ℕ, false, ◌^◌, ◌≤◌, List, [], ◌++◌, length, Option, None, Some, Result, Ok, Err, IfSome, sym, ap, subst, ◌∙◌, append-nil, append_assoc, map, sum, Consumes-nil, Consumes-trans, tokens_of, decided, plies_of, whole_plies, Gains, IsConverted, IsTotalled, MostProbes, ReadsNoMore, FailsOn, Fails, AfterEnd, AfterConversion, AfterSlice, verdict_in, Games, games_of, HaveRead, NextGame, NoGame, NextStops, ReadSoFar, Appends, Consumes, Totals, Read, read, due, refused as is_refused, totals, verdict, verdict_of, Converter, HasRead, Stands, Stops, refused_stop as refused, unwritten, StopsWriting, StopsIn, at_token, too_long, FedFault, FedWhole, ReadsUpTo, Finishes, rules}
+use Rattle.pgn_game.proofs.Words.{Token, InputTooLong, Fault, Profile, ◌≡◌, ℕ, false, ◌^◌, ◌≤◌, List, [], ◌++◌, length, Option, None, Some, Result, Ok, Err, IfSome, sym, ap, subst, ◌∙◌, append-nil, append_assoc, map, sum, Consumes-nil, Consumes-trans, tokens_of, decided, plies_of, whole_plies, Gains, IsConverted, IsTotalled, MostProbes, ReadsNoMore, FailsOn, Fails, AfterEnd, AfterConversion, AfterSlice, verdict_in, Games, games_of, HaveRead, NextGame, NoGame, NextStops, ReadSoFar, Appends, Consumes, Totals, Read, read, due, refused as is_refused, totals, verdict, verdict_of, Converter, HasRead, Stands, Stops, refused_stop as refused, unwritten, StopsWriting, StopsIn, at_token, too_long, FedFault, FedWhole, ReadsUpTo, Finishes, rules, no_progress}
 use Rattle.pgn_game.specs.GamesCalls as games_calls
 use Rattle.pgn_game.specs.Conversion as conversion
 use Rattle.pgn_game.proofs.tokens.OneMoreToken.{torn-none, gains_none, gains_more, stops_more, stops_from}
@@ -40,7 +40,7 @@ no_more is_decided passes gains = search (rules, appended)
 refused_text : {p : Profile} (s : List ℕ) {tokens : List Token} (more : List Token) {f : Fault} {a c : Option (List ℕ)} → tokens_of s ≡ tokens ++ more → (read p tokens).fault ≡ Some f → Gains p [] tokens a c
     → IsConverted p s (is_refused f) a c
 refused_text {p} s {tokens} more cut fault gains =
-    let same : read p (tokens_of s) ≡ read p tokens = search (rules, stops_from) in (
+    let same : read p (tokens_of s) ≡ read p tokens = ap (read p) cut ∙ stops_from p no_progress tokens more fault in (
       ap verdict_of same ∙ verdict_refused (read p tokens) fault,
       rw same (appended gains),
     )
@@ -69,7 +69,7 @@ module _ (p : Profile) (left_old left left_new : Option (List ℕ)) (now : Games
       let text = so.bytes ++ end.more in
       let (is_verdict, most) = totalled t end.have_read_all.has_read games plies probes bound in
       known_whole left_old left_new text (λ s. IsTotalled p s t a d) (all end.more end.consumed) end.have_read_all.at_end
-      (record { converted = search (rules, appended, gains_more); probes = most })
+      (record { converted = (is_verdict, appended (gains_more so.gains end.gains)); probes = most })
 
   pub games_short : {new : Games} → NoGame p so.bytes so.tokens left left_new new c d → IfSome left_old (λ s. length s ≤ 2 ^ 62)
   games_short end = search (rules, all, known_whole)
@@ -83,7 +83,7 @@ module _ (p : Profile) (left_old left left_new : Option (List ℕ)) (now : Games
           (λ rest. refused_text ((so.bytes ++ more) ++ rest) (to.next rest tt).0 (to.next rest tt).1 fault gains))
       by_stops (unwritten at writing) =
           let here = to.next [] tt in
-          let cut : tokens_of (so.bytes ++ more) ≡ to.tokens ++ here.0 = search (rules, append-nil) in
+          let cut : tokens_of (so.bytes ++ more) ≡ to.tokens ++ here.0 = ap tokens_of (sym (append-nil (so.bytes ++ more))) ∙ here.1 in
           conversion.unwritten (so.bytes ++ more) at (all more consumed) (rw cut (further_writing here.0 writing))
   games_stop (games_calls.at_end g more consumed end to) = by_stops (stops_more so.gains to.stops)
     where
@@ -121,7 +121,7 @@ slice_stops p {text} a c (too_long front rest cut place some before) =
 pub slice_ends : {p : Profile} {text : List ℕ} {now : Converter} {a c : Option (List ℕ)} (d : Option (List ℕ)) (r : Result Totals Fault) (fed : FedWhole p [] [] text now a c) → AfterEnd p text fed.tokens r c d
     → AfterSlice p text r a d
 slice_ends d (Ok t) fed (is_verdict, probes, gains) =
-    record { converted = search (rules, appended, gains_more); probes = probes }
+    record { converted = (is_verdict, appended (gains_more fed.gains gains)); probes = probes }
 slice_ends {p} {text} {a} d (Err f) fed stops = by_stops (stops_more fed.gains stops)
   where
     by_stops : {h : Fault} → Stops p [] (tokens_of text) a d h → FailsOn p text a d h
