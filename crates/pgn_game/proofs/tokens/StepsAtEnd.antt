@@ -1,7 +1,7 @@
 -- Steps behind the last piece.
 use Rattle.pgn_lexer.specs.Tokens as tokens
 use Rattle.pgn_lexer.specs.PartialToken.{refusal as refusal_token}
-use Rattle.pgn_game.proofs.Words.{Kind, Token, Stage, Between, Reason, Lexical, Fault, Profile, Pair, Item, Game, ◌≡◌, ℕ, ◌+◌, ◌<◌, ◌≤◌, Bool, true, false, List, [], ◌∷◌, ◌++◌, length, Option, None, Some, Result, Ok, Err, refl, sym, subst, append-nil, append_assoc, length-append, le_refl, arith, ◌*◌, ◌^◌, IsTrue, is_some, ◌↔◌, Device, tokens_of, Standing, waiting, HasLeft, IsNext, FinishGivesToken, Accepted, More, Finished, refusal, is_end, marker_of, next, progress_with, Progress, read, ReaderState, Answers, IsKnown, as_written, Stays, FinishesAtMarker, CountsWrites, SameGames, AfterStepAtEnd, StepAtEndAdvances, AtEndSoFar, StaysBetween, outcome_at, is_ended, games_after, none_at_end, fault_of_step, LexFault, Converter, IsSound, game_in_reader, game_in_reader_if, IsLastGame as IsLast, HasRead, Stands, Finishes, FinishesToFault, CountsFault, CountsReason, rules, ap, ◌∙◌, coming, none-some, false≢true, FaultAtEnd}
+use Rattle.pgn_game.proofs.Words.{Kind, Token, Stage, Between, Reason, Lexical, Fault, Profile, Pair, Item, Game, ◌≡◌, ℕ, ◌+◌, ◌<◌, ◌≤◌, Bool, true, false, List, [], ◌∷◌, ◌++◌, length, Option, None, Some, Result, Ok, Err, refl, sym, subst, append-nil, append_assoc, length-append, le_refl, arith, ◌*◌, ◌^◌, IsTrue, is_some, ◌↔◌, Device, tokens_of, Standing, waiting, HasLeft, IsNext, FinishGivesToken, Accepted, More, Finished, refusal, is_end, marker_of, next, progress_with, Progress, read, ReaderState, Answers, IsKnown, as_written, Stays, FinishesAtMarker, CountsWrites, SameGames, AfterStepAtEnd, StepAtEndAdvances, AtEndSoFar, StaysBetween, outcome_at, is_ended, games_after, none_at_end, fault_of_step, LexFault, Converter, IsSound, game_in_reader, game_in_reader_if, IsLastGame as IsLast, HasRead, Stands, Finishes, FinishesToFault, CountsFault, CountsReason, rules, ap, ◌∙◌, coming, none-some, false≢true, FaultAtEnd, FinishedGame}
 use Rattle.pgn_game.specs.ConverterSteps.{finished_game as is_of_game}
 use Rattle.pgn_game.proofs.tokens.OneMoreToken.{gains_none, gains_more, stops_more, games_still, counts_still, position_still, read-passes}
 use Rattle.pgn_game.proofs.tokens.NoneBeforeFault.{none_before_fault}
@@ -103,6 +103,14 @@ closes p old u given t l new finished a c e (Err why) is_e has_read left profile
     let rest = tokens_left u given e l t left in
     subst (λ ts. FaultAtEnd p given ts (record { at = t.at; reason = why }) new a c) (sym rest.1)
     (at_fault p old given t l new finished has_read profile probes written rest.0 stopped)
+
+-- what the converter has at hand is that
+pub closes_as : (p : Profile) (old : Converter) (u : List ℕ) (given : List Token) (t : Token) (l : Standing) (new : ReaderState) (finished : Bool) (a c : Option (List ℕ)) {e : Bool} (r : Result Accepted Reason)
+    {games : ℕ} {finished_game : Option FinishedGame} {fault : Option Fault} {outcome after : Result (Option Accepted) Fault}
+    → HasRead p old given → outcome ≡ outcome_at t.at r → games ≡ games_after outcome old.games → fault ≡ fault_of_step outcome → finished_game ≡ None → e ≡ is_end t.kind → after ≡ none_at_end e outcome
+    → AfterStepAtEnd p u given old (closed l new old.games finished (outcome_at t.at r)) (none_at_end (is_end t.kind) (outcome_at t.at r)) a c
+    → AfterStepAtEnd p u given old (record { lexer = l; reading = new; games = games; just_finished = finished_game; is_finished = finished; fault = fault }) after a c
+closes_as p old u given t l new finished a c r has_read is games_is fault_is none e_is after_is h = rw (after_is, games_is, fault_is, none, is, e_is) h
 
 pub closes_fault : (p : Profile) (old new : Converter) (u : List ℕ) (given : List Token) (f : LexFault) (o : Option (List ℕ)) → HasRead p old given
     → tokens_of u ≡ given ++ refusal_token f ∷ [] → new.reading ≡ old.reading → AfterStepAtEnd p u given old new (Err (record { at = f.at; reason = Lexical f.reason })) o o

@@ -1,4 +1,5 @@
-use Rattle.pgn_game.proofs.Words.{◌≡◌, is_some, Bool, true, false, List, ℕ, ◌+◌, None, Some, sym, ap, subst, ◌∙◌, arith, Option, Result, Ok, Err, option_map, Form, move_of_form, with_next, NoMove, Move, legal, ok_or, Parts, Played, SanFault, Reason, IllegalMove, MoveLimit, move_of, is_at_limit, found_in, Costs, form_pairs, CostsForm, CostsAnswer}
+use Rattle.std.specs.Result.{is_ok}
+use Rattle.pgn_game.proofs.Words.{◌≡◌, is_some, Bool, true, false, List, ℕ, ◌+◌, None, Some, sym, ap, subst, ◌∙◌, arith, Option, Result, Ok, Err, option_map, Form, move_of_form, with_next, NoMove, Move, legal, ok_or, Parts, Played, SanFault, Reason, IllegalMove, MoveLimit, move_of, is_at_limit, found_in, Costs, form_pairs, CostsForm, CostsAnswer, false≢true}
 use Rattle.chess_text.specs.Form.{form_of}
 use Rattle.pgn_game.proofs.find.named_move.Goals as goal
 
@@ -83,16 +84,16 @@ pub returns-in-Err-Ambiguous-clause-tried : goal.returns-in-Err-Ambiguous-clause
 returns-in-Err-Ambiguous-clause-tried c =
     let answer = rw c.in-Err-Ambiguous.field-0-is at c.in-Err-Ambiguous.ensures.answer in
     of_answer c.args.position.now c.args.text.now c.in-Some.form _ _ c.in-Some.ensures answer
-    (omega (arith, c.in-Err-Ambiguous.ensures.two (cc), c.requires), omega (arith, c.in-Err-Ambiguous.ensures.most, c.requires))
+    (omega (arith, c.in-Err-Ambiguous.ensures.two (ap Err c.in-Err-Ambiguous.field-0-is), c.requires), omega (arith, c.in-Err-Ambiguous.ensures.most, c.requires))
 
 pub returns-then-is_at_limit-clause-tried : goal.returns-then-is_at_limit-clause-tried
 returns-then-is_at_limit-clause-tried c =
     let f = c.in-Some.form in
     of_answer c.args.position.now c.args.text.now f _ _ c.in-Some.ensures c.in-Ok.ensures.answer
-    (of_legal c.args.position.now f c.in-Ok.mv (legal c.args.position.now c.in-Ok.mv) _ c.in-Ok.ensures.legal (from_none _ _ _ c.requires (c.in-Ok.ensures.each (λ e. cc))))
+    (of_legal c.args.position.now f c.in-Ok.mv (legal c.args.position.now c.in-Ok.mv) _ c.in-Ok.ensures.legal (from_none _ _ _ c.requires (c.in-Ok.ensures.each (λ e. false≢true (sym (ap is_ok e))))))
 
 pub returns-else-is_at_limit-clause-tried : goal.returns-else-is_at_limit-clause-tried
 returns-else-is_at_limit-clause-tried c =
     let f = c.in-Some.form in
     of_answer c.args.position.now c.args.text.now f _ _ c.in-Some.ensures c.in-Ok.ensures.answer
-    (of_legal c.args.position.now f c.in-Ok.mv (legal c.args.position.now c.in-Ok.mv) _ c.in-Ok.ensures.legal (from_none _ _ _ c.requires (c.in-Ok.ensures.each (λ e. cc))))
+    (of_legal c.args.position.now f c.in-Ok.mv (legal c.args.position.now c.in-Ok.mv) _ c.in-Ok.ensures.legal (from_none _ _ _ c.requires (c.in-Ok.ensures.each (λ e. false≢true (sym (ap is_ok e))))))

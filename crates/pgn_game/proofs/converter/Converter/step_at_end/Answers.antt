@@ -1,5 +1,5 @@
 use Rattle.pgn_game.proofs.Words.{arith, sym, ap, subst, refl, ◌∙◌, Converter, HasRead, game_in_reader_if, kind_of, HasLeft, is_end, games_after, outcome_at, none_at_end, StepAtEndAdvances, IsKnown}
-use Rattle.pgn_game.proofs.tokens.StepsAtEnd.{sound_behind_fault, closes_sooner, closes, closes_fault, left_by, not_just_finished, fault_of_closed, games_of_closed, counts_closed, counts_token, nearer_by, sound_behind}
+use Rattle.pgn_game.proofs.tokens.StepsAtEnd.{sound_behind_fault, closes_sooner, closes, closes_as, closes_fault, left_by, not_just_finished, fault_of_closed, games_of_closed, counts_closed, counts_token, nearer_by, sound_behind}
 use Rattle.pgn_game.proofs.tokens.AcceptedToConverter.{written_known}
 use Rattle.pgn_game.proofs.ReaderFitsInMemory.{fits_reader}
 use Rattle.pgn_game.proofs.converter.Converter.step_at_end.Goals as goal
@@ -12,10 +12,12 @@ returns-in-Token g c =
           let left_here = subst (λ (s : Converter). HasLeft s.lexer u given) (sym c.self.view_is) left in
           let left_behind = rw c.in-Token.is at c.finish.follows.holds-at-none.left in
           let flag = not_just_finished _ _ (ap (λ (s : Converter). s.just_finished) c.self.view_is ∙ c.requires.none_just_finished) in
-          rw (c.none_at_end-closed.ensures, c.settle-outcome.ensures.fault, c.settle-outcome.ensures.games, c.settle-outcome.ensures.outcome, c.is_end-is_end.ensures, flag, ← c.self.view_is)
+          rw (← c.self.view_is)
+          (closes_as p _ u given _ c.finish.follows.lender-at-none c.accept-accepted.new.self c.is_ended-self-inside.result _ _ c.accept-accepted.result here c.settle-outcome.ensures.outcome c.settle-outcome.ensures.games c.settle-outcome.ensures.fault
+          (ap (λ b. game_in_reader_if b c.accept-accepted.new.self) flag) c.is_end-is_end.ensures c.none_at_end-closed.ensures
           (closes p _ u given _ c.finish.follows.lender-at-none c.accept-accepted.new.self c.is_ended-self-inside.result _ _ _ c.accept-accepted.result refl
           here (left_by u given _ c.finish.follows.lender-at-none _ (left_behind u given left_here)) c.accept-accepted.ensures.profile c.accept-accepted.ensures.probes
-          (written_known c.self.inside.reader.profile c.self.invariant.known) (c.accept-accepted.ensures.accepts _ here.agrees) c.accept-accepted.ensures.stays c.accept-accepted.ensures.finished);
+          (written_known c.self.inside.reader.profile c.self.invariant.known) (c.accept-accepted.ensures.accepts _ here.agrees) c.accept-accepted.ensures.stays c.accept-accepted.ensures.finished));
       advances =
           let gives = rw c.in-Token.is at c.finish.follows.holds-at-none.closes in
           let near = nearer_by _ c.self.inside.lexer c.finish.follows.lender-at-none _ gives in

@@ -1,4 +1,4 @@
-use Rattle.pgn_game.proofs.Words.{◌≡◌, Some, subst, sym, ap, ◌∙◌, Parts, legal, Movetext}
+use Rattle.pgn_game.proofs.Words.{◌≡◌, Some, subst, sym, ap, ◌∙◌, Parts, legal, Movetext, arith}
 use Rattle.pgn_game.specs.Game.{move}
 use Rattle.pgn_game.proofs.putting.ItemToMovetext.{Advances, adds_put, adds_front, plays_on}
 use Rattle.pgn_game.proofs.movetext.Movetext.put_move.Goals as goal
@@ -17,3 +17,6 @@ returns-clause-adds g c =
     adds_put c.args.mode (move m) c.args.self.now c.args.line.now c.write_move.new.line _ c.play.new.self c.in_ok-write_move.ensures.writes.puts
     (subst (λ (t : Movetext). Advances (move m) t c.play.new.self) after
     (plays_on (record { mv = m; next = next }) c.write_move.new.self c.play.new.self (subst (λ (p : Parts). legal p m ≡ Some next) same c.position_after-next.ensures) c.play.ensures))
+
+pub play-requires : goal.play-requires
+play-requires g c = omega (arith, ap (λ (t : Movetext). t.plies) c.in_ok-write_move.ensures.writes.ends, c.requires.few)
