@@ -1,7 +1,7 @@
 -- One token that the lexer gave, and what the reader answered to it.
 use Rattle.pgn_lexer.specs.PartialToken.{refusal as refusal_token}
 use Rattle.pgn_lexer.specs.Scanned.{token, more, fault}
-use Rattle.pgn_game.proofs.Words.{Reason, Lexical, WriteFault, Fault, Profile, Game, Part, ◌≡◌, ℕ, ◌+◌, ◌*◌, is_some, ◌<◌, ◌≤◌, ◌⊎◌, Bool, false, true, List, [], ◌∷◌, ◌++◌, length, take, drop, Option, None, Some, Result, Ok, Err, refl, sym, ap, subst, ◌∙◌, append_assoc, append-nil, length-append, le_refl, arith, IsTrue, map, sum, take-append-drop, map-append, list_any-append, or_cases, Appends-nil, Appends, Token, EndsAt, tokens_of, Standing, coming, waiting, StandsAfter, Follows, AfterScan, first, still, Accepted, More, Finished, refusal, position_if_move, position_in, Next, going, whole, next, Progress, progress_with, progress_after, Read, read, gain, Gains, plies_of, has_move, ReaderState, Agrees, IsKnown, as_written, IsBehind, whole_plies, plies_next, Leads, Answers, AppendsFront, MostTried, Raises, Tries, TriesUnwritten, sum_by-append, sum_by-cons, LexFault, FinishedGame, finished_game_of, Converter, game_in_reader, game_in_reader_if, play_moves, has_played_move, HasRead, Stands, refused_stop as refused, unwritten, AreNext, reported_position, FedToFault, FaultAtEnd, SameGames, OneGame, AfterStep, outcome_at, finished_game, games_after, fault_of_step, StepAdvances, written_so_far as written, rules, inl, inr, position_at_fault, due}
+use Rattle.pgn_game.proofs.Words.{Reason, Lexical, WriteFault, Fault, Profile, Game, Part, ◌≡◌, ℕ, ◌+◌, ◌*◌, is_some, ◌<◌, ◌≤◌, ◌⊎◌, Bool, false, true, List, [], ◌∷◌, ◌++◌, length, take, drop, Option, None, Some, Result, Ok, Err, refl, sym, ap, subst, ◌∙◌, append_assoc, append-nil, length-append, le_refl, arith, IsTrue, map, sum, take-append-drop, map-append, list_any-append, or_cases, Appends-nil, Appends, Token, EndsAt, tokens_of, Standing, coming, waiting, StandsAfter, Follows, AfterScan, first, still, Accepted, More, Finished, refusal, position_if_move, position_in, Next, going, whole, next, Progress, progress_with, progress_after, Read, read, gain, Gains, plies_of, has_move, ReaderState, Agrees, IsKnown, as_written, IsBehind, whole_plies, plies_next, Leads, Answers, AppendsFront, MostTried, Raises, Tries, TriesUnwritten, sum_by-append, sum_by-cons, LexFault, FinishedGame, finished_game_of, Converter, game_in_reader, game_in_reader_if, play_moves, has_played_move, HasRead, Stands, refused_stop as refused, unwritten, AreNext, reported_position, FedToFault, FaultAtEnd, SameGames, OneGame, AfterStep, outcome_at, finished_game, games_after, fault_of_step, StepAdvances, written_so_far as written, rules, inl, inr, position_at_fault, due, ◌||◌}
 use Rattle.pgn_game.specs.ReaderState as reader_state
 use Rattle.pgn_game.proofs.tokens.PairsTriedForToken.{most_with, most_to_refused, part_probed, raises_none}
 use Rattle.pgn_game.proofs.tokens.OneMoreToken.{read-passes, read-refuses, due-passes, gains_none}
@@ -34,7 +34,9 @@ finished_behind : {r : ReaderState} {g : Game} → IsBehind r g → game_in_read
 finished_behind h = cc (h.pairs, h.plies, h.position)
 
 plies-snoc : (games : List Game) (g : Game) → sum (map plies_of (games ++ g ∷ [])) ≡ sum (map plies_of games) + plies_of g
-plies-snoc games g = search (rules, map-append, sum_by-append, sum_by-cons)
+plies-snoc games g =
+    let one : sum (plies_of g ∷ []) ≡ plies_of g = omega (arith, sum_by-cons (λ n. n) (plies_of g) []) in
+    ap sum (map-append plies_of games (g ∷ [])) ∙ sum_by-append (λ n. n) (map plies_of games) (plies_of g ∷ []) ∙ ap (λ n. sum (map plies_of games) + n) one
 
 -- a move is in the games before, or in the last one
 moves-snoc : (games : List Game) (g : Game) → IsTrue (play_moves (games ++ g ∷ [])) → IsTrue (play_moves games) ⊎ IsTrue (has_move g.items)
@@ -52,11 +54,19 @@ stepped l r games finished outcome =
     }
 
 pub in_games : (b : Progress) → IsTrue (play_moves b.games) → IsTrue (has_played_move b)
-in_games b h = search rules
+in_games b h = or_left (play_moves b.games) (has_move b.part.items) h
+  where
+    or_left : (x y : Bool) → IsTrue x → IsTrue (x || y)
+    or_left true y h = refl
+    or_left false y h = absurd (cc)
 
 -- some pair was tried where a move was played in a game, or in the part
 in_either : {r : ReaderState} (b : Progress) → Agrees r b.part → (IsTrue (play_moves b.games) → 0 < r.most_probes) → IsTrue (has_played_move b) → 0 < r.most_probes
-in_either b agrees before moves = search (rules, part_probed)
+in_either {r} b agrees before moves = by_or (play_moves b.games) (has_move b.part.items) before (part_probed r agrees) moves
+  where
+    by_or : (x y : Bool) → (IsTrue x → 0 < r.most_probes) → (IsTrue y → 0 < r.most_probes) → IsTrue (x || y) → 0 < r.most_probes
+    by_or true y left right h = left refl
+    by_or false y left right h = right h
 
 module _ (p : Profile) (old : Converter) (given : List Token) (t : Token) (l : Standing) (new : ReaderState) (finished : Bool) (has_read : HasRead p old given) (profile : new.profile ≡ old.reading.profile) (probes : old.reading.most_probes ≤ new.most_probes) where
   abbrev b : Progress
@@ -273,4 +283,5 @@ is_some_held false reading = refl
 
 pub advances_token : (old : Standing) (piece : List ℕ) (new : Standing) (used at : ℕ) (r : Result Accepted Reason) → waiting new < 2 * used + waiting old
     → StepAdvances old piece new used (outcome_at at r)
-advances_token old piece new used at r h1 = search rules
+advances_token old piece new used at (Ok accepted) sooner = sooner
+advances_token old piece new used at (Err reason) sooner = tt

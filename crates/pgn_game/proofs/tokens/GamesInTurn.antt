@@ -1,6 +1,6 @@
 -- Games read in turn from a source.
 use Rattle.std.specs.Io.KnownBytes.{Keeps, IsAtEnd}
-use Rattle.pgn_game.proofs.Words.{Token, ReadFault, Fault, Profile, Game, no_part, ◌≡◌, ℕ, ◌^◌, ◌≤◌, Bool, true, false, List, [], ◌∷◌, ◌++◌, length, drop, Option, None, Some, Result, Ok, Err, refl, sym, ap, subst, ◌∙◌, inl, inr, append-nil, append_assoc, length-append, arith, take-append-drop, Consumes-nil, Consumes-trans, tokens_of, decided, coming, IsDecided, first, Gains, Games, games_of, HasReadAll, HaveRead, within, at_end, NextGame, NoGame, NextStops, AfterNext, NextSoFar, IsTrue, is_ok, Consumes, text_of_games as text_of, whole, next, Progress, read, read_from, written_so_far as written, Converter, FedAll, FedGame, FedToFault, StopsIn, at_token, too_long, AfterFinish, Finishes, FinishesToFault, rules, Reason, refusal, Next, going, progress_with, Read, take, finished_game_of, HasRead}
+use Rattle.pgn_game.proofs.Words.{Token, ReadFault, Fault, Profile, Game, no_part, ◌≡◌, ℕ, ◌^◌, ◌≤◌, Bool, true, false, List, [], ◌∷◌, ◌++◌, length, drop, Option, None, Some, Result, Ok, Err, refl, sym, ap, subst, ◌∙◌, inl, inr, append-nil, append_assoc, length-append, arith, take-append-drop, Consumes-nil, Consumes-trans, tokens_of, decided, coming, IsDecided, first, Gains, Games, games_of, HasReadAll, HaveRead, within, at_end, NextGame, NoGame, NextStops, AfterNext, NextSoFar, IsTrue, is_ok, Consumes, text_of_games as text_of, whole, next, Progress, read, read_from, written_so_far as written, Converter, FedAll, FedGame, FedToFault, StopsIn, at_token, too_long, AfterFinish, Finishes, FinishesToFault, rules, Reason, refusal, Next, going, progress_with, Read, take, finished_game_of, HasRead, no_progress}
 use Rattle.pgn_game.specs.GamesCalls as games_calls
 use Rattle.pgn_game.proofs.tokens.OneMoreToken.{read-passes, read-refuses, stops_from, torn-none, gains_none, gains_more, stops_more, games_still, counts_still}
 use Rattle.pgn_game.proofs.tokens.StepsInPiece.{decided_at_end, stands_before_any}
@@ -67,7 +67,8 @@ at_end_again p u given left now new o h1 h2 h3 = grind (arith, Consumes-nil, app
 -- what was read of a front of the bytes not used is decided
 front_decided : {p : Profile} {u : List ℕ} (rest front : List ℕ) {given : List Token} → (front ≡ [] → given ≡ decided u) → {new : Converter} {a c : Option (List ℕ)}
     (fed : FedAll p u (first rest) given front new a c) → fed.tokens ≡ decided (u ++ front)
-front_decided rest front h1 fed = search (rules, append-nil)
+front_decided {u} rest [] none fed = fed.empty refl ∙ none refl ∙ ap decided (sym (append-nil u))
+front_decided rest (x ∷ xs) none fed = fed.decided (omega arith)
 
 -- the last of a list
 pub last_is : {A : Type 0} → (xs ys : List A) {x y : A} → xs ++ x ∷ [] ≡ ys ++ y ∷ [] → x ≡ y
@@ -200,16 +201,16 @@ module _ (p : Profile) (u : List ℕ) (given : List Token) (left_old left left_n
   -- the source has ended
   module _ (consumed : Consumes left left_new []) (end : IsAtEnd left_new) (new : Converter) (d : Option (List ℕ)) where
     all : Consumes left_old left_new so.more
-    all = search (rules, Consumes-trans, append-nil)
+    all = subst (Consumes left_old left_new) (append-nil so.more) (Consumes-trans left_old left left_new so.more [] so.consumed consumed)
 
     left_over : tokens_of so.reads_on.used ≡ so.tokens ++ coming now.lexer []
     left_over = ap tokens_of (sym (append-nil so.reads_on.used)) ∙ so.reads_on.stands.lexer.tokens [] tt
 
     reads : read p (tokens_of so.reads_on.used) ≡ read_from p (read p so.tokens).progress (coming now.lexer [])
-    reads = search (rules, left_over, reads_behind)
+    reads = ap (read p) left_over ∙ reads_behind p no_progress so.tokens (coming now.lexer []) so.reads_on.stands.has_read.passes
 
     adds : AddsOne (read p so.tokens).progress.games (read p (tokens_of so.reads_on.used))
-    adds = search (rules, AddsOne, left_games, reads)
+    adds = subst (AddsOne (read p so.tokens).progress.games) (sym reads) (left_games p (read p so.tokens).progress now.lexer)
 
     ended : {is_game : Bool} → Finishes p so.reads_on.used so.tokens new is_game c d → new.is_finished ≡ true → now.lexer.count ≤ 2 ^ 62
         → AfterNext p u given left_old left_new (games_of new []) (Ok is_game) a d

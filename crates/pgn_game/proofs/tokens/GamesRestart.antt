@@ -1,7 +1,7 @@
 -- A text that is converted from the end of a game on.
 use Rattle.pgn_lexer.specs.Tokens as tokens
 use Rattle.pgn_lexer.specs.WhiteSpace.{white_space}
-use Rattle.pgn_game.proofs.Words.{Kind, Token, Profile, Game, no_part, ◌≡◌, ℕ, ◌+◌, false, List, [], ◌∷◌, ◌++◌, length, Some, refl, sym, ap, ◌∙◌, append_assoc, append-nil, length-append, map, sum, tokens_of, plies_of, marker_of, games_read, counting_also, GamesRestart, sum-map, sum_by-append, TextsRestart, CanBeMarker, game_text, text_of_games as text_of, Next, going, whole, next, Progress, progress_with, progress_after, no_progress, Read, read_from, read, written_so_far as written, verdict_of, rules, Part}
+use Rattle.pgn_game.proofs.Words.{Kind, Token, Profile, Game, no_part, ◌≡◌, ℕ, ◌+◌, false, List, [], ◌∷◌, ◌++◌, length, Some, refl, sym, ap, ◌∙◌, append_assoc, append-nil, length-append, map, sum, tokens_of, plies_of, marker_of, games_read, counting_also, GamesRestart, sum-map, sum_by-append, TextsRestart, CanBeMarker, game_text, text_of_games as text_of, Next, going, whole, next, Progress, progress_with, progress_after, no_progress, Read, read_from, read, written_so_far as written, verdict_of, rules, Part, arith, torn}
 use Rattle.pgn_game.proofs.tokens.OneMoreToken.{by_token, goes_on, read_from-test, after_test}
 use Rattle.pgn_game.proofs.tokens.GamesInTurn.{none_behind}
 use Rattle.pgn_game.proofs.tokens.MarkerEndsGame.{games_end_by_marker}
@@ -33,10 +33,12 @@ text_of-append p (g ∷ games) more =
     rw (text_of-append p games more) (sym (append_assoc (game_text p g) (text_of p games) (text_of p more)))
 
 written_with_front : (p : Profile) (games : List Game) (b : Progress) → written p (with_front games b) ≡ text_of p games ++ written p b
-written_with_front p games b = search (rules, append_assoc, text_of-append)
+written_with_front p games b =
+    rw (text_of-append p games b.games) (append_assoc (text_of p games) (text_of p b.games) (torn p b.part))
 
 plies_of_both : (xs ys : List Game) → sum (map plies_of (xs ++ ys)) ≡ sum (map plies_of xs) + sum (map plies_of ys)
-plies_of_both xs ys = search (rules, sum-map, sum_by-append)
+plies_of_both xs ys =
+    omega (arith, sum-map plies_of (xs ++ ys), sum_by-append plies_of xs ys, sum-map plies_of xs, sum-map plies_of ys)
 
 verdict_with_front : (games : List Game) (r : Read) → verdict_of (reads_with_front games r) ≡ counting_also games (verdict_of r)
 verdict_with_front games r = search (rules, length-append, plies_of_both)

@@ -85,12 +85,15 @@ end_torn : (p : Profile) (gs : List Game) (stage : Stage) (ps : List Pair) (name
     → refusal p (record { stage = stage; pairs = ps; name = name; items = items }) tokens.end ≡ None
     → torn p (progress_with gs (next (record { stage = stage; pairs = ps; name = name; items = items }) tokens.end)).part ≡ []
 unfolding refusal
-end_torn p gs stage ps name items h1 = search (rules, some-none, torn_between)
+end_torn p gs Between ps name items free = torn_between p.missing_result p ps name items refl
+end_torn p gs _ ps name items free = absurd (some-none free)
 
 last_torn : (p : Profile) (b : Progress) (place : ℕ) (k : Kind) → IsLast k → refusal p b.part k ≡ None
     → torn p (progress_after b (record { at = place; kind = k })).part ≡ []
 unfolding refusal
-last_torn p b place k h1 h2 = search (rules, end_torn, some-none)
+last_torn p b place (tokens.refused r) last free = absurd (some-none free)
+last_torn p b place tokens.end last free = end_torn p b.games b.part.stage b.part.pairs b.part.name b.part.items free
+last_torn p b place _ last free = absurd last
 
 pub none_torn : (p : Profile) (b : Progress) (ts : List Token) → HasLast ts → (read_from p b ts).fault ≡ None → torn p (read_from p b ts).progress.part ≡ []
 none_torn p b [] has passes = absurd has

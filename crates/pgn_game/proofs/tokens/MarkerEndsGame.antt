@@ -1,6 +1,6 @@
 -- The token that finishes a game is its marker, which is the Result of its tag section.
 use Rattle.pgn_lexer.specs.Tokens as tokens
-use Rattle.pgn_game.proofs.Words.{Kind, Token, Reason, Stage, AfterLeftBracket, AfterName, AfterValue, Profile, value_of, Game, Part, ◌≡◌, ℕ, false, List, [], ◌∷◌, ◌++◌, Option, None, Some, refl, codes, unwrap_or, IsTrue, IsFalse, not-false, bytes_eq-Decides, refusal, marker_of, is_comment, result_for, text_refusal, Next, going, whole, next, next_in, in_text, at_stage, progress_with, read, games_read, FinishesGame, EndsByMarker, GamesEndByMarker, rules, MarkerInVariation, ResultDiffers, SetUpWithoutFen, Between, AfterTags, InMovetext, ◌&&◌, not, nat_le, sym, ◌∙◌, ◌==◌, bytes_eq, levels_of_part, lacks_fen, depth, ap, Read, subst}
+use Rattle.pgn_game.proofs.Words.{Kind, Token, Reason, Stage, AfterLeftBracket, AfterName, AfterValue, Profile, value_of, Game, Part, ◌≡◌, ℕ, false, List, [], ◌∷◌, ◌++◌, Option, None, Some, refl, codes, unwrap_or, IsTrue, IsFalse, not-false, bytes_eq-Decides, refusal, marker_of, is_comment, result_for, text_refusal, Next, going, whole, next, next_in, in_text, at_stage, progress_with, read, games_read, FinishesGame, EndsByMarker, GamesEndByMarker, rules, MarkerInVariation, ResultDiffers, SetUpWithoutFen, Between, AfterTags, InMovetext, ◌&&◌, not, nat_le, sym, ◌∙◌, ◌==◌, bytes_eq, levels_of_part, lacks_fen, depth, ap, Read, subst, Progress}
 use Rattle.pgn_game.proofs.exporting.PairsExportedAgain.{result_of}
 use Rattle.pgn_game.proofs.pairs.ExportedValues.{exported_known}
 use Rattle.pgn_game.proofs.refusals.RefusalsByStage.{is_textual, is_lexical, after_tags, between, rest_passed, test_failed, text_row}
@@ -42,7 +42,9 @@ record IsPlain (k : Kind) : Type 0 where
   sound : is_lexical k ≡ false
 
 plain : (k : Kind) (marker : List ℕ) → marker_of k ≡ Some marker → IsPlain k
-plain k marker h1 = search rules
+plain tokens.asterisk marker is = record { textual = refl; bare = refl; sound = refl }
+plain (tokens.symbol s) marker is = record { textual = refl; bare = refl; sound = refl }
+plain _ marker is = absurd (cc)
 
 passes_in_text : (p : Profile) (stage : Stage) (part : Part) (k : Kind) (g : Game) → IsPlain k → refusal p (at_stage stage part) k ≡ None → next_in stage part k ≡ whole g
     → text_refusal p part k ≡ None
@@ -94,7 +96,11 @@ module _ (p : Profile) (given : List Token) (marker : Token) (finishes : Finishe
 
   by_next : (nx : Next) → refusal p part marker.kind ≡ None → next part marker.kind ≡ nx
       → (read p (given ++ marker ∷ [])).progress ≡ progress_with (games_read p given) nx → EndsByMarker p given marker finishes.game
-  by_next nx h1 h2 h3 = search (rules, last_is, not_one_more, of_game)
+  by_next (going to) free leads after =
+      absurd (not_one_more finishes.game (sym (ap (λ (b : Progress). b.games) after) ∙ finishes.one_more))
+  by_next (whole g) free leads after =
+      of_game g free leads
+      (last_is (games_read p given) (games_read p given) (sym (ap (λ (b : Progress). b.games) after) ∙ finishes.one_more))
 
   by_test : (o : Option Reason) → refusal p part marker.kind ≡ o → EndsByMarker p given marker finishes.game
   by_test (Some reason) is =

@@ -1,5 +1,5 @@
 -- One token more: what was read, and what is due for it.
-use Rattle.pgn_game.proofs.Words.{Kind, Token, Reason, Fault, Mode, Profile, Missing, counts_as, takes_the_marker, Game, Part, no_part, ◌≡◌, ℕ, ◌+◌, List, [], ◌∷◌, ◌++◌, length, Option, None, Some, refl, sym, ap, ◌∙◌, append_assoc, append-nil, length-append, arith, take-append-add, Appends-trans, Appends-nil, refusal, text_next, gain, Gains, game_text, text_of_games as text_of, torn_for, Next, next, Progress, progress_with, progress_after, no_progress, Read, read_from, read, written_so_far as written, due, IsPrefix, DueGrows, Stops, refused_stop as refused, unwritten, StopsWriting, games_before, position_at_stop, ProbesAtStop, rules, subst, Appends}
+use Rattle.pgn_game.proofs.Words.{Kind, Token, Reason, Fault, Mode, Profile, Missing, counts_as, takes_the_marker, Game, Part, no_part, ◌≡◌, ℕ, ◌+◌, List, [], ◌∷◌, ◌++◌, length, Option, None, Some, refl, sym, ap, ◌∙◌, append_assoc, append-nil, length-append, arith, take-append-add, Appends-trans, Appends-nil, refusal, text_next, gain, Gains, game_text, text_of_games as text_of, torn_for, Next, next, Progress, progress_with, progress_after, no_progress, Read, read_from, read, written_so_far as written, due, IsPrefix, DueGrows, Stops, refused_stop as refused, unwritten, StopsWriting, games_before, position_at_stop, ProbesAtStop, rules, subst, Appends, torn, going, whole}
 use Rattle.pgn_game.proofs.tokens.NextGrows.{next_is}
 
 abbrev read_as : Progress → Option Fault → Read
@@ -17,7 +17,11 @@ read_from-test p b t ts = cc
 pub by_token : (p : Profile) (b : Progress) (t : Token) (ts : List Token) (P : Read → Type 0)
     → ((reason : Reason) → refusal p b.part t.kind ≡ Some reason → P (read_as b (Some (record { at = t.at; reason = reason }))))
     → (refusal p b.part t.kind ≡ None → P (read_from p (progress_after b t) ts)) → P (read_from p b (t ∷ ts))
-by_token p b t ts P rejected passes = search (rules, read_from-test)
+by_token p b t ts P rejected passes = subst P (sym (read_from-test p b t ts)) (by_test (refusal p b.part t.kind) refl)
+  where
+    by_test : (o : Option Reason) → refusal p b.part t.kind ≡ o → P (after_test p b t ts o)
+    by_test (Some reason) is = rejected reason is
+    by_test None is = passes is
 
 passed : (p : Profile) (b : Progress) (t : Token) (ts : List Token) (o : Option Reason) → (after_test p b t ts o).fault ≡ None → o ≡ None
 passed p b t ts (Some reason) e = absurd (cc)
@@ -39,11 +43,11 @@ after_those p b (x ∷ xs) t us e =
 
 pub read-passes : (p : Profile) (given : List Token) (t : Token) → (read p given).fault ≡ None → refusal p (read p given).progress.part t.kind ≡ None
     → read p (given ++ t ∷ []) ≡ read_as (progress_after (read p given).progress t) None
-read-passes p given t e none = search (rules, after_those)
+read-passes p given t e none = after_those p no_progress given t [] e ∙ ap (after_test p (read p given).progress t []) none
 
 pub read-refuses : (p : Profile) (given : List Token) (t : Token) (us : List Token) (reason : Reason) → (read p given).fault ≡ None → refusal p (read p given).progress.part t.kind ≡ Some reason
     → read p (given ++ t ∷ us) ≡ read_as (read p given).progress (Some (record { at = t.at; reason = reason }))
-read-refuses p given t us reason e some = search (rules, after_those)
+read-refuses p given t us reason e some = after_those p no_progress given t us e ∙ ap (after_test p (read p given).progress t us) some
 
 pub text_of-snoc : (p : Profile) (games : List Game) (g : Game) → text_of p (games ++ g ∷ []) ≡ text_of p games ++ game_text p g
 text_of-snoc p [] g = append-nil (game_text p g)
@@ -56,15 +60,19 @@ torn-none takes_the_marker mode = refl
 
 -- what is written when a token has led so far
 written_with : (p : Profile) (games : List Game) (nx : Next) → written p (progress_with games nx) ≡ text_of p games ++ text_next p nx
-written_with p games nx = search (rules, append-nil, text_of-snoc, torn-none)
+written_with p games (going after) = refl
+written_with p games (whole g) =
+    rw (torn-none p.missing_result p.mode) (append-nil (text_of p (games ++ g ∷ [])) ∙ text_of-snoc p games g)
 
 written-next : (p : Profile) (games : List Game) (part : Part) (k : Kind)
     → written p (progress_with games (next part k)) ≡ written p (record { games = games; part = part }) ++ gain p part k
-written-next p games part k = search (rules, append_assoc, next_is, written_with)
+written-next p games part k =
+    cc (written_with p games (next part k), next_is p part k, append_assoc (text_of p games) (torn p part) (gain p part k))
 
 pub due-passes : (p : Profile) (given : List Token) (t : Token) → (read p given).fault ≡ None → refusal p (read p given).progress.part t.kind ≡ None
     → due p (given ++ t ∷ []) ≡ due p given ++ gain p (read p given).progress.part t.kind
-due-passes p given t e none = search (rules, read-passes, written-next)
+due-passes p given t e none =
+    cc (read-passes p given t e none, written-next p (read p given).progress.games (read p given).progress.part t.kind)
 
 pub gains_none : {p : Profile} {given : List Token} {o : Option (List ℕ)} → Gains p given given o o
 gains_none {p} {given} {o} = record { text = []; due_for = sym (append-nil (due p given)); appended = Appends-nil o }

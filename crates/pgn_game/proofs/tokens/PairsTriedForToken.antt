@@ -1,7 +1,7 @@
 -- How many pairs were tried for a token: from what the reader counts to what is said of tokens.
 use Rattle.pgn_game.proofs.tokens.OneMoreToken.{goes_on}
 use Rattle.pgn_lexer.specs.Tokens as tokens
-use Rattle.pgn_game.proofs.Words.{Parts, Kind, Token, Mode, Full, Reduced, Reason, InMovetext, Profile, ◌≡◌, ◌⊎◌, inl, ℕ, ◌<◌, max, Bool, true, false, ◌||◌, List, [], ◌∷◌, ◌++◌, None, Some, is_some, Result, Ok, Err, refl, sym, subst, arith, IsTrue, drop-append_seam, drop-length, and_right, or_right, false≢true, Move, kind_of, TokenKind, Accepted, depth, refusal, is_at, is_number, is_outside_tag_pairs, is_score, levels_of_part, marker_of, position_in, Next, going, Progress, progress_after, read_from, read, Costs, CostsIf, CostsToFind, is_written, CostsToWrite, added, CostsToAdd, Tries, MostFrom, MostTried, Raises, has_move, ReaderState, Agrees, IsOpen, may_have_movetext, model_item, with_items, TriesItem, writes, LexReason, Annotation, Item, Part, rules}
+use Rattle.pgn_game.proofs.Words.{Parts, Kind, Token, Mode, Full, Reduced, Reason, InMovetext, Profile, ◌≡◌, ◌⊎◌, inl, ℕ, ◌<◌, max, Bool, true, false, ◌||◌, List, [], ◌∷◌, ◌++◌, None, Some, is_some, Result, Ok, Err, refl, sym, subst, arith, IsTrue, drop-append_seam, drop-length, and_right, or_right, false≢true, Move, kind_of, TokenKind, Accepted, depth, refusal, is_at, is_number, is_outside_tag_pairs, is_score, levels_of_part, marker_of, position_in, Next, going, Progress, progress_after, read_from, read, Costs, CostsIf, CostsToFind, is_written, CostsToWrite, added, CostsToAdd, Tries, MostFrom, MostTried, Raises, has_move, ReaderState, Agrees, IsOpen, may_have_movetext, model_item, with_items, TriesItem, writes, LexReason, Annotation, Item, Part, rules, not, length, drop, ap, ◌&&◌, ◌∙◌}
 use Rattle.pgn_game.specs.Game.{move}
 use Rattle.pgn_game.specs.MostTried as most_tried
 use Rattle.pgn_game.proofs.refusals.RefusalsInMovetext.{depth_is, position_is}
@@ -49,10 +49,13 @@ costs_nothing : {sought : Bool} (place : Parts) (s : List ℕ) → sought ≡ fa
 costs_nothing place s none = subst (λ (b : Bool). CostsIf b place s 0) (sym none) refl
 
 pub untried_in_pair : (part : Part) (k : Kind) → is_outside_tag_pairs part ≡ false → CostsToFind part k 0
-untried_in_pair part k h1 = search (rules, costs_nothing)
+untried_in_pair part (tokens.symbol s) inside =
+    costs_nothing (position_in part) s (ap (λ (b : Bool). b && not (is_score s || is_number s)) inside)
+untried_in_pair part _ inside = refl
 
 pub plain_untried : (part : Part) (s : List ℕ) → (is_score s || is_number s) ≡ true → CostsToFind part (tokens.symbol s) 0
-plain_untried part s plain = search (rules, and_right, costs_nothing)
+plain_untried part s plain =
+    costs_nothing (position_in part) s (and_right (is_outside_tag_pairs part) (not (is_score s || is_number s)) (ap not plain))
 
 pub number_untried : (part : Part) (s : List ℕ) → is_number s ≡ true → CostsToFind part (tokens.symbol s) 0
 number_untried part s number = plain_untried part s (or_right (is_score s) (is_number s) number)
@@ -72,7 +75,10 @@ written_alike Reduced deep i = refl
 
 item_held : (r : ReaderState) {to : Part} (i : Item) (n k : ℕ) → IsOpen r to → TriesItem r.profile.mode r.text i n k
     → CostsToWrite (is_written r.profile.mode (depth (levels_of_part to)) i) (position_in to) i n k
-item_held r i n k is h = search (rules, depth_is, position_is, written_alike)
+item_held r {to} i n k is h =
+    subst (λ (b : Bool). CostsToWrite b (position_in to) i n k)
+    (rw (depth_is r to is) (written_alike r.profile.mode (depth (levels_of_part to)) i))
+    (rw (position_is r to is) at h)
 
 untried : (b : Bool) (place : Parts) (i : Annotation) {n k : ℕ} → k ≡ n → CostsToWrite b place (model_item i) n k
 untried b place i h1 = search rules
@@ -93,16 +99,19 @@ tries_put p part to (Err reason) n k costs = inl costs
 -- an item other than a move, and none; and a token that leaves the items as they are
 adds_items : (p : Profile) (part : Part) (items : List Item) (n k : ℕ) → CostsToAdd p.mode (depth (levels_of_part part)) (position_in part) items n k
     → CostsToPut p part (going (with_items part items)) n k
-adds_items p part items n k costs = search (rules, drop-append_seam)
+adds_items p part items n k costs =
+    subst (λ (l : List Item). CostsToAdd p.mode (depth (levels_of_part part)) (position_in part) l n k) (sym (drop-append_seam part.items items)) costs
 
 pub adds_none : (p : Profile) (part : Part) → CostsToPut p part (going (with_items part [])) 0 0
 adds_none p part = adds_items p part [] 0 0 refl
 
 pub adds_item : (p : Profile) (i : Annotation) (part : Part) → CostsToPut p part (going (with_items part (model_item i ∷ []))) 0 0
-adds_item p i part = search (rules, adds_items, untried)
+adds_item p i part = adds_items p part (model_item i ∷ []) 0 0 (untried (is_written p.mode (depth (levels_of_part part)) (model_item i)) (position_in part) i {n = 0} {k = 0} refl)
 
 pub adds_same : (p : Profile) (part : Part) (to : Part) → to.items ≡ part.items → CostsToPut p part (going to) 0 0
-adds_same p part to same = search (rules, drop-length)
+adds_same p part to same =
+    subst (λ (l : List Item). CostsToAdd p.mode (depth (levels_of_part part)) (position_in part) l 0 0)
+    (sym (ap (drop (length part.items)) same ∙ drop-length part.items)) refl
 
 pub adds_move : (r : ReaderState) (part : Part) (m : Move) (n k : ℕ) → IsOpen r part → TriesItem r.profile.mode r.text (move m) n k
     → CostsToPut r.profile part (going (with_items part (move m ∷ []))) n k

@@ -2,14 +2,14 @@
 use Rattle.std.proofs.Math.Nat.{le-max_left}
 use Rattle.pgn_lexer.specs.declared.token.TokenKind.TheVariants as token_kinds
 use Rattle.pgn_game.specs.Game.{move}
-use Rattle.pgn_game.proofs.Words.{Parts, Played, Kind, Reason, Stage, Between, AfterTags, InMovetext, Profile, Item, Part, no_part, ◌≡◌, ◌⊎◌, ℕ, max, true, false, ◌||◌, [], ◌∷◌, List, length, drop, Option, None, Some, Bor, Result, Ok, Err, IsFalse, IsTrue, is_some, refl, sym, ap, subst, ◌∙◌, arith, or_parts, Move, legal, Appends-nil, AppendsFront, Device, kind_of, TokenKind, symbol, Accepted, More, Marker, marker_text, move_of, found_in, torn, refusal, is_at, is_comment, is_end, is_number, is_outside_tag_pairs, is_score, marker_of, position_if_move, position_in, Next, going, at_stage, in_text, next, gain, text_next, CostsToFind, Tries, TriesUnwritten, ReaderState, Agrees, Answers, as_written, IsStopped, is_outside_the_table, FinishesAtMarker, IsEntry, IsOpen, may_have_movetext, model_item, text_refusal, with_items, Annotation, CountsMove, EntersMovetext, Finds, FinishesNone, GoesTo, PutResult, PutsItems, Takes, TakesEntry, TakesOutside, TakesToken, TakesUnwritten, at_game_start, counting_probes, unused, rules, inl, inr, IllegalMove, false≢true, ok_or, with_next, Appends, plies_behind, plies_next, whole_plies, ◌+◌}
+use Rattle.pgn_game.proofs.Words.{Parts, Played, Kind, Reason, Stage, Between, AfterTags, InMovetext, Profile, Item, Part, no_part, ◌≡◌, ◌⊎◌, ℕ, max, true, false, ◌||◌, [], ◌∷◌, List, length, drop, Option, None, Some, Bor, Result, Ok, Err, IsFalse, IsTrue, is_some, refl, sym, ap, subst, ◌∙◌, arith, or_parts, Move, legal, Appends-nil, AppendsFront, Device, kind_of, TokenKind, symbol, Accepted, More, Marker, marker_text, move_of, found_in, torn, refusal, is_at, is_comment, is_end, is_number, is_outside_tag_pairs, is_score, marker_of, position_if_move, position_in, Next, going, at_stage, in_text, next, gain, text_next, CostsToFind, Tries, TriesUnwritten, ReaderState, Agrees, Answers, as_written, IsStopped, is_outside_the_table, FinishesAtMarker, IsEntry, IsOpen, may_have_movetext, model_item, text_refusal, with_items, Annotation, CountsMove, EntersMovetext, Finds, FinishesNone, GoesTo, PutResult, PutsItems, Takes, TakesEntry, TakesOutside, TakesToken, TakesUnwritten, at_game_start, counting_probes, unused, rules, inl, inr, IllegalMove, false≢true, ok_or, with_next, Appends, plies_behind, plies_next, whole_plies, ◌+◌, Finished}
 use Rattle.pgn_game.specs.ReaderState as reader_state
 use Rattle.pgn_game.proofs.refusals.RefusalsByStage.{begins_alike, comment_passes, drops_comments, passes_between}
 use Rattle.pgn_game.proofs.refusals.RefusalsInMovetext.{marker_whole, move_free, move_leads, move_refused as move_row_refused, position_is, refused_inside}
 use Rattle.pgn_game.proofs.refusals.ReaderToPart.{held_at, open_agrees, part_stage, position_in_pair, text_at}
 use Rattle.pgn_game.proofs.putting.ItemToReader.{to_items}
 use Rattle.pgn_game.proofs.putting.MarkerToReader.{to_game}
-use Rattle.pgn_game.proofs.putting.PairStepToReader.{puts_nothing}
+use Rattle.pgn_game.proofs.putting.PairStepToReader.{puts_nothing, no_torn}
 use Rattle.pgn_game.proofs.tokens.PairsTriedForToken.{CostsToPut, TriesPut, adds_item, adds_none, adds_same, costs_found, marker_untried, plain_untried, tries_put, untried_in_pair}
 use Rattle.pgn_game.specs.MostTried as most_tried
 
@@ -52,7 +52,8 @@ entry_refused old k reason o m inside why costs =
 module _ (old counted new : ReaderState) (part : Part) (k : Kind) (to : Next) (d : Device) (n more : ℕ) (same : counted ≡ counting_probes old n)
     (says : (refusal old.profile part k ≡ None) × (next part k ≡ to)) (finds : CostsToFind part k n) (most : new.most_probes ≡ max old.most_probes more) where
   gain_is : drop (length (torn (as_written counted.profile) part)) (text_next (as_written counted.profile) to) ≡ gain (as_written old.profile) part k
-  gain_is = cc
+  gain_is =
+      rw same (ap (λ (x : Next). drop (length (torn (as_written old.profile) part)) (text_next (as_written old.profile) x)) (sym says.1))
 
   tries : CostsToPut old.profile part to n more → Tries old.profile part k more
   tries costs = record { found = n; finds = finds; writes = search rules }
@@ -81,13 +82,17 @@ pub takes_put : (old : ReaderState) {counted new : ReaderState} (IsOf IsPut : Pa
 takes_put old IsOf IsPut k n more same puts finished closed most sub says finds costs = search (rules, answers, le-max_left)
 
 finishes_none : (k : Kind) (new : ReaderState) (r : Result Accepted Reason) → FinishesNone r → FinishesAtMarker k new r
-finishes_none k new r h1 = search rules
+finishes_none k new (Ok More) none = tt
+finishes_none k new (Ok Finished) none = absurd none
+finishes_none k new (Err reason) none = tt
 
 -- A step of a tag pair, and a token that changes nothing.
 pub takes_step : (old new : ReaderState) (k : Kind) (to : Part → Next) (o : Option (List ℕ)) (m : ℕ) → PutResult old (Agrees old) to new (Ok More) (unused o m)
     → new.most_probes ≡ old.most_probes → ((part : Part) → Agrees old part → (refusal old.profile part k ≡ None) × (next part k ≡ to part))
     → ((part : Part) → Agrees old part → CostsToFind part k 0) → ((part : Part) → CostsToPut old.profile part (to part) 0 0) → TakesToken old k new (Ok More) (unused o m)
-takes_step old new k to o m puts most says finds costs = search (rules, counting_none, takes_put)
+takes_step old new k to o m puts most says finds costs =
+    takes_put old (Agrees old) (Agrees old) k 0 0 (counting_none old) puts tt (λ at. refl) (omega (arith, most)) (λ part is. is) says finds
+    (λ part is. costs part)
 
 -- Tokens of a tag pair, at one of its stages.
 module _ (old new : ReaderState) (k : Kind) (stage : Stage) (at : old.stage ≡ stage) (inside : (q : Part) → is_outside_tag_pairs (at_stage stage q) ≡ false) where
@@ -106,7 +111,10 @@ module _ (old new : ReaderState) (k : Kind) (stage : Stage) (at : old.stage ≡ 
 
 pub comment_in_pair : (old new : ReaderState) (k : TokenKind) (stage : Stage) → old.stage ≡ stage → ((q : Part) → is_outside_tag_pairs (at_stage stage q) ≡ false) → new ≡ old
     → IsTrue (drops_comments stage) → true ≡ is_comment (kind_of k) → TakesUnwritten old (kind_of k) new (Ok More)
-comment_in_pair old new k stage at inside same drops is = search (rules, adds_same, comment_passes, puts_nothing, step_in_pair)
+comment_in_pair old new k stage at inside same drops is =
+    subst (λ (r : ReaderState). TakesUnwritten old (kind_of k) r (Ok More)) (sym same)
+    (step_in_pair old old (kind_of k) stage at inside going (puts_nothing old) refl (λ part. adds_same old.profile part part refl)
+    (λ part agrees. comment_passes old.profile k (sym at ∙ agrees.stage) drops is))
 
 -- Items other than moves, and none.
 puts_entry : {old new : ReaderState} (k : Kind) {items : List Item} {r : Result Accepted Reason} {d : Device} → PutsItems old items new r d
@@ -142,14 +150,20 @@ finds_alike _ n h = h
 
 module _ (p : Profile) (k : TokenKind) (row : refusal p no_pairs (kind_of k) ≡ refusal p no_part (kind_of k)) (leads : next no_pairs (kind_of k) ≡ next no_part (kind_of k)) where
   tries_alike : {n : ℕ} → Tries p no_pairs (kind_of k) n → Tries p no_part (kind_of k) n
-  tries_alike t = search (rules, finds_alike)
+  tries_alike t = record {
+    found = t.found;
+    finds = finds_alike k t.found t.finds;
+    writes = rw leads at (rw row at t.writes);
+  }
 
   unwritten_alike : {n : ℕ} → TriesUnwritten p no_pairs (kind_of k) n → TriesUnwritten p no_part (kind_of k) n
   unwritten_alike (most_tried.at_token t) = most_tried.at_token (tries_alike t)
   unwritten_alike {n} (most_tried.in_section before finds) = most_tried.in_section refl (finds_alike k n finds)
 
   gain_alike : gain (as_written p) no_pairs (kind_of k) ≡ gain (as_written p) no_part (kind_of k)
-  gain_alike = cc
+  gain_alike =
+      let w = as_written p in
+      rw (no_torn w no_pairs AfterTags refl (λ e. absurd (cc)) ∙ sym (no_torn w no_part Between refl (λ e. absurd (cc)))) (ap (λ (x : Next). drop (length (torn w no_part)) (text_next w x)) leads)
 
 answers_alike : (old new : ReaderState) (k : TokenKind) (r : Result Accepted Reason) (a b : Option (List ℕ)) → old.stage ≡ Between
     → refusal old.profile no_pairs (kind_of k) ≡ refusal old.profile no_part (kind_of k) → next no_pairs (kind_of k) ≡ next no_part (kind_of k)
@@ -225,17 +239,24 @@ bare_untried _ part is = refl
 
 pub passes_first : (old new : ReaderState) (k : TokenKind) (o : Option (List ℕ)) (m : ℕ) → new ≡ old → old.stage ≡ Between → (is_comment (kind_of k) || is_end (kind_of k)) ≡ true
     → TakesToken old (kind_of k) new (Ok More) (unused o m)
-passes_first old new k o m same at is = search (rules, adds_same, bare_untried, part_stage, passes_between, puts_nothing, takes_step)
+passes_first old new k o m same at is =
+    subst (λ (r : ReaderState). TakesToken old (kind_of k) r (Ok More) (unused o m)) (sym same)
+    (takes_step old old (kind_of k) going o m (puts_nothing old o m) refl (λ part agrees. passes_between old.profile k (part_stage old part Between agrees at) is)
+    (λ part agrees. bare_untried k part is) (λ part. adds_same old.profile part part refl))
 
 -- The move of a token that SetUp rejects.
 pub no_symbol_counted : (old : ReaderState) (k : TokenKind) → ((s : Bor (List ℕ)) → k ≡ token_kinds.Symbol s → ⊥) → CountsMove old (kind_of k) old
-no_symbol_counted old k h1 = search (rules, counting_none)
+no_symbol_counted old (token_kinds.Symbol s) other = absurd (other s refl)
+no_symbol_counted old k other = record { pairs = 0; counted = counting_none old; tried = λ part agrees. refl }
 
 pub plain_counted : (old : ReaderState) (s : List ℕ) → (is_score s || is_number s) ≡ true → CountsMove old (symbol s) old
-plain_counted old s plain = search (rules, counting_none, plain_untried)
+plain_counted old s plain = record { pairs = 0; counted = counting_none old; tried = λ part agrees. plain_untried part s plain }
 
 pub move_counted : (old found : ReaderState) (s : List ℕ) (r : Result Move Reason) (n : ℕ) → old.stage ≡ AfterTags → (is_score s || is_number s) ≡ false → Finds old s found r n → CountsMove old (symbol s) found
-move_counted old found s r n at plain finds = search (rules, costs_found, open_agrees, or_parts)
+move_counted old found s r n at plain finds =
+    let may = ap may_have_movetext at in
+    let tests = or_parts (is_score s) (is_number s) plain in
+    record { pairs = n; counted = finds.counted; tried = λ part agrees. costs_found s n (open_agrees agrees may) may tests.1 tests.0 finds.tried }
 
 -- The first token of a game is taken as after pairs, of which there is none.
 pub takes_outside_first : (old new : ReaderState) (k : TokenKind) (o : Option (Result Accepted Reason)) → old.stage ≡ Between → is_comment (kind_of k) ≡ false → is_end (kind_of k) ≡ false

@@ -1,7 +1,7 @@
 -- Steps behind the last piece.
 use Rattle.pgn_lexer.specs.Tokens as tokens
 use Rattle.pgn_lexer.specs.PartialToken.{refusal as refusal_token}
-use Rattle.pgn_game.proofs.Words.{Kind, Token, Stage, Between, Reason, Lexical, Fault, Profile, Pair, Item, Game, ◌≡◌, ℕ, ◌+◌, ◌<◌, ◌≤◌, Bool, true, false, List, [], ◌∷◌, ◌++◌, length, Option, None, Some, Result, Ok, Err, refl, sym, subst, append-nil, append_assoc, length-append, le_refl, arith, ◌*◌, ◌^◌, IsTrue, is_some, ◌↔◌, Device, tokens_of, Standing, waiting, HasLeft, IsNext, FinishGivesToken, Accepted, More, Finished, refusal, is_end, marker_of, next, progress_with, Progress, read, ReaderState, Answers, IsKnown, as_written, Stays, FinishesAtMarker, CountsWrites, SameGames, AfterStepAtEnd, StepAtEndAdvances, AtEndSoFar, StaysBetween, outcome_at, is_ended, games_after, none_at_end, fault_of_step, LexFault, Converter, IsSound, game_in_reader, game_in_reader_if, IsLastGame as IsLast, HasRead, Stands, Finishes, FinishesToFault, CountsFault, CountsReason, rules, ap, ◌∙◌, coming, none-some, false≢true, FaultAtEnd, FinishedGame}
+use Rattle.pgn_game.proofs.Words.{Kind, Token, Stage, Between, Reason, Lexical, Fault, Profile, Pair, Item, Game, ◌≡◌, ℕ, ◌+◌, ◌<◌, ◌≤◌, Bool, true, false, List, [], ◌∷◌, ◌++◌, length, Option, None, Some, Result, Ok, Err, refl, sym, subst, append-nil, append_assoc, length-append, le_refl, arith, ◌*◌, ◌^◌, IsTrue, is_some, ◌↔◌, Device, tokens_of, Standing, waiting, HasLeft, IsNext, FinishGivesToken, Accepted, More, Finished, refusal, is_end, marker_of, next, progress_with, Progress, read, ReaderState, Answers, IsKnown, as_written, Stays, FinishesAtMarker, CountsWrites, SameGames, AfterStepAtEnd, StepAtEndAdvances, AtEndSoFar, StaysBetween, outcome_at, is_ended, games_after, none_at_end, fault_of_step, LexFault, Converter, IsSound, game_in_reader, game_in_reader_if, IsLastGame as IsLast, HasRead, Stands, Finishes, FinishesToFault, CountsFault, CountsReason, rules, ap, ◌∙◌, coming, none-some, false≢true, FaultAtEnd, FinishedGame, Follows}
 use Rattle.pgn_game.specs.ConverterSteps.{finished_game as is_of_game}
 use Rattle.pgn_game.proofs.tokens.OneMoreToken.{gains_none, gains_more, stops_more, games_still, counts_still, position_still, read-passes}
 use Rattle.pgn_game.proofs.tokens.NoneBeforeFault.{none_before_fault}
@@ -45,7 +45,8 @@ end_at p _ ps name items h = absurd (none-some _ (sym h))
 
 between_after : {s : Stage} (ps : List Pair) (name : List ℕ) (items : List Item) (games : List Game) → s ≡ Between
     → (progress_with games (next (record { stage = s; pairs = ps; name = name; items = items }) tokens.end)).part.stage ≡ Between
-between_after ps name items games e = cc
+between_after {s} ps name items games e =
+    subst (λ s. (progress_with games (next (record { stage = s; pairs = ps; name = name; items = items }) tokens.end)).part.stage ≡ Between) (sym e) refl
 
 pub is_the_end : (k : Kind) → is_end k ≡ true → k ≡ tokens.end
 is_the_end tokens.end h = refl
@@ -59,7 +60,7 @@ end_passes p b k e none =
     (end_at p b.part.stage b.part.pairs b.part.name b.part.items (rw k_is at none)))
 
 pub let_go : (p : Profile) (c : Converter) (given : List Token) → HasRead p c given → HasRead p (record c { just_finished = None }) given
-let_go p c given h = search rules
+let_go p c given h = record { profile = h.profile; no_fault = h.no_fault; passes = h.passes; agrees = h.agrees; games = h.games; plies = h.plies; probed = h.probed; tried = h.tried; just_finished = tt }
 
 abbrev pub closed : Standing → ReaderState → ℕ → Bool → Result (Option Accepted) Fault → Converter
 closed l r games finished outcome = record (stepped l r games finished outcome) { just_finished = None }
@@ -114,7 +115,8 @@ closes_as p old u given t l new finished a c r has_read is games_is fault_is non
 
 pub closes_fault : (p : Profile) (old new : Converter) (u : List ℕ) (given : List Token) (f : LexFault) (o : Option (List ℕ)) → HasRead p old given
     → tokens_of u ≡ given ++ refusal_token f ∷ [] → new.reading ≡ old.reading → AfterStepAtEnd p u given old new (Err (record { at = f.at; reason = Lexical f.reason })) o o
-closes_fault p old new u given f o has_read whole same = search (rules, at_lexical)
+closes_fault p old new u given f o has_read whole same =
+    subst (λ ts. FaultAtEnd p given ts (record { at = f.at; reason = Lexical f.reason }) new.reading o o) (sym whole) (at_lexical f has_read same)
 
 -- the end has neither a fault of its own nor a failure
 pub fault_of_closed : (e : Bool) (outcome : Result (Option Accepted) Fault) → fault_of_step outcome ≡ fault_of_step (none_at_end e outcome)
@@ -216,7 +218,11 @@ not_just_finished true r h = absurd (cc)
 not_just_finished false r h = refl
 
 pub left_of : (p : Profile) (old : Converter) (u : List ℕ) (b : Option ℕ) (given : List Token) → Stands p old u b given → HasLeft old.lexer u given
-left_of p old u b given stands = search (rules, append-nil)
+left_of p old u b given stands = ap tokens_of (sym (append-nil u)) ∙ stands.lexer.tokens [] (follows_end b)
+  where
+    follows_end : (b : Option ℕ) → Follows b []
+    follows_end None = tt
+    follows_end (Some x) = tt
 
 -- before the first step behind the last piece
 pub closed_none : (p : Profile) (old : Converter) (u : List ℕ) (b : Option ℕ) (given : List Token) (o : Option (List ℕ)) → Stands p old u b given
@@ -226,11 +232,14 @@ closed_none p old u b given o stands = search (rules, gains_none, le_refl, left_
 module _ (p : Profile) (u : List ℕ) (given : List Token) (now new : Converter) (finished_game : Bool) (a c d : Option (List ℕ)) (so : AtEndSoFar p u given now finished_game a c) where
   same_length : (ts : List Token) → SameGames p so.tokens ts
       → IsTrue finished_game ↔ (length (read p given).progress.games < length (read p ts).progress.games)
-  same_length ts same = search rules
+  same_length ts same = subst (λ gs. IsTrue finished_game ↔ (length (read p given).progress.games < length {A = Game} gs)) (sym same) so.game
 
   held_still : (ts : List Token) → SameGames p so.tokens ts → StaysBetween now new
       → IsTrue finished_game → new.reading.stage ≡ Between → IsLast (Some (game_in_reader new.reading)) (read p ts).progress.games
-  held_still ts same stays h between = search rules
+  held_still ts same stays h between =
+      let kept = stays between in
+      subst (λ gs. IsLast (Some (game_in_reader new.reading)) gs) (sym same)
+      (rw kept (so.last h (rw kept at between)))
 
   pub closed_more : AfterStepAtEnd p u so.tokens now new (Ok (Some More)) c d → AtEndSoFar p u given new finished_game a d
   closed_more (t, took, same, stays) =

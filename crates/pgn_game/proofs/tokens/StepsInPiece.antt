@@ -5,11 +5,15 @@ use Rattle.pgn_game.proofs.tokens.OneMoreToken.{gains_none, gains_more, stops_mo
 use Rattle.pgn_game.proofs.tokens.AcceptedToConverter.{still_none, still_none-none}
 
 pub lets_go : (p : Profile) (old : Converter) (u : List ℕ) (b : Option ℕ) (given : List Token) → Stands p old u b given → Stands p (record old { just_finished = None }) u b given
-lets_go p old u b given stands = search rules
+lets_go p old u b given stands =
+    let h = stands.has_read in
+    record { lexer = stands.lexer; has_read = record { profile = h.profile; no_fault = h.no_fault; passes = h.passes; agrees = h.agrees; games = h.games; plies = h.plies; probed = h.probed; tried = h.tried; just_finished = tt } }
 
 -- what follows the first byte of the piece follows the byte known
 follows_from : (b : Option ℕ) (x : ℕ) (xs s : List ℕ) → Follows b (x ∷ xs) → Follows (Some x) s → Follows b s
-follows_from b x xs s h1 h2 = search rules
+follows_from None x xs s h k = tt
+follows_from (Some c) x xs [] h k = tt
+follows_from (Some c) x xs (y ∷ ys) h k = k ∙ h
 
 pub begins_with : {p : Profile} {c : Converter} {u : List ℕ} {b : Option ℕ} {given : List Token} (piece : List ℕ) → Stands p c u b given → Follows b piece → Stands p c u (next_at b piece 0) given
 begins_with piece h1 h2 = search (rules, follows_from)
@@ -38,7 +42,9 @@ decided_at_end u ts (inl e) = e
 decided_at_end u ts (inr (c, e, k)) = absurd (cc)
 
 decided_behind : (u piece : List ℕ) {ts : List Token} → IsDecided (u ++ take (length piece) piece) (drop (length piece) piece) ts → ts ≡ decided (u ++ piece)
-decided_behind u piece h = search (rules, decided_at_end, drop_of_length-le, le_refl, take_all)
+decided_behind u piece {ts} h =
+    let here = rw (take_all (length piece) piece (le_refl (length piece))) at h in
+    decided_at_end (u ++ piece) ts (rw (drop_of_length-le piece (le_refl (length piece))) at here)
 
 -- the piece is used whole, and no token ends in it
 pub fed_behind : (p : Profile) (u : List ℕ) (b : Option ℕ) (given : List Token) (piece : List ℕ) (at : ℕ) (now : Converter) (a c : Option (List ℕ)) → SoFar p u b given piece at now a c
@@ -48,7 +54,8 @@ fed_behind p u b given piece at now a c so end finished = search (rules, decided
 -- a converter in the piece stands before the rest
 pub stands_here : (p : Profile) (u : List ℕ) (b : Option ℕ) (given : List Token) (piece : List ℕ) (at : ℕ) (now : Converter) (a c : Option (List ℕ)) (so : SoFar p u b given piece at now a c)
     → at < length piece → Stands p now (u ++ take at piece) (first (drop at piece)) so.tokens
-stands_here p u b given piece at now a c so within = search (rules, next_within)
+stands_here p u b given piece at now a c so within =
+    subst (λ n. Stands p now (u ++ take at piece) n so.tokens) (next_within b piece at (omega arith)) so.stands
 
 module _ (p : Profile) (u : List ℕ) (b : Option ℕ) (given : List Token) (piece : List ℕ) (at : ℕ) (now : Converter) (a c d : Option (List ℕ)) (so : SoFar p u b given piece at now a c) (within : at < length piece) where
   some : 0 < length piece
@@ -56,11 +63,15 @@ module _ (p : Profile) (u : List ℕ) (b : Option ℕ) (given : List Token) (pie
 
   stands_further : {new : Converter} (used : ℕ) {ts : List Token} → Stands p new ((u ++ take at piece) ++ take used (drop at piece)) (first (drop used (drop at piece))) ts
       → Stands p new (u ++ take (at + used) piece) (first (drop (at + used) piece)) ts
-  stands_further used stands = search (rules, drop-drop, further)
+  stands_further {new} used {ts} stands =
+      subst (λ xs. Stands p new (u ++ take (at + used) piece) (first xs) ts) (drop-drop used at piece)
+      (rw (further u piece at used) at stands)
 
   decided_further : (used : ℕ) {ts : List Token} → IsDecided ((u ++ take at piece) ++ take used (drop at piece)) (drop used (drop at piece)) ts
       → IsDecided (u ++ take (at + used) piece) (drop (at + used) piece) ts
-  decided_further used h = search (rules, drop-drop, further)
+  decided_further used {ts} h =
+      subst (λ xs. IsDecided (u ++ take (at + used) piece) xs ts) (drop-drop used at piece)
+      (rw (further u piece at used) at h)
 
   pub so_far_more : (new : Converter) (used : ℕ) → AfterStep p (u ++ take at piece) so.tokens (drop at piece) new used (Ok (Some More)) c d → SoFar p u b given piece (at + used) new a d
   so_far_more new used (t, took, same) =
@@ -122,11 +133,18 @@ module _ (p : Profile) (u : List ℕ) (b : Option ℕ) (given : List Token) (pie
 -- ---- a front of the piece
 
 pub follows_front : (b : Option ℕ) (piece : List ℕ) (n : ℕ) → Follows b piece → Follows b (take n piece)
-follows_front b piece n h1 = search (rules, take_all)
+follows_front None piece n h = tt
+follows_front (Some c) [] n h = subst (Follows (Some c)) (sym (take_all n [] (omega arith))) tt
+follows_front (Some c) (x ∷ xs) zero h = tt
+follows_front (Some c) (x ∷ xs) (suc n) h = h
 
 -- a converter that stands before any byte stands before this one
 pub stands_before_any : {p : Profile} {c : Converter} {u : List ℕ} {b : Option ℕ} {given : List Token} → Stands p c u None given → Stands p c u b given
-stands_before_any stands = search rules
+stands_before_any stands =
+    record {
+      lexer = record { count = stands.lexer.count; before = stands.lexer.before; tokens = λ s k. stands.lexer.tokens s tt };
+      has_read = stands.has_read;
+    }
 
 before_more : {p : Profile} {c : Converter} {u : List ℕ} {given : List Token} (xs : List ℕ) (n : ℕ) → Stands p c u (first (take n xs)) given → Stands p c u (first xs) given
 before_more {p} {c} {u} {given} [] n stands = subst (λ ys. Stands p c u (first ys) given) (take_all n [] (omega arith)) stands

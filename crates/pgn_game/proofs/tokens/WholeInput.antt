@@ -1,6 +1,6 @@
 -- Conversions of whole inputs.
 use Rattle.std.specs.Io.KnownBytes.{Keeps, IsAtEnd}
-use Rattle.pgn_game.proofs.Words.{Token, InputTooLong, Fault, Profile, ◌≡◌, ℕ, false, ◌^◌, ◌≤◌, List, [], ◌++◌, length, Option, None, Some, Result, Ok, Err, IfSome, sym, ap, subst, ◌∙◌, append-nil, append_assoc, map, sum, Consumes-nil, Consumes-trans, tokens_of, decided, plies_of, whole_plies, Gains, IsConverted, IsTotalled, MostProbes, ReadsNoMore, FailsOn, Fails, AfterEnd, AfterConversion, AfterSlice, verdict_in, Games, games_of, HaveRead, NextGame, NoGame, NextStops, ReadSoFar, Appends, Consumes, Totals, Read, read, due, refused as is_refused, totals, verdict, verdict_of, Converter, HasRead, Stands, Stops, refused_stop as refused, unwritten, StopsWriting, StopsIn, at_token, too_long, FedFault, FedWhole, ReadsUpTo, Finishes, rules, no_progress}
+use Rattle.pgn_game.proofs.Words.{Token, InputTooLong, Fault, Profile, ◌≡◌, ℕ, false, ◌^◌, ◌≤◌, List, [], ◌++◌, length, Option, None, Some, Result, Ok, Err, IfSome, sym, ap, subst, ◌∙◌, append-nil, append_assoc, map, sum, Consumes-nil, Consumes-trans, tokens_of, decided, plies_of, whole_plies, Gains, IsConverted, IsTotalled, MostProbes, ReadsNoMore, FailsOn, Fails, AfterEnd, AfterConversion, AfterSlice, verdict_in, Games, games_of, HaveRead, NextGame, NoGame, NextStops, ReadSoFar, Appends, Consumes, Totals, Read, read, due, refused as is_refused, totals, verdict, verdict_of, Converter, HasRead, Stands, Stops, refused_stop as refused, unwritten, StopsWriting, StopsIn, at_token, too_long, FedFault, FedWhole, ReadsUpTo, Finishes, rules, no_progress, inl, refl, within}
 use Rattle.pgn_game.specs.GamesCalls as games_calls
 use Rattle.pgn_game.specs.Conversion as conversion
 use Rattle.pgn_game.proofs.tokens.OneMoreToken.{torn-none, gains_none, gains_more, stops_more, stops_from}
@@ -19,22 +19,35 @@ totalled t has games plies probes bound = search (rules, in_games, verdict_passe
 
 pub ended : {p : Profile} {u : List ℕ} {given : List Token} {new : Converter} {finished_game : _} (t : Totals) {a c : Option (List ℕ)} → Finishes p u given new finished_game a c
     → t.games ≡ new.games → t.plies ≡ whole_plies new.reading → t.most_probes ≡ new.reading.most_probes → t.most_probes ≤ 1040 → AfterEnd p u given (Ok t) a c
-ended t done games plies probes bound = search (rules, totalled)
+ended t done games plies probes bound =
+    let (is_verdict, most) = totalled t done.has_read games plies probes bound in
+    (is_verdict, most, done.gains)
 
 pub appended : {p : Profile} {tokens : List Token} {a c : Option (List ℕ)} → Gains p [] tokens a c → Appends a c (due p tokens)
-appended gains = search (rules, torn-none)
+appended {p} {tokens} {a} {c} gains =
+    let whole : due p tokens ≡ gains.text = rw (torn-none p.missing_result p.mode) at gains.due_for in
+    subst (Appends a c) (sym whole) gains.appended
 
 pub none_read : {p : Profile} {c : Converter} {left : Option (List ℕ)} → Stands p c [] None [] → c.is_finished ≡ false → HaveRead p left [] (games_of c []) []
-none_read stands not_finished = search rules
+none_read stands not_finished =
+    within (record { used = []; bytes = refl; stands = stands; at_limit = λ h. refl; decided = inl refl; not_finished = not_finished })
 
 pub read_none : {p : Profile} {now : Games} (left : Option (List ℕ)) {o : Option (List ℕ)} → HaveRead p left [] now [] → ReadSoFar p left left now o o
-read_none left have = search (rules, Consumes-nil, gains_none)
+read_none left have =
+    record { bytes = []; tokens = []; consumed = Consumes-nil left; have_read = have; gains = gains_none }
 
 pub keeps_consumed : (o m n : Option (List ℕ)) (u : List ℕ) → Consumes o m u → Keeps m n → Consumes o n u
-keeps_consumed o m n u h1 h2 = search rules
+keeps_consumed None m n u h k = tt
+keeps_consumed (Some xs) None n u h k = absurd h
+keeps_consumed (Some xs) (Some ys) None u h k = absurd k
+keeps_consumed (Some xs) (Some ys) (Some zs) u h k = rw k h
 
 no_more : {p : Profile} {u : List ℕ} {tokens : List Token} {a c : Option (List ℕ)} → tokens ≡ decided u → (read p tokens).fault ≡ None → Gains p [] tokens a c → ReadsNoMore p u a c
-no_more is_decided passes gains = search (rules, appended)
+no_more is_decided passes gains =
+    record {
+      passes = rw is_decided at passes;
+      appended = rw is_decided at (appended gains);
+    }
 
 -- the tokens up to a rejected one decide the verdict
 refused_text : {p : Profile} (s : List ℕ) {tokens : List Token} (more : List Token) {f : Fault} {a c : Option (List ℕ)} → tokens_of s ≡ tokens ++ more → (read p tokens).fault ≡ Some f → Gains p [] tokens a c
@@ -49,10 +62,14 @@ further_writing : {p : Profile} {given tokens : List Token} (more : List Token) 
 further_writing more w = search (rules, append_assoc, appended)
 
 pub known_left : (o n : Option (List ℕ)) (u : List ℕ) (P : List ℕ → Type 0) → Consumes o n u → ((rest : List ℕ) → P (u ++ rest)) → IfSome o P
-known_left o n u P h1 h2 = search rules
+known_left None n u P h all = tt
+known_left (Some s) None u P h all = absurd h
+known_left (Some s) (Some rest) u P h all = subst P (sym h) (all rest)
 
 pub known_whole : (o n : Option (List ℕ)) (u : List ℕ) (P : List ℕ → Type 0) → Consumes o n u → IsAtEnd n → P u → IfSome o P
-known_whole o n u P h1 h2 h3 = search (rules, append-nil)
+known_whole None n u P h end here = tt
+known_whole (Some s) None u P h end here = absurd h
+known_whole (Some s) (Some rest) u P h end here = subst P (sym (h ∙ ap (λ l. u ++ l) end ∙ append-nil u)) here
 
 -- ---- games read in turn
 
@@ -72,7 +89,8 @@ module _ (p : Profile) (left_old left left_new : Option (List ℕ)) (now : Games
       (record { converted = (is_verdict, appended (gains_more so.gains end.gains)); probes = most })
 
   pub games_short : {new : Games} → NoGame p so.bytes so.tokens left left_new new c d → IfSome left_old (λ s. length s ≤ 2 ^ 62)
-  games_short end = search (rules, all, known_whole)
+  games_short end =
+      known_whole left_old left_new (so.bytes ++ end.more) (λ s. length s ≤ 2 ^ 62) (all end.more end.consumed) end.have_read_all.at_end end.have_read_all.short
 
   pub games_stop : {most : ℕ} {f : Fault} → NextStops p so.bytes so.tokens left left_new most c d f → Fails p left_old left_new a d f
   games_stop (games_calls.at_token g more consumed to) = by_stops (stops_more so.gains to.stops)
