@@ -1,6 +1,6 @@
 -- The movetext that is written, of all items or of the moves outside variations: it spells the
 -- items that are kept, and these are written in the same way again.
-use Rattle.pgn_game.proofs.Words.{◌≡◌, ℕ, suc, ◌+◌, Bool, true, false, cond, List, [], ◌∷◌, ◌++◌, map, refl, ap, subst, ◌∙◌, arith, ◌==◌, filter, fold, IsTrue, AllByRecursion, ne_eqb, filter-append, fold-append, LeavesPosition, is_position, TheOneMoveIsRead, WrittenMoveIsSymbol, WrittenMoveIsRead, NumbersAreSymbols, IsSoundKind, CommentsClose, Parts, Kind, Mode, Full, Reduced, Item, Profile, Level, Levels, levels_after, first_level, depth, here, main_moves, outermost, without_last, SpellsText, no_more, token, move, variation, new_level, Placed, placed_from, is_main_move, written_items, tokens_from, tokens_out, rules}
+use Rattle.pgn_game.proofs.Words.{◌≡◌, ℕ, suc, ◌+◌, Bool, true, false, cond, List, [], ◌∷◌, ◌++◌, map, refl, ap, subst, ◌∙◌, arith, ◌==◌, filter, fold, IsTrue, AllByRecursion, ne_eqb, filter-append, fold-append, LeavesPosition, is_position, TheOneMoveIsRead, WrittenMoveIsSymbol, WrittenMoveIsRead, NumbersAreSymbols, IsSoundKind, CommentsClose, Parts, Kind, Mode, Full, Reduced, Item, Profile, Level, Levels, levels_after, first_level, here, main_moves, outermost, without_last, SpellsText, no_more, token, move, variation, new_level, Placed, placed_from, is_main_move, written_items, tokens_from, tokens_out, rules}
 use Rattle.pgn_lexer.specs.Tokens as tokens
 use Rattle.pgn_game.specs.Game as game
 use Rattle.pgn_game.proofs.AllOfJoined.{all_behind}

@@ -105,7 +105,7 @@ closes p old u given t l new finished a c e (Err why) is_e has_read left profile
     subst (λ ts. FaultAtEnd p given ts (record { at = t.at; reason = why }) new a c) (sym rest.1)
     (at_fault p old given t l new finished has_read profile probes written rest.0 stopped)
 
--- what the converter has at hand is that
+-- the same of what the calls of the step returned
 pub closes_as : (p : Profile) (old : Converter) (u : List ℕ) (given : List Token) (t : Token) (l : Standing) (new : ReaderState) (finished : Bool) (a c : Option (List ℕ)) {e : Bool} (r : Result Accepted Reason)
     {games : ℕ} {finished_game : Option FinishedGame} {fault : Option Fault} {outcome after : Result (Option Accepted) Fault}
     → HasRead p old given → outcome ≡ outcome_at t.at r → games ≡ games_after outcome old.games → fault ≡ fault_of_step outcome → finished_game ≡ None → e ≡ is_end t.kind → after ≡ none_at_end e outcome

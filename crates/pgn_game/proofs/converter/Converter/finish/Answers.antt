@@ -1,4 +1,4 @@
-use Rattle.pgn_game.proofs.Words.{rules, arith, le_refl, le_trans, refl, sym, ap, subst, ◌∙◌, Ok, None, Some, none-some, Converter, Stands, AfterStepAtEnd, Err, same_Some, false≢true}
+use Rattle.pgn_game.proofs.Words.{arith, le_refl, le_trans, refl, sym, ap, subst, ◌∙◌, Ok, None, Some, none-some, Converter, Stands, AfterStepAtEnd, Err, same_Some, false≢true}
 use Rattle.pgn_game.proofs.ReaderFitsInMemory.{fits_reader, fits_alike}
 use Rattle.pgn_game.proofs.tokens.StepsAtEnd.{none_by_fault, sound_at_none, sound_finished, left_of, closed_none, closed_more, closed_game, closed_end, closed_fault}
 use Rattle.pgn_game.proofs.tokens.StepsInPiece.{counts_step}

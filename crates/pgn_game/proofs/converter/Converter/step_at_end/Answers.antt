@@ -1,5 +1,5 @@
-use Rattle.pgn_game.proofs.Words.{arith, sym, ap, subst, refl, ◌∙◌, Converter, HasRead, game_in_reader_if, kind_of, HasLeft, is_end, games_after, outcome_at, none_at_end, StepAtEndAdvances, IsKnown}
-use Rattle.pgn_game.proofs.tokens.StepsAtEnd.{sound_behind_fault, closes_sooner, closes, closes_as, closes_fault, left_by, not_just_finished, fault_of_closed, games_of_closed, counts_closed, counts_token, nearer_by, sound_behind}
+use Rattle.pgn_game.proofs.Words.{arith, sym, ap, subst, refl, ◌∙◌, Converter, HasRead, game_in_reader_if, HasLeft, games_after, StepAtEndAdvances, IsKnown}
+use Rattle.pgn_game.proofs.tokens.StepsAtEnd.{sound_behind_fault, closes_sooner, closes, closes_as, closes_fault, left_by, not_just_finished, fault_of_closed, games_of_closed, counts_closed, nearer_by, sound_behind}
 use Rattle.pgn_game.proofs.tokens.AcceptedToConverter.{written_known}
 use Rattle.pgn_game.proofs.ReaderFitsInMemory.{fits_reader}
 use Rattle.pgn_game.proofs.converter.Converter.step_at_end.Goals as goal
