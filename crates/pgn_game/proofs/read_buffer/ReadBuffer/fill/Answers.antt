@@ -1,4 +1,5 @@
 use Rattle.pgn_game.proofs.Words.{◌≡◌, ℕ, ◌-◌, ◌<◌, ◌≤◌, List, ◌++◌, length, take, drop, Option, Consumes, arith, length-take-le, take-append-le, ap, ◌∙◌}
+use Rattle.std.proofs.lemmas.Grind.{common_steps}
 use Rattle.pgn_game.proofs.read_buffer.ReadBuffer.fill.Goals as goal
 
 -- the bytes that a read gave are those of the buffer
@@ -11,3 +12,15 @@ given a b count front back within some consumed =
 
 pub returns-in-Ok-clause-fills : goal.returns-in-Ok-clause-fills
 returns-in-Ok-clause-fills g c = given _ _ c.in-Ok.count _ _ c.in-Ok.ensures.bound.0 c.in-Ok.count-test.1 c.in-Ok.ensures.bytes.0
+
+pub returns-in-Ok-clause-fits : goal.returns-in-Ok-clause-fits
+returns-in-Ok-clause-fits g c = grind (arith, common_steps)
+
+pub invariant_of-self : goal.invariant_of-self
+invariant_of-self g c = grind (arith, common_steps)
+
+pub invariant_of-self-in-Ok-eq0 : goal.invariant_of-self-in-Ok-eq0
+invariant_of-self-in-Ok-eq0 g c = grind (arith, common_steps)
+
+pub invariant_of-self-in-Ok : goal.invariant_of-self-in-Ok
+invariant_of-self-in-Ok g c = grind (arith, common_steps)
