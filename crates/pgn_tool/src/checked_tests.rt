@@ -3,13 +3,16 @@ ghost use Rattle.std.specs.Prelude.{◌≡◌, true};
 ghost use Rattle.pgn_tool.specs.CheckedRun.{is_checked};
 
 use crate::checked::run_checked;
-use crate::devices::{Page, Reader, Trouble, memory, whole};
+use crate::devices::{
+    Page, Reader, Trouble, failing_memory, holds_at, is_cut_off, memory, says_unread, whole,
+};
 use crate::standard::StandardOutput;
-use crate::stream_tests::{Ran, UNKNOWN, UNWRITTEN, WON};
+use crate::stream_tests::{Failing, Ran, UNKNOWN, UNWRITTEN, WON, failing_pages, left_by};
 use pgn_arguments::Task;
 use pgn_game::{Inlet, Outlet};
 use std::alloc::Global;
 use std::io::ErrorKind;
+use std::process::Abort;
 
 /// Two games without a Result tag, of 8 bytes. Each marker is known at the byte behind it.
 const TWO: &[u8] = b"1-0 0-1\n";
@@ -42,18 +45,13 @@ fn task(alloc: Global, reduced: bool) -> Task
     Task::Checked { reduced, file }
 }
 
-fn run(task: &Task, first: Reader, second: Reader, out: Page, err: Page) -> Ran
-    requires { is_checked task.now ≡ true }
-{
+fn run(reduced: bool, first: Reader, second: Reader, out: Page, err: Page) -> Ran {
+    let task = task(out.alloc, reduced);
     let mut out = StandardOutput::new(out.alloc, out);
     let mut err = Outlet::new(err);
     let (mut first, mut second) = (Inlet::new(first), Inlet::new(second));
-    let status = run_checked(task, &mut first, &mut second, &mut out, &mut err);
-    Ran {
-        status,
-        out: out.outlet.into_inner(),
-        err: err.into_inner(),
-    }
+    let status = run_checked(&task, &mut first, &mut second, &mut out, &mut err);
+    left_by(status, out, err)
 }
 
 /// Two texts, and what a run of them leaves: the status, standard output, standard error.
@@ -149,10 +147,14 @@ fn different() -> &'static [Row] {
     DIFFERENT
 }
 
+/// A run of `TWO`, read twice, to this standard output.
+fn run_to(alloc: Global, out: Page) -> Ran {
+    run(false, whole(TWO), whole(TWO), out, memory(alloc))
+}
+
 /// A run to memory.
 fn run_in_memory(alloc: Global, reduced: bool, first: Reader, second: Reader) -> Ran {
-    let task = task(alloc, reduced);
-    run(&task, first, second, memory(alloc), memory(alloc))
+    run(reduced, first, second, memory(alloc), memory(alloc))
 }
 
 /// Whether a run leaves what the row says.
@@ -161,13 +163,16 @@ fn leaves(alloc: Global, row: &Row) -> bool {
     run_in_memory(alloc, false, whole(first), whole(second)).is(status, out, err)
 }
 
+fn leave_all(rt: &impl Abort, alloc: Global, rows: &[Row]) {
+    for row in rows {
+        holds_at(rt, leaves(alloc, row), &(row.0, row.1));
+    }
+}
+
 #[test]
 fn writes_games_that_are_read_twice(rt: HostRuntime) {
-    for rows in [rows(), different()] {
-        for row in rows {
-            assert!(rt; leaves(rt.alloc(), row), "{:?} and {:?}", row.0, row.1);
-        }
-    }
+    leave_all(&rt, rt.alloc(), rows());
+    leave_all(&rt, rt.alloc(), different());
 }
 
 #[test]
@@ -210,42 +215,30 @@ fn failing(fails_at: usize, error: ErrorKind, most: usize) -> Reader {
 }
 
 // Whether a run reports that one source had a read that failed after so many bytes.
-fn reports(alloc: Global, ran: &Ran, bytes: usize) -> bool {
-    format!(in alloc; "byte {bytes}: input cannot be read\n").is_ok_and(|line| ran.is(
-        1,
-        written(bytes),
-        line.as_bytes(),
-    ))
+fn reports(ran: &Ran, bytes: usize) -> bool {
+    ran.has(1, written(bytes)) && says_unread(&ran.err, bytes)
 }
 
-// Whether a run reports that this read of the first source fails, in pieces of so many bytes. The
-// last read finds the end.
-fn reports_first(alloc: Global, error: ErrorKind, most: usize, fails_at: usize) -> bool {
-    let first = failing(fails_at, error, most);
-    let second = failing(usize::MAX, error, most);
-    let ran = run_in_memory(alloc, false, first, second);
-    let bytes = fails_at.saturating_mul(most);
-    if bytes >= TWO.len().saturating_add(most) {
+// Whether a run reports a read that failed after so many bytes, or ends where there are no more.
+fn ends_at(ran: &Ran, bytes: usize, end: usize) -> bool {
+    if bytes >= end {
         return ran.is(0, BOTH, b"");
     }
-    reports(alloc, &ran, bytes.min(TWO.len()))
+    reports(ran, bytes.min(TWO.len()))
 }
 
-// The same of the second source, whose end is not read.
-fn reports_second(alloc: Global, error: ErrorKind, most: usize, fails_at: usize) -> bool {
-    let first = failing(usize::MAX, error, most);
-    let second = failing(fails_at, error, most);
-    let ran = run_in_memory(alloc, false, first, second);
-    let bytes = fails_at.saturating_mul(most);
-    if bytes >= TWO.len() {
-        return ran.is(0, BOTH, b"");
-    }
-    reports(alloc, &ran, bytes)
-}
-
-// Whether a run reports this read of each source in turn.
+// Whether a run reports that this read of the first source fails, in pieces of so many bytes, and
+// that this one of the second does. The last read of the first finds the end, which is not read of
+// the second.
 fn reports_both(alloc: Global, error: ErrorKind, most: usize, fails_at: usize) -> bool {
-    reports_first(alloc, error, most, fails_at) && reports_second(alloc, error, most, fails_at)
+    let (failing, other) = (
+        failing(fails_at, error, most),
+        failing(usize::MAX, error, most),
+    );
+    let bytes = fails_at.saturating_mul(most);
+    let first = run_in_memory(alloc, false, failing, other);
+    let second = run_in_memory(alloc, false, other, failing);
+    ends_at(&first, bytes, TWO.len().saturating_add(most)) && ends_at(&second, bytes, TWO.len())
 }
 
 #[test]
@@ -254,7 +247,7 @@ fn tells_each_read_of_two_that_fails(rt: HostRuntime) {
         for most in [1, 7] {
             for fails_at in 0..11usize {
                 let is_right = reports_both(rt.alloc(), error, most, fails_at);
-                assert!(rt; is_right, "read {fails_at} of {most} bytes");
+                holds_at(&rt, is_right, &(error, most, fails_at));
             }
         }
     }
@@ -268,26 +261,13 @@ fn stopped_at(ran: &Ran, fails_at: usize) -> bool {
     } else {
         b"byte 4: output cannot be written\n"
     };
-    BOTH.starts_with(taken)
-        && taken.len() < BOTH.len()
-        && ran.is(1, taken, line)
-        && ran.out.calls == fails_at.saturating_add(1)
+    is_cut_off(taken, BOTH) && ran.is(1, taken, line) && ran.out.calls == fails_at.saturating_add(1)
 }
 
 // Whether a run reports each write that fails, of pieces of so many bytes.
 fn reports_writes(alloc: Global, trouble: Trouble, most: usize) -> bool {
     for fails_at in 0..1000usize {
-        let mut out = memory(alloc);
-        out.fails_at = fails_at;
-        out.trouble = trouble;
-        out.most = most;
-        let ran = run(
-            &task(alloc, false),
-            whole(TWO),
-            whole(TWO),
-            out,
-            memory(alloc),
-        );
+        let ran = run_to(alloc, failing_memory(alloc, fails_at, trouble, most));
         if ran.out.calls <= fails_at {
             let some = if most == 1 { BOTH.len() } else { 1 };
             return ran.is(0, BOTH, b"") && fails_at >= some;
@@ -304,34 +284,45 @@ fn tells_each_write_of_two_that_fails(rt: HostRuntime) {
     for trouble in [Trouble::Broken, Trouble::Interrupted, Trouble::TakesNone] {
         let is_right = reports_writes(rt.alloc(), trouble, 1)
             && reports_writes(rt.alloc(), trouble, usize::MAX);
-        assert!(rt; is_right, "{trouble:?}");
+        holds_at(&rt, is_right, &trouble);
     }
 }
 
-// Whether a run of this text, read twice, leaves this, where a flush or this write to standard
-// error fails.
-fn ends(alloc: Global, text: &'static [u8], fails: (bool, usize), left: Left) -> bool {
-    let (flush_fails, err_at) = fails;
-    let (status, written, told) = left;
-    let mut out = memory(alloc);
-    out.flush_fails = flush_fails;
-    let mut err = memory(alloc);
-    err.fails_at = err_at;
-    let ran = run(&task(alloc, false), whole(text), whole(text), out, err);
-    ran.is(status, written, told)
+/// A text, and what a run of it, read twice, leaves: the status, standard output, standard error.
+type Twice = (&'static [u8], u8, &'static [u8], &'static [u8]);
+
+// Whether a run leaves what the row says, where this fails.
+fn ends(alloc: Global, row: &Twice, failing: Failing) -> bool {
+    let (text, status, written, told) = *row;
+    let (out, err) = failing_pages(alloc, failing);
+    run(false, whole(text), whole(text), out, err).is(status, written, told)
 }
 
-/// What a run leaves: the status, standard output, standard error.
-type Left = (u8, &'static [u8], &'static [u8]);
+/// Runs of which each flush fails: only the first fault is reported.
+const UNFLUSHED: &[Twice] = &[
+    (TWO, 1, BOTH, UNWRITTEN),
+    (b"1-0 e9", 1, WON, b"byte 4: not a move\n"),
+];
+
+/// Runs that can report nothing. A failure of standard error changes no status.
+const SILENT: &[Twice] = &[(TWO, 0, BOTH, b""), (b"1-0 e9", 1, WON, b"")];
+
+fn unflushed() -> &'static [Twice] {
+    UNFLUSHED
+}
+
+fn silent() -> &'static [Twice] {
+    SILENT
+}
+
+fn end_all(rt: &impl Abort, alloc: Global, rows: &[Twice], failing: Failing) {
+    for row in rows {
+        holds_at(rt, ends(alloc, row, failing), &row.0);
+    }
+}
 
 #[test]
 fn tells_a_flush_that_fails_after_two(rt: HostRuntime) {
-    let (alloc, bad) = (rt.alloc(), b"1-0 e9");
-    let (unflushed, untold) = ((true, usize::MAX), (false, 0));
-    assert!(rt; ends(alloc, TWO, unflushed, (1, BOTH, UNWRITTEN)));
-    // Only the first fault is reported.
-    assert!(rt; ends(alloc, bad, unflushed, (1, WON, b"byte 4: not a move\n")));
-    // A failure of standard error changes no status.
-    assert!(rt; ends(alloc, TWO, untold, (0, BOTH, b"")));
-    assert!(rt; ends(alloc, bad, untold, (1, WON, b"")));
+    end_all(&rt, rt.alloc(), unflushed(), (usize::MAX, true, usize::MAX));
+    end_all(&rt, rt.alloc(), silent(), (usize::MAX, false, 0));
 }

@@ -2,7 +2,19 @@
 ghost use Rattle.std.specs.Prelude.{◌≡◌, IfOk};
 
 use std::alloc::Global;
+use std::fmt::Debug;
 use std::io::{self, ErrorKind, Read, Write};
+use std::process::Abort;
+
+/// Ends the test unless this holds, and says of which case.
+pub fn holds_at<C: Debug>(rt: &impl Abort, holds: bool, case: &C) {
+    assert!(rt; holds, "at {case:?}");
+}
+
+/// Whether these bytes are a front of the text, and not the whole of it.
+pub fn is_cut_off(taken: &[u8], text: &[u8]) -> bool {
+    text.starts_with(taken) && taken.len() < text.len()
+}
 
 /// What a call does that does not do its work.
 #[derive(Clone, Copy, Debug, PartialEq, Eq)]
@@ -39,6 +51,13 @@ pub struct Page {
     /// How many bytes had been taken at the last flush.
     pub flushed: usize,
     pub flush_fails: bool,
+}
+
+impl Page {
+    /// Whether the page has this text, and was flushed once, behind it.
+    pub fn has_flushed(&self, text: &[u8]) -> bool {
+        self.taken.as_slice() == text && self.flushes == 1 && self.flushed == self.taken.len()
+    }
 }
 
 impl Write for Page {
@@ -78,8 +97,25 @@ pub fn memory(alloc: Global) -> Page {
     }
 }
 
+/// A writer of which this call fails, in this way. It takes so many bytes at most.
+pub fn failing_memory(alloc: Global, fails_at: usize, trouble: Trouble, most: usize) -> Page {
+    let mut page = memory(alloc);
+    page.fails_at = fails_at;
+    page.trouble = trouble;
+    page.most = most;
+    page
+}
+
+/// Whether the page has the report of a read that failed at this byte.
+pub fn says_unread(page: &Page, byte: usize) -> bool {
+    let alloc = page.alloc;
+    format!(in alloc; "byte {byte}: input cannot be read\n").is_ok_and(|line| {
+        page.taken.as_slice() == line.as_bytes()
+    })
+}
+
 /// A reader of a text in pieces of so many bytes, which fails at one of its calls.
-#[derive(Drop)]
+#[derive(Clone, Copy)]
 pub struct Reader {
     pub text: &'static [u8],
     pub calls: usize,

@@ -10,6 +10,7 @@ ghost use Rattle.pgn_tool.specs.Files.{whole_files};
 ghost use Rattle.pgn_tool.specs.Machine.{holds};
 ghost use Rattle.pgn_tool.specs.SplitGames.{Logs, texts_in};
 
+use crate::devices::holds_at;
 use crate::file_system::FileSystem;
 use crate::files::GameFiles;
 use crate::folder::Folder;
@@ -64,17 +65,18 @@ impl<A: Abort + Copy + Drop> Sink for Paper<A> {
 pub struct Memory<A> {
     rt: A,
     alloc: Global,
-    name: String,
-    text: Vec<u8>,
+    name: &'static str,
+    text: &'static [u8],
     steps: Vec<Step>,
 }
 
 impl<A: Abort + Copy + Drop> Memory<A> {
-    fn new(rt: A, alloc: Global, name: String, text: Vec<u8>) -> Memory<A> {
+    /// A file system whose file `games.pgn` has this text.
+    fn new(rt: A, alloc: Global, text: &'static [u8]) -> Memory<A> {
         Memory {
             rt,
             alloc,
-            name,
+            name: "games.pgn",
             text,
             steps: Vec::new(alloc),
         }
@@ -109,9 +111,9 @@ impl<A: Abort + Copy + Drop> FileSystem for Memory<A> {
     type Out = Paper<A>;
 
     ghost holding = { λ m path.
-        if bytes_eq path (string_bytes m.name) then holds (Some m.text.items) else missing };
+        if bytes_eq path m.name.now then holds (Some m.text.now) else missing };
 
-    ghost refuses = { λ m path _. not (bytes_eq path (string_bytes m.name)) };
+    ghost refuses = { λ m path _. not (bytes_eq path m.name.now) };
 
     ghost log = { λ m. Some (map (elim [
       | Entered folder ↦ other (entered (string_bytes folder))
@@ -120,11 +122,11 @@ impl<A: Abort + Copy + Drop> FileSystem for Memory<A> {
     ]) m.steps.items) };
 
     fn open(&self, path: &str) -> Result<VecDeque<u8>, SystemFault> {
-        if path != self.name.as_str() {
+        if path != self.name {
             return Err(SystemFault::Refused);
         }
         let mut file = VecDeque::new(self.alloc);
-        let kept = file.write_all(self.text.as_slice());
+        let kept = file.write_all(self.text);
         assert!(self.rt; kept.is_ok());
         Ok(file)
     }
@@ -147,13 +149,13 @@ impl<A: Abort + Copy + Drop> FileSystem for Memory<A> {
     }
 }
 
-/// A machine in memory.
+/// A machine in memory, with this file system.
 #[derive(Drop)]
-struct Machine<A: Abort + Copy + Drop> {
-    input: StandardInput<Memory<A>, VecDeque<u8>>,
-    second: StandardInput<Memory<A>, VecDeque<u8>>,
+struct Machine<S: FileSystem> {
+    input: StandardInput<S, VecDeque<u8>>,
+    second: StandardInput<S, VecDeque<u8>>,
     out: StandardOutput<Vec<u8>>,
-    folder: Folder<Memory<A>>,
+    folder: Folder<S>,
     err: Outlet<Vec<u8>>,
 }
 
@@ -166,16 +168,34 @@ struct Ran {
     err: Vec<u8>,
 }
 
-/// A run with these words, where `games.pgn` has the text and standard input is empty.
+/// What is run on a machine: the program with these words, or the two calls below.
+#[derive(Drop)]
+enum Errand {
+    Words(Vec<String>),
+    ExportAndSplit(String),
+}
+
+/// A run where `games.pgn` has the text and standard input is empty.
+fn run_errand<A: Abort + Copy + Drop>(
+    rt: A,
+    alloc: Global,
+    errand: Errand,
+    text: &'static [u8],
+) -> Ran {
+    let mut machine = machine_of(rt, alloc, text);
+    let status = carry_out_on(&mut machine, alloc, errand);
+    left_by(status, machine)
+}
+
+/// A run of the program with these words.
 fn run_words<A: Abort + Copy + Drop>(
     rt: A,
     alloc: Global,
     words: &[&str],
-    text: &[u8],
+    text: &'static [u8],
 ) -> Result<Ran, AllocError> {
     let owned = owned_words(alloc, words)?;
-    let machine = machine_of(rt, alloc, text)?;
-    Ok(run_on(machine, alloc, owned))
+    Ok(run_errand(rt, alloc, Errand::Words(owned), text))
 }
 
 pub fn owned_words(alloc: Global, words: &[&str]) -> Result<Vec<String>, AllocError> {
@@ -186,27 +206,54 @@ pub fn owned_words(alloc: Global, words: &[&str]) -> Result<Vec<String>, AllocEr
     Ok(owned)
 }
 
-fn run_on<A: Abort + Copy + Drop>(machine: Machine<A>, alloc: Global, words: Vec<String>) -> Ran {
-    let Machine {
-        mut input,
-        mut second,
-        mut out,
-        mut folder,
-        mut err,
-    } = machine;
-    let status = run(
+fn carry_out_on<S: FileSystem>(machine: &mut Machine<S>, alloc: Global, errand: Errand) -> u8
+    requires { machine.old.out.outlet.failures < 2 ^ 64 - 1 }
+{
+    carry_out(
         alloc,
-        Ok(words),
-        &mut input,
-        &mut second,
-        &mut out,
-        &mut folder,
-        &mut err,
-    );
+        errand,
+        &mut machine.input,
+        &mut machine.second,
+        &mut machine.out,
+        &mut machine.folder,
+        &mut machine.err,
+    )
+}
+
+/// Carries out the errand, and returns the status: of an export and a split 0 if both have it.
+fn carry_out<I: Input, O: Output, F: GameFolder, E: Sink>(
+    alloc: Global,
+    errand: Errand,
+    input: &mut I,
+    second: &mut I,
+    out: &mut O,
+    files: &mut F,
+    err: &mut E,
+) -> u8
+    requires { O.failures out.old < 2 ^ 64 - 1 }
+{
+    match errand {
+        Errand::Words(words) => run(alloc, Ok(words), input, second, out, files, err),
+        Errand::ExportAndSplit(name) => {
+            let exported = export_named(name, input, second, out, files, err);
+            exported | split_text(two(), files, err)
+        }
+    }
+}
+
+/// What a run with this status left.
+fn left_by<A: Abort + Copy + Drop>(status: u8, machine: Machine<Memory<A>>) -> Ran {
+    let Machine {
+        out,
+        folder,
+        err,
+        ..
+    } = machine;
+    let Memory { steps, .. } = folder.system;
     Ran {
         status,
         out: out.outlet.into_inner(),
-        steps: folder.system.steps,
+        steps,
         err: err.into_inner(),
     }
 }
@@ -215,32 +262,20 @@ fn run_on<A: Abort + Copy + Drop>(machine: Machine<A>, alloc: Global, words: Vec
 fn machine_of<A: Abort + Copy + Drop>(
     rt: A,
     alloc: Global,
-    text: &[u8],
-) -> Result<Machine<A>, AllocError>
-    ensures fresh { IfOk result (λ machine. machine.out.outlet.failures ≡ 0) }
+    text: &'static [u8],
+) -> Machine<Memory<A>>
+    ensures fresh { result.out.outlet.failures ≡ 0 }
 {
-    let input = memory_of(rt, alloc, text)?;
-    let second = memory_of(rt, alloc, text)?;
-    let system = memory_of(rt, alloc, text)?;
-    Ok(Machine {
+    let input = Memory::new(rt, alloc, text);
+    let second = Memory::new(rt, alloc, text);
+    let system = Memory::new(rt, alloc, text);
+    Machine {
         input: StandardInput::new(input, VecDeque::new(alloc)),
         second: StandardInput::new(second, VecDeque::new(alloc)),
         out: StandardOutput::new(alloc, Vec::new(alloc)),
         folder: Folder { system },
         err: Outlet::new(Vec::new(alloc)),
-    })
-}
-
-/// A file system whose file `games.pgn` has this text.
-fn memory_of<A: Abort + Copy + Drop>(
-    rt: A,
-    alloc: Global,
-    text: &[u8],
-) -> Result<Memory<A>, AllocError> {
-    let mut copy = Vec::new(alloc);
-    copy.extend_from_slice(text)?;
-    let name = String::from_str(alloc, "games.pgn")?;
-    Ok(Memory::new(rt, alloc, name, copy))
+    }
 }
 
 impl Ran {
@@ -251,20 +286,28 @@ impl Ran {
 
 /// Whether these files were made in this folder, each closed before the next.
 fn made(steps: &[Step], folder: &str, files: &[(&str, &[u8])]) -> bool {
-    let [Step::Entered(path), rest @ ..] = steps else {
-        return false;
-    };
-    let mut left = rest;
-    for (name, text) in files {
-        let [Step::Made(made), Step::Closed(kept), rest @ ..] = left else {
-            return false;
-        };
-        if made.as_str() != *name || kept.as_slice() != *text {
+    let mut index = 1usize;
+    for file in files {
+        if !has_file(steps.get(index..).unwrap_or_default(), file) {
             return false;
         }
-        left = rest;
+        index = index.saturating_add(2);
     }
-    path.as_str() == folder && left.is_empty()
+    has_entered(steps.first(), folder) && steps.len() == index
+}
+
+/// Whether the first step is to enter this folder.
+fn has_entered(step: Option<&Step>, folder: &str) -> bool {
+    matches!(step, Some(Step::Entered(path)) if path.as_str() == folder)
+}
+
+/// Whether the first steps are to make this file and to close it.
+fn has_file(steps: &[Step], file: &(&str, &[u8])) -> bool {
+    matches!(
+        steps,
+        [Step::Made(name), Step::Closed(text), ..]
+            if name.as_str() == file.0 && text.as_slice() == file.1
+    )
 }
 
 /// Two games, of 30 bytes. The second one has White, so its tag section is not all unknown.
@@ -319,13 +362,20 @@ fn files() -> &'static [(&'static str, &'static [u8])] {
     FILES
 }
 
-#[test]
-fn carries_out_each_task(rt: HostRuntime) -> Result<(), Fail> {
-    for &(words, text, out) in rows() {
-        let ran = run_words(rt, rt.alloc(), words, text)?;
-        assert!(rt; ran.is(0, out, b""), "at {words:?}");
+/// Whether a run leaves what the row says.
+fn leaves<A: Abort + Copy + Drop>(rt: A, alloc: Global, row: &Row) -> bool {
+    let (words, text, out) = *row;
+    match run_words(rt, alloc, words, text) {
+        Ok(ran) => ran.is(0, out, b""),
+        Err(AllocError) => false,
     }
-    Ok(())
+}
+
+#[test]
+fn carries_out_each_task(rt: HostRuntime) {
+    for row in rows() {
+        holds_at(&rt, leaves(rt, rt.alloc(), row), &row.0);
+    }
 }
 
 #[test]
@@ -357,46 +407,17 @@ fn export_named<I: Input, O: Output, F: GameFolder, E: Sink>(
 }
 
 /// Splits a text. If the status is 0, each of its games has a file, with its export text.
-fn split_text<F: GameFiles, E: Sink>(text: &'static [u8], files: &mut F, err: &mut E) -> u8
+fn split_text<F: GameFiles, E: Sink>(text: &[u8], files: &mut F, err: &mut E) -> u8
     ensures { result ≡ 0 → Logs (F.log files.old) (F.log files.new)
         (whole_files 0 (texts_in (tokens_of text.now))) }
 {
     split_to(&mut Inlet::new(text), files, err)
 }
 
-/// An export and a split on a machine. The status is 0 if both have it.
-fn export_and_split<A: Abort + Copy + Drop>(machine: Machine<A>, name: String) -> Ran
-    requires { machine.out.outlet.failures < 2 ^ 64 - 1 }
-{
-    let Machine {
-        mut input,
-        mut second,
-        mut out,
-        mut folder,
-        mut err,
-    } = machine;
-    let exported = export_named(
-        name,
-        &mut input,
-        &mut second,
-        &mut out,
-        &mut folder,
-        &mut err,
-    );
-    let split = split_text(two(), &mut folder, &mut err);
-    Ran {
-        status: exported | split,
-        out: out.outlet.into_inner(),
-        steps: folder.system.steps,
-        err: err.into_inner(),
-    }
-}
-
 #[test]
 fn meets_the_clauses_about_bytes(rt: HostRuntime) -> Result<(), Fail> {
     let name = String::from_str(rt.alloc(), "games.pgn")?;
-    let machine = machine_of(rt, rt.alloc(), two())?;
-    let ran = export_and_split(machine, name);
+    let ran = run_errand(rt, rt.alloc(), Errand::ExportAndSplit(name), two());
     assert!(rt; ran.is(0, both(), b"") && ran.steps.len() == 4);
     Ok(())
 }

@@ -1,7 +1,7 @@
 //! Runs of the program on a machine in memory.
 ghost use Rattle.std.specs.Prelude.{◌≡◌};
 
-use crate::devices::{Page, Reader, memory, whole};
+use crate::devices::{Page, Reader, holds_at, memory, whole};
 use crate::files::{CreateFault, GameFiles};
 use crate::machine::{GameFolder, Input, Output, SystemFault};
 use crate::memory_tests::owned_words;
@@ -9,7 +9,7 @@ use crate::run::run;
 use crate::stream_tests::{UNKNOWN, WON};
 use pgn_game::{Inlet, Outlet, ReadFailed, Sink, Source, WriteFault};
 use std::alloc::{AllocError, Global};
-use std::test::Fail;
+use std::process::Abort;
 
 const COUNTED: &[u8] = b"games: 2, plies: 0\n";
 
@@ -37,13 +37,17 @@ fn new_desk(is_second: bool) -> Desk {
     }
 }
 
-impl Desk {
-    fn give(&mut self, text: &'static [u8]) -> Result<(), SystemFault>
-        ensures given { result ≡ Ok tt }
-        ensures fresh { self.new.inlet.failures ≡ 0 }
-    {
-        self.inlet = Inlet::new(whole(text));
-        Ok(())
+/// The text of the file with this name.
+fn file_named(name: &str, is_second: bool) -> Result<&'static [u8], SystemFault> {
+    match name {
+        "two.pgn" => Ok(b"* *"),
+        "bad.pgn" => Ok(b"* 1. e4 e5 2. Ke3 *"),
+        "won.pgn" => Ok(b"1-0"),
+        "other.pgn" => Ok(if is_second { b"0-1" } else { b"1-0" }),
+        "once.pgn" if !is_second => Ok(b"1-0"),
+        "tight.pgn" if !is_second => Ok(b"1-0"),
+        "short" | "tight.pgn" => Err(SystemFault::NoMemory),
+        _ => Err(SystemFault::Refused),
     }
 }
 
@@ -68,17 +72,9 @@ impl Input for Desk {
     ghost refuses = { λ _ _ _. true };
 
     fn open(&mut self, name: &str) -> Result<(), SystemFault> {
-        match name {
-            "two.pgn" => self.give(b"* *"),
-            "bad.pgn" => self.give(b"* 1. e4 e5 2. Ke3 *"),
-            "won.pgn" => self.give(b"1-0"),
-            "other.pgn" if self.is_second => self.give(b"0-1"),
-            "other.pgn" => self.give(b"1-0"),
-            "once.pgn" if !self.is_second => self.give(b"1-0"),
-            "tight.pgn" if !self.is_second => self.give(b"1-0"),
-            "short" | "tight.pgn" => Err(SystemFault::NoMemory),
-            _ => Err(SystemFault::Refused),
-        }
+        let text = file_named(name, self.is_second)?;
+        self.inlet = Inlet::new(whole(text));
+        Ok(())
     }
 }
 
@@ -245,6 +241,9 @@ const ROWS: &[Row] = &[
     (&["p", "split", "other"], 1, b"", 0, UNWRITTEN),
     (&["p", "split", "short"], 3, b"", 0, SHORT),
     (&["p", "--version"], 0, b"pgn_tool 0.1.0\n", 0, b""),
+];
+
+const CHECKED: &[Row] = &[
     (&["p", "export", "--checked", "won.pgn"], 0, WON, 0, b""),
     (
         &["p", "export", "--checked", "bad.pgn"],
@@ -290,6 +289,10 @@ fn rows() -> &'static [Row] {
     ROWS
 }
 
+fn checked() -> &'static [Row] {
+    CHECKED
+}
+
 fn shorts() -> &'static [Row] {
     SHORTS
 }
@@ -301,25 +304,49 @@ fn leaves(alloc: Global, row: &Row, has_memory: bool) -> Result<bool, AllocError
     Ok(ran.is(status, out, files, err) && ran.buffers <= 1)
 }
 
-#[test]
-fn reads_the_file_or_standard_input(rt: HostRuntime) -> Result<(), Fail> {
-    for (rows, has_memory) in [(rows(), true), (shorts(), false)] {
-        for row in rows {
-            let is_right = leaves(rt.alloc(), row, has_memory)?;
-            assert!(rt; is_right, "at {:?}, with memory: {has_memory}", row.0);
-        }
+fn leave_all(rt: &impl Abort, alloc: Global, rows: &[Row], has_memory: bool) {
+    for row in rows {
+        let is_right = matches!(leaves(alloc, row, has_memory), Ok(true));
+        holds_at(rt, is_right, &(row.0, has_memory));
     }
-    Ok(())
 }
 
 #[test]
-fn refuses_words(rt: HostRuntime) -> Result<(), Fail> {
-    let unread = run_words(rt.alloc(), Err(SystemFault::Refused), true);
-    let short = run_words(rt.alloc(), Err(SystemFault::NoMemory), true);
-    let other = call(rt.alloc(), &["p", "convert"], true)?;
-    assert!(rt; unread.is(2, b"", 0, b"arguments cannot be read\n") && short.is(3, b"", 0, SHORT));
-    let told = other.err.taken.as_slice();
-    assert!(rt; told.starts_with(b"error: "));
-    assert!(rt; other.is(2, b"", 0, told) && other.buffers == 0);
-    Ok(())
+fn reads_the_file_or_standard_input(rt: HostRuntime) {
+    leave_all(&rt, rt.alloc(), rows(), true);
+    leave_all(&rt, rt.alloc(), checked(), true);
+    leave_all(&rt, rt.alloc(), shorts(), false);
+}
+
+// Whether a run without words ends in this way.
+fn ends(alloc: Global, fault: SystemFault, status: u8, err: &[u8]) -> bool {
+    run_words(alloc, Err(fault), true).is(status, b"", 0, err)
+}
+
+// Whether a run is refused: standard error begins with `error: `.
+fn is_refused(ran: &Ran) -> bool {
+    let told = ran.err.taken.as_slice();
+    told.starts_with(b"error: ") && ran.is(2, b"", 0, told) && ran.buffers == 0
+}
+
+// Whether these words are refused.
+fn refuses(alloc: Global, words: &[&str]) -> bool {
+    match call(alloc, words, true) {
+        Ok(ran) => is_refused(&ran),
+        Err(AllocError) => false,
+    }
+}
+
+#[test]
+fn refuses_words(rt: HostRuntime) {
+    assert!(rt;
+        ends(
+            rt.alloc(),
+            SystemFault::Refused,
+            2,
+            b"arguments cannot be read\n"
+        )
+    );
+    assert!(rt; ends(rt.alloc(), SystemFault::NoMemory, 3, SHORT));
+    assert!(rt; refuses(rt.alloc(), &["p", "convert"]));
 }

@@ -1,12 +1,12 @@
 //! Splits into files in memory, with devices that fail.
-use crate::devices::{Page, Reader, Trouble, memory, whole};
+use crate::devices::{Page, Reader, Trouble, holds_at, is_cut_off, memory, says_unread, whole};
 use crate::files::{CreateFault, GameFiles};
 use crate::folder::file_name;
 use crate::split::split_to;
 use pgn_game::{Inlet, Outlet};
 use std::alloc::Global;
 use std::io::ErrorKind;
-use std::test::Fail;
+use std::process::Abort;
 
 const UNKNOWN: &[u8] =
     b"[Event \"?\"]\n[Site \"?\"]\n[Date \"????.??.??\"]\n[Round \"?\"]\n[White \"?\"]\n[Black \"?\"]\n[Result \"*\"]\n\n*\n\n";
@@ -167,12 +167,18 @@ fn rows() -> &'static [Row] {
     ROWS
 }
 
+// Whether a split to this shelf leaves what the row says.
+fn leaves(made: &mut Shelf, row: &Row) -> bool {
+    let (text, status, files, err) = *row;
+    let ran = run(whole(text), made);
+    ran.is(status, err) && made.has(files)
+}
+
 #[test]
 fn splits(rt: HostRuntime) {
-    for &(text, status, files, err) in rows() {
+    for row in rows() {
         let mut made = empty_shelf(rt.alloc());
-        let ran = run(whole(text), &mut made);
-        assert!(rt; ran.is(status, err) && made.has(files), "at {text:?}");
+        holds_at(&rt, leaves(&mut made, row), &row.0);
     }
 }
 
@@ -181,8 +187,7 @@ fn splits(rt: HostRuntime) {
 fn makes_no_file_without_a_game(rt: HostRuntime) {
     let mut made = empty_shelf(rt.alloc());
     made.refused_at = 0;
-    let ran = run(whole(b"; nothing\n"), &mut made);
-    assert!(rt; ran.is(0, b"") && made.has(&[]) && made.creates == 0);
+    assert!(rt; leaves(&mut made, &(b"; nothing\n", 0, &[], b"")) && made.creates == 0);
 }
 
 // The fault of a file that is refused, by how many files were made before it.
@@ -195,12 +200,16 @@ fn unmade(files: usize) -> &'static [u8] {
 }
 
 // Whether a split of `* *` whose second file is not made, for this reason, ends as it should.
-fn stops_at_the_second(alloc: Global, refusal: CreateFault, status: u8, err: &[u8]) -> bool {
+fn stops_at_the_second(
+    alloc: Global,
+    refusal: CreateFault,
+    status: u8,
+    err: &'static [u8],
+) -> bool {
     let mut made = empty_shelf(alloc);
     made.refused_at = 1;
     made.refusal = refusal;
-    let ran = run(whole(b"* *"), &mut made);
-    ran.is(status, err) && made.has(&[UNKNOWN])
+    leaves(&mut made, &(b"* *", status, &[UNKNOWN], err))
 }
 
 #[test]
@@ -210,24 +219,33 @@ fn stops_at_the_second_file(rt: HostRuntime) {
     assert!(rt; stops_at_the_second(rt.alloc(), CreateFault::NoMemory, 3, b"out of memory\n"));
 }
 
-// Nothing is tried again.
+// What a split of `THREE` leaves, whose file is refused after so many: the status and the fault.
+fn refused(refusal: CreateFault, files: usize) -> (u8, &'static [u8]) {
+    match refusal {
+        _ if files == 3 => (0, b""),
+        CreateFault::NoMemory => (3, b"out of memory\n"),
+        CreateFault::Refused => (1, unmade(files)),
+    }
+}
+
+// Whether a split reports that this file is not made. Nothing is tried again.
+fn reports_file(alloc: Global, refusal: CreateFault, refused_at: usize) -> bool {
+    let mut made = empty_shelf(alloc);
+    made.refused_at = refused_at;
+    made.refusal = refusal;
+    let ran = run(whole(three()), &mut made);
+    let (status, err) = refused(refusal, refused_at);
+    ran.is(status, err)
+        && made.has(front(full(), refused_at))
+        && made.creates == refused_at.saturating_add(1).min(3)
+}
+
 #[test]
 fn reports_each_file_that_is_not_made(rt: HostRuntime) {
     for refused_at in 0..4usize {
         for refusal in [CreateFault::Refused, CreateFault::NoMemory] {
-            let mut made = empty_shelf(rt.alloc());
-            made.refused_at = refused_at;
-            made.refusal = refusal;
-            let ran = run(whole(three()), &mut made);
-            let is_told = match refusal {
-                _ if refused_at == 3 => ran.is(0, b""),
-                CreateFault::NoMemory => ran.is(3, b"out of memory\n"),
-                CreateFault::Refused => ran.is(1, unmade(refused_at)),
-            };
-            let is_right = is_told
-                && made.has(front(full(), refused_at))
-                && made.creates == refused_at.saturating_add(1).min(3);
-            assert!(rt; is_right, "{refusal:?} at {refused_at}");
+            let is_right = reports_file(rt.alloc(), refusal, refused_at);
+            holds_at(&rt, is_right, &(refusal, refused_at));
         }
     }
 }
@@ -244,19 +262,26 @@ fn place(files: usize, taken: usize) -> &'static [u8] {
     }
 }
 
+// Whether the page of the game behind so many has a front of its text, and no call after this one.
+fn is_cut_at(page: &Page, earlier: usize, fails_at: usize) -> bool {
+    match full().get(earlier) {
+        Some(text) => {
+            is_cut_off(page.taken.as_slice(), text) && page.calls == fails_at.saturating_add(1)
+        }
+        None => false,
+    }
+}
+
 // Whether the split stopped at this write: the files before it are whole, and its own has a front
 // of its text. Nothing is tried again.
 fn stopped_at(ran: &Ran, made: &mut Shelf, fails_at: usize) -> bool {
     let earlier = made.pages.len().saturating_sub(1);
-    let (Some(last), Some(text)) = (made.pages.pop(), full().get(earlier)) else {
+    let Some(last) = made.pages.pop() else {
         return false;
     };
-    let taken = last.taken.as_slice();
-    ran.is(1, place(earlier, taken.len()))
-        && made.has(front(full(), earlier))
-        && text.starts_with(taken)
-        && taken.len() < text.len()
-        && last.calls == fails_at.saturating_add(1)
+    made.has(front(full(), earlier))
+        && is_cut_at(&last, earlier, fails_at)
+        && ran.is(1, place(earlier, last.taken.len()))
 }
 
 // How many writes, of so many bytes at most, were met with a failure that was reported; none where
@@ -291,7 +316,7 @@ fn reports_writes(alloc: Global, trouble: Trouble) -> bool {
 #[test]
 fn reports_each_write_that_fails(rt: HostRuntime) {
     for trouble in [Trouble::Broken, Trouble::Interrupted, Trouble::TakesNone] {
-        assert!(rt; reports_writes(rt.alloc(), trouble), "{trouble:?}");
+        holds_at(&rt, reports_writes(rt.alloc(), trouble), &trouble);
     }
 }
 
@@ -299,8 +324,7 @@ fn reports_each_write_that_fails(rt: HostRuntime) {
 fn writes_a_byte_at_a_time(rt: HostRuntime) {
     let mut made = empty_shelf(rt.alloc());
     made.most = 1;
-    let ran = run(whole(three()), &mut made);
-    assert!(rt; ran.is(0, b"") && made.has(full()));
+    assert!(rt; leaves(&mut made, &(three(), 0, full(), b"")));
 }
 
 // The first texts.
@@ -319,13 +343,31 @@ fn whole_games(bytes: usize) -> usize {
     }
 }
 
-// Whether the page has a tag section alone.
-fn has_head(page: &Page) -> bool {
-    page.taken.as_slice() == HEAD
+// Takes the page of a game that was cut off, and returns whether it has a tag section alone.
+fn drops_head(made: &mut Shelf) -> bool {
+    match made.pages.pop() {
+        Some(page) => page.taken.as_slice() == HEAD,
+        None => false,
+    }
+}
+
+// Whether a split of which this read failed says so, and has made the files of the whole games.
+fn ends_at_read(ran: &Ran, made: &Shelf, fails_at: usize) -> bool {
+    made.has(front(full(), whole_games(fails_at)))
+        && ran.status == 1
+        && says_unread(&ran.err, fails_at)
 }
 
 // Read a byte at a time: the marker at byte 8 is read before byte 9, that at 10 before 11, and
 // the tag section at 12 when the number before the period has ended.
+fn ends_at(ran: &Ran, made: &mut Shelf, fails_at: usize) -> bool {
+    match fails_at {
+        22 => ran.is(0, b"") && made.has(full()),
+        2..=8 | 14..=20 => drops_head(made) && ends_at_read(ran, made, fails_at),
+        _ => ends_at_read(ran, made, fails_at),
+    }
+}
+
 fn reports_read(alloc: Global, error: ErrorKind, fails_at: usize) -> bool {
     let failing = Reader {
         text: three(),
@@ -336,17 +378,7 @@ fn reports_read(alloc: Global, error: ErrorKind, fails_at: usize) -> bool {
     };
     let mut made = empty_shelf(alloc);
     let ran = run(failing, &mut made);
-    if fails_at == 22 {
-        return ran.is(0, b"") && made.has(full());
-    }
-    let is_torn = !matches!(fails_at, 2..9 | 14..21)
-        || made.pages.pop().is_some_and(|page| has_head(&page));
-    is_torn
-        && made.has(front(full(), whole_games(fails_at)))
-        && format!(in alloc; "byte {fails_at}: input cannot be read\n").is_ok_and(|line| ran.is(
-            1,
-            line.as_bytes(),
-        ))
+    ends_at(&ran, &mut made, fails_at)
 }
 
 #[test]
@@ -354,7 +386,7 @@ fn reports_each_read_that_fails(rt: HostRuntime) {
     for error in [ErrorKind::BrokenPipe, ErrorKind::Interrupted] {
         for fails_at in 0..23usize {
             let is_right = reports_read(rt.alloc(), error, fails_at);
-            assert!(rt; is_right, "{error:?} at read {fails_at}");
+            holds_at(&rt, is_right, &(error, fails_at));
         }
     }
 }
@@ -368,11 +400,15 @@ const NAMES: &[(u64, &str)] = &[
     (u64::MAX, "18446744073709551615.pgn"),
 ];
 
+fn is_named(rt: &impl Abort, number: u64, name: &str) {
+    let made = file_name(number);
+    let made = made.as_str();
+    holds_at(rt, made == name, &(number, made));
+}
+
 #[test]
-fn names_files(rt: HostRuntime) -> Result<(), Fail> {
+fn names_files(rt: HostRuntime) {
     for &(number, name) in NAMES {
-        let made = file_name(number);
-        assert!(rt; made.as_str() == name, "{made} for {number}");
+        is_named(&rt, number, name);
     }
-    Ok(())
 }

@@ -2,7 +2,9 @@
 ghost use Rattle.std.specs.Prelude.{◌≡◌, true};
 ghost use Rattle.pgn_tool.specs.TaskRun.{is_for_stream};
 
-use crate::devices::{Page, Reader, Trouble, memory, whole};
+use crate::devices::{
+    Page, Reader, Trouble, failing_memory, holds_at, is_cut_off, memory, says_unread, whole,
+};
 use crate::machine::Output;
 use crate::standard::StandardOutput;
 use crate::stream::run_stream;
@@ -11,7 +13,7 @@ use pgn_game::{Inlet, Outlet};
 use pgn_layout::write_all;
 use std::alloc::Global;
 use std::io::ErrorKind;
-use std::test::Fail;
+use std::process::Abort;
 
 /// Two games, of 27 bytes: their markers stand at 12 and 25.
 const TWO: &[u8] = b"[Event \"a\"] * [Site \"b\"]\n*\n";
@@ -102,19 +104,18 @@ pub struct Ran {
 }
 
 impl Ran {
+    /// Whether standard output was flushed once, behind its text.
+    pub fn has(&self, status: u8, out: &[u8]) -> bool {
+        self.status == status && self.out.has_flushed(out)
+    }
+
     pub fn is(&self, status: u8, out: &[u8], err: &[u8]) -> bool {
-        self.status == status
-            && self.out.taken.as_slice() == out
-            && self.err.taken.as_slice() == err
-            && self.out.flushes == 1
-            && self.out.flushed == self.out.taken.len()
+        self.has(status, out) && self.err.taken.as_slice() == err
     }
 }
 
-fn run(job: Job, reader: Reader, out: Page, err: Page) -> Ran {
-    let mut out = StandardOutput::new(out.alloc, out);
-    let mut err = Outlet::new(err);
-    let status = run_stream(&job.task(), &mut Inlet::new(reader), &mut out, &mut err);
+/// What a run with this status left.
+pub fn left_by(status: u8, out: StandardOutput<Page>, err: Outlet<Page>) -> Ran {
     Ran {
         status,
         out: out.outlet.into_inner(),
@@ -122,11 +123,17 @@ fn run(job: Job, reader: Reader, out: Page, err: Page) -> Ran {
     }
 }
 
+fn run(job: Job, reader: Reader, out: Page, err: Page) -> Ran {
+    let mut out = StandardOutput::new(out.alloc, out);
+    let mut err = Outlet::new(err);
+    let status = run_stream(&job.task(), &mut Inlet::new(reader), &mut out, &mut err);
+    left_by(status, out, err)
+}
+
 /// A task, a text, and what the run of it leaves: the status, standard output, standard error.
 type Row = (Job, &'static [u8], u8, &'static [u8], &'static [u8]);
 
-const ROWS: &[Row] = &[
-    // export
+const EXPORTS: &[Row] = &[
     (Job::Export, b"", 0, b"", b""),
     (Job::Export, b"*", 0, UNKNOWN, b""),
     (Job::Export, TWO, 0, BOTH, b""),
@@ -147,7 +154,9 @@ const ROWS: &[Row] = &[
         b"byte 9: unexpected end of input\n",
     ),
     (Job::Reduced, b"[A \"1\"] *", 0, UNKNOWN, b""),
-    // check
+];
+
+const CHECKS: &[Row] = &[
     (Job::Check, b"", 0, b"games: 0, plies: 0\n", b""),
     (Job::Check, TWO, 0, b"games: 2, plies: 0\n", b""),
     (
@@ -178,7 +187,9 @@ const ROWS: &[Row] = &[
         b"",
         b"byte 9: unexpected end of input\n",
     ),
-    // list
+];
+
+const LISTS: &[Row] = &[
     (Job::List, b"", 0, b"", b""),
     (Job::List, TWO, 0, BOTH_LINES, b""),
     (
@@ -234,16 +245,50 @@ const ROWS: &[Row] = &[
 ];
 
 /// The rows, each table behind a call of its own, so that no proof of a loop sees all their bytes.
-fn rows() -> &'static [Row] {
-    ROWS
+fn exports() -> &'static [Row] {
+    EXPORTS
+}
+
+fn checks() -> &'static [Row] {
+    CHECKS
+}
+
+fn lists() -> &'static [Row] {
+    LISTS
+}
+
+/// What fails: this write to standard output, each flush of it, this write to standard error.
+pub type Failing = (usize, bool, usize);
+
+const NONE: Failing = (usize::MAX, false, usize::MAX);
+
+/// Standard output and standard error, where this fails.
+pub fn failing_pages(alloc: Global, failing: Failing) -> (Page, Page) {
+    let (fails_at, flush_fails, err_at) = failing;
+    let mut out = failing_memory(alloc, fails_at, Trouble::Broken, usize::MAX);
+    out.flush_fails = flush_fails;
+    let err = failing_memory(alloc, err_at, Trouble::Broken, usize::MAX);
+    (out, err)
+}
+
+// Whether a run leaves what the row says, where this fails.
+fn leaves(alloc: Global, row: &Row, failing: Failing) -> bool {
+    let (job, text, status, written, told) = *row;
+    let (out, err) = failing_pages(alloc, failing);
+    run(job, whole(text), out, err).is(status, written, told)
+}
+
+fn leave_all(rt: &impl Abort, alloc: Global, rows: &[Row], failing: Failing) {
+    for row in rows {
+        holds_at(rt, leaves(alloc, row, failing), &(row.0, row.1));
+    }
 }
 
 #[test]
 fn writes_what_is_asked_for(rt: HostRuntime) {
-    for &(job, text, status, out, err) in rows() {
-        let ran = run(job, whole(text), memory(rt.alloc()), memory(rt.alloc()));
-        assert!(rt; ran.is(status, out, err), "{job:?} of {text:?}");
-    }
+    leave_all(&rt, rt.alloc(), exports(), NONE);
+    leave_all(&rt, rt.alloc(), checks(), NONE);
+    leave_all(&rt, rt.alloc(), lists(), NONE);
 }
 
 // How many games of `TWO` are whole when so many bytes were read.
@@ -270,11 +315,7 @@ fn reports_read(alloc: Global, job: Job, error: ErrorKind, most: usize, fails_at
     if fails_at.saturating_mul(most) >= TWO.len().saturating_add(most) {
         return ran.is(0, job.all(), b"");
     }
-    format!(in alloc; "byte {bytes}: input cannot be read\n").is_ok_and(|line| ran.is(
-        1,
-        job.written(whole_games(bytes)),
-        line.as_bytes(),
-    ))
+    ran.has(1, job.written(whole_games(bytes))) && says_unread(&ran.err, bytes)
 }
 
 #[test]
@@ -284,7 +325,7 @@ fn tells_each_read_that_fails(rt: HostRuntime) {
             for fails_at in 0..29usize {
                 let is_right = reports_read(rt.alloc(), job, error, 1, fails_at)
                     && reports_read(rt.alloc(), job, error, 7, fails_at);
-                assert!(rt; is_right, "{job:?} at read {fails_at}");
+                holds_at(&rt, is_right, &(job, error, fails_at));
             }
         }
     }
@@ -302,8 +343,7 @@ fn place(job: Job, taken: usize) -> &'static [u8] {
 // Whether the run stopped at this write: a front of the text is written. Nothing is tried again.
 fn stopped_at(ran: &Ran, job: Job, fails_at: usize) -> bool {
     let taken = ran.out.taken.as_slice();
-    job.all().starts_with(taken)
-        && taken.len() < job.all().len()
+    is_cut_off(taken, job.all())
         && ran.is(1, taken, place(job, taken.len()))
         && ran.out.calls == fails_at.saturating_add(1)
 }
@@ -311,10 +351,7 @@ fn stopped_at(ran: &Ran, job: Job, fails_at: usize) -> bool {
 // Whether a run reports each write that fails, of pieces of so many bytes.
 fn reports_writes(alloc: Global, job: Job, trouble: Trouble, most: usize) -> bool {
     for fails_at in 0..1000usize {
-        let mut out = memory(alloc);
-        out.fails_at = fails_at;
-        out.trouble = trouble;
-        out.most = most;
+        let out = failing_memory(alloc, fails_at, trouble, most);
         let ran = run(job, whole(TWO), out, memory(alloc));
         if ran.out.calls <= fails_at {
             let some = if most == 1 { job.all().len() } else { 1 };
@@ -333,7 +370,7 @@ fn tells_each_write_that_fails(rt: HostRuntime) {
         for trouble in [Trouble::Broken, Trouble::Interrupted, Trouble::TakesNone] {
             let is_right = reports_writes(rt.alloc(), job, trouble, 1)
                 && reports_writes(rt.alloc(), job, trouble, usize::MAX);
-            assert!(rt; is_right, "{job:?}, {trouble:?}");
+            holds_at(&rt, is_right, &(job, trouble));
         }
     }
 }
@@ -387,36 +424,34 @@ fn silent() -> &'static [Row] {
 
 #[test]
 fn ends_at_the_first_device_that_fails(rt: HostRuntime) {
-    for (rows, fails_at, flush_fails, err_at) in [
-        (unwritable(), 0, false, usize::MAX),
-        (unflushed(), usize::MAX, true, usize::MAX),
-        (silent(), usize::MAX, false, 0),
-    ] {
-        for &(job, text, status, written, told) in rows {
-            let mut out = memory(rt.alloc());
-            out.fails_at = fails_at;
-            out.flush_fails = flush_fails;
-            let mut err = memory(rt.alloc());
-            err.fails_at = err_at;
-            let ran = run(job, whole(text), out, err);
-            assert!(rt; ran.is(status, written, told), "{job:?} of {text:?}");
-        }
-    }
+    leave_all(&rt, rt.alloc(), unwritable(), (0, false, usize::MAX));
+    leave_all(&rt, rt.alloc(), unflushed(), (usize::MAX, true, usize::MAX));
+    leave_all(&rt, rt.alloc(), silent(), (usize::MAX, false, 0));
 }
 
 fn first() -> &'static [u8] {
     FIRST
 }
 
+// Whether the text is in the buffer once it was written.
+fn fills(out: &mut StandardOutput<Page>, text: &[u8]) -> bool {
+    out.reserve().is_ok() && write_all(out, text).is_ok() && out.buffer.len() == text.len()
+}
+
+// Whether a flush leaves nothing in the buffer.
+fn empties(out: &mut StandardOutput<Page>) -> bool {
+    out.flush_all().is_ok() && out.buffer.is_empty()
+}
+
 #[test]
-fn flushes_behind_its_buffer(rt: HostRuntime) -> Result<(), Fail> {
-    let text = first();
+fn flushes_behind_its_buffer(rt: HostRuntime) {
     let mut out = StandardOutput::new(rt.alloc(), memory(rt.alloc()));
-    out.reserve()?;
-    assert!(rt; write_all(&mut out, text).is_ok() && out.buffer.len() == text.len());
-    assert!(rt; out.flush_all().is_ok() && out.buffer.is_empty());
-    let page = out.outlet.into_inner();
-    assert!(rt; page.taken.as_slice() == text && page.flushes == 1);
-    assert_eq!(rt; page.flushed, text.len());
-    Ok(())
+    assert!(rt; fills(&mut out, first()));
+    assert!(rt; empties(&mut out));
+    let ran = left_by(0, out, Outlet::new(memory(rt.alloc())));
+    holds_at(
+        &rt,
+        ran.has(0, first()),
+        &(ran.out.flushes, ran.out.flushed),
+    );
 }
