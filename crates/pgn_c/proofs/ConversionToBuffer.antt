@@ -27,8 +27,11 @@ before_full : (p : Profile) → due p [] ≡ [] → (tokens : List Token) (at : 
 before_full p nothing tokens at written grows stops =
     let more = grows p (stops.front ++ stops.token ∷ []) stops.rest in
     subst (λ l. IsPrefix l (due p tokens)) (sym stops.appended)
-    (front_of_front stops.count stops.text (due p tokens)
-    (more.0, ap (due p) (stops.cut ∙ sym (append_assoc stops.front (stops.token ∷ []) stops.rest)) ∙ more.1 ∙ ap (λ l. l ++ more.0) (stops.due_for ∙ ap (λ l. l ++ stops.text) nothing)))
+    (front_of_front stops.count stops.text (due p tokens) (
+      more.0,
+      ap (due p) (stops.cut ∙ sym (append_assoc stops.front (stops.token ∷ []) stops.rest))
+          ∙ more.1 ∙ ap (λ l. l ++ more.0) (stops.due_for ∙ ap (λ l. l ++ stops.text) nothing),
+    ))
 
 before_limit : (p : Profile) (u rest : List ℕ) → DueGrows → DecidedIsPrefix → IsPrefix (due p (decided u)) (output p (u ++ rest))
 before_limit p u rest grows prefix =
@@ -47,8 +50,7 @@ front_on_fault p nothing text written _ grows prefix (too_long u rest is long mo
 pub front : (mode : Mode) (text written : List ℕ) (outcome : Result Totals Fault) → DueGrows → DecidedIsPrefix
     → AfterSlice (profile_in mode) text outcome (Some []) (Some written) → IsPrefix written (output (profile_in mode) text)
 front mode text written (Ok t) grows prefix total = all_of _ _ total.converted.1
-front mode text written (Err f) grows prefix fails =
-    front_on_fault (profile_in mode) (nothing_due mode) text written f grows prefix fails
+front mode text written (Err f) grows prefix fails = front_on_fault (profile_in mode) (nothing_due mode) text written f grows prefix fails
 
 -- ---- the buffer
 
@@ -63,7 +65,8 @@ filled before after n within long behind =
 
 -- ---- a full buffer
 
-write_fault : (reason : Reason) (sink : Device) → CountsWriting reason sink → sink.failures ≡ 0 → status_of reason ≡ 2 → 0 < sink.failures_after
+write_fault : (reason : Reason) (sink : Device) → CountsWriting reason sink
+    → sink.failures ≡ 0 → status_of reason ≡ 2 → 0 < sink.failures_after
 write_fault WriteFault sink counted none is = omega (arith, counted, none)
 write_fault _ sink counted none is = absurd (omega (arith, is))
 

@@ -39,15 +39,18 @@ module _ (law : MissingResults) (mode : Mode) (marker : Marker) where
               ∙ ap (λ (l : List ℕ). record (game_result is.game is.marker is.at.at result.end) { written = length l }) wrote;
         }
 
-    by_next : (piece : List ℕ) → NextOf (profile_counting mode marker) s piece found (Some []) (Some written) → found.status ≡ 0 → TakesMarker mode s before after result
+    by_next : (piece : List ℕ) → NextOf (profile_counting mode marker) s piece found (Some []) (Some written)
+        → found.status ≡ 0 → TakesMarker mode s before after result
     by_next piece (NextOf.game is) ok = of_game is
     by_next piece (NextOf.no_game is) ok = absurd (let e = ap (λ (r : PgnGame). r.status) is.is_result in cc)
     by_next piece (NextOf.rejected is) ok = absurd (is_fault 1 is.fault.reason (λ e. cc) (sym (ap (λ (r : PgnGame). r.status) is.is_result) ∙ ok))
-    by_next piece (NextOf.needs_more is) ok = absurd (is_fault 5 is.fault.reason (λ e. cc) (sym (ap (λ (r : PgnGame). r.status) is.is_result) ∙ ok))
+    by_next piece (NextOf.needs_more is) ok =
+        absurd (is_fault 5 is.fault.reason (λ e. cc) (sym (ap (λ (r : PgnGame). r.status) is.is_result) ∙ ok))
     by_next piece (NextOf.full is) ok = absurd (let e = ap (λ (r : PgnGame). r.status) is.is_result in cc)
     by_next piece (NextOf.too_long is) ok = absurd (let e = ap (λ (r : PgnGame). r.status) is.is_result in cc)
 
-  pub takes_marker : (text : List ℕ) (from : ℕ) (before after : List ℕ) (result : PgnGame) → ConvertsNext (profile_counting mode marker) text from before after result
+  pub takes_marker : (text : List ℕ) (from : ℕ) (before after : List ℕ) (result : PgnGame)
+      → ConvertsNext (profile_counting mode marker) text from before after result
       → result.status ≡ 0 → TakesMarker mode (text_from text from) before after result
   takes_marker text from before after result converts ok =
       by_next (text_from text from) before after converts.found converts.written result converts.filled converts.is_result _ converts.next

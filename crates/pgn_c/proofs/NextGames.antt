@@ -19,7 +19,8 @@ record Marks (k : Kind) (at end : ℕ) (text : List ℕ) : Type 0 where
   is_marker : text ≡ marker_text marker
   place : end - length (marker_text marker) ≡ at
 
-of_score : (at end : ℕ) (s text : List ℕ) → marker_of (Kind.symbol s) ≡ Some text → end ≡ at + length s → Marks (Kind.symbol s) at end text
+of_score : (at end : ℕ) (s text : List ℕ) → marker_of (Kind.symbol s) ≡ Some text
+    → end ≡ at + length s → Marks (Kind.symbol s) at end text
 of_score at end s text marker ends = by_tests _ _ _ refl refl refl
   where
     here : (m : Marker) → s ≡ marker_text m → is_score s ≡ true → Marks (Kind.symbol s) at end text
@@ -37,14 +38,16 @@ of_score at end s text marker ends = by_tests _ _ _ refl refl refl
         let e : None ≡ Some text = ap (λ (b : Bool). elim b [ true ↦ Some s | false ↦ None ]) (sym score) ∙ marker in absurd (cc)
 
 marks : (k : Kind) (at end : ℕ) (text : List ℕ) → marker_of k ≡ Some text → EndsAt k at end → Marks k at end text
-marks Kind.asterisk at end text marker ends = record { marker = Unknown; is_marker = (let e : Some (codes "*") ≡ Some text = marker in cc); place = omega (arith, ends) }
+marks Kind.asterisk at end text marker ends =
+    record { marker = Unknown; is_marker = (let e : Some (codes "*") ≡ Some text = marker in cc); place = omega (arith, ends) }
 marks (Kind.symbol s) at end text marker ends = of_score at end s text marker ends
 marks _ at end text marker ends = absurd (cc)
 
 -- ---- a write that fails
 
 -- more was read and written before
-writing_more : (p : Profile) (x y tokens : List Token) (at : ℕ) (a b c : Option (List ℕ)) → Gains p x y a b → StopsWriting p y tokens at b c → StopsWriting p x tokens at a c
+writing_more : (p : Profile) (x y tokens : List Token) (at : ℕ) (a b c : Option (List ℕ))
+    → Gains p x y a b → StopsWriting p y tokens at b c → StopsWriting p x tokens at a c
 writing_more p x y tokens at a b c first more =
     record {
       front = more.front;
@@ -63,7 +66,8 @@ writing_more p x y tokens at a b c first more =
 
 -- ---- the converter
 
-module _ (mode : Mode) (missing : Marker) (u piece : List ℕ) (before : Option (List ℕ)) (laws : GamesEndByMarker) (between : TextsEndBetweenGames) where
+module _ (mode : Mode) (missing : Marker) (u piece : List ℕ) (before : Option (List ℕ))
+    (laws : GamesEndByMarker) (between : TextsEndBetweenGames) where
   abbrev p : Profile
   p = profile_counting mode missing
 
@@ -72,9 +76,13 @@ module _ (mode : Mode) (missing : Marker) (u piece : List ℕ) (before : Option 
 
   -- the value of Result that the converter has
   value_is : (new : Converter) (game : Game) (text : List ℕ) → new.reading.profile ≡ p → new.just_finished ≡ Some (finished_game_of game)
-      → value_of (exported mode (marker_text missing) game.pairs) (codes "Result") ≡ Some text → finished_game_value new (codes "Result") ≡ Some text
+      → value_of (exported mode (marker_text missing) game.pairs) (codes "Result") ≡ Some text
+      → finished_game_value new (codes "Result") ≡ Some text
   value_is new game text profile finished is =
-      ap (λ (o : Option FinishedGame). elim o [ None ↦ None | Some done ↦ value_of (exported new.reading.profile.mode (known_result new.reading.profile.missing_result) done.pairs) (codes "Result") ]) finished
+      ap (λ (o : Option FinishedGame). elim o [
+        | None ↦ None
+        | Some done ↦ value_of (exported new.reading.profile.mode (known_result new.reading.profile.missing_result) done.pairs) (codes "Result")
+      ]) finished
       ∙ ap (λ (q : Profile). value_of (exported q.mode (known_result q.missing_result) game.pairs) (codes "Result")) profile ∙ is
 
   still_none : (bs : List ℕ) → still None bs ≡ None
@@ -99,19 +107,26 @@ module _ (mode : Mode) (missing : Marker) (u piece : List ℕ) (before : Option 
   -- what the code answers of a game just finished
   abbrev Answered : Converter → ℕ → PgnGame → Type 0
   Answered new end result = (game : Game) (marker : Marker) → new.just_finished ≡ Some (finished_game_of game)
-      → finished_game_value new (codes "Result") ≡ Some (marker_text marker) → result ≡ game_result game marker (end - length (marker_text marker)) end
+      → finished_game_value new (codes "Result") ≡ Some (marker_text marker)
+      → result ≡ game_result game marker (end - length (marker_text marker)) end
 
   -- the whole text of one game
-  whole_text : (ts : List Token) (game : Game) → due p ts ≡ text_of p (games_read p ts) → games_read p ts ≡ game ∷ [] → due p ts ≡ game_text p game
+  whole_text : (ts : List Token) (game : Game) → due p ts ≡ text_of p (games_read p ts)
+      → games_read p ts ≡ game ∷ [] → due p ts ≡ game_text p game
   whole_text ts game whole one = whole ∙ ap (text_of p) one ∙ append-nil (game_text p game)
 
   module _ (result : PgnGame) (after : Option (List ℕ)) where
     -- a game that the bytes decide
-    pub game_fed : (new : Converter) (used n : ℕ) → used ≤ length piece → n ≡ length u + used → FedGame p u [] piece used new before after → Answered new n result
+    pub game_fed : (new : Converter) (used n : ℕ) → used ≤ length piece → n ≡ length u + used
+        → FedGame p u [] piece used new before after → Answered new n result
         → NextOf p s piece result before after
     game_fed new used n within count fed answer =
         let finishes : FinishesGame p fed.tokens fed.marker =
-        record { passes = fed.stands.has_read.passes; game = fed.game; one_more = fed.one_game ∙ ap (λ gs. gs ++ fed.game ∷ []) (sym fed.no_game) } in
+        record {
+          passes = fed.stands.has_read.passes;
+          game = fed.game;
+          one_more = fed.one_game ∙ ap (λ gs. gs ++ fed.game ∷ []) (sym fed.no_game);
+        } in
         let law = laws p fed.tokens fed.marker finishes in
         let ends : EndsAt fed.marker.kind fed.marker.at n = subst (EndsAt fed.marker.kind fed.marker.at) (sym count) fed.ends in
         let mark = marks fed.marker.kind fed.marker.at n fed.game.marker law.is_marker ends in
@@ -132,7 +147,8 @@ module _ (mode : Mode) (missing : Marker) (u piece : List ℕ) (before : Option 
           game = fed.game;
           first = (
             coming new.lexer (drop used piece),
-            ap tokens_of parts ∙ fed.stands.lexer.tokens (drop used piece) (own (drop used piece)) ∙ append_assoc fed.tokens (fed.marker ∷ []) (coming new.lexer (drop used piece)),
+            ap tokens_of parts ∙ fed.stands.lexer.tokens (drop used piece) (own (drop used piece))
+                ∙ append_assoc fed.tokens (fed.marker ∷ []) (coming new.lexer (drop used piece)),
           );
           none_before = fed.no_game;
           passes = fed.stands.has_read.passes;
@@ -148,31 +164,35 @@ module _ (mode : Mode) (missing : Marker) (u piece : List ℕ) (before : Option 
         own [] = tt
         own (b ∷ bs) = refl
 
-        by_rest : (rest : List ℕ) → drop used piece ≡ rest → s ≡ (u ++ take used piece) ++ drop used piece → length (u ++ take used piece) ≡ n → result.end ≡ n
-            → result.end < length s → (more : List ℕ) → (later : List Token) × (tokens_of (take (result.end + 1) s ++ more) ≡ (fed.tokens ++ fed.marker ∷ []) ++ later)
+        by_rest : (rest : List ℕ) → drop used piece ≡ rest → s ≡ (u ++ take used piece) ++ drop used piece
+            → length (u ++ take used piece) ≡ n → result.end ≡ n
+            → result.end < length s → (more : List ℕ)
+            → (later : List Token) × (tokens_of (take (result.end + 1) s ++ more) ≡ (fed.tokens ++ fed.marker ∷ []) ++ later)
         by_rest [] is parts size end behind more =
             absurd (omega (arith, behind, end, size, ap (length {A = ℕ}) parts, length-append (u ++ take used piece) (drop used piece), ap (length {A = ℕ}) is))
         by_rest (b ∷ bs) is parts size end behind more =
             let front : List ℕ = u ++ take used piece in
             let cut : s ≡ (front ++ b ∷ []) ++ bs = parts ∙ ap (λ l. front ++ l) is ∙ sym (append_assoc front (b ∷ []) bs) in
             let taken : take (result.end + 1) s ≡ front ++ b ∷ [] =
-            ap (take (result.end + 1)) cut ∙ take_at (front ++ b ∷ []) bs (result.end + 1) (omega (arith, end, size, length-append front (b ∷ []))) in (
+            ap (take (result.end + 1)) cut
+            ∙ take_at (front ++ b ∷ []) bs (result.end + 1) (omega (arith, end, size, length-append front (b ∷ []))) in (
               coming new.lexer (b ∷ more),
               ap (λ l. tokens_of (l ++ more)) taken ∙ ap tokens_of (append_assoc front (b ∷ []) more)
                   ∙ fed.stands.lexer.tokens (b ∷ more) (subst (λ l. Follows (first l) (b ∷ more)) (sym is) refl),
             )
 
     -- a token that is rejected whatever comes, a write that failed, or a text that is too long
-    pub fault_fed : (new : Converter) (f : Fault)
-        → StopsIn u piece (λ fault. FedToFault p u None [] piece fault new.reading before after)
+    pub fault_fed : (new : Converter) (f : Fault) → StopsIn u piece (λ fault. FedToFault p u None [] piece fault new.reading before after)
         (λ front. (now : Converter) × FedAll p u None [] front now before after × (new.reading ≡ now.reading)) f
         → new.fault ≡ Some f → result ≡ fault_result (status_for 1 f.reason) f (refused_position new) → NextOf p s piece result before after
-    fault_fed new f (at_token _ to) kept answer = by_stops f to.fed.stops (answer ∙ ap (fault_result (status_for 1 f.reason) f) (position_is new f kept ∙ to.position)) to.no_game
+    fault_fed new f (at_token _ to) kept answer =
+        by_stops f to.fed.stops (answer ∙ ap (fault_result (status_for 1 f.reason) f) (position_is new f kept ∙ to.position)) to.no_game
       where
         known : AreKnown s to.fed.tokens
         known more = subst (λ b. AreNext s b to.fed.tokens) none_still to.fed.next more tt
 
-        by_stops : (g : Fault) (stops : Stops p [] to.fed.tokens before after g) → result ≡ fault_result (status_for 1 g.reason) g (position_at_stop stops) → games_before stops ≡ []
+        by_stops : (g : Fault) (stops : Stops p [] to.fed.tokens before after g)
+            → result ≡ fault_result (status_for 1 g.reason) g (position_at_stop stops) → games_before stops ≡ []
             → NextOf p s piece result before after
         by_stops g (refused _ fault gains) is none =
             NextOf.rejected (record {
@@ -224,7 +244,8 @@ module _ (mode : Mode) (missing : Marker) (u piece : List ℕ) (before : Option 
           subst (Appends before after) (sym (gains.due_for ∙ ap (λ l. l ++ gains.text) fed.gains.due_for))
           (Appends-trans before middle after _ _ fed.gains.appended gains.appended)
 
-      pub game_at_end : (new : Converter) (n : ℕ) → TextsEndBehindMarker → n ≡ length s → Finishes p s fed.tokens new true middle after → Answered new n result
+      pub game_at_end : (new : Converter) (n : ℕ) → TextsEndBehindMarker → n ≡ length s
+          → Finishes p s fed.tokens new true middle after → Answered new n result
           → NextOf p s piece result before after
       game_at_end new n law count fin answer =
           let last = law p mid s fed.tokens stands (fin.game.0 refl) in
@@ -239,7 +260,8 @@ module _ (mode : Mode) (missing : Marker) (u piece : List ℕ) (before : Option 
           let ends : EndsAt last.marker.kind last.marker.at n = subst (EndsAt last.marker.kind last.marker.at) (sym count) last.ends in
           let mark = marks last.marker.kind last.marker.at n game.marker ends_by.is_marker ends in
           let is =
-          answer game mark.marker just (value_is new game (marker_text mark.marker) fin.has_read.profile just (ends_by.result ∙ ap Some mark.is_marker))
+          answer game mark.marker just
+          (value_is new game (marker_text mark.marker) fin.has_read.profile just (ends_by.result ∙ ap Some mark.is_marker))
           ∙ ap (λ at. game_result game mark.marker at n) mark.place in
           let end : result.end ≡ n = ap (λ (r : PgnGame). r.end) is in
           NextOf.game (record {
@@ -254,11 +276,13 @@ module _ (mode : Mode) (missing : Marker) (u piece : List ℕ) (before : Option 
             is_marker = mark.is_marker;
             ends = subst (EndsAt last.marker.kind last.marker.at) (sym end) ends;
             settled = λ behind. absurd (omega (arith, behind, end, count));
-            wrote = subst (Appends before after) (whole_of fin.has_read.passes ∙ ap (text_of p) (last.same ∙ one) ∙ append-nil (game_text p game)) (all_due fin.gains);
+            wrote = subst (Appends before after)
+                (whole_of fin.has_read.passes ∙ ap (text_of p) (last.same ∙ one) ∙ append-nil (game_text p game)) (all_due fin.gains);
             is_result = is ∙ ap (λ m. game_result game mark.marker last.marker.at m) (sym end);
           })
 
-      pub none_at_end : (new : Converter) → Finishes p s fed.tokens new false middle after → result ≡ nothing 4 → NextOf p s piece result before after
+      pub none_at_end : (new : Converter) → Finishes p s fed.tokens new false middle after
+          → result ≡ nothing 4 → NextOf p s piece result before after
       none_at_end new fin is =
           let none : games_read p (tokens_of s) ≡ [] = by_games (games_read p (tokens_of s)) refl in
           NextOf.no_game (record {
@@ -277,9 +301,11 @@ module _ (mode : Mode) (missing : Marker) (u piece : List ℕ) (before : Option 
           → result ≡ fault_result (status_for 5 f.reason) f (refused_position new) → NextOf p s piece result before after
       unfolding writing_more
       fault_at_end new f fin kept answer =
-          by_stops f fin.stops (answer ∙ ap (fault_result (status_for 5 f.reason) f) (position_is new f kept ∙ fin.position)) (fin.no_game ∙ fed.no_game)
+          by_stops f fin.stops (answer ∙ ap (fault_result (status_for 5 f.reason) f) (position_is new f kept ∙ fin.position))
+          (fin.no_game ∙ fed.no_game)
         where
-          by_stops : (g : Fault) (stops : Stops p fed.tokens (tokens_of s) middle after g) → result ≡ fault_result (status_for 5 g.reason) g (position_at_stop stops) → games_before stops ≡ []
+          by_stops : (g : Fault) (stops : Stops p fed.tokens (tokens_of s) middle after g)
+              → result ≡ fault_result (status_for 5 g.reason) g (position_at_stop stops) → games_before stops ≡ []
               → NextOf p s piece result before after
           by_stops g (refused _ fault gains) is none =
               NextOf.needs_more (record {

@@ -82,7 +82,8 @@ record Closed (s : List ℕ) (n : ℕ) : Type 0 where
   long : length (escaped value) ≡ n
 
 -- one byte more, with a backslash before it where it needs one
-closed_more : (b : ℕ) (s : List ℕ) (n : ℕ) (e : Bool) → needs_escape b ≡ e → Closed s n → Closed ((if e then 92 ∷ b ∷ [] else b ∷ []) ++ s) (length (if e then 92 ∷ b ∷ [] else b ∷ []) + n)
+closed_more : (b : ℕ) (s : List ℕ) (n : ℕ) (e : Bool) → needs_escape b ≡ e → Closed s n
+    → Closed ((if e then 92 ∷ b ∷ [] else b ∷ []) ++ s) (length (if e then 92 ∷ b ∷ [] else b ∷ []) + n)
 closed_more b s n e is c =
     record { value = b ∷ c.value; behind = c.behind; is = rw (is, append_assoc, ← c.is); long = rw (is, length-append, c.long) }
 
@@ -100,7 +101,8 @@ abbrev with_one : Bool → ℕ → ℕ
 with_one true n = n + 1
 with_one false n = n
 
-closed : (s : List ℕ) (escaping : Bool) (n : ℕ) → length_to_quote escaping s ≡ Some n → Closed (with_backslash escaping s) (with_one escaping n)
+closed : (s : List ℕ) (escaping : Bool) (n : ℕ) → length_to_quote escaping s ≡ Some n
+    → Closed (with_backslash escaping s) (with_one escaping n)
 closed [] true n h = absurd (cc)
 closed [] false n h = absurd (cc)
 closed (b ∷ s) true n h =
@@ -121,7 +123,8 @@ closed (b ∷ s) false n h =
 
 -- ---- the whole line
 
-line_parts : (name value rest : List ℕ) → tag_line name value ++ rest ≡ 91 ∷ (name ++ (32 ∷ 34 ∷ (escaped value ++ (34 ∷ 93 ∷ 10 ∷ rest))))
+line_parts : (name value rest : List ℕ)
+    → tag_line name value ++ rest ≡ 91 ∷ (name ++ (32 ∷ 34 ∷ (escaped value ++ (34 ∷ 93 ∷ 10 ∷ rest))))
 line_parts name value rest =
     ap (λ (t : List ℕ). 91 ∷ t)
     (append_assoc ((name ++ (32 ∷ 34 ∷ [])) ++ escaped value) (34 ∷ 93 ∷ 10 ∷ []) rest
@@ -130,7 +133,12 @@ line_parts name value rest =
 
 pub line_long : (name value : List ℕ) → length (tag_line name value) ≡ length name + length (escaped value) + 6
 line_long name value =
-    omega (arith, length-append ((name ++ (32 ∷ 34 ∷ [])) ++ escaped value) (34 ∷ 93 ∷ 10 ∷ []), length-append (name ++ (32 ∷ 34 ∷ [])) (escaped value), length-append name (32 ∷ 34 ∷ []))
+    omega (
+      arith,
+      length-append ((name ++ (32 ∷ 34 ∷ [])) ++ escaped value) (34 ∷ 93 ∷ 10 ∷ []),
+      length-append (name ++ (32 ∷ 34 ∷ [])) (escaped value),
+      length-append name (32 ∷ 34 ∷ []),
+    )
 
 fits_name : (n : ℕ) → 1 ≤ n → n ≤ 255 → (nat_le 1 n && nat_le n 255) ≡ true
 fits_name n some short = and_from (nat_le 1 n) (nat_le n 255) (le-leb 1 n some) (le-leb n 255 short)
@@ -139,7 +147,8 @@ drop_front : (front rest : List ℕ) → drop (length front) (front ++ rest) ≡
 drop_front front rest = front_rest (front ++ rest) front rest refl
 
 -- the pair on the line is found
-pub pair_found : (s name value : List ℕ) → BeginsWithTag s name value → first_pair s ≡ Some (record { name = length name; value = length (escaped value) })
+pub pair_found : (s name value : List ℕ) → BeginsWithTag s name value
+    → first_pair s ≡ Some (record { name = length name; value = length (escaped value) })
 unfolding first_pair
 pair_found s name value begins =
     rw (
@@ -177,7 +186,8 @@ unfolding first_pair
 parts s pair h =
     let (text, begins) = some_of (text_behind (codes "[") s) (λ e. let g = rw e at h in cc) in
     let named_text = rw begins at h in
-    let fits : (nat_le 1 (name_length text) && nat_le (name_length text) 255) ≡ true = true_from_ne_false _ (λ e. let g = rw e at named_text in cc) in
+    let fits : (nat_le 1 (name_length text) && nat_le (name_length text) 255) ≡ true =
+    true_from_ne_false _ (λ e. let g = rw e at named_text in cc) in
     let quoting = rw fits at named_text in
     let (quoted, opens) = some_of (text_behind (codes " \"") (drop (name_length text) text)) (λ e. let g = rw e at quoting in cc) in
     let valued = rw opens at quoting in
@@ -234,7 +244,8 @@ pair_within s pair h =
     omega (arith, all, line, p.name_long, p.value_long)
 
 -- what `strip_prefix` says, as `text_behind` says it
-pub behind_matches : (front s : List ℕ) (r : Option (Bor (List ℕ))) → MatchOption r ((rest : List ℕ) → s ≢ front ++ rest) (λ x. s ≡ front ++ x.now)
+pub behind_matches : (front s : List ℕ) (r : Option (Bor (List ℕ)))
+    → MatchOption r ((rest : List ℕ) → s ≢ front ++ rest) (λ x. s ≡ front ++ x.now)
     → MatchOption r (text_behind front s ≡ None) (λ x. text_behind front s ≡ Some x.now)
 behind_matches front s None h = behind_none front s h
 behind_matches front s (Some x) h = behind_some front s x.now h

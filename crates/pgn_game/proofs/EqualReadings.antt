@@ -26,7 +26,8 @@ abbrev pub after_marks : Profile → Progress → Token → List Token → Optio
 after_marks p b t ts (Some reason) = []
 after_marks p b t ts None = mark_at t.at (next b.part t.kind) ++ marks_from p (progress_after b t) ts
 
-pub marks_test : (p : Profile) (b : Progress) (t : Token) (ts : List Token) → marks_from p b (t ∷ ts) ≡ after_marks p b t ts (refusal p b.part t.kind)
+pub marks_test : (p : Profile) (b : Progress) (t : Token) (ts : List Token)
+    → marks_from p b (t ∷ ts) ≡ after_marks p b t ts (refusal p b.part t.kind)
 marks_test p b t ts = cc
 
 abbrev pub after_change : Profile → Mark → List Mark → Progress → Token → List Token → Bool → Comparison
@@ -48,16 +49,19 @@ no_mark p b [] = refl
 no_mark p b (t ∷ ts) = refl
 
 -- a token that neither is rejected nor shows a difference
-unchanged : (p : Profile) (m : Mark) (b : Progress) (t : Token) {n : Next} → refusal p b.part t.kind ≡ None → next b.part t.kind ≡ n → is_other m n t ≡ false
+unchanged : (p : Profile) (m : Mark) (b : Progress) (t : Token) {n : Next}
+    → refusal p b.part t.kind ≡ None → next b.part t.kind ≡ n → is_other m n t ≡ false
     → is_changed p m b.part t ≡ false
 unchanged p m b t free leads same = cc
 
 -- Behind the last mark, P depends on the finished games and not on the current one.
 abbrev pub SeesGames : (Comparison → Type 0) → Type 0
-SeesGames P = (b c : Progress) → c.games ≡ b.games → P (record { progress = c; marks_left = []; fault = None }) → P (record { progress = b; marks_left = []; fault = None })
+SeesGames P = (b c : Progress) → c.games ≡ b.games → P (record { progress = c; marks_left = []; fault = None })
+    → P (record { progress = b; marks_left = []; fault = None })
 
 -- A token that both readings have and that is not rejected: what holds behind it holds before it.
-module _ (P : Comparison → Type 0) (sees : SeesGames P) (p : Profile) (b : Progress) (t : Token) (ts us : List Token) (last : Ends (t ∷ ts)) (free : refusal p b.part t.kind ≡ None)
+module _ (P : Comparison → Type 0) (sees : SeesGames P) (p : Profile) (b : Progress) (t : Token)
+    (ts us : List Token) (last : Ends (t ∷ ts)) (free : refusal p b.part t.kind ≡ None)
     (so : P (compared_from p (marks_from p (progress_after b t) ts) (progress_after b t) us)) where
   abbrev rest : List Mark
   rest = marks_from p (progress_after b t) ts
@@ -67,7 +71,8 @@ module _ (P : Comparison → Type 0) (sees : SeesGames P) (p : Profile) (b : Pro
   at_mark leads = search (rules, change_test, same_mark, unchanged)
 
   -- within a game, with more marks or without
-  in_game : {part : Part} → next b.part t.kind ≡ going part → {ms : List Mark} → (vs : List Token) → Ends (t ∷ vs) → marks_from p (progress_after b t) vs ≡ ms
+  in_game : {part : Part} → next b.part t.kind ≡ going part → {ms : List Mark}
+      → (vs : List Token) → Ends (t ∷ vs) → marks_from p (progress_after b t) vs ≡ ms
       → P (compared_from p ms (progress_after b t) us) → P (compared_from p ms b (t ∷ us))
   in_game leads vs ends_so is h = search (rules, change_test, no_mark, unchanged)
 
@@ -86,21 +91,25 @@ rest_ends t [] last = tt
 rest_ends t (u ∷ ts) last = last.1
 
 -- The second reading has the tokens of the first, and more.
-pub compared_same : (p : Profile) (b : Progress) (ts more : List Token) → Ends ts → Same (compared_from p (marks_from p b ts) b (ts ++ more)) (read_from p b ts).progress.games
+pub compared_same : (p : Profile) (b : Progress) (ts more : List Token) → Ends ts
+    → Same (compared_from p (marks_from p b ts) b (ts ++ more)) (read_from p b ts).progress.games
 compared_same p b [] more last = (rw (no_mark p b more) (record { fault = refl; marks_left = refl; games = refl }))
 compared_same p b (t ∷ ts) more last =
     by_token p b t ts (λ r. Same (compared_from p (marks_from p b (t ∷ ts)) b (t ∷ ts ++ more)) r.progress.games)
     (λ reason is. rw (rejected_token p b t ts (ts ++ more) is) (record { fault = refl; marks_left = refl; games = refl }))
     (λ is.
-    same_token (λ (f : Comparison). Same f (read_from p (progress_after b t) ts).progress.games) (λ b c alike so. record { fault = refl; marks_left = refl; games = sym alike ∙ so.games }) p b t ts (ts ++ more) last is
+    same_token (λ (f : Comparison). Same f (read_from p (progress_after b t) ts).progress.games)
+    (λ b c alike so. record { fault = refl; marks_left = refl; games = sym alike ∙ so.games }) p b t ts (ts ++ more) last is
     (compared_same p (progress_after b t) ts more (rest_ends t ts last)))
 
 -- What is written at the last mark: the finished games, as in one reading.
-pub written_same : (p : Profile) {f : Comparison} (b : Progress) → p.missing_result ≡ takes_the_marker → Same f b.games → written_by p f ≡ written p b
+pub written_same : (p : Profile) {f : Comparison} (b : Progress)
+    → p.missing_result ≡ takes_the_marker → Same f b.games → written_by p f ≡ written p b
 written_same p b takes so = cc
 
 -- the verdict has the games and the fault alone
-same_verdict : (b c : Progress) (o : Option Fault) → b.games ≡ c.games → verdict_of (record { progress = b; fault = o }) ≡ verdict_of (record { progress = c; fault = o })
+same_verdict : (b c : Progress) (o : Option Fault) → b.games ≡ c.games
+    → verdict_of (record { progress = b; fault = o }) ≡ verdict_of (record { progress = c; fault = o })
 same_verdict b c o same = cc
 
 pub equal_readings : TokensRise → EqualReadings

@@ -4,7 +4,8 @@ use Rattle.pgn_lexer.specs.Laws.{DecidedIsPrefix}
 use Rattle.pgn_game.specs.EqualReadings.{AreWritten, AreWrittenWithin, InterruptedReadings}
 use Rattle.pgn_game.proofs.tokens.OneMoreToken.{by_token, goes_on, also, grows_from, due_grows, text_of-snoc}
 use Rattle.pgn_game.proofs.tokens.NextGrows.{behind, next_grows}
-use Rattle.pgn_game.proofs.EqualReadings.{Ends, ends, rest_ends, after_marks, marks_test, SeesGames, same_token, rejected_token, compared_same, written_same}
+use Rattle.pgn_game.proofs.EqualReadings.{Ends, ends, rest_ends, after_marks, marks_test, SeesGames, same_token, rejected_token, compared_same}
+use Rattle.pgn_game.proofs.EqualReadings.{written_same}
 use Rattle.pgn_game.proofs.twice.MarkerCounts.{same_game_text}
 
 front_of : (n : ℕ) (xs ys : List ℕ) → IsPrefix xs ys → IsPrefix (take n xs) ys
@@ -16,7 +17,8 @@ front_ends (t ∷ []) more last = tt
 front_ends (t ∷ u ∷ us) more last = (last.0, front_ends (u ∷ us) more last.1)
 
 -- of two prefixes of one list, one begins with the other
-longer : (xs ys vs ws : List Token) → xs ++ vs ≡ ys ++ ws → ((more : List Token) × (ys ≡ xs ++ more)) ⊎ ((more : List Token) × (xs ≡ ys ++ more))
+longer : (xs ys vs ws : List Token) → xs ++ vs ≡ ys ++ ws
+    → ((more : List Token) × (ys ≡ xs ++ more)) ⊎ ((more : List Token) × (xs ≡ ys ++ more))
 longer [] ys vs ws same = inl (ys, refl)
 longer (x ∷ xs) [] vs ws same = inr (x ∷ xs, refl)
 longer (x ∷ xs) (y ∷ ys) vs ws same =
@@ -70,10 +72,12 @@ module _ (p : Profile) (takes : p.missing_result ≡ takes_the_marker) where
   sees_within : (low high : Progress) → SeesGames (Within low high)
   sees_within low high = search rules
 
-  none_written : {b high : Progress} → IsPrefix (text_of p b.games) (written p high) → Within b high (record { progress = b; marks_left = []; fault = None })
+  none_written : {b high : Progress} → IsPrefix (text_of p b.games) (written p high)
+      → Within b high (record { progress = b; marks_left = []; fault = None })
   none_written grown = search (rules, append-nil)
 
-  waits : (b : Progress) (more : List Token) (ms : List Mark) → marks_from p b more ≡ ms → Within b (read_from p b more).progress (record { progress = b; marks_left = ms; fault = None })
+  waits : (b : Progress) (more : List Token) (ms : List Mark) → marks_from p b more ≡ ms
+      → Within b (read_from p b more).progress (record { progress = b; marks_left = ms; fault = None })
   waits b more [] is = none_written (games_grow b more)
   waits b more (m ∷ ms) is = record { fault = refl; least = (_, refl); most = torn_ahead b more m ms is }
 
@@ -89,7 +93,8 @@ module _ (p : Profile) (takes : p.missing_result ≡ takes_the_marker) where
       (λ reason is. subst (Within b _) (sym (rejected_token p b t (us ++ more) us is)) (none_written (games_grow b (t ∷ us ++ more))))
       (λ is.
       subst (ForToken b t us more (read_from p (progress_after b t) us)) (sym (goes_on p b t (us ++ more) is))
-      (same_token (Within (read_from p (progress_after b t) us).progress (read_from p (progress_after b t) (us ++ more)).progress) (sees_within _ _) p b t (us ++ more) us last is
+      (same_token (Within (read_from p (progress_after b t) us).progress (read_from p (progress_after b t) (us ++ more)).progress)
+      (sees_within _ _) p b t (us ++ more) us last is
       (compared_within (progress_after b t) us more (rest_ends t (us ++ more) last))))
 
   -- `first` stops behind the tokens us
@@ -103,11 +108,13 @@ module _ (p : Profile) (takes : p.missing_result ≡ takes_the_marker) where
       record { fault = so.fault; least = search (rules, whole_games); most = so.most }
 
   -- The same where `first` has given the tokens ts, of which a mark is ahead.
-  pub before_mark : (us more ts rest : List Token) {m : Mark} {ms : List Mark} → Ends (us ++ more) → us ++ more ≡ ts ++ rest → (compared p ts us).marks_left ≡ m ∷ ms
+  pub before_mark : (us more ts rest : List Token) {m : Mark} {ms : List Mark} → Ends (us ++ more)
+      → us ++ more ≡ ts ++ rest → (compared p ts us).marks_left ≡ m ∷ ms
       → AreWrittenWithin p (compared p ts us) (due p us) (due p (us ++ more))
   before_mark us more ts rest last same ahead = by_length (longer ts us rest more (sym same))
     where
-      by_length : ((z : List Token) × (us ≡ ts ++ z)) ⊎ ((z : List Token) × (ts ≡ us ++ z)) → AreWrittenWithin p (compared p ts us) (due p us) (due p (us ++ more))
+      by_length : ((z : List Token) × (us ≡ ts ++ z)) ⊎ ((z : List Token) × (ts ≡ us ++ z))
+          → AreWrittenWithin p (compared p ts us) (due p us) (due p (us ++ more))
       by_length (inl h) =
           let none : (compared p ts us).marks_left ≡ [] =
           rw h.1 ((first_stops ts h.0 (subst Ends h.1 (front_ends us more last))).no_mark_left) in
@@ -122,10 +129,12 @@ module _ (p : Profile) (takes : p.missing_result ≡ takes_the_marker) where
           }
 
   -- Whatever both have given of one text, a prefix of its output is written.
-  pub written_in_front : (ts rest us more : List Token) → Ends (ts ++ rest) → ts ++ rest ≡ us ++ more → IsPrefix (written_by p (compared p ts us)) (due p (ts ++ rest))
+  pub written_in_front : (ts rest us more : List Token) → Ends (ts ++ rest)
+      → ts ++ rest ≡ us ++ more → IsPrefix (written_by p (compared p ts us)) (due p (ts ++ rest))
   written_in_front ts rest us more last same = by_length (longer ts us rest more same)
     where
-      by_length : ((z : List Token) × (us ≡ ts ++ z)) ⊎ ((z : List Token) × (ts ≡ us ++ z)) → IsPrefix (written_by p (compared p ts us)) (due p (ts ++ rest))
+      by_length : ((z : List Token) × (us ≡ ts ++ z)) ⊎ ((z : List Token) × (ts ≡ us ++ z))
+          → IsPrefix (written_by p (compared p ts us)) (due p (ts ++ rest))
       by_length (inl h) =
           let so = first_stops ts h.0 (subst Ends h.1 (front_ends us more (subst Ends same last))) in
           let is : written_by p (compared p ts us) ≡ due p ts = rw h.1 so.written in

@@ -18,9 +18,11 @@ pub use Rattle.std.proofs.Common.{All, Bool, Bor, Err, IfOk, IfSome, IsErr, IsFa
 pub use Rattle.std.proofs.ByRecursion.{All-append, All-map, All-weaker, all_kept_by}
 pub use Rattle.std.proofs.KnownBytes.{Appends-nil, Appends-trans, Consumes-kept, Consumes-nil, Consumes-trans}
 pub use Rattle.std.proofs.Math.Seq.{drop-append-add, drop-append_seam, drop-cons, drop-length, take-append-add, take-append_seam, take-suc, take-add}
-pub use Rattle.std.proofs.lemmas.Bool.{and_from, and_parts, and_right, cases_Bool, cases_order, eqb-true, false≢true, le-leb, leb-false, leb-true, lt-leb, ltb-false, ltb-true, ne_eqb, not-false, or_cases, or_from, or_parts, or_right, true_from_ne_false}
+pub use Rattle.std.proofs.lemmas.Bool.{and_from, and_parts, and_right, cases_Bool, cases_order, eqb-true, false≢true, le-leb, leb-false, leb-true}
+pub use Rattle.std.proofs.lemmas.Bool.{lt-leb, ltb-false, ltb-true, ne_eqb, not-false, or_cases, or_from, or_parts, or_right, true_from_ne_false}
 pub use Rattle.std.proofs.lemmas.Bool.Decides.{eqb_tells, nat_tests}
-pub use Rattle.std.proofs.lemmas.List.{drop_all, drop_at, length-map, length-set, length-take-le, take-append-drop, take-append-le, take_all, take_at, take_more_set, drop-append-le, drop-drop, drop-take, map-append, take-take, take_rest}
+pub use Rattle.std.proofs.lemmas.List.{drop_all, drop_at, length-map, length-set, length-take-le, take-append-drop, take-append-le, take_all, take_at}
+pub use Rattle.std.proofs.lemmas.List.{take_more_set, drop-append-le, drop-drop, drop-take, map-append, take-take, take_rest}
 pub use Rattle.std.proofs.lemmas.List.Elements.{All-cons, All-head, All-nil, All-tail, filter-append}
 pub use Rattle.std.proofs.lemmas.List.Folds.{list_all-append, list_any-append}
 pub use Rattle.std.proofs.lemmas.List.Sums.{count_by-le-length, fold-append, length-filter, sum-map, sum_by-append, sum_by-cons}
@@ -44,8 +46,10 @@ unfoldable pub use Rattle.pgn_game.specs.FaultTable.{refusal}
 pub use Rattle.pgn_game.specs.Filled.{exported_pairs, filled}
 pub use Rattle.pgn_game.specs.FixedPoint.{AreExportable, ExportIsKept, ExportIsKeptOfSource, ExportingTwice, FewPairsHaveRoom, FixedPoint, IsExportable, IsWrittenAgain, SameOutput, SameText, SliceIsKept, SourceIsKept, TagSectionFits, TextSpells, counted, games_in}
 pub use Rattle.pgn_game.specs.Game.{close_variation, open_variation}
-pub use Rattle.pgn_game.specs.ItemResult.{Adds, GoesOn, Plays, PutsTokens, TriesItem, WritesItem, after_move_if, item_text, number_due, plies_in, tokens_due, tokens_if, writes}
-pub use Rattle.pgn_game.specs.Levels.{Level, Levels, back_to, depth, first_level, here, last_position, levels_after, levels_of, main_moves, outermost, plies_of, replayed, start_of, without_last}
+pub use Rattle.pgn_game.specs.ItemResult.{Adds, GoesOn, Plays, PutsTokens, TriesItem, WritesItem, after_move_if, item_text, number_due, plies_in}
+pub use Rattle.pgn_game.specs.ItemResult.{tokens_due, tokens_if, writes}
+pub use Rattle.pgn_game.specs.Levels.{Level, Levels, back_to, depth, first_level, here, last_position, levels_after, levels_of, main_moves, outermost}
+pub use Rattle.pgn_game.specs.Levels.{plies_of, replayed, start_of, without_last}
 pub use Rattle.pgn_game.specs.Markers.{marker_text, missing_of}
 pub use Rattle.pgn_game.specs.Movetext.{AreThere, ClosesLevel, FitsLevelStore, HoldsItems, Movetext, StoredLevel, StoredLevels, before_last, code_levels, ends_in_move, inside, level_at, level_of, movetext_after_fen, movetext_from, only_level, stored_level, stored_levels}
 pub use Rattle.pgn_game.specs.Progress.{Next, Progress, Read, at_stage, going, in_text, items_of, move_item, next, next_in, no_progress, output, progress_after, progress_with, read, read_from, refused, totals, verdict, whole, due, verdict_of, written as written_so_far, position_at_fault}
@@ -56,8 +60,10 @@ pub use Rattle.pgn_game.specs.Spells.{AreDistinct, AreDropped, BeginsBare, IsPai
 pub use Rattle.pgn_game.specs.StoredPairs.{FitsPairStore, TagPairs, but_last, index_of, last_name, pairs_seen}
 pub use Rattle.pgn_game.specs.TagSection.{exported, in_roster, other_pairs, roster_pairs, tag_lines, tag_section, with_set_up}
 unfoldable pub use Rattle.pgn_game.specs.TagSection.{roster}
-pub use Rattle.pgn_game.specs.Text.{Placed, full_text, game_text, has_move, is_main_move, is_move, number_before, placed_from, tokens_at, tokens_from, tokens_out, torn, torn_at, torn_for, written_items, text_of as text_of_games}
-pub use Rattle.pgn_game.specs.TokenInMovetext.{IsEntry, IsOpen, ItemFits, fen_position, game_of, is_frequent, may_have_movetext, model_item, or_else, text_refusal, with_items}
+pub use Rattle.pgn_game.specs.Text.{Placed, full_text, game_text, has_move, is_main_move, is_move, number_before, placed_from, tokens_at, tokens_from}
+pub use Rattle.pgn_game.specs.Text.{tokens_out, torn, torn_at, torn_for, written_items, text_of as text_of_games}
+pub use Rattle.pgn_game.specs.TokenInMovetext.{IsEntry, IsOpen, ItemFits, fen_position, game_of, is_frequent, may_have_movetext, model_item, or_else}
+pub use Rattle.pgn_game.specs.TokenInMovetext.{text_refusal, with_items}
 pub use Rattle.pgn_game.specs.declared.accepted.Accepted.TheVariants.{Finished, More}
 pub use Rattle.pgn_game.specs.declared.marker.Marker.{Marker}
 pub use Rattle.pgn_game.specs.declared.marker.Marker.TheVariants.{BlackWins, Draw, Unknown, WhiteWins}
@@ -66,7 +72,8 @@ pub use Rattle.pgn_layout.specs.Layout.{EndGame, Put, ended, laid_from, line_at,
 pub use Rattle.pgn_layout.specs.Lines.{IsToken, full_lines, has_room, last_line, lines_from, lines_of, text_of}
 pub use Rattle.pgn_layout.specs.TagLine.{escape_of, escaped, needs_escape, tag_line}
 pub use Rattle.pgn_lexer.specs.Bytes.{continues_symbol, is_space, starts_symbol}
-pub use Rattle.pgn_lexer.specs.Laws.{IsLast, KindsAreReadBack, NumbersAreSymbols, RisesTo, TokensAreSound, TokensRise, TextsRestart, CanBeMarker, BeginsWithToken, SymbolsStandInText}
+pub use Rattle.pgn_lexer.specs.Laws.{IsLast, KindsAreReadBack, NumbersAreSymbols, RisesTo, TokensAreSound, TokensRise, TextsRestart, CanBeMarker}
+pub use Rattle.pgn_lexer.specs.Laws.{BeginsWithToken, SymbolsStandInText}
 pub use Rattle.pgn_lexer.specs.Scanned.{kind_of}
 pub use Rattle.pgn_lexer.specs.Sound.{CommentsClose, IsData, IsSoundKind, IsSymbol, begins_with}
 pub use Rattle.pgn_lexer.specs.Tokens.{asterisk, left_bracket, right_bracket, str, symbol}
@@ -83,15 +90,20 @@ pub use Rattle.pgn_game.specs.Tried.{CostsAnswer, CostsForm}
 pub use Rattle.pgn_game.specs.ConverterCalls.{AreNext, Converter, CountsFault, CountsMissingAs, CountsReason, FedAll, FedFault, FedGame, FedToFault, FedWhole, FinishedGame, HasRead, IsSound, ReadsUpTo, Stands, StopsIn, at_token, counting_missing_as, finished_game_of, finished_game_plies, game_in_reader_if, play_moves, profile_of, too_long, AfterFinish, Finishes, FinishesToFault, game_in_reader, Stops, unwritten, StopsWriting, games_before, position_at_stop, ProbesAtStop, has_played_move, reported_position, refused as refused_stop, IsLast as IsLastGame}
 pub use Rattle.pgn_lexer.specs.Standing.{Standing, coming, waiting}
 pub use Rattle.pgn_lexer.specs.Stands.{AfterScan, FinishGivesToken, Follows, HasLeft, IsDecided, IsNext, StandsAfter, first, still}
-pub use Rattle.pgn_game.specs.Pass.{BothSoFar, HasMarked, HasMatched, IsGoing, Pass, changed_reason, marks_differ, part_after, profile_under, reading_under, steps_left}
-pub use Rattle.pgn_game.specs.MostTried.{CostsIf, CostsToAdd, CostsToFind, CostsToWrite, CostsUnlessRefused, MostFrom, MostTried, Raises, Tries, TriesUnwritten, added, is_written, none}
-pub use Rattle.pgn_game.specs.GamesCalls.{AfterNext, CountsNext, Games, HasReadAll, HaveRead, NextGame, NextStops, NoGame, ReadSoFar, at_end, games_of, most_left, within}
+pub use Rattle.pgn_game.specs.Pass.{BothSoFar, HasMarked, HasMatched, IsGoing, Pass, changed_reason, marks_differ, part_after, profile_under}
+pub use Rattle.pgn_game.specs.Pass.{reading_under, steps_left}
+pub use Rattle.pgn_game.specs.MostTried.{CostsIf, CostsToAdd, CostsToFind, CostsToWrite, CostsUnlessRefused, MostFrom, MostTried, Raises, Tries}
+pub use Rattle.pgn_game.specs.MostTried.{TriesUnwritten, added, is_written, none}
+pub use Rattle.pgn_game.specs.GamesCalls.{AfterNext, CountsNext, Games, HasReadAll, HaveRead, NextGame, NextStops, NoGame, ReadSoFar, at_end}
+pub use Rattle.pgn_game.specs.GamesCalls.{games_of, most_left, within}
 pub use Rattle.pgn_game.specs.Due.{Gains, gain, text_next}
 pub use Rattle.pgn_game.specs.ConverterSteps.{AfterStepAtEnd, AllSoFar, AtEndSoFar, FaultAtEnd, FeedsAllSoFar, FeedsSoFar, FinishesSoFar, SameGames, StaysBetween, StepAtEndAdvances, fault_of_step, games_after, is_ended, none_at_end, outcome_at, AfterStep, next_at, SoFar, OneGame, finished_game, StepAdvances}
-pub use Rattle.pgn_game.specs.Checked.{Comparison, Mark, checked_profile, compared, compared_from, earlier_fault, is_changed, is_other, mark_at, marks, marks_after, marks_from, torn_before, with_mark, written_by}
+pub use Rattle.pgn_game.specs.Checked.{Comparison, Mark, checked_profile, compared, compared_from, earlier_fault, is_changed, is_other, mark_at}
+pub use Rattle.pgn_game.specs.Checked.{marks, marks_after, marks_from, torn_before, with_mark, written_by}
 pub use Rattle.pgn_lexer.specs.Decided.{decided}
 pub use Rattle.pgn_game.specs.declared.accepted.Accepted.{Accepted}
-pub use Rattle.pgn_game.specs.Conversion.{AfterConversion, AfterEnd, AfterSlice, CountsDevices, Fails, FailsOn, IsConverted, IsTotalled, MostProbes, ReadsNoMore, verdict_in}
+pub use Rattle.pgn_game.specs.Conversion.{AfterConversion, AfterEnd, AfterSlice, CountsDevices, Fails, FailsOn, IsConverted, IsTotalled, MostProbes}
+pub use Rattle.pgn_game.specs.Conversion.{ReadsNoMore, verdict_in}
 pub use Rattle.pgn_game.specs.GamesSteps.{FillResult, MoreResult, NextSoFar, ReadsSoFar}
 pub use Rattle.pgn_game.specs.GamesRestart.{FinishesGame, GamesRestart, counting_also, games_read}
 pub use Rattle.pgn_game.specs.declared.conversion.Totals.{Totals}

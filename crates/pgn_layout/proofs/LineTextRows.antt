@@ -44,8 +44,7 @@ opened : (tokens : List (List ℕ)) (s : List ℕ) → IsTextOf tokens s → Ope
 opened tokens s h1 = grind (arith, common_steps)
 
 -- a first token of two bytes has a space or LF behind it
-third_is_gap : (a b c : ℕ) (s : List ℕ) (x y : ℕ) (ts : List (List ℕ))
-    → IsTextOf ((x ∷ y ∷ []) ∷ ts) (a ∷ b ∷ c ∷ s)
+third_is_gap : (a b c : ℕ) (s : List ℕ) (x y : ℕ) (ts : List (List ℕ)) → IsTextOf ((x ∷ y ∷ []) ∷ ts) (a ∷ b ∷ c ∷ s)
     → (a ≡ x) × (b ≡ y) × IsTrue (is_gap c) × IsTextOf ts s
 third_is_gap a b c s x y ts h = grind (arith, common_steps, opened)
 

@@ -29,8 +29,7 @@ pub lines_keep_tokens : LinesKeepTokens
 lines_keep_tokens tokens lines h = grind (arith, common_steps, parts_text)
 
 -- the lines that are computed, part by part
-texts_from : (l : Line) (ts : List (List ℕ))
-    → map text_on (parts_from l ts) ≡ lines_from (text_on l) ts
+texts_from : (l : Line) (ts : List (List ℕ)) → map text_on (parts_from l ts) ≡ lines_from (text_on l) ts
 texts_from l [] = refl
 texts_from l (t ∷ ts) = grind (arith, common_steps, append-nil, text_on-grown, texts_from (grown l t) ts, texts_from (alone t) ts)
 

@@ -1,5 +1,6 @@
 -- The name of a file gives its number back, and a log by names is one by numbers.
-use Rattle.pgn_tool.proofs.Words.{◌≡◌, ℕ, ◌-◌, ◌^◌, ◌<◌, suc, List, [], ◌∷◌, ◌++◌, length, take, Option, None, Some, Result, refl, ap, ◌∙◌, length-append, arith, codes, decimal, map-append, SystemFault, added}
+use Rattle.pgn_tool.proofs.Words.{◌≡◌, ℕ, ◌-◌, ◌^◌, ◌<◌, suc, List, [], ◌∷◌, ◌++◌, length, take, Option, None, Some}
+use Rattle.pgn_tool.proofs.Words.{Result, refl, ap, ◌∙◌, length-append, arith, codes, decimal, map-append, SystemFault, added}
 use Rattle.std.specs.Str.Parse.{digits_value}
 use Rattle.std.proofs.lemmas.Fmt.{digits_value-decimal}
 use Rattle.std.proofs.lemmas.Str.Parse.{numerals_by_value, tells_digits}
@@ -11,8 +12,7 @@ zeros_add_nothing : (count : ℕ) (digits : List ℕ) → digits_value 10 (zeros
 zeros_add_nothing (suc (suc (suc (suc (suc (suc count)))))) digits = ap (λ l. digits_value 10 (l ++ digits)) (drop-nil count)
 zeros_add_nothing _ digits = refl
 
-without_ending : (name ending : List ℕ) → length ending ≡ 4
-    → take (length (name ++ ending) - 4) (name ++ ending) ≡ name
+without_ending : (name ending : List ℕ) → length ending ≡ 4 → take (length (name ++ ending) - 4) (name ++ ending) ≡ name
 without_ending name ending four =
     let short : length (name ++ ending) - 4 ≡ length name = omega (arith, length-append name ending) in
     ap (λ n. take n (name ++ ending)) short ∙ take-append_seam name ending
@@ -32,8 +32,7 @@ numbered-added (Some steps) step = ap Some (map-append step_of steps (step ∷ [
 -- one more file, by its name and by its number
 pub numbered-making : (old new : Option (List NameStep)) (name : List ℕ) (number : ℕ)
     (outcome : Result Unit SystemFault) → number < 2 ^ 64 → name ≡ file_name number
-    → new ≡ added old (making name outcome ∷ [])
-    → numbered new ≡ added (numbered old) (step_at number outcome ∷ [])
+    → new ≡ added old (making name outcome ∷ []) → numbered new ≡ added (numbered old) (step_at number outcome ∷ [])
 numbered-making old new name number outcome fits is more =
     ap numbered more ∙ numbered-added old (making name outcome)
     ∙ ap (λ n. added (numbered old) (step_at n outcome ∷ []))

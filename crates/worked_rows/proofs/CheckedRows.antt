@@ -1,5 +1,6 @@
 -- Worked rows of inputs that are read twice.
-use Rattle.worked_rows.proofs.Words.{String, ◌≡◌, ℕ, List, [], ◌++◌, None, refl, codes, replicate, take, tokens_of, Full, Reduced, ResultDiffers, IllegalMove, UnexpectedEnd, Changed, Profile, Verdict, totals, due, output}
+use Rattle.worked_rows.proofs.Words.{String, ◌≡◌, ℕ, List, [], ◌++◌, None, refl, codes, replicate, take, tokens_of, Full, Reduced}
+use Rattle.worked_rows.proofs.Words.{ResultDiffers, IllegalMove, UnexpectedEnd, Changed, Profile, Verdict, totals, due, output}
 use Rattle.pgn_lexer.specs.Decided.{decided}
 use Rattle.pgn_game.specs.Checked.{checked_profile, compared, written_by, checked_verdict, checked_output}
 use Rattle.worked_rows.proofs.WorkedRows.{counted, fault, head, unknown, of_moves}
@@ -57,7 +58,8 @@ FirstStops u x text =
 abbrev SecondStops : List ℕ → List ℕ → List ℕ → List ℕ → List ℕ → Type 0
 SecondStops u x before torn after =
     let f = compared twice (tokens_of (u ++ x)) (decided u) in
-    (f.fault ≡ None) × (due twice (decided u) ≡ before) × (written_by twice f ≡ before ++ torn) × (output twice (u ++ x) ≡ before ++ torn ++ after)
+    (f.fault ≡ None) × (due twice (decided u) ≡ before)
+    × (written_by twice f ≡ before ++ torn) × (output twice (u ++ x) ≡ before ++ torn ++ after)
 
 first_stops : Unit {0}
 unfolding of_moves

@@ -21,7 +21,8 @@ letter Black k = kind_letter k + 32
 
 abbrev pieces : List Piece
 pieces =
-    flat_map (λ c. map (λ k. record { colour = c; kind = k }) (King ∷ Queen ∷ Rook ∷ Bishop ∷ Knight ∷ Pawn ∷ [])) (White ∷ Black ∷ [])
+    flat_map (λ c. map (λ k. record { colour = c; kind = k }) (King ∷ Queen ∷ Rook ∷ Bishop ∷ Knight ∷ Pawn ∷ []))
+    (White ∷ Black ∷ [])
 
 -- a digit is a run of empty squares, a letter a piece
 abbrev cells : ℕ → Board
@@ -32,8 +33,7 @@ cells c =
 -- the ranks from 8 to 1, each after the rank below it
 abbrev drawn_from : List ℕ → Board → Board → Board
 drawn_from [] rank above = rank ++ above
-drawn_from (c ∷ s) rank above =
-    drawn_from s (if c == 47 then [] else rank ++ cells c) (if c == 47 then rank ++ above else above)
+drawn_from (c ∷ s) rank above = drawn_from s (if c == 47 then [] else rank ++ cells c) (if c == 47 then rank ++ above else above)
 
 -- the rights whose letters stand there, as in KQkq
 abbrev rights : List ℕ → Rights

@@ -158,8 +158,7 @@ unfolding refusal roster move_of
 bare_word_refused = (refl, refl)
 
 -- So no count of games is answered for them.
-not_kept : (p : Profile) (s : List ℕ) (f : Fault) (c : Counted) → verdict p s ≡ refused f
-    → verdict p s ≡ totals c → ⊥
+not_kept : (p : Profile) (s : List ℕ) (f : Fault) (c : Counted) → verdict p s ≡ refused f → verdict p s ≡ totals c → ⊥
 not_kept p s f c e h = cc
 
 no_room_not_kept : (c : Counted) → verdict seven_pairs eighth_line ≡ totals c → ⊥

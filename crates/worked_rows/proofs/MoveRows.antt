@@ -63,7 +63,9 @@ movetext =
     let pinned_answer : FenGives "7k/6np/8/8/8/8/1B6/K3R3 w - - 0 1" "Re8" "1. Re8#" = (refl, refl) in
     let en_passant_answer : FenGives "3R1R2/4K3/8/4k3/4p3/8/3P4/8 w - - 0 1" "d4#" "1. d4+" = (refl, refl) in
     let start_comment : Gives plain "{intro} [White \"A\"] {start} 1. e4 *{after}" (played 1)
-    (codes "[Event \"?\"]\n[Site \"?\"]\n[Date \"????.??.??\"]\n[Round \"?\"]\n[White \"A\"]\n[Black \"?\"]\n[Result \"*\"]\n\n{ start } 1. e4 *\n\n") = (refl, refl) in
+    (codes
+    "[Event \"?\"]\n[Site \"?\"]\n[Date \"????.??.??\"]\n[Round \"?\"]\n[White \"A\"]\n[Black \"?\"]\n[Result \"*\"]\n\n{ start } 1. e4 *\n\n") =
+    (refl, refl) in
     let long_word : BytesGive plain (codes "1. e4 {" ++ replicate 79 119 ++ codes "} *") (played 1)
     (head ++ codes "1. e4 {\n" ++ replicate 79 119 ++ codes "\n} *\n\n") = (refl, refl) in
     let word_too_long : BytesGive plain (codes "1. e4 {" ++ replicate 80 119 ++ codes "} *") (fault 7 (Lexical LexReason.WordTooLong)) head =
@@ -104,7 +106,8 @@ movetext =
     (head ++ codes "1. e4 {\n") = (refl, refl) in
     let position_does_not_carry_over : Gives plain "[FEN \"4k3/8/8/8/8/8/8/4K3 w - - 0 1\"] Ke2 * e4 (d4) e5 *"
     (totals (record { games = 2; plies = 3 }))
-    (unknown ++ codes "[Result \"*\"]\n[FEN \"4k3/8/8/8/8/8/8/4K3 w - - 0 1\"]\n[SetUp \"1\"]\n\n1. Ke2 *\n\n" ++ head ++ codes "1. e4 ( 1. d4 ) 1... e5 *\n\n") = (refl, refl) in
+    (unknown ++ codes "[Result \"*\"]\n[FEN \"4k3/8/8/8/8/8/8/4K3 w - - 0 1\"]\n[SetUp \"1\"]\n\n1. Ke2 *\n\n"
+    ++ head ++ codes "1. e4 ( 1. d4 ) 1... e5 *\n\n") = (refl, refl) in
     let second_game_refused : Gives plain "1. e4 * 1. e4 Ke7 *" (fault 14 IllegalMove) (head ++ codes "1. e4 *\n\n" ++ head) = (refl, refl) in
     -- a line holds 79 bytes, and no more (PGN 8.2.1)
     let line_of_79_bytes : BytesGive plain (codes "1. e4 {" ++ replicate 71 119 ++ codes "} *") (played 1)

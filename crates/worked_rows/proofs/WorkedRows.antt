@@ -58,13 +58,17 @@ tags_and_markers =
     (refl, refl) in
     -- the roster is not sorted, the other names are; a quote and a backslash are escaped
     let tag_order : Gives plain "[b \"2\"][Site \"x\\\"y\\\\z\\q\"][A \"1\"] *" (counted 1)
-    (codes "[Event \"?\"]\n[Site \"x\\\"y\\\\z\\\\q\"]\n[Date \"????.??.??\"]\n[Round \"?\"]\n[White \"?\"]\n[Black \"?\"]\n[Result \"*\"]\n[A \"1\"]\n[b \"2\"]\n\n*\n\n") = (refl, refl) in
+    (codes "[Event \"?\"]\n[Site \"x\\\"y\\\\z\\\\q\"]\n[Date \"????.??.??\"]\n[Round \"?\"]\n[White \"?\"]\n[Black \"?\"]\n[Result \"*\"]\n[A \"1\"]\n[b \"2\"]\n\n*\n\n") = (
+      refl,
+      refl,
+    ) in
     let reduced_to_the_roster : Gives reduced "[ECO \"C20\"][White \"A\"] *" (counted 1)
     (codes "[Event \"?\"]\n[Site \"?\"]\n[Date \"????.??.??\"]\n[Round \"?\"]\n[White \"A\"]\n[Black \"?\"]\n[Result \"*\"]\n\n*\n\n") =
     (refl, refl) in
     let tag_limit : Gives two_pairs "[A \"1\"][B \"2\"][C \"3\"] *" (fault 14 TooManyTags) [] = (refl, refl) in
     let longest_value : BytesGive plain (codes "[Event \"" ++ replicate 244 118 ++ codes "\"] *") (counted 1)
-    (codes "[Event \"" ++ replicate 244 118 ++ codes "\"]\n[Site \"?\"]\n[Date \"????.??.??\"]\n[Round \"?\"]\n[White \"?\"]\n[Black \"?\"]\n[Result \"*\"]\n\n*\n\n") = (refl, refl) in
+    (codes "[Event \"" ++ replicate 244 118
+    ++ codes "\"]\n[Site \"?\"]\n[Date \"????.??.??\"]\n[Round \"?\"]\n[White \"?\"]\n[Black \"?\"]\n[Result \"*\"]\n\n*\n\n") = (refl, refl) in
     let value_too_long : BytesGive plain (codes "[Event \"" ++ replicate 245 118 ++ codes "\"] *") (fault 7 TagLineTooLong) [] = (refl, refl) in
     let name_too_long : BytesGive plain (91 ∷ (replicate 250 97 ++ codes " \"\"] *")) (fault 1 TagLineTooLong) [] = (refl, refl) in
     let escapes_count : BytesGive plain (codes "[A \"" ++ replicate 124 92 ++ replicate 125 120 ++ codes "\"] *") (fault 3 TagLineTooLong) [] =
@@ -122,6 +126,7 @@ more_tags_and_markers =
     tt
 
 -- the rows of the table stand in the order of their numbers
-in_order : map (λ r. number_of r.reason) (rows plain no_part tokens.end) ≡ 20 ∷ 21 ∷ 22 ∷ 23 ∷ 24 ∷ 25 ∷ 26 ∷ 27 ∷ 27 ∷ 28 ∷ 30 ∷ 31 ∷ 32 ∷ 33
+in_order : map (λ r. number_of r.reason) (rows plain no_part tokens.end)
+    ≡ 20 ∷ 21 ∷ 22 ∷ 23 ∷ 24 ∷ 25 ∷ 26 ∷ 27 ∷ 27 ∷ 28 ∷ 30 ∷ 31 ∷ 32 ∷ 33
     ∷ 34 ∷ 35 ∷ 36 ∷ 37 ∷ 38 ∷ 39 ∷ 40 ∷ 41 ∷ 42 ∷ []
 in_order = refl

@@ -29,10 +29,13 @@ not_empty b s h = grind arith
 
 -- The way is clear if each square between is empty, and if there is none.
 
-pub clear_if : (b : Board) (s t : Square) → ((u : Square) → u.file < 8 → u.rank < 8 → strictly_between s u t ≡ true → is_empty b u ≡ true) → is_clear b s t ≡ true
-clear_if b s t h = all_squares (λ u. not (strictly_between s u t) || is_empty b u) (λ u f r. implied (strictly_between s u t) (is_empty b u) (h u f r))
+pub clear_if : (b : Board) (s t : Square)
+    → ((u : Square) → u.file < 8 → u.rank < 8 → strictly_between s u t ≡ true → is_empty b u ≡ true) → is_clear b s t ≡ true
+clear_if b s t h =
+    all_squares (λ u. not (strictly_between s u t) || is_empty b u) (λ u f r. implied (strictly_between s u t) (is_empty b u) (h u f r))
 
-pub between_cases : {A : Type 0} (s u t : Square) → strictly_between s u t ≡ true → (between_on_rank s u t ≡ true → A) → (between_on_file s u t ≡ true → A) → (between_on_diagonal s u t ≡ true → A) → A
+pub between_cases : {A : Type 0} (s u t : Square) → strictly_between s u t ≡ true → (between_on_rank s u t ≡ true → A)
+    → (between_on_file s u t ≡ true → A) → (between_on_diagonal s u t ≡ true → A) → A
 between_cases s u t h rank file cross =
     elim (or_cases (between_on_rank s u t) (between_on_file s u t || between_on_diagonal s u t) h) [
       | inl r ↦ rank r
@@ -71,7 +74,8 @@ jump_clear b s t jump = clear_if b s t (λ u _ _ h. absurd (between_cases s u t 
 near_aligned : (s t : Square) → gap s.file t.file ≤ 1 → gap s.rank t.rank ≤ 1 → not (same_square s t) ≡ true → is_aligned s t ≡ true
 near_aligned s t files ranks apart = grind arith
 
-pub near : (b : Board) (s t : Square) → gap s.file t.file ≤ 1 → gap s.rank t.rank ≤ 1 → not (same_square s t) ≡ true → (is_aligned s t && is_clear b s t) ≡ true
+pub near : (b : Board) (s t : Square) → gap s.file t.file ≤ 1 → gap s.rank t.rank ≤ 1
+    → not (same_square s t) ≡ true → (is_aligned s t && is_clear b s t) ≡ true
 near b s t files ranks apart = and_from _ _ (near_aligned s t files ranks apart) (near_clear b s t files ranks)
 
 pub apart_by_file : (s t : Square) → gap s.file t.file ≡ 1 → not (same_square s t) ≡ true
@@ -91,7 +95,8 @@ pub pawn_seen : (c : Colour) (b : Board) (s t : Square) → reaches Pawn c s t �
 pawn_seen c b s t h = grind (arith, ahead_gap, near, apart_by_file)
 
 -- what a piece attacks it sees, but for a knight
-pub attack_seen : (k : Kind) (c : Colour) (b : Board) (s t : Square) → kind_attacks k c b s t ≡ true → (k ≡ Knight) ⊎ ((is_aligned s t && is_clear b s t) ≡ true)
+pub attack_seen : (k : Kind) (c : Colour) (b : Board) (s t : Square) → kind_attacks k c b s t ≡ true
+    → (k ≡ Knight) ⊎ ((is_aligned s t && is_clear b s t) ≡ true)
 attack_seen k c b s t h = grind (arith, adjacent_seen, pawn_seen)
 
 -- A piece attacks what it would if all squares between were empty, by a clear way.
@@ -125,35 +130,42 @@ pub no_attack : (b : Board) (s t : Square) → reaches_from (at b s) s t ≡ fal
 no_attack b s t h = cell_attack_is (at b s) b s t ∙ ap (λ x. x && is_clear b s t) h
 
 attacker_is : (b : Board) (c : Colour) (s t : Square) → (has_colour c (at b s) && attacks b s t) ≡ (may_attack b c t s && is_clear b s t)
-attacker_is b c s t = ap (λ x. has_colour c (at b s) && x) (cell_attack_is (at b s) b s t) ∙ in_turn (has_colour c (at b s)) (reaches_from (at b s) s t) (is_clear b s t)
+attacker_is b c s t = ap (λ x. has_colour c (at b s) && x) (cell_attack_is (at b s) b s t)
+    ∙ in_turn (has_colour c (at b s)) (reaches_from (at b s) s t) (is_clear b s t)
   where
     in_turn : (x y z : Bool) → (x && (y && z)) ≡ ((x && y) && z)
     in_turn x y z = grind arith
 
 pub attacked_is : (b : Board) (c : Colour) (t : Square) → is_attacked b c t ≡ list_any (λ s. may_attack b c t s && is_clear b s t) squares
-attacked_is b c t = any_same (λ s. has_colour c (at b s) && attacks b s t) (λ s. may_attack b c t s && is_clear b s t) squares (λ s. attacker_is b c s t)
+attacked_is b c t =
+    any_same (λ s. has_colour c (at b s) && attacks b s t) (λ s. may_attack b c t s && is_clear b s t) squares (λ s. attacker_is b c s t)
 
 -- of the pieces that may attack, those in view do, and those a jump away
-pub seen_attacker : (b : Board) (c : Colour) (t s : Square) → (may_attack b c t s && (is_in_view b t s || is_jump s t)) ≡ (may_attack b c t s && is_clear b s t)
-seen_attacker b c t s = by_tests (has_colour c (at b s)) (reaches_from (at b s) s t) (is_aligned s t) (is_jump s t) (is_some (at b s)) (is_clear b s t)
+pub seen_attacker : (b : Board) (c : Colour) (t s : Square)
+    → (may_attack b c t s && (is_in_view b t s || is_jump s t)) ≡ (may_attack b c t s && is_clear b s t)
+seen_attacker b c t s =
+    by_tests (has_colour c (at b s)) (reaches_from (at b s) s t) (is_aligned s t) (is_jump s t) (is_some (at b s)) (is_clear b s t)
     (some_of c (at b s)) (reached (at b s) s t) (jump_clear b s t)
   where
     some_of : (d : Colour) (cell : Option Piece) → has_colour d cell ≡ true → is_some cell ≡ true
     some_of d cell h = grind arith
 
-    by_tests : (own reaches aligned jump some clear : Bool) → (own ≡ true → some ≡ true) → ((aligned || jump) ≡ false → reaches ≡ false) → (jump ≡ true → clear ≡ true)
+    by_tests : (own reaches aligned jump some clear : Bool) → (own ≡ true → some ≡ true)
+        → ((aligned || jump) ≡ false → reaches ≡ false) → (jump ≡ true → clear ≡ true)
         → ((own && reaches) && ((aligned && (some && clear)) || jump)) ≡ ((own && reaches) && clear)
     by_tests own reaches aligned jump some clear h g f = grind (arith, h, g, f)
 
 -- The sets of the code, piece by piece.
 
 pub slider_is : (c : Colour) (cell : Option Piece) (s t : Square)
-    → (((in_line s t && (has_kind Rook cell || has_kind Queen cell)) || (on_diagonal s t && (has_kind Bishop cell || has_kind Queen cell))) && has_colour c cell)
+    → (((in_line s t && (has_kind Rook cell || has_kind Queen cell)) || (on_diagonal s t && (has_kind Bishop cell || has_kind Queen cell)))
+    && has_colour c cell)
     ≡ ((has_colour c cell && reaches_from cell s t) && not (is_near cell))
 slider_is c None s t = grind arith
 slider_is c (Some x) s t = of x.kind
   where
-    of : (k : Kind) → (((in_line s t && (same_kind Rook k || same_kind Queen k)) || (on_diagonal s t && (same_kind Bishop k || same_kind Queen k))) && same_colour c x.colour)
+    of : (k : Kind) → (((in_line s t && (same_kind Rook k || same_kind Queen k)) || (on_diagonal s t && (same_kind Bishop k || same_kind Queen k)))
+        && same_colour c x.colour)
         ≡ ((same_colour c x.colour && reaches k x.colour s t) && not (same_kind King k || (same_kind Knight k || same_kind Pawn k)))
     of k = grind arith
 
@@ -166,7 +178,8 @@ reach_of Bishop jump adjacent pawn line diagonal = diagonal
 reach_of Knight jump adjacent pawn line diagonal = jump
 reach_of Pawn jump adjacent pawn line diagonal = pawn
 
-reach_is : (k : Kind) (c : Colour) (s t : Square) → reaches k c s t ≡ reach_of k (is_jump s t) (is_adjacent s t) (reaches Pawn c s t) (in_line s t) (on_diagonal s t)
+reach_is : (k : Kind) (c : Colour) (s t : Square)
+    → reaches k c s t ≡ reach_of k (is_jump s t) (is_adjacent s t) (reaches Pawn c s t) (in_line s t) (on_diagonal s t)
 reach_is King c s t = refl
 reach_is Queen c s t = refl
 reach_is Rook c s t = refl
@@ -175,7 +188,8 @@ reach_is Knight c s t = refl
 reach_is Pawn c s t = refl
 
 pub attacker_of : (c : Colour) (cell : Option Piece) (s t : Square)
-    → (((((is_jump s t && has_kind Knight cell) || (is_adjacent s t && has_kind King cell)) || (reaches Pawn c s t && has_kind Pawn cell)) && has_colour c cell)
+    → (((((is_jump s t && has_kind Knight cell) || (is_adjacent s t && has_kind King cell)) || (reaches Pawn c s t && has_kind Pawn cell))
+    && has_colour c cell)
     || ((has_colour c cell && reaches_from cell s t) && not (is_near cell)))
     ≡ (has_colour c cell && reaches_from cell s t)
 attacker_of c None s t = no_colour (((is_jump s t && false) || (is_adjacent s t && false)) || (reaches Pawn c s t && false)) false true
@@ -192,13 +206,17 @@ attacker_of c (Some x) s t = by_colour (same_colour c x.colour) refl
     others n r m = grind arith
 
     by_colour : (v : Bool) → same_colour c x.colour ≡ v
-        → (((((is_jump s t && same_kind Knight x.kind) || (is_adjacent s t && same_kind King x.kind)) || (reaches Pawn c s t && same_kind Pawn x.kind)) && same_colour c x.colour)
-        || ((same_colour c x.colour && reaches x.kind x.colour s t) && not (same_kind King x.kind || (same_kind Knight x.kind || same_kind Pawn x.kind))))
+        → (((((is_jump s t && same_kind Knight x.kind) || (is_adjacent s t && same_kind King x.kind))
+        || (reaches Pawn c s t && same_kind Pawn x.kind)) && same_colour c x.colour)
+        || ((same_colour c x.colour && reaches x.kind x.colour s t)
+        && not (same_kind King x.kind || (same_kind Knight x.kind || same_kind Pawn x.kind))))
         ≡ (same_colour c x.colour && reaches x.kind x.colour s t)
     by_colour false e =
-        rw e (others (((is_jump s t && same_kind Knight x.kind) || (is_adjacent s t && same_kind King x.kind)) || (reaches Pawn c s t && same_kind Pawn x.kind))
+        rw e (others (((is_jump s t && same_kind Knight x.kind) || (is_adjacent s t && same_kind King x.kind))
+        || (reaches Pawn c s t && same_kind Pawn x.kind))
         (reaches x.kind x.colour s t) (not (same_kind King x.kind || (same_kind Knight x.kind || same_kind Pawn x.kind))))
     by_colour true e =
-        let same : reaches x.kind x.colour s t ≡ reach_of x.kind (is_jump s t) (is_adjacent s t) (reaches Pawn c s t) (in_line s t) (on_diagonal s t) =
+        let same : reaches x.kind x.colour s t
+        ≡ reach_of x.kind (is_jump s t) (is_adjacent s t) (reaches Pawn c s t) (in_line s t) (on_diagonal s t) =
         ap (λ d. reaches x.kind d s t) (sym (colours_same c x.colour e)) ∙ reach_is x.kind c s t in
         rw (e, same) (by_kind x.kind (is_jump s t) (is_adjacent s t) (reaches Pawn c s t) (in_line s t) (on_diagonal s t))

@@ -4,7 +4,8 @@ use Rattle.chess_rules.proofs.Words.{Piece, Square, squares, strictly_between, B
 use Rattle.chess_rules.proofs.positions.OneKing.{cell_of-square_at}
 use Rattle.chess_rules.proofs.sets.SetsToSquares.{any_of_set, places_and}
 
-all_unless : {X : Type 0} (p q r : X → Bool) (xs : List X) → ((x : X) → q x ≡ not (r x)) → list_all (λ x. not (p x) || r x) xs ≡ not (list_any (λ x. p x && q x) xs)
+all_unless : {X : Type 0} (p q r : X → Bool) (xs : List X) → ((x : X) → q x ≡ not (r x))
+    → list_all (λ x. not (p x) || r x) xs ≡ not (list_any (λ x. p x && q x) xs)
 all_unless p q r [] h = refl
 all_unless p q r (x ∷ xs) h = by_tests (p x) (q x) (r x) _ _ (h x) (all_unless p q r xs h)
   where
@@ -14,7 +15,8 @@ all_unless p q r (x ∷ xs) h = by_tests (p x) (q x) (r x) _ _ (h x) (all_unless
 filled : (o : Option Piece) → is_some o ≡ not (is_none o)
 filled o = grind arith
 
-pub clear_by_set : (b : Board) (s t : Square) (v w r : ℕ) → Places v (λ u. strictly_between s u t) → Places w (λ u. is_some (at b u)) → Bits r (λ i. has v i && has w i) → not (has_any r) ≡ is_clear b s t
+pub clear_by_set : (b : Board) (s t : Square) (v w r : ℕ) → Places v (λ u. strictly_between s u t)
+    → Places w (λ u. is_some (at b u)) → Bits r (λ i. has v i && has w i) → not (has_any r) ≡ is_clear b s t
 clear_by_set b s t v w r between pieces both =
     ap not (any_of_set r (λ u. strictly_between s u t && is_some (at b u))
     (places_and v w r (λ u. strictly_between s u t) (λ u. is_some (at b u)) both between pieces))

@@ -14,7 +14,8 @@ strict m n a g = grind (arith, g)
 -- One line through t.
 module _ (b : Board) (t : Square) (line : Square → Bool) (on : IsLine line t) where
   -- a piece between blocks the way
-  blocked : (i j : ℕ) → i < 64 → j < 64 → line (square_at i) ≡ true → line (square_at j) ≡ true → is_some (at b (square_at i)) ≡ true → is_clear b (square_at j) t ≡ true → inside j i (cell_of t) ≡ true → ⊥
+  blocked : (i j : ℕ) → i < 64 → j < 64 → line (square_at i) ≡ true → line (square_at j) ≡ true
+      → is_some (at b (square_at i)) ≡ true → is_clear b (square_at j) t ≡ true → inside j i (cell_of t) ≡ true → ⊥
   blocked i j low high there from full clear between =
       let apart : strictly_between (square_at j) (square_at i) t ≡ true =
       on.between (square_at j) (square_at i) (omega arith) (omega arith) (omega arith) (omega arith) from
@@ -26,7 +27,8 @@ module _ (b : Board) (t : Square) (line : Square → Bool) (on : IsLine line t) 
 
   -- no piece between leaves it clear
   clear_when : (j : ℕ) → j < 64 → line (square_at j) ≡ true
-      → ((u : Square) → u.file < 8 → u.rank < 8 → line u ≡ true → inside j (cell_of u) (cell_of t) ≡ true → is_empty b u ≡ true) → is_clear b (square_at j) t ≡ true
+      → ((u : Square) → u.file < 8 → u.rank < 8 → line u ≡ true → inside j (cell_of u) (cell_of t) ≡ true → is_empty b u ≡ true)
+      → is_clear b (square_at j) t ≡ true
   clear_when j low from h =
       clear_if b (square_at j) t (λ u f r between.
       let both : (line u && inside (cell_of (square_at j)) (cell_of u) (cell_of t)) ≡ true =
@@ -47,7 +49,8 @@ module _ (b : Board) (t : Square) (line occupied up down low high : ℕ) (tf : t
   on_line i h e = grind arith
 
   -- a square of the line with no piece that counts is empty
-  empty_there : (u : Square) (side : Bool) → u.file < 8 → u.rank < 8 → has line (cell_of u) ≡ true → side ≡ true → ((has line (cell_of u) && has occupied (cell_of u)) && side) ≡ false → is_empty b u ≡ true
+  empty_there : (u : Square) (side : Bool) → u.file < 8 → u.rank < 8 → has line (cell_of u) ≡ true
+      → side ≡ true → ((has line (cell_of u) && has occupied (cell_of u)) && side) ≡ false → is_empty b u ≡ true
   empty_there u side f r here is none = grind arith
 
   test_below : (i n : ℕ) → nat_lt i n ≡ true → i < n
@@ -62,7 +65,8 @@ module _ (b : Board) (t : Square) (line occupied up down low high : ℕ) (tf : t
   above_test : (i n : ℕ) → n ≤ i → not (nat_lt i n) ≡ true
   above_test i n h = grind arith
 
-  open_there : (i : ℕ) → i < 64 → has line i ≡ true → has occupied i ≡ true → is_clear b (square_at i) t ≡ true → (has line (cell_of (square_at i)) && is_open b t (square_at i)) ≡ true
+  open_there : (i : ℕ) → i < 64 → has line i ≡ true → has occupied i ≡ true
+      → is_clear b (square_at i) t ≡ true → (has line (cell_of (square_at i)) && is_open b t (square_at i)) ≡ true
   open_there i h here full clear = grind arith
 
   from_low : (i : ℕ) → i < 64 → has low i ≡ true → (has line (cell_of (square_at i)) && is_open b t (square_at i)) ≡ true
@@ -75,13 +79,15 @@ module _ (b : Board) (t : Square) (line occupied up down low high : ℕ) (tf : t
       (clear_when b t (λ s. has line (cell_of s)) on i h (on_line i h (first_true (has line i) _ both)) (λ u f r here between.
       empty_between u f r here (in_order i u above (inside_means _ _ _ between)) is.none))
     where
-      in_order : (j : ℕ) (u : Square) → cell_of t ≤ j → ((j < cell_of u) × (cell_of u < cell_of t)) ⊎ ((cell_of t < cell_of u) × (cell_of u < j)) → (cell_of t < cell_of u) × (cell_of u < j)
+      in_order : (j : ℕ) (u : Square) → cell_of t ≤ j → ((j < cell_of u) × (cell_of u < cell_of t))
+          ⊎ ((cell_of t < cell_of u) × (cell_of u < j)) → (cell_of t < cell_of u) × (cell_of u < j)
       in_order j u h g = grind arith
 
       empty_between : (u : Square) → u.file < 8 → u.rank < 8 → has line (cell_of u) ≡ true → (cell_of t < cell_of u) × (cell_of u < i)
           → ((k : ℕ) → k < i → has up k ≡ false) → is_empty b u ≡ true
       empty_between u f r here x none =
-          empty_there u (not (nat_lt (cell_of u) (cell_of t))) f r here (above_test (cell_of u) (cell_of t) (omega (arith, x.0))) (sym (after (cell_of u) (omega arith)) ∙ none (cell_of u) x.1)
+          empty_there u (not (nat_lt (cell_of u) (cell_of t))) f r here (above_test (cell_of u) (cell_of t) (omega (arith, x.0)))
+          (sym (after (cell_of u) (omega arith)) ∙ none (cell_of u) x.1)
 
   from_high : (i : ℕ) → i < 64 → has high i ≡ true → (has line (cell_of (square_at i)) && is_open b t (square_at i)) ≡ true
   from_high i h e =
@@ -93,13 +99,15 @@ module _ (b : Board) (t : Square) (line occupied up down low high : ℕ) (tf : t
       (clear_when b t (λ s. has line (cell_of s)) on i h (on_line i h (first_true (has line i) _ both)) (λ u f r here between.
       empty_between u f r here (in_order i u less (inside_means _ _ _ between)) is.none))
     where
-      in_order : (j : ℕ) (u : Square) → j < cell_of t → ((j < cell_of u) × (cell_of u < cell_of t)) ⊎ ((cell_of t < cell_of u) × (cell_of u < j)) → (j < cell_of u) × (cell_of u < cell_of t)
+      in_order : (j : ℕ) (u : Square) → j < cell_of t → ((j < cell_of u) × (cell_of u < cell_of t))
+          ⊎ ((cell_of t < cell_of u) × (cell_of u < j)) → (j < cell_of u) × (cell_of u < cell_of t)
       in_order j u h g = grind arith
 
       empty_between : (u : Square) → u.file < 8 → u.rank < 8 → has line (cell_of u) ≡ true → (i < cell_of u) × (cell_of u < cell_of t)
           → ((k : ℕ) → i < k → k < 64 → has down k ≡ false) → is_empty b u ≡ true
       empty_between u f r here x none =
-          empty_there u (nat_lt (cell_of u) (cell_of t)) f r here (below_test (cell_of u) (cell_of t) x.1) (sym (before (cell_of u) (omega arith)) ∙ none (cell_of u) x.0 (omega arith))
+          empty_there u (nat_lt (cell_of u) (cell_of t)) f r here (below_test (cell_of u) (cell_of t) x.1)
+          (sym (before (cell_of u) (omega arith)) ∙ none (cell_of u) x.0 (omega arith))
 
   -- a piece of the line that is open and on one side is the nearest there
   found : (i : ℕ) → i < 64 → (has line (cell_of (square_at i)) && is_open b t (square_at i)) ≡ true → (has low i || has high i) ≡ true
@@ -141,7 +149,8 @@ module _ (b : Board) (t : Square) (line occupied up down low high : ℕ) (tf : t
                   let all : ((has line k && has occupied k) && not (nat_lt k (cell_of t))) ≡ true = sym (after k low_k) ∙ g in
                   let both : (has line k && has occupied k) ≡ true = first_true _ (not (nat_lt k (cell_of t))) all in
                   let past : cell_of t ≤ k = test_above k (cell_of t) (not-true _ (second_true (has line k && has occupied k) _ all)) in
-                  let other : k ≢ cell_of t = not_there b t (λ s. has line (cell_of s)) on k low_k (on_line k low_k (first_true (has line k) _ both)) tf in
+                  let other : k ≢ cell_of t =
+                  not_there b t (λ s. has line (cell_of s)) on k low_k (on_line k low_k (first_true (has line k) _ both)) tf in
                   absurd (none_between k low_k (inside_down i k (cell_of t) (strict (cell_of t) k past (λ s. other (sym s))) less) both)
       by_side true less =
           or_right _ _ (highest.there i (record {
@@ -158,10 +167,14 @@ module _ (b : Board) (t : Square) (line occupied up down low high : ℕ) (tf : t
               by_bit true g =
                   let all : ((has line k && has occupied k) && nat_lt k (cell_of t)) ≡ true = sym (before k low_k) ∙ g in
                   let both : (has line k && has occupied k) ≡ true = first_true _ (nat_lt k (cell_of t)) all in
-                  absurd (none_between k low_k (inside_up i k (cell_of t) more (test_below k (cell_of t) (second_true (has line k && has occupied k) _ all))) both)
+                  absurd (none_between k low_k
+                  (inside_up i k (cell_of t) more (test_below k (cell_of t) (second_true (has line k && has occupied k) _ all))) both)
 
   pub nearest_places : (near : ℕ) → Bits near (λ i. has low i || has high i) → Places near (λ s. has line (cell_of s) && is_open b t s)
-  nearest_places near either = record { of = λ i h. either.of i h ∙ same_tests (has low i || has high i) _ (one_of (has low i) (has high i) _ (from_low i h) (from_high i h)) (found i h) }
+  nearest_places near either = record {
+    of = λ i h. either.of i h
+        ∙ same_tests (has low i || has high i) _ (one_of (has low i) (has high i) _ (from_low i h) (from_high i h)) (found i h);
+  }
     where
       one_of : (x y z : Bool) → (x ≡ true → z ≡ true) → (y ≡ true → z ≡ true) → (x || y) ≡ true → z ≡ true
       one_of x y z f g e = grind (arith, f, g)
@@ -173,7 +186,8 @@ abbrev one_side : Board → Square → (Square → Bool) → (Square → Bool) �
 one_side b t line side s = (line s && is_open b t s) && side s
 
 module _ (b : Board) (t : Square) (line : Square → Bool) (tf : t.file < 8) (on : IsLine line t) where
-  apart : (i j : ℕ) → i < 64 → j < 64 → (line (square_at i) && is_open b t (square_at i)) ≡ true → (line (square_at j) && is_open b t (square_at j)) ≡ true → inside j i (cell_of t) ≡ true → ⊥
+  apart : (i j : ℕ) → i < 64 → j < 64 → (line (square_at i) && is_open b t (square_at i)) ≡ true
+      → (line (square_at j) && is_open b t (square_at j)) ≡ true → inside j i (cell_of t) ≡ true → ⊥
   apart i j low high h g =
       blocked b t line on i j low high (first_true (line (square_at i)) _ h) (first_true (line (square_at j)) _ g)
       (first_true (is_some (at b (square_at i))) _ (second_true (line (square_at i)) _ h))
@@ -206,8 +220,10 @@ module _ (b : Board) (t : Square) (line : Square → Bool) (tf : t.file < 8) (on
         arith,
         one_before,
         one_after,
-        kept_either (one_side b t line (λ s. nat_lt (cell_of s) (cell_of t))) (one_side b t line (λ s. not (nat_lt (cell_of s) (cell_of t)))) squares,
-        kept_more (λ s. line s && is_open b t s) (λ s. one_side b t line (λ u. nat_lt (cell_of u) (cell_of t)) s || one_side b t line (λ u. not (nat_lt (cell_of u) (cell_of t))) s)
+        kept_either (one_side b t line (λ s. nat_lt (cell_of s) (cell_of t)))
+            (one_side b t line (λ s. not (nat_lt (cell_of s) (cell_of t)))) squares,
+        kept_more (λ s. line s && is_open b t s)
+            (λ s. one_side b t line (λ u. nat_lt (cell_of u) (cell_of t)) s || one_side b t line (λ u. not (nat_lt (cell_of u) (cell_of t))) s)
             squares (λ s h. on_a_side (line s && is_open b t s) (nat_lt (cell_of s) (cell_of t)) h),
       )
     where
@@ -239,9 +255,11 @@ pub few_in_view : (b : Board) (t : Square) → t.file < 8 → length (filter (is
 few_in_view b t tf =
     omega (
       arith,
-      kept_more (is_in_view b t) (λ s. ((open_on b t (on_file t) s || open_on b t (on_rank t) s) || open_on b t (on_rising t) s) || open_on b t (on_falling t) s) squares
+      kept_more (is_in_view b t)
+          (λ s. ((open_on b t (on_file t) s || open_on b t (on_rank t) s) || open_on b t (on_rising t) s) || open_on b t (on_falling t) s) squares
           (λ s h. four_lines (in_line s t) (on_diagonal s t) (is_steep s t) (is_open b t s) ∙ h),
-      kept_either (λ s. (open_on b t (on_file t) s || open_on b t (on_rank t) s) || open_on b t (on_rising t) s) (open_on b t (on_falling t)) squares,
+      kept_either (λ s. (open_on b t (on_file t) s || open_on b t (on_rank t) s) || open_on b t (on_rising t) s)
+          (open_on b t (on_falling t)) squares,
       kept_either (λ s. open_on b t (on_file t) s || open_on b t (on_rank t) s) (open_on b t (on_rising t)) squares,
       kept_either (open_on b t (on_file t)) (open_on b t (on_rank t)) squares,
       two_on_line b t (on_file t) tf (file_line t tf),
@@ -252,7 +270,8 @@ few_in_view b t tf =
 
 -- a line as a set of the board's squares
 
-pub line_of_set : (line : Square → Bool) (t : Square) (w : ℕ) → t.file < 8 → t.rank < 8 → IsLine line t → Places w line → IsLine (λ s. has w (cell_of s)) t
+pub line_of_set : (line : Square → Bool) (t : Square) (w : ℕ) → t.file < 8
+    → t.rank < 8 → IsLine line t → Places w line → IsLine (λ s. has w (cell_of s)) t
 line_of_set line t w tf tr on h =
     record {
       apart = at_square w line t h tf tr ∙ on.apart;
@@ -261,9 +280,9 @@ line_of_set line t w tf tr on h =
           ∙ ap (λ x. x && inside (cell_of s) (cell_of u) (cell_of t)) (sym (at_square w line u h uf ur));
     }
 
-pub view_places : (b : Board) (t : Square) (v w x y k l m n two three four : ℕ) → Bits two (λ i. has k i || has l i) → Bits three (λ i. has two i || has m i) → Bits four (λ i. has three i || has n i) → t.file < 8 → t.rank < 8
+pub view_places : (b : Board) (t : Square) (v w x y k l m n two three four : ℕ) → Bits two (λ i. has k i || has l i)
+    → Bits three (λ i. has two i || has m i) → Bits four (λ i. has three i || has n i) → t.file < 8 → t.rank < 8
     → Places v (on_file t) → Places w (on_rank t) → Places x (on_rising t) → Places y (on_falling t)
     → Places k (λ s. has v (cell_of s) && is_open b t s) → Places l (λ s. has w (cell_of s) && is_open b t s)
-    → Places m (λ s. has x (cell_of s) && is_open b t s) → Places n (λ s. has y (cell_of s) && is_open b t s)
-    → Places four (is_in_view b t)
+    → Places m (λ s. has x (cell_of s) && is_open b t s) → Places n (λ s. has y (cell_of s) && is_open b t s) → Places four (is_in_view b t)
 view_places b t v w x y k l m n two three four joins more all tf tr pv pw px py pk pl pm pn = grind (arith, four_lines)

@@ -60,9 +60,11 @@ falling_off_file : (s u t : Square) → s.file + s.rank ≡ t.file + t.rank → 
 falling_off_file s u t h apart g = grind arith
 
 pub rising_line : (t : Square) → t.file < 8 → IsLine (λ s. on_diagonal s t && is_steep s t) t
-rising_line t tf = record { apart = cross_leaves (is_steep t t) t; between = λ s u sf _ uf _ l. same_tests _ _ (forth s u sf uf l) (back s u sf uf l) }
+rising_line t tf =
+    record { apart = cross_leaves (is_steep t t) t; between = λ s u sf _ uf _ l. same_tests _ _ (forth s u sf uf l) (back s u sf uf l) }
   where
-    forth : (s u : Square) → s.file < 8 → u.file < 8 → (on_diagonal s t && is_steep s t) ≡ true → strictly_between s u t ≡ true → ((on_diagonal u t && is_steep u t) && inside (cell_of s) (cell_of u) (cell_of t)) ≡ true
+    forth : (s u : Square) → s.file < 8 → u.file < 8 → (on_diagonal s t && is_steep s t) ≡ true
+        → strictly_between s u t ≡ true → ((on_diagonal u t && is_steep u t) && inside (cell_of s) (cell_of u) (cell_of t)) ≡ true
     forth s u sf uf l h =
         elim (or_cases (between_on_rank s u t) (between_on_file s u t || between_on_diagonal s u t) h) [
           | inl r ↦ absurd (not_on_rank s u t (rising_apart s t l) r)
@@ -75,13 +77,16 @@ rising_line t tf = record { apart = cross_leaves (is_steep t t) t; between = λ 
         here : Between s u t → ((on_diagonal u t && is_steep u t) && inside (cell_of s) (cell_of u) (cell_of t)) ≡ true
         here w = grind (arith, nat_tests)
 
-    back : (s u : Square) → s.file < 8 → u.file < 8 → (on_diagonal s t && is_steep s t) ≡ true → ((on_diagonal u t && is_steep u t) && inside (cell_of s) (cell_of u) (cell_of t)) ≡ true → strictly_between s u t ≡ true
+    back : (s u : Square) → s.file < 8 → u.file < 8 → (on_diagonal s t && is_steep s t) ≡ true
+        → ((on_diagonal u t && is_steep u t) && inside (cell_of s) (cell_of u) (cell_of t)) ≡ true → strictly_between s u t ≡ true
     back s u sf uf l h = grind (arith, nat_tests, or_right, inside_means, second_true, rising_means, first_true)
 
 pub falling_line : (t : Square) → t.file < 8 → IsLine (λ s. on_diagonal s t && not (is_steep s t)) t
-falling_line t tf = record { apart = cross_leaves (not (is_steep t t)) t; between = λ s u sf _ uf _ l. same_tests _ _ (forth s u sf uf l) (back s u sf uf l) }
+falling_line t tf =
+    record { apart = cross_leaves (not (is_steep t t)) t; between = λ s u sf _ uf _ l. same_tests _ _ (forth s u sf uf l) (back s u sf uf l) }
   where
-    forth : (s u : Square) → s.file < 8 → u.file < 8 → (on_diagonal s t && not (is_steep s t)) ≡ true → strictly_between s u t ≡ true → ((on_diagonal u t && not (is_steep u t)) && inside (cell_of s) (cell_of u) (cell_of t)) ≡ true
+    forth : (s u : Square) → s.file < 8 → u.file < 8 → (on_diagonal s t && not (is_steep s t)) ≡ true
+        → strictly_between s u t ≡ true → ((on_diagonal u t && not (is_steep u t)) && inside (cell_of s) (cell_of u) (cell_of t)) ≡ true
     forth s u sf uf l h =
         elim (or_cases (between_on_rank s u t) (between_on_file s u t || between_on_diagonal s u t) h) [
           | inl r ↦ absurd (not_on_rank s u t (falling_apart s t l) r)
@@ -94,15 +99,18 @@ falling_line t tf = record { apart = cross_leaves (not (is_steep t t)) t; betwee
         here : Between s u t → ((on_diagonal u t && not (is_steep u t)) && inside (cell_of s) (cell_of u) (cell_of t)) ≡ true
         here w = grind (arith, nat_tests)
 
-    back : (s u : Square) → s.file < 8 → u.file < 8 → (on_diagonal s t && not (is_steep s t)) ≡ true → ((on_diagonal u t && not (is_steep u t)) && inside (cell_of s) (cell_of u) (cell_of t)) ≡ true → strictly_between s u t ≡ true
+    back : (s u : Square) → s.file < 8 → u.file < 8 → (on_diagonal s t && not (is_steep s t)) ≡ true
+        → ((on_diagonal u t && not (is_steep u t)) && inside (cell_of s) (cell_of u) (cell_of t)) ≡ true → strictly_between s u t ≡ true
     back s u sf uf l h = grind (arith, nat_tests, or_right, inside_means, second_true, falling_means, first_true)
 
 -- a file and a rank
 
-file_forth : (s u t : Square) → u.file < 8 → s.file < 8 → t.file < 8 → (in_line s t && is_steep s t) ≡ true → between_on_file s u t ≡ true → ((in_line u t && is_steep u t) && inside (cell_of s) (cell_of u) (cell_of t)) ≡ true
+file_forth : (s u t : Square) → u.file < 8 → s.file < 8 → t.file < 8 → (in_line s t && is_steep s t) ≡ true
+    → between_on_file s u t ≡ true → ((in_line u t && is_steep u t) && inside (cell_of s) (cell_of u) (cell_of t)) ≡ true
 file_forth s u t uf sf tf h g = grind (arith, nat_tests)
 
-file_back : (s u t : Square) → u.file < 8 → s.file < 8 → t.file < 8 → (in_line s t && is_steep s t) ≡ true → ((in_line u t && is_steep u t) && inside (cell_of s) (cell_of u) (cell_of t)) ≡ true → between_on_file s u t ≡ true
+file_back : (s u t : Square) → u.file < 8 → s.file < 8 → t.file < 8 → (in_line s t && is_steep s t) ≡ true
+    → ((in_line u t && is_steep u t) && inside (cell_of s) (cell_of u) (cell_of t)) ≡ true → between_on_file s u t ≡ true
 file_back s u t uf sf tf h g = grind (arith, nat_tests)
 
 file_off_rank : (s u t : Square) → (in_line s t && is_steep s t) ≡ true → between_on_rank s u t ≡ true → ⊥
@@ -115,9 +123,13 @@ cross_there : (s u t : Square) → between_on_diagonal s u t ≡ true → on_dia
 cross_there s u t h = grind arith
 
 pub file_line : (t : Square) → t.file < 8 → IsLine (λ s. in_line s t && is_steep s t) t
-file_line t tf = record { apart = line_leaves (is_steep t t) t; between = λ s u sf _ uf _ l. same_tests _ _ (forth s u sf uf l) (λ h. or_right _ _ (or_left _ _ (file_back s u t uf sf tf l h))) }
+file_line t tf = record {
+  apart = line_leaves (is_steep t t) t;
+  between = λ s u sf _ uf _ l. same_tests _ _ (forth s u sf uf l) (λ h. or_right _ _ (or_left _ _ (file_back s u t uf sf tf l h)));
+}
   where
-    forth : (s u : Square) → s.file < 8 → u.file < 8 → (in_line s t && is_steep s t) ≡ true → strictly_between s u t ≡ true → ((in_line u t && is_steep u t) && inside (cell_of s) (cell_of u) (cell_of t)) ≡ true
+    forth : (s u : Square) → s.file < 8 → u.file < 8 → (in_line s t && is_steep s t) ≡ true
+        → strictly_between s u t ≡ true → ((in_line u t && is_steep u t) && inside (cell_of s) (cell_of u) (cell_of t)) ≡ true
     forth s u sf uf l h =
         elim (or_cases (between_on_rank s u t) (between_on_file s u t || between_on_diagonal s u t) h) [
           | inl r ↦ absurd (file_off_rank s u t l r)
@@ -127,22 +139,28 @@ file_line t tf = record { apart = line_leaves (is_steep t t) t; between = λ s u
           ]
         ]
 
-rank_forth : (s u t : Square) → u.file < 8 → s.file < 8 → t.file < 8 → (in_line s t && not (is_steep s t)) ≡ true → between_on_rank s u t ≡ true → ((in_line u t && not (is_steep u t)) && inside (cell_of s) (cell_of u) (cell_of t)) ≡ true
+rank_forth : (s u t : Square) → u.file < 8 → s.file < 8 → t.file < 8 → (in_line s t && not (is_steep s t)) ≡ true
+    → between_on_rank s u t ≡ true → ((in_line u t && not (is_steep u t)) && inside (cell_of s) (cell_of u) (cell_of t)) ≡ true
 rank_forth s u t uf sf tf h g = grind (arith, nat_tests)
 
 rank_means : (s t : Square) → (in_line s t && not (is_steep s t)) ≡ true → s.rank ≡ t.rank
 rank_means s t h = grind arith
 
-rank_back : (s u t : Square) → u.file < 8 → s.file < 8 → t.file < 8 → (in_line s t && not (is_steep s t)) ≡ true → ((in_line u t && not (is_steep u t)) && inside (cell_of s) (cell_of u) (cell_of t)) ≡ true → between_on_rank s u t ≡ true
+rank_back : (s u t : Square) → u.file < 8 → s.file < 8 → t.file < 8 → (in_line s t && not (is_steep s t)) ≡ true
+    → ((in_line u t && not (is_steep u t)) && inside (cell_of s) (cell_of u) (cell_of t)) ≡ true → between_on_rank s u t ≡ true
 rank_back s u t uf sf tf h g = grind (arith, nat_tests, inside_means, rank_means)
 
 rank_off_file : (s u t : Square) → (in_line s t && not (is_steep s t)) ≡ true → between_on_file s u t ≡ true → ⊥
 rank_off_file s u t h g = grind arith
 
 pub rank_line : (t : Square) → t.file < 8 → IsLine (λ s. in_line s t && not (is_steep s t)) t
-rank_line t tf = record { apart = line_leaves (not (is_steep t t)) t; between = λ s u sf _ uf _ l. same_tests _ _ (forth s u sf uf l) (λ h. or_left _ _ (rank_back s u t uf sf tf l h)) }
+rank_line t tf = record {
+  apart = line_leaves (not (is_steep t t)) t;
+  between = λ s u sf _ uf _ l. same_tests _ _ (forth s u sf uf l) (λ h. or_left _ _ (rank_back s u t uf sf tf l h));
+}
   where
-    forth : (s u : Square) → s.file < 8 → u.file < 8 → (in_line s t && not (is_steep s t)) ≡ true → strictly_between s u t ≡ true → ((in_line u t && not (is_steep u t)) && inside (cell_of s) (cell_of u) (cell_of t)) ≡ true
+    forth : (s u : Square) → s.file < 8 → u.file < 8 → (in_line s t && not (is_steep s t)) ≡ true
+        → strictly_between s u t ≡ true → ((in_line u t && not (is_steep u t)) && inside (cell_of s) (cell_of u) (cell_of t)) ≡ true
     forth s u sf uf l h =
         elim (or_cases (between_on_rank s u t) (between_on_file s u t || between_on_diagonal s u t) h) [
           | inl r ↦ rank_forth s u t uf sf tf l r

@@ -58,7 +58,8 @@ carried_stays p m sound lands =
 
     kings_kept : (c : Colour) → kings c (carried p m) ≡ 1
     kings_kept c =
-        sum_of _ _ _ _ _ _ (kings-put c p.board m.from None sound.long lands.on_from) (kings-put c (put p.board m.from None) m.to (arriving p m) left_long lands.on_to)
+        sum_of _ _ _ _ _ _ (kings-put c p.board m.from None sound.long lands.on_from)
+        (kings-put c (put p.board m.from None) m.to (arriving p m) left_long lands.on_to)
         (left_free c) (ap (λ v. cond v 1 0) (lands.alike c)) (sound.kings_of c)
       where
         sum_of : (k l n i j o : ℕ) → l + i ≡ k + 0 → n + o ≡ l + j → o ≡ 0 → j ≡ i → k ≡ 1 → n ≡ 1
@@ -74,13 +75,15 @@ carried_stays p m sound lands =
           ]
         ]
 
-    by_own : (c : Colour) (k : Square) → StandsAt c p.board k → (x : Bool) → same_square m.from k ≡ x → StandsAt c (carried p m) (if x then m.to else k)
+    by_own : (c : Colour) (k : Square) → StandsAt c p.board k → (x : Bool)
+        → same_square m.from k ≡ x → StandsAt c (carried p m) (if x then m.to else k)
     by_own c k stands true same =
         record {
           file = lands.on_to.file;
           rank = lands.on_to.rank;
           king = ap (has_piece c King) (at_put_here (put p.board m.from None) m.to (arriving p m) left_long lands.on_to)
-              ∙ (lands.alike c ∙ subst (λ (s : Square). has_piece c King (at p.board s) ≡ true) (sym (squares_same m.from k same)) stands.king);
+              ∙ (lands.alike c
+              ∙ subst (λ (s : Square). has_piece c King (at p.board s) ≡ true) (sym (squares_same m.from k same)) stands.king);
         }
     by_own c k stands false differ =
         record {
@@ -104,12 +107,14 @@ pub record IsPlain (cell : Option Piece) : Type 0 where
   pub no_pawn : is_pawn cell ≡ false
 
 -- a square without a king may be emptied or get a piece that is neither king nor pawn
-pub put_stays : (p : Parts) (m : Move) (b : Board) (s : Square) (x : Option Piece) → Stays p m b → OnBoard s → ((c : Colour) → has_piece c King (at b s) ≡ false) → IsPlain x → Stays p m (put b s x)
+pub put_stays : (p : Parts) (m : Move) (b : Board) (s : Square) (x : Option Piece) → Stays p m b → OnBoard s
+    → ((c : Colour) → has_piece c King (at b s) ≡ false) → IsPlain x → Stays p m (put b s x)
 put_stays p m b s x stays on free plain =
     record {
       own = stays.own;
       long = length-put b s x ∙ stays.long;
-      kings_of = λ c. kings-put_alike c b s x stays.long on (count_none c (at b s) (free c) ∙ sym (count_none c x (plain.no_king c))) ∙ stays.kings_of c;
+      kings_of = λ c.
+          kings-put_alike c b s x stays.long on (count_none c (at b s) (free c) ∙ sym (count_none c x (plain.no_king c))) ∙ stays.kings_of c;
       pawns = λ u on_u edge.
           elim (at_put b s u x stays.long on on_u) [
             | inl here ↦ ap is_pawn here.1 ∙ plain.no_pawn
@@ -130,7 +135,8 @@ put_stays p m b s x stays on free plain =
         }
 
 -- a square but the target that had no king has none
-pub carried_free : (p : Parts) (m : Move) → Sound p → Lands p m → (u : Square) → OnBoard u → u ≢ m.to → ((c : Colour) → has_piece c King (at p.board u) ≡ false) → (c : Colour) → has_piece c King (at (carried p m) u) ≡ false
+pub carried_free : (p : Parts) (m : Move) → Sound p → Lands p m → (u : Square) → OnBoard u → u ≢ m.to
+    → ((c : Colour) → has_piece c King (at p.board u) ≡ false) → (c : Colour) → has_piece c King (at (carried p m) u) ≡ false
 carried_free p m sound lands u on apart free c =
     elim (at_put (put p.board m.from None) m.to u (arriving p m) (length-put p.board m.from None ∙ sound.long) lands.on_to on) [
       | inl here ↦ absurd (apart here.0)

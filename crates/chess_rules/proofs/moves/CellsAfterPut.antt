@@ -9,10 +9,12 @@ pub same_or_not : (m n : ℕ) → (m ≡ n) ⊎ (m ≢ n)
 same_or_not m n = grind arith
 
 -- a put is seen on its square alone
-pub at_put : (b : Board) (s u : Square) (x : Option Piece) → length b ≡ 64 → OnBoard s → OnBoard u → ((u ≡ s) × (at (put b s x) u ≡ x)) ⊎ ((u ≢ s) × (at (put b s x) u ≡ at b u))
+pub at_put : (b : Board) (s u : Square) (x : Option Piece) → length b ≡ 64 → OnBoard s → OnBoard u
+    → ((u ≡ s) × (at (put b s x) u ≡ x)) ⊎ ((u ≢ s) × (at (put b s x) u ≡ at b u))
 at_put b s u x long on_s on_u =
     elim (same_or_not (cell_of u) (cell_of s)) [
-      | inl same ↦ inl (square_same same, subst (λ (i : ℕ). get_or (set b (cell_of s) x) i None ≡ x) (sym same) (get_or-set_same b (cell_of s) x None low))
+      | inl same ↦ inl
+          (square_same same, subst (λ (i : ℕ). get_or (set b (cell_of s) x) i None ≡ x) (sym same) (get_or-set_same b (cell_of s) x None low))
       | inr differ ↦ inr ((λ e. differ (ap cell_of e)), get_or-set_other b (cell_of s) (cell_of u) x None differ)
     ]
   where
@@ -34,11 +36,13 @@ length-put b s x = length-set b (cell_of s) x
 abbrev pub king_count : Colour → Option Piece → ℕ
 king_count c cell = cond (has_piece c King cell) 1 0
 
-pub kings-put : (c : Colour) (b : Board) (s : Square) (x : Option Piece) → length b ≡ 64 → OnBoard s → kings c (put b s x) + king_count c (at b s) ≡ kings c b + king_count c x
+pub kings-put : (c : Colour) (b : Board) (s : Square) (x : Option Piece) → length b ≡ 64
+    → OnBoard s → kings c (put b s x) + king_count c (at b s) ≡ kings c b + king_count c x
 kings-put c b s x long on_s =
     let f : s.file < 8 = on_s.file in let r : s.rank < 8 = on_s.rank in
     sum_by-set (king_count c) b (cell_of s) x None (omega arith)
 
 -- kings stay as many where as many are put as were there
-pub kings-put_alike : (c : Colour) (b : Board) (s : Square) (x : Option Piece) → length b ≡ 64 → OnBoard s → king_count c (at b s) ≡ king_count c x → kings c (put b s x) ≡ kings c b
+pub kings-put_alike : (c : Colour) (b : Board) (s : Square) (x : Option Piece) → length b ≡ 64
+    → OnBoard s → king_count c (at b s) ≡ king_count c x → kings c (put b s x) ≡ kings c b
 kings-put_alike c b s x long on_s alike = grind (arith, kings-put)

@@ -12,8 +12,7 @@ king_goes_far p m = nat_lt 1 (gap m.from.file m.to.file) && own p King m.from
 
 -- a pawn goes to the en passant target, which is empty, and leaves its file
 abbrev pawn_passes : Parts → Move → Bool
-pawn_passes p m =
-    (is_target p.target m.to && own p Pawn m.from) && (not (m.from.file == m.to.file) && is_empty p.board m.to)
+pawn_passes p m = (is_target p.target m.to && own p Pawn m.from) && (not (m.from.file == m.to.file) && is_empty p.board m.to)
 
 -- Nothing goes to a square with a piece of its side.
 
@@ -55,13 +54,15 @@ passes_by far short passes e = grind arith
 module _ (p : Parts) (m : Move) where
   no_far_pawn : own p Pawn m.from ≡ true → king_goes_far p m ≡ false
   no_far_pawn pawn =
-      false_from_ne_true (king_goes_far p m) (λ far. pawn_is_no_king (one_kind p.side p.side King Pawn (at p.board m.from) (second_true (nat_lt 1 (gap m.from.file m.to.file)) _ far) pawn))
+      false_from_ne_true (king_goes_far p m)
+      (λ far. pawn_is_no_king (one_kind p.side p.side King Pawn (at p.board m.from) (second_true (nat_lt 1 (gap m.from.file m.to.file)) _ far) pawn))
 
   piece_is_plain : is_piece_step p m ≡ true → step_kind p m ≡ Plain
   unfolding step_kind
   piece_is_plain h =
       ap₂ (λ far passes. kind_by far (m.to.file == 6) passes)
-      (false_from_ne_true (king_goes_far p m) (λ far. near far (attacks_as p.side King (at p.board m.from) p.board m.from m.to (second_true (nat_lt 1 (gap m.from.file m.to.file)) _ far) (first_true _ _ (second_true _ _ h)))))
+      (false_from_ne_true (king_goes_far p m) (λ far. near far (attacks_as p.side King (at p.board m.from) p.board m.from m.to
+      (second_true (nat_lt 1 (gap m.from.file m.to.file)) _ far) (first_true _ _ (second_true _ _ h)))))
       (false_from_ne_true (pawn_passes p m) (λ passes. no_pawn_moves p m h (second_true _ (own p Pawn m.from) (first_true _ _ passes))))
     where
       near : king_goes_far p m ≡ true → is_adjacent m.from m.to ≡ true → ⊥
@@ -105,7 +106,8 @@ module _ (p : Parts) (m : Move) where
       passes : pawn_passes p m ≡ true
       passes =
           and_from _ _ (and_from _ _ (first_true _ _ (second_true (own p Pawn m.from && promotion_fits p m) _ goes)) (pawn_of_en_passant p m h))
-          (and_from _ _ (leaves m.from.file m.to.file (first_true _ _ (pawn_attack p m (pawn_of_en_passant p m h) hits))) (second_true (is_target p.target m.to) _ (second_true (own p Pawn m.from && promotion_fits p m) _ goes)))
+          (and_from _ _ (leaves m.from.file m.to.file (first_true _ _ (pawn_attack p m (pawn_of_en_passant p m h) hits)))
+          (second_true (is_target p.target m.to) _ (second_true (own p Pawn m.from && promotion_fits p m) _ goes)))
 
   castling_is_short : castles_short p m ≡ true → step_kind p m ≡ ShortCastling
   unfolding step_kind
@@ -168,7 +170,8 @@ module _ (p : Parts) (m : Move) where
       one_of : (x y z w : Bool) → (x ≡ true) ⊎ ((y ≡ true) ⊎ ((z ≡ true) ⊎ (w ≡ true))) → ((x || y) || (z || w)) ≡ true
       one_of x y z w h = grind arith
 
-      made : (((is_piece_step p m || is_pawn_step p m) ≡ true) ⊎ ((is_en_passant p m ≡ true) ⊎ ((castles_short p m ≡ true) ⊎ (castles_long p m ≡ true)))) → is_some (board_after p m) ≡ true
+      made : (((is_piece_step p m || is_pawn_step p m) ≡ true) ⊎ ((is_en_passant p m ≡ true)
+          ⊎ ((castles_short p m ≡ true) ⊎ (castles_long p m ≡ true)))) → is_some (board_after p m) ≡ true
       made h =
           some_way (is_piece_step p m) (is_pawn_step p m) (is_en_passant p m) (castles_short p m) (castles_long p m) _ _ _ _
           (one_of (is_piece_step p m || is_pawn_step p m) (is_en_passant p m) (castles_short p m) (castles_long p m) h)
@@ -186,12 +189,15 @@ module _ (p : Parts) (m : Move) where
 
   -- en passant asks these rules beside what its kind says
   pub passing_rules : EnPassant ≡ step_kind p m
-      → is_some (board_after p m) ≡ ((promotion_fits p m && reaches Pawn p.side m.from m.to) && has_piece (other p.side) Pawn (at p.board (captured_pawn m)))
+      → is_some (board_after p m)
+      ≡ ((promotion_fits p m && reaches Pawn p.side m.from m.to) && has_piece (other p.side) Pawn (at p.board (captured_pawn m)))
   unfolding step_kind
   passing_rules is =
       sym (obeys_if_step EnPassant is)
-      ∙ with_passing (own p Pawn m.from) (promotion_fits p m) (is_target p.target m.to) (is_empty p.board m.to) (attacks p.board m.from m.to) (reaches Pawn p.side m.from m.to) _
-      (second_true _ _ (first_true _ _ passes)) (first_true _ _ (first_true _ _ passes)) (second_true _ _ (second_true _ _ passes)) (hits (second_true _ _ (first_true _ _ passes)))
+      ∙ with_passing (own p Pawn m.from) (promotion_fits p m) (is_target p.target m.to)
+      (is_empty p.board m.to) (attacks p.board m.from m.to) (reaches Pawn p.side m.from m.to) _
+      (second_true _ _ (first_true _ _ passes)) (first_true _ _ (first_true _ _ passes))
+      (second_true _ _ (second_true _ _ passes)) (hits (second_true _ _ (first_true _ _ passes)))
     where
       passes : pawn_passes p m ≡ true
       passes = passes_by (king_goes_far p m) (m.to.file == 6) (pawn_passes p m) is
@@ -199,7 +205,8 @@ module _ (p : Parts) (m : Move) where
       hits : own p Pawn m.from ≡ true → attacks p.board m.from m.to ≡ reaches Pawn p.side m.from m.to
       hits pawn = grind arith
 
-      with_passing : (o f t e a r k : Bool) → o ≡ true → t ≡ true → e ≡ true → a ≡ r → (((o && f) && (t && e)) && (a && k)) ≡ ((f && r) && k)
+      with_passing : (o f t e a r k : Bool) → o ≡ true → t ≡ true → e ≡ true
+          → a ≡ r → (((o && f) && (t && e)) && (a && k)) ≡ ((f && r) && k)
       with_passing o f t e a r k owns target empty same = grind arith
 
 -- The rook of a king that castles is still there when the king has moved.
@@ -210,7 +217,8 @@ piece_there c k cell h = grind (arith, kinds_same, colours_same, first_true, sec
 home_apart : (p : Parts) (a b : ℕ) (s : Square) → s ≡ home p b → a ≢ b → cell_of (home p a) ≢ cell_of s
 home_apart p a b s is differ e = differ (let f : cell_of (home p a) ≡ cell_of (home p b) = e ∙ ap cell_of is in omega arith)
 
-pub rook_waits : (p : Parts) (m : Move) (right : Bool) (wing : Wing) → wing.rook ≢ 4 → wing.rook ≢ wing.end → castles p m right wing ≡ true → at (carried p m) (home p wing.rook) ≡ some_piece p.side Rook
+pub rook_waits : (p : Parts) (m : Move) (right : Bool) (wing : Wing) → wing.rook ≢ 4 → wing.rook ≢ wing.end
+    → castles p m right wing ≡ true → at (carried p m) (home p wing.rook) ≡ some_piece p.side Rook
 rook_waits p m right wing apart differ h =
     let w = castles_means p m right wing h in
     get_or-set_other (put p.board m.from None) (cell_of m.to) (cell_of (home p wing.rook)) _ None (home_apart p wing.rook wing.end m.to w.to differ)

@@ -9,11 +9,13 @@ no_pawn_moves p m h pawn = grind arith
 pub pawn_of_step : (p : Parts) (m : Move) → is_pawn_step p m ≡ true → own p Pawn m.from ≡ true
 pawn_of_step p m h = first_true (own p Pawn m.from) (is_pawn_way p m && promotion_fits p m) h
 
-pub en_passant_stands : (p : Parts) (m : Move) → is_en_passant p m ≡ true → ((own p Pawn m.from && promotion_fits p m) && (is_target p.target m.to && is_empty p.board m.to)) ≡ true
+pub en_passant_stands : (p : Parts) (m : Move) → is_en_passant p m ≡ true
+    → ((own p Pawn m.from && promotion_fits p m) && (is_target p.target m.to && is_empty p.board m.to)) ≡ true
 en_passant_stands p m h = first_true _ (attacks p.board m.from m.to && has_piece (other p.side) Pawn (at p.board (captured_pawn m))) h
 
 pub pawn_of_en_passant : (p : Parts) (m : Move) → is_en_passant p m ≡ true → own p Pawn m.from ≡ true
-pawn_of_en_passant p m h = first_true (own p Pawn m.from) _ (first_true _ (is_target p.target m.to && is_empty p.board m.to) (en_passant_stands p m h))
+pawn_of_en_passant p m h =
+    first_true (own p Pawn m.from) _ (first_true _ (is_target p.target m.to && is_empty p.board m.to) (en_passant_stands p m h))
 
 king_is_no_pawn : (p : Parts) (m : Move) (wing : Wing) → Castles p m wing → own p Pawn m.from ≡ true → ⊥
 king_is_no_pawn p m wing h pawn = grind arith
@@ -30,7 +32,8 @@ wings_apart : (p : Parts) (m : Move) → Castles p m short_wing → Castles p m 
 wings_apart p m h g = grind arith
 
 one_at_most : (a b c d e : Bool)
-    → (a ≡ true → b ≡ true → ⊥) → (a ≡ true → c ≡ true → ⊥) → (a ≡ true → d ≡ true → ⊥) → (a ≡ true → e ≡ true → ⊥)
+    → (a ≡ true → b ≡ true → ⊥) → (a ≡ true → c ≡ true → ⊥)
+    → (a ≡ true → d ≡ true → ⊥) → (a ≡ true → e ≡ true → ⊥)
     → (b ≡ true → c ≡ true → ⊥) → (b ≡ true → d ≡ true → ⊥) → (b ≡ true → e ≡ true → ⊥)
     → (c ≡ true → d ≡ true → ⊥) → (c ≡ true → e ≡ true → ⊥) → (d ≡ true → e ≡ true → ⊥)
     → count_by (λ holds. holds) (a ∷ b ∷ c ∷ d ∷ e ∷ []) ≤ 1

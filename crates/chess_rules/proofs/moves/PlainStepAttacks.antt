@@ -8,7 +8,8 @@ use Rattle.chess_rules.proofs.positions.RulesOfPosition.{Sound, sound_from_posit
 use Rattle.chess_rules.proofs.moves.BoardAfterMove.{arriving, king_after}
 use Rattle.chess_rules.proofs.moves.StepsKeepBoard.{other-other}
 use Rattle.chess_rules.proofs.moves.KindsOfSteps.{board_of, step_of_kind}
-use Rattle.chess_rules.proofs.moves.LegalToPosition.{on_board_means, board_stays, king_moves, king_waits, other_king_stays, king_seen, legal_unless_attacked}
+use Rattle.chess_rules.proofs.moves.LegalToPosition.{on_board_means, board_stays, king_moves, king_waits, other_king_stays, king_seen}
+use Rattle.chess_rules.proofs.moves.LegalToPosition.{legal_unless_attacked}
 
 -- A square between two lies on a line with the second.
 
@@ -33,35 +34,42 @@ between_aligned s u t h =
 
 -- A piece that attacks on one board attacks on another where the way is clear too.
 
-cell_still : (cell : Option Piece) (a b : Board) (s t : Square) → (is_clear a s t ≡ true → is_clear b s t ≡ true) → cell_attacks cell a s t ≡ true → cell_attacks cell b s t ≡ true
+cell_still : (cell : Option Piece) (a b : Board) (s t : Square) → (is_clear a s t ≡ true → is_clear b s t ≡ true)
+    → cell_attacks cell a s t ≡ true → cell_attacks cell b s t ≡ true
 cell_still cell a b s t clear h = grind arith
 
 -- what does not slide attacks on each board alike
-no_slide : (c : Colour) (cell : Option Piece) (a b : Board) (s t : Square) → ((has_colour c cell && reaches_from cell s t) && not (is_near cell)) ≡ false → (has_colour c cell && cell_attacks cell a s t) ≡ (has_colour c cell && cell_attacks cell b s t)
+no_slide : (c : Colour) (cell : Option Piece) (a b : Board) (s t : Square) → ((has_colour c cell && reaches_from cell s t) && not (is_near cell))
+    ≡ false → (has_colour c cell && cell_attacks cell a s t) ≡ (has_colour c cell && cell_attacks cell b s t)
 no_slide c cell a b s t none = grind arith
 
 -- Where a piece leaves no line to k, and the piece that arrives does not attack k, k is attacked no
 -- more than before.
-module _ (b : Board) (from to k : Square) (cell : Option Piece) (c : Colour) (long : length b ≡ 64) (on_from : OnBoard from) (on_to : OnBoard to) (on_k : OnBoard k) where
+module _ (b : Board) (from to k : Square) (cell : Option Piece) (c : Colour)
+    (long : length b ≡ 64) (on_from : OnBoard from) (on_to : OnBoard to) (on_k : OnBoard k) where
   left_long : length (put b from None) ≡ 64
   left_long = length-put b from None ∙ long
 
   arrived : at (put (put b from None) to cell) to ≡ cell
   arrived = at_put_here (put b from None) to cell left_long on_to
 
-  clear_before : (s : Square) → is_none cell ≡ false → is_aligned from k ≡ false → is_clear (put (put b from None) to cell) s k ≡ true → is_clear b s k ≡ true
+  clear_before : (s : Square) → is_none cell ≡ false → is_aligned from k ≡ false
+      → is_clear (put (put b from None) to cell) s k ≡ true → is_clear b s k ≡ true
   clear_before s full apart h =
       all_squares (λ u. not (strictly_between s u k) || is_empty b u) (λ u file rank.
       implied (strictly_between s u k) (is_empty b u) (λ between.
       empty_before u (record { file = file; rank = rank }) between
-      (not_true (strictly_between s u k) _ between (each_square (λ u. not (strictly_between s u k) || is_empty (put (put b from None) to cell) u) u h file rank))))
+      (not_true (strictly_between s u k) _ between
+      (each_square (λ u. not (strictly_between s u k) || is_empty (put (put b from None) to cell) u) u h file rank))))
     where
-      empty_before : (u : Square) → OnBoard u → strictly_between s u k ≡ true → is_empty (put (put b from None) to cell) u ≡ true → is_empty b u ≡ true
+      empty_before : (u : Square) → OnBoard u → strictly_between s u k ≡ true
+          → is_empty (put (put b from None) to cell) u ≡ true → is_empty b u ≡ true
       empty_before u on between empty =
           elim (at_put (put b from None) to u cell left_long on_to on) [
             | inl here ↦ absurd (false≢true (sym full ∙ (sym (ap is_none here.1) ∙ empty)))
             | inr there ↦ elim (at_put b from u None long on_from on) [
-              | inl gone ↦ absurd (false≢true (sym apart ∙ subst (λ (v : Square). is_aligned v k ≡ true) gone.0 (between_aligned s u k between)))
+              | inl gone ↦
+                  absurd (false≢true (sym apart ∙ subst (λ (v : Square). is_aligned v k ≡ true) gone.0 (between_aligned s u k between)))
               | inr stayed ↦ ap is_none (sym (there.1 ∙ stayed.1)) ∙ empty
             ]
           ]
@@ -70,33 +78,39 @@ module _ (b : Board) (from to k : Square) (cell : Option Piece) (c : Colour) (lo
   Opens = (is_aligned from k ≡ false) ⊎ (list_any (slides b c k) squares ≡ false)
 
   attacked_before : (s : Square) → OnBoard s → s ≢ to → is_none cell ≡ false → Opens
-      → (has_colour c (at (put (put b from None) to cell) s) && attacks (put (put b from None) to cell) s k) ≡ true → (has_colour c (at b s) && attacks b s k) ≡ true
+      → (has_colour c (at (put (put b from None) to cell) s) && attacks (put (put b from None) to cell) s k) ≡ true
+      → (has_colour c (at b s) && attacks b s k) ≡ true
   attacked_before s on differ full opens h =
       elim (at_put (put b from None) to s cell left_long on_to on) [
         | inl here ↦ absurd (differ here.0)
         | inr there ↦ elim (at_put b from s None long on_from on) [
           | inl gone ↦ absurd (false≢true (sym (ap (has_colour c) (there.1 ∙ gone.1)) ∙ first_true _ _ h))
-          | inr stayed ↦ as_before (ap (λ o. has_colour c o && cell_attacks o (put (put b from None) to cell) s k) (sym (there.1 ∙ stayed.1)) ∙ h) opens
+          | inr stayed ↦
+              as_before (ap (λ o. has_colour c o && cell_attacks o (put (put b from None) to cell) s k) (sym (there.1 ∙ stayed.1)) ∙ h) opens
         ]
       ]
     where
-      as_before : (has_colour c (at b s) && cell_attacks (at b s) (put (put b from None) to cell) s k) ≡ true → Opens → (has_colour c (at b s) && attacks b s k) ≡ true
+      as_before : (has_colour c (at b s) && cell_attacks (at b s) (put (put b from None) to cell) s k) ≡ true
+          → Opens → (has_colour c (at b s) && attacks b s k) ≡ true
       as_before g (inl apart) =
           and_from _ _ (first_true _ _ g)
           (cell_still (at b s) (put (put b from None) to cell) b s k (clear_before s full apart) (second_true (has_colour c (at b s)) _ g))
       as_before g (inr none) =
           sym (no_slide c (at b s) (put (put b from None) to cell) b s k
-          (false_from_ne_true (slides b c k s) (λ slides_there. false≢true (sym none ∙ any_square (slides b c k) s on.file on.rank slides_there)))) ∙ g
+          (false_from_ne_true (slides b c k s)
+          (λ slides_there. false≢true (sym none ∙ any_square (slides b c k) s on.file on.rank slides_there)))) ∙ g
 
   pub calm : is_none cell ≡ false → Opens → (has_colour c cell && attacks (put (put b from None) to cell) to k) ≡ false
       → is_attacked b c k ≡ false → is_attacked (put (put b from None) to cell) c k ≡ false
-  calm full opens quiet before = false_from_ne_true (is_attacked (put (put b from None) to cell) c k) (λ h. by_square (some_square (λ s. has_colour c (at (put (put b from None) to cell) s) && attacks (put (put b from None) to cell) s k) h))
+  calm full opens quiet before = false_from_ne_true (is_attacked (put (put b from None) to cell) c k)
+      (λ h. by_square (some_square (λ s. has_colour c (at (put (put b from None) to cell) s) && attacks (put (put b from None) to cell) s k) h))
     where
       by_square : Passes (λ s. has_colour c (at (put (put b from None) to cell) s) && attacks (put (put b from None) to cell) s k) → ⊥
       by_square w =
           elim (at_put (put b from None) to w.on cell left_long on_to (record { file = w.file; rank = w.rank })) [
             | inl here ↦ false≢true (sym quiet ∙ (ap (λ o. has_colour c o && attacks (put (put b from None) to cell) to k) (sym arrived)
-                ∙ subst (λ (s : Square). (has_colour c (at (put (put b from None) to cell) s) && attacks (put (put b from None) to cell) s k) ≡ true) here.0 w.holds))
+                ∙ subst (λ (s : Square).
+                (has_colour c (at (put (put b from None) to cell) s) && attacks (put (put b from None) to cell) s k) ≡ true) here.0 w.holds))
             | inr there ↦ false≢true (sym before ∙ any_square (λ s. has_colour c (at b s) && attacks b s k) w.on w.file w.rank
                 (attacked_before w.on (record { file = w.file; rank = w.rank }) there.0 full opens w.holds))
           ]
@@ -113,7 +127,8 @@ not_other : (c : Colour) (cell : Option Piece) → has_colour c cell ≡ true �
 not_other c cell h = grind arith
 
 -- the king that stays is safe, if it was not attacked and sees no square that is left
-pub safe_when_plain : (p : Parts) (m : Move) (b : Board) (k : Square) → is_position p ≡ true → is_on_board m ≡ true → board_after p m ≡ Some b → step_kind p m ≡ Plain
+pub safe_when_plain : (p : Parts) (m : Move) (b : Board) (k : Square) → is_position p ≡ true
+    → is_on_board m ≡ true → board_after p m ≡ Some b → step_kind p m ≡ Plain
     → k ≡ king_square p.side p.board → is_check p ≡ false → same_square m.from k ≡ false
     → (is_aligned m.from k ≡ false) ⊎ (list_any (slides p.board (other p.side) k) squares ≡ false) → is_legal p m ≡ true
 safe_when_plain p m b k position on h plain is calm_before apart unseen =
@@ -134,19 +149,22 @@ safe_when_plain p m b k position on h plain is calm_before apart unseen =
     on_k = subst (λ (s : Square). OnBoard s) (sym is) (record { file = stands.file; rank = stands.rank })
 
     before : is_attacked p.board (other p.side) k ≡ false
-    before = ap (is_attacked p.board (other p.side)) is ∙ (sym (king_attacked_there p.side p.board sound.long (sound.kings_of p.side)) ∙ calm_before)
+    before = ap (is_attacked p.board (other p.side)) is
+        ∙ (sym (king_attacked_there p.side p.board sound.long (sound.kings_of p.side)) ∙ calm_before)
 
     arrives : has_colour p.side (arriving p m) ≡ true
     arrives = arriving_own p.side m.promotion (at p.board m.from) (board_stays p m b sound on h).own
 
     quiet : is_attacked (carried p m) (other p.side) k ≡ false
     quiet =
-        calm p.board m.from m.to k (arriving p m) (other p.side) sound.long (on_board_means m.from (first_true (on_board m.from) _ on)) (on_board_means m.to (second_true (on_board m.from) _ on)) on_k
+        calm p.board m.from m.to k (arriving p m) (other p.side) sound.long
+        (on_board_means m.from (first_true (on_board m.from) _ on)) (on_board_means m.to (second_true (on_board m.from) _ on)) on_k
         (none_or_all p.side (arriving p m) arrives) unseen
         (ap (λ x. x && attacks (carried p m) m.to k) (not_other p.side (arriving p m) arrives)) before
 
 -- whether the step gives check, seen from the other king
-pub check_is_seen : (p : Parts) (m : Move) (b : Board) (k : Square) → is_position p ≡ true → is_on_board m ≡ true → board_after p m ≡ Some b
+pub check_is_seen : (p : Parts) (m : Move) (b : Board) (k : Square)
+    → is_position p ≡ true → is_on_board m ≡ true → board_after p m ≡ Some b
     → k ≡ king_square (other p.side) p.board → king_attacked b (other p.side) ≡ is_attacked b p.side k
 check_is_seen p m b k position on h is =
     king_seen p m b (other p.side) position on h
@@ -154,8 +172,10 @@ check_is_seen p m b k position on h is =
 
 -- the other king is not attacked, if the piece that arrives does not attack it, and it sees no
 -- square that is left
-pub no_check_when_plain : (p : Parts) (m : Move) (b : Board) (k : Square) → is_position p ≡ true → is_on_board m ≡ true → board_after p m ≡ Some b → step_kind p m ≡ Plain
-    → k ≡ king_square (other p.side) p.board → is_aligned m.from k ≡ false → reaches_from (at b m.to) m.to k ≡ false → king_attacked b (other p.side) ≡ false
+pub no_check_when_plain : (p : Parts) (m : Move) (b : Board) (k : Square) → is_position p ≡ true
+    → is_on_board m ≡ true → board_after p m ≡ Some b → step_kind p m ≡ Plain
+    → k ≡ king_square (other p.side) p.board → is_aligned m.from k ≡ false
+    → reaches_from (at b m.to) m.to k ≡ false → king_attacked b (other p.side) ≡ false
 no_check_when_plain p m b k position on h plain is unseen harmless =
     check_is_seen p m b k position on h is ∙ (ap (λ a. is_attacked a p.side k) (sym (plain_board p m b plain h)) ∙ quiet)
   where
@@ -169,7 +189,8 @@ no_check_when_plain p m b k position on h plain is unseen harmless =
     stands_k = subst (λ (s : Square). StandsAt (other p.side) p.board s) (sym is) stands
 
     before : is_attacked p.board p.side k ≡ false
-    before = ap₂ (λ c s. is_attacked p.board c s) (sym (other-other p.side)) is ∙ (sym (king_attacked_there (other p.side) p.board sound.long (sound.kings_of (other p.side))) ∙ sound.safe)
+    before = ap₂ (λ c s. is_attacked p.board c s) (sym (other-other p.side)) is
+        ∙ (sym (king_attacked_there (other p.side) p.board sound.long (sound.kings_of (other p.side))) ∙ sound.safe)
 
     arrives : has_colour p.side (arriving p m) ≡ true
     arrives = arriving_own p.side m.promotion (at p.board m.from) (board_stays p m b sound on h).own
@@ -179,13 +200,16 @@ no_check_when_plain p m b k position on h plain is unseen harmless =
 
     quiet : is_attacked (carried p m) p.side k ≡ false
     quiet =
-        calm p.board m.from m.to k (arriving p m) p.side sound.long (on_board_means m.from (first_true (on_board m.from) _ on)) (on_board_means m.to (second_true (on_board m.from) _ on))
+        calm p.board m.from m.to k (arriving p m) p.side sound.long
+        (on_board_means m.from (first_true (on_board m.from) _ on)) (on_board_means m.to (second_true (on_board m.from) _ on))
         (record { file = stands_k.file; rank = stands_k.rank })
         (none_or_all p.side (arriving p m) arrives) (inl unseen)
-        (ap (λ x. has_colour p.side (arriving p m) && x) (ap (λ a. attacks a m.to k) (plain_board p m b plain h) ∙ no_attack b m.to k harmless) ∙ no (has_colour p.side (arriving p m))) before
+        (ap (λ x. has_colour p.side (arriving p m) && x) (ap (λ a. attacks a m.to k) (plain_board p m b plain h) ∙ no_attack b m.to k harmless)
+        ∙ no (has_colour p.side (arriving p m))) before
 
 -- a move that is no step is not legal, and a legal one is a step
-by_step : (on : Bool) (p : Parts) (m : Move) (o : Option Board) → is_some o ≡ false → if_safe (if on then option_map (after p m) o else None) ≡ None
+by_step : (on : Bool) (p : Parts) (m : Move) (o : Option Board) → is_some o ≡ false
+    → if_safe (if on then option_map (after p m) o else None) ≡ None
 by_step on p m o h = grind arith
 
 pub none_unless_step : (p : Parts) (m : Move) → is_some (board_after p m) ≡ false → is_some (legal p m) ≡ false

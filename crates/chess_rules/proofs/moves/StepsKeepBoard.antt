@@ -21,7 +21,8 @@ not_both c cell h g = grind arith
 pub one_kind : (c d : Colour) (k l : Kind) (cell : Option Piece) → has_piece c k cell ≡ true → has_piece d l cell ≡ true → k ≡ l
 one_kind c d k l cell h g = grind (arith, kinds_same, second_true)
 
-no_king_with : (c d : Colour) (k : Kind) (cell : Option Piece) → (King ≡ k → ⊥) → has_piece d k cell ≡ true → has_piece c King cell ≡ false
+no_king_with : (c d : Colour) (k : Kind) (cell : Option Piece) → (King ≡ k → ⊥)
+    → has_piece d k cell ≡ true → has_piece c King cell ≡ false
 no_king_with c d k cell differ h = grind arith
 
 pub pawn_is_no_king : King ≡ Pawn → ⊥
@@ -43,23 +44,27 @@ promoted_is_no_king : (c d : Colour) (q : Promotion) → has_piece c King (some_
 promoted_is_no_king c d q = grind arith
 
 -- the piece on a square attacks as its kind and colour do
-pub attacks_as : (c : Colour) (k : Kind) (cell : Option Piece) (b : Board) (s t : Square) → has_piece c k cell ≡ true → cell_attacks cell b s t ≡ true → kind_attacks k c b s t ≡ true
+pub attacks_as : (c : Colour) (k : Kind) (cell : Option Piece) (b : Board) (s t : Square)
+    → has_piece c k cell ≡ true → cell_attacks cell b s t ≡ true → kind_attacks k c b s t ≡ true
 attacks_as c k cell b s t h g = grind (arith, kinds_same, second_true, colours_same, first_true)
 
 -- The other king is never taken.
 
-king_not_taken : (p : Parts) (s t : Square) → Sound p → OnBoard s → OnBoard t → has_colour p.side (at p.board s) ≡ true → attacks p.board s t ≡ true → has_piece (other p.side) King (at p.board t) ≡ false
+king_not_taken : (p : Parts) (s t : Square) → Sound p → OnBoard s → OnBoard t → has_colour p.side (at p.board s) ≡ true
+    → attacks p.board s t ≡ true → has_piece (other p.side) King (at p.board t) ≡ false
 king_not_taken p s t sound on_s on_t own hits =
     false_from_ne_true (has_piece (other p.side) King (at p.board t)) (λ king.
     let attacked : is_attacked p.board (other (other p.side)) t ≡ true =
     subst (λ (c : Colour). is_attacked p.board c t ≡ true) (sym (other-other p.side))
     (any_square (λ u. has_colour p.side (at p.board u) && attacks p.board u t) s on_s.file on_s.rank (and_from _ _ own hits)) in
     let taken : king_attacked p.board (other p.side) ≡ true =
-    any_square (λ k. has_piece (other p.side) King (at p.board k) && is_attacked p.board (other (other p.side)) k) t on_t.file on_t.rank (and_from _ _ king attacked) in
+    any_square (λ k. has_piece (other p.side) King (at p.board k) && is_attacked p.board (other (other p.side)) k) t on_t.file on_t.rank
+    (and_from _ _ king attacked) in
     cc (taken, sound.safe))
 
 -- no king stands where no own piece and no other king stands
-free_of : (p : Parts) (t : Square) → has_colour p.side (at p.board t) ≡ false → has_piece (other p.side) King (at p.board t) ≡ false → (c : Colour) → has_piece c King (at p.board t) ≡ false
+free_of : (p : Parts) (t : Square) → has_colour p.side (at p.board t) ≡ false
+    → has_piece (other p.side) King (at p.board t) ≡ false → (c : Colour) → has_piece c King (at p.board t) ≡ false
 free_of p t own theirs c = grind arith
 
 arrives_as : (p : Parts) (m : Move) → is_none m.promotion ≡ true → arriving p m ≡ at p.board m.from
@@ -73,9 +78,11 @@ piece_lands p m sound on_from on_to h =
       on_from = on_from;
       on_to = on_to;
       own = own_piece;
-      free = free_of p m.to (not-true (has_colour p.side (at p.board m.to)) (second_true (attacks p.board m.from m.to) _ goes)) (king_not_taken p m.from m.to sound on_from on_to own_piece (first_true (attacks p.board m.from m.to) _ goes));
+      free = free_of p m.to (not-true (has_colour p.side (at p.board m.to)) (second_true (attacks p.board m.from m.to) _ goes))
+          (king_not_taken p m.from m.to sound on_from on_to own_piece (first_true (attacks p.board m.from m.to) _ goes));
       alike = λ c. ap (has_piece c King) (arrives_as p m plain);
-      no_pawn = λ edge. ap is_pawn (arrives_as p m plain) ∙ no_pawn_but_own p.side (at p.board m.from) own_piece (not-true (own p Pawn m.from) (second_true (has_colour p.side (at p.board m.from)) _ whose));
+      no_pawn = λ edge. ap is_pawn (arrives_as p m plain) ∙ no_pawn_but_own p.side (at p.board m.from) own_piece
+          (not-true (own p Pawn m.from) (second_true (has_colour p.side (at p.board m.from)) _ whose));
     }
   where
     stands : ((has_colour p.side (at p.board m.from) && not (own p Pawn m.from)) && is_none m.promotion) ≡ true
@@ -95,7 +102,8 @@ piece_lands p m sound on_from on_to h =
 
 -- A pawn.
 
-pub pawn_attack : (p : Parts) (m : Move) → own p Pawn m.from ≡ true → attacks p.board m.from m.to ≡ true → ((gap m.from.file m.to.file == 1) && is_ahead p.side m.from.rank m.to.rank) ≡ true
+pub pawn_attack : (p : Parts) (m : Move) → own p Pawn m.from ≡ true → attacks p.board m.from m.to ≡ true
+    → ((gap m.from.file m.to.file == 1) && is_ahead p.side m.from.rank m.to.rank) ≡ true
 pawn_attack p m pawn hits = grind arith
 
 -- one rank ahead, or from the pawns' first rank to that of the double step
@@ -108,22 +116,27 @@ double_ranks p m two = grind arith
 pub way_goes : (p : Parts) (m : Move) → own p Pawn m.from ≡ true → is_pawn_way p m ≡ true → pawn_goes p m
 way_goes p m pawn h = grind (arith, nat_tests)
 
-way_free : (p : Parts) (m : Move) → Sound p → OnBoard m.from → OnBoard m.to → own p Pawn m.from ≡ true → is_pawn_way p m ≡ true → (c : Colour) → has_piece c King (at p.board m.to) ≡ false
+way_free : (p : Parts) (m : Move) → Sound p → OnBoard m.from → OnBoard m.to → own p Pawn m.from ≡ true
+    → is_pawn_way p m ≡ true → (c : Colour) → has_piece c King (at p.board m.to) ≡ false
 way_free p m sound on_from on_to pawn h =
     elim (or_cases (is_advance p m) (is_double_step p m || is_pawn_capture p m) h) [
-      | inl one ↦ λ c. empty_free c King (at p.board m.to) (second_true ((m.from.file == m.to.file) && is_ahead p.side m.from.rank m.to.rank) _ one)
+      | inl one ↦
+          λ c. empty_free c King (at p.board m.to) (second_true ((m.from.file == m.to.file) && is_ahead p.side m.from.rank m.to.rank) _ one)
       | inr more ↦ elim (or_cases (is_double_step p m) (is_pawn_capture p m) more) [
-        | inl two ↦ λ c. empty_free c King (at p.board m.to) (second_true (is_empty p.board (crossed m)) _ (second_true ((m.from.file == m.to.file) && ((m.from.rank == pawn_rank p.side) && (m.to.rank == double_rank p.side))) _ two))
+        | inl two ↦ λ c. empty_free c King (at p.board m.to) (second_true (is_empty p.board (crossed m)) _
+            (second_true ((m.from.file == m.to.file) && ((m.from.rank == pawn_rank p.side) && (m.to.rank == double_rank p.side))) _ two))
         | inr takes ↦ by_capture (first_true (attacks p.board m.from m.to) _ takes) (second_true (attacks p.board m.from m.to) _ takes)
       ]
     ]
   where
-    by_capture : attacks p.board m.from m.to ≡ true → has_colour (other p.side) (at p.board m.to) ≡ true → (c : Colour) → has_piece c King (at p.board m.to) ≡ false
+    by_capture : attacks p.board m.from m.to ≡ true → has_colour (other p.side) (at p.board m.to) ≡ true
+        → (c : Colour) → has_piece c King (at p.board m.to) ≡ false
     by_capture hits theirs =
         free_of p m.to (false_from_ne_true (has_colour p.side (at p.board m.to)) (λ mine. not_both p.side (at p.board m.to) mine theirs))
         (king_not_taken p m.from m.to sound on_from on_to (colour_of_piece p.side Pawn (at p.board m.from) pawn) hits)
 
-last_of : (c : Colour) (a b : ℕ) → a < 8 → (is_ahead c a b ≡ true) ⊎ ((a ≡ pawn_rank c) × (b ≡ double_rank c)) → is_edge b ≡ true → b ≡ last_rank c
+last_of : (c : Colour) (a b : ℕ) → a < 8 → (is_ahead c a b ≡ true) ⊎ ((a ≡ pawn_rank c) × (b ≡ double_rank c))
+    → is_edge b ≡ true → b ≡ last_rank c
 last_of c a b low h edge = grind arith
 
 pub pawn_lands : (p : Parts) (m : Move) → Sound p → OnBoard m.from → OnBoard m.to → is_pawn_step p m ≡ true → Lands p m
@@ -134,7 +147,8 @@ pawn_lands p m sound on_from on_to h =
       own = colour_of_piece p.side Pawn (at p.board m.from) pawn;
       free = way_free p m sound on_from on_to pawn way;
       alike = λ c. alike_for c m.promotion;
-      no_pawn = λ edge. last_for m.promotion (equal_tests m.to.rank (last_rank p.side) (last_of p.side m.from.rank m.to.rank on_from.rank (way_goes p m pawn way) edge)) fits;
+      no_pawn = λ edge. last_for m.promotion
+          (equal_tests m.to.rank (last_rank p.side) (last_of p.side m.from.rank m.to.rank on_from.rank (way_goes p m pawn way) edge)) fits;
     }
   where
     pawn : own p Pawn m.from ≡ true
@@ -146,11 +160,13 @@ pawn_lands p m sound on_from on_to h =
     fits : (if m.to.rank == last_rank p.side then is_some m.promotion else is_none m.promotion) ≡ true
     fits = second_true (is_pawn_way p m) (promotion_fits p m) (second_true (own p Pawn m.from) (is_pawn_way p m && promotion_fits p m) h)
 
-    alike_for : (c : Colour) (q : Option Promotion) → has_piece c King (promoted p.side q (at p.board m.from)) ≡ has_piece c King (at p.board m.from)
+    alike_for : (c : Colour) (q : Option Promotion)
+        → has_piece c King (promoted p.side q (at p.board m.from)) ≡ has_piece c King (at p.board m.from)
     alike_for c None = refl
     alike_for c (Some q) = promoted_is_no_king c p.side q ∙ sym (no_king_with c p.side Pawn (at p.board m.from) pawn_is_no_king pawn)
 
-    last_for : (q : Option Promotion) → (m.to.rank == last_rank p.side) ≡ true → (if m.to.rank == last_rank p.side then is_some q else is_none q) ≡ true → is_pawn (promoted p.side q (at p.board m.from)) ≡ false
+    last_for : (q : Option Promotion) → (m.to.rank == last_rank p.side) ≡ true
+        → (if m.to.rank == last_rank p.side then is_some q else is_none q) ≡ true → is_pawn (promoted p.side q (at p.board m.from)) ≡ false
     last_for q last named = grind arith
 
 target_line : (c : Colour) (o : Option Square) (t : Square) → target_fits c o ≡ true → is_target o t ≡ true → t.rank ≡ target_rank c
@@ -164,8 +180,10 @@ passing_lands p m sound on_from on_to h =
     record {
       on_from = on_from;
       on_to = on_to;
-      own = colour_of_piece p.side Pawn (at p.board m.from) (first_true (own p Pawn m.from) _ (first_true _ (is_target p.target m.to && is_empty p.board m.to) stands));
-      free = λ c. empty_free c King (at p.board m.to) (second_true (is_target p.target m.to) _ (second_true (own p Pawn m.from && promotion_fits p m) _ stands));
+      own = colour_of_piece p.side Pawn (at p.board m.from)
+          (first_true (own p Pawn m.from) _ (first_true _ (is_target p.target m.to && is_empty p.board m.to) stands));
+      free = λ c. empty_free c King (at p.board m.to)
+          (second_true (is_target p.target m.to) _ (second_true (own p Pawn m.from && promotion_fits p m) _ stands));
       alike = λ c. ap (has_piece c King) (arrives_as p m plain);
       no_pawn = λ edge. cc (edge, line.1);
     }
@@ -176,7 +194,8 @@ passing_lands p m sound on_from on_to h =
     line : ((m.to.rank == last_rank p.side) ≡ false) × (is_edge m.to.rank ≡ false)
     line =
         inner_line p.side m.to.rank
-        (target_line p.side p.target m.to sound.target (first_true (is_target p.target m.to) _ (second_true (own p Pawn m.from && promotion_fits p m) _ stands)))
+        (target_line p.side p.target m.to sound.target
+        (first_true (is_target p.target m.to) _ (second_true (own p Pawn m.from && promotion_fits p m) _ stands)))
 
     fits : (if m.to.rank == last_rank p.side then is_some m.promotion else is_none m.promotion) ≡ true
     fits = second_true (own p Pawn m.from) _ (first_true _ (is_target p.target m.to && is_empty p.board m.to) stands)
@@ -193,10 +212,12 @@ nothing_plain = record { no_king = λ c. refl; no_pawn = refl }
 rook_plain : (d : Colour) → IsPlain (some_piece d Rook)
 rook_plain d = grind arith
 
-pub passing_stays : (p : Parts) (m : Move) → Sound p → OnBoard m.from → OnBoard m.to → is_en_passant p m ≡ true → Stays p m (en_passant_board p m)
+pub passing_stays : (p : Parts) (m : Move) → Sound p → OnBoard m.from
+    → OnBoard m.to → is_en_passant p m ≡ true → Stays p m (en_passant_board p m)
 passing_stays p m sound on_from on_to h =
     put_stays p m (carried p m) (captured_pawn m) None (carried_stays p m sound lands) on_captured
-    (carried_free p m sound lands (captured_pawn m) on_captured apart (λ c. no_king_with c (other p.side) Pawn (at p.board (captured_pawn m)) pawn_is_no_king taken))
+    (carried_free p m sound lands (captured_pawn m) on_captured apart
+    (λ c. no_king_with c (other p.side) Pawn (at p.board (captured_pawn m)) pawn_is_no_king taken))
     nothing_plain
   where
     lands : Lands p m
@@ -218,10 +239,12 @@ passing_stays p m sound on_from on_to h =
     pawn = first_true (own p Pawn m.from) _ (first_true _ (is_target p.target m.to && is_empty p.board m.to) stands)
 
     ahead : gap m.from.rank m.to.rank ≡ 1
-    ahead = ahead_gap p.side m.from.rank m.to.rank (second_true (gap m.from.file m.to.file == 1) _ (pawn_attack p m pawn (first_true (attacks p.board m.from m.to) _ goes)))
+    ahead = ahead_gap p.side m.from.rank m.to.rank
+        (second_true (gap m.from.file m.to.file == 1) _ (pawn_attack p m pawn (first_true (attacks p.board m.from m.to) _ goes)))
 
     apart : captured_pawn m ≢ m.to
-    apart e = (let same : m.from.rank ≡ m.to.rank = ap (λ s. s.rank) e in let one : gap m.from.rank m.to.rank ≡ 1 = ahead in absurd (omega arith))
+    apart e =
+        (let same : m.from.rank ≡ m.to.rank = ap (λ s. s.rank) e in let one : gap m.from.rank m.to.rank ≡ 1 = ahead in absurd (omega arith))
 
 -- Castling.
 
@@ -240,8 +263,10 @@ pub record IsWing (wing : Wing) : Type 0 where
   pub crossing_below : wing.crossing < 8
   pub rook_end : wing.rook ≢ wing.end
   pub crossing_end : wing.crossing ≢ wing.end
-  pub between_end : (c : Colour) → strictly_between (square 4 (home_rank c)) (square wing.end (home_rank c)) (square wing.rook (home_rank c)) ≡ true
-  pub between_crossing : (c : Colour) → strictly_between (square 4 (home_rank c)) (square wing.crossing (home_rank c)) (square wing.rook (home_rank c)) ≡ true
+  pub between_end : (c : Colour)
+      → strictly_between (square 4 (home_rank c)) (square wing.end (home_rank c)) (square wing.rook (home_rank c)) ≡ true
+  pub between_crossing : (c : Colour)
+      → strictly_between (square 4 (home_rank c)) (square wing.crossing (home_rank c)) (square wing.rook (home_rank c)) ≡ true
 
 pub short_is_wing : IsWing short_wing
 short_is_wing = grind arith
@@ -277,9 +302,11 @@ castling_lands p m wing is_wing on_from on_to h =
       no_pawn = λ edge. ap is_pawn (arrives_as p m h.plain) ∙ king_is_no_pawn p.side (at p.board m.from) h.king;
     }
 
-pub castling_stays : (p : Parts) (m : Move) (wing : Wing) → Sound p → IsWing wing → OnBoard m.from → OnBoard m.to → Castles p m wing → Stays p m (castled p m wing.rook wing.crossing)
+pub castling_stays : (p : Parts) (m : Move) (wing : Wing) → Sound p → IsWing wing → OnBoard m.from
+    → OnBoard m.to → Castles p m wing → Stays p m (castled p m wing.rook wing.crossing)
 castling_stays p m wing sound is_wing on_from on_to h =
-    put_stays p m (put (carried p m) (home p wing.rook) None) (home p wing.crossing) (some_piece p.side Rook) cornered on_crossing crossing_free (rook_plain p.side)
+    put_stays p m (put (carried p m) (home p wing.rook) None) (home p wing.crossing)
+    (some_piece p.side Rook) cornered on_crossing crossing_free (rook_plain p.side)
   where
     lands : Lands p m
     lands = castling_lands p m wing is_wing on_from on_to h
@@ -296,7 +323,8 @@ castling_stays p m wing sound is_wing on_from on_to h =
     cornered : Stays p m (put (carried p m) (home p wing.rook) None)
     cornered =
         put_stays p m (carried p m) (home p wing.rook) None (carried_stays p m sound lands) on_rook
-        (carried_free p m sound lands (home p wing.rook) on_rook (apart_from wing.rook is_wing.rook_end) (λ c. no_king_with c p.side Rook (at p.board (home p wing.rook)) rook_is_no_king h.rook))
+        (carried_free p m sound lands (home p wing.rook) on_rook (apart_from wing.rook is_wing.rook_end)
+        (λ c. no_king_with c p.side Rook (at p.board (home p wing.rook)) rook_is_no_king h.rook))
         nothing_plain
 
     crossing_free : (c : Colour) → has_piece c King (at (put (carried p m) (home p wing.rook) None) (home p wing.crossing)) ≡ false
@@ -305,5 +333,6 @@ castling_stays p m wing sound is_wing on_from on_to h =
           | inl here ↦ ap (has_piece c King) here.1
           | inr there ↦ ap (has_piece c King) there.1
               ∙ carried_free p m sound lands (home p wing.crossing) on_crossing (apart_from wing.crossing is_wing.crossing_end)
-              (λ d. empty_free d King (at p.board (home p wing.crossing)) (between_empty p.board (home p 4) (home p wing.rook) (home p wing.crossing) h.clear on_crossing (is_wing.between_crossing p.side))) c
+              (λ d. empty_free d King (at p.board (home p wing.crossing))
+              (between_empty p.board (home p 4) (home p wing.rook) (home p wing.crossing) h.clear on_crossing (is_wing.between_crossing p.side))) c
         ]

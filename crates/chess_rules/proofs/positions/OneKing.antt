@@ -25,7 +25,8 @@ two n v e more few = grind arith
 fewer : (n : ℕ) (v : Bool) → cond v (1 + n) n ≤ 1 → n ≤ 1
 fewer n v few = grind arith
 
-tally_place : {X : Type 0} (p : X → Bool) (xs : List X) (i j : ℕ) (d : X) → tally p xs ≤ 1 → i < length xs → j < length xs → p (get_or xs i d) ≡ true → p (get_or xs j d) ≡ true → i ≡ j
+tally_place : {X : Type 0} (p : X → Bool) (xs : List X) (i j : ℕ) (d : X) → tally p xs ≤ 1
+    → i < length xs → j < length xs → p (get_or xs i d) ≡ true → p (get_or xs j d) ≡ true → i ≡ j
 tally_place p [] i j d one low high h g = absurd (omega arith)
 tally_place p (x ∷ xs) zero zero d one low high h g = refl
 tally_place p (x ∷ xs) zero (suc j) d one low high h g = absurd (two (tally p xs) (p x) h (at_least_one p xs j d (omega arith) g) one)
@@ -34,14 +35,16 @@ tally_place p (x ∷ xs) (suc i) (suc j) d one low high h g =
     ap suc (tally_place p xs i j d (fewer (tally p xs) (p x) one) (omega arith) (omega arith) h g)
 
 -- two elements that pass, where one does, stand at one place
-one_place : {X : Type 0} (p : X → Bool) (xs : List X) (i j : ℕ) (d : X) → count_by p xs ≤ 1 → i < length xs → j < length xs → p (get_or xs i d) ≡ true → p (get_or xs j d) ≡ true → i ≡ j
+one_place : {X : Type 0} (p : X → Bool) (xs : List X) (i j : ℕ) (d : X) → count_by p xs ≤ 1
+    → i < length xs → j < length xs → p (get_or xs i d) ≡ true → p (get_or xs j d) ≡ true → i ≡ j
 one_place p xs i j d one low high h g = tally_place p xs i j d (omega (arith, tally-count_by p xs)) low high h g
 
 tally_some : {X : Type 0} (p : X → Bool) (xs : List X) → 1 ≤ tally p xs → position_or_len p xs < length xs
 tally_some p [] h = absurd (omega arith)
 tally_some p (x ∷ xs) h = by_first (p x) h (tally_some p xs)
   where
-    by_first : (v : Bool) → 1 ≤ cond v (1 + tally p xs) (tally p xs) → (1 ≤ tally p xs → position_or_len p xs < length xs) → cond (not v) (1 + position_or_len p xs) 0 < length (x ∷ xs)
+    by_first : (v : Bool) → 1 ≤ cond v (1 + tally p xs) (tally p xs) → (1 ≤ tally p xs → position_or_len p xs < length xs)
+        → cond (not v) (1 + position_or_len p xs) 0 < length (x ∷ xs)
     by_first v g more = grind arith
 
 some_place : {X : Type 0} (p : X → Bool) (xs : List X) → 1 ≤ count_by p xs → position_or_len p xs < length xs
@@ -72,7 +75,8 @@ king_stands c b long one =
   where
     at_place : (i : ℕ) → position (has_piece c King) b ≡ Some i → StandsAt c b (square_at i)
     at_place i found =
-        let facts : (i < length b) × (has_piece c King (get_or b i None) ≡ true) × ((k : ℕ) → k < i → has_piece c King (get_or b k None) ≡ false) = position-Some (has_piece c King) b i None found in
+        let facts : (i < length b) × (has_piece c King (get_or b i None) ≡ true)
+        × ((k : ℕ) → k < i → has_piece c King (get_or b k None) ≡ false) = position-Some (has_piece c King) b i None found in
         let low : i < length b = facts.0 in
         record {
           file = omega arith;
@@ -81,7 +85,8 @@ king_stands c b long one =
         }
 
 -- a king of the colour stands nowhere else
-pub king_only_there : (c : Colour) (b : Board) (k l : Square) → length b ≡ 64 → kings c b ≡ 1 → StandsAt c b k → StandsAt c b l → k ≡ l
+pub king_only_there : (c : Colour) (b : Board) (k l : Square) → length b ≡ 64
+    → kings c b ≡ 1 → StandsAt c b k → StandsAt c b l → k ≡ l
 king_only_there c b k l long one h g =
     let kf : k.file < 8 = h.file in let kr : k.rank < 8 = h.rank in
     let lf : l.file < 8 = g.file in let lr : l.rank < 8 = g.rank in
@@ -90,7 +95,8 @@ king_only_there c b k l long one h g =
     ∙ square_at-cell_of l g.file)
 
 -- whether the king is attacked is seen from its square
-pub king_attacked_there : (c : Colour) (b : Board) → length b ≡ 64 → kings c b ≡ 1 → king_attacked b c ≡ is_attacked b (other c) (king_square c b)
+pub king_attacked_there : (c : Colour) (b : Board) → length b ≡ 64 → kings c b ≡ 1
+    → king_attacked b c ≡ is_attacked b (other c) (king_square c b)
 king_attacked_there c b long one = same_tests _ _ there from_there
   where
     there : king_attacked b c ≡ true → is_attacked b (other c) (king_square c b) ≡ true
@@ -99,7 +105,8 @@ king_attacked_there c b long one = same_tests _ _ there from_there
         by_king : Passes (λ k. has_piece c King (at b k) && is_attacked b (other c) k) → is_attacked b (other c) (king_square c b) ≡ true
         by_king w =
             let here : StandsAt c b w.on = record { file = w.file; rank = w.rank; king = first_true (has_piece c King (at b w.on)) _ w.holds } in
-            subst (λ (k : Square). is_attacked b (other c) k ≡ true) (king_only_there c b w.on (king_square c b) long one here (king_stands c b long one))
+            subst (λ (k : Square). is_attacked b (other c) k ≡ true)
+            (king_only_there c b w.on (king_square c b) long one here (king_stands c b long one))
             (second_true (has_piece c King (at b w.on)) _ w.holds)
 
     from_there : is_attacked b (other c) (king_square c b) ≡ true → king_attacked b c ≡ true

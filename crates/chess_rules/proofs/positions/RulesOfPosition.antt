@@ -45,7 +45,8 @@ at_most_holds m n h = grind arith
 
 pub sound_from_position : (p : Parts) → is_position p ≡ true → Sound p
 sound_from_position p h =
-    let facts : NoFault (one_king p.board White && one_king p.board Black) (pawn_on_edge p.board) (king_attacked p.board (other p.side)) (target_fits p.side p.target) (nat_le p.half 99999 && nat_le p.full 99999) =
+    let facts : NoFault (one_king p.board White && one_king p.board Black) (pawn_on_edge p.board)
+    (king_attacked p.board (other p.side)) (target_fits p.side p.target) (nat_le p.half 99999 && nat_le p.full 99999) =
     no_fault _ _ _ _ _ (second_true (length p.board == 64) _ h) in
     record {
       long = equal_from _ 64 (first_true (length p.board == 64) _ h);
@@ -63,7 +64,8 @@ sound_from_position p h =
 pub position_from_sound : (p : Parts) → Sound p → is_position p ≡ true
 position_from_sound p s =
     and_from _ _ (equal_tests _ 64 s.long)
-    (none_from_facts (one_king p.board White && one_king p.board Black) (pawn_on_edge p.board) (king_attacked p.board (other p.side)) (target_fits p.side p.target) (nat_le p.half 99999 && nat_le p.full 99999)
+    (none_from_facts (one_king p.board White && one_king p.board Black) (pawn_on_edge p.board)
+    (king_attacked p.board (other p.side)) (target_fits p.side p.target) (nat_le p.half 99999 && nat_le p.full 99999)
     (record {
       kings_ok = and_from _ _ (equal_tests _ 1 (s.kings_of White)) (equal_tests _ 1 (s.kings_of Black));
       edge_ok = s.edge;
@@ -92,10 +94,12 @@ each_king : (b : Board) → kings White b ≡ 1 → kings Black b ≡ 1 → (c :
 each_king b white black White = white
 each_king b white black Black = black
 
-pub own_king_seen : (b : Board) (c : Colour) (k : Square) → length b ≡ 64 → kings White b ≡ 1 → kings Black b ≡ 1 → k ≡ king_square c b → is_attacked b (other c) k ≡ king_attacked b c
+pub own_king_seen : (b : Board) (c : Colour) (k : Square) → length b ≡ 64 → kings White b ≡ 1
+    → kings Black b ≡ 1 → k ≡ king_square c b → is_attacked b (other c) k ≡ king_attacked b c
 own_king_seen b c k long white black is = ap (is_attacked b (other c)) is ∙ sym (king_attacked_there c b long (each_king b white black c))
 
-pub other_king_seen : (b : Board) (c : Colour) (k : Square) → length b ≡ 64 → kings White b ≡ 1 → kings Black b ≡ 1 → k ≡ king_square (other c) b → is_attacked b c k ≡ king_attacked b (other c)
+pub other_king_seen : (b : Board) (c : Colour) (k : Square) → length b ≡ 64 → kings White b ≡ 1
+    → kings Black b ≡ 1 → k ≡ king_square (other c) b → is_attacked b c k ≡ king_attacked b (other c)
 other_king_seen b c k long white black is = ap (λ d. is_attacked b d k) (sym (twice c)) ∙ own_king_seen b (other c) k long white black is
   where
     twice : (d : Colour) → other (other d) ≡ d
@@ -110,7 +114,8 @@ no_pawn_there b h u on edge =
     false_from_ne_true (is_pawn (at b u)) (λ pawn.
     cc (any_square (λ s. ((s.rank == 0) || (s.rank == 7)) && is_pawn (at b s)) u on.file on.rank (and_from _ _ edge pawn)))
 
-pub no_pawn_on_edge : (b : Board) → ((u : Square) → OnBoard u → is_edge u.rank ≡ true → is_pawn (at b u) ≡ false) → pawn_on_edge b ≡ false
+pub no_pawn_on_edge : (b : Board)
+    → ((u : Square) → OnBoard u → is_edge u.rank ≡ true → is_pawn (at b u) ≡ false) → pawn_on_edge b ≡ false
 no_pawn_on_edge b h =
     false_from_ne_true (pawn_on_edge b) (λ g. by_pawn (some_square (λ s. ((s.rank == 0) || (s.rank == 7)) && is_pawn (at b s)) g))
   where
@@ -121,7 +126,8 @@ pub itself : (s : Square) → same_square s s ≡ true
 itself s = grind arith
 
 -- the king of the side to move is on its square alone
-pub own_king : (p : Parts) (s k : Square) → is_position p ≡ true → s.file < 8 → s.rank < 8 → k ≡ king_square p.side p.board → own p King s ≡ same_square s k
+pub own_king : (p : Parts) (s k : Square) → is_position p ≡ true → s.file < 8
+    → s.rank < 8 → k ≡ king_square p.side p.board → own p King s ≡ same_square s k
 own_king p s k position file rank is = same_tests _ _ there back ∙ ap (same_square s) (sym is)
   where
     sound : Sound p
@@ -133,7 +139,8 @@ own_king p s k position file rank is = same_tests _ _ there back ∙ ap (same_sq
     there : own p King s ≡ true → same_square s (king_square p.side p.board) ≡ true
     there h =
         subst (λ t. same_square s t ≡ true)
-        (king_only_there p.side p.board s (king_square p.side p.board) sound.long (sound.kings_of p.side) (record { file = file; rank = rank; king = h }) king) (itself s)
+        (king_only_there p.side p.board s (king_square p.side p.board) sound.long
+        (sound.kings_of p.side) (record { file = file; rank = rank; king = h }) king) (itself s)
 
     back : same_square s (king_square p.side p.board) ≡ true → own p King s ≡ true
     back h = subst (λ t. own p King t ≡ true) (sym (squares_same s (king_square p.side p.board) h)) king.king

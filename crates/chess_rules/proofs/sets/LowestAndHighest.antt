@@ -50,12 +50,14 @@ pub lowest_alone : (w n r : ℕ) → IsLowest w n → r ≡ 2 ^ n → IsOnly IsL
 lowest_alone w n r lowest is =
     record {
       here = λ i _ h. subst (IsLowest w) (sym (equal_from i n (sym (at_single r n i is) ∙ h))) lowest;
-      there = λ i l. at_single r n i is ∙ equal_tests i n (one_of_order i n (λ less. false≢true (sym (lowest.none i less) ∙ l.here)) (λ less. false≢true (sym (l.none n less) ∙ lowest.here)));
+      there = λ i l. at_single r n i is ∙ equal_tests i n (one_of_order i n
+          (λ less. false≢true (sym (lowest.none i less) ∙ l.here)) (λ less. false≢true (sym (l.none n less) ∙ lowest.here)));
     }
 
 pub highest_alone : (w n r : ℕ) → IsHighest w n → r ≡ 2 ^ n → IsOnly IsHighest w r
 highest_alone w n r highest is =
     record {
       here = λ i _ h. subst (IsHighest w) (sym (equal_from i n (sym (at_single r n i is) ∙ h))) highest;
-      there = λ i l. at_single r n i is ∙ equal_tests i n (one_of_order i n (λ less. false≢true (sym (l.none n less highest.inside) ∙ highest.here)) (λ less. false≢true (sym (highest.none i less l.inside) ∙ l.here)));
+      there = λ i l. at_single r n i is ∙ equal_tests i n (one_of_order i n (λ less. false≢true
+          (sym (l.none n less highest.inside) ∙ highest.here)) (λ less. false≢true (sym (highest.none i less l.inside) ∙ l.here)));
     }

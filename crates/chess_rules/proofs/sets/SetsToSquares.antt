@@ -6,10 +6,12 @@ use Rattle.chess_rules.proofs.positions.OneKing.{cell_of-square_at, square_at-ce
 use Rattle.chess_rules.proofs.sets.AllSquares.{Passes, some_square, any_square}
 use Rattle.chess_rules.proofs.trying.FoundLists.{list_any-filter}
 
-pub places_and : (v w r : ℕ) (p q : Square → Bool) → Bits r (λ i. has v i && has w i) → Places v p → Places w q → Places r (λ s. p s && q s)
+pub places_and : (v w r : ℕ) (p q : Square → Bool) → Bits r (λ i. has v i && has w i)
+    → Places v p → Places w q → Places r (λ s. p s && q s)
 places_and v w r p q both h g = record { of = λ i low. both.of i low ∙ ap₂ (λ x y. x && y) (h.of i low) (g.of i low) }
 
-pub places_or : (v w r : ℕ) (p q : Square → Bool) → Bits r (λ i. has v i || has w i) → Places v p → Places w q → Places r (λ s. p s || q s)
+pub places_or : (v w r : ℕ) (p q : Square → Bool) → Bits r (λ i. has v i || has w i)
+    → Places v p → Places w q → Places r (λ s. p s || q s)
 places_or v w r p q either h g = record { of = λ i low. either.of i low ∙ ap₂ (λ x y. x || y) (h.of i low) (g.of i low) }
 
 pub places_not : (w r : ℕ) (p : Square → Bool) → Bits r (λ i. not (has w i)) → Places w p → Places r (λ s. not (p s))
@@ -21,7 +23,8 @@ places_same w p q h same = record { of = λ i low. h.of i low ∙ same (square_a
 pub at_square : (w : ℕ) (test : Square → Bool) (s : Square) → Places w test → s.file < 8 → s.rank < 8 → has w (cell_of s) ≡ test s
 at_square w test s h file rank = grind arith
 
-pub at_place : (w : ℕ) (test : Square → Bool) (s : Square) → Places w test → cell_of s < 64 → square_at (cell_of s) ≡ s → has w (cell_of s) ≡ test s
+pub at_place : (w : ℕ) (test : Square → Bool) (s : Square) → Places w test
+    → cell_of s < 64 → square_at (cell_of s) ≡ s → has w (cell_of s) ≡ test s
 at_place w test s h inside again = h.of (cell_of s) inside ∙ ap test again
 
 -- A set is empty exactly if no square passes.
@@ -64,12 +67,15 @@ pub by_places : squares ≡ map square_at (range_with_len 0 64)
 unfolding squares
 by_places = refl
 
-same_filter : (p q : Square → Bool) (a n : ℕ) → ((i : ℕ) → a ≤ i → i < a + n → p (square_at i) ≡ q (square_at i)) → filter p (map square_at (range_with_len a n)) ≡ filter q (map square_at (range_with_len a n))
+same_filter : (p q : Square → Bool) (a n : ℕ) → ((i : ℕ) → a ≤ i → i < a + n → p (square_at i) ≡ q (square_at i))
+    → filter p (map square_at (range_with_len a n)) ≡ filter q (map square_at (range_with_len a n))
 same_filter p q a zero h = refl
 same_filter p q a (suc n) h =
-    ap₂ (λ v xs. cond v (square_at a ∷ xs) xs) (h a (omega arith) (omega arith)) (same_filter p q (a + 1) n (λ i low high. h i (omega arith) (omega arith)))
+    ap₂ (λ v xs. cond v (square_at a ∷ xs) xs) (h a (omega arith) (omega arith))
+    (same_filter p q (a + 1) n (λ i low high. h i (omega arith) (omega arith)))
 
-pub members_are : (w : ℕ) (test : Square → Bool) → ((i : ℕ) → i < 64 → has w i ≡ test (square_at i)) → members w ≡ filter test squares
+pub members_are : (w : ℕ) (test : Square → Bool)
+    → ((i : ℕ) → i < 64 → has w i ≡ test (square_at i)) → members w ≡ filter test squares
 unfolding members
 members_are w test h =
     ap (filter (λ s. has w (cell_of s))) by_places
@@ -96,7 +102,8 @@ any_of_set w test h = as_found (λ s. has w (cell_of s)) ∙ (any_member w (λ s
     as_found p = found_in p squares
 
 -- a set of which none is said to be empty
-pub full_when : (w : ℕ) (test : Square → Bool) (empty : Bool) → Places w test → empty ≡ not (has_any w) → not empty ≡ list_any test squares
+pub full_when : (w : ℕ) (test : Square → Bool) (empty : Bool) → Places w test
+    → empty ≡ not (has_any w) → not empty ≡ list_any test squares
 full_when w test empty h e = ap not e ∙ (twice (has_any w) ∙ any_of_set w test h)
   where
     twice : (x : Bool) → not (not x) ≡ x
@@ -112,25 +119,32 @@ none_of_set w none i low = by_bit (has w i) refl
 
     by_bit : (x : Bool) → has w i ≡ x → has w i ≡ false
     by_bit false e = e
-    by_bit true e = absurd (apart _ none (any_square (λ s. has w (cell_of s)) (square_at i) (omega arith) (omega arith) (ap (has w) (cell_of-square_at i) ∙ e)))
+    by_bit true e = absurd
+        (apart _ none (any_square (λ s. has w (cell_of s)) (square_at i) (omega arith) (omega arith) (ap (has w) (cell_of-square_at i) ∙ e)))
 
-first_taken : (p q : Square → Bool) (a k n : ℕ) → a ≤ n → n < a + k → p (square_at n) ≡ true → ((i : ℕ) → i < n → p (square_at i) ≡ false)
+first_taken : (p q : Square → Bool) (a k n : ℕ) → a ≤ n → n < a + k
+    → p (square_at n) ≡ true → ((i : ℕ) → i < n → p (square_at i) ≡ false)
     → ((i : ℕ) → i < a + k → q (square_at i) ≡ (if i == n then false else p (square_at i)))
     → filter p (map square_at (range_with_len a k)) ≡ square_at n ∷ filter q (map square_at (range_with_len a k))
 first_taken p q a zero n low high here none rest = absurd (omega arith)
 first_taken p q a (suc k) n low high here none rest =
     elim (same_or_apart a n) [
       | inl w ↦
-          ap (λ v. cond v (square_at a ∷ filter p (map square_at (range_with_len (a + 1) k))) (filter p (map square_at (range_with_len (a + 1) k)))) (ap (λ j. p (square_at j)) w.0 ∙ here)
-          ∙ (ap₂ (λ j xs. square_at j ∷ xs) w.0 (same_filter p q (a + 1) k (λ i above below. sym (rest i (omega arith) ∙ ap (λ v. if v then false else p (square_at i)) (later i above w.0))))
-          ∙ ap (λ v. square_at n ∷ cond v (square_at a ∷ filter q (map square_at (range_with_len (a + 1) k))) (filter q (map square_at (range_with_len (a + 1) k))))
+          ap (λ v. cond v (square_at a ∷ filter p (map square_at (range_with_len (a + 1) k)))
+          (filter p (map square_at (range_with_len (a + 1) k)))) (ap (λ j. p (square_at j)) w.0 ∙ here)
+          ∙ (ap₂ (λ j xs. square_at j ∷ xs) w.0 (same_filter p q (a + 1) k
+          (λ i above below. sym (rest i (omega arith) ∙ ap (λ v. if v then false else p (square_at i)) (later i above w.0))))
+          ∙ ap (λ v. square_at n
+          ∷ cond v (square_at a ∷ filter q (map square_at (range_with_len (a + 1) k))) (filter q (map square_at (range_with_len (a + 1) k))))
           (sym (rest a (omega arith) ∙ ap (λ v. if v then false else p (square_at a)) w.1)))
       | inr w ↦
           let early : a < n = less a n low w.0 in
           let out : p (square_at a) ≡ false = none a early in
-          ap (λ v. cond v (square_at a ∷ filter p (map square_at (range_with_len (a + 1) k))) (filter p (map square_at (range_with_len (a + 1) k)))) out
+          ap (λ v. cond v (square_at a ∷ filter p (map square_at (range_with_len (a + 1) k)))
+          (filter p (map square_at (range_with_len (a + 1) k)))) out
           ∙ (first_taken p q (a + 1) k n (omega arith) (omega arith) here none (λ i below. rest i (omega arith))
-          ∙ ap (λ v. square_at n ∷ cond v (square_at a ∷ filter q (map square_at (range_with_len (a + 1) k))) (filter q (map square_at (range_with_len (a + 1) k))))
+          ∙ ap (λ v. square_at n
+          ∷ cond v (square_at a ∷ filter q (map square_at (range_with_len (a + 1) k))) (filter q (map square_at (range_with_len (a + 1) k))))
           (sym (rest a (omega arith) ∙ (ap (λ v. if v then false else p (square_at a)) w.1 ∙ out))))
     ]
   where
@@ -147,11 +161,15 @@ next_member w rest n lowest sets =
     ∙ (first_taken (λ s. has w (cell_of s)) (λ s. has rest (cell_of s)) 0 64 n (omega arith) (omega (arith, lowest.inside))
     (ap (has w) (cell_of-square_at n) ∙ lowest.here)
     (λ i low. ap (has w) (cell_of-square_at i) ∙ lowest.none i low)
-    (λ i low. ap (has rest) (cell_of-square_at i) ∙ (sets.of i (omega arith) ∙ ap (λ v. if i == n then false else v) (ap (has w) (sym (cell_of-square_at i)))))
+    (λ i low. ap (has rest) (cell_of-square_at i)
+    ∙ (sets.of i (omega arith) ∙ ap (λ v. if i == n then false else v) (ap (has w) (sym (cell_of-square_at i)))))
     ∙ ap (λ xs. square_at n ∷ filter (λ s. has rest (cell_of s)) xs) (sym by_places))
 
 pub no_member : (w : ℕ) → w ≡ 0 → HasNone w
-no_member w none = record { of = λ i low. ap (λ n. has n i) none ∙ has_zero i; none = members_are w (λ s. false) (λ i low. ap (λ n. has n i) none ∙ has_zero i) ∙ nothing squares }
+no_member w none = record {
+  of = λ i low. ap (λ n. has n i) none ∙ has_zero i;
+  none = members_are w (λ s. false) (λ i low. ap (λ n. has n i) none ∙ has_zero i) ∙ nothing squares;
+}
   where
     nothing : (xs : List Square) → filter (λ s. false) xs ≡ []
     nothing [] = refl
@@ -178,11 +196,13 @@ lone_after : (p : Square → Bool) (xs : List Square) (s : Square) → lone (s �
 lone_after p [] s = refl
 lone_after p (x ∷ xs) s = by_first (p x) (filter p xs) (list_any p xs) (lone_after p xs s)
   where
-    by_first : (v : Bool) (ys : List Square) (more : Bool) → lone (s ∷ ys) ≡ (if more then None else Some s) → lone (s ∷ cond v (x ∷ ys) ys) ≡ (if v || more then None else Some s)
+    by_first : (v : Bool) (ys : List Square) (more : Bool) → lone (s ∷ ys) ≡ (if more then None else Some s)
+        → lone (s ∷ cond v (x ∷ ys) ys) ≡ (if v || more then None else Some s)
     by_first true ys more h = refl
     by_first false ys more h = h
 
-pub lone_first : (w rest : ℕ) (s : Square) → IsFirst w s → Sets w rest (cell_of s) false → lone (members w) ≡ (if has_any rest then None else Some s)
+pub lone_first : (w rest : ℕ) (s : Square) → IsFirst w s → Sets w rest (cell_of s) false
+    → lone (members w) ≡ (if has_any rest then None else Some s)
 unfolding members has_any
 lone_first w rest s first sets = ap lone (takes_lowest w rest s first sets).next ∙ lone_after (λ t. has rest (cell_of t)) squares s
 
@@ -197,25 +217,32 @@ first_place w s some fits is =
 
 -- At most one square passes, if any two that pass are one.
 
-none_kept : (p : Square → Bool) (a n : ℕ) → ((i : ℕ) → a ≤ i → i < a + n → p (square_at i) ≡ true → ⊥) → length (filter p (map square_at (range_with_len a n))) ≡ 0
+none_kept : (p : Square → Bool) (a n : ℕ) → ((i : ℕ) → a ≤ i → i < a + n → p (square_at i) ≡ true → ⊥)
+    → length (filter p (map square_at (range_with_len a n))) ≡ 0
 none_kept p a zero h = refl
 none_kept p a (suc n) h = by_test (p (square_at a)) refl (none_kept p (a + 1) n (λ i low high. h i (omega arith) (omega arith)))
   where
     by_test : (x : Bool) → p (square_at a) ≡ x → length (filter p (map square_at (range_with_len (a + 1) n))) ≡ 0
-        → length (cond x (square_at a ∷ filter p (map square_at (range_with_len (a + 1) n))) (filter p (map square_at (range_with_len (a + 1) n)))) ≡ 0
+        → length (cond x (square_at a ∷ filter p (map square_at (range_with_len (a + 1) n)))
+        (filter p (map square_at (range_with_len (a + 1) n)))) ≡ 0
     by_test x e none = grind arith
 
-one_of_range : (p : Square → Bool) (a n : ℕ) → ((i j : ℕ) → a ≤ i → i < j → j < a + n → p (square_at i) ≡ true → p (square_at j) ≡ true → ⊥)
+one_of_range : (p : Square → Bool) (a n : ℕ)
+    → ((i j : ℕ) → a ≤ i → i < j → j < a + n → p (square_at i) ≡ true → p (square_at j) ≡ true → ⊥)
     → length (filter p (map square_at (range_with_len a n))) ≤ 1
 one_of_range p a zero h = omega arith
 one_of_range p a (suc n) h = by_test (p (square_at a)) refl (one_of_range p (a + 1) n (λ i j low less high. h i j (omega arith) less (omega arith)))
   where
     by_test : (x : Bool) → p (square_at a) ≡ x → length (filter p (map square_at (range_with_len (a + 1) n))) ≤ 1
-        → length (cond x (square_at a ∷ filter p (map square_at (range_with_len (a + 1) n))) (filter p (map square_at (range_with_len (a + 1) n)))) ≤ 1
+        → length (cond x (square_at a ∷ filter p (map square_at (range_with_len (a + 1) n)))
+        (filter p (map square_at (range_with_len (a + 1) n)))) ≤ 1
     by_test true e few =
-        let none : length (filter p (map square_at (range_with_len (a + 1) n))) ≡ 0 = none_kept p (a + 1) n (λ i low high there. h a i (omega arith) (omega arith) (omega arith) e there) in
+        let none : length (filter p (map square_at (range_with_len (a + 1) n))) ≡ 0 =
+        none_kept p (a + 1) n (λ i low high there. h a i (omega arith) (omega arith) (omega arith) e there) in
         omega arith
     by_test false e few = few
 
-pub one_kept : (p : Square → Bool) → ((i j : ℕ) → i < j → j < 64 → p (square_at i) ≡ true → p (square_at j) ≡ true → ⊥) → length (filter p squares) ≤ 1
-one_kept p h = subst (λ (xs : List Square). length (filter p xs) ≤ 1) (sym by_places) (one_of_range p 0 64 (λ i j _ less high. h i j less (omega arith)))
+pub one_kept : (p : Square → Bool) → ((i j : ℕ) → i < j → j < 64 → p (square_at i) ≡ true → p (square_at j) ≡ true → ⊥)
+    → length (filter p squares) ≤ 1
+one_kept p h =
+    subst (λ (xs : List Square). length (filter p xs) ≤ 1) (sym by_places) (one_of_range p 0 64 (λ i j _ less high. h i j less (omega arith)))

@@ -47,7 +47,8 @@ pub places : (test : Square → Bool) (n : ℕ) → n ≡ mask test → Places n
 places test n is = record { of = λ i low. ap (λ m. has m i) is ∙ mask_has test i low }
 
 -- a table of the squares that lie to each square so
-pub table_places : (lies : Square → Square → Bool) (table : List ℕ) (t : Square) (i n : ℕ) → table ≡ map (mask_to lies) (numbers 64 0) → n ≡ get_or table i 0
+pub table_places : (lies : Square → Square → Bool) (table : List ℕ) (t : Square) (i n : ℕ)
+    → table ≡ map (mask_to lies) (numbers 64 0) → n ≡ get_or table i 0
     → i < 64 → square_at i ≡ t → Places n (λ s. lies s t)
 unfolding mask_to
 table_places lies table t i n are is low again =
@@ -55,18 +56,24 @@ table_places lies table t i n are is low again =
 
 -- two squares with one between them are on a line
 
-pub between_places : (s t : Square) (i j n : ℕ) → square_at i ≡ s → square_at j ≡ t → j < 64 → n ≡ between_mask (64 * i + j) → Places n (λ u. strictly_between s u t)
+pub between_places : (s t : Square) (i j n : ℕ) → square_at i ≡ s → square_at j ≡ t
+    → j < 64 → n ≡ between_mask (64 * i + j) → Places n (λ u. strictly_between s u t)
 unfolding between_mask
 between_places s t i j n from to low is =
     let first : (64 * i + j) / 64 ≡ i = omega arith in
     let second : (64 * i + j) % 64 ≡ j = omega arith in
     by_line (is_aligned s t) refl
-    (is ∙ ap₂ (λ (v w : Square). if is_aligned v w then mask (λ u. strictly_between v u w) else 0) (ap square_at first ∙ from) (ap square_at second ∙ to))
+    (is ∙ ap₂ (λ (v w : Square). if is_aligned v w then mask (λ u. strictly_between v u w) else 0)
+    (ap square_at first ∙ from) (ap square_at second ∙ to))
   where
-    by_line : (x : Bool) → is_aligned s t ≡ x → n ≡ (if is_aligned s t then mask (λ u. strictly_between s u t) else 0) → Places n (λ u. strictly_between s u t)
+    by_line : (x : Bool) → is_aligned s t ≡ x → n ≡ (if is_aligned s t then mask (λ u. strictly_between s u t) else 0)
+        → Places n (λ u. strictly_between s u t)
     by_line true e h = places (λ u. strictly_between s u t) n (h ∙ ap (λ x. if x then mask (λ u. strictly_between s u t) else 0) e)
     by_line false e h =
-        record { of = λ i _. ap (λ m. has m i) (h ∙ ap (λ x. if x then mask (λ u. strictly_between s u t) else 0) e) ∙ (has_zero i ∙ sym (none (square_at i) (strictly_between s (square_at i) t) refl)) }
+        record {
+          of = λ i _. ap (λ m. has m i) (h ∙ ap (λ x. if x then mask (λ u. strictly_between s u t) else 0) e)
+              ∙ (has_zero i ∙ sym (none (square_at i) (strictly_between s (square_at i) t) refl));
+        }
       where
         none : (u : Square) (x : Bool) → strictly_between s u t ≡ x → strictly_between s u t ≡ false
         none u x g = grind (arith, nat_tests)

@@ -54,7 +54,8 @@ cleared_bit x e = grind arith
 and_fits : (a b : ℕ) → b < 2 ^ 64 → bit_and a b < 2 ^ 64
 and_fits a b g = omega (arith, and_le_r a b)
 
-pub sets_place : (old bit k : ℕ) (value : Bool) → k < 64 → old < 2 ^ 64 → bit < 2 ^ 64 → bit ≡ 2 ^ k → value ≡ true → Sets old (bit_or old bit) k value
+pub sets_place : (old bit k : ℕ) (value : Bool) → k < 64 → old < 2 ^ 64 → bit < 2 ^ 64
+    → bit ≡ 2 ^ k → value ≡ true → Sets old (bit_or old bit) k value
 sets_place old bit k value inside fits small is e =
     record {
       inside = inside;
@@ -66,7 +67,8 @@ sets_place old bit k value inside fits small is e =
           ∙ (set_bit (has old i) (i == k) ∙ ap (λ v. if i == k then v else has old i) (sym e))));
     }
 
-pub clears_place : (old bit k : ℕ) (value : Bool) → k < 64 → bit < 2 ^ 64 → bit ≡ 2 ^ k → value ≡ false → Sets old (bit_and old (bit_not w64 bit)) k value
+pub clears_place : (old bit k : ℕ) (value : Bool) → k < 64 → bit < 2 ^ 64
+    → bit ≡ 2 ^ k → value ≡ false → Sets old (bit_and old (bit_not w64 bit)) k value
 clears_place old bit k value inside small is e = grind (arith, and_fits, w64, has_and, has_not, has_single, cleared_bit)
 
 -- What the bits say of a cell.
@@ -144,13 +146,15 @@ cell_bits w i low h =
       black = ap (λ (v : Inside). has v.black i) (sym h) ∙ word_at w (has_colour Black) i low;
     }
 
-word_again : (test : Option Piece → Bool) (w : Inside) (n : ℕ) → n < 2 ^ 64 → ((i : ℕ) → i < 64 → has n i ≡ test (cell_in w i)) → word test (cells w) ≡ n
+word_again : (test : Option Piece → Bool) (w : Inside) (n : ℕ) → n < 2 ^ 64
+    → ((i : ℕ) → i < 64 → has n i ≡ test (cell_in w i)) → word test (cells w) ≡ n
 word_again test w n fits same =
     same_from_bits_below 64 (word test (cells w)) n
     (omega (arith, word_fits test (cells w), ap (λ k. 2 ^ k) (cells_long w))) fits
     (λ i low. same_bit (word test (cells w)) n i (word_at w test i low ∙ sym (same i low)))
 
-words_again : (w : Inside) → w.straight < 2 ^ 64 → w.diagonal < 2 ^ 64 → w.near < 2 ^ 64 → w.black < 2 ^ 64 → ((i : ℕ) → i < 64 → BitsOf w i (cell_in w i)) → AreWords w
+words_again : (w : Inside) → w.straight < 2 ^ 64 → w.diagonal < 2 ^ 64 → w.near < 2 ^ 64
+    → w.black < 2 ^ 64 → ((i : ℕ) → i < 64 → BitsOf w i (cell_in w i)) → AreWords w
 words_again w s d n b h =
     ap₂ (λ x y. record { straight = x; diagonal = y; near = word is_near (cells w); black = word (has_colour Black) (cells w) })
     (word_again straight_of w w.straight s (λ i low. (h i low).straight))
@@ -176,14 +180,17 @@ pub black_places : (w : Inside) (b : List (Option Piece)) → cells w ≡ b → 
 black_places w b is h = marks w b w.black (has_colour Black) is (λ i low. (cell_bits w i low h).black)
 
 pub kind_places : (w : Inside) (b : List (Option Piece)) (k : Kind) (set : ℕ) → cells w ≡ b → AreWords w
-    → ((i : ℕ) → i < 64 → has set i ≡ kind_in k (has w.straight i) (has w.diagonal i) (has w.near i)) → Places set (λ s. has_kind k (at b s))
+    → ((i : ℕ) → i < 64 → has set i ≡ kind_in k (has w.straight i) (has w.diagonal i) (has w.near i))
+    → Places set (λ s. has_kind k (at b s))
 kind_places w b k set is h e = marks w b set (has_kind k) is (λ i low. e i low ∙ by_bits i (cell_bits w i low h))
   where
     by_bits : (i : ℕ) → BitsOf w i (cell_in w i) → kind_in k (has w.straight i) (has w.diagonal i) (has w.near i) ≡ has_kind k (cell_in w i)
-    by_bits i bits = ap₂ (λ x y. kind_in k x y (has w.near i)) bits.straight bits.diagonal ∙ (ap (kind_in k _ _) bits.near ∙ kind_there k (cell_in w i))
+    by_bits i bits = ap₂ (λ x y. kind_in k x y (has w.near i)) bits.straight bits.diagonal
+        ∙ (ap (kind_in k _ _) bits.near ∙ kind_there k (cell_in w i))
 
 -- two boards with the same squares
-pub same_cells : (w : Inside) (b : List (Option Piece)) → length b ≡ 64 → ((i : ℕ) → i < 64 → cell_in w i ≡ get_or b i None) → cells w ≡ b
+pub same_cells : (w : Inside) (b : List (Option Piece)) → length b ≡ 64
+    → ((i : ℕ) → i < 64 → cell_in w i ≡ get_or b i None) → cells w ≡ b
 same_cells w b long h =
     ext_get_or None (cells w) b (cells_long w ∙ sym long)
     (λ i low. let below : i < 64 = omega (arith, cells_long w) in cell_at w i below ∙ h i below)
@@ -193,7 +200,8 @@ long_there w b is = ap (λ (c : List (Option Piece)). length c) (sym is) ∙ cel
 
 -- a square is set, in each word
 module _ (old new : Inside) (k : ℕ) (x : Option Piece) (one two four black : Bool)
-    (straight : Sets old.straight new.straight k one) (diagonal : Sets old.diagonal new.diagonal k two) (near : Sets old.near new.near k four) (blacks : Sets old.black new.black k black)
+    (straight : Sets old.straight new.straight k one) (diagonal : Sets old.diagonal new.diagonal k two)
+    (near : Sets old.near new.near k four) (blacks : Sets old.black new.black k black)
     (a : one ≡ straight_of x) (b : two ≡ diagonal_of x) (c : four ≡ is_near x) (d : black ≡ has_colour Black x) where
   bits_put : (i : ℕ) → i < 64 → (v : Bool) → (i == k) ≡ v → cell_in new i ≡ (if v then x else cell_in old i)
   bits_put i low v e = grind arith
@@ -203,7 +211,8 @@ module _ (old new : Inside) (k : ℕ) (x : Option Piece) (one two four black : B
       same_cells new (set before k x) (length-set before k x ∙ long_there old before is)
       (λ i low. by_place i low (same_or_apart i k))
     where
-      by_place : (i : ℕ) → i < 64 → ((i ≡ k) × ((i == k) ≡ true)) ⊎ ((i ≢ k) × ((i == k) ≡ false)) → cell_in new i ≡ get_or (set before k x) i None
+      by_place : (i : ℕ) → i < 64 → ((i ≡ k) × ((i == k) ≡ true)) ⊎ ((i ≢ k) × ((i == k) ≡ false))
+          → cell_in new i ≡ get_or (set before k x) i None
       by_place i low h = grind (arith, bits_put, get_or-set_at, long_there, cell_there, get_or-set_other)
 
   pub words_put : AreWords old → AreWords new

@@ -54,7 +54,8 @@ kind_cases k = grind arith
 
 -- They are few.
 
-pub rider_in_view : (p : Parts) (k : Kind) (t s : Square) → is_rider k ≡ true → is_candidate p k t s ≡ true → is_in_view p.board t s ≡ true
+pub rider_in_view : (p : Parts) (k : Kind) (t s : Square) → is_rider k ≡ true
+    → is_candidate p k t s ≡ true → is_in_view p.board t s ≡ true
 rider_in_view p k t s rides h = grind (arith, nat_tests)
 
 jumps_are_few : list_all (λ t. nat_le (length (filter (λ s. is_jump s t) squares)) 8) squares ≡ true
@@ -67,9 +68,17 @@ few_jumps t file rank = leb-true _ _ (each_square (λ t. nat_le (length (filter 
 pub few_candidates : FewCandidates
 few_candidates p k t inside =
     elim (kind_cases k) [
-      | inl rides ↦ omega (arith, few_in_view p.board t file, kept_more (is_candidate p k t) (is_in_view p.board t) squares (λ s h. rider_in_view p k t s rides h))
+      | inl rides ↦ omega (
+        arith,
+        few_in_view p.board t file,
+        kept_more (is_candidate p k t) (is_in_view p.board t) squares (λ s h. rider_in_view p k t s rides h),
+      )
       | inr knight ↦ subst (λ (l : Kind). length (candidates p l t) ≤ 8) (sym knight)
-          (omega (arith, few_jumps t file rank, kept_more (is_candidate p Knight t) (λ s. is_jump s t) squares (λ s h. second_true (own p Knight s) _ h)))
+          (omega (
+            arith,
+            few_jumps t file rank,
+            kept_more (is_candidate p Knight t) (λ s. is_jump s t) squares (λ s h. second_true (own p Knight s) _ h),
+          ))
     ]
   where
     below : (n : ℕ) → nat_lt n 8 ≡ true → n < 8

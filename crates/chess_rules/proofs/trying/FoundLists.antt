@@ -8,7 +8,8 @@ abbrev pub passes : {Y : Type 0} → (Y → Bool) → Option Y → Bool
 passes test None = false
 passes test (Some y) = test y
 
-any-cond : {Y : Type 0} (test : Y → Bool) (b : Bool) (y : Y) (ys : List Y) → list_any test (cond b (y ∷ ys) ys) ≡ ((b && test y) || list_any test ys)
+any-cond : {Y : Type 0} (test : Y → Bool) (b : Bool) (y : Y) (ys : List Y)
+    → list_any test (cond b (y ∷ ys) ys) ≡ ((b && test y) || list_any test ys)
 any-cond test b y ys = grind arith
 
 pub list_any-filter : {Y : Type 0} (test p : Y → Bool) (ys : List Y) → list_any test (filter p ys) ≡ list_any (λ y. p y && test y) ys
@@ -28,12 +29,15 @@ filter_as_map p (x ∷ xs) = ap (λ ys. cond (p x) (x ∷ ys) ys) (filter_as_map
 
 -- What is found at elements with different codes differs, if the code can be read off it.
 module _ {X Y : Type 0} (e : Y → Y → Bool) (h : X → Option Y) (known : X → Bool) (code : X → ℕ) (back : Y → ℕ)
-    (found : (x : X) (y : Y) → known x ≡ true → h x ≡ Some y → back y ≡ code x) (alike : (y z : Y) → e y z ≡ true → back y ≡ back z) where
-  differ : (y : Y) (n : ℕ) → back y ≡ n → (xs : List X) → list_all known xs ≡ true → AllByRecursion (λ m. eqb n m ≡ false) (map code xs) → AllByRecursion (λ z. e y z ≡ false) (filter_map h xs)
+    (found : (x : X) (y : Y) → known x ≡ true → h x ≡ Some y → back y ≡ code x)
+    (alike : (y z : Y) → e y z ≡ true → back y ≡ back z) where
+  differ : (y : Y) (n : ℕ) → back y ≡ n → (xs : List X) → list_all known xs ≡ true
+      → AllByRecursion (λ m. eqb n m ≡ false) (map code xs) → AllByRecursion (λ z. e y z ≡ false) (filter_map h xs)
   differ y n is [] k apart = tt
   differ y n is (x ∷ xs) k apart = by_found (h x) refl (differ y n is xs (second_true (known x) _ k) apart.1)
     where
-      by_found : (o : Option Y) → h x ≡ o → AllByRecursion (λ z. e y z ≡ false) (filter_map h xs) → AllByRecursion (λ z. e y z ≡ false) (cons_option o (filter_map h xs))
+      by_found : (o : Option Y) → h x ≡ o → AllByRecursion (λ z. e y z ≡ false) (filter_map h xs)
+          → AllByRecursion (λ z. e y z ≡ false) (cons_option o (filter_map h xs))
       by_found o there rest = grind arith
 
   pub distinct_found : (xs : List X) → list_all known xs ≡ true → IsDistinct eqb (map code xs) → IsDistinct e (filter_map h xs)
@@ -48,7 +52,8 @@ module _ {X Y : Type 0} (e : Y → Y → Bool) (h : X → Option Y) (known : X �
 -- How many are kept.
 
 -- a test that lets more through keeps more
-pub kept_more : {X : Type 0} (f g : X → Bool) (xs : List X) → ((s : X) → f s ≡ true → g s ≡ true) → length (filter f xs) ≤ length (filter g xs)
+pub kept_more : {X : Type 0} (f g : X → Bool) (xs : List X)
+    → ((s : X) → f s ≡ true → g s ≡ true) → length (filter f xs) ≤ length (filter g xs)
 kept_more f g [] h = omega arith
 kept_more {X = X} f g (x ∷ xs) h = by_tests (f x) (g x) (h x) (kept_more f g xs h)
   where
@@ -56,7 +61,8 @@ kept_more {X = X} f g (x ∷ xs) h = by_tests (f x) (g x) (h x) (kept_more f g x
         → length (cond v (x ∷ filter f xs) (filter f xs)) ≤ length (cond w (x ∷ filter g xs) (filter g xs))
     by_tests v w more few = grind arith
 
-pub kept_either : {X : Type 0} (f g : X → Bool) (xs : List X) → length (filter (λ x. f x || g x) xs) ≤ length (filter f xs) + length (filter g xs)
+pub kept_either : {X : Type 0} (f g : X → Bool) (xs : List X)
+    → length (filter (λ x. f x || g x) xs) ≤ length (filter f xs) + length (filter g xs)
 kept_either f g [] = omega arith
 kept_either {X = X} f g (x ∷ xs) = by_tests (f x) (g x) (filter (λ y. f y || g y) xs) (filter f xs) (filter g xs) (kept_either f g xs)
   where

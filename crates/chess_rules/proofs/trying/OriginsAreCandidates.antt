@@ -21,7 +21,8 @@ advance_seen p m h =
 
 -- what lies between two squares of one file, or of one rank
 
-file_means : (s u t : Square) → s.file ≡ t.file → strictly_between s u t ≡ true → (u.file ≡ s.file) × (inside s.rank u.rank t.rank ≡ true)
+file_means : (s u t : Square) → s.file ≡ t.file → strictly_between s u t ≡ true
+    → (u.file ≡ s.file) × (inside s.rank u.rank t.rank ≡ true)
 file_means s u t same h = grind (arith, nat_tests)
 
 rank_means : (s u t : Square) → s.rank ≡ t.rank → strictly_between s u t ≡ true → between_on_rank s u t ≡ true
@@ -45,7 +46,8 @@ double_seen p m h =
     (or_left _ _ (and_from _ _ (or_right _ _ (equal_tests m.from.file m.to.file file)) (apart_by_rank m.from m.to apart)))
     (clear_if p.board m.from m.to (λ u _ _ between.
     let place : (u.file ≡ m.from.file) × (inside m.from.rank u.rank m.to.rank ≡ true) = file_means m.from u m.to file between in
-    subst (λ (v : Square). is_empty p.board v ≡ true) (sym (ap₂ square place.0 (middle p.side m.from.rank m.to.rank u.rank ranks.0 ranks.1 place.1))) free))
+    subst (λ (v : Square). is_empty p.board v ≡ true)
+    (sym (ap₂ square place.0 (middle p.side m.from.rank m.to.rank u.rank ranks.0 ranks.1 place.1))) free))
   where
     some_ranks : (c : Colour) (a b : ℕ) → a ≡ pawn_rank c → b ≡ double_rank c → 0 < gap a b
     some_ranks c a b low high = grind arith
@@ -53,13 +55,15 @@ double_seen p m h =
 -- Castling: the king sees its end over the square that it crosses.
 
 -- a part of a clear way on one rank is clear
-clear_part : (b : Board) (r e k : ℕ) → ((x : ℕ) → inside 4 x e ≡ true → inside 4 x k ≡ true) → is_clear b (square 4 r) (square k r) ≡ true → is_clear b (square 4 r) (square e r) ≡ true
+clear_part : (b : Board) (r e k : ℕ) → ((x : ℕ) → inside 4 x e ≡ true → inside 4 x k ≡ true)
+    → is_clear b (square 4 r) (square k r) ≡ true → is_clear b (square 4 r) (square e r) ≡ true
 clear_part b r e k wider h =
     clear_if b (square 4 r) (square e r) (λ u file rank between.
     let on : between_on_rank (square 4 r) u (square e r) ≡ true = rank_means (square 4 r) u (square e r) refl between in
     let rest : ((u.rank == r) && inside 4 u.file e) ≡ true = second_true (r == r) _ on in
     not_true (strictly_between (square 4 r) u (square k r)) _
-    (or_left _ _ (and_from (r == r) _ (first_true (r == r) _ on) (and_from (u.rank == r) _ (first_true (u.rank == r) _ rest) (wider u.file (second_true (u.rank == r) _ rest)))))
+    (or_left _ _ (and_from (r == r) _ (first_true (r == r) _ on)
+    (and_from (u.rank == r) _ (first_true (u.rank == r) _ rest) (wider u.file (second_true (u.rank == r) _ rest)))))
     (each_square (λ v. not (strictly_between (square 4 r) v (square k r)) || is_empty b v) u h file rank))
 
 short_part : (x : ℕ) → inside 4 x 6 ≡ true → inside 4 x 7 ≡ true
@@ -68,15 +72,18 @@ short_part x h = grind arith
 long_part : (x : ℕ) → inside 4 x 2 ≡ true → inside 4 x 0 ≡ true
 long_part x h = grind arith
 
-short_way : (b : Board) (c : Colour) → is_clear b (square 4 (home_rank c)) (square 7 (home_rank c)) ≡ true → (is_aligned (square 4 (home_rank c)) (square 6 (home_rank c)) && is_clear b (square 4 (home_rank c)) (square 6 (home_rank c))) ≡ true
+short_way : (b : Board) (c : Colour) → is_clear b (square 4 (home_rank c)) (square 7 (home_rank c)) ≡ true
+    → (is_aligned (square 4 (home_rank c)) (square 6 (home_rank c)) && is_clear b (square 4 (home_rank c)) (square 6 (home_rank c))) ≡ true
 short_way b c h = grind (arith, clear_part, short_part)
 
-long_way : (b : Board) (c : Colour) → is_clear b (square 4 (home_rank c)) (square 0 (home_rank c)) ≡ true → (is_aligned (square 4 (home_rank c)) (square 2 (home_rank c)) && is_clear b (square 4 (home_rank c)) (square 2 (home_rank c))) ≡ true
+long_way : (b : Board) (c : Colour) → is_clear b (square 4 (home_rank c)) (square 0 (home_rank c)) ≡ true
+    → (is_aligned (square 4 (home_rank c)) (square 2 (home_rank c)) && is_clear b (square 4 (home_rank c)) (square 2 (home_rank c))) ≡ true
 long_way b c h = grind (arith, clear_part, long_part)
 
 -- Each way to step.
 
-sees_pawn : (p : Parts) (k : Kind) (s t : Square) → own p k s ≡ true → own p Pawn s ≡ true → sees Pawn p s t ≡ true → sees k p s t ≡ true
+sees_pawn : (p : Parts) (k : Kind) (s t : Square) → own p k s ≡ true
+    → own p Pawn s ≡ true → sees Pawn p s t ≡ true → sees k p s t ≡ true
 sees_pawn p k s t h g seen = grind arith
 
 by_attack : (p : Parts) (m : Move) (k : Kind) → own p k m.from ≡ true → attacks p.board m.from m.to ≡ true → sees k p m.from m.to ≡ true
@@ -86,20 +93,24 @@ by_pawn : (p : Parts) (m : Move) (k : Kind) → own p k m.from ≡ true → is_p
 by_pawn p m k h g = grind (arith, or_cases, sees_pawn, advance_seen, double_seen, by_attack, first_true, second_true)
 
 by_castling : (p : Parts) (m : Move) (k : Kind) (wing : Wing)
-    → (is_clear p.board (home p 4) (home p wing.rook) ≡ true → (is_aligned (home p 4) (home p wing.end) && is_clear p.board (home p 4) (home p wing.end)) ≡ true)
+    → (is_clear p.board (home p 4) (home p wing.rook) ≡ true
+    → (is_aligned (home p 4) (home p wing.end) && is_clear p.board (home p 4) (home p wing.end)) ≡ true)
     → own p k m.from ≡ true → Castles p m wing → sees k p m.from m.to ≡ true
 by_castling p m k wing way h g = grind arith
 
 pub step_seen : (p q : Parts) (m : Move) (k : Kind) → own p k m.from ≡ true → Legal p m q → sees k p m.from m.to ≡ true
 step_seen p q m k h l =
     elim (way_of p m l.board l.stepped) [
-      | inl piece ↦ by_attack p m k h (first_true (attacks p.board m.from m.to) _ (second_true ((has_colour p.side (at p.board m.from) && not (own p Pawn m.from)) && is_none m.promotion) _ piece.0))
+      | inl piece ↦ by_attack p m k h (first_true (attacks p.board m.from m.to) _
+          (second_true ((has_colour p.side (at p.board m.from) && not (own p Pawn m.from)) && is_none m.promotion) _ piece.0))
       | inr more ↦ elim more [
         | inl pawn ↦ by_pawn p m k h pawn.0
         | inr more ↦ elim more [
-          | inl passing ↦ by_attack p m k h (first_true (attacks p.board m.from m.to) _ (second_true ((own p Pawn m.from && promotion_fits p m) && (is_target p.target m.to && is_empty p.board m.to)) _ passing.0))
+          | inl passing ↦ by_attack p m k h (first_true (attacks p.board m.from m.to) _
+              (second_true ((own p Pawn m.from && promotion_fits p m) && (is_target p.target m.to && is_empty p.board m.to)) _ passing.0))
           | inr more ↦ elim more [
-            | inl short ↦ by_castling p m k short_wing (short_way p.board p.side) h (castles_means p m (short_right p.side p.rights) short_wing short.0)
+            | inl short ↦ by_castling p m k short_wing (short_way p.board p.side) h
+                (castles_means p m (short_right p.side p.rights) short_wing short.0)
             | inr long ↦ by_castling p m k long_wing (long_way p.board p.side) h (castles_means p m (long_right p.side p.rights) long_wing long.0)
           ]
         ]

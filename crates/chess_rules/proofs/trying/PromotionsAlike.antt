@@ -28,7 +28,8 @@ itself c x = record { king = refl; empty = refl; others = λ _. refl; back = λ 
 itself_too : (c : Colour) (b : Board) → length b ≡ 64 → Alike c b b
 itself_too c b long = record { left = long; right = long; cells = λ u on. itself c (at b u) }
 
-put_alike : (c : Colour) (b d : Board) (s : Square) (x y : Option Piece) → Alike c b d → OnBoard s → CellsAlike c x y → Alike c (put b s x) (put d s y)
+put_alike : (c : Colour) (b d : Board) (s : Square) (x y : Option Piece) → Alike c b d
+    → OnBoard s → CellsAlike c x y → Alike c (put b s x) (put d s y)
 put_alike c b d s x y alike on cells =
     record {
       left = length-put b s x ∙ alike.left;
@@ -36,12 +37,14 @@ put_alike c b d s x y alike on cells =
       cells = λ u on_u.
           elim (at_put b s u x alike.left on on_u) [
             | inl here ↦ elim (at_put d s u y alike.right on on_u) [
-              | inl too ↦ subst (λ (v : Option Piece). CellsAlike c v (at (put d s y) u)) (sym here.1) (subst (λ (v : Option Piece). CellsAlike c x v) (sym too.1) cells)
+              | inl too ↦ subst (λ (v : Option Piece). CellsAlike c v (at (put d s y) u))
+                  (sym here.1) (subst (λ (v : Option Piece). CellsAlike c x v) (sym too.1) cells)
               | inr not_too ↦ absurd (not_too.0 here.0)
             ]
             | inr there ↦ elim (at_put d s u y alike.right on on_u) [
               | inl not_too ↦ absurd (there.0 not_too.0)
-              | inr too ↦ subst (λ (v : Option Piece). CellsAlike c v (at (put d s y) u)) (sym there.1) (subst (λ (v : Option Piece). CellsAlike c (at b u) v) (sym too.1) (alike.cells u on_u))
+              | inr too ↦ subst (λ (v : Option Piece). CellsAlike c v (at (put d s y) u)) (sym there.1)
+                  (subst (λ (v : Option Piece). CellsAlike c (at b u) v) (sym too.1) (alike.cells u on_u))
             ]
           ];
     }
@@ -63,10 +66,12 @@ clear_alike c b d s t alike =
     all_same (λ u. not (strictly_between s u t) || is_empty b u) (λ u. not (strictly_between s u t) || is_empty d u)
     (λ u on. ap (λ v. not (strictly_between s u t) || v) (alike.cells u on).empty)
 
-cell_alike : (cell : Option Piece) (b d : Board) (s t : Square) → is_clear b s t ≡ is_clear d s t → cell_attacks cell b s t ≡ cell_attacks cell d s t
+cell_alike : (cell : Option Piece) (b d : Board) (s t : Square)
+    → is_clear b s t ≡ is_clear d s t → cell_attacks cell b s t ≡ cell_attacks cell d s t
 cell_alike cell b d s t h = grind arith
 
-attack_alike : (c : Colour) (b d : Board) (s t : Square) → Alike c b d → OnBoard s → (has_colour (other c) (at b s) && attacks b s t) ≡ (has_colour (other c) (at d s) && attacks d s t)
+attack_alike : (c : Colour) (b d : Board) (s t : Square) → Alike c b d → OnBoard s
+    → (has_colour (other c) (at b s) && attacks b s t) ≡ (has_colour (other c) (at d s) && attacks d s t)
 attack_alike c b d s t alike on = by_colours (has_colour (other c) (at b s)) refl (has_colour (other c) (at d s)) refl
   where
     cells : CellsAlike c (at b s) (at d s)
@@ -75,7 +80,8 @@ attack_alike c b d s t alike on = by_colours (has_colour (other c) (at b s)) ref
     same : at b s ≡ at d s → attacks b s t ≡ attacks d s t
     same e = ap (λ cell. cell_attacks cell b s t) e ∙ cell_alike (at d s) b d s t (clear_alike c b d s t alike)
 
-    by_colours : (x : Bool) → has_colour (other c) (at b s) ≡ x → (y : Bool) → has_colour (other c) (at d s) ≡ y → (x && attacks b s t) ≡ (y && attacks d s t)
+    by_colours : (x : Bool) → has_colour (other c) (at b s) ≡ x → (y : Bool)
+        → has_colour (other c) (at d s) ≡ y → (x && attacks b s t) ≡ (y && attacks d s t)
     by_colours true e true f = same (cells.others e)
     by_colours true e false f = cc (ap (has_colour (other c)) (cells.others e))
     by_colours false e true f = cc (ap (has_colour (other c)) (cells.back f))
@@ -98,20 +104,24 @@ men_alike c x y = grind arith
 abbrev promoting : Square → Square → Promotion → Move
 promoting s t x = record { from = s; to = t; promotion = Some x }
 
-carried_alike : (p : Parts) (s t : Square) (x y : Promotion) → length p.board ≡ 64 → OnBoard s → OnBoard t → Alike p.side (carried p (promoting s t x)) (carried p (promoting s t y))
+carried_alike : (p : Parts) (s t : Square) (x y : Promotion) → length p.board ≡ 64 → OnBoard s
+    → OnBoard t → Alike p.side (carried p (promoting s t x)) (carried p (promoting s t y))
 carried_alike p s t x y long on_s on_t =
     put_alike p.side (put p.board s None) (put p.board s None) t (some_piece p.side (kind_of x)) (some_piece p.side (kind_of y))
     (itself_too p.side (put p.board s None) (length-put p.board s None ∙ long)) on_t (men_alike p.side x y)
 
-passing_alike : (p : Parts) (s t : Square) (x y : Promotion) → length p.board ≡ 64 → OnBoard s → OnBoard t → Alike p.side (en_passant_board p (promoting s t x)) (en_passant_board p (promoting s t y))
+passing_alike : (p : Parts) (s t : Square) (x y : Promotion) → length p.board ≡ 64 → OnBoard s
+    → OnBoard t → Alike p.side (en_passant_board p (promoting s t x)) (en_passant_board p (promoting s t y))
 passing_alike p s t x y long on_s on_t =
     put_alike p.side (carried p (promoting s t x)) (carried p (promoting s t y)) (captured_pawn (promoting s t x)) None None
     (carried_alike p s t x y long on_s on_t) (record { file = on_t.file; rank = on_s.rank }) (itself p.side None)
 
-castled_alike : (p : Parts) (s t : Square) (x y : Promotion) (rook crossing : ℕ) → length p.board ≡ 64 → OnBoard s → OnBoard t → rook < 8 → crossing < 8
+castled_alike : (p : Parts) (s t : Square) (x y : Promotion) (rook crossing : ℕ)
+    → length p.board ≡ 64 → OnBoard s → OnBoard t → rook < 8 → crossing < 8
     → Alike p.side (castled p (promoting s t x) rook crossing) (castled p (promoting s t y) rook crossing)
 castled_alike p s t x y rook crossing long on_s on_t low_rook low_crossing =
-    put_alike p.side (put (carried p (promoting s t x)) (home p rook) None) (put (carried p (promoting s t y)) (home p rook) None) (home p crossing) (some_piece p.side Rook) (some_piece p.side Rook)
+    put_alike p.side (put (carried p (promoting s t x)) (home p rook) None)
+    (put (carried p (promoting s t y)) (home p rook) None) (home p crossing) (some_piece p.side Rook) (some_piece p.side Rook)
     (put_alike p.side (carried p (promoting s t x)) (carried p (promoting s t y)) (home p rook) None None
     (carried_alike p s t x y long on_s on_t) (record { file = low_rook; rank = home_below p.side }) (itself p.side None))
     (record { file = low_crossing; rank = home_below p.side }) (itself p.side (some_piece p.side Rook))
@@ -133,8 +143,10 @@ legal_passes p m = by_step (is_on_board m) (board_after p m)
     by_step : (v : Bool) (o : Option Board) → is_some (if_safe (if v then option_map (after p m) o else None)) ≡ (v && passes (leaves_safe p) o)
     by_step v o = grind arith
 
-pick : (test : Board → Bool) (v x y z : Bool) (i j k l e f g h : Board) → test i ≡ test e → test j ≡ test f → test k ≡ test g → test l ≡ test h
-    → passes test (if v then Some i else if x then Some j else if y then Some k else if z then Some l else None) ≡ passes test (if v then Some e else if x then Some f else if y then Some g else if z then Some h else None)
+pick : (test : Board → Bool) (v x y z : Bool) (i j k l e f g h : Board)
+    → test i ≡ test e → test j ≡ test f → test k ≡ test g → test l ≡ test h
+    → passes test (if v then Some i else if x then Some j else if y then Some k else if z then Some l else None)
+    ≡ passes test (if v then Some e else if x then Some f else if y then Some g else if z then Some h else None)
 pick test v x y z i j k l e f g h a b c d = grind arith
 
 both_when : (v x y : Bool) → (v ≡ true → x ≡ y) → (v && x) ≡ (v && y)
@@ -143,13 +155,15 @@ both_when v x y h = grind arith
 pub promotions_alike : PromotionsAlike
 promotions_alike p s t x y position =
     legal_passes p (promoting s t x)
-    ∙ (both_when (is_on_board (promoting s t x)) _ _ (λ on. boards (on_board_means s (first_true (on_board s) _ on)) (on_board_means t (second_true (on_board s) _ on)))
+    ∙ (both_when (is_on_board (promoting s t x)) _ _
+    (λ on. boards (on_board_means s (first_true (on_board s) _ on)) (on_board_means t (second_true (on_board s) _ on)))
     ∙ sym (legal_passes p (promoting s t y)))
   where
     long : length p.board ≡ 64
     long = grind arith
 
-    boards : OnBoard s → OnBoard t → passes (leaves_safe p) (board_after p (promoting s t x)) ≡ passes (leaves_safe p) (board_after p (promoting s t y))
+    boards : OnBoard s → OnBoard t
+        → passes (leaves_safe p) (board_after p (promoting s t x)) ≡ passes (leaves_safe p) (board_after p (promoting s t y))
     boards on_s on_t = grind (arith, pick, safe_alike, carried_alike, long, passing_alike, castled_alike)
 
 -- A legal move names a promotion exactly if a pawn reaches its last rank.
@@ -169,18 +183,23 @@ king_no_pawn p s h = grind arith
 named : (p q : Parts) (m : Move) → Legal p m q → is_some m.promotion ≡ arrives p m
 named p q m l =
     elim (way_of p m l.board l.stepped) [
-      | inl piece ↦ (let goes : ((has_colour p.side (at p.board m.from) && not (own p Pawn m.from)) && is_none m.promotion) ≡ true = first_true _ _ piece.0 in
+      | inl piece ↦
+          (let goes : ((has_colour p.side (at p.board m.from) && not (own p Pawn m.from)) && is_none m.promotion) ≡ true = first_true _ _ piece.0 in
           named_by_other p m
           (not-true (own p Pawn m.from) (second_true (has_colour p.side (at p.board m.from)) _ (first_true _ (is_none m.promotion) goes)))
           (second_true (has_colour p.side (at p.board m.from) && not (own p Pawn m.from)) _ goes))
       | inr more ↦ elim more [
-        | inl pawn ↦ named_by_pawn p m (first_true (own p Pawn m.from) _ pawn.0) (second_true (is_pawn_way p m) _ (second_true (own p Pawn m.from) _ pawn.0))
+        | inl pawn ↦ named_by_pawn p m (first_true (own p Pawn m.from) _ pawn.0)
+            (second_true (is_pawn_way p m) _ (second_true (own p Pawn m.from) _ pawn.0))
         | inr more ↦ elim more [
-          | inl passing ↦ (let fits : (own p Pawn m.from && promotion_fits p m) ≡ true = first_true _ (is_target p.target m.to && is_empty p.board m.to) (first_true _ _ passing.0) in
+          | inl passing ↦ (let fits : (own p Pawn m.from && promotion_fits p m) ≡ true =
+              first_true _ (is_target p.target m.to && is_empty p.board m.to) (first_true _ _ passing.0) in
               named_by_pawn p m (first_true (own p Pawn m.from) _ fits) (second_true (own p Pawn m.from) _ fits))
           | inr more ↦ elim more [
-            | inl short ↦ by_castling (castles_means p m (short_right p.side p.rights) short_wing short.0).king (castles_means p m (short_right p.side p.rights) short_wing short.0).plain
-            | inr long ↦ by_castling (castles_means p m (long_right p.side p.rights) long_wing long.0).king (castles_means p m (long_right p.side p.rights) long_wing long.0).plain
+            | inl short ↦ by_castling (castles_means p m (short_right p.side p.rights) short_wing short.0).king
+                (castles_means p m (short_right p.side p.rights) short_wing short.0).plain
+            | inr long ↦ by_castling (castles_means p m (long_right p.side p.rights) long_wing long.0).king
+                (castles_means p m (long_right p.side p.rights) long_wing long.0).plain
           ]
         ]
       ]
@@ -200,9 +219,11 @@ pub one_will_do : (p : Parts) (m : Move) → is_position p ≡ true → is_legal
 unfolding is_legal_pair
 one_will_do p m position h = (let (q, l) = legal_after p m h in by_promotion m.promotion h (named p q m l))
   where
-    by_arrival : (v w : Bool) → v ≡ w → is_legal p (record { from = m.from; to = m.to; promotion = if v then Some promotions.Queen else None }) ≡ is_legal p (record { from = m.from; to = m.to; promotion = if w then Some promotions.Queen else None })
+    by_arrival : (v w : Bool) → v ≡ w → is_legal p (record { from = m.from; to = m.to; promotion = if v then Some promotions.Queen else None })
+        ≡ is_legal p (record { from = m.from; to = m.to; promotion = if w then Some promotions.Queen else None })
     by_arrival v w e = ap (λ x. is_legal p (record { from = m.from; to = m.to; promotion = if x then Some promotions.Queen else None })) e
 
-    by_promotion : (o : Option Promotion) → is_legal p (record { from = m.from; to = m.to; promotion = o }) ≡ true → is_some o ≡ arrives p m → is_legal p (one_move p m.from m.to) ≡ true
+    by_promotion : (o : Option Promotion) → is_legal p (record { from = m.from; to = m.to; promotion = o }) ≡ true
+        → is_some o ≡ arrives p m → is_legal p (one_move p m.from m.to) ≡ true
     by_promotion None g e = by_arrival (arrives p m) false (sym e) ∙ g
     by_promotion (Some x) g e = by_arrival (arrives p m) true (sym e) ∙ (promotions_alike p m.from m.to promotions.Queen x position ∙ g)

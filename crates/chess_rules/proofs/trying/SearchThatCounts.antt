@@ -1,5 +1,6 @@
 -- A search that counts, step by step.
-use Rattle.chess_rules.proofs.Words.{Square, members, HasNone, Counts, ◌≡◌, ℕ, ◌+◌, ◌<◌, ◌≤◌, Bool, true, false, ◌||◌, List, ◌∷◌, length, sym, ◌∙◌, ap, arith, list_any, sum_by, sum_by-cons}
+use Rattle.chess_rules.proofs.Words.{Square, members, HasNone, Counts, ◌≡◌, ℕ, ◌+◌, ◌<◌, ◌≤◌, Bool, true, false, ◌||◌, List}
+use Rattle.chess_rules.proofs.Words.{◌∷◌, length, sym, ◌∙◌, ap, arith, list_any, sum_by, sum_by-cons}
 
 pub counts_exactly : (found : Bool) (old new whole : ℕ) → (found ≡ true → 0 < whole) → new ≡ old + whole → Counts found old new whole
 counts_exactly found old new whole one h = grind arith
@@ -23,7 +24,8 @@ module _ (test : Square → Bool) (whole : List Square) where
     pub left_hit : (later : ℕ) → test s ≡ true → later ≡ now + 1 → (true ≡ list_any test whole) × Counts true old later (length whole)
     left_hit later passes one = grind arith
 
-  pub none_left : (left old now : ℕ) → LeftOf left old now → HasNone left → (false ≡ list_any test whole) × Counts false old now (length whole)
+  pub none_left : (left old now : ℕ) → LeftOf left old now → HasNone left
+      → (false ≡ list_any test whole) × Counts false old now (length whole)
   none_left left old now w none = (
     ap (list_any test) (sym none.none) ∙ w.same,
     counts_exactly false old now (length whole) (λ found. cc) (omega (arith, w.counted, ap length none.none)),
@@ -44,7 +46,8 @@ module _ (test : Square → Bool) (cost : Square → ℕ) (whole : List Square) 
     pub target_fits : (limit : ℕ) → old + sum_by cost whole < limit → now + cost s < limit
     target_fits limit room = omega (arith, room, w.counted, next_counted)
 
-    pub fewer_targets : (hit : Bool) (later : ℕ) → hit ≡ test s → hit ≡ false → Counts hit now later (cost s) → TargetsLeft rest old later
+    pub fewer_targets : (hit : Bool) (later : ℕ) → hit ≡ test s → hit ≡ false
+        → Counts hit now later (cost s) → TargetsLeft rest old later
     fewer_targets hit later tested misses more =
         record {
           rises = omega (arith, w.rises, more.rises);
@@ -52,7 +55,8 @@ module _ (test : Square → Bool) (cost : Square → ℕ) (whole : List Square) 
           same = ap (λ v. v || list_any test (members rest)) (sym misses ∙ tested) ∙ (ap (list_any test) (sym next) ∙ w.same);
         }
 
-    pub target_hit : (hit : Bool) (later : ℕ) → hit ≡ test s → hit ≡ true → Counts hit now later (cost s) → (true ≡ list_any test whole) × Counts true old later (sum_by cost whole)
+    pub target_hit : (hit : Bool) (later : ℕ) → hit ≡ test s → hit ≡ true → Counts hit now later (cost s)
+        → (true ≡ list_any test whole) × Counts true old later (sum_by cost whole)
     target_hit hit later tested passes more = (
       ap (λ v. v || list_any test (members rest)) (sym passes ∙ tested) ∙ (ap (list_any test) (sym next) ∙ w.same),
       record {
@@ -63,7 +67,8 @@ module _ (test : Square → Bool) (cost : Square → ℕ) (whole : List Square) 
       },
     )
 
-  pub no_target : (left old now : ℕ) → TargetsLeft left old now → HasNone left → (false ≡ list_any test whole) × Counts false old now (sum_by cost whole)
+  pub no_target : (left old now : ℕ) → TargetsLeft left old now → HasNone left
+      → (false ≡ list_any test whole) × Counts false old now (sum_by cost whole)
   no_target left old now w none = (
     ap (list_any test) (sym none.none) ∙ w.same,
     counts_exactly false old now (sum_by cost whole) (λ found. cc)

@@ -6,7 +6,8 @@ use Rattle.chess_rules.proofs.lines.AttackToReach.{jump_clear, with_second}
 use Rattle.chess_rules.proofs.trying.FoundLists.{kept_more}
 use Rattle.chess_rules.proofs.sets.SetsToSquares.{members_are}
 
-pub own_places : (p : Parts) (k : Kind) (d : Colour) (b : Board) (w : ℕ) → d ≡ p.side → b ≡ p.board → Places w (λ s. has_piece d k (at b s)) → Places w (own p k)
+pub own_places : (p : Parts) (k : Kind) (d : Colour) (b : Board) (w : ℕ) → d ≡ p.side
+    → b ≡ p.board → Places w (λ s. has_piece d k (at b s)) → Places w (own p k)
 own_places p k d b w side board h = grind arith
 
 -- what is seen is seen by a clear way
@@ -18,8 +19,10 @@ sees_is p Bishop s t = refl
 sees_is p Knight s t = with_second _ _ (jump_clear p.board s t)
 sees_is p Pawn s t = refl
 
-pub jumps_are : (p : Parts) (k : Kind) (t : Square) (r : ℕ) → k ≡ Knight → Places r (λ s. own p k s && may_see k s t) → members r ≡ candidates p k t
-jumps_are p k t r knight h = members_are r (is_candidate p k t) (λ i low. h.of i low ∙ ap (λ x. own p k (square_at i) && x) (as_seen (square_at i)))
+pub jumps_are : (p : Parts) (k : Kind) (t : Square) (r : ℕ) → k ≡ Knight
+    → Places r (λ s. own p k s && may_see k s t) → members r ≡ candidates p k t
+jumps_are p k t r knight h =
+    members_are r (is_candidate p k t) (λ i low. h.of i low ∙ ap (λ x. own p k (square_at i) && x) (as_seen (square_at i)))
   where
     as_seen : (s : Square) → may_see k s t ≡ sees k p s t
     as_seen s = grind arith

@@ -4,36 +4,43 @@ use Rattle.chess_rules.proofs.sets.SetsToSquares.{members_are}
 use Rattle.chess_rules.proofs.positions.OneKing.{cell_of-square_at}
 
 -- the pieces of the side to move
-pub colour_places : (p : Parts) (d : Colour) (b : Board) (w : ℕ) → d ≡ p.side → b ≡ p.board → Places w (λ s. has_colour d (at b s)) → Places w (λ s. has_colour p.side (at p.board s))
+pub colour_places : (p : Parts) (d : Colour) (b : Board) (w : ℕ) → d ≡ p.side → b ≡ p.board
+    → Places w (λ s. has_colour d (at b s)) → Places w (λ s. has_colour p.side (at p.board s))
 colour_places p d b w side board h = grind arith
 
 -- The king's steps that are tried first.
 
-pub steps_are : (p : Parts) (k : Square) (near owns rest steps : ℕ) → k ≡ king_square p.side p.board → Bits rest (λ i. not (has owns i)) → Bits steps (λ i. has near i && has rest i)
+pub steps_are : (p : Parts) (k : Square) (near owns rest steps : ℕ) → k ≡ king_square p.side p.board
+    → Bits rest (λ i. not (has owns i)) → Bits steps (λ i. has near i && has rest i)
     → Places near (λ s. is_adjacent s k) → Places owns (λ s. has_colour p.side (at p.board s)) → Places steps (is_king_step p)
 steps_are p k near owns rest steps king misses meets h g = grind arith
 
-pub step_tried : (p : Parts) (t : Square) (w place : ℕ) (r : Bool) → Places w (is_king_step p) → place ≡ cell_of t → t.file < 8 → t.rank < 8 → r ≡ has w place → r ≡ is_king_step p t
+pub step_tried : (p : Parts) (t : Square) (w place : ℕ) (r : Bool) → Places w (is_king_step p)
+    → place ≡ cell_of t → t.file < 8 → t.rank < 8 → r ≡ has w place → r ≡ is_king_step p t
 step_tried p t w place r h is file rank e = grind (arith, nat_tests)
 
 -- The pieces that are still to be tried for a target.
 
-pub king_left_out : (p : Parts) (t : Square) (pieces kings rest left : ℕ) → is_king_step p t ≡ true → Bits rest (λ i. not (has kings i)) → Bits left (λ i. has pieces i && has rest i)
+pub king_left_out : (p : Parts) (t : Square) (pieces kings rest left : ℕ) → is_king_step p t ≡ true
+    → Bits rest (λ i. not (has kings i)) → Bits left (λ i. has pieces i && has rest i)
     → Places kings (own p King) → Places left (λ s. has pieces (cell_of s) && not (is_king_step p t && own p King s))
 king_left_out p t pieces kings rest left step misses meets h = grind (arith, cell_of-square_at)
 
 pub aligned_left : (p : Parts) (t : Square) (b : Board) (owns knights rest others lines pieces left clear : ℕ) → b ≡ p.board
-    → Bits rest (λ i. not (has knights i)) → Bits others (λ i. has owns i && has rest i) → Bits pieces (λ i. has others i && has lines i) → Places owns (λ s. has_colour p.side (at p.board s)) → Places knights (own p Knight) → Places lines (λ s. is_aligned s t)
+    → Bits rest (λ i. not (has knights i)) → Bits others (λ i. has owns i && has rest i) → Bits pieces (λ i. has others i && has lines i)
+    → Places owns (λ s. has_colour p.side (at p.board s)) → Places knights (own p Knight) → Places lines (λ s. is_aligned s t)
     → Places left (λ s. has pieces (cell_of s) && not (is_king_step p t && own p King s))
-    → Places clear (λ s. has left (cell_of s) && is_clear b s t)
-    → Places clear (is_untried_aligned p t)
-aligned_left p t b owns knights rest others lines pieces left clear board misses meets both of_owns of_knights of_lines of_left of_clear = grind (arith, cell_of-square_at)
+    → Places clear (λ s. has left (cell_of s) && is_clear b s t) → Places clear (is_untried_aligned p t)
+aligned_left p t b owns knights rest others lines pieces left clear board misses meets both of_owns of_knights of_lines of_left of_clear =
+    grind (arith, cell_of-square_at)
 
 -- The members of a set, and then all other squares.
 
-any_parts : (test kept : Square → Bool) (xs : List Square) → (list_any test (filter kept xs) || list_any test (filter (λ s. not (kept s)) xs)) ≡ list_any test xs
+any_parts : (test kept : Square → Bool) (xs : List Square)
+    → (list_any test (filter kept xs) || list_any test (filter (λ s. not (kept s)) xs)) ≡ list_any test xs
 any_parts test kept [] = refl
-any_parts test kept (x ∷ xs) = by_test (kept x) (filter kept xs) (filter (λ s. not (kept s)) xs) ∙ ap (λ v. test x || v) (any_parts test kept xs)
+any_parts test kept (x ∷ xs) =
+    by_test (kept x) (filter kept xs) (filter (λ s. not (kept s)) xs) ∙ ap (λ v. test x || v) (any_parts test kept xs)
   where
     in_turn : (x y z : Bool) → (x || (y || z)) ≡ ((x || y) || z)
     in_turn x y z = grind arith
@@ -45,9 +52,11 @@ any_parts test kept (x ∷ xs) = by_test (kept x) (filter kept xs) (filter (λ s
         → (list_any test (cond v (x ∷ a) a) || list_any test (cond (not v) (x ∷ b) b)) ≡ (test x || (list_any test a || list_any test b))
     by_test v a b = grind arith
 
-sum_parts : (cost : Square → ℕ) (kept : Square → Bool) (xs : List Square) → sum_by cost (filter kept xs) + sum_by cost (filter (λ s. not (kept s)) xs) ≡ sum_by cost xs
+sum_parts : (cost : Square → ℕ) (kept : Square → Bool) (xs : List Square)
+    → sum_by cost (filter kept xs) + sum_by cost (filter (λ s. not (kept s)) xs) ≡ sum_by cost xs
 sum_parts cost kept [] = refl
-sum_parts cost kept (x ∷ xs) = by_test (kept x) (filter kept xs) (filter (λ s. not (kept s)) xs) (sum_parts cost kept xs) ∙ sym (sum_by-cons cost x xs)
+sum_parts cost kept (x ∷ xs) =
+    by_test (kept x) (filter kept xs) (filter (λ s. not (kept s)) xs) (sum_parts cost kept xs) ∙ sym (sum_by-cons cost x xs)
   where
     by_test : (v : Bool) (a b : List Square) → sum_by cost a + sum_by cost b ≡ sum_by cost xs
         → sum_by cost (cond v (x ∷ a) a) + sum_by cost (cond (not v) (x ∷ b) b) ≡ cost x + sum_by cost xs
@@ -56,11 +65,13 @@ sum_parts cost kept (x ∷ xs) = by_test (kept x) (filter kept xs) (filter (λ s
 others : (w r : ℕ) → Bits r (λ i. not (has w i)) → members r ≡ filter (λ s. not (has w (cell_of s))) squares
 others w r rest = members_are r (λ s. not (has w (cell_of s))) (λ i low. rest.of i low ∙ ap (λ j. not (has w j)) (sym (cell_of-square_at i)))
 
-pub any_both : (test : Square → Bool) (w r : ℕ) → Bits r (λ i. not (has w i)) → (list_any test (members w) || list_any test (members r)) ≡ list_any test squares
+pub any_both : (test : Square → Bool) (w r : ℕ) → Bits r (λ i. not (has w i))
+    → (list_any test (members w) || list_any test (members r)) ≡ list_any test squares
 unfolding members
 any_both test w r rest =
     ap (λ xs. list_any test (members w) || list_any test xs) (others w r rest) ∙ any_parts test (λ s. has w (cell_of s)) squares
 
-pub sum_both_sets : (cost : Square → ℕ) (w r : ℕ) → Bits r (λ i. not (has w i)) → sum_by cost (members w) + sum_by cost (members r) ≡ sum_by cost squares
+pub sum_both_sets : (cost : Square → ℕ) (w r : ℕ) → Bits r (λ i. not (has w i))
+    → sum_by cost (members w) + sum_by cost (members r) ≡ sum_by cost squares
 unfolding members
 sum_both_sets cost w r rest = grind (arith, others, sum_parts)

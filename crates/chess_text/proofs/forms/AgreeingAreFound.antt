@@ -41,8 +41,10 @@ any_contained test xs x (k, low, is) h = list_any_at test xs k x low (ap test is
 apart_from_test : (ss : List Square) → all_apart ss ≡ true → Apart ss
 apart_from_test [] h = tt
 apart_from_test (s ∷ ss) h =
-    let both = and_parts (not (list_any (same_square s) ss)) (all_apart ss) h in
-    (λ t c e. both_ways (list_any (same_square s) ss) (not-true _ both.0) (any_contained (same_square s) ss t c (rw (← e) (same_square-refl s))), apart_from_test ss both.1)
+    let both = and_parts (not (list_any (same_square s) ss)) (all_apart ss) h in (
+      λ t c e. both_ways (list_any (same_square s) ss) (not-true _ both.0) (any_contained (same_square s) ss t c (rw (← e) (same_square-refl s))),
+      apart_from_test ss both.1,
+    )
 
 tested : all_apart squares ≡ true
 unfolding squares
@@ -89,9 +91,11 @@ pub record Said (p : Parts) (k : Kind) (file rank : Option ℕ) (to : Square) (p
   pub there : n.to ≡ to
   pub named : n.promotion ≡ promotion
 
-pub said : (p : Parts) (k : Kind) (file rank : Option ℕ) (to : Square) (promotion : Option Promotion) (n : Move) → describes p (Man k file rank to promotion) n ≡ true → Said p k file rank to promotion n
+pub said : (p : Parts) (k : Kind) (file rank : Option ℕ) (to : Square) (promotion : Option Promotion) (n : Move)
+    → describes p (Man k file rank to promotion) n ≡ true → Said p k file rank to promotion n
 said p k file rank to promotion n h =
-    let (stands, hints, there, named) = five_hold (own p k n.from) (hints_fit file rank n.from) (same_square n.to to) (same_promotion n.promotion promotion) (not (is_castling p n)) h in
+    let (stands, hints, there, named) =
+    five_hold (own p k n.from) (hints_fit file rank n.from) (same_square n.to to) (same_promotion n.promotion promotion) (not (is_castling p n)) h in
     record { stands = stands; hints = hints; there = squares_same n.to to there; named = promotions_same _ _ named }
 
 pub is_possible : (p : Parts) (f : Form) (m : Move) → is_legal p m ≡ true → describes p f m ≡ true → Contains (moves_to_try p f) m
@@ -112,7 +116,8 @@ abbrev told : Parts → Form → Move → Option Played
 told p f m = played (describes p f m) p m
 
 -- each move that agrees is found, with the position after it
-pub agreeing_found : (p : Parts) (f : Form) (m : Move) (q : Parts) → agrees p f m ≡ true → legal p m ≡ Some q → Contains (agreeing p f) (record { mv = m; next = q })
+pub agreeing_found : (p : Parts) (f : Form) (m : Move) (q : Parts) → agrees p f m ≡ true
+    → legal p m ≡ Some q → Contains (agreeing p f) (record { mv = m; next = q })
 unfolding agreeing
 agreeing_found p f m q h after =
     let both = and_parts (is_legal p m) (describes p f m) h in
@@ -147,11 +152,13 @@ found_agrees p f x c =
     record { holds = and_from (is_legal p x.mv) (describes p f x.mv) (ap is_some after) (rw t.same t.says); after = after }
 
 -- of two that are found, the moves differ
-two_differ : (p : Parts) (f : Form) (ms : List Move) → Apart ms → (x y : Played) (more : List Played) → filter_map (told p f) ms ≡ x ∷ y ∷ more → x.mv ≢ y.mv
+two_differ : (p : Parts) (f : Form) (ms : List Move) → Apart ms → (x y : Played) (more : List Played)
+    → filter_map (told p f) ms ≡ x ∷ y ∷ more → x.mv ≢ y.mv
 two_differ p f [] apart x y more e = cc
 two_differ p f (m ∷ ms) apart x y more e = by_found (told p f m) refl e (two_differ p f ms apart.1 x y more)
   where
-    by_found : (o : Option Played) → told p f m ≡ o → cons_option o (filter_map (told p f) ms) ≡ x ∷ y ∷ more → (filter_map (told p f) ms ≡ x ∷ y ∷ more → x.mv ≢ y.mv) → x.mv ≢ y.mv
+    by_found : (o : Option Played) → told p f m ≡ o → cons_option o (filter_map (told p f) ms) ≡ x ∷ y ∷ more
+        → (filter_map (told p f) ms ≡ x ∷ y ∷ more → x.mv ≢ y.mv) → x.mv ≢ y.mv
     by_found None g h rest = rest h
     by_found (Some w) g h rest = λ same.
         let first : w ≡ x = cc in
@@ -169,7 +176,8 @@ agreeing_differ p f x y more e = two_differ p f (moves_to_try p f) (possible_apa
 
 module _ (p : Parts) (f : Form) where
   -- a move that agrees is one of those found
-  is_found : (xs : List Played) → agreeing p f ≡ xs → (m : Move) → agrees p f m ≡ true → (q : Parts) × (legal p m ≡ Some q) × Contains xs (record { mv = m; next = q })
+  is_found : (xs : List Played) → agreeing p f ≡ xs → (m : Move) → agrees p f m ≡ true
+      → (q : Parts) × (legal p m ≡ Some q) × Contains xs (record { mv = m; next = q })
   is_found xs e m h =
       let (q, after) = legal_next (legal p m) (and_parts (is_legal p m) (describes p f m) h).0 in
       (q, after, rw e at (agreeing_found p f m q h after))
@@ -185,18 +193,21 @@ module _ (p : Parts) (f : Form) where
       let (q, after, c) = is_found (x ∷ []) e m h in
       sym (ap (λ (y : Played). y.mv) (only_in x (record { mv = m; next = q }) c))
 
-  one_to : (x : Played) (xs : List Played) → agreeing p f ≡ xs → only xs ≡ Ok x → (agrees p f x.mv ≡ true) × (legal p x.mv ≡ Some x.next) × ((m : Move) → agrees p f m ≡ true → m ≡ x.mv)
+  one_to : (x : Played) (xs : List Played) → agreeing p f ≡ xs → only xs ≡ Ok x
+      → (agrees p f x.mv ≡ true) × (legal p x.mv ≡ Some x.next) × ((m : Move) → agrees p f m ≡ true → m ≡ x.mv)
   one_to x (y ∷ []) e h =
       let e : agreeing p f ≡ x ∷ [] = cc in
       let a = first_agrees x [] e in
       (a.holds, a.after, alone x e)
   one_to x xs e h = cc
 
-  one_from : (x : Played) (xs : List Played) → agreeing p f ≡ xs → agrees p f x.mv ≡ true → legal p x.mv ≡ Some x.next → ((m : Move) → agrees p f m ≡ true → m ≡ x.mv) → only xs ≡ Ok x
+  one_from : (x : Played) (xs : List Played) → agreeing p f ≡ xs → agrees p f x.mv ≡ true
+      → legal p x.mv ≡ Some x.next → ((m : Move) → agrees p f m ≡ true → m ≡ x.mv) → only xs ≡ Ok x
   one_from x [] e h after single = absurd (none_in x (rw e at (agreeing_found p f x.mv x.next h after)))
   one_from x (y ∷ []) e h after single = ap Ok (only_in y x (rw e at (agreeing_found p f x.mv x.next h after)))
   one_from x (y ∷ z ∷ more) e h after single =
-      absurd (agreeing_differ p f y z more e (single y.mv (first_agrees y (z ∷ more) e).holds ∙ sym (single z.mv (second_agrees y z more e).holds)))
+      absurd (agreeing_differ p f y z more e
+      (single y.mv (first_agrees y (z ∷ more) e).holds ∙ sym (single z.mv (second_agrees y z more e).holds)))
 
   none_to : (xs : List Played) → agreeing p f ≡ xs → only xs ≡ Err NoMove → (m : Move) → agrees p f m ≡ true → ⊥
   none_to [] e h m agreed = let (q, after, c) = is_found [] e m agreed in none_in _ c
@@ -207,23 +218,23 @@ module _ (p : Parts) (f : Form) where
   none_from [] e h = refl
   none_from (y ∷ more) e h = absurd (h y.mv (first_agrees y more e).holds)
 
-  two_to : (xs : List Played) → agreeing p f ≡ xs → only xs ≡ Err Ambiguous → (m : Move) × (n : Move) × (m ≢ n) × (agrees p f m ≡ true) × (agrees p f n ≡ true)
+  two_to : (xs : List Played) → agreeing p f ≡ xs → only xs ≡ Err Ambiguous
+      → (m : Move) × (n : Move) × (m ≢ n) × (agrees p f m ≡ true) × (agrees p f n ≡ true)
   two_to (y ∷ z ∷ more) e h =
       (y.mv, z.mv, agreeing_differ p f y z more e, (first_agrees y (z ∷ more) e).holds, (second_agrees y z more e).holds)
   two_to xs e h = cc
 
-  two_from : (xs : List Played) → agreeing p f ≡ xs → (m n : Move) → m ≢ n → agrees p f m ≡ true → agrees p f n ≡ true → only xs ≡ Err Ambiguous
+  two_from : (xs : List Played) → agreeing p f ≡ xs → (m n : Move) → m ≢ n
+      → agrees p f m ≡ true → agrees p f n ≡ true → only xs ≡ Err Ambiguous
   two_from [] e m n differ a b = let (q, after, c) = is_found [] e m a in absurd (none_in _ c)
   two_from (y ∷ []) e m n differ a b = absurd (differ (alone y e m a ∙ sym (alone y e n b)))
   two_from (y ∷ z ∷ more) e m n differ a b = refl
 
 pub the_one_move_is_read : TheOneMoveIsRead
-the_one_move_is_read p f x =
-    (one_to p f x (agreeing p f) refl, λ (agreed, after, single). one_from p f x (agreeing p f) refl agreed after single)
+the_one_move_is_read p f x = (one_to p f x (agreeing p f) refl, λ (agreed, after, single). one_from p f x (agreeing p f) refl agreed after single)
 
 pub no_move_is_read : NoMoveIsRead
 no_move_is_read p f = (none_to p f (agreeing p f) refl, none_from p f (agreeing p f) refl)
 
 pub two_moves_are_ambiguous : TwoMovesAreAmbiguous
-two_moves_are_ambiguous p f =
-    (two_to p f (agreeing p f) refl, λ (m, n, differ, a, b). two_from p f (agreeing p f) refl m n differ a b)
+two_moves_are_ambiguous p f = (two_to p f (agreeing p f) refl, λ (m, n, differ, a, b). two_from p f (agreeing p f) refl m n differ a b)

@@ -23,12 +23,19 @@ before_marks-last [] c h = rw h refl
 before_marks-last (d ∷ t) c h = rw (last_fails (d ∷ t) c h) (ap (λ s. d ∷ s) (before_marks-last t c h))
 
 -- where the marks begin
-pub cut_at_marks : (s : List ℕ) (n : ℕ) → 0 < n → n ≤ length s → list_all is_mark (drop n s) ≡ true → is_mark (get_or s (n - 1) 0) ≡ false → before_marks s ≡ take n s
+pub cut_at_marks : (s : List ℕ) (n : ℕ) → 0 < n → n ≤ length s → list_all is_mark (drop n s) ≡ true
+    → is_mark (get_or s (n - 1) 0) ≡ false → before_marks s ≡ take n s
 cut_at_marks s n started within marks h =
     let again : (n - 1) + 1 ≡ n = omega arith in
-    cc (take_more s (n - 1) 0 (omega arith), take-append-drop n s, before_marks-append (take n s) (drop n s) marks, before_marks-last (take (n - 1) s) (get_or s (n - 1) 0) h)
+    cc (
+      take_more s (n - 1) 0 (omega arith),
+      take-append-drop n s,
+      before_marks-append (take n s) (drop n s) marks,
+      before_marks-last (take (n - 1) s) (get_or s (n - 1) 0) h,
+    )
 
 -- the loop's end: no byte is left, or one that is no mark
-pub cut_where : (s : List ℕ) (n : ℕ) → n ≤ length s → list_all is_mark (drop n s) ≡ true → (n ≡ 0) ⊎ ((0 < n) × (is_mark (get_or s (n - 1) 0) ≡ false)) → take n s ≡ before_marks s
+pub cut_where : (s : List ℕ) (n : ℕ) → n ≤ length s → list_all is_mark (drop n s) ≡ true
+    → (n ≡ 0) ⊎ ((0 < n) × (is_mark (get_or s (n - 1) 0) ≡ false)) → take n s ≡ before_marks s
 cut_where s n within marks (inl none) = rw none (sym (marks_alone-none s (rw none at marks)))
 cut_where s n within marks (inr some) = sym (cut_at_marks s n some.0 within marks some.1)

@@ -21,7 +21,8 @@ described p true m to =
     second_alone (castles_short p m) (castles_long p m)
     (λ h. let files = ap (λ (s : Square). s.file) (sym to ∙ (castles_ends p m _ _ h).1) in omega arith)
 
-reads_one : (p : Parts) (long : Bool) → move_of_form p (Castle long) ≡ only (cons_option (played (describes p (Castle long) (castling_move p.side long)) p (castling_move p.side long)) [])
+reads_one : (p : Parts) (long : Bool) → move_of_form p (Castle long)
+    ≡ only (cons_option (played (describes p (Castle long) (castling_move p.side long)) p (castling_move p.side long)) [])
 unfolding agreeing
 reads_one p long = refl
 
@@ -44,7 +45,8 @@ played_unless false p m h = refl
 played_unless true p m h = played_none true p m (no_next (legal p m) (false_from_ne_true _ (h refl)))
 
 module _ (p : Parts) (long : Bool) (m : Move) (is : m ≡ castling_move p.side long) where
-  answer_of : (o : Option Played) → played (describes p (Castle long) (castling_move p.side long)) p (castling_move p.side long) ≡ o → only (cons_option o []) ≡ move_of_form p (Castle long)
+  answer_of : (o : Option Played) → played (describes p (Castle long) (castling_move p.side long)) p (castling_move p.side long) ≡ o
+      → only (cons_option o []) ≡ move_of_form p (Castle long)
   answer_of o h = cc (reads_one p long)
 
   pub castling_illegal : is_legal p m ≡ false → Err NoMove ≡ move_of_form p (Castle long)
@@ -53,8 +55,8 @@ module _ (p : Parts) (long : Bool) (m : Move) (is : m ≡ castling_move p.side l
   pub castling_found : is_legal p m ≡ true → is_castling p m ≡ true → with_next_position p (Ok m) ≡ move_of_form p (Castle long)
   castling_found h named =
       let (q, leads) = legal_next (legal p m) h in
-      cc (answer_of (Some (record { mv = castling_move p.side long; next = q })) (played_some _ p q (castling_move p.side long) (described p long (castling_move _ long) refl ∙ rw is at named) (subst (λ n. legal p n ≡ Some q) is leads)))
+      cc (answer_of (Some (record { mv = castling_move p.side long; next = q })) (played_some _ p q (castling_move p.side long)
+      (described p long (castling_move _ long) refl ∙ rw is at named) (subst (λ n. legal p n ≡ Some q) is leads)))
 
   pub castling_other : is_castling p m ≡ false → Err NoMove ≡ move_of_form p (Castle long)
-  castling_other named =
-      answer_of None (played_not _ p (castling_move p.side long) (described p long (castling_move _ long) refl ∙ rw is at named))
+  castling_other named = answer_of None (played_not _ p (castling_move p.side long) (described p long (castling_move _ long) refl ∙ rw is at named))

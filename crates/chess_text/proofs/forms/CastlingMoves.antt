@@ -1,10 +1,12 @@
 -- Which steps and legal moves are castling.
-use Rattle.chess_rules.specs.Step.{is_target, after, board_after, carried, castled, en_passant_board, is_on_board, is_pawn_step, is_piece_step, promotion_fits, stand_ready}
+use Rattle.chess_rules.specs.Step.{is_target, after, board_after, carried, castled, en_passant_board, is_on_board, is_pawn_step, is_piece_step}
+use Rattle.chess_rules.specs.Step.{promotion_fits, stand_ready}
 use Rattle.chess_text.proofs.Words.{◌≡◌, ℕ, ◌<◌, ◌≤◌, Bool, true, false, not, ◌&&◌, ◌||◌, inl, inr, refl, sym, ◌∙◌, ap₂, arith, ◌==◌, nat_lt, Option, None, Some, is_none, is_some, option_map, if◌then◌else◌, abs_diff, and_parts, and_from, or_cases, eqb-true, lt-ltb, ltb-true, Colour, King, Pawn, Piece, Move, Parts, Square, square, same_square, is_adjacent, Board, at, has_colour, has_piece, attacks, cell_attacks, own, home, Wing, short_wing, long_wing, short_right, long_right, is_pawn_way, is_en_passant, captured_pawn, other, castles, castles_short, castles_long, on_board, step, is_legal, if_safe, is_castling, nat_tests, is_empty}
 
 -- what each way of a step says
 pub data StepWay (p : Parts) (m : Move) : Type 0 where
-  piece_goes : has_colour p.side (at p.board m.from) ≡ true → not (own p Pawn m.from) ≡ true → is_none m.promotion ≡ true → attacks p.board m.from m.to ≡ true → StepWay p m
+  piece_goes : has_colour p.side (at p.board m.from) ≡ true → not (own p Pawn m.from) ≡ true
+      → is_none m.promotion ≡ true → attacks p.board m.from m.to ≡ true → StepWay p m
   pawn_goes : own p Pawn m.from ≡ true → is_pawn_way p m ≡ true → StepWay p m
   pawn_passes : own p Pawn m.from ≡ true → is_en_passant p m ≡ true → StepWay p m
   king_castles : is_castling p m ≡ true → StepWay p m
@@ -15,22 +17,26 @@ pub record Stepped (p : Parts) (m : Move) : Type 0 where
   pub way : StepWay p m
 
 -- six tests that hold together
-six_hold : (a b c d e f : Bool) → (((a && b) && (c && d)) && (e && f)) ≡ true → (a ≡ true) × (b ≡ true) × (c ≡ true) × (d ≡ true) × (e ≡ true) × (f ≡ true)
+six_hold : (a b c d e f : Bool) → (((a && b) && (c && d)) && (e && f)) ≡ true
+    → (a ≡ true) × (b ≡ true) × (c ≡ true) × (d ≡ true) × (e ≡ true) × (f ≡ true)
 six_hold a b c d e f h = grind arith
 
 four_hold : (a b c d e : Bool) → (((a && b) && c) && (d && e)) ≡ true → (a ≡ true) × (b ≡ true) × (c ≡ true) × (d ≡ true)
 four_hold a b c d e h = grind arith
 
-pub passing_parts : (p : Parts) (m : Move) → is_en_passant p m ≡ true → (own p Pawn m.from ≡ true) × (attacks p.board m.from m.to ≡ true) × (has_piece (other p.side) Pawn (at p.board (captured_pawn m)) ≡ true)
+pub passing_parts : (p : Parts) (m : Move) → is_en_passant p m ≡ true → (own p Pawn m.from ≡ true)
+    × (attacks p.board m.from m.to ≡ true) × (has_piece (other p.side) Pawn (at p.board (captured_pawn m)) ≡ true)
 passing_parts p m h =
-    let six = six_hold (own p Pawn m.from) _ (is_target p.target m.to) (is_empty p.board m.to) (attacks p.board m.from m.to) _ h in (six.0, six.4, six.5)
+    let six = six_hold (own p Pawn m.from) _ (is_target p.target m.to) (is_empty p.board m.to) (attacks p.board m.from m.to) _ h in
+    (six.0, six.4, six.5)
 
 pub way_of_step : (p : Parts) (m : Move) → is_some (step p m) ≡ true → Stepped p m
 way_of_step p m h = by_on _ refl h
   where
     by_piece : is_piece_step p m ≡ true → StepWay p m
     by_piece g =
-        let (stands, no_pawn, plain, goes) = four_hold (has_colour p.side (at p.board m.from)) (not (own p Pawn m.from)) (is_none m.promotion) (attacks p.board m.from m.to) _ g in
+        let (stands, no_pawn, plain, goes) =
+        four_hold (has_colour p.side (at p.board m.from)) (not (own p Pawn m.from)) (is_none m.promotion) (attacks p.board m.from m.to) _ g in
         piece_goes stands no_pawn plain goes
 
     by_pawn : is_pawn_step p m ≡ true → StepWay p m
@@ -44,7 +50,8 @@ way_of_step p m h = by_on _ refl h
         ]
 
     by_way : (plain passes short long : Bool)
-        → is_some (option_map (after p m) (if plain then Some (carried p m) else if passes then Some (en_passant_board p m) else if short then Some (castled p m short_wing.rook short_wing.crossing) else if long then Some (castled p m long_wing.rook long_wing.crossing) else None)) ≡ true
+        → is_some (option_map (after p m) (if plain then Some (carried p m) else if passes then Some (en_passant_board p m) else if short then Some
+        (castled p m short_wing.rook short_wing.crossing) else if long then Some (castled p m long_wing.rook long_wing.crossing) else None)) ≡ true
         → (plain || (passes || (short || long))) ≡ true
     by_way false false false false g = g
     by_way plain passes short long g = refl
@@ -72,7 +79,8 @@ pub no_pawn : (c : Colour) (cell : Option Piece) → has_piece c King cell ≡ t
 no_pawn c cell h g = grind (arith, nat_tests)
 
 -- a king attacks the squares beside it
-king_attacks : (c : Colour) (cell : Option Piece) (b : Board) (s t : Square) → has_piece c King cell ≡ true → cell_attacks cell b s t ≡ true → is_adjacent s t ≡ true
+king_attacks : (c : Colour) (cell : Option Piece) (b : Board) (s t : Square)
+    → has_piece c King cell ≡ true → cell_attacks cell b s t ≡ true → is_adjacent s t ≡ true
 king_attacks c cell b s t h g = grind (arith, nat_tests)
 
 -- as the code asks
@@ -82,22 +90,27 @@ goes_far p m = own p King m.from && nat_lt 1 (abs_diff m.from.file m.to.file)
 near_file : (s t : Square) → is_adjacent s t ≡ true → abs_diff s.file t.file ≤ 1
 near_file s t h = grind (arith, nat_tests)
 
-far_is_castling : (p : Parts) (m : Move) → Stepped p m → own p King m.from ≡ true → 1 < abs_diff m.from.file m.to.file → is_castling p m ≡ true
+far_is_castling : (p : Parts) (m : Move) → Stepped p m → own p King m.from ≡ true
+    → 1 < abs_diff m.from.file m.to.file → is_castling p m ≡ true
 far_is_castling p m st king far =
     elim st.way [
-      | piece_goes a b c hits ↦ absurd (omega (arith, near_file m.from m.to (king_attacks p.side (at p.board m.from) p.board m.from m.to king hits)))
+      | piece_goes a b c hits ↦
+          absurd (omega (arith, near_file m.from m.to (king_attacks p.side (at p.board m.from) p.board m.from m.to king hits)))
       | pawn_goes stands g ↦ absurd (no_pawn p.side (at p.board m.from) king stands)
       | pawn_passes stands g ↦ absurd (no_pawn p.side (at p.board m.from) king stands)
       | king_castles g ↦ g
     ]
 
 -- where castling leads, and that king and rook are ready
-pub castles_ends : (p : Parts) (m : Move) (right : Bool) (wing : Wing) → castles p m right wing ≡ true → (m.from ≡ home p 4) × (m.to ≡ home p wing.end) × (is_none m.promotion ≡ true) × (stand_ready p wing.rook ≡ true)
+pub castles_ends : (p : Parts) (m : Move) (right : Bool) (wing : Wing) → castles p m right wing ≡ true
+    → (m.from ≡ home p 4) × (m.to ≡ home p wing.end) × (is_none m.promotion ≡ true) × (stand_ready p wing.rook ≡ true)
 castles_ends p m right wing h =
-    let six = six_hold right (is_none m.promotion) (same_square m.from (home p 4)) (same_square m.to (home p wing.end)) (stand_ready p wing.rook) _ h in
+    let six =
+    six_hold right (is_none m.promotion) (same_square m.from (home p 4)) (same_square m.to (home p wing.end)) (stand_ready p wing.rook) _ h in
     (squares_same _ _ six.2, squares_same m.to _ six.3, six.1, six.4)
 
-castles_far : (p : Parts) (m : Move) (right : Bool) (wing : Wing) → 1 < abs_diff 4 wing.end → castles p m right wing ≡ true → goes_far p m ≡ true
+castles_far : (p : Parts) (m : Move) (right : Bool) (wing : Wing)
+    → 1 < abs_diff 4 wing.end → castles p m right wing ≡ true → goes_far p m ≡ true
 castles_far p m right wing far h =
     let (from, to, plain, ready) = castles_ends p m right wing h in
     and_from (own p King _) (nat_lt 1 _) (rw from (and_parts _ _ (and_parts _ _ ready).0).0) (lt-ltb 1 _ (rw from (rw to far)))
@@ -125,6 +138,7 @@ and_second : (x y : Bool) → x ≡ true → (x && y) ≡ y
 and_second x y h = rw h refl
 
 -- where the code has seen the king
-pub castling_by_files : (p : Parts) (m : Move) (king : Bool) (files : ℕ) → is_some (step p m) ≡ true → king ≡ own p King m.from → king ≡ true → files ≡ abs_diff m.from.file m.to.file → nat_lt 1 files ≡ is_castling p m
+pub castling_by_files : (p : Parts) (m : Move) (king : Bool) (files : ℕ) → is_some (step p m) ≡ true
+    → king ≡ own p King m.from → king ≡ true → files ≡ abs_diff m.from.file m.to.file → nat_lt 1 files ≡ is_castling p m
 castling_by_files p m king files steps seen stands count =
     cc (and_second (own p King _) (nat_lt 1 _) (sym seen ∙ stands), castling_is_far p m steps)

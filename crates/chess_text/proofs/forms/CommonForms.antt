@@ -13,8 +13,10 @@ move_to k file a b = piece_move_if (Some k) file None (square_of (file_of a) (ra
 -- what the last two bytes say, where what stands before them is known
 module _ (k : Kind) (file : Option ℕ) (a b : ℕ) (moved : Option Form) (is : moved ≡ move_to k file a b) where
   -- s is the whole text: the letters, the file, the x and the two bytes
-  reads : (s letters capture : List ℕ) → is_among letters (letter_texts k) ≡ true → is_among capture capture_texts ≡ true → below_eight file ≡ true
-      → ((to : Square) → a ∷ b ∷ [] ≡ square_text to → s ≡ letters ++ hint_text file_letter file ++ [] ++ capture ++ square_text to ++ [])
+  reads : (s letters capture : List ℕ) → is_among letters (letter_texts k) ≡ true
+      → is_among capture capture_texts ≡ true → below_eight file ≡ true
+      → ((to : Square) → a ∷ b ∷ [] ≡ square_text to
+      → s ≡ letters ++ hint_text file_letter file ++ [] ++ capture ++ square_text to ++ [])
       → Reads moved s
   reads s letters capture letters_fit capture_fits below joined =
       rw is (by_target (square_of (file_of a) (rank_of b)) refl)
@@ -23,10 +25,13 @@ module _ (k : Kind) (file : Option ℕ) (a b : ℕ) (moved : Option Form) (is : 
       by_target None e = tt
       by_target (Some to) e =
           let target = target_spelled (a ∷ b ∷ []) to e in
-          cc (form_read s (Man k file None to None) (record { bare = s; marks = []; joined = sym (append-nil s); spells_bare = record { letters = letters; capture = capture; promoted = []; joined = joined to target.0; letters_fit = letters_fit; capture_fits = capture_fits; promoted_fits = refl }; marks_alone = refl }) (ap₂ (λ x y. (x && true) && y) below target.1))
+          cc (form_read s (Man k file None to None)
+          (record { bare = s; marks = []; joined = sym (append-nil s); spells_bare = record { letters = letters; capture = capture; promoted = []; joined = joined to target.0; letters_fit = letters_fit; capture_fits = capture_fits; promoted_fits = refl }; marks_alone = refl })
+          (ap₂ (λ x y. (x && true) && y) below target.1))
 
 -- e4
-pub pawn_move : (s : List ℕ) (moved : Option Form) → length s ≡ 2 → moved ≡ move_to Pawn None (get_or s 0 0) (get_or s 1 0) → Reads moved s
+pub pawn_move : (s : List ℕ) (moved : Option Form) → length s ≡ 2
+    → moved ≡ move_to Pawn None (get_or s 0 0) (get_or s 1 0) → Reads moved s
 pawn_move (a ∷ b ∷ []) moved two is = reads Pawn None a b moved is (a ∷ b ∷ []) [] [] refl refl refl (λ to e. e)
 pawn_move s moved two is = absurd (omega arith)
 
@@ -38,17 +43,22 @@ piece_move (c ∷ a ∷ b ∷ []) k moved three named is =
 piece_move s k moved three named is = absurd (omega arith)
 
 -- Nxf3
-pub piece_capture : (c a b : ℕ) (k : Kind) (moved : Option Form) → kind_of_text (c ∷ []) ≡ Some k → moved ≡ move_to k None a b → Reads moved (c ∷ 120 ∷ a ∷ b ∷ [])
+pub piece_capture : (c a b : ℕ) (k : Kind) (moved : Option Form) → kind_of_text (c ∷ []) ≡ Some k
+    → moved ≡ move_to k None a b → Reads moved (c ∷ 120 ∷ a ∷ b ∷ [])
 piece_capture c a b k moved named is =
-    reads k None a b moved is (c ∷ 120 ∷ a ∷ b ∷ []) (c ∷ []) (codes "x") (kind_spelled (c ∷ []) k named) refl refl (λ to e. ap (λ t. c ∷ 120 ∷ t) e)
+    reads k None a b moved is (c ∷ 120 ∷ a ∷ b ∷ []) (c ∷ []) (codes "x")
+    (kind_spelled (c ∷ []) k named) refl refl (λ to e. ap (λ t. c ∷ 120 ∷ t) e)
 
 -- exd5
-pub pawn_capture : (c a b file : ℕ) (moved : Option Form) → file_of c ≡ Some file → moved ≡ move_to Pawn (Some file) a b → Reads moved (c ∷ 120 ∷ a ∷ b ∷ [])
+pub pawn_capture : (c a b file : ℕ) (moved : Option Form) → file_of c ≡ Some file
+    → moved ≡ move_to Pawn (Some file) a b → Reads moved (c ∷ 120 ∷ a ∷ b ∷ [])
 pawn_capture c a b file moved named is =
     let origin = file_byte c file named in
-    reads Pawn (Some file) a b moved is (c ∷ 120 ∷ a ∷ b ∷ []) [] (codes "x") refl refl origin.1 (λ to e. ap₂ (λ d t. d ∷ 120 ∷ t) origin.0 e)
+    reads Pawn (Some file) a b moved is (c ∷ 120 ∷ a ∷ b ∷ []) []
+    (codes "x") refl refl origin.1 (λ to e. ap₂ (λ d t. d ∷ 120 ∷ t) origin.0 e)
 
 -- a text of four bytes with an x in it
-pub with_x : (s : List ℕ) (moved : Option Form) → length s ≡ 4 → get_or s 1 0 ≡ 120 → Reads moved (get_or s 0 0 ∷ 120 ∷ get_or s 2 0 ∷ get_or s 3 0 ∷ []) → Reads moved s
+pub with_x : (s : List ℕ) (moved : Option Form) → length s ≡ 4 → get_or s 1 0 ≡ 120
+    → Reads moved (get_or s 0 0 ∷ 120 ∷ get_or s 2 0 ∷ get_or s 3 0 ∷ []) → Reads moved s
 with_x (c ∷ x ∷ a ∷ b ∷ []) moved four is h = rw is h
 with_x s moved four is h = absurd (omega arith)

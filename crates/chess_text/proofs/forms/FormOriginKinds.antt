@@ -17,8 +17,7 @@ unfolding squares
 squares_long = refl
 
 pub square_at : (n : ℕ) (d : Square) → n < 64 → get_or squares n d ≡ nth_square n
-square_at n d low =
-    ap (λ ss. get_or ss n d) squares_by_place ∙ get_or-map-range_with_len nth_square 0 64 n n d low (omega arith)
+square_at n d low = ap (λ ss. get_or ss n d) squares_by_place ∙ get_or-map-range_with_len nth_square 0 64 n n d low (omega arith)
 
 module _ (p : Parts) (f : Form) (i : ℕ) (low : i < 64) where
   one_more : take (i + 1) squares ≡ take i squares ++ nth_square i ∷ []
@@ -53,24 +52,29 @@ pairs_few p f s = by_test _
 -- As many squares have a legal move of the form as moves agree with it.
 
 -- the form's move m agrees exactly if its kind is `Legal`
-kind_counts : (p : Parts) (f : Form) (m : Move) → length (cons_option (played (describes p f m) p m) []) ≡ cond (is_legal_kind (kind_of_move p f m)) 1 0
+kind_counts : (p : Parts) (f : Form) (m : Move)
+    → length (cons_option (played (describes p f m) p m) []) ≡ cond (is_legal_kind (kind_of_move p f m)) 1 0
 kind_counts p f m = by_described _
   where
     by_safe : (q : Parts) (safe : Bool)
-        → length (cons_option (with_next m (if safe then Some q else None)) []) ≡ cond (is_legal_kind (if is_some (if safe then Some q else None) then Legal else Unsafe)) 1 0
+        → length (cons_option (with_next m (if safe then Some q else None)) [])
+        ≡ cond (is_legal_kind (if is_some (if safe then Some q else None) then Legal else Unsafe)) 1 0
     by_safe q safe = grind arith
 
     by_step : (o : Option Parts)
-        → length (cons_option (with_next m (if_safe o)) []) ≡ cond (is_legal_kind (if is_some o && true then (if is_some (if_safe o) then Legal else Unsafe) else NoStep)) 1 0
+        → length (cons_option (with_next m (if_safe o)) [])
+        ≡ cond (is_legal_kind (if is_some o && true then (if is_some (if_safe o) then Legal else Unsafe) else NoStep)) 1 0
     by_step None = refl
     by_step (Some q) = by_safe q _
 
     by_described : (b : Bool)
-        → length (cons_option (played b p m) []) ≡ cond (is_legal_kind (if is_some (step p m) && b then (if is_some (if_safe (step p m)) then Legal else Unsafe) else NoStep)) 1 0
+        → length (cons_option (played b p m) [])
+        ≡ cond (is_legal_kind (if is_some (step p m) && b then (if is_some (if_safe (step p m)) then Legal else Unsafe) else NoStep)) 1 0
     by_described true = by_step _
     by_described false = rw (and-false (is_some (step p m))) refl
 
-found_counts : {X : Type 0} (h : X → Option Played) (k : X → OriginKind) → ((x : X) → length (cons_option (h x) []) ≡ cond (is_legal_kind (k x)) 1 0)
+found_counts : {X : Type 0} (h : X → Option Played) (k : X → OriginKind)
+    → ((x : X) → length (cons_option (h x) []) ≡ cond (is_legal_kind (k x)) 1 0)
     → (xs : List X) → length (filter_map h xs) ≡ count_by is_legal_kind (map k xs)
 found_counts h k same [] = refl
 found_counts h k same (x ∷ xs) = grind (arith, sum_by-cons (λ y. cond (is_legal_kind y) 1 0) (k x) (map k xs), same x, found_counts h k same xs)
@@ -106,7 +110,8 @@ agreeing_count p (Castle long) =
     elsewhere : (s : Square) → same_square (square 4 (home_rank p.side)) s ≡ false → move_at p (Castle long) s ≡ None
     elsewhere s other =
         played_not _ p (form_move p.side (Castle long) s)
-        (false_from_ne_true _ (λ h. both_ways _ other (subst (λ t. same_square t s ≡ true) (castling_from p long (form_move p.side (Castle long) s) h) (same_square-refl s))))
+        (false_from_ne_true _ (λ h.
+        both_ways _ other (subst (λ t. same_square t s ≡ true) (castling_from p long (form_move p.side (Castle long) s) h) (same_square-refl s))))
 
 -- what a list of moves means, by its length
 only_one : (xs : List Played) → ((x : Played) × (only xs ≡ Ok x)) ↔ (length xs ≡ 1)

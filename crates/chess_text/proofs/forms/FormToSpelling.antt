@@ -34,11 +34,14 @@ rank_byte : (c n : ℕ) → rank_of c ≡ Some n → (c ≡ 49 + n) × (nat_lt n
 rank_byte c n h = let both = cond_some (nat_le 49 c && nat_le c 56) (c - 49) n h in grind (arith, nat_tests)
 
 -- a hint, and what stands before it
-hint_spelled : (read : ℕ → Option ℕ) (start : ℕ) → 0 < start → ((c n : ℕ) → read c ≡ Some n → (c ≡ start + n) × (nat_lt n 8 ≡ true)) → (s : List ℕ)
-    → (s ≡ front_if (is_some (read (last_byte s))) s ++ hint_text (λ n. start + n) (read (last_byte s))) × (below_eight (read (last_byte s)) ≡ true)
+hint_spelled : (read : ℕ → Option ℕ) (start : ℕ) → 0 < start
+    → ((c n : ℕ) → read c ≡ Some n → (c ≡ start + n) × (nat_lt n 8 ≡ true)) → (s : List ℕ)
+    → (s ≡ front_if (is_some (read (last_byte s))) s ++ hint_text (λ n. start + n) (read (last_byte s)))
+    × (below_eight (read (last_byte s)) ≡ true)
 hint_spelled read start some byte s = by_byte _ refl
   where
-    by_byte : (o : Option ℕ) → read (last_byte s) ≡ o → (s ≡ front_if (is_some o) s ++ hint_text (λ n. start + n) o) × (below_eight o ≡ true)
+    by_byte : (o : Option ℕ) → read (last_byte s) ≡ o
+        → (s ≡ front_if (is_some o) s ++ hint_text (λ n. start + n) o) × (below_eight o ≡ true)
     by_byte None e = (sym (append-nil s), refl)
     by_byte (Some n) e = let (is, low) = byte (last_byte s) n e in (ends_in s (start + n) is (omega arith), low)
 
@@ -58,12 +61,19 @@ capture_spelled s = by_test (last_byte s == 120) refl
 square_parts : (f r : Option ℕ) (to : Square) → square_of f r ≡ Some to → (f ≡ Some to.file) × (r ≡ Some to.rank)
 square_parts f r to h = grind arith
 
-pub target_spelled : (s : List ℕ) (to : Square) → target_at_end s ≡ Some to → (s ≡ front (front s) ++ square_text to) × (on_board to ≡ true)
+pub target_spelled : (s : List ℕ) (to : Square) → target_at_end s ≡ Some to
+    → (s ≡ front (front s) ++ square_text to) × (on_board to ≡ true)
 target_spelled s to h =
     let both = square_parts (file_of (last_byte (front s))) (rank_of (last_byte s)) to h in
     let file = file_byte (last_byte (front s)) to.file both.0 in
-    let rank = rank_byte (last_byte s) to.rank both.1 in
-    (cc (ends_in s (49 + to.rank) rank.0 (omega arith), ends_in (front s) (97 + to.file) file.0 (omega arith), append_assoc (front (front s)) ((97 + to.file) ∷ []) ((49 + to.rank) ∷ [])), and_from _ _ file.1 rank.1)
+    let rank = rank_byte (last_byte s) to.rank both.1 in (
+      cc (
+        ends_in s (49 + to.rank) rank.0 (omega arith),
+        ends_in (front s) (97 + to.file) file.0 (omega arith),
+        append_assoc (front (front s)) ((97 + to.file) ∷ []) ((49 + to.rank) ∷ []),
+      ),
+      and_from _ _ file.1 rank.1,
+    )
 
 -- what is found passes the test
 found : {X : Type 0} (p : X → Bool) (xs : List X) (x : X) → find p xs ≡ Some x → p x ≡ true
@@ -73,21 +83,25 @@ found p (y ∷ xs) x h = grind (arith, found p xs x)
 promotion_byte : (c : ℕ) (q : Promotion) → promotion_of c ≡ Some q → c ≡ promotion_letter q
 promotion_byte c q h = sym (eqb-true (promotion_letter q) c (found (λ p. promotion_letter p == c) promotions q h))
 
-letter_texts_of : (q : Promotion) → (0 < promotion_letter q) × (is_among (61 ∷ promotion_letter q ∷ []) (promotion_texts (Some q)) ≡ true) × (is_among (promotion_letter q ∷ []) (promotion_texts (Some q)) ≡ true)
+letter_texts_of : (q : Promotion) → (0 < promotion_letter q) × (is_among (61 ∷ promotion_letter q ∷ []) (promotion_texts (Some q)) ≡ true)
+    × (is_among (promotion_letter q ∷ []) (promotion_texts (Some q)) ≡ true)
 letter_texts_of q = grind arith
 
 promotion_spelled : (s : List ℕ) → Part s (before_promotion s) (promotion_texts (promotion_at_end s))
 promotion_spelled s = by_byte (promotion_at_end s) refl
   where
-    by_sign : (q : Promotion) (b : Bool) → (last_byte (front s) == 61) ≡ b → s ≡ front s ++ promotion_letter q ∷ [] → Part s (front_if b (front s)) (promotion_texts (Some q))
+    by_sign : (q : Promotion) (b : Bool) → (last_byte (front s) == 61) ≡ b
+        → s ≡ front s ++ promotion_letter q ∷ [] → Part s (front_if b (front s)) (promotion_texts (Some q))
     by_sign q true e h =
-        let joined : s ≡ front (front s) ++ 61 ∷ promotion_letter q ∷ [] = cc (is_it (front s) 61 e (omega arith), append_assoc (front (front s)) (61 ∷ []) (promotion_letter q ∷ [])) in
+        let joined : s ≡ front (front s) ++ 61 ∷ promotion_letter q ∷ [] =
+        cc (is_it (front s) 61 e (omega arith), append_assoc (front (front s)) (61 ∷ []) (promotion_letter q ∷ [])) in
         record { text = 61 ∷ promotion_letter q ∷ []; joined = joined; fits = (letter_texts_of q).1 }
     by_sign q false e h = record { text = promotion_letter q ∷ []; joined = h; fits = (letter_texts_of q).2 }
 
     by_byte : (o : Option Promotion) → promotion_at_end s ≡ o → Part s (if is_some o then before_sign (front s) else s) (promotion_texts o)
     by_byte None e = record { text = []; joined = sym (append-nil s); fits = refl }
-    by_byte (Some q) e = by_sign q (last_byte (front s) == 61) refl (ends_in s (promotion_letter q) (promotion_byte (last_byte s) q e) (letter_texts_of q).0)
+    by_byte (Some q) e =
+        by_sign q (last_byte (front s) == 61) refl (ends_in s (promotion_letter q) (promotion_byte (last_byte s) q e) (letter_texts_of q).0)
 
 own_letter : (k : Kind) → is_among (letter k ∷ []) (letter_texts k) ≡ true
 own_letter k = grind arith

@@ -1,5 +1,6 @@
 -- The move that a search has kept, with the position after it.
-use Rattle.chess_text.proofs.Words.{◌≡◌, Bool, true, false, ◌&&◌, refl, ap, Option, None, Some, is_some, and_parts, Move, Parts, legal, is_legal, Played, with_next, played, arith}
+use Rattle.chess_text.proofs.Words.{◌≡◌, Bool, true, false, ◌&&◌, refl, ap, Option, None, Some, is_some, and_parts, Move, Parts, legal}
+use Rattle.chess_text.proofs.Words.{is_legal, Played, with_next, played, arith}
 use Rattle.chess_text.proofs.forms.CastlingForms.{legal_next}
 
 abbrev pub with_position : Parts → Option Move → Option Played

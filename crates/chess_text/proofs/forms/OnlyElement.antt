@@ -65,7 +65,8 @@ pub found_in : {X Y : Type 0} (h : X → Option Y) (xs : List X) (y : Y) → Con
 found_in h [] y c = absurd (none_in y c)
 found_in {X} {Y} h (z ∷ zs) y c = by_found _ refl c (found_in h zs y)
   where
-    by_found : (o : Option Y) → h z ≡ o → Contains (cons_option o (filter_map h zs)) y → (Contains (filter_map h zs) y → FoundAt h zs y) → FoundAt h (z ∷ zs) y
+    by_found : (o : Option Y) → h z ≡ o → Contains (cons_option o (filter_map h zs)) y
+        → (Contains (filter_map h zs) y → FoundAt h zs y) → FoundAt h (z ∷ zs) y
     by_found None e g more = found_further h z zs y (more g)
     by_found (Some w) e g more =
         elim (element w y _ g) [
@@ -86,7 +87,8 @@ filter_map-map h f [] = refl
 filter_map-map {X} {Y} {Z} h f (x ∷ xs) = cc (filter_map-map h f xs)
 
 -- a filter that loses nothing
-pub filter_map-filter : {X Y : Type 0} (h : X → Option Y) (c : X → Bool) → ((x : X) → c x ≡ false → h x ≡ None) → (xs : List X) → filter_map h (filter c xs) ≡ filter_map h xs
+pub filter_map-filter : {X Y : Type 0} (h : X → Option Y) (c : X → Bool)
+    → ((x : X) → c x ≡ false → h x ≡ None) → (xs : List X) → filter_map h (filter c xs) ≡ filter_map h xs
 filter_map-filter h c lost [] = refl
 filter_map-filter h c lost (x ∷ xs) = grind (arith, lost, filter_map-filter h c lost xs)
 
@@ -99,7 +101,8 @@ only_same (x ∷ w ∷ ws) (y ∷ z ∷ zs) e among = refl
 only_same xs ys e among = absurd (omega arith)
 
 -- the order decides nothing
-pub only_permuted : {X : Type 0} (h : X → Option Played) (xs ys : List X) → IsPermutation xs ys → only (filter_map h xs) ≡ only (filter_map h ys)
+pub only_permuted : {X : Type 0} (h : X → Option Played) (xs ys : List X)
+    → IsPermutation xs ys → only (filter_map h xs) ≡ only (filter_map h ys)
 only_permuted h xs ys perm =
     only_same _ _
     (length-found h xs ∙ sym (sum_by-IsPermutation _ xs ys perm) ∙ sym (length-found h ys))
@@ -108,36 +111,43 @@ only_permuted h xs ys perm =
     in_found h ys f.at y (Contains-permutation xs ys f.at perm f.among) f.gives)
 
 -- one element more
-pub found_more : {X Y : Type 0} (h : X → Option Y) (xs : List X) (i : ℕ) (d : X) (o : Option Y) → i < length xs → o ≡ h (get_or xs i d) → filter_map h (take (i + 1) xs) ≡ filter_map h (take i xs) ++ cons_option o []
-found_more {X} {Y} h xs i d o low is =
-    cc (take_more xs i d low, filter_map-append h (take i xs) (get_or xs i d ∷ []))
+pub found_more : {X Y : Type 0} (h : X → Option Y) (xs : List X) (i : ℕ) (d : X) (o : Option Y) → i < length xs
+    → o ≡ h (get_or xs i d) → filter_map h (take (i + 1) xs) ≡ filter_map h (take i xs) ++ cons_option o []
+found_more {X} {Y} h xs i d o low is = cc (take_more xs i d low, filter_map-append h (take i xs) (get_or xs i d ∷ []))
 
 pub only_so_far : (o : Option Played) → ok_or o NoMove ≡ only (option_to_list o)
 only_so_far o = grind arith
 
 -- a second one, wherever it was found
-pub only_two : {X : Type 0} (h : X → Option Played) (xs : List X) (n : ℕ) (x y : Played) → filter_map h (take n xs) ≡ (x ∷ []) ++ (y ∷ []) → only (filter_map h xs) ≡ Err Ambiguous
+pub only_two : {X : Type 0} (h : X → Option Played) (xs : List X) (n : ℕ) (x y : Played)
+    → filter_map h (take n xs) ≡ (x ∷ []) ++ (y ∷ []) → only (filter_map h xs) ≡ Err Ambiguous
 only_two {X} h xs n x y e = cc (take-append-drop n xs, filter_map-append h (take n xs) (drop n xs))
 
 -- What a loop has found after the first i elements: nothing, or one.
-module _ {X : Type 0} (h : X → Option Played) (xs : List X) (i : ℕ) (found : Option Played) (so_far : filter_map h (take i xs) ≡ option_to_list found) where
-  pub still_none : (d : X) (o : Option Played) → i < length xs → o ≡ h (get_or xs i d) → o ≡ None → filter_map h (take (i + 1) xs) ≡ option_to_list found
+module _ {X : Type 0} (h : X → Option Played) (xs : List X) (i : ℕ)
+    (found : Option Played) (so_far : filter_map h (take i xs) ≡ option_to_list found) where
+  pub still_none : (d : X) (o : Option Played) → i < length xs → o ≡ h (get_or xs i d)
+      → o ≡ None → filter_map h (take (i + 1) xs) ≡ option_to_list found
   still_none d o low is none = cc (found_more h xs i d o low is, append-nil _)
 
-  pub first_one : (d : X) (o : Option Played) (y : Played) → i < length xs → o ≡ h (get_or xs i d) → o ≡ Some y → is_some found ≡ false → filter_map h (take (i + 1) xs) ≡ y ∷ []
+  pub first_one : (d : X) (o : Option Played) (y : Played) → i < length xs → o ≡ h (get_or xs i d)
+      → o ≡ Some y → is_some found ≡ false → filter_map h (take (i + 1) xs) ≡ y ∷ []
   first_one d o y low is some none =
       cc (found_more h xs i d o low is, nothing found none)
     where
       nothing : (f : Option Played) → is_some f ≡ false → option_to_list f ≡ []
       nothing f e = grind arith
 
-  pub second_one : (d : X) (o : Option Played) (y : Played) → i < length xs → o ≡ h (get_or xs i d) → o ≡ Some y → is_some found ≡ true → Err Ambiguous ≡ only (filter_map h xs)
+  pub second_one : (d : X) (o : Option Played) (y : Played) → i < length xs → o ≡ h (get_or xs i d)
+      → o ≡ Some y → is_some found ≡ true → Err Ambiguous ≡ only (filter_map h xs)
   second_one d o y low is some one = by_found found one so_far
     where
-      by_found : (f : Option Played) → is_some f ≡ true → filter_map h (take i xs) ≡ option_to_list f → Err Ambiguous ≡ only (filter_map h xs)
+      by_found : (f : Option Played) → is_some f ≡ true
+          → filter_map h (take i xs) ≡ option_to_list f → Err Ambiguous ≡ only (filter_map h xs)
       by_found None e g = cc
       by_found (Some x) e g =
-          sym (only_two h xs (i + 1) x y (found_more h xs i d o low is ∙ ap₂ (λ (ys : List Played) (p : Option Played). ys ++ cons_option p []) g some))
+          sym (only_two h xs (i + 1) x y
+          (found_more h xs i d o low is ∙ ap₂ (λ (ys : List Played) (p : Option Played). ys ++ cons_option p []) g some))
 
   pub not_at_once : is_some found ≡ true → 1 ≤ i
   not_at_once one = grind arith

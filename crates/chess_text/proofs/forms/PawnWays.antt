@@ -7,17 +7,21 @@ use Rattle.chess_text.proofs.forms.MoverOfMove.{other_kind}
 -- the four ways in which it goes
 pub data PawnWay (p : Parts) (m : Move) : Type 0 where
   takes : gap m.from.file m.to.file ≡ 1 → is_ahead p.side m.from.rank m.to.rank ≡ true → is_empty p.board m.to ≡ false → PawnWay p m
-  passes : gap m.from.file m.to.file ≡ 1 → is_ahead p.side m.from.rank m.to.rank ≡ true → has_piece (other p.side) Pawn (at p.board (captured_pawn m)) ≡ true → is_en_passant p m ≡ true → PawnWay p m
+  passes : gap m.from.file m.to.file ≡ 1 → is_ahead p.side m.from.rank m.to.rank ≡ true
+      → has_piece (other p.side) Pawn (at p.board (captured_pawn m)) ≡ true → is_en_passant p m ≡ true → PawnWay p m
   advances : m.from.file ≡ m.to.file → is_ahead p.side m.from.rank m.to.rank ≡ true → is_empty p.board m.to ≡ true → PawnWay p m
-  doubles : m.from.file ≡ m.to.file → m.from.rank ≡ pawn_rank p.side → m.to.rank ≡ double_rank p.side → is_empty p.board (crossed m) ≡ true → is_empty p.board m.to ≡ true → PawnWay p m
+  doubles : m.from.file ≡ m.to.file → m.from.rank ≡ pawn_rank p.side → m.to.rank ≡ double_rank p.side
+      → is_empty p.board (crossed m) ≡ true → is_empty p.board m.to ≡ true → PawnWay p m
 
-pawn_attack : (c : Colour) (cell : Option Piece) (b : Board) (s t : Square) → has_piece c Pawn cell ≡ true → cell_attacks cell b s t ≡ true → (gap s.file t.file ≡ 1) × (is_ahead c s.rank t.rank ≡ true)
+pawn_attack : (c : Colour) (cell : Option Piece) (b : Board) (s t : Square) → has_piece c Pawn cell ≡ true
+    → cell_attacks cell b s t ≡ true → (gap s.file t.file ≡ 1) × (is_ahead c s.rank t.rank ≡ true)
 pawn_attack c cell b s t h g = grind (arith, nat_tests)
 
 advance_parts : (f t : ℕ) (ahead free : Bool) → (((f == t) && ahead) && free) ≡ true → (f ≡ t) × (ahead ≡ true) × (free ≡ true)
 advance_parts f t ahead free h = grind (arith, nat_tests)
 
-double_parts : (f t r a s b : ℕ) (over free : Bool) → (((f == t) && ((r == a) && (s == b))) && (over && free)) ≡ true → (f ≡ t) × (r ≡ a) × (s ≡ b) × (over ≡ true) × (free ≡ true)
+double_parts : (f t r a s b : ℕ) (over free : Bool) → (((f == t) && ((r == a) && (s == b))) && (over && free)) ≡ true
+    → (f ≡ t) × (r ≡ a) × (s ≡ b) × (over ≡ true) × (free ≡ true)
 double_parts f t r a s b over free h = grind (arith, nat_tests)
 
 full : (c : Colour) (cell : Option Piece) → has_colour c cell ≡ true → is_none cell ≡ false
@@ -37,16 +41,19 @@ pawn_way p m h pawn_stands =
 
     no_castle : is_castling p m ≡ true → ⊥
     no_castle castles =
-        false≢true (sym (other_kind p.side King Pawn (at p.board m.from) (and_parts (own p King m.from) _ (castling_goes_far p m castles)).0 refl) ∙ pawn_stands)
+        false≢true (sym (other_kind p.side King Pawn (at p.board m.from) (and_parts (own p King m.from) _ (castling_goes_far p m castles)).0 refl)
+        ∙ pawn_stands)
 
     by_advance : is_advance p m ≡ true → PawnWay p m
     by_advance g =
-        let (file, ahead, free) = advance_parts m.from.file m.to.file (is_ahead p.side m.from.rank m.to.rank) (is_empty p.board m.to) g in advances file ahead free
+        let (file, ahead, free) = advance_parts m.from.file m.to.file (is_ahead p.side m.from.rank m.to.rank) (is_empty p.board m.to) g in
+        advances file ahead free
 
     by_double : is_double_step p m ≡ true → PawnWay p m
     by_double g =
         let (file, low, high, over, free) =
-        double_parts m.from.file m.to.file m.from.rank (pawn_rank p.side) m.to.rank (double_rank p.side) (is_empty p.board (crossed m)) (is_empty p.board m.to) g in
+        double_parts m.from.file m.to.file m.from.rank (pawn_rank p.side) m.to.rank
+        (double_rank p.side) (is_empty p.board (crossed m)) (is_empty p.board m.to) g in
         doubles file low high over free
 
     by_capture : is_pawn_capture p m ≡ true → PawnWay p m
@@ -78,7 +85,11 @@ pawn_takes p m stands legal = by_way (pawn_way p m legal stands)
   where
     straight : m.from.file ≡ m.to.file → is_empty p.board m.to ≡ true → is_capture p m ≡ not (m.from.file == m.to.file)
     straight file free =
-        cc (false_from_ne_true (is_en_passant p m) (λ h. gap_apart m.from.file m.to.file file (pawn_attack p.side (at p.board m.from) p.board m.from m.to stands (passing_parts p m h).1).0), eq-eqb m.from.file m.to.file file)
+        cc (
+          false_from_ne_true (is_en_passant p m) (λ h.
+              gap_apart m.from.file m.to.file file (pawn_attack p.side (at p.board m.from) p.board m.from m.to stands (passing_parts p m h).1).0),
+          eq-eqb m.from.file m.to.file file,
+        )
 
     by_way : PawnWay p m → is_capture p m ≡ not (m.from.file == m.to.file)
     by_way (takes g a f) = cc (sideways m.from.file m.to.file g)

@@ -18,16 +18,19 @@ rest_of a b c d e f g h = grind arith
 
 module _ (p : Parts) (k : Kind) (file rank : Option ℕ) (to : Square) (promotion : Option Promotion) where
   -- from a square with such a piece
-  pub describes_own : (s : Square) → own p k s ≡ true → describes p (Man k file rank to promotion) (move_from to promotion s) ≡ piece_move_fits p file rank (move_from to promotion s)
+  pub describes_own : (s : Square) → own p k s ≡ true
+      → describes p (Man k file rank to promotion) (move_from to promotion s) ≡ piece_move_fits p file rank (move_from to promotion s)
   describes_own s stands =
       rest_of _ _ (same_square to to) (same_promotion promotion promotion) _
       stands (same_square-refl to) (same_promotion-refl promotion)
 
-  pub tried_own : (s : Square) → own p k s ≡ true → played (piece_move_fits p file rank (move_from to promotion s)) p (move_from to promotion s) ≡ from_square p (Man k file rank to promotion) to promotion s
+  pub tried_own : (s : Square) → own p k s ≡ true → played (piece_move_fits p file rank (move_from to promotion s)) p (move_from to promotion s)
+      ≡ from_square p (Man k file rank to promotion) to promotion s
   tried_own s stands = cc (describes_own s stands)
 
   -- from no other square than a candidate
-  only_candidates : CandidatesComplete → (s : Square) → is_candidate p k to s ≡ false → from_square p (Man k file rank to promotion) to promotion s ≡ None
+  only_candidates : CandidatesComplete → (s : Square) → is_candidate p k to s ≡ false
+      → from_square p (Man k file rank to promotion) to promotion s ≡ None
   only_candidates complete s other =
       played_unless _ p (move_from to promotion s)
       (λ e legal_here.
@@ -39,17 +42,25 @@ module _ (p : Parts) (k : Kind) (file rank : Option ℕ) (to : Square) (promotio
       → only (filter_map (from_square p (Man k file rank to promotion) to promotion) xs) ≡ move_of_form p (Man k file rank to promotion)
   unfolding agreeing
   reads_candidates complete xs perm =
-      cc (only_permuted (from_square p (Man k file rank to promotion) to promotion) xs (candidates p k to) (IsPermutation-sym (candidates p k to) xs perm), filter_map-filter (from_square p (Man k file rank to promotion) to promotion) (is_candidate p k to) (only_candidates complete) squares, filter_map-map (λ m. played (describes p (Man k file rank to promotion) m) p m) (move_from to promotion) squares)
+      cc (
+        only_permuted (from_square p (Man k file rank to promotion) to promotion) xs
+            (candidates p k to) (IsPermutation-sym (candidates p k to) xs perm),
+        filter_map-filter (from_square p (Man k file rank to promotion) to promotion) (is_candidate p k to) (only_candidates complete) squares,
+        filter_map-map (λ m. played (describes p (Man k file rank to promotion) m) p m) (move_from to promotion) squares,
+      )
 
 -- such a piece stands on each candidate
-pub candidates_own : (p : Parts) (k : Kind) (t : Square) (xs : List Square) → IsPermutation (candidates p k t) xs → All (λ s. own p k s ≡ true) xs
+pub candidates_own : (p : Parts) (k : Kind) (t : Square) (xs : List Square)
+    → IsPermutation (candidates p k t) xs → All (λ s. own p k s ≡ true) xs
 candidates_own p k t xs perm =
     All-permutation (λ s. own p k s ≡ true) _ xs perm
     (All-weaker (λ s. is_candidate p k t s ≡ true) (λ s. own p k s ≡ true) (λ s h. (and_parts _ _ h).0) _ (filter_passes _ squares))
 
 -- what the code tries from the i-th of them
-pub tried_at : (p : Parts) (k : Kind) (file rank : Option ℕ) (to : Square) (promotion : Option Promotion) (xs : List Square) → IsPermutation (candidates p k to) xs
-    → (i : ℕ) (s : Square) (o : Option Played) → i < length xs → s ≡ get_or xs i s → o ≡ played (piece_move_fits p file rank (move_from to promotion s)) p (move_from to promotion s)
+pub tried_at : (p : Parts) (k : Kind) (file rank : Option ℕ) (to : Square) (promotion : Option Promotion) (xs : List Square)
+    → IsPermutation (candidates p k to) xs
+    → (i : ℕ) (s : Square) (o : Option Played) → i < length xs → s ≡ get_or xs i s
+    → o ≡ played (piece_move_fits p file rank (move_from to promotion s)) p (move_from to promotion s)
     → o ≡ from_square p (Man k file rank to promotion) to promotion (get_or xs i s)
 tried_at p k file rank to promotion xs perm i s o low is tried =
     cc (tried_own p k file rank to promotion s (rw is (candidates_own p k to xs perm i s low)))

@@ -22,8 +22,7 @@ snoc_again s h =
 
 no_mark_end : (s : List ℕ) → is_mark (last_byte s) ≡ false → before_marks s ≡ s
 no_mark_end [] h = refl
-no_mark_end (c ∷ s) h =
-    cc (snoc_again (c ∷ s) (omega arith), before_marks-last (front (c ∷ s)) (last_byte (c ∷ s)) h)
+no_mark_end (c ∷ s) h = cc (snoc_again (c ∷ s) (omega arith), before_marks-last (front (c ∷ s)) (last_byte (c ∷ s)) h)
 
 -- One of the ways to write a part.
 
@@ -61,7 +60,8 @@ record Ends (c : ℕ) : Type 0 where
   no_letter : (c == 79) ≡ false
   no_zero : (c == 48) ≡ false
 
-rank_digits : (n : ℕ) → nat_lt n 8 ≡ true → (rank_of (49 + n) ≡ Some n) × ((49 + n == 120) ≡ false) × (promotion_of (49 + n) ≡ None) × ((49 + n == 61) ≡ false) × Ends (49 + n)
+rank_digits : (n : ℕ) → nat_lt n 8 ≡ true → (rank_of (49 + n) ≡ Some n) × ((49 + n == 120) ≡ false)
+    × (promotion_of (49 + n) ≡ None) × ((49 + n == 61) ≡ false) × Ends (49 + n)
 rank_digits n h = grind (arith, nat_tests)
 
 -- what a hint tells, and what stands before it
@@ -71,9 +71,9 @@ record FileRead (s t : List ℕ) (file : Option ℕ) : Type 0 where
   no_rank : rank_of (last_byte t) ≡ None
   no_x : (last_byte t == 120) ≡ false
 
-file_read : (s : List ℕ) (k : Kind) (file : Option ℕ) → below_eight file ≡ true → Letters s k → FileRead s (s ++ hint_text file_letter file) file
-file_read s k None h l =
-    rw append-nil (record { told = l.no_file; before = cc; no_rank = l.no_rank; no_x = l.no_x })
+file_read : (s : List ℕ) (k : Kind) (file : Option ℕ) → below_eight file ≡ true
+    → Letters s k → FileRead s (s ++ hint_text file_letter file) file
+file_read s k None h l = rw append-nil (record { told = l.no_file; before = cc; no_rank = l.no_rank; no_x = l.no_x })
 file_read s k (Some n) h l =
     let last = last_byte-snoc s (97 + n) in
     let (told, no_rank, no_x) = file_letters n h in
@@ -85,7 +85,8 @@ record RankRead (s t : List ℕ) (rank : Option ℕ) : Type 0 where
   before : before_rank t ≡ s
   no_x : (last_byte t == 120) ≡ false
 
-rank_read : (s : List ℕ) (rank : Option ℕ) → below_eight rank ≡ true → rank_of (last_byte s) ≡ None → (last_byte s == 120) ≡ false → RankRead s (s ++ hint_text rank_digit rank) rank
+rank_read : (s : List ℕ) (rank : Option ℕ) → below_eight rank ≡ true → rank_of (last_byte s) ≡ None
+    → (last_byte s == 120) ≡ false → RankRead s (s ++ hint_text rank_digit rank) rank
 rank_read s None h none no_x = rw append-nil (record { told = none; before = cc; no_x = no_x })
 rank_read s (Some n) h none no_x =
     let last = last_byte-snoc s (49 + n) in
@@ -117,7 +118,11 @@ target_read s to h =
     let last = last_byte-snoc (s ++ a ∷ []) b in
     let fore = front-snoc (s ++ a ∷ []) b in
     rw (← append_assoc s (a ∷ []) (b ∷ []))
-    (record { told = cc (last_byte-snoc s a, (file_letters to.file on.0).0, (rank_digits to.rank on.1).0); before = cc (front-snoc s a); last = last })
+    (record {
+      told = cc (last_byte-snoc s a, (file_letters to.file on.0).0, (rank_digits to.rank on.1).0);
+      before = cc (front-snoc s a);
+      last = last;
+    })
 
 -- The promotion.
 
@@ -133,7 +138,8 @@ record PromotionRead (s t : List ℕ) (promotion : Option Promotion) : Type 0 wh
   ends : Ends (last_byte t)
 
 -- behind the digit of a rank
-promotion_read : (s p : List ℕ) (n : ℕ) (promotion : Option Promotion) → is_among p (promotion_texts promotion) ≡ true → nat_lt n 8 ≡ true → last_byte s ≡ 49 + n → PromotionRead s (s ++ p) promotion
+promotion_read : (s p : List ℕ) (n : ℕ) (promotion : Option Promotion) → is_among p (promotion_texts promotion) ≡ true
+    → nat_lt n 8 ≡ true → last_byte s ≡ 49 + n → PromotionRead s (s ++ p) promotion
 promotion_read s p n None h low last =
     let d = rank_digits n low in
     let none : promotion_at_end s ≡ None = cc in
@@ -159,9 +165,9 @@ record BareRead (s : List ℕ) (f : Form) : Type 0 where
   told : bare_form s ≡ Some f
   whole : before_marks s ≡ s
 
-not_among : (s a b : List ℕ) → Ends (last_byte s) → (last_byte a == 79) ≡ true → (last_byte b == 48) ≡ true → is_among s (a ∷ b ∷ []) ≡ false
-not_among s a b ends h g =
-    false_from_ne_true (is_among s (a ∷ b ∷ [])) (λ k. elim (two_of s a b k) [ inl e ↦ cc | inr e ↦ cc ])
+not_among : (s a b : List ℕ) → Ends (last_byte s) → (last_byte a == 79) ≡ true
+    → (last_byte b == 48) ≡ true → is_among s (a ∷ b ∷ []) ≡ false
+not_among s a b ends h g = false_from_ne_true (is_among s (a ∷ b ∷ [])) (λ k. elim (two_of s a b k) [ inl e ↦ cc | inr e ↦ cc ])
 
 no_castle : (s : List ℕ) → Ends (last_byte s) → castle_of s ≡ None
 no_castle s ends = rw (not_among s (codes "O-O") (codes "0-0") ends refl refl, not_among s (codes "O-O-O") (codes "0-0-0") ends refl refl) refl

@@ -8,7 +8,8 @@ use Rattle.chess_text.proofs.names.WrittenToForm.{file_by, rank_by, disambiguate
 
 -- The king: a position has one of each colour.
 
-king_alone : OneKing → (p : Parts) (m n : Move) → is_position p ≡ true → is_legal p m ≡ true → is_legal p n ≡ true → own p King m.from ≡ true
+king_alone : OneKing → (p : Parts) (m n : Move) → is_position p ≡ true
+    → is_legal p m ≡ true → is_legal p n ≡ true → own p King m.from ≡ true
     → describes p (king_form_by (castles_short p m) (castles_long p m) m) n ≡ true → n ≡ m
 king_alone one p m n position h g stands = by_wing _ _ refl refl
   where
@@ -23,16 +24,19 @@ king_alone one p m n position h g stands = by_wing _ _ refl refl
     by_wing false true e f d = together _ _ f d
     by_wing false false e f d =
         let s = said p King None None m.to None n d in
-        same_move n m (one p p.side n.from m.from position (stepped p n g).from_on (stepped p m h).from_on s.stands stands) s.there (s.named ∙ sym (unpromoted p m King h stands refl))
+        same_move n m (one p p.side n.from m.from position (stepped p n g).from_on (stepped p m h).from_on s.stands stands) s.there
+        (s.named ∙ sym (unpromoted p m King h stands refl))
 
 -- A queen, a rook, a bishop or a knight: another one is a rival, and is told apart.
 
-is_it_rival : (p : Parts) (m n : Move) → is_legal p n ≡ true → n.to ≡ m.to → n.promotion ≡ m.promotion → same_square n.from m.from ≡ false → is_rival p m n.from ≡ true
+is_it_rival : (p : Parts) (m n : Move) → is_legal p n ≡ true → n.to ≡ m.to
+    → n.promotion ≡ m.promotion → same_square n.from m.from ≡ false → is_rival p m n.from ≡ true
 is_it_rival p m n g to named apart =
     and_from (not _) (is_legal p (from_square m n.from)) (ap not apart)
     (rw (same_move n (from_square m n.from) refl to named) at g)
 
-pub among_rivals : (p : Parts) (k : Kind) (m n : Move) (test : Square → Bool) → is_legal p n ≡ true → own p k n.from ≡ true → is_rival p m n.from ≡ true → test n.from ≡ true → list_any test (rivals p k m) ≡ true
+pub among_rivals : (p : Parts) (k : Kind) (m n : Move) (test : Square → Bool) → is_legal p n ≡ true
+    → own p k n.from ≡ true → is_rival p m n.from ≡ true → test n.from ≡ true → list_any test (rivals p k m) ≡ true
 among_rivals p k m n test g stands rival found =
     any-filter test _ squares
     ∙ any_contained _ squares n.from (in_squares _ (stepped p n g).from_on)
@@ -42,11 +46,13 @@ pub turn : (x y : ℕ) → (x == y) ≡ true → (y == x) ≡ true
 turn x y h = grind (arith, nat_tests)
 
 -- a rival does not fit the hints that tell it apart
-told_away : (s t : Square) (any file rank : Bool) → hints_fit (file_by s any file rank) (rank_by s any file rank) t ≡ true → same_square t s ≡ false
+told_away : (s t : Square) (any file rank : Bool)
+    → hints_fit (file_by s any file rank) (rank_by s any file rank) t ≡ true → same_square t s ≡ false
     → any ≡ true → ((t.file == s.file) ≡ true → file ≡ true) → ((t.rank == s.rank) ≡ true → rank ≡ true) → ⊥
 told_away s t any file rank fits apart a b c = grind (arith, nat_tests)
 
-disambiguated_alone : (p : Parts) (k : Kind) (m n : Move) → is_legal p m ≡ true → is_legal p n ≡ true → own p k m.from ≡ true → same_kind k Pawn ≡ false → describes p (disambiguated_form k p m) n ≡ true → n ≡ m
+disambiguated_alone : (p : Parts) (k : Kind) (m n : Move) → is_legal p m ≡ true → is_legal p n ≡ true
+    → own p k m.from ≡ true → same_kind k Pawn ≡ false → describes p (disambiguated_form k p m) n ≡ true → n ≡ m
 disambiguated_alone p k m n h g stands may_have_rivals d =
     let s = said p k _ _ m.to None n d in
     let named = s.named ∙ sym (unpromoted p m k h stands may_have_rivals) in
@@ -54,7 +60,8 @@ disambiguated_alone p k m n h g stands may_have_rivals d =
       | inl e ↦ same_move n m (squares_same _ _ e) s.there named
       | inr e ↦
           let among = λ (test : Square → Bool). among_rivals p k m n test g s.stands (is_it_rival p m n g s.there named e) in
-          absurd (told_away m.from n.from _ _ _ s.hints e (among (λ r. true) refl) (among (λ r. r.file == m.from.file)) (among (λ r. r.rank == m.from.rank)))
+          absurd (told_away m.from n.from _ _ _ s.hints e (among (λ r. true) refl)
+          (among (λ r. r.file == m.from.file)) (among (λ r. r.rank == m.from.rank)))
     ]
 
 -- A pawn.
@@ -77,17 +84,20 @@ not_both c cell h g = grind arith
 
 -- a pawn does not come to where another one's double step crosses, nor past it
 module _ (p : Parts) (x y : Move) (there : y.to ≡ x.to) (ahead : is_ahead p.side y.from.rank y.to.rank ≡ true)
-    (file : x.from.file ≡ x.to.file) (low : x.from.rank ≡ pawn_rank p.side) (high : x.to.rank ≡ double_rank p.side) (free : is_empty p.board (crossed x) ≡ true) where
+    (file : x.from.file ≡ x.to.file) (low : x.from.rank ≡ pawn_rank p.side)
+    (high : x.to.rank ≡ double_rank p.side) (free : is_empty p.board (crossed x) ≡ true) where
   onto : (f : ℕ) → f ≡ y.to.file → square f y.from.rank ≡ crossed x
   onto f e =
       let rank = between p.side y.from.rank x.to.rank high (rw there at ahead) in
-      ap₂ square (e ∙ ap (λ (s : Square). s.file) there ∙ sym file) (sym (ap (λ n. (n + x.to.rank) / 2) low ∙ ap (λ n. (pawn_rank p.side + n) / 2) high ∙ rank))
+      ap₂ square (e ∙ ap (λ (s : Square). s.file) there ∙ sym file)
+      (sym (ap (λ n. (n + x.to.rank) / 2) low ∙ ap (λ n. (pawn_rank p.side + n) / 2) high ∙ rank))
 
   over : own p Pawn y.from ≡ true → y.from.file ≡ y.to.file → ⊥
   over pawn straight = no_one p.side _ free (subst (λ s. own p Pawn s ≡ true) (onto _ straight) pawn)
 
   past : has_piece (other p.side) Pawn (at p.board (captured_pawn y)) ≡ true → ⊥
-  past taken = no_one (other p.side) (at p.board (crossed x)) free (subst (λ s. has_piece (other p.side) Pawn (at p.board s) ≡ true) (onto _ refl) taken)
+  past taken =
+      no_one (other p.side) (at p.board (crossed x)) free (subst (λ s. has_piece (other p.side) Pawn (at p.board s) ≡ true) (onto _ refl) taken)
 
 module _ (p : Parts) (m n : Move) (pawn_m : own p Pawn m.from ≡ true) (pawn_n : own p Pawn n.from ≡ true) (there : n.to ≡ m.to) where
   same_rank : is_ahead p.side m.from.rank m.to.rank ≡ true → is_ahead p.side n.from.rank n.to.rank ≡ true → n.from.rank ≡ m.from.rank
@@ -97,7 +107,8 @@ module _ (p : Parts) (m n : Move) (pawn_m : own p Pawn m.from ≡ true) (pawn_n 
   to_file = cc
 
   -- with the file told
-  by_file : n.from.file ≡ m.from.file → gap m.from.file m.to.file ≡ 1 → is_ahead p.side m.from.rank m.to.rank ≡ true → PawnWay p n → n.from ≡ m.from
+  by_file : n.from.file ≡ m.from.file → gap m.from.file m.to.file ≡ 1
+      → is_ahead p.side m.from.rank m.to.rank ≡ true → PawnWay p n → n.from ≡ m.from
   by_file file aside ahead (takes g a e) = ap₂ square file (same_rank ahead a)
   by_file file aside ahead (passes g a e f) = ap₂ square file (same_rank ahead a)
   by_file file aside ahead (advances s a e) = absurd (gap_apart _ _ (sym file ∙ s ∙ to_file) aside)
@@ -125,19 +136,22 @@ module _ (p : Parts) (m n : Move) (pawn_m : own p Pawn m.from ≡ true) (pawn_n 
   straight_alone (doubles s a b e f) (advances t c g) file = absurd (over p m n there c s a b e pawn_n t)
   straight_alone (doubles s a b e f) (doubles t c d g h) file = ap₂ square (file_of_target t s) (c ∙ sym a)
 
-  aside : PawnWay p m → (m.from.file == m.to.file) ≡ false → (gap m.from.file m.to.file ≡ 1) × (is_ahead p.side m.from.rank m.to.rank ≡ true)
+  aside : PawnWay p m → (m.from.file == m.to.file) ≡ false
+      → (gap m.from.file m.to.file ≡ 1) × (is_ahead p.side m.from.rank m.to.rank ≡ true)
   aside (takes g a e) h = (g, a)
   aside (passes g a e f) h = (g, a)
   aside (advances s a e) h = absurd (both_ways _ h (ap (λ k. k == m.to.file) s ∙ itself _))
   aside (doubles s a b e f) h = absurd (both_ways _ h (ap (λ k. k == m.to.file) s ∙ itself _))
 
-pawn_alone : (p : Parts) (m n : Move) → is_legal p m ≡ true → is_legal p n ≡ true → own p Pawn m.from ≡ true → describes p (pawn_form_by (is_capture p m) m) n ≡ true → n ≡ m
+pawn_alone : (p : Parts) (m n : Move) → is_legal p m ≡ true → is_legal p n ≡ true
+    → own p Pawn m.from ≡ true → describes p (pawn_form_by (is_capture p m) m) n ≡ true → n ≡ m
 pawn_alone p m n h g pawn d = by_capture _ (pawn_takes p m pawn h) d
   where
     by_capture : (b : Bool) → b ≡ not (m.from.file == m.to.file) → describes p (pawn_form_by b m) n ≡ true → n ≡ m
     by_capture false e d =
         let s = said p Pawn None None m.to m.promotion n d in
-        same_move n m (straight_alone p m n pawn s.stands s.there (pawn_way p m h pawn) (pawn_way p n g s.stands) (eqb-true m.from.file m.to.file (not-false _ (sym e)))) s.there s.named
+        same_move n m (straight_alone p m n pawn s.stands s.there (pawn_way p m h pawn)
+        (pawn_way p n g s.stands) (eqb-true m.from.file m.to.file (not-false _ (sym e)))) s.there s.named
     by_capture true e d =
         let s = said p Pawn (Some m.from.file) None m.to m.promotion n d in
         let way = aside p m n pawn s.stands s.there (pawn_way p m h pawn) (not-true (m.from.file == m.to.file) (sym e)) in
@@ -146,7 +160,8 @@ pawn_alone p m n h g pawn d = by_capture _ (pawn_takes p m pawn h) d
 
 -- All kinds.
 
-pub alone : OneKing → (p : Parts) (k : Kind) (m n : Move) → is_position p ≡ true → is_legal p m ≡ true → own p k m.from ≡ true → agrees p (written k p m) n ≡ true → n ≡ m
+pub alone : OneKing → (p : Parts) (k : Kind) (m n : Move) → is_position p ≡ true
+    → is_legal p m ≡ true → own p k m.from ≡ true → agrees p (written k p m) n ≡ true → n ≡ m
 alone one p k m n position h stands a = by_kind k stands (and_parts _ _ a)
   where
     by_kind : (k : Kind) → own p k m.from ≡ true → (is_legal p n ≡ true) × (describes p (written k p m) n ≡ true) → n ≡ m

@@ -7,7 +7,8 @@ use Rattle.chess_text.proofs.forms.CastlingMoves.{stepped, squares_same}
 use Rattle.chess_text.proofs.forms.AgreeingAreFound.{in_squares, any_contained}
 use Rattle.chess_text.proofs.forms.PieceForms.{same_square-refl}
 
-any-cond : {Y : Type 0} (test : Y → Bool) (b : Bool) (y : Y) (ys : List Y) → list_any test (cond b (y ∷ ys) ys) ≡ ((b && test y) || list_any test ys)
+any-cond : {Y : Type 0} (test : Y → Bool) (b : Bool) (y : Y) (ys : List Y)
+    → list_any test (cond b (y ∷ ys) ys) ≡ ((b && test y) || list_any test ys)
 any-cond test b y ys = grind arith
 
 pub any-filter : {Y : Type 0} (test p : Y → Bool) (ys : List Y) → list_any test (filter p ys) ≡ list_any (λ y. p y && test y) ys
@@ -22,9 +23,11 @@ abbrev pub seen : Parts → Move → (Square → Bool) → List Square → Bool
 seen p m test xs = list_any (λ s. is_rival p m s && test s) xs
 
 -- a rival is a candidate
-rival_sees : CandidatesComplete → (p : Parts) (k : Kind) (m : Move) (s : Square) → own p k s ≡ true → is_rival p m s ≡ true → sees k p s m.to ≡ true
+rival_sees : CandidatesComplete → (p : Parts) (k : Kind) (m : Move) (s : Square)
+    → own p k s ≡ true → is_rival p m s ≡ true → sees k p s m.to ≡ true
 rival_sees complete p k m s h g =
-    let (q, leads) = legal_next (legal p (from_square m s)) (and_parts _ _ g).1 in (and_parts (own p k s) (sees k p s m.to) (complete p q _ k leads h)).1
+    let (q, leads) = legal_next (legal p (from_square m s)) (and_parts _ _ g).1 in
+    (and_parts (own p k s) (sees k p s m.to) (complete p q _ k leads h)).1
 
 same_test : (o g r t : Bool) → (o ≡ true → r ≡ true → g ≡ true) → ((o && g) && (r && t)) ≡ ((o && r) && t)
 same_test o g r t h = grind arith
@@ -45,7 +48,8 @@ pub record Found (p : Parts) (m : Move) (xs : List Square) (n : ℕ) (any file r
   pub rank_is : rank ≡ seen p m (λ s. s.rank == m.from.rank) (take n xs)
 
 one_more : (p : Parts) (m : Move) (test : Square → Bool) (xs : List Square) (n : ℕ) (s : Square) (before after rival : Bool)
-    → n < length xs → s ≡ get_or xs n s → rival ≡ is_rival p m s → before ≡ seen p m test (take n xs) → after ≡ (before || (rival && test s)) → after ≡ seen p m test (take (n + 1) xs)
+    → n < length xs → s ≡ get_or xs n s → rival ≡ is_rival p m s → before ≡ seen p m test (take n xs)
+    → after ≡ (before || (rival && test s)) → after ≡ seen p m test (take (n + 1) xs)
 one_more p m test xs n s before after rival low is e f g = cc (list_any_more _ xs n s low)
 
 pub found_more : (p : Parts) (m : Move) (xs : List Square) (n : ℕ) (s : Square) (rival any file rank any' file' rank' : Bool)
@@ -60,10 +64,12 @@ found_more p m xs n s rival any file rank any' file' rank' low is e f a b c =
     }
 
 -- and in the end
-pub all_found : (p : Parts) (m : Move) (test : Square → Bool) (xs : List Square) (n : ℕ) → length xs ≤ n → seen p m test (take n xs) ≡ seen p m test xs
+pub all_found : (p : Parts) (m : Move) (test : Square → Bool) (xs : List Square) (n : ℕ)
+    → length xs ≤ n → seen p m test (take n xs) ≡ seen p m test xs
 all_found p m test xs n h = cc (take_all n xs h)
 
-pub apart_same : (s : Square) (others : List Square) (any file rank : Bool) → any ≡ list_any (λ r. true) others → file ≡ on_file s others → rank ≡ on_rank s others
+pub apart_same : (s : Square) (others : List Square) (any file rank : Bool)
+    → any ≡ list_any (λ r. true) others → file ≡ on_file s others → rank ≡ on_rank s others
     → disambiguation_by s any file rank ≡ disambiguation s others
 apart_same s others any file rank a b c = cc
 
@@ -74,7 +80,8 @@ only_one s [] few h = cc
 only_one s (x ∷ []) few h = elim (or_cases _ false h) [ inl e ↦ ap (λ y. y ∷ []) (sym (squares_same s x e)) | inr none ↦ cc ]
 only_one s (x ∷ y ∷ ys) few h = absurd (omega arith)
 
-module _ (complete : CandidatesComplete) (p : Parts) (k : Kind) (m : Move) (allowed : is_legal p m ≡ true) (stands : own p k m.from ≡ true) (few : length (candidates p k m.to) ≤ 1) where
+module _ (complete : CandidatesComplete) (p : Parts) (k : Kind) (m : Move) (allowed : is_legal p m ≡ true)
+    (stands : own p k m.from ≡ true) (few : length (candidates p k m.to) ≤ 1) where
   own_candidate : is_candidate p k m.to m.from ≡ true
   own_candidate = let (q, leads) = legal_next (legal p m) allowed in complete p q m k leads stands
 

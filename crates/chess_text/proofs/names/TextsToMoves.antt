@@ -4,7 +4,8 @@ use Rattle.chess_text.proofs.forms.CastlingMoves.{stepped}
 use Rattle.chess_text.proofs.forms.SpellingToForm.{form_read}
 use Rattle.chess_text.proofs.forms.PieceForms.{same_square-refl}
 use Rattle.chess_text.proofs.names.RivalsAreCandidates.{any-filter}
-use Rattle.chess_text.proofs.names.WrittenToForm.{written, moved, san_spelled, good_form, written_agrees, capture_fits, own_letter, marks_alone, unpromoted, no_castling, piece_move_described, itself}
+use Rattle.chess_text.proofs.names.WrittenToForm.{written, moved, san_spelled, good_form, written_agrees, capture_fits, own_letter, marks_alone}
+use Rattle.chess_text.proofs.names.WrittenToForm.{unpromoted, no_castling, piece_move_described, itself}
 use Rattle.chess_text.proofs.names.OneMoveAgrees.{turn, alone}
 
 pub single : OneKing → SingleReading
@@ -34,7 +35,8 @@ record Rival (p : Parts) (k : Kind) (m : Move) (test : Square → Bool) : Type 0
 four_hold : (a b c d : Bool) → ((a && (not b && c)) && d) ≡ true → (a ≡ true) × (b ≡ false) × (c ≡ true) × (d ≡ true)
 four_hold a b c d h = grind arith
 
-some_rival : (p : Parts) (k : Kind) (m : Move) (test other : Square → Bool) → ((s : Square) → test s ≡ true → other s ≡ true) → list_any test (rivals p k m) ≡ true → Rival p k m other
+some_rival : (p : Parts) (k : Kind) (m : Move) (test other : Square → Bool)
+    → ((s : Square) → test s ≡ true → other s ≡ true) → list_any test (rivals p k m) ≡ true → Rival p k m other
 some_rival p k m test other implied h = by_place (Any-from_list_any _ squares (sym (any-filter test _ squares) ∙ h))
   where
     by_place : Any (λ s. ((own p k s && is_rival p m s) && test s) ≡ true) squares → Rival p k m other
@@ -47,7 +49,8 @@ another n m other e = false≢true (sym other ∙ ap (λ (x : Move). same_square
 
 -- the text with such hints names each move that fits them
 module _ (p : Parts) (k : Kind) (m : Move) (h : is_legal p m ≡ true) (stands : own p k m.from ≡ true) (may_have_rivals : has_rivals k ≡ true)
-    (file rank : Option ℕ) (apart : List ℕ) (joined : (letter k ∷ []) ++ apart ≡ ((letter k ∷ []) ++ hint_text file_letter file) ++ hint_text rank_digit rank)
+    (file rank : Option ℕ) (apart : List ℕ)
+    (joined : (letter k ∷ []) ++ apart ≡ ((letter k ∷ []) ++ hint_text file_letter file) ++ hint_text rank_digit rank)
     (below : (below_eight file && below_eight rank) ≡ true) where
   spelled : Spells (text_with p k m apart) (Man k file rank m.to None)
   spelled =
@@ -70,13 +73,15 @@ module _ (p : Parts) (k : Kind) (m : Move) (h : is_legal p m ≡ true) (stands :
   good : is_form (Man k file rank m.to None) ≡ true
   good = and_from _ _ below (stepped p m h).to_on
 
-  names : (s : Square) → own p k s ≡ true → is_legal p (from_square m s) ≡ true → hints_fit file rank s ≡ true → Names p (text_with p k m apart) (from_square m s)
+  names : (s : Square) → own p k s ≡ true → is_legal p (from_square m s) ≡ true
+      → hints_fit file rank s ≡ true → Names p (text_with p k m apart) (from_square m s)
   names s own_s goes hints = (
     Man k file rank m.to None,
     spelled,
     good,
     and_from _ _ goes
-        (piece_move_described p (from_square m s) k file rank None own_s hints (unpromoted p m k h stands (no_king k may_have_rivals).1) (no_castling p _ k own_s (no_king k may_have_rivals).0)),
+        (piece_move_described p (from_square m s) k file rank None own_s hints
+        (unpromoted p m k h stands (no_king k may_have_rivals).1) (no_castling p _ k own_s (no_king k may_have_rivals).0)),
   )
 
   two_named : hints_fit file rank m.from ≡ true → Rival p k m (λ s. hints_fit file rank s)
@@ -92,7 +97,8 @@ record Flags (j : ℕ) (any file rank : Bool) : Type 0 where
   file_is : 1 < j → file ≡ true
   rank_is : 2 < j → rank ≡ true
 
-flags : (s : Square) (any file rank : Bool) (j : ℕ) → s.rank < 8 → j < 4 → disambiguation_by s any file rank ≡ slice_index_or (disambiguations s) j [] → Flags j any file rank
+flags : (s : Square) (any file rank : Bool) (j : ℕ) → s.rank < 8 → j < 4
+    → disambiguation_by s any file rank ≡ slice_index_or (disambiguations s) j [] → Flags j any file rank
 flags s any file rank (suc (suc (suc (suc j)))) low high told = grind arith
 flags s any file rank j low high told = grind arith
 
@@ -107,12 +113,16 @@ less p k m i j h stands may_have_rivals low high told =
     by_step : (i : ℕ) → i < j → Flags j (list_any (λ r. true) (rivals p k m)) (on_file m.from (rivals p k m)) (on_rank m.from (rivals p k m))
         → Names p (text_with p k m (slice_index_or (disambiguations m.from) i [])) m
         × ((n : Move) × (n ≢ m) × Names p (text_with p k m (slice_index_or (disambiguations m.from) i [])) n)
-    by_step zero low f = two_named p k m h stands may_have_rivals None None [] refl refl refl (some_rival p k m (λ s. true) (λ s. true) (λ s e. e) (f.any_is low))
+    by_step zero low f =
+        two_named p k m h stands may_have_rivals None None [] refl refl refl (some_rival p k m (λ s. true) (λ s. true) (λ s e. e) (f.any_is low))
     by_step (suc zero) low f =
-        two_named p k m h stands may_have_rivals (Some m.from.file) None (file_letter m.from.file ∷ []) refl (and_from (nat_lt m.from.file 8) true begins.0 refl)
+        two_named p k m h stands may_have_rivals (Some m.from.file) None
+        (file_letter m.from.file ∷ []) refl (and_from (nat_lt m.from.file 8) true begins.0 refl)
         (and_from (m.from.file == m.from.file) true (itself m.from.file) refl)
-        (some_rival p k m (λ s. s.file == m.from.file) (λ s. hints_fit (Some m.from.file) None s) (λ s e. and_from (m.from.file == s.file) true (turn s.file m.from.file e) refl) (f.file_is low))
+        (some_rival p k m (λ s. s.file == m.from.file) (λ s. hints_fit (Some m.from.file) None s)
+        (λ s e. and_from (m.from.file == s.file) true (turn s.file m.from.file e) refl) (f.file_is low))
     by_step (suc (suc zero)) low f =
         two_named p k m h stands may_have_rivals None (Some m.from.rank) (rank_digit m.from.rank ∷ []) refl begins.1 (itself m.from.rank)
-        (some_rival p k m (λ s. s.rank == m.from.rank) (λ s. hints_fit None (Some m.from.rank) s) (λ s e. turn s.rank m.from.rank e) (f.rank_is low))
+        (some_rival p k m (λ s. s.rank == m.from.rank) (λ s. hints_fit None (Some m.from.rank) s)
+        (λ s e. turn s.rank m.from.rank e) (f.rank_is low))
     by_step (suc (suc (suc i))) low f = absurd (omega arith)

@@ -125,8 +125,7 @@ no_number : (s : List ℕ) → begins_with_letter s ≡ true → list_all is_dig
 no_number [] e = cc
 no_number (c ∷ s) e = and_left (is_digit c) (list_all _ s) (letter_is_no_digit c e)
 
-other_text : (s t : List ℕ) → begins_with_letter s ≡ true → begins_with_letter t ≡ false
-    → bytes_eq s t ≡ false
+other_text : (s t : List ℕ) → begins_with_letter s ≡ true → begins_with_letter t ≡ false → bytes_eq s t ≡ false
 other_text s t e other =
     false_from_ne_true (bytes_eq s t)
     (λ same. false≢true (sym other ∙ sym (ap begins_with_letter ((bytes_eq-Decides s t).0 same)) ∙ e))

@@ -36,13 +36,15 @@ pub capture_fits : (b : Bool) → is_among (capture_if b) capture_texts ≡ true
 capture_fits b = grind arith
 
 hints_written : (l : ℕ) (s : Square) (any file rank : Bool)
-    → (l ∷ []) ++ disambiguation_by s any file rank ≡ ((l ∷ []) ++ hint_text file_letter (file_by s any file rank)) ++ hint_text rank_digit (rank_by s any file rank)
+    → (l ∷ []) ++ disambiguation_by s any file rank
+    ≡ ((l ∷ []) ++ hint_text file_letter (file_by s any file rank)) ++ hint_text rank_digit (rank_by s any file rank)
 hints_written l s any file rank = grind arith
 
 pub own_letter : (k : Kind) → has_rivals k ≡ true → is_among (letter k ∷ []) (letter_texts k) ≡ true
 own_letter k h = grind arith
 
-disambiguated_spelled : (k : Kind) (p : Parts) (m : Move) → has_rivals k ≡ true → SpellsBare (disambiguated_text k p m) (disambiguated_form k p m)
+disambiguated_spelled : (k : Kind) (p : Parts) (m : Move) → has_rivals k ≡ true
+    → SpellsBare (disambiguated_text k p m) (disambiguated_form k p m)
 disambiguated_spelled k p m h =
     record {
       letters = letter k ∷ [];
@@ -65,7 +67,8 @@ king_spelled p m = by_wing _ _
 promotion_written : (q : Option Promotion) → is_among (promotion_text q) (promotion_texts q) ≡ true
 promotion_written q = grind arith
 
-pawn_spelled : (takes : Bool) (m : Move) → SpellsBare (pawn_capture takes m ++ square_text m.to ++ promotion_text m.promotion) (pawn_form_by takes m)
+pawn_spelled : (takes : Bool) (m : Move)
+    → SpellsBare (pawn_capture takes m ++ square_text m.to ++ promotion_text m.promotion) (pawn_form_by takes m)
 pawn_spelled true m = record { letters = []; capture = codes "x"; promoted = promotion_text _; joined = refl; letters_fit = refl; capture_fits = refl; promoted_fits = promotion_written m.promotion }
 pawn_spelled false m = record { letters = []; capture = []; promoted = promotion_text _; joined = refl; letters_fit = refl; capture_fits = refl; promoted_fits = promotion_written m.promotion }
 
@@ -106,7 +109,8 @@ san_spelled p m v =
 
 -- It is a form.
 
-hinted_good : (k : Kind) (m : Move) (any file rank : Bool) → on_board m.from ≡ true → on_board m.to ≡ true → is_form (hinted k m any file rank) ≡ true
+hinted_good : (k : Kind) (m : Move) (any file rank : Bool) → on_board m.from ≡ true
+    → on_board m.to ≡ true → is_form (hinted k m any file rank) ≡ true
 hinted_good k m any file rank h g = grind arith
 
 king_good : (a b : Bool) (m : Move) → on_board m.to ≡ true → is_form (king_form_by a b m) ≡ true
@@ -121,7 +125,8 @@ good_form k p m h = by_kind k (stepped p m h)
     by_kind : (k : Kind) → Stepped p m → is_form (written k p m) ≡ true
     by_kind King s = king_good _ _ m s.to_on
     by_kind Pawn s = pawn_good _ m s.from_on s.to_on
-    by_kind k s = hinted_good k m (list_any (λ r. true) (rivals p k m)) (on_file m.from (rivals p k m)) (on_rank m.from (rivals p k m)) s.from_on s.to_on
+    by_kind k s =
+        hinted_good k m (list_any (λ r. true) (rivals p k m)) (on_file m.from (rivals p k m)) (on_rank m.from (rivals p k m)) s.from_on s.to_on
 
 -- The move agrees with it.
 
@@ -131,7 +136,8 @@ no_castling p m k h apart =
     (λ g. false≢true (sym (other_kind _ King k _ (and_parts _ _ (castling_goes_far p m g)).0 apart) ∙ h))
 
 -- only a pawn is promoted
-pub unpromoted : (p : Parts) (m : Move) (k : Kind) → is_legal p m ≡ true → own p k m.from ≡ true → same_kind k Pawn ≡ false → m.promotion ≡ None
+pub unpromoted : (p : Parts) (m : Move) (k : Kind) → is_legal p m ≡ true
+    → own p k m.from ≡ true → same_kind k Pawn ≡ false → m.promotion ≡ None
 unpromoted p m k h stands apart =
     no_promotion _
     (elim (stepped p m h).way [
@@ -147,7 +153,8 @@ unpromoted p m k h stands apart =
     no_pawn : own p Pawn m.from ≡ true → ⊥
     no_pawn g = false≢true (sym (other_kind _ k Pawn _ stands apart) ∙ g)
 
-pub piece_move_described : (p : Parts) (m : Move) (k : Kind) (file rank : Option ℕ) (promotion : Option Promotion) → own p k m.from ≡ true → hints_fit file rank m.from ≡ true → m.promotion ≡ promotion → is_castling p m ≡ false
+pub piece_move_described : (p : Parts) (m : Move) (k : Kind) (file rank : Option ℕ) (promotion : Option Promotion)
+    → own p k m.from ≡ true → hints_fit file rank m.from ≡ true → m.promotion ≡ promotion → is_castling p m ≡ false
     → describes p (Man k file rank m.to promotion) m ≡ true
 piece_move_described p m k file rank promotion stands hints becomes plain =
     rw (stands, hints, same_square-refl m.to, ← becomes, same_promotion-refl m.promotion, plain) refl
@@ -158,7 +165,8 @@ itself n = eq-eqb n n refl
 own_hints : (s : Square) (any file rank : Bool) → hints_fit (file_by s any file rank) (rank_by s any file rank) s ≡ true
 own_hints s any file rank = grind (arith, nat_tests)
 
-king_described : (p : Parts) (m : Move) → is_legal p m ≡ true → own p King m.from ≡ true → describes p (king_form_by (castles_short p m) (castles_long p m) m) m ≡ true
+king_described : (p : Parts) (m : Move) → is_legal p m ≡ true → own p King m.from ≡ true
+    → describes p (king_form_by (castles_short p m) (castles_long p m) m) m ≡ true
 king_described p m h stands = by_wing _ _ refl refl
   where
     by_wing : (a b : Bool) → castles_short p m ≡ a → castles_long p m ≡ b → describes p (king_form_by a b m) m ≡ true
@@ -167,13 +175,16 @@ king_described p m h stands = by_wing _ _ refl refl
     by_wing false false e g = piece_move_described p m King None None None stands refl (unpromoted p m King h stands refl) (ap₂ ◌||◌ e g)
 
 pawn_described : (p : Parts) (m : Move) (takes : Bool) → own p Pawn m.from ≡ true → describes p (pawn_form_by takes m) m ≡ true
-pawn_described p m true stands = piece_move_described p m Pawn (Some m.from.file) None _ stands (and_from _ true (itself _) refl) refl (no_castling p m Pawn stands refl)
+pawn_described p m true stands =
+    piece_move_described p m Pawn (Some m.from.file) None _ stands (and_from _ true (itself _) refl) refl (no_castling p m Pawn stands refl)
 pawn_described p m false stands = piece_move_described p m Pawn None None _ stands refl refl (no_castling p m Pawn stands refl)
 
-disambiguated_described : (p : Parts) (m : Move) (k : Kind) → is_legal p m ≡ true → own p k m.from ≡ true → same_kind k Pawn ≡ false → same_kind King k ≡ false → describes p (disambiguated_form k p m) m ≡ true
+disambiguated_described : (p : Parts) (m : Move) (k : Kind) → is_legal p m ≡ true → own p k m.from ≡ true
+    → same_kind k Pawn ≡ false → same_kind King k ≡ false → describes p (disambiguated_form k p m) m ≡ true
 disambiguated_described p m k h stands a b =
     let others = rivals p k m in
-    piece_move_described p m k _ _ None stands (own_hints _ (list_any (λ r. true) others) (on_file m.from others) (on_rank m.from others)) (unpromoted p m k h stands a) (no_castling p m k stands b)
+    piece_move_described p m k _ _ None stands (own_hints _ (list_any (λ r. true) others) (on_file m.from others) (on_rank m.from others))
+    (unpromoted p m k h stands a) (no_castling p m k stands b)
 
 pub written_agrees : (k : Kind) (p : Parts) (m : Move) → is_legal p m ≡ true → own p k m.from ≡ true → agrees p (written k p m) m ≡ true
 written_agrees k p m h stands = and_from _ _ h (by_kind k stands)

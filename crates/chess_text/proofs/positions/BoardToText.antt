@@ -18,8 +18,7 @@ length-run_text (suc n) = omega (arith, run_is_short (suc n))
 pub length-rank_text : (n : ℕ) (cells : Board) → length (rank_text n cells) ≤ n + length cells
 length-rank_text n [] = omega (arith, length-run_text n)
 length-rank_text n (None ∷ cells) = omega (arith, length-rank_text (n + 1) cells)
-length-rank_text n (Some x ∷ cells) =
-    omega (arith, length-append {A = ℕ}, length-run_text n, length-rank_text 0 cells)
+length-rank_text n (Some x ∷ cells) = omega (arith, length-append {A = ℕ}, length-run_text n, length-rank_text 0 cells)
 
 -- the n lowest ranks from the upper one on, each after a slash
 abbrev pub lower : Board → ℕ → List ℕ
@@ -58,7 +57,11 @@ next_rank b text slash new i so_far h e f =
     let one_less : 7 - i ≡ suc (6 - i) = omega arith in
     let same : 6 - i ≡ 7 - (i + 1) = omega arith in
     record {
-      whole = cc (ap (lower b) one_less, append_assoc (text ++ 47 ∷ []) rank (lower b (7 - (i + 1))), append_assoc text (47 ∷ []) (rank ++ lower b (7 - (i + 1))));
+      whole = cc (
+        ap (lower b) one_less,
+        append_assoc (text ++ 47 ∷ []) rank (lower b (7 - (i + 1))),
+        append_assoc text (47 ∷ []) (rank ++ lower b (7 - (i + 1))),
+      );
       short = omega (arith, ap length f, ap length e, length-append {A = ℕ}, length-rank_text 0 (row b (6 - i)));
     }
 

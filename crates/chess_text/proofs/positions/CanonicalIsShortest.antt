@@ -42,7 +42,12 @@ join_is_short (s ∷ []) h =
     omega (arith, rank_is_short s 0 (first_of_two (list_all is_item s) (length (cells_of s) == 8) (first_of_two (is_rank s) true h)))
 join_is_short (s ∷ t ∷ ss) h =
     let both = and_parts (is_rank s) _ h in
-    omega (arith, join_is_short (t ∷ ss) both.1, rank_is_short s 0 (first_of_two (list_all is_item s) (length (cells_of s) == 8) both.0), length-append {A = ℕ})
+    omega (
+      arith,
+      join_is_short (t ∷ ss) both.1,
+      rank_is_short s 0 (first_of_two (list_all is_item s) (length (cells_of s) == 8) both.0),
+      length-append {A = ℕ},
+    )
 
 reverse_next : {A : Type 0} (x : A) (xs : List A) → reverse (x ∷ xs) ≡ reverse xs ++ x ∷ []
 reverse_next x xs = reverse-append (x ∷ []) xs
@@ -50,7 +55,12 @@ reverse_next x xs = reverse-append (x ∷ []) xs
 all_reversed : (ss : List (List ℕ)) → list_all is_rank ss ≡ true → list_all is_rank (reverse ss) ≡ true
 all_reversed [] h = refl
 all_reversed (s ∷ ss) h =
-    cc (reverse_next s ss, list_all-append is_rank (reverse ss) (s ∷ []), all_reversed ss (second_of_two (is_rank s) (list_all is_rank ss) h), first_of_two (is_rank s) (list_all is_rank ss) h)
+    cc (
+      reverse_next s ss,
+      list_all-append is_rank (reverse ss) (s ∷ []),
+      all_reversed ss (second_of_two (is_rank s) (list_all is_rank ss) h),
+      first_of_two (is_rank s) (list_all is_rank ss) h,
+    )
 
 cells_reversed : (ss : List (List ℕ)) → reverse (map cells_of ss) ≡ map cells_of (reverse ss)
 cells_reversed [] = refl

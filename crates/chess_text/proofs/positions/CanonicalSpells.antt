@@ -40,7 +40,10 @@ rank_stands n [] h =
     record { items = run.items; spelled = run.cells ∙ sym (append-nil _) }
 rank_stands n (None ∷ cells) h =
     let more = rank_stands _ cells (omega arith) in
-    record { items = more.items; spelled = more.spelled ∙ ap (λ b. b ++ cells) (sym (replicate_more n None)) ∙ append_assoc _ (None ∷ []) cells }
+    record {
+      items = more.items;
+      spelled = more.spelled ∙ ap (λ b. b ++ cells) (sym (replicate_more n None)) ∙ append_assoc _ (None ∷ []) cells;
+    }
 rank_stands n (Some x ∷ cells) h =
     let run = run_stands n (omega arith) in
     let letter = letter_stands x.colour x.kind in
@@ -107,13 +110,16 @@ number_spelled n h =
 -- The whole.
 
 fourth_and_fifth : (a b c d e : Bool)
-    → is_none (if not a then Some Kings else if b then Some PawnOnEdge else if c then Some KingCapturable else if not d then Some TargetRank else if not e then Some NumberRange else None) ≡ true
+    → is_none (if not a then Some Kings else if b then Some PawnOnEdge else if c then Some KingCapturable
+    else if not d then Some TargetRank else if not e then Some NumberRange else None) ≡ true
     → (d ≡ true) × (e ≡ true)
 fourth_and_fifth a b c d e h = grind arith
 
-pub last_rules : (p : Parts) → is_position p ≡ true → (target_fits p.side p.target ≡ true) × ((nat_le p.half 99999 && nat_le p.full 99999) ≡ true)
+pub last_rules : (p : Parts) → is_position p ≡ true
+    → (target_fits p.side p.target ≡ true) × ((nat_le p.half 99999 && nat_le p.full 99999) ≡ true)
 last_rules p h =
-    fourth_and_fifth (one_king p.board White && one_king p.board Black) (pawn_on_edge p.board) (king_attacked p.board (other _)) _ _ (second_of_two (length p.board == 64) _ h)
+    fourth_and_fifth (one_king p.board White && one_king p.board Black) (pawn_on_edge p.board)
+    (king_attacked p.board (other _)) _ _ (second_of_two (length p.board == 64) _ h)
 
 at_most : (m n : ℕ) → nat_le m n ≡ true → m ≤ n
 at_most m n h = grind (arith, nat_tests)

@@ -1,6 +1,7 @@
 -- The fields of a text, which stand between its spaces.
 use Rattle.std.proofs.Math.Seq.{take-append_seam, drop-append-add}
-use Rattle.chess_text.proofs.Words.{◌≡◌, ℕ, Bool, true, not, ◌&&◌, List, [], ◌∷◌, ◌++◌, length, refl, arith, list_all, before_first, after_first, position_or_len, join_with_byte, is_space, rest, field}
+use Rattle.chess_text.proofs.Words.{◌≡◌, ℕ, Bool, true, not, ◌&&◌, List, [], ◌∷◌, ◌++◌, length, refl, arith, list_all}
+use Rattle.chess_text.proofs.Words.{before_first, after_first, position_or_len, join_with_byte, is_space, rest, field}
 
 -- no byte of the text passes
 abbrev pub lacks : (ℕ → Bool) → List ℕ → Bool
@@ -12,17 +13,20 @@ first_of_two a b h = grind arith
 pub second_of_two : (a b : Bool) → (a && b) ≡ true → b ≡ true
 second_of_two a b h = grind arith
 
-position_past : (p : ℕ → Bool) (t : List ℕ) (y : ℕ) (r : List ℕ) → lacks p t ≡ true → p y ≡ true → position_or_len p (t ++ y ∷ r) ≡ length t
+position_past : (p : ℕ → Bool) (t : List ℕ) (y : ℕ) (r : List ℕ)
+    → lacks p t ≡ true → p y ≡ true → position_or_len p (t ++ y ∷ r) ≡ length t
 position_past p [] y r h e = rw e refl
 position_past p (x ∷ t) y r h e =
     let passed = first_of_two _ (lacks p t) h in
     let more = position_past p t y r (second_of_two (not (p x)) (lacks p t) h) e in
     rw passed (omega arith)
 
-pub before_it : (p : ℕ → Bool) (t : List ℕ) (y : ℕ) (r : List ℕ) → lacks p t ≡ true → p y ≡ true → before_first p (t ++ y ∷ r) ≡ t
+pub before_it : (p : ℕ → Bool) (t : List ℕ) (y : ℕ) (r : List ℕ)
+    → lacks p t ≡ true → p y ≡ true → before_first p (t ++ y ∷ r) ≡ t
 before_it p t y r h e = cc (position_past p t y r h e, take-append_seam t (y ∷ r))
 
-pub after_it : (p : ℕ → Bool) (t : List ℕ) (y : ℕ) (r : List ℕ) → lacks p t ≡ true → p y ≡ true → after_first p (t ++ y ∷ r) ≡ r
+pub after_it : (p : ℕ → Bool) (t : List ℕ) (y : ℕ) (r : List ℕ)
+    → lacks p t ≡ true → p y ≡ true → after_first p (t ++ y ∷ r) ≡ r
 after_it p t y r h e = cc (position_past p t y r h e, drop-append-add t (y ∷ r) 1)
 
 -- the six fields of six texts that are joined
@@ -34,7 +38,8 @@ pub record SixFields (s a b c d e f : List ℕ) : Type 0 where
   pub fifth : field 5 s ≡ e
   pub sixth : field 6 s ≡ f
 
-pub six_fields : (a b c d e f : List ℕ) → lacks is_space a ≡ true → lacks is_space b ≡ true → lacks is_space c ≡ true → lacks is_space d ≡ true
+pub six_fields : (a b c d e f : List ℕ) → lacks is_space a ≡ true
+    → lacks is_space b ≡ true → lacks is_space c ≡ true → lacks is_space d ≡ true
     → lacks is_space e ≡ true → SixFields (join_with_byte 32 (a ∷ b ∷ c ∷ d ∷ e ∷ f ∷ [])) a b c d e f
 six_fields a b c d e f ha hb hc hd he =
     let s1 = b ++ 32 ∷ (c ++ 32 ∷ (d ++ 32 ∷ (e ++ 32 ∷ f))) in

@@ -67,7 +67,8 @@ not_shorter s = omega (arith, length-take (position_or_len is_space s) s)
 
 -- The whole.
 
-all_there : (p : Parts) (b : Option Board) (c : Option Colour) (r : Option Rights) (t : Option (Option Square)) (m n : Option ℕ) → parts_or_fault b c r t m n ≡ Ok p
+all_there : (p : Parts) (b : Option Board) (c : Option Colour) (r : Option Rights) (t : Option (Option Square)) (m n : Option ℕ)
+    → parts_or_fault b c r t m n ≡ Ok p
     → (b ≡ Some p.board) × (c ≡ Some p.side) × (r ≡ Some p.rights) × (t ≡ Some p.target) × (m ≡ Some p.half) × (n ≡ Some p.full)
 all_there p (Some b) (Some c) (Some r) (Some t) (Some m) (Some n) h =
     let same : record { board = b; side = c; rights = r; target = t; half = m; full = n } ≡ p = cc in (cc, cc, cc, cc, cc, cc)
@@ -84,7 +85,8 @@ good p (Ok q) h = let (same, position) = by_test _ refl h in (ap Ok same, positi
 pub read_is_spelled : (s : List ℕ) (p : Parts) → read s ≡ Ok p → Fen s p
 read_is_spelled s p h =
     let (parts, position) = good p (parts_read s) h in
-    let all = all_there p (placement_of (field 1 s)) (side_of (field 2 s)) (rights_of (field 3 s)) (target_of (field 4 s)) (number_of (field 5 s)) (number_of (field 6 s)) parts in
+    let all = all_there p (placement_of (field 1 s)) (side_of (field 2 s)) (rights_of (field 3 s))
+    (target_of (field 4 s)) (number_of (field 5 s)) (number_of (field 6 s)) parts in
     let side = side_spelled (field 2 s) p.side all.1 in
     let rights = rights_spelled (field 3 s) p.rights all.2 in
     let target = target_spelled (field 4 s) p.target all.3 in

@@ -31,7 +31,8 @@ length-number n h = length-decimal-le 5 n (omega arith) (omega arith) (omega ari
 
 -- what is written when all fields but the last are
 pub record FiveWritten (p : Parts) (text : List ℕ) : Type 0 where
-  pub whole : text ≡ placement_text p.board ++ 32 ∷ side_text p.side ++ 32 ∷ rights_text p.rights ++ 32 ∷ target_text p.target ++ 32 ∷ decimal p.half
+  pub whole : text ≡ placement_text p.board ++ 32 ∷ side_text p.side ++ 32
+      ∷ rights_text p.rights ++ 32 ∷ target_text p.target ++ 32 ∷ decimal p.half
 
 -- field after field
 pub five_written : (p : Parts) (board side rights target half : List ℕ)
@@ -53,7 +54,8 @@ length-five p text five h =
       length-number _ h,
     )
 
-six_joined : (a b c d e f : List ℕ) → a ++ 32 ∷ b ++ 32 ∷ c ++ 32 ∷ d ++ 32 ∷ e ++ 32 ∷ f ≡ join_with_byte 32 (a ∷ b ∷ c ∷ d ∷ e ∷ f ∷ [])
+six_joined : (a b c d e f : List ℕ)
+    → a ++ 32 ∷ b ++ 32 ∷ c ++ 32 ∷ d ++ 32 ∷ e ++ 32 ∷ f ≡ join_with_byte 32 (a ∷ b ∷ c ∷ d ∷ e ∷ f ∷ [])
 six_joined a b c d e f =
     append_assoc (a ++ 32 ∷ b ++ 32 ∷ c ++ 32 ∷ d) (32 ∷ e) (32 ∷ f)
     ∙ append_assoc (a ++ 32 ∷ b ++ 32 ∷ c) (32 ∷ d) (32 ∷ (e ++ 32 ∷ f))

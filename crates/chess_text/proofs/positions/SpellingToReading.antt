@@ -15,7 +15,8 @@ all_lack p d h (c ∷ s) g = let both = and_parts (p c) (list_all p s) g in cc (
 
 -- Field 1.
 
-ranks_lack : (d : ℕ) → is_item d ≡ false → (ss : List (List ℕ)) → list_all is_rank ss ≡ true → list_all (lacks (λ c. c == d)) ss ≡ true
+ranks_lack : (d : ℕ) → is_item d ≡ false → (ss : List (List ℕ))
+    → list_all is_rank ss ≡ true → list_all (lacks (λ c. c == d)) ss ≡ true
 ranks_lack d h [] g = refl
 ranks_lack d h (s ∷ ss) g =
     let both = and_parts (is_rank s) (list_all is_rank ss) g in
@@ -30,10 +31,12 @@ joined_lacks (s ∷ t ∷ ss) g =
 
 one_part : (s : List ℕ) → lacks is_slash s ≡ true → ranks s ≡ s ∷ []
 one_part [] h = refl
-one_part (c ∷ s) h = let both = and_parts (not (is_slash c)) (lacks is_slash s) h in cc (slice_split-cons_no is_slash c s (not-true _ both.0), one_part s both.1)
+one_part (c ∷ s) h = let both = and_parts (not (is_slash c)) (lacks is_slash s) h in
+    cc (slice_split-cons_no is_slash c s (not-true _ both.0), one_part s both.1)
 
 -- what was joined by slashes
-joined_ranks : (s : List ℕ) (ss : List (List ℕ)) → list_all (lacks is_slash) (s ∷ ss) ≡ true → ranks (join_with_byte 47 (s ∷ ss)) ≡ s ∷ ss
+joined_ranks : (s : List ℕ) (ss : List (List ℕ)) → list_all (lacks is_slash) (s ∷ ss) ≡ true
+    → ranks (join_with_byte 47 (s ∷ ss)) ≡ s ∷ ss
 joined_ranks s [] h = one_part s (first_of_two _ true h)
 joined_ranks s (t ∷ ss) h =
     let both = and_parts (lacks is_slash s) (list_all (lacks is_slash) (t ∷ ss)) h in
@@ -107,7 +110,8 @@ spelled_is_read s p fen =
     let rights = rights_read p.rights.white_short p.rights.white_long p.rights.black_short p.rights.black_long in
     let fields =
     six_fields fen.board (side_text p.side) (rights_text p.rights) (target_text p.target) fen.half fen.full
-    (board_lacks fen.board p.board fen.spells_board) (side_lacks p.side) rights.alone (target_lacks p.target) (number_lacks fen.half p.half fen.spells_half) in
+    (board_lacks fen.board p.board fen.spells_board) (side_lacks p.side) rights.alone
+    (target_lacks p.target) (number_lacks fen.half p.half fen.spells_half) in
     let parts =
     all_spelled p _ _ _ _ _ _
     (ap placement_of fields.first ∙ board_read fen.board p.board fen.spells_board)

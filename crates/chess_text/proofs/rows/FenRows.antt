@@ -65,7 +65,8 @@ texts_of_what_is_read =
     let ones : written_of "4k3/8/11111111/8/8/8/8/4K3 w - - 0 1" ≡ codes "4k3/8/8/8/8/8/8/4K3 w - - 0 1" = refl in
     let white_target : written_of "4k3/8/8/8/8/8/8/4K3 w Qk a6 7 30" ≡ codes "4k3/8/8/8/8/8/8/4K3 w Qk a6 7 30" = refl in
     let black_target : written_of "4k3/8/8/8/8/8/8/4K3 b q h3 99999 00010" ≡ codes "4k3/8/8/8/8/8/8/4K3 b q h3 99999 10" = refl in
-    let rich : written_of "r3k2r/p1ppqpb1/bn2pnp1/3PN3/1p2P3/2N2Q1p/PPPBBPPP/R3K2R w KQkq - 0 1" ≡ codes "r3k2r/p1ppqpb1/bn2pnp1/3PN3/1p2P3/2N2Q1p/PPPBBPPP/R3K2R w KQkq - 0 1" = refl in
+    let rich : written_of "r3k2r/p1ppqpb1/bn2pnp1/3PN3/1p2P3/2N2Q1p/PPPBBPPP/R3K2R w KQkq - 0 1"
+    ≡ codes "r3k2r/p1ppqpb1/bn2pnp1/3PN3/1p2P3/2N2Q1p/PPPBBPPP/R3K2R w KQkq - 0 1" = refl in
     let first_read : read (codes "rnbqkbnr/pppppppp/8/8/8/8/PPPPPPPP/RNBQKBNR w KQkq - 0 1") ≡ Ok initial = refl in
     let first_written : fen_text initial ≡ codes "rnbqkbnr/pppppppp/8/8/8/8/PPPPPPPP/RNBQKBNR w KQkq - 0 1" = refl in
     tt

@@ -44,8 +44,7 @@ unfolding squares
 from_nowhere = refl
 
 fails_unless_legal : ((p : Parts) (m : Move) → IsMoveSymbol (san p m)) → ⊥
-fails_unless_legal law =
-    false≢true (subst (λ s. begins_with_letter s ≡ true) from_nowhere (law knights (go "a4" "a5")).begins)
+fails_unless_legal law = false≢true (subst (λ s. begins_with_letter s ≡ true) from_nowhere (law knights (go "a4" "a5")).begins)
 
 -- read back
 
@@ -59,7 +58,8 @@ moves_read_by_law : WrittenMoveIsRead → Unit {0}
 unfolding squares
 moves_read_by_law law =
     let knight : (q : Parts) → legal knights g1e2 ≡ Some q → as_read knights (codes "Ne2") ≡ played g1e2 q = λ q. law knights q g1e2 refl in
-    let promotion : (q : Parts) → legal promoting a7b8 ≡ Some q → as_read promoting (codes "axb8=N") ≡ played a7b8 q = λ q. law promoting q a7b8 refl in
+    let promotion : (q : Parts) → legal promoting a7b8 ≡ Some q → as_read promoting (codes "axb8=N") ≡ played a7b8 q =
+    λ q. law promoting q a7b8 refl in
     tt
 
 -- computed: the origin of what is read
@@ -84,18 +84,14 @@ moves_read =
     let queen : origin (as_read queens (codes "Qh4e1")) ≡ named "h4" = refl in
     tt
 
-not_read : (f : SanFault) (m : Move) (q : Parts) (o : Option (Result Played SanFault))
-    → o ≡ Some (Err f) → o ≡ played m q → ⊥
+not_read : (f : SanFault) (m : Move) (q : Parts) (o : Option (Result Played SanFault)) → o ≡ Some (Err f) → o ≡ played m q → ⊥
 not_read f m q o e g = cc
 
-fails_unless_legal_to_read : ((p q : Parts) (m : Move) → IsTrue (is_position p)
-    → as_read p (san p m) ≡ played m q) → ⊥
+fails_unless_legal_to_read : ((p q : Parts) (m : Move) → IsTrue (is_position p) → as_read p (san p m) ≡ played m q) → ⊥
 unfolding squares
-fails_unless_legal_to_read law =
-    not_read NoMove c3e2 knights _ pinned_is_not_read (law knights knights c3e2 refl)
+fails_unless_legal_to_read law = not_read NoMove c3e2 knights _ pinned_is_not_read (law knights knights c3e2 refl)
 
-fails_unless_position : ((p q : Parts) (m : Move) → legal p m ≡ Some q
-    → as_read p (san p m) ≡ played m q) → ⊥
+fails_unless_position : ((p q : Parts) (m : Move) → legal p m ≡ Some q → as_read p (san p m) ≡ played m q) → ⊥
 unfolding squares
 fails_unless_position law =
     let (q, next) = legal_next (legal kings a1b1) refl in

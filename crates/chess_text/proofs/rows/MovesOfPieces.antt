@@ -17,7 +17,8 @@ piece_has_move p from = has_colour p.side (at p.board from) && has_move_from p f
 
 if_any : {X P : Type 0} (test : X → Bool) (xs : List X) → ((x : X) → test x ≡ true → P) → list_any test xs ≡ true → P
 if_any test [] found h = cc
-if_any test (x ∷ xs) found h = elim (or_cases (test x) (list_any test xs) h) [ inl here ↦ found x here | inr later ↦ if_any test xs found later ]
+if_any test (x ∷ xs) found h =
+    elim (or_cases (test x) (list_any test xs) h) [ inl here ↦ found x here | inr later ↦ if_any test xs found later ]
 
 from_piece : (p : Parts) (from : Square) → has_move_from p from ≡ piece_has_move p from
 from_piece p from =
@@ -32,8 +33,7 @@ from_piece p from =
 -- the mark, by these moves
 abbrev mark_tried : Option Parts → List ℕ
 mark_tried None = []
-mark_tried (Some q) =
-    if is_check q && not (list_any (piece_has_move q) squares) then codes "#" else if is_check q then codes "+" else []
+mark_tried (Some q) = if is_check q && not (list_any (piece_has_move q) squares) then codes "#" else if is_check q then codes "+" else []
 
 pub mark_is_tried : (o : Option Parts) → mark o ≡ mark_tried o
 mark_is_tried None = refl

@@ -1,6 +1,7 @@
 -- The texts of worked moves.
 use Prim.Native.String.{String}
-use Rattle.chess_text.proofs.Words.{◌≡◌, ℕ, ◌-◌, List, [], ◌∷◌, Option, None, Some, refl, ◌∙◌, codes, Result, Ok, Err, Promotion, Move, Parts, Square, square, squares, legal, FenFault, read, san}
+use Rattle.chess_text.proofs.Words.{◌≡◌, ℕ, ◌-◌, List, [], ◌∷◌, Option, None, Some, refl, ◌∙◌, codes, Result, Ok, Err}
+use Rattle.chess_text.proofs.Words.{Promotion, Move, Parts, Square, square, squares, legal, FenFault, read, san}
 use Rattle.chess_rules.specs.declared.piece.Promotion.TheVariants.{Queen, Knight}
 use Rattle.chess_text.proofs.rows.MovesOfPieces.{san_is_tried, san_tried}
 
@@ -61,7 +62,8 @@ abbrev before_promoting : Option Parts
 before_promoting = fen "7K/3P4/7k/8/8/8/8/4r3 b - - 0 1"
 
 abbrev before_mate : Option Parts
-before_mate = then_play (then_play (then_play (fen "rnbqkbnr/pppppppp/8/8/8/8/PPPPPPPP/RNBQKBNR w KQkq - 0 1") (go "f2" "f3")) (go "e7" "e5")) (go "g2" "g4")
+before_mate =
+    then_play (then_play (then_play (fen "rnbqkbnr/pppppppp/8/8/8/8/PPPPPPPP/RNBQKBNR w KQkq - 0 1") (go "f2" "f3")) (go "e7" "e5")) (go "g2" "g4")
 
 texts_of_moves : Unit {0}
 unfolding squares

@@ -187,9 +187,12 @@ steps_and_texts =
 one_is_named : SingleReading → Unit {0}
 unfolding squares
 one_is_named law =
-    let square_is_enough : NamesAnother queens (with_step queens Queen h4e1 3) h4e1 → ⊥ = λ (n, other, names). other ((law queens h4e1 refl refl).1 n names) in
-    let file_is_enough : NamesAnother queens (with_step queens Queen e4e1 1) e4e1 → ⊥ = λ (n, other, names). other ((law queens e4e1 refl refl).1 n names) in
-    let nothing_is_enough : NamesAnother knights (with_step knights Knight g1e2 0) g1e2 → ⊥ = λ (n, other, names). other ((law knights g1e2 refl refl).1 n names) in
+    let square_is_enough : NamesAnother queens (with_step queens Queen h4e1 3) h4e1 → ⊥ =
+    λ (n, other, names). other ((law queens h4e1 refl refl).1 n names) in
+    let file_is_enough : NamesAnother queens (with_step queens Queen e4e1 1) e4e1 → ⊥ =
+    λ (n, other, names). other ((law queens e4e1 refl refl).1 n names) in
+    let nothing_is_enough : NamesAnother knights (with_step knights Knight g1e2 0) g1e2 → ⊥ =
+    λ (n, other, names). other ((law knights g1e2 refl refl).1 n names) in
     tt
 
 -- CanonicalIsShortest: no text of a position is shorter than its canonical text.

@@ -1,24 +1,28 @@
 -- The subcommand that a parse meets, and the request that it makes.
 use Rattle.std.proofs.lemmas.Grind.{common_steps}
-use Rattle.std.proofs.Common.{arith, ◌≡◌, ◌≢◌, ◌∙◌, ◌||◌, ap, ap₂, Bool, true, false, true≢false, refl, sym, List, [], ◌∷◌, Option, Some, None, option_map, codes, bytes_eq}
+use Rattle.std.proofs.Common.{arith, ◌≡◌, ◌≢◌, ◌∙◌, ◌||◌, ap, ap₂, Bool, true, false, true≢false, refl, sym, List, []}
+use Rattle.std.proofs.Common.{◌∷◌, Option, Some, None, option_map, codes, bytes_eq}
 use Rattle.std.specs.Prelude.{IsSome, find, is_some, unwrap_or}
 use Rattle.std.specs.List.{list_all}
 use Rattle.std.specs.Option.{option_map_or}
 use Rattle.std.specs.Str.Parse.{ParsesBool}
 use Rattle.std.proofs.lemmas.Bool.{and_parts}
 use Rattle.std.proofs.lemmas.Slice.Eq.{bytes_eq-Decides}
-use Rattle.clap.specs.Words.{App, HasMatchesOf, IsParsedFrom, ReadsOne, Row, Shape, Text, app_of, built, has_subcommand, is_simple, subcommand_name_of, subcommand_of, subcommand_rows_of}
+use Rattle.clap.specs.Words.{App, HasMatchesOf, IsParsedFrom, ReadsOne, Row, Shape, Text, app_of, built, has_subcommand, is_simple}
+use Rattle.clap.specs.Words.{subcommand_name_of, subcommand_of, subcommand_rows_of}
 use Rattle.clap.specs.Simple.{entered, rows_at}
 use Rattle.clap.specs.Faults.{is_simple_and_free}
 use Rattle.clap.specs.declared.builder.command.Command.{Command}
 use Rattle.clap.specs.declared.parser.matches.ArgMatches.{ArgMatches}
 use Rattle.clap.proofs.OnLiterals.{clap_on_literals}
-use Rattle.pgn_arguments.specs.CommandLine.{bare_program, check_command, checked_rule, command_line, dir_rule, export_command, file_rule, list_command, reduced_rule, split_command}
+use Rattle.pgn_arguments.specs.CommandLine.{bare_program, check_command, checked_rule, command_line, dir_rule, export_command, file_rule}
+use Rattle.pgn_arguments.specs.CommandLine.{list_command, reduced_rule, split_command}
 use Rattle.pgn_arguments.specs.Requests.{request_from, request_named}
 use Rattle.pgn_arguments.proofs.commands.BuilderSteps.{is_local}
 
 unfoldable pub whole_line : Unit {0}
-unfolding clap_on_literals command_line bare_program export_command check_command list_command split_command reduced_rule checked_rule file_rule dir_rule
+unfolding clap_on_literals command_line bare_program export_command check_command
+    list_command split_command reduced_rule checked_rule file_rule dir_rule
 whole_line = tt
 
 -- ---- the command line is one whose matches and refusals `clap` defines
@@ -79,8 +83,7 @@ pub rows_met : (c : Command) (words : List Text) (m : ArgMatches) → app_of c �
 rows_met c words m line matches = grind (arith, common_steps, line_is_simple)
 
 pub meets_known : (c : Command) (words : List Text) (m : ArgMatches) → app_of c ≡ command_line → HasMatchesOf (app_of c) words m
-    → IsParsedFrom c m
-    → IsSome (request_from (subcommand_rows_of m))
+    → IsParsedFrom c m → IsSome (request_from (subcommand_rows_of m))
 meets_known c words m line matches parsed =
     let rows = rows_met c words m line matches in
     let wants = parsed.from.needs_subcommand ∙ ap (λ (a : App). a.top.subcommand_required) line ∙ line_wants_subcommand in
@@ -94,8 +97,7 @@ names_met : (m : ArgMatches) → subcommand_name_of m ≡ option_map (λ p. p.0)
 names_met m = grind (arith, common_steps, option_map)
 
 request_of_pair : (o : Option (Text × List Row)) (name : Text) (rows : List Row) → Some name ≡ option_map (λ p. p.0) o
-    → Some rows ≡ option_map (λ p. p.1) o
-    → request_from o ≡ request_named name rows
+    → Some rows ≡ option_map (λ p. p.1) o → request_from o ≡ request_named name rows
 unfolding request_from
 request_of_pair o name rows h1 h2 = grind (arith, common_steps, true≢false, ap₂)
 
@@ -111,8 +113,7 @@ pub none_met : (m : ArgMatches) → None ≡ subcommand_name_of m → IsSome (re
 none_met m is_name known = none_asks (subcommand_rows_of m) (is_name ∙ names_met m) known
 
 pub no_other : (name : Text) (rows : List Row) → name ≢ codes "export" → name ≢ codes "check" → name ≢ codes "list"
-    → name ≢ codes "split"
-    → IsSome (request_named name rows) → ⊥
+    → name ≢ codes "split" → IsSome (request_named name rows) → ⊥
 no_other name rows not_export not_check not_list not_split known = grind (arith, common_steps, bytes_eq-Decides, true≢false)
 
 -- ---- a flag

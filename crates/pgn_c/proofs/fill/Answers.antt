@@ -11,7 +11,8 @@ returns-clause-converts g c =
     let outcome = call.result in
     let is_count : length (take sink.room.written sink.room.buffer.now) ≡ sink.room.written = length-take-le _ _ sink.within in
     let converts : AfterSlice (profile_in c.args.mode) text outcome (Some []) (Some (take sink.room.written sink.room.buffer.now)) =
-    subst (λ (n : ℕ). AfterSlice (profile_in c.args.mode) text outcome (Some (take n c.new.result.buffer.now)) (Some (take sink.room.written sink.room.buffer.now)))
+    subst (λ (n : ℕ).
+    AfterSlice (profile_in c.args.mode) text outcome (Some (take n c.new.result.buffer.now)) (Some (take sink.room.written sink.room.buffer.now)))
     c.new.ensures.written call.ensures.converts in
     record {
       outcome = outcome;
@@ -19,7 +20,8 @@ returns-clause-converts g c =
       converts = converts;
       front = front _ _ _ outcome c.due_grows.ensures c.decided_is_prefix.ensures converts;
       filled = filled _ _ _ sink.within sink.long sink.behind;
-      full = λ is. is_count ∙ sink.full (is_full outcome _ _ call.ensures.counted c.new.ensures.failures (sym (ap (λ r. r.status) c.result_for.ensures) ∙ is)) ∙ sink.long;
+      full = λ is. is_count ∙ sink.full
+          (is_full outcome _ _ call.ensures.counted c.new.ensures.failures (sym (ap (λ r. r.status) c.result_for.ensures) ∙ is)) ∙ sink.long;
       short = λ is. when_ok outcome _ call.ensures.short (sym (ap (λ r. r.status) c.result_for.ensures) ∙ is);
       is_result = c.result_for.ensures ∙ ap (result_of outcome) (sym is_count);
     }

@@ -16,7 +16,8 @@ passing_last : (p : Profile) (part : Part) (k : Kind) → IsLast k → refusal p
 unfolding refusal
 passing_last p part k h1 h2 = search rules
 
-ends_between : (p : Profile) (b : Progress) (ts : List Token) → RisesTo ts → (read_from p b ts).fault ≡ None → (read_from p b ts).progress.part.stage ≡ Between
+ends_between : (p : Profile) (b : Progress) (ts : List Token) → RisesTo ts
+    → (read_from p b ts).fault ≡ None → (read_from p b ts).progress.part.stage ≡ Between
 ends_between p b [] rises e = absurd rises
 ends_between p b (t ∷ []) rises e = search (rules, end_passes, first_passes, goes_on, passing_last)
 ends_between p b (t ∷ u ∷ us) rises e =
@@ -38,11 +39,13 @@ same_totals : (t : Totals) (gs : List Game) → totals (counted gs) ≡ totals (
     → (t.games ≡ length gs) × (t.plies ≡ sum (map plies_of gs))
 same_totals t gs e = search rules
 
-written_again : (p : Profile) (s : List ℕ) (gs : List Game) (t : Totals) (before after : Option (List ℕ)) → output p s ≡ text_of p gs → verdict p s ≡ totals (counted gs)
+written_again : (p : Profile) (s : List ℕ) (gs : List Game) (t : Totals) (before after : Option (List ℕ))
+    → output p s ≡ text_of p gs → verdict p s ≡ totals (counted gs)
     → conversion.IsTotalled p s t before after → IsWrittenAgain p gs t before after
 written_again p s gs t before after out ver h = search (rules, same_totals)
 
-slice_fails : (p : Profile) (s : List ℕ) (gs : List Game) (f : Fault) (before after : Option (List ℕ)) → verdict p s ≡ totals (counted gs) → length s ≤ 2 ^ 62
+slice_fails : (p : Profile) (s : List ℕ) (gs : List Game) (f : Fault) (before after : Option (List ℕ))
+    → verdict p s ≡ totals (counted gs) → length s ≤ 2 ^ 62
     → FailsOn p s before after f → SliceIsKept p gs (Err f) before after
 slice_fails p s gs _ before after ver short (conversion.FailsOn.refused f h) = absurd (no_fault p s gs f ver h.0)
 slice_fails p s gs _ before after ver short (conversion.FailsOn.unwritten at stops) = refl
@@ -55,7 +58,8 @@ some_text o s P e h = let Q : Option (List ℕ) → Type 0 = λ x. IfSome x P in
 consumed_fits : (o n : Option (List ℕ)) (s u : List ℕ) → o ≡ Some s → Consumes o n u → length u ≤ length s
 consumed_fits o n s u e h = search (rules, length-append)
 
-source_fails : (p : Profile) (s : List ℕ) (gs : List Game) (f : Fault) (left_old left_new before after : Option (List ℕ)) → verdict p s ≡ totals (counted gs) → length s ≤ 2 ^ 62
+source_fails : (p : Profile) (s : List ℕ) (gs : List Game) (f : Fault) (left_old left_new before after : Option (List ℕ))
+    → verdict p s ≡ totals (counted gs) → length s ≤ 2 ^ 62
     → left_old ≡ Some s → Fails p left_old left_new before after f → SourceIsKept p gs (Err f) before after
 source_fails p s gs _ left_old left_new before after ver short left (conversion.Fails.refused f h) =
     absurd (no_fault p s gs f ver (some_text _ s _ left h).0)
@@ -64,7 +68,8 @@ source_fails p s gs _ left_old left_new before after ver short left (conversion.
 source_fails p s gs _ left_old left_new before after ver short left (conversion.Fails.too_long u rest consumed long some none) =
     absurd (let fits = consumed_fits left_old left_new s (u ++ rest) left consumed in omega (arith, length-append u rest))
 
-module _ (unique : UniqueReading) (rise : TokensRise) (exported_games : (p : Profile) (gs : List Game) → AreExportable p gs → ExportedGames p gs) where
+module _ (unique : UniqueReading) (rise : TokensRise)
+    (exported_games : (p : Profile) (gs : List Game) → AreExportable p gs → ExportedGames p gs) where
   -- the games that the text spells are the only ones
   pub same_text : SameText
   same_text p gs hs h k = (

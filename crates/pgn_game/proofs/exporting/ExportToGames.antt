@@ -7,7 +7,8 @@ use Rattle.pgn_game.proofs.AllOfJoined.{all_front, all_behind}
 use Rattle.pgn_game.proofs.exporting.GameTextToGame.{ExportedPairs, exported_of, exported_result, given_result, some_exported, start_is_position}
 use Rattle.pgn_game.proofs.exporting.PairsExportedAgain.{exported_again, start_again, is_set_up_again, result_again, by_name_order}
 use Rattle.pgn_game.proofs.exporting.MovetextOfMode.{kept, KeptText, kept_text}
-use Rattle.pgn_game.proofs.exporting.PiecesToTokens.{AllShown, none_shown, next_shown, single, shown-append, PiecesOf, no_pieces, both_pieces, at_text, line_feed, line_pieces, tag_kinds, tag_pieces, tags_spell, tags_close}
+use Rattle.pgn_game.proofs.exporting.PiecesToTokens.{AllShown, none_shown, next_shown, single, shown-append, PiecesOf, no_pieces, both_pieces}
+use Rattle.pgn_game.proofs.exporting.PiecesToTokens.{at_text, line_feed, line_pieces, tag_kinds, tag_pieces, tags_spell, tags_close}
 use Rattle.pgn_game.proofs.reading.RunsToEnd.{kinds}
 use Rattle.pgn_game.proofs.exporting.SpelledToSound.{SoundGame, sound_game, marker_opens, marker_closed, marker_written, marker_writable}
 
@@ -32,7 +33,8 @@ with_feed : {ks : List Kind} {s : List ℕ} → PiecesOf ks s → PiecesOf ks (s
 with_feed {ks} a = with_kinds (append-nil ks) (both_pieces a line_feed)
 
 -- the pieces of a tag section, of lines and of the empty line
-section_pieces : {tags text : List Kind} {a b : List ℕ} → PiecesOf tags a → PiecesOf text b → PiecesOf (tags ++ text) ((a ++ 10 ∷ []) ++ b ++ 10 ∷ [])
+section_pieces : {tags text : List Kind} {a b : List ℕ} → PiecesOf tags a
+    → PiecesOf text b → PiecesOf (tags ++ text) ((a ++ 10 ∷ []) ++ b ++ 10 ∷ [])
 section_pieces h k = with_feed (both_pieces (with_feed h) k)
 
 -- What is shown of exportable games: their text spells them again, it is their text again, and they
@@ -42,7 +44,8 @@ pub record ExportedGames (p : Profile) (gs : List Game) : Type 0 where
   pub again : text_of p (map (filled p.mode) gs) ≡ text_of p gs
   pub plies : map plies_of (map (filled p.mode) gs) ≡ map plies_of gs
 
-module _ (one_read : TheOneMoveIsRead) (leaves : LeavesPosition) (is_symbol : WrittenMoveIsSymbol) (is_read : WrittenMoveIsRead) (numbers : NumbersAreSymbols) (reads_fen : ReadingIsSpelling) (lines_keep : LinesOfKeepTokens) where
+module _ (one_read : TheOneMoveIsRead) (leaves : LeavesPosition) (is_symbol : WrittenMoveIsSymbol) (is_read : WrittenMoveIsRead)
+    (numbers : NumbersAreSymbols) (reads_fen : ReadingIsSpelling) (lines_keep : LinesOfKeepTokens) where
   text_kept : {p : Profile} {g : Game} (h : SoundGame p g) → ExportedPairs p g → KeptText p.mode p (start_of g.pairs) h.text g.items
   text_kept h e = search (rules, start_is_position, kept_text)
 
@@ -85,7 +88,8 @@ module _ (one_read : TheOneMoveIsRead) (leaves : LeavesPosition) (is_symbol : Wr
     result = result_meets p g h e;
   }
 
-  game_closed : {p : Profile} (g : Game) (h : SoundGame p g) (k : KeptText p.mode p (start_of g.pairs) h.text g.items) (more : List Kind) → CommentsClose false more
+  game_closed : {p : Profile} (g : Game) (h : SoundGame p g) (k : KeptText p.mode p (start_of g.pairs) h.text g.items) (more : List Kind)
+      → CommentsClose false more
       → CommentsClose false ((tag_kinds (exported_pairs p.mode g) ++ (k.kinds ++ h.last ∷ [])) ++ more)
   game_closed g h k more closes =
       simp append_assoc (tags_close (exported_pairs _ g) (k.kinds ++ h.last ∷ more)
@@ -153,7 +157,8 @@ module _ (one_read : TheOneMoveIsRead) (leaves : LeavesPosition) (is_symbol : Wr
           ended = subst AreEnded (append-nil ps) (w.pieces.ended [] tt);
           comments = (rw w.pieces.kinds w.closes);
         } in
-        let same = ap (λ s. kinds (tokens_of s)) (sym w.pieces.text) ∙ read_back ps readable ∙ ap (λ ks. ks ++ tokens.end ∷ []) w.pieces.kinds in
+        let same =
+        ap (λ s. kinds (tokens_of s)) (sym w.pieces.text) ∙ read_back ps readable ∙ ap (λ ks. ks ++ tokens.end ∷ []) w.pieces.kinds in
         rw same w.spells
 
     pub exported_games : (p : Profile) (gs : List Game) → AreExportable p gs → ExportedGames p gs

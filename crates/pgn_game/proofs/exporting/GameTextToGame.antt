@@ -13,10 +13,12 @@ use Rattle.pgn_game.proofs.exporting.PiecesToTokens.{IsSoundPair}
 use Rattle.pgn_game.proofs.exporting.SpelledToSound.{SoundGame, marker_is_result}
 
 -- The Result that is exported where it is missing.
-same_result : (missing : Missing) (o : Option (List ℕ)) (m : List ℕ) → IsResult missing o m → unwrap_or o (result_for missing m) ≡ unwrap_or o m
+same_result : (missing : Missing) (o : Option (List ℕ)) (m : List ℕ)
+    → IsResult missing o m → unwrap_or o (result_for missing m) ≡ unwrap_or o m
 same_result missing o m is = grind arith
 
-roster_result : (r m : List ℕ) (ps : List Pair) → unwrap_or (value_of ps (codes "Result")) r ≡ unwrap_or (value_of ps (codes "Result")) m → roster_pairs r ps ≡ roster_pairs m ps
+roster_result : (r m : List ℕ) (ps : List Pair)
+    → unwrap_or (value_of ps (codes "Result")) r ≡ unwrap_or (value_of ps (codes "Result")) m → roster_pairs r ps ≡ roster_pairs m ps
 unfolding roster
 roster_result r m ps e = cc
 
@@ -29,7 +31,8 @@ given_result missing (Some v) is = is
 given_result missing None is = refl
 
 -- Pairs that are exported are written as sound tokens.
-symbol_of : {text : List ℕ} → IsTrue (begins_with starts_symbol text) → IsTrue (list_all continues_symbol text) → length text ≤ 255 → IsSymbol text
+symbol_of : {text : List ℕ} → IsTrue (begins_with starts_symbol text)
+    → IsTrue (list_all continues_symbol text) → length text ≤ 255 → IsSymbol text
 symbol_of begins bytes fits = record { begins = begins; bytes = bytes; fits = fits }
 
 data_of : {text : List ℕ} → IsTrue (list_all (λ b. not (is_barred b)) text) → length text ≤ 255 → IsData text
@@ -50,7 +53,8 @@ sound_roster m is =
     (unknown_pair (symbol_of refl refl (omega arith)))
     (record { name = symbol_of refl refl (omega arith); value = let marker = result_marker m is in rw marker.1 (marker_data marker.0) })
 
-sound_exported : (mode : Mode) (m : List ℕ) (ps : List Pair) → is_result m ≡ true → AllByRecursion IsSoundPair ps → AllByRecursion IsSoundPair (exported mode m ps)
+sound_exported : (mode : Mode) (m : List ℕ) (ps : List Pair) → is_result m ≡ true
+    → AllByRecursion IsSoundPair ps → AllByRecursion IsSoundPair (exported mode m ps)
 sound_exported mode m ps is h = search (rules, set_up, all-exported, IsSoundPair, symbol_of, data_of, sound_roster)
 
 pub some_exported : (mode : Mode) (m : List ℕ) (ps : List Pair) → exported mode m ps ≡ [] → ⊥

@@ -17,17 +17,20 @@ row_fails [] r rest e = (none_of _ _ e).0
 row_fails (x ∷ rs) r rest e = row_fails rs r rest (none_of _ _ e).1
 
 -- A marker that finishes a game is at depth 0, and is its Result.
-star_outside : (p : Profile) (stage : Stage) (part : Part) → refusal p (at_stage stage part) tokens.asterisk ≡ None → is_outside_tag_pairs (at_stage stage part) ≡ true
+star_outside : (p : Profile) (stage : Stage) (part : Part) → refusal p (at_stage stage part) tokens.asterisk ≡ None
+    → is_outside_tag_pairs (at_stage stage part) ≡ true
 unfolding refusal
 star_outside p Between part free = refl
 star_outside p _ part free = cc
 
-score_outside : (p : Profile) (stage : Stage) (part : Part) (s : List ℕ) → is_score s ≡ true → refusal p (at_stage stage part) (tokens.symbol s) ≡ None
+score_outside : (p : Profile) (stage : Stage) (part : Part) (s : List ℕ)
+    → is_score s ≡ true → refusal p (at_stage stage part) (tokens.symbol s) ≡ None
     → is_outside_tag_pairs (at_stage stage part) ≡ true
 unfolding refusal
 score_outside p stage part s is free = grind (arith, true≢false, name_refusal, test_failed, no_name)
 
-marker_outside : (p : Profile) (part : Part) (k : Kind) {marker : List ℕ} → marker_of k ≡ Some marker → refusal p part k ≡ None → is_outside_tag_pairs part ≡ true
+marker_outside : (p : Profile) (part : Part) (k : Kind) {marker : List ℕ}
+    → marker_of k ≡ Some marker → refusal p part k ≡ None → is_outside_tag_pairs part ≡ true
 marker_outside p part tokens.asterisk is free = star_outside p _ part free
 marker_outside p part (tokens.symbol s) {marker} is free = score_outside p _ part s (score_of s marker _ refl is).0 free
 marker_outside p part _ is free = absurd (cc)
@@ -36,7 +39,8 @@ at_depth_zero : (outside inside other : Bool) (n : ℕ) → outside ≡ true →
     → (outside && other && (n == 0)) ≡ false → other ≡ false
 at_depth_zero outside inside other n is within no_inside no_other = grind (arith, true≢false, le-leb)
 
-not_other : (p : Profile) (part : Part) (k : Kind) {marker : List ℕ} → marker_of k ≡ Some marker → refusal p part k ≡ None → has_other_result p.missing_result part k ≡ false
+not_other : (p : Profile) (part : Part) (k : Kind) {marker : List ℕ} → marker_of k ≡ Some marker
+    → refusal p part k ≡ None → has_other_result p.missing_result part k ≡ false
 unfolding refusal
 not_other p part (tokens.refused r) is free = absurd (cc)
 not_other p part k is free =
@@ -48,8 +52,7 @@ not_other p part k is free =
 
 pub result_of : (p : Profile) (part : Part) (k : Kind) (marker : List ℕ) → marker_of k ≡ Some marker → refusal p part k ≡ None
     → IsResult p.missing_result (value_of part.pairs (codes "Result")) marker
-result_of p part k marker is free =
-    result_is _ _ marker (sym (ap (other_if p.missing_result part.pairs) is) ∙ not_other p part k is free)
+result_of p part k marker is free = result_is _ _ marker (sym (ap (other_if p.missing_result part.pairs) is) ∙ not_other p part k is free)
 
 pub one_of_four : (k : Kind) (text : List ℕ) → marker_of k ≡ Some text → (m : Marker) × (marker_of k ≡ Some (marker_text m))
 one_of_four k text is = grind (arith, score_of, score_marker)

@@ -7,7 +7,8 @@ use Rattle.pgn_game.proofs.exporting.PiecesToTokens.{IsWritable, AllShown, next_
 
 -- Positions: the fullmove number is at most 99,999.
 last_test : (a b c d : Bool) {e : Bool}
-    → is_none (if a then Some Kings else if b then Some PawnOnEdge else if c then Some KingCapturable else if d then Some TargetRank else if not e then Some NumberRange else None) ≡ true
+    → is_none (if a then Some Kings else if b then Some PawnOnEdge else if c then Some KingCapturable
+    else if d then Some TargetRank else if not e then Some NumberRange else None) ≡ true
     → e ≡ true
 last_test a b c d h = grind (arith, false≢true)
 
@@ -32,8 +33,7 @@ each_of : (f g : ℕ → Bool) (s : List ℕ) → ((c : ℕ) → f c ≡ true �
 each_of f g [] h e = refl
 each_of f g (c ∷ s) h e = let both = and_parts (f c) (list_all f s) e in and_from (g c) (list_all g s) (h c both.0) (each_of f g s h both.1)
 
-continues : (letter digit underscore plus hash equals colon hyphen slash : Bool)
-    → (letter || digit || plus || hash || equals || hyphen) ≡ true
+continues : (letter digit underscore plus hash equals colon hyphen slash : Bool) → (letter || digit || plus || hash || equals || hyphen) ≡ true
     → ((letter || digit) || underscore || plus || hash || equals || colon || hyphen || slash) ≡ true
 continues letter digit underscore plus hash equals colon hyphen slash h1 = search (rules, false≢true)
 
@@ -51,9 +51,11 @@ as_symbol {s} h =
 no_score : (s : List ℕ) → IsMoveSymbol s → IsFalse (is_score s)
 no_score s h = (or_parts _ (bytes_eq s _) h.no_marker).0
 
-module _ (one_read : TheOneMoveIsRead) (leaves : LeavesPosition) (is_symbol : WrittenMoveIsSymbol) (is_read : WrittenMoveIsRead) (numbers : NumbersAreSymbols) where
+module _ (one_read : TheOneMoveIsRead) (leaves : LeavesPosition) (is_symbol : WrittenMoveIsSymbol)
+    (is_read : WrittenMoveIsRead) (numbers : NumbersAreSymbols) where
   -- a move that is named leaves a position
-  pub plays_on : (first : Parts) (trail : List Move) (s : List ℕ) (x : Played) → Names (replayed first trail) s x → ArePositions first trail → ArePositions first (x.mv ∷ trail)
+  pub plays_on : (first : Parts) (trail : List Move) (s : List ℕ) (x : Played)
+      → Names (replayed first trail) s x → ArePositions first trail → ArePositions first (x.mv ∷ trail)
   unfolding play
   plays_on first trail s x names h =
       let at = replayed first trail in
@@ -67,7 +69,8 @@ module _ (one_read : TheOneMoveIsRead) (leaves : LeavesPosition) (is_symbol : Wr
   pub writable_move : (at : Parts) {s : List ℕ} (x : Played) → Names at s x → IsWritable (tokens.symbol (text_of_move at x.mv))
   writable_move at x names = as_symbol (move_symbol at x names)
 
-  reads_again : (at : Parts) (s : List ℕ) (x : Played) → IsTrue (is_position at) → Names at s x → move_of at (text_of_move at x.mv) ≡ Some (Ok x)
+  reads_again : (at : Parts) (s : List ℕ) (x : Played) → IsTrue (is_position at)
+      → Names at s x → move_of at (text_of_move at x.mv) ≡ Some (Ok x)
   unfolding text_of_move move_of
   reads_again at s x h names = is_read at _ x.mv h (named_is_legal one_read at s x names.one)
 
@@ -89,10 +92,12 @@ module _ (one_read : TheOneMoveIsRead) (leaves : LeavesPosition) (is_symbol : Wr
   number_kinds false true n = tokens.symbol (decimal n) ∷ tokens.period ∷ tokens.period ∷ tokens.period ∷ []
   number_kinds true true n = []
 
-  pub number_shown : (b is_black : Bool) (n : ℕ) {ks : List Kind} {ts : List (List ℕ)} → AllShown ks ts → AllShown (number_kinds b is_black n ++ ks) (number_before b is_black n ++ ts)
+  pub number_shown : (b is_black : Bool) (n : ℕ) {ks : List Kind} {ts : List (List ℕ)}
+      → AllShown ks ts → AllShown (number_kinds b is_black n ++ ks) (number_before b is_black n ++ ts)
   number_shown b is_black n h = search (rules, next_shown, white, black)
 
-  pub number_spells : {p : Profile} {first : Parts} (at : Parts) {deep : ℕ} (l : Level) (b is_black : Bool) {ks : List Kind} {items : List Item} → IsTrue (is_position at)
+  pub number_spells : {p : Profile} {first : Parts} (at : Parts) {deep : ℕ} (l : Level) (b is_black : Bool) {ks : List Kind} {items : List Item}
+      → IsTrue (is_position at)
       → SpellsText p first deep l ks items → SpellsText p first deep l (number_kinds b is_black at.full ++ ks) items
   number_spells at {deep} l b false {ks} {items} h text =
       token deep l _ _ [] items (number _ (number_is_symbol at h).1) (token deep l _ ks [] items period text)
@@ -104,7 +109,8 @@ module _ (one_read : TheOneMoveIsRead) (leaves : LeavesPosition) (is_symbol : Wr
   pub number_writable : (at : Parts) (b is_black : Bool) → IsTrue (is_position at) → AllByRecursion IsWritable (number_kinds b is_black at.full)
   number_writable at b is_black h = search (rules, number_is_symbol)
 
-  pub number_closes : (b is_black : Bool) (n : ℕ) (more : List Kind) → CommentsClose false more → CommentsClose false (number_kinds b is_black n ++ more)
+  pub number_closes : (b is_black : Bool) (n : ℕ) (more : List Kind)
+      → CommentsClose false more → CommentsClose false (number_kinds b is_black n ++ more)
   number_closes b false n more h = h
   number_closes false true n more h = h
   number_closes true true n more h = h

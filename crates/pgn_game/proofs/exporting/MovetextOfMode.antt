@@ -11,11 +11,11 @@ use Rattle.pgn_game.proofs.exporting.MovetextToItems.{level_in, aside, around_ag
 inside : (n : ℕ) → (suc n == 0) ≡ false
 inside n = ne_eqb _ 0 (λ e. absurd (omega arith))
 
-none_main : {p : Profile} {first : Parts} {deep : ℕ} {l : Level} {ks : List Kind} {items : List Item} → SpellsText p first deep l ks items → (m : Level) (around : List Level)
+none_main : {p : Profile} {first : Parts} {deep : ℕ} {l : Level} {ks : List Kind} {items : List Item}
+    → SpellsText p first deep l ks items → (m : Level) (around : List Level)
     → filter is_main_move (placed_from first (level_in l (m ∷ around)) items) ≡ []
 none_main (no_more deep l) m around = refl
-none_main {first} (token deep l k ks item items stands rest) m around =
-    (aside items first (level_in l _) stands).1 ∙ none_main rest m around
+none_main {first} (token deep l k ks item items stands rest) m around = (aside items first (level_in l _) stands).1 ∙ none_main rest m around
 none_main (move deep l s x ks items names rest) m around = rw (inside _) (none_main rest m around)
 none_main {first} (variation deep l ks ls items more holds room inner rest) m around =
     let at = level_in (new_level (without_last l.trail)) (l ∷ m ∷ around) in
@@ -40,7 +40,8 @@ main_variation deep l more inner = grind (arith, filter-append, level_in, close_
 
 levels_variation : {p : Profile} {first : Parts} (deep : ℕ) (l : Level) {ks : List Kind} {items : List Item} (more : List Item)
     → SpellsText p first (deep + 1) (new_level (without_last l.trail)) ks items
-    → fold levels_after (level_in l []) (game.open_variation ∷ (items ++ game.close_variation ∷ more)) ≡ fold levels_after (level_in l []) more
+    → fold levels_after (level_in l []) (game.open_variation ∷ (items ++ game.close_variation ∷ more))
+    ≡ fold levels_after (level_in l []) more
 levels_variation deep l more inner = grind (arith, fold-append, level_in, around_again)
 
 -- They are spelled by their symbols alone, lead to the same levels, and have the same places.
@@ -55,11 +56,11 @@ record Main (p : Profile) (first : Parts) (deep : ℕ) (l : Level) (items : List
 -- items that add no move outside variations, before others
 main_same : {p : Profile} {first : Parts} {deep : ℕ} {l : Level} {items : List Item} (more : List Item)
     → placed_main first l items ≡ placed_main first l more
-    → fold levels_after (level_in l []) items ≡ fold levels_after (level_in l []) more → Main p first deep l more
-    → Main p first deep l items
+    → fold levels_after (level_in l []) items ≡ fold levels_after (level_in l []) more → Main p first deep l more → Main p first deep l items
 main_same more e same r = search rules
 
-main : {p : Profile} {first : Parts} {deep : ℕ} {l : Level} {ks : List Kind} {items : List Item} → SpellsText p first deep l ks items → AllByRecursion IsSoundKind ks
+main : {p : Profile} {first : Parts} {deep : ℕ} {l : Level} {ks : List Kind} {items : List Item}
+    → SpellsText p first deep l ks items → AllByRecursion IsSoundKind ks
     → Main p first deep l items
 main (no_more deep l) sound = record { kinds = []; spells = no_more deep l; sound = tt; closes = λ more h. h; placed = refl; levels = refl }
 main {first} (token deep l k ks item items stands rest) sound =
@@ -87,8 +88,10 @@ all_kept : (first : Parts) (ls : Levels) (items : List Item) → map (λ i. i.it
 all_kept first ls [] = refl
 all_kept first ls (x ∷ xs) = cc (all_kept first (levels_after ls x) xs)
 
-kept_again : (x : Placed) (xs : List Placed) (b : Bool) → is_main_move x ≡ b → filter is_main_move (filter is_main_move xs) ≡ filter is_main_move xs
-    → filter is_main_move (cond b (x ∷ filter is_main_move xs) (filter is_main_move xs)) ≡ cond b (x ∷ filter is_main_move xs) (filter is_main_move xs)
+kept_again : (x : Placed) (xs : List Placed) (b : Bool) → is_main_move x ≡ b
+    → filter is_main_move (filter is_main_move xs) ≡ filter is_main_move xs
+    → filter is_main_move (cond b (x ∷ filter is_main_move xs) (filter is_main_move xs))
+    ≡ cond b (x ∷ filter is_main_move xs) (filter is_main_move xs)
 kept_again x xs true e rest = cc
 kept_again x xs false e rest = rest
 
@@ -102,12 +105,14 @@ pub record KeptText (mode : Mode) (p : Profile) (first : Parts) (ks : List Kind)
   pub spells : SpellsText p first 0 (new_level []) kinds (kept mode first items)
   pub shown : AllShown kinds (tokens_out mode first items)
   pub writable : AllByRecursion IsWritable kinds
-  pub closes : (more then : List Kind) → ((d : Bool) → CommentsClose d more → CommentsClose d then) → CommentsClose false then → CommentsClose false (ks ++ more)
+  pub closes : (more then : List Kind) → ((d : Bool) → CommentsClose d more → CommentsClose d then)
+      → CommentsClose false then → CommentsClose false (ks ++ more)
       → CommentsClose false (kinds ++ then)
   pub again : tokens_out mode first (kept mode first items) ≡ tokens_out mode first items
   pub moves : main_moves (kept mode first items) ≡ main_moves items
 
-module _ (one_read : TheOneMoveIsRead) (leaves : LeavesPosition) (is_symbol : WrittenMoveIsSymbol) (is_read : WrittenMoveIsRead) (numbers : NumbersAreSymbols) where
+module _ (one_read : TheOneMoveIsRead) (leaves : LeavesPosition) (is_symbol : WrittenMoveIsSymbol)
+    (is_read : WrittenMoveIsRead) (numbers : NumbersAreSymbols) where
   pub kept_text : (mode : Mode) {p : Profile} (first : Parts) {ks : List Kind} (items : List Item) → IsTrue (is_position first)
       → SpellsText p first 0 (new_level []) ks items → AllByRecursion IsSoundKind ks → KeptText mode p first ks items
   kept_text Full first items start text sound =

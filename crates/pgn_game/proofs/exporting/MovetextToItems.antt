@@ -6,7 +6,8 @@ use Rattle.pgn_game.proofs.AllOfJoined.{all_front, all_behind}
 use Rattle.pgn_game.proofs.putting.ItemsAppended.{placed-append, tokens_from-append}
 use Rattle.pgn_game.proofs.exporting.PiecesToTokens.{IsWritable, AllShown, none_shown, next_shown, shown-append, single}
 use Rattle.pgn_game.proofs.exporting.SpelledToSound.{GoesOn, plain}
-use Rattle.pgn_game.proofs.exporting.MoveTextToMove.{ArePositions, last_position, earlier_positions, plays_on, writable_move, names_again, number_kinds, number_shown, number_spells, number_writable, number_closes}
+use Rattle.pgn_game.proofs.exporting.MoveTextToMove.{ArePositions, last_position, earlier_positions, plays_on, writable_move, names_again}
+use Rattle.pgn_game.proofs.exporting.MoveTextToMove.{number_kinds, number_shown, number_spells, number_writable, number_closes}
 
 abbrev pub level_in : Level → List Level → Levels
 level_in l around = record { present = l; around = around }
@@ -22,8 +23,7 @@ aside items first ls _ = (refl, refl)
 pub around_again : {p : Profile} {first : Parts} {deep : ℕ} {l : Level} {ks : List Kind} {items : List Item} → SpellsText p first deep l ks items
     → {around : List Level} → (fold levels_after (level_in l around) items).around ≡ around
 around_again (no_more deep l) = refl
-around_again {first} (token deep l k ks item items stands rest) {around} =
-    cc ((aside items first _ stands).0, around_again rest {around = around})
+around_again {first} (token deep l k ks item items stands rest) {around} = cc ((aside items first _ stands).0, around_again rest {around = around})
 around_again (move deep l s x ks items names rest) = around_again rest
 around_again (variation deep l ks ls items more holds room inner rest) {around} =
     let at = level_in (new_level _) (l ∷ around) in
@@ -37,13 +37,15 @@ pub placed_variation : {p : Profile} {first : Parts} (deep : ℕ) (l : Level) {k
     → SpellsText p first (deep + 1) (new_level (without_last l.trail)) ks items → (around : List Level)
     → placed_from first (level_in (new_level (without_last l.trail)) (l ∷ around)) (items ++ games.close_variation ∷ more)
     ≡ placed_from first (level_in (new_level (without_last l.trail)) (l ∷ around)) items
-    ++ (close_at first (fold levels_after (level_in (new_level (without_last l.trail)) (l ∷ around)) items) ∷ placed_from first (level_in l around) more)
+    ++ (close_at first (fold levels_after (level_in (new_level (without_last l.trail)) (l ∷ around)) items)
+    ∷ placed_from first (level_in l around) more)
 placed_variation deep l more inner around = grind (arith, placed-append, around_again)
 
 -- What is written in the place of tokens closes its comments if they do.
 abbrev pub InPlaceOf : List Kind → List Kind → Type 0
 InPlaceOf js ks =
-    (c : Bool) (more then : List Kind) → ((d : Bool) → CommentsClose d more → CommentsClose d then) → CommentsClose c (ks ++ more) → CommentsClose c (js ++ then)
+    (c : Bool) (more then : List Kind) → ((d : Bool) → CommentsClose d more → CommentsClose d then)
+    → CommentsClose c (ks ++ more) → CommentsClose c (js ++ then)
 
 -- The kinds of these tokens, as they are put on lines, spell the items, in the place of the kinds
 -- that did.
@@ -62,7 +64,8 @@ no_comment : (k : Kind) → GoesOn k → is_comment k ≡ false → IsLeftOut k
 no_comment k on is c more h =
     let none = plain k c more on is h in rw none.0 none.1
 
-left_out : {p : Profile} {first : Parts} {deep : ℕ} {l : Level} {k : Kind} {ks : List Kind} {items : List Item} {ts : List (List ℕ)} → IsLeftOut k
+left_out : {p : Profile} {first : Parts} {deep : ℕ} {l : Level} {k : Kind} {ks : List Kind} {items : List Item} {ts : List (List ℕ)}
+    → IsLeftOut k
     → Rewritten p first deep l ks items ts → Rewritten p first deep l (k ∷ ks) items ts
 left_out out r = record {
   kinds = r.kinds;
@@ -74,7 +77,8 @@ left_out out r = record {
 
 -- A token is written as it was read.
 abbrev Passes : Kind → Type 0
-Passes k = (c : Bool) (more then : List Kind) → ((d : Bool) → CommentsClose d more → CommentsClose d then) → CommentsClose c (k ∷ more) → CommentsClose c (k ∷ then)
+Passes k = (c : Bool) (more then : List Kind) → ((d : Bool) → CommentsClose d more → CommentsClose d then)
+    → CommentsClose c (k ∷ more) → CommentsClose c (k ∷ then)
 
 passes : (k : Kind) → Passes k
 passes tokens.comment_open false more then f h = f true h
@@ -109,9 +113,12 @@ variation_closes js ks ls ms inner rest false more then f h =
     behind false k = rest false more then f k
     behind true k = absurd k
 
-variation_again : {p : Profile} {first : Parts} {deep : ℕ} (l : Level) {ks ls : List Kind} {items : List Item} (more : List Item) {ts : List (List ℕ)} (us : List (List ℕ))
-    → IsTrue l.has_own_move → deep < p.depth → Rewritten p first (deep + 1) (new_level (without_last l.trail)) ks items ts → Rewritten p first deep l ls more us
-    → Rewritten p first deep l (tokens.left_paren ∷ (ks ++ tokens.right_paren ∷ ls)) (games.open_variation ∷ (items ++ games.close_variation ∷ more))
+variation_again : {p : Profile} {first : Parts} {deep : ℕ} (l : Level) {ks ls : List Kind} {items : List Item}
+    (more : List Item) {ts : List (List ℕ)} (us : List (List ℕ))
+    → IsTrue l.has_own_move → deep < p.depth
+    → Rewritten p first (deep + 1) (new_level (without_last l.trail)) ks items ts → Rewritten p first deep l ls more us
+    → Rewritten p first deep l (tokens.left_paren ∷ (ks ++ tokens.right_paren ∷ ls))
+    (games.open_variation ∷ (items ++ games.close_variation ∷ more))
     (codes "(" ∷ (ts ++ codes ")" ∷ us))
 variation_again {deep} l {ks} {ls} {items} more us holds room a b = record {
   kinds = tokens.left_paren ∷ (a.kinds ++ tokens.right_paren ∷ b.kinds);
@@ -128,8 +135,10 @@ tokens_of_variation : {p : Profile} {first : Parts} (deep : ℕ) (l : Level) {ks
     ++ codes ")" ∷ tokens_from false (placed_from first (level_in l around) more))
 tokens_of_variation deep l more inner around b = grind (arith, tokens_from-append, placed_variation)
 
-module _ (one_read : TheOneMoveIsRead) (leaves : LeavesPosition) (is_symbol : WrittenMoveIsSymbol) (is_read : WrittenMoveIsRead) (numbers : NumbersAreSymbols) where
-  move_again : (p : Profile) {first : Parts} {deep : ℕ} (l : Level) (s : List ℕ) (x : Played) {ks : List Kind} {items : List Item} (ts : List (List ℕ)) (b : Bool)
+module _ (one_read : TheOneMoveIsRead) (leaves : LeavesPosition) (is_symbol : WrittenMoveIsSymbol)
+    (is_read : WrittenMoveIsRead) (numbers : NumbersAreSymbols) where
+  move_again : (p : Profile) {first : Parts} {deep : ℕ} (l : Level) (s : List ℕ)
+      (x : Played) {ks : List Kind} {items : List Item} (ts : List (List ℕ)) (b : Bool)
       → Names (replayed first l.trail) s x → ArePositions first l.trail → Rewritten p first deep (level_after_move x.mv l.trail) ks items ts
       → Rewritten p first deep l (tokens.symbol s ∷ ks) (games.move x.mv ∷ items) (tokens_at b (replayed first l.trail) (games.move x.mv) ++ ts)
   move_again p {first} {deep} l s x {ks} {items} ts b names h r =
@@ -149,11 +158,13 @@ module _ (one_read : TheOneMoveIsRead) (leaves : LeavesPosition) (is_symbol : Wr
       }
     where
       closes : (r : Rewritten p first deep (level_after_move x.mv l.trail) ks items ts) (b is_black : Bool) (n : ℕ) (text : List ℕ)
-          → InPlaceOf (number_kinds one_read leaves is_symbol is_read numbers b is_black n ++ tokens.symbol text ∷ r.kinds) (tokens.symbol s ∷ ks)
+          → InPlaceOf (number_kinds one_read leaves is_symbol is_read numbers b is_black n ++ tokens.symbol text ∷ r.kinds)
+          (tokens.symbol s ∷ ks)
       closes r b is_black n text true more then f h = absurd h
       closes r b is_black n text false more then f h =
           let kinds = number_kinds one_read leaves is_symbol is_read numbers b is_black n in
-          rw (append_assoc kinds (tokens.symbol text ∷ r.kinds) then) (number_closes one_read leaves is_symbol is_read numbers b is_black n (tokens.symbol text ∷ (r.kinds ++ then)) (r.closes false more then f h))
+          rw (append_assoc kinds (tokens.symbol text ∷ r.kinds) then) (number_closes one_read leaves is_symbol is_read numbers b is_black n
+          (tokens.symbol text ∷ (r.kinds ++ then)) (r.closes false more then f h))
 
   pub rewritten : {p : Profile} {first : Parts} {deep : ℕ} {l : Level} {ks : List Kind} {items : List Item} → SpellsText p first deep l ks items
       → ArePositions first l.trail → AllByRecursion IsSoundKind ks → (around : List Level) (b : Bool)
@@ -162,16 +173,11 @@ module _ (one_read : TheOneMoveIsRead) (leaves : LeavesPosition) (is_symbol : Wr
       record { kinds = []; spells = no_more deep l; shown = none_shown; writable = tt; closes = λ c more then f k. f c k }
   rewritten (token deep l _ ks _ items (number s is) rest) h sound around b =
       left_out (no_comment (tokens.symbol s) tt refl) (rewritten rest h sound.1 around b)
-  rewritten (token deep l _ ks _ items period rest) h sound around b =
-      left_out (no_comment tokens.period tt refl) (rewritten rest h sound.1 around b)
-  rewritten (token deep l _ ks _ items (glyph n) rest) h sound around b =
-      written_again (glyph n) sound.0 (rewritten rest h sound.1 around false)
-  rewritten (token deep l _ ks _ items comment_open rest) h sound around b =
-      written_again comment_open tt (rewritten rest h sound.1 around false)
-  rewritten (token deep l _ ks _ items (word s) rest) h sound around b =
-      written_again (word s) sound.0 (rewritten rest h sound.1 around false)
-  rewritten (token deep l _ ks _ items comment_close rest) h sound around b =
-      written_again comment_close tt (rewritten rest h sound.1 around false)
+  rewritten (token deep l _ ks _ items period rest) h sound around b = left_out (no_comment tokens.period tt refl) (rewritten rest h sound.1 around b)
+  rewritten (token deep l _ ks _ items (glyph n) rest) h sound around b = written_again (glyph n) sound.0 (rewritten rest h sound.1 around false)
+  rewritten (token deep l _ ks _ items comment_open rest) h sound around b = written_again comment_open tt (rewritten rest h sound.1 around false)
+  rewritten (token deep l _ ks _ items (word s) rest) h sound around b = written_again (word s) sound.0 (rewritten rest h sound.1 around false)
+  rewritten (token deep l _ ks _ items comment_close rest) h sound around b = written_again comment_close tt (rewritten rest h sound.1 around false)
   rewritten {p} {first} (move deep l s x ks items names rest) h sound around b =
       move_again p l s x _ b names h
       (rewritten rest (plays_on one_read leaves is_symbol is_read numbers first _ s x names h) sound.1 around true)

@@ -2,7 +2,8 @@
 use Rattle.pgn_game.proofs.Words.{◌≡◌, ℕ, ◌+◌, ◌≤◌, Bool, true, false, cond, List, [], ◌∷◌, ◌++◌, length, map, refl, sym, ap, ◌∙◌, arith, Option, None, Some, inl, inr, ◌&&◌, not, bytes_eq, is_some, unwrap_or, codes, IsTrue, IsFalse, AllByRecursion, list_all, false≢true, cases_Bool, escaped, Mode, Full, Reduced, Profile, Pair, value_of, has_pair, roster, in_roster, roster_pairs, with_set_up, other_pairs, exported, in_name, is_result, start_of, IsPair, AreDistinct, KeepsTags, IsSetUp, by_name, rules}
 use Rattle.pgn_game.proofs.MarkerTexts.{marker_room, result_marker}
 use Rattle.pgn_game.proofs.reading.PairsInTurn.{takes, value_of-all, order-all}
-use Rattle.pgn_game.proofs.pairs.ExportedValues.{with_default, without_set_up, set_up, set_up_if, set_up_gone, set_up_values, no_fen, no_set_up, other_value, exported_known, exported_other, exported_none, no_set_up_of, on_roster, all-exported}
+use Rattle.pgn_game.proofs.pairs.ExportedValues.{with_default, without_set_up, set_up, set_up_if, set_up_gone, set_up_values, no_fen, no_set_up}
+use Rattle.pgn_game.proofs.pairs.ExportedValues.{other_value, exported_known, exported_other, exported_none, no_set_up_of, on_roster, all-exported}
 use Rattle.pgn_game.proofs.pairs.NameOrder.{InOrder, order-insert, order-filter, same_pairs, distinct_in_order}
 use Rattle.pgn_game.proofs.pairs.ValuesByName.{bytes_eq-refl, pick, found}
 
@@ -19,8 +20,7 @@ Same_values mode m ps fs = (n : List ℕ) → value_of fs n ≡ value_of (export
 same_default : (fs ps ds : List Pair) → AllByRecursion (λ d. value_of fs d.name ≡ Some (unwrap_or (value_of ps d.name) d.value)) ds
     → map (with_default fs) ds ≡ map (with_default ps) ds
 same_default fs ps [] h = refl
-same_default fs ps (d ∷ ds) h =
-    cc (same_default fs ps ds h.1)
+same_default fs ps (d ∷ ds) h = cc (same_default fs ps ds h.1)
 
 roster_again : (mode : Mode) (m : List ℕ) (ps fs : List Pair) → Same_values mode m ps fs → roster_pairs m fs ≡ roster_pairs m ps
 unfolding roster
@@ -53,12 +53,12 @@ others_again m ps fs h k same =
 
 pub exported_again : (mode : Mode) (m : List ℕ) (ps fs : List Pair) → InOrder ps → InOrder fs → Same_values mode m ps fs
     → exported mode m fs ≡ exported mode m ps
-exported_again Full m ps fs h k same =
-    cc (roster_again Full m ps fs same, others_again m ps fs h k same)
+exported_again Full m ps fs h k same = cc (roster_again Full m ps fs same, others_again m ps fs h k same)
 exported_again Reduced m ps fs h k same = roster_again Reduced m ps fs same
 
 -- Where the game begins, its SetUp, and its Result.
-no_value_in_reduced : (m : List ℕ) (ps fs : List Pair) (n : List ℕ) → Same_values Reduced m ps fs → value_of (roster m) n ≡ None → value_of fs n ≡ None
+no_value_in_reduced : (m : List ℕ) (ps fs : List Pair) (n : List ℕ)
+    → Same_values Reduced m ps fs → value_of (roster m) n ≡ None → value_of fs n ≡ None
 no_value_in_reduced m ps fs n same e = same n ∙ exported_none m ps n e
 
 no_fen_of : (m : List ℕ) → value_of (roster m) (codes "FEN") ≡ None
@@ -69,10 +69,12 @@ pub result_of : (m : List ℕ) → value_of (roster m) (codes "Result") ≡ Some
 unfolding roster
 result_of m = refl
 
-no_fen_in_reduced : (ps : List Pair) → AllByRecursion (IsPair Reduced) ps → (o : Option (List ℕ)) → value_of ps (codes "FEN") ≡ o → o ≡ None
+no_fen_in_reduced : (ps : List Pair) → AllByRecursion (IsPair Reduced) ps
+    → (o : Option (List ℕ)) → value_of ps (codes "FEN") ≡ o → o ≡ None
 no_fen_in_reduced ps each o e = grind (arith, found)
 
-pub start_again : (mode : Mode) (m : List ℕ) (ps fs : List Pair) → AllByRecursion (IsPair mode) ps → Same_values mode m ps fs → start_of fs ≡ start_of ps
+pub start_again : (mode : Mode) (m : List ℕ) (ps fs : List Pair)
+    → AllByRecursion (IsPair mode) ps → Same_values mode m ps fs → start_of fs ≡ start_of ps
 start_again Full m ps fs each same = cc (fen_again m ps fs same)
 start_again Reduced m ps fs each same =
     cc (no_value_in_reduced m ps fs (codes "FEN") same (no_fen_of m), no_fen_in_reduced ps each (value_of ps (codes "FEN")) refl)
@@ -94,7 +96,8 @@ result_again mode m ps fs same = same _ ∙ exported_known mode m ps _ (result_o
 differ : (a b : List ℕ) → bytes_eq a b ≡ false → a ≡ b → ⊥
 differ a b e f = false≢true (sym e ∙ bytes_eq-refl a b f)
 
-plain_pair : {mode : Mode} {n v : List ℕ} → IsTrue (list_all in_name n) → length n + length (escaped v) ≤ 249 → bytes_eq n (codes "Result") ≡ false → bytes_eq n (codes "FEN") ≡ false
+plain_pair : {mode : Mode} {n v : List ℕ} → IsTrue (list_all in_name n) → length n + length (escaped v) ≤ 249
+    → bytes_eq n (codes "Result") ≡ false → bytes_eq n (codes "FEN") ≡ false
     → IsPair mode (record { name = n; value = v })
 plain_pair name room no_result h6 = search (rules, no_fen, differ)
 
@@ -104,10 +107,12 @@ result_pair e = search (rules, marker_room, result_marker, differ)
 each_of_roster : (mode : Mode) (m : List ℕ) → is_result m ≡ true → AllByRecursion (IsPair mode) (roster m)
 each_of_roster mode m e = search (rules, on_roster, plain_pair, result_pair)
 
-each_exported : (mode : Mode) (m : List ℕ) (ps : List Pair) → is_result m ≡ true → AllByRecursion (IsPair mode) ps → AllByRecursion (IsPair mode) (exported mode m ps)
+each_exported : (mode : Mode) (m : List ℕ) (ps : List Pair) → is_result m ≡ true
+    → AllByRecursion (IsPair mode) ps → AllByRecursion (IsPair mode) (exported mode m ps)
 each_exported mode m ps e h = search (rules, all-exported, plain_pair, each_of_roster)
 
-roster_distinct : (m : List ℕ) (ps others : List Pair) → ((n : List ℕ) → in_roster n ≡ true → IsFalse (has_pair others n)) → AreDistinct others
+roster_distinct : (m : List ℕ) (ps others : List Pair)
+    → ((n : List ℕ) → in_roster n ≡ true → IsFalse (has_pair others n)) → AreDistinct others
     → AreDistinct (roster_pairs m ps ++ others)
 unfolding roster
 roster_distinct m ps others off h = search rules
@@ -119,7 +124,8 @@ roster_alone m ps = (refl, (refl, (refl, (refl, (refl, (refl, (refl, tt)))))))
 distinct_exported : (mode : Mode) (m : List ℕ) (ps : List Pair) → InOrder ps → AreDistinct (exported mode m ps)
 distinct_exported mode m ps h = search (rules, other_value, distinct_in_order, order_others, roster_distinct, roster_alone)
 
-pub keeps_exported : (p : Profile) (m : List ℕ) (ps : List Pair) → is_result m ≡ true → InOrder ps → AllByRecursion (IsPair p.mode) ps → length (exported p.mode m ps) ≤ p.tags
+pub keeps_exported : (p : Profile) (m : List ℕ) (ps : List Pair) → is_result m ≡ true
+    → InOrder ps → AllByRecursion (IsPair p.mode) ps → length (exported p.mode m ps) ≤ p.tags
     → KeepsTags p (exported p.mode m ps)
 keeps_exported p m ps e order each room = search (rules, each_exported, distinct_exported)
 

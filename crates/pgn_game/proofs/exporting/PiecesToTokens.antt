@@ -21,8 +21,7 @@ pub data AllShown : List Kind → List (List ℕ) → Type 0 where
 
 pub shown-append : {ks ls : List Kind} {ts us : List (List ℕ)} → AllShown ks ts → AllShown ls us → AllShown (ks ++ ls) (ts ++ us)
 shown-append none_shown more = more
-shown-append {ls} (next_shown ks js t ts first rest) more =
-    rw (append_assoc ks js ls) (next_shown ks _ t _ first (shown-append rest more))
+shown-append {ls} (next_shown ks js t ts first rest) more = rw (append_assoc ks js ls) (next_shown ks _ t _ first (shown-append rest more))
 
 -- Pieces of a text, with these kinds. Whatever comes behind them, each is ended.
 pub record PiecesOf (ks : List Kind) (s : List ℕ) : Type 0 where
@@ -61,7 +60,8 @@ gap_is_space b e = at_gap is_space b refl refl e
 gap_ends : (b : ℕ) (s : List ℕ) (k : Kind) → is_gap b ≡ true → IsEndedBy (b ∷ s) k
 gap_ends b s k e = search (rules, at_gap)
 
-shown_pieces : {ks : List Kind} {t : List ℕ} (b : ℕ) → Shown ks t → AllByRecursion IsWritable ks → is_gap b ≡ true → PiecesOf ks (t ++ b ∷ [])
+shown_pieces : {ks : List Kind} {t : List ℕ} (b : ℕ) → Shown ks t
+    → AllByRecursion IsWritable ks → is_gap b ≡ true → PiecesOf ks (t ++ b ∷ [])
 shown_pieces b (single k) h gap = record {
   pieces = written.token k ∷ written.space b ∷ [];
   text = refl;
@@ -87,7 +87,8 @@ shown_pieces b (black n) h gap = record {
 pub at_text : {ks : List Kind} {s t : List ℕ} → s ≡ t → PiecesOf ks s → PiecesOf ks t
 at_text e a = record { pieces = a.pieces; text = a.text ∙ e; kinds = a.kinds; sound = a.sound; ended = a.ended }
 
-pub line_pieces : {ks : List Kind} {ts : List (List ℕ)} {s : List ℕ} → AllShown ks ts → AllByRecursion IsWritable ks → IsTextOf ts s → PiecesOf ks s
+pub line_pieces : {ks : List Kind} {ts : List (List ℕ)} {s : List ℕ}
+    → AllShown ks ts → AllByRecursion IsWritable ks → IsTextOf ts s → PiecesOf ks s
 line_pieces none_shown h no_token = no_pieces
 line_pieces (next_shown ks ls _ _ first rest) h (next_token t b ts s gap more) =
     at_text (append_assoc t _ s) (both_pieces (shown_pieces b first (all_front _ ks ls h) gap)
@@ -105,7 +106,8 @@ tag_kinds (q ∷ qs) = tokens.left_bracket ∷ tokens.symbol q.name ∷ tokens.s
 same_escapes : (v : List ℕ) → written.escaped v ≡ escaped v
 same_escapes v = refl
 
-tag_text : (name value : List ℕ) → 91 ∷ (name ++ (32 ∷ ((34 ∷ (written.escaped value ++ 34 ∷ [])) ++ (93 ∷ 10 ∷ [])))) ≡ tag_line name value
+tag_text : (name value : List ℕ)
+    → 91 ∷ (name ++ (32 ∷ ((34 ∷ (written.escaped value ++ 34 ∷ [])) ++ (93 ∷ 10 ∷ [])))) ≡ tag_line name value
 tag_text name value = simp (same_escapes, append_assoc)
 
 one_tag : (q : Pair) → IsSoundPair q

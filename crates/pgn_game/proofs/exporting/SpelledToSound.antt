@@ -32,8 +32,7 @@ plain k c ks on is h =
     let a = around_token k c ks on h in
     let none = a.2 is in (none.0, rw none.1 at a.1)
 
-behind : (xs : List Kind) (c : Bool) (ks : List Kind) → AllByRecursion GoesOn xs → CommentsClose c (xs ++ ks)
-    → Closes ks
+behind : (xs : List Kind) (c : Bool) (ks : List Kind) → AllByRecursion GoesOn xs → CommentsClose c (xs ++ ks) → Closes ks
 behind [] c ks on h = (c, h)
 behind (x ∷ xs) c ks on h = let next = around_token x c _ on.0 h in behind xs next.0 ks on.1 next.1
 
@@ -60,8 +59,7 @@ behind_pair c ls (pair xs ys zs name value d e f) h =
 
 behind_pairs : {ks : List Kind} {qs : List Pair} (ls : List Kind) → SpellsPairs ks qs → CommentsClose false (ks ++ ls) → CommentsClose false ls
 behind_pairs ls no_pair h = h
-behind_pairs ls (next_pair ks js q qs first rest) h =
-    behind_pairs ls rest (behind_pair false (js ++ ls) first (rw (append_assoc ks js ls) at h))
+behind_pairs ls (next_pair ks js q qs first rest) h = behind_pairs ls rest (behind_pair false (js ++ ls) first (rw (append_assoc ks js ls) at h))
 
 item_goes_on : {k : Kind} {item : List Item} → StandsFor k item → GoesOn k
 item_goes_on (number s is) = tt
@@ -86,12 +84,12 @@ pub marker_closed : (k : Kind) {marker : List ℕ} (ks : List Kind) → marker_o
     → CommentsClose false (k ∷ ks)
 marker_closed k ks is h = search rules
 
-pub marker_opens : (k : Kind) {marker : List ℕ} (c : Bool) (ks ls : List Kind) → marker_of k ≡ Some marker → CommentsClose c (k ∷ ks) → CommentsClose false ls → CommentsClose c (k ∷ ls)
+pub marker_opens : (k : Kind) {marker : List ℕ} (c : Bool) (ks ls : List Kind) → marker_of k ≡ Some marker
+    → CommentsClose c (k ∷ ks) → CommentsClose false ls → CommentsClose c (k ∷ ls)
 marker_opens k c ks ls is h more = rw ((marker_plain k c ks is h).0) (marker_closed k ls is more)
 
 -- no comment is open where movetext begins
-bare_text : (ks : List Kind) (c : Bool) (k : Kind) {marker : List ℕ} (ls : List Kind) → AllByRecursion GoesOn ks
-    → BeginsBare ks
+bare_text : (ks : List Kind) (c : Bool) (k : Kind) {marker : List ℕ} (ls : List Kind) → AllByRecursion GoesOn ks → BeginsBare ks
     → marker_of k ≡ Some marker → CommentsClose c (ks ++ k ∷ ls) → CommentsClose false (ks ++ k ∷ ls)
 bare_text ks c k ls on bare is h = search (rules, plain, marker_plain)
 
@@ -108,8 +106,7 @@ sound_pair h2 sound = search (rules, all_behind)
 
 sound_pairs : (ks : List Kind) (qs : List Pair) → SpellsPairs ks qs → AllByRecursion IsSoundKind ks → AllByRecursion IsSoundPair qs
 sound_pairs _ _ no_pair sound = tt
-sound_pairs _ _ (next_pair ks js q qs one rest) sound =
-    (sound_pair one (all_front _ ks js sound), sound_pairs js qs rest (all_behind _ ks js sound))
+sound_pairs _ _ (next_pair ks js q qs one rest) sound = (sound_pair one (all_front _ ks js sound), sound_pairs js qs rest (all_behind _ ks js sound))
 
 -- Markers.
 pub marker_is_result : (k : Kind) {marker : List ℕ} → marker_of k ≡ Some marker → is_result marker ≡ true
@@ -137,7 +134,8 @@ pub record SoundGame (p : Profile) (g : Game) : Type 0 where
   pub closes : CommentsClose false (text ++ last ∷ later)
   pub result : IsResult p.missing_result (value_of g.pairs (codes "Result")) g.marker
 
-pub sound_game : {p : Profile} {ks : List Kind} (ls : List Kind) {g : Game} → SpellsGame p ks g → AllByRecursion IsSoundKind ks → CommentsClose false (ks ++ ls)
+pub sound_game : {p : Profile} {ks : List Kind} (ls : List Kind) {g : Game}
+    → SpellsGame p ks g → AllByRecursion IsSoundKind ks → CommentsClose false (ks ++ ls)
     → SoundGame p g × CommentsClose false ls
 sound_game ls h sound closes =
     let sound_behind = all_behind IsSoundKind h.before (h.tags ++ (h.text ++ h.last ∷ [])) (rw h.tokens at sound) in

@@ -1,7 +1,8 @@
 -- The value of a name in the pairs that are written, and a fact on each of them.
 use Rattle.pgn_game.proofs.Words.{◌≡◌, ℕ, ◌+◌, length, Bool, true, false, cond, List, [], ◌∷◌, drop, Option, None, Some, refl, ap, sym, ◌∙◌, add-one, bytes_eq, slice_get, unwrap_or, map, filter, not, is_some, ◌||◌, ◌&&◌, codes, drop-cons, All-append, all_kept_by, AllByRecursion, and_right, Mode, Full, Reduced, Pair, value_of, has_pair, insert_pair, roster, in_roster, roster_pairs, other_pairs, with_set_up, exported, arith, rules}
 use Rattle.pgn_game.proofs.putting.WritesInTurn.{within_at}
-use Rattle.pgn_game.proofs.pairs.ValuesByName.{bytes_eq-true, bytes_eq-sym, pick, value_of-cons, value_of-append, value_of-kept, value_of-put, has-cons, no_value, either_of, either_none, found, all-insert}
+use Rattle.pgn_game.proofs.pairs.ValuesByName.{bytes_eq-true, bytes_eq-sym, pick, value_of-cons, value_of-append, value_of-kept, value_of-put}
+use Rattle.pgn_game.proofs.pairs.ValuesByName.{has-cons, no_value, either_of, either_none, found, all-insert}
 
 abbrev pub with_default : List Pair → Pair → Pair
 with_default ps d = record { name = d.name; value = unwrap_or (value_of ps d.name) d.value }
@@ -27,10 +28,16 @@ pick_default : (ps : List Pair) {d name : List ℕ} (v : List ℕ) (b : Bool) (r
 pick_default ps v true rest same = cc (same refl)
 pick_default ps v false rest same = refl
 
-value_of-defaults : (ps ds : List Pair) (name : List ℕ) → value_of (map (with_default ps) ds) name ≡ defaulted (value_of ps name) (value_of ds name)
+value_of-defaults : (ps ds : List Pair) (name : List ℕ)
+    → value_of (map (with_default ps) ds) name ≡ defaulted (value_of ps name) (value_of ds name)
 value_of-defaults ps [] name = refl
 value_of-defaults ps (d ∷ ds) name =
-    cc (value_of-cons (with_default ps d) (map (with_default ps) ds) name, value_of-defaults ps ds name, pick_default ps d.value (bytes_eq d.name name) (value_of ds name) (bytes_eq-true d.name name), value_of-cons d ds name)
+    cc (
+      value_of-cons (with_default ps d) (map (with_default ps) ds) name,
+      value_of-defaults ps ds name,
+      pick_default ps d.value (bytes_eq d.name name) (value_of ds name) (bytes_eq-true d.name name),
+      value_of-cons d ds name,
+    )
 
 reduced_value : (m : List ℕ) (ps : List Pair) (n : List ℕ) {o : Option (List ℕ)} → value_of (roster m) n ≡ o
     → value_of (roster_pairs m ps) n ≡ defaulted (value_of ps n) o
@@ -45,8 +52,7 @@ any_named-value : (name : List ℕ) (b : Bool) (ps : List Pair) → any_named na
 any_named-value name true [] = refl
 any_named-value name false [] = refl
 any_named-value name true (p ∷ ps) = any_named-value name true ps
-any_named-value name false (p ∷ ps) =
-    cc (any_named-value name (bytes_eq name p.name) ps, bytes_eq-sym name p.name, has-cons p ps name)
+any_named-value name false (p ∷ ps) = cc (any_named-value name (bytes_eq name p.name) ps, bytes_eq-sym name p.name, has-cons p ps name)
 
 -- The roster, with a Result of m.
 pub in_roster-value : (m name : List ℕ) → in_roster name ≡ has_pair (roster m) name
@@ -76,26 +82,29 @@ hidden false v o e = cc
 
 with_one : (ps : List Pair) (n : List ℕ) → value_of (set_up_if true ps) n ≡ pick (bytes_eq (codes "SetUp") n) (codes "1") (value_of ps n)
 with_one ps n =
-    cc (value_of-put set_up (without_set_up ps) n (set_up_gone ps), value_of-kept (λ m. not (bytes_eq m (codes "SetUp"))) ps n, hidden (bytes_eq (codes "SetUp") n) (codes "1") (value_of ps n) (bytes_eq-sym n (codes "SetUp")))
+    cc (
+      value_of-put set_up (without_set_up ps) n (set_up_gone ps),
+      value_of-kept (λ m. not (bytes_eq m (codes "SetUp"))) ps n,
+      hidden (bytes_eq (codes "SetUp") n) (codes "1") (value_of ps n) (bytes_eq-sym n (codes "SetUp")),
+    )
 
 pub set_up_values : (ps : List Pair) (n : List ℕ)
     → value_of (with_set_up ps) n ≡ pick (has_pair ps (codes "FEN") && bytes_eq (codes "SetUp") n) (codes "1") (value_of ps n)
 set_up_values ps n = grind (arith, pick, with_one)
 
-set_up_picked : {b c : Bool} (ps : List Pair) (name : List ℕ) → has_pair ps (codes "FEN") ≡ b
-    → bytes_eq name (codes "SetUp") ≡ c
+set_up_picked : {b c : Bool} (ps : List Pair) (name : List ℕ) → has_pair ps (codes "FEN") ≡ b → bytes_eq name (codes "SetUp") ≡ c
     → value_of (with_set_up ps) name ≡ pick (b && c) (codes "1") (value_of ps name)
 set_up_picked ps name some is = cc (set_up_values ps name, some, is, bytes_eq-sym (codes "SetUp") name)
 
-pub set_up_one : (ps : List Pair) (name : List ℕ) → bytes_eq name (codes "SetUp") ≡ true → has_pair ps (codes "FEN") ≡ true → value_of (with_set_up ps) name ≡ Some (codes "1")
+pub set_up_one : (ps : List Pair) (name : List ℕ) → bytes_eq name (codes "SetUp") ≡ true
+    → has_pair ps (codes "FEN") ≡ true → value_of (with_set_up ps) name ≡ Some (codes "1")
 set_up_one ps name is some = set_up_picked ps name some is
 
 pub no_fen : (ps : List Pair) (name : List ℕ) → has_pair ps (codes "FEN") ≡ false → value_of (with_set_up ps) name ≡ value_of ps name
 no_fen ps name none = cc
 
 pub no_set_up : (ps : List Pair) (name : List ℕ) → bytes_eq name (codes "SetUp") ≡ false → value_of (with_set_up ps) name ≡ value_of ps name
-no_set_up ps name e =
-    cc (set_up_picked {b = (has_pair ps (codes "FEN"))} ps name refl e, and_right (has_pair ps (codes "FEN")) false refl)
+no_set_up ps name e = cc (set_up_picked {b = (has_pair ps (codes "FEN"))} ps name refl e, and_right (has_pair ps (codes "FEN")) false refl)
 
 -- What a name has in the section: in full mode the value of another name is that with SetUp.
 pub other_value : (ps : List Pair) (n : List ℕ)
@@ -118,8 +127,7 @@ pub exported_other : (m : List ℕ) (ps : List Pair) (n : List ℕ) → in_roste
 exported_other m ps n e = cc (full_value m ps n (not_of_roster m n e), other_value ps n)
 
 -- and it has none in reduced mode, where the roster has it not
-pub exported_none : (m : List ℕ) (ps : List Pair) (n : List ℕ) → value_of (roster m) n ≡ None
-    → value_of (exported Reduced m ps) n ≡ None
+pub exported_none : (m : List ℕ) (ps : List Pair) (n : List ℕ) → value_of (roster m) n ≡ None → value_of (exported Reduced m ps) n ≡ None
 exported_none m ps n e = reduced_value m ps n e
 
 pub no_set_up_of : (m : List ℕ) → value_of (roster m) (codes "SetUp") ≡ None
@@ -139,8 +147,7 @@ exported_by : (mode : Mode) (m : List ℕ) (ps : List Pair) (name : List ℕ) (u
     → value_of (exported mode m ps) name ≡ either_of (value_of (with_set_up ps) name) unknown
 exported_by mode m ps name (Some u) e some =
     cc (exported_known mode m ps name e, no_set_up ps name (other_than_set_up m name _ e refl), either_unknown (value_of (with_set_up ps) name) u)
-exported_by Full m ps name None e some =
-    cc (exported_other m ps name (in_roster-value m name ∙ ap is_some e), either_none _)
+exported_by Full m ps name None e some = cc (exported_other m ps name (in_roster-value m name ∙ ap is_some e), either_none _)
 exported_by Reduced m ps name None e some = absurd (some refl refl)
 
 -- what a name has in the section: its value with SetUp, or what stands for it in the roster
@@ -151,8 +158,7 @@ exported_either mode m ps name some = exported_by mode m ps name _ refl some
 
 -- A fact on each pair that is exported: on those of the roster, on SetUp 1, and on those given.
 pub on_roster : (P : Pair → Type 0) (m : List ℕ) → P (record { name = codes "Event"; value = codes "?" })
-    → P (record { name = codes "Site"; value = codes "?" })
-    → P (record { name = codes "Date"; value = codes "????.??.??" })
+    → P (record { name = codes "Site"; value = codes "?" }) → P (record { name = codes "Date"; value = codes "????.??.??" })
     → P (record { name = codes "Round"; value = codes "?" })
     → P (record { name = codes "White"; value = codes "?" }) → P (record { name = codes "Black"; value = codes "?" })
     → P (record { name = codes "Result"; value = m }) → AllByRecursion P (roster m)
@@ -172,6 +178,5 @@ all-set_up : (P : Pair → Type 0) (ps : List Pair) → P set_up → AllByRecurs
 all-set_up P ps one h = search (rules, all_kept_by, all-insert)
 
 pub all-exported : (P : Pair → Type 0) (mode : Mode) (m : List ℕ) (ps : List Pair) → P set_up
-    → AllByRecursion P (roster m) → AllByRecursion P ps
-    → AllByRecursion P (exported mode m ps)
+    → AllByRecursion P (roster m) → AllByRecursion P ps → AllByRecursion P (exported mode m ps)
 all-exported P mode m ps one each h = search (rules, All-append, all_kept_by, all-default, all-set_up)

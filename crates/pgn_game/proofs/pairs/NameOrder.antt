@@ -30,7 +30,9 @@ before-trans [] (y ∷ ys) (z ∷ zs) e f = refl
 before-trans (x ∷ xs) (y ∷ ys) (z ∷ zs) e f =
     by_cases (before-trans xs ys zs) (first_cases x y e) (first_cases y z f)
   where
-    by_cases : (comes_before xs ys ≡ true → comes_before ys zs ≡ true → comes_before xs zs ≡ true) → (x < y) ⊎ ((x ≡ y) × (comes_before xs ys ≡ true)) → (y < z) ⊎ ((y ≡ z) × (comes_before ys zs ≡ true)) → goes_first x z (comes_before xs zs) ≡ true
+    by_cases : (comes_before xs ys ≡ true → comes_before ys zs ≡ true → comes_before xs zs ≡ true)
+        → (x < y) ⊎ ((x ≡ y) × (comes_before xs ys ≡ true))
+        → (y < z) ⊎ ((y ≡ z) × (comes_before ys zs ≡ true)) → goes_first x z (comes_before xs zs) ≡ true
     by_cases rest (inl h) (inl k) = by_byte x z (comes_before xs zs) (omega arith)
     by_cases rest (inl h) (inr k) = let e = k.0 in by_byte x z (comes_before xs zs) (omega arith)
     by_cases rest (inr h) (inl k) = let e = h.0 in by_byte x z (comes_before xs zs) (omega arith)
@@ -78,8 +80,7 @@ order-insert q (r ∷ rs) new h =
     by_test : InOrder (insert_pair q rs) → bytes_eq r.name q.name ≡ false → (b : Bool) → comes_before q.name r.name ≡ b
         → InOrder (elim b [ true ↦ q ∷ r ∷ rs | false ↦ r ∷ insert_pair q rs ])
     by_test rest other true e = ((e, further_after q.name r.name rs e h.0), h)
-    by_test rest other false e =
-        (all-insert (λ p. comes_before r.name p.name ≡ true) q rs (comes_later q.name r.name e other) h.0, rest)
+    by_test rest other false e = (all-insert (λ p. comes_before r.name p.name ≡ true) q rs (comes_later q.name r.name e other) h.0, rest)
 
 pub order-filter : (f : Pair → Bool) (qs : List Pair) → InOrder qs → InOrder (filter f qs)
 order-filter f [] h = tt
@@ -92,8 +93,7 @@ other_name name next h1 b h2 = search (rules, bytes_eq-true, never_itself)
 
 absent : (name : List ℕ) (qs : List Pair) → AllAfter name qs → value_of qs name ≡ None
 absent name [] h = refl
-absent name (q ∷ qs) h =
-    cc (value_of-cons q qs name, other_name name q.name h.0 (bytes_eq q.name name) refl, absent name qs h.1)
+absent name (q ∷ qs) h = cc (value_of-cons q qs name, other_name name q.name h.0 (bytes_eq q.name name) refl, absent name qs h.1)
 
 pub distinct_in_order : (ps : List Pair) → InOrder ps → AreDistinct ps
 distinct_in_order [] h = tt
@@ -124,8 +124,9 @@ same_pairs (p ∷ ps) (q ∷ qs) h k e = by_order (same_pairs ps qs h.1 k.1) (co
 
     by_order : (((n : List ℕ) → value_of ps n ≡ value_of qs n) → ps ≡ qs) → Comparable p.name q.name → (p ∷ ps) ≡ (q ∷ qs)
     by_order rest (inl before) =
-        absurd (none-some p.value (sym (e p.name ∙ absent p.name (q ∷ qs) (before, further_after p.name q.name qs before k.0)) ∙ value_first p ps))
-    by_order rest (inr (inl same)) =
-        cc (here same, rest (λ n. same_behind p q ps qs n h.0 k.0 same (e n)))
+        absurd (none-some p.value
+        (sym (e p.name ∙ absent p.name (q ∷ qs) (before, further_after p.name q.name qs before k.0)) ∙ value_first p ps))
+    by_order rest (inr (inl same)) = cc (here same, rest (λ n. same_behind p q ps qs n h.0 k.0 same (e n)))
     by_order rest (inr (inr before)) =
-        absurd (none-some q.value (sym (sym (e q.name) ∙ absent q.name (p ∷ ps) (before, further_after q.name p.name ps before h.0)) ∙ value_first q qs))
+        absurd (none-some q.value
+        (sym (sym (e q.name) ∙ absent q.name (p ∷ ps) (before, further_after q.name p.name ps before h.0)) ∙ value_first q qs))

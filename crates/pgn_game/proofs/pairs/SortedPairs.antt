@@ -4,14 +4,17 @@ use Rattle.std.specs.Ordering.{nat_cmp, is_lt, is_some_and}
 use Rattle.std.specs.Cmp.Lexicographic.{slice_partial_cmp}
 use Rattle.std.proofs.lemmas.Cmp.{same_from_slice_cmp_tested}
 
-pub is_comes_before : (xs ys : List ℕ) (r : Bool) → r ≡ is_some_and is_lt (slice_partial_cmp (λ x y. Some (nat_cmp x y)) xs ys) → r ≡ comes_before xs ys
-is_comes_before = same_from_slice_cmp_tested nat_cmp is_lt comes_before refl (λ _ _. refl) (λ _ _. refl) (λ x y xs ys o h. grind (arith, nat_tests))
+pub is_comes_before : (xs ys : List ℕ) (r : Bool)
+    → r ≡ is_some_and is_lt (slice_partial_cmp (λ x y. Some (nat_cmp x y)) xs ys) → r ≡ comes_before xs ys
+is_comes_before =
+    same_from_slice_cmp_tested nat_cmp is_lt comes_before refl (λ _ _. refl) (λ _ _. refl) (λ x y xs ys o h. grind (arith, nat_tests))
 
 pub insert-place : (p : Pair) (qs : List Pair) → insert qs (index_of p.name qs) p ≡ insert_pair p qs
 insert-place p [] = refl
 insert-place p (q ∷ qs) =
     elim (comes_before p.name q.name)
-    as (λ b. insert (q ∷ qs) (elim b [ true ↦ 0 | false ↦ 1 + index_of p.name qs ]) p ≡ elim b [ true ↦ p ∷ q ∷ qs | false ↦ q ∷ insert_pair p qs ]) [
+    as (λ b. insert (q ∷ qs) (elim b [ true ↦ 0 | false ↦ 1 + index_of p.name qs ]) p
+    ≡ elim b [ true ↦ p ∷ q ∷ qs | false ↦ q ∷ insert_pair p qs ]) [
       | true ↦ refl
       | false ↦
           let next : 1 + index_of p.name qs ≡ suc (index_of p.name qs) = omega arith in
@@ -38,19 +41,23 @@ some_last : (p : Pair) (ps : List Pair) → last_name (p ∷ ps) ≡ None → �
 some_last p [] e = cc
 some_last p (q ∷ ps) e = some_last q ps e
 
-pub whole-held : (ps : List Pair) (b : Bool) {t : TagPairs} → pairs_seen ps b ≡ t → t.pending_name ≡ None → (IsTrue b → 0 < length ps) → ps ≡ t.held
+pub whole-held : (ps : List Pair) (b : Bool) {t : TagPairs} → pairs_seen ps b ≡ t
+    → t.pending_name ≡ None → (IsTrue b → 0 < length ps) → ps ≡ t.held
 whole-held ps false e none some = ap (λ s. s.held) e
 whole-held [] true e none some = absurd (omega (arith, some refl))
 whole-held (p ∷ ps) true e none some = absurd (some_last p ps (ap (λ s. s.pending_name) e ∙ none))
 
 -- where no pair has begun, the first pairs stored are all that are held
-pub first-held : {most : ℕ} {ps : List Pair} {n : ℕ} {b : Bool} {t : TagPairs} → FitsPairStore most ps n b → pairs_seen (take n ps) b ≡ t → t.pending_name ≡ None → take n ps ≡ t.held
+pub first-held : {most : ℕ} {ps : List Pair} {n : ℕ} {b : Bool} {t : TagPairs} → FitsPairStore most ps n b
+    → pairs_seen (take n ps) b ≡ t → t.pending_name ≡ None → take n ps ≡ t.held
 first-held fits e none = grind (arith, length-take-le, whole-held)
 
-pub held-count : {most : ℕ} {ps : List Pair} {n : ℕ} {b : Bool} {t : TagPairs} → FitsPairStore most ps n b → pairs_seen (take n ps) b ≡ t → t.pending_name ≡ None → length t.held ≡ n
+pub held-count : {most : ℕ} {ps : List Pair} {n : ℕ} {b : Bool} {t : TagPairs} → FitsPairStore most ps n b
+    → pairs_seen (take n ps) b ≡ t → t.pending_name ≡ None → length t.held ≡ n
 held-count {ps} {n} fits e none = ap (length {A = Pair}) (sym (first-held fits e none)) ∙ length-take-le n ps fits.within
 
-pub named-last : (ps : List Pair) (b : Bool) {t : TagPairs} (P : List ℕ → Type 0) → pairs_seen ps b ≡ t → IsSomeAnd t.pending_name P → IsSomeAnd (last_name ps) P
+pub named-last : (ps : List Pair) (b : Bool) {t : TagPairs} (P : List ℕ → Type 0)
+    → pairs_seen ps b ≡ t → IsSomeAnd t.pending_name P → IsSomeAnd (last_name ps) P
 named-last ps b P e h = search rules
 
 -- the last pair gets its value and goes to its place
@@ -72,7 +79,8 @@ pub completed : (ps : List Pair) (b : Bool) {t : TagPairs} (value : List ℕ) (m
 completed ps b value more e h = grind (arith, if_some-seen)
 
 -- the name that has begun is that of the last of the first pairs
-pub begun-last : {most : ℕ} {ps : List Pair} {n : ℕ} (b : Bool) {t : TagPairs} {p : Pair} → FitsPairStore most ps n b → pairs_seen (take n ps) b ≡ t
+pub begun-last : {most : ℕ} {ps : List Pair} {n : ℕ} (b : Bool) {t : TagPairs} {p : Pair}
+    → FitsPairStore most ps n b → pairs_seen (take n ps) b ≡ t
     → p ≡ get_or ps (n - 1) p → IsSome t.pending_name → t.pending_name ≡ Some p.name
 begun-last {ps} {n} true {p} fits e at begun =
     let more : n ≡ suc (n - 1) = omega (arith, fits.some refl) in
@@ -90,10 +98,12 @@ pub record HasPlace (most : ℕ) (ps : List Pair) (n : ℕ) (held : List Pair) :
   pub place : n < length ps
   pub room : length ps ≤ most
 
-pub place-of-old : {most : ℕ} {ps : List Pair} {n : ℕ} {held : List Pair} → length ps ≤ most → take n ps ≡ held → n < length ps → HasPlace most ps n held
+pub place-of-old : {most : ℕ} {ps : List Pair} {n : ℕ} {held : List Pair}
+    → length ps ≤ most → take n ps ≡ held → n < length ps → HasPlace most ps n held
 place-of-old room same place = record { same = same; place = place; room = room }
 
-pub place-of-new : {most : ℕ} (ps more : List Pair) {n : ℕ} {held : List Pair} (p : Pair) → more ≡ ps ++ p ∷ [] → take n ps ≡ held → n ≡ length ps → n < most
+pub place-of-new : {most : ℕ} (ps more : List Pair) {n : ℕ} {held : List Pair} (p : Pair)
+    → more ≡ ps ++ p ∷ [] → take n ps ≡ held → n ≡ length ps → n < most
     → HasPlace most more n held
 place-of-new ps more p is same all room = search (rules, take-append-le, length-append)
 

@@ -1,10 +1,12 @@
 -- The levels around the current one, as they are kept and as contracts see them: kept with the main
 -- line first, seen with the nearest first.
-use Rattle.pgn_game.proofs.Words.{◌≡◌, ◌+◌, List, [], ◌∷◌, ◌++◌, length, refl, arith, Option, None, Some, IfSome, Parts, StoredLevel, StoredLevels, inside, code_levels, AreThere, ClosesLevel, level_at, level_of}
+use Rattle.pgn_game.proofs.Words.{◌≡◌, ◌+◌, List, [], ◌∷◌, ◌++◌, length, refl, arith, Option, None, Some, IfSome, Parts}
+use Rattle.pgn_game.proofs.Words.{StoredLevel, StoredLevels, inside, code_levels, AreThere, ClosesLevel, level_at, level_of}
 use Rattle.pgn_game.specs.declared.levels.Level.{Level as CodeLevel}
 
 -- one more is the nearest
-pub inside-snoc : (ls : List StoredLevel) (xs : List (Option CodeLevel)) (l : CodeLevel) → inside ls (xs ++ Some l ∷ []) ≡ level_of l ∷ inside ls xs
+pub inside-snoc : (ls : List StoredLevel) (xs : List (Option CodeLevel)) (l : CodeLevel)
+    → inside ls (xs ++ Some l ∷ []) ≡ level_of l ∷ inside ls xs
 inside-snoc ls [] l = refl
 inside-snoc ls (Some x ∷ xs) l = inside-snoc (level_of x ∷ ls) xs l
 inside-snoc ls (None ∷ xs) l = inside-snoc ls xs l
@@ -39,6 +41,7 @@ pub closes : (xs : List (Option CodeLevel)) (l : CodeLevel) → ClosesLevel (ins
 closes xs l = rw (inside-snoc [] xs l) refl
 
 -- what a variation begins at: it is there, for the current level has a move
-pub opens : (o : Option Parts) (start : Parts) (ls new : StoredLevels) → o ≡ Some start → new ≡ record { present = level_at start; around = ls.present ∷ ls.around }
+pub opens : (o : Option Parts) (start : Parts) (ls new : StoredLevels) → o ≡ Some start
+    → new ≡ record { present = level_at start; around = ls.present ∷ ls.around }
     → IfSome o (λ p. new ≡ record { present = level_at p; around = ls.present ∷ ls.around })
 opens o start ls new e is = rw e is

@@ -8,20 +8,22 @@ use Rattle.pgn_game.specs.declared.annotation.Annotation.{Annotation}
 use Rattle.pgn_game.specs.Game.{move}
 use Rattle.pgn_game.proofs.reading.MovetextTokens.{levels_more}
 use Rattle.pgn_game.proofs.putting.WritesInTurn.{front_of_more, Writes-append}
-use Rattle.pgn_game.proofs.putting.ItemsAppended.{written_from_start, written_behind, written_more, tokens_behind, tokens_more, full_lines_put, last_line_put}
+use Rattle.pgn_game.proofs.putting.ItemsAppended.{written_from_start, written_behind, written_more, tokens_behind, tokens_more, full_lines_put}
+use Rattle.pgn_game.proofs.putting.ItemsAppended.{last_line_put}
 
 -- Tokens put in turn: what goes out, and the line that is held.
 full_lines_laid : (ts us : List (List ℕ)) → All IsToken ts → All IsToken us
-    → text_of_lines (full_lines (lines_of (ts ++ us))) ≡ text_of_lines (full_lines (lines_of ts)) ++ (laid_from (last_line (lines_of ts)) (map Put us)).written
-full_lines_laid ts [] each more =
-    cc (append-nil ts, append-nil (text_of_lines _))
+    → text_of_lines (full_lines (lines_of (ts ++ us)))
+    ≡ text_of_lines (full_lines (lines_of ts)) ++ (laid_from (last_line (lines_of ts)) (map Put us)).written
+full_lines_laid ts [] each more = cc (append-nil ts, append-nil (text_of_lines _))
 full_lines_laid ts (u ∷ us) each more =
     let full = text_of_lines (full_lines (lines_of ts)) in
     let last = last_line (lines_of ts) in
     let first = All-append IsToken ts (u ∷ []) each (All-cons IsToken u [] (All-head IsToken u us more) (All-nil IsToken)) in
     cc (append_assoc ts (u ∷ []) us, full_lines_laid (ts ++ u ∷ []) us first (All-tail IsToken u us more), full_lines_put ts u each, last_line_put ts u each, append_assoc full (text_put last u) (laid_from (line_put last u) (map Put us)).written)
 
-last_line_laid : (ts us : List (List ℕ)) → All IsToken ts → All IsToken us → last_line (lines_of (ts ++ us)) ≡ (laid_from (last_line (lines_of ts)) (map Put us)).line
+last_line_laid : (ts us : List (List ℕ)) → All IsToken ts → All IsToken us
+    → last_line (lines_of (ts ++ us)) ≡ (laid_from (last_line (lines_of ts)) (map Put us)).line
 last_line_laid ts [] each more = cc (append-nil ts)
 last_line_laid ts (u ∷ us) each more =
     let first = All-append IsToken ts (u ∷ []) each (All-cons IsToken u [] (All-head IsToken u us more) (All-nil IsToken)) in
@@ -37,7 +39,8 @@ abbrev main_of : ModelLevels → List Move
 main_of ls = (outermost ls.present ls.around).trail
 
 plies_by : (i : Item) (present : ModelLevel) (around : List ModelLevel)
-    → length (main_of (levels_after (record { present = present; around = around }) i)) ≡ length (main_of (record { present = present; around = around })) + plies_in i (length around)
+    → length (main_of (levels_after (record { present = present; around = around }) i))
+    ≡ length (main_of (record { present = present; around = around })) + plies_in i (length around)
 plies_by (move m) present [] = omega arith
 plies_by (move m) present (l ∷ around) =
     let n = length (main_of (record { present = present; around = l ∷ around })) in
@@ -49,8 +52,7 @@ plies_by _ present around = omega arith
 
 plies-snoc : (items : List Item) (i : Item)
     → length (main_moves (items ++ i ∷ [])) ≡ length (main_moves items) + plies_in i (depth (levels_of items))
-plies-snoc items i =
-    cc (levels_more items i, plies_by i (levels_of items).present (levels_of items).around)
+plies-snoc items i = cc (levels_more items i, plies_by i (levels_of items).present (levels_of items).around)
 
 -- Whether an item is written decides its tokens, and whether a move was written last.
 module _ (mode : Mode) (start : Parts) (items : List Item) (i : Item) (text : Movetext) (line : List ℕ) (written : Bool)
@@ -59,8 +61,7 @@ module _ (mode : Mode) (start : Parts) (items : List Item) (i : Item) (text : Mo
   placed = record { position = here start (levels_of items); depth = depth (levels_of items); item = i }
 
   same_depth : depth (levels_of items) ≡ length text.levels.around
-  same_depth =
-      cc (length-map (levels_of items).around (stored_level start))
+  same_depth = cc (length-map (levels_of items).around (stored_level start))
 
   behind_by : (m : Mode)
       → written_behind m start items (i ∷ []) ≡ elim (writes m (depth (levels_of items)) i) [ true ↦ placed ∷ [] | false ↦ [] ]
@@ -79,13 +80,18 @@ module _ (mode : Mode) (start : Parts) (items : List Item) (i : Item) (text : Mo
 opened : (start : Parts) (trail : List Move) (holds : Bool) (around : List ModelLevel) (new : StoredLevels)
     → IsTrue (is_some (before_last start (record { trail = trail; has_own_move = holds })))
     → IfSome (before_last start (record { trail = trail; has_own_move = holds }))
-    (λ s. new ≡ record { present = level_at s; around = stored_level start (record { trail = trail; has_own_move = holds }) ∷ map (stored_level start) around })
-    → new ≡ stored_levels start (levels_after (record { present = record { trail = trail; has_own_move = holds }; around = around }) open_variation)
+    (λ s. new ≡ record {
+      present = level_at s;
+      around = stored_level start (record { trail = trail; has_own_move = holds }) ∷ map (stored_level start) around;
+    })
+    → new ≡ stored_levels start
+    (levels_after (record { present = record { trail = trail; has_own_move = holds }; around = around }) open_variation)
 opened start trail true around new some h = h
 opened start trail false around new some h = absurd (cc)
 
 closed : (start : Parts) (present : ModelLevel) (around : List ModelLevel) (new : StoredLevels) → 0 < length (map (stored_level start) around)
-    → ClosesLevel (map (stored_level start) around) new → new ≡ stored_levels start (levels_after (record { present = present; around = around }) close_variation)
+    → ClosesLevel (map (stored_level start) around) new
+    → new ≡ stored_levels start (levels_after (record { present = present; around = around }) close_variation)
 closed start present [] new some h = absurd (omega arith)
 closed start present (l ∷ around) new some h = h
 
@@ -99,11 +105,13 @@ then_at ls next = record { present = record { present = next; before = Some ls.p
 
 -- what an item of the model makes of movetext
 pub record Advances (i : Item) (text new : Movetext) : Type 0 where
-  pub levels : (start : Parts) (ls : ModelLevels) → text.levels ≡ stored_levels start ls → new.levels ≡ stored_levels start (levels_after ls i)
+  pub levels : (start : Parts) (ls : ModelLevels) → text.levels ≡ stored_levels start ls
+      → new.levels ≡ stored_levels start (levels_after ls i)
   pub plies : new.plies ≡ text.plies + plies_in i (length text.levels.around)
   pub is_after_move : new.is_after_move ≡ text.is_after_move
 
-pub plays_on : (x : Played) (text new : Movetext) → legal text.levels.present.present x.mv ≡ Some x.next → Plays x text new → Advances (move x.mv) text new
+pub plays_on : (x : Played) (text new : Movetext) → legal text.levels.present.present x.mv ≡ Some x.next
+    → Plays x text new → Advances (move x.mv) text new
 plays_on x text new is on = record {
   levels = λ start ls e.
       on.levels ∙ ap (then_at text.levels) (played_is text.levels.present.present x.mv _ is)
@@ -137,16 +145,14 @@ module _ (mode : Mode) (i : Item) (text : Movetext) (line new_line : List ℕ) (
 
   tokens_then : (start : Parts) (items : List Item) → HoldsItems mode start items text line
       → tokens_out mode start (items ++ i ∷ []) ≡ tokens_out mode start items ++ us
-  tokens_then start items holds =
-      cc (tokens_more mode start items (i ∷ []), tokens_are mode start items i text line written holds refl)
+  tokens_then start items holds = cc (tokens_more mode start items (i ∷ []), tokens_are mode start items i text line written holds refl)
 
   item_text_is : (start : Parts) (items : List Item) → HoldsItems mode start items text line → All IsToken us
       → (laid_from line (map Put us)).written ≡ item_text mode start items i
   item_text_is start items holds each = grind (arith, drop-append_seam, full_lines_laid, tokens_then)
 
   held_then : (start : Parts) (items : List Item) (new : Movetext) → HoldsItems mode start items text line → All IsToken us
-      → new_line ≡ (laid_from line (map Put us)).line → Advances i between new
-      → HoldsItems mode start (items ++ i ∷ []) new new_line
+      → new_line ≡ (laid_from line (map Put us)).line → Advances i between new → HoldsItems mode start (items ++ i ∷ []) new new_line
   held_then start items new holds each held on =
       let ts = tokens_out mode start items in
       let behind = written_behind mode start items (i ∷ []) in
@@ -169,16 +175,19 @@ module _ (mode : Mode) (i : Item) (text : Movetext) (line new_line : List ℕ) (
     counted = puts.counted;
   }
 
-  pub adds_front : {A E : Type 0} (new : Movetext) (e : E) (result : Result Unit WriteFault) → PutsTokens {A = A} us line new_line (Err e) d → new ≡ text
+  pub adds_front : {A E : Type 0} (new : Movetext) (e : E) (result : Result Unit WriteFault)
+      → PutsTokens {A = A} us line new_line (Err e) d → new ≡ text
       → IsErr result → Adds mode i text line new new_line result d
   adds_front new e result puts same err = search (rules, item_text_is)
 
 -- Such an item was written, or left out.
 pub left_out : (mode : Mode) (i : Item) (text : Movetext) (line : List ℕ) (d : Device) → writes mode (length text.levels.around) i ≡ false
-    → Appends d.before d.after [] → d.failures_after ≡ d.failures → WritesItem {A = Unit} {E = WriteFault} mode i text line text line (Ok tt) d
+    → Appends d.before d.after [] → d.failures_after ≡ d.failures
+    → WritesItem {A = Unit} {E = WriteFault} mode i text line text line (Ok tt) d
 left_out mode i text line d none nothing counted = search (rules, All-nil)
 
-pub written_out : (mode : Mode) (i : Item) (text : Movetext) (line new_line : List ℕ) (d : Device) → writes mode (length text.levels.around) i ≡ true
+pub written_out : (mode : Mode) (i : Item) (text : Movetext) (line new_line : List ℕ) (d : Device)
+    → writes mode (length text.levels.around) i ≡ true
     → PutsTokens {A = Unit} {E = WriteFault} (tokens_due text i) line new_line (Ok tt) d
     → WritesItem {A = Unit} {E = WriteFault} mode i text line (record text { is_after_move = is_move i }) new_line (Ok tt) d
 written_out mode i text line new_line d is puts = record {
@@ -186,27 +195,34 @@ written_out mode i text line new_line d is puts = record {
   ends = cc;
 }
 
-pub not_written : {A E : Type 0} (mode : Mode) (i : Item) (text : Movetext) (line new_line : List ℕ) (e : E) (result : Result Unit WriteFault) (d : Device)
+pub not_written : {A E : Type 0} (mode : Mode) (i : Item) (text : Movetext)
+    (line new_line : List ℕ) (e : E) (result : Result Unit WriteFault) (d : Device)
     → writes mode (length text.levels.around) i ≡ true → PutsTokens {A = A} (tokens_due text i) line new_line (Err e) d → IsErr result
     → WritesItem mode i text line text new_line result d
 not_written mode i text line new_line e result d is puts err = search rules
 
 -- Tokens put after others.
 laid-written : (line : List ℕ) (xs ys : List (List ℕ))
-    → (laid_from line (map Put (xs ++ ys))).written ≡ (laid_from line (map Put xs)).written ++ (laid_from (laid_from line (map Put xs)).line (map Put ys)).written
+    → (laid_from line (map Put (xs ++ ys))).written
+    ≡ (laid_from line (map Put xs)).written ++ (laid_from (laid_from line (map Put xs)).line (map Put ys)).written
 laid-written line [] ys = refl
 laid-written line (x ∷ xs) ys =
     let next = line_put line x in
-    cc (laid-written next xs ys, append_assoc (text_put line x) (laid_from next (map Put xs)).written (laid_from (laid_from next (map Put xs)).line (map Put ys)).written)
+    cc (
+      laid-written next xs ys,
+      append_assoc (text_put line x) (laid_from next (map Put xs)).written (laid_from (laid_from next (map Put xs)).line (map Put ys)).written,
+    )
 
-laid-line : (line : List ℕ) (xs ys : List (List ℕ)) → (laid_from line (map Put (xs ++ ys))).line ≡ (laid_from (laid_from line (map Put xs)).line (map Put ys)).line
+laid-line : (line : List ℕ) (xs ys : List (List ℕ))
+    → (laid_from line (map Put (xs ++ ys))).line ≡ (laid_from (laid_from line (map Put xs)).line (map Put ys)).line
 laid-line line [] ys = refl
 laid-line line (x ∷ xs) ys = laid-line (line_put line x) xs ys
 
 abbrev pub from_to : Option (List ℕ) → Option (List ℕ) → ℕ → ℕ → Device
 from_to a b n m = record { before = a; after = b; failures = n; failures_after = m }
 
-pub puts_after : {A B E : Type 0} (xs ys : List (List ℕ)) (line between new_line : List ℕ) (x : A) (result : Result B E) (a b c : Option (List ℕ)) (n m k : ℕ)
+pub puts_after : {A B E : Type 0} (xs ys : List (List ℕ)) (line between new_line : List ℕ)
+    (x : A) (result : Result B E) (a b c : Option (List ℕ)) (n m k : ℕ)
     → PutsTokens {A = A} {E = E} xs line between (Ok x) (from_to a b n m) → PutsTokens ys between new_line result (from_to b c m k)
     → PutsTokens (xs ++ ys) line new_line result (from_to a c n k)
 puts_after xs ys line between new_line x result a b c n m k first more =
@@ -219,7 +235,8 @@ puts_after xs ys line between new_line x result a b c n m k first more =
     }
 
 -- so where a write failed before the last tokens
-pub puts_fail : {A B E F : Type 0} (xs ys : List (List ℕ)) (line new_line then_line : List ℕ) (e : E) (result : Result B F) (d : Device) → All IsToken ys
+pub puts_fail : {A B E F : Type 0} (xs ys : List (List ℕ)) (line new_line then_line : List ℕ)
+    (e : E) (result : Result B F) (d : Device) → All IsToken ys
     → PutsTokens {A = A} {E = E} xs line new_line (Err e) d → IsErr result → PutsTokens (xs ++ ys) line then_line result d
 puts_fail xs ys line new_line then_line e (Ok x) d each first err = absurd (cc)
 puts_fail xs ys line new_line then_line e (Err f) d each first err = record {
@@ -234,7 +251,8 @@ pub is_text : (p q : Parts) (m : Move) (s : List ℕ) → s ≡ san q m → q �
 unfolding text_of_move
 is_text p q m s text same = cc
 
-pub is_token : (p : Parts) (m : Move) (s : List ℕ) → s ≡ text_of_move p m → 0 < length s → length s ≤ 7 → All IsToken (text_of_move p m ∷ [])
+pub is_token : (p : Parts) (m : Move) (s : List ℕ) → s ≡ text_of_move p m
+    → 0 < length s → length s ≤ 7 → All IsToken (text_of_move p m ∷ [])
 is_token p m s text some short = search (rules, All-nil, All-cons)
 
 -- the pairs of a move are those of its position, however the code holds that

@@ -17,13 +17,16 @@ no_text Reduced start = refl
 
 -- What the section and these lines add to what is written: the section, where it is due, and the
 -- lines without those of the items so far.
-pub gain_at : (mode : Mode) (result : List ℕ) (stage : Stage) (ps : List Pair) (name : List ℕ) (items : List Item) (lines : List ℕ) → IsTrue (may_have_movetext stage) → (stage ≡ AfterTags → items ≡ [])
-    → drop (length (torn_at stage mode result (record { stage = stage; pairs = ps; name = name; items = items }))) (tag_section mode result ps ++ lines)
+pub gain_at : (mode : Mode) (result : List ℕ) (stage : Stage) (ps : List Pair) (name : List ℕ) (items : List Item) (lines : List ℕ)
+    → IsTrue (may_have_movetext stage) → (stage ≡ AfterTags → items ≡ [])
+    → drop (length (torn_at stage mode result (record { stage = stage; pairs = ps; name = name; items = items })))
+    (tag_section mode result ps ++ lines)
     ≡ section_due stage mode result ps ++ drop (length (full_text mode (start_of ps) items)) lines
 gain_at mode result stage ps name items lines at fresh = grind (arith, length-append, drop-append-add, no_text)
 
 -- the stage of a part is the reader's
-pub open_stage : (old : ReaderState) (part : Part) → IsOpen old part → IsTrue (may_have_movetext old.stage) → IsTrue (may_have_movetext part.stage)
+pub open_stage : (old : ReaderState) (part : Part) → IsOpen old part
+    → IsTrue (may_have_movetext old.stage) → IsTrue (may_have_movetext part.stage)
 open_stage old part is at = rw is.stage at at
 
 -- what is due of the section is the part's
@@ -35,10 +38,15 @@ section_is old part is =
 
 -- What items add: the tag section, where movetext begins, and what they add to the full lines.
 pub gain_is : (old : ReaderState) (part : Part) (more : List Item) → IsTrue (may_have_movetext old.stage) → IsOpen old part
-    → section_due_of old ++ lines_gain old.profile.mode part.pairs part.items more ≡ gain_to (as_written old.profile) part (going (with_items part more))
+    → section_due_of old ++ lines_gain old.profile.mode part.pairs part.items more
+    ≡ gain_to (as_written old.profile) part (going (with_items part more))
 gain_is old part more at is =
     let p = old.profile in
-    cc (section_is old part is, gain_at p.mode (known_result p.missing_result) part.stage part.pairs part.name part.items (full_text p.mode (start_of part.pairs) (part.items ++ more)) (open_stage old part is at) (λ e. is.fresh (is.stage ∙ e)))
+    cc (
+      section_is old part is,
+      gain_at p.mode (known_result p.missing_result) part.stage part.pairs part.name part.items
+          (full_text p.mode (start_of part.pairs) (part.items ++ more)) (open_stage old part is at) (λ e. is.fresh (is.stage ∙ e)),
+    )
 
 -- The section was written: so it is said of the reader as its fields make it.
 pub begins_as : (old begun held : ReaderState) (d : Device) → held ≡ begun → BeginsText {A = Unit {0}} {E = WriteFault} old begun (Ok tt) d
@@ -51,17 +59,21 @@ plies_before old at = grind arith
 
 -- a put that failed, and one after which the game goes on
 module _ (old new : ReaderState) (IsOf : Part → Type 0) (to : Part → Next) (d : Device) (keeps : Keeps old new) where
-  pub unwritten : d.failures_after ≡ one_more d.failures → ((part : Part) → IsOf part → AppendsFront d.before d.after (gain_to (as_written old.profile) part (to part)))
+  pub unwritten : d.failures_after ≡ one_more d.failures
+      → ((part : Part) → IsOf part → AppendsFront d.before d.after (gain_to (as_written old.profile) part (to part)))
       → PutResult old IsOf to new (Err reasons.WriteFault) d
   unwritten counted front = search rules
 
-  pub more_comes : (new.stage ≡ Between → new ≡ old) → d.failures_after ≡ d.failures → ((part : Part) → IsOf part → Goes old part (to part) new More d)
+  pub more_comes : (new.stage ≡ Between → new ≡ old) → d.failures_after ≡ d.failures
+      → ((part : Part) → IsOf part → Goes old part (to part) new More d)
       → PutResult old IsOf to new (Ok More) d
   more_comes stays counted on = record { goes = on; keeps = keeps; stays = stays; counted = counted }
 
 -- a reader in movetext agrees with the part that it holds
-agrees_in_text : (r : ReaderState) (part : Part) → r.stage ≡ InMovetext → part.stage ≡ InMovetext → r.tags ≡ record { held = part.pairs; pending_name = None }
-    → HoldsItems r.profile.mode (start_of part.pairs) part.items r.text r.line → (IsTrue (has_move part.items) → 0 < r.most_probes) → Agrees r part
+agrees_in_text : (r : ReaderState) (part : Part) → r.stage ≡ InMovetext
+    → part.stage ≡ InMovetext → r.tags ≡ record { held = part.pairs; pending_name = None }
+    → HoldsItems r.profile.mode (start_of part.pairs) part.items r.text r.line
+    → (IsTrue (has_move part.items) → 0 < r.most_probes) → Agrees r part
 agrees_in_text r part stage same tags held probed = search rules
 
 not_between : (stage : Stage) {P : Type 0} → stage ≡ InMovetext → stage ≡ Between → P
@@ -78,8 +90,10 @@ pub record IsAfterItem (begun new : ReaderState) : Type 0 where
 
 -- the section was written, and then items or none
 goes_with : (old begun new : ReaderState) (part : Part) (more : List Item) (d : Device) → IsTrue (may_have_movetext old.stage) → IsOpen old part
-    → begun ≡ record old { stage = InMovetext } → IsAfterItem begun new → HoldsItems old.profile.mode (start_of part.pairs) (part.items ++ more) new.text new.line
-    → (IsTrue (has_move (part.items ++ more)) → 0 < new.most_probes) → Appends d.before d.after (gain_to (as_written old.profile) part (going (with_items part more)))
+    → begun ≡ record old { stage = InMovetext } → IsAfterItem begun new
+    → HoldsItems old.profile.mode (start_of part.pairs) (part.items ++ more) new.text new.line
+    → (IsTrue (has_move (part.items ++ more)) → 0 < new.most_probes)
+    → Appends d.before d.after (gain_to (as_written old.profile) part (going (with_items part more)))
     → Goes old part (going (with_items part more)) new More d
 goes_with old begun new part more d at is begins next held probed appended = search (rules, plies_before, agrees_in_text)
 
@@ -116,7 +130,11 @@ module _ (old begun new : ReaderState) (i : Item) (a b c : Option (List ℕ)) (n
   puts_item put adds =
       let most : old.most_probes ≤ new.most_probes = omega (arith, next.probes, begins.probes) in
       more_comes old new (IsOpen old) (to_items _) (from_to a c n k)
-      (record { profile = next.profile ∙ begins.profile; plies = omega (arith, next.earlier, begins.earlier, begins.plies, adds.plies); probes = most })
+      (record {
+        profile = next.profile ∙ begins.profile;
+        plies = omega (arith, next.earlier, begins.earlier, begins.plies, adds.plies);
+        probes = most;
+      })
       (not_between new.stage (next.stage ∙ ap (λ r. r.stage) begins.begun)) (adds.counted ∙ begins.counted)
       (λ part is.
       let added = adds.adds (start_of part.pairs) part.items (begun_held old begun part is begins.begun) in
@@ -129,7 +147,11 @@ module _ (old begun new : ReaderState) (i : Item) (a b c : Option (List ℕ)) (n
       → PutResult old (IsOpen old) (to_items (i ∷ [])) new (Err reasons.WriteFault) (from_to a c n k)
   fails_item f adds =
       unwritten old new (IsOpen old) (to_items _) (from_to a c n k)
-      (record { profile = next.profile ∙ begins.profile; plies = omega (arith, next.earlier, begins.earlier, begins.plies, adds.plies); probes = omega (arith, next.probes, begins.probes) })
+      (record {
+        profile = next.profile ∙ begins.profile;
+        plies = omega (arith, next.earlier, begins.earlier, begins.plies, adds.plies);
+        probes = omega (arith, next.probes, begins.probes);
+      })
       (adds.counted ∙ ap one_more begins.counted) (λ part is.
       subst (AppendsFront a c) (rw begins.profile (gain_is old part _ at is))
       (front_after a b c _ _ begins.text (adds.adds (start_of part.pairs) part.items (begun_held old begun part is begins.begun))))
@@ -144,18 +166,23 @@ puts_unbegun old new more f d at begins =
     (rw (gain_is old part more at is) at (front_of_more _ _ _ (lines_gain old.profile.mode part.pairs part.items more) begins.text)))
 
 -- Behind the section the movetext is what it was before it.
-module _ (old begun held : ReaderState) (d : Device) (same : held ≡ begun) (begins : BeginsText {A = Unit} {E = WriteFault} old begun (Ok tt) d) where
+module _ (old begun held : ReaderState) (d : Device) (same : held ≡ begun)
+    (begins : BeginsText {A = Unit} {E = WriteFault} old begun (Ok tt) d) where
   pub text_begun : held.text ≡ old.text
   text_begun = cc
 
 -- the reader after a move, once its probes are counted
-after_move : (begun new : ReaderState) (text : Movetext) (line : List ℕ) (n : ℕ) → new ≡ record begun { text = text; line = line; most_probes = max begun.most_probes n } → IsAfterItem begun new
+after_move : (begun new : ReaderState) (text : Movetext) (line : List ℕ) (n : ℕ)
+    → new ≡ record begun { text = text; line = line; most_probes = max begun.most_probes n } → IsAfterItem begun new
 after_move begun new text line n is = search (rules, le-max_left)
 
 -- The section was written, and then a move put, whose pairs were counted.
-module _ (old begun new : ReaderState) (mv : Move) (after : ℕ) {text : Movetext} {line : List ℕ} {a b c : Option (List ℕ)} {n m k : ℕ} (at : IsTrue (may_have_movetext old.stage))
-    (begins : BeginsText {A = Unit} {E = WriteFault} old begun (Ok tt) (from_to a b n m)) (is : new ≡ record begun { text = text; line = line; most_probes = max begun.most_probes after }) where
-  pub puts_move : 0 < old.most_probes → Adds {A = Unit} {E = WriteFault} begun.profile.mode (move mv) begun.text begun.line text line (Ok tt) (from_to b c m k)
+module _ (old begun new : ReaderState) (mv : Move)
+    (after : ℕ) {text : Movetext} {line : List ℕ} {a b c : Option (List ℕ)} {n m k : ℕ} (at : IsTrue (may_have_movetext old.stage))
+    (begins : BeginsText {A = Unit} {E = WriteFault} old begun (Ok tt) (from_to a b n m))
+    (is : new ≡ record begun { text = text; line = line; most_probes = max begun.most_probes after }) where
+  pub puts_move : 0 < old.most_probes
+      → Adds {A = Unit} {E = WriteFault} begun.profile.mode (move mv) begun.text begun.line text line (Ok tt) (from_to b c m k)
       → PutResult old (IsOpen old) (to_items (move mv ∷ [])) new (Ok More) (from_to a c n k)
   puts_move probed adds = puts_item old begun new _ a b c n m k at begins (after_move begun new text line after is) (λ is. probed) (rw is adds)
 
@@ -163,11 +190,13 @@ module _ (old begun new : ReaderState) (mv : Move) (after : ℕ) {text : Movetex
       → PutResult old (IsOpen old) (to_items (move mv ∷ [])) new (Err reasons.WriteFault) (from_to a c n k)
   fails_move f adds = fails_item old begun new _ a b c n m k at begins (after_move begun new text line after is) f (rw is adds)
 
-pub most_after : (old begun new : ReaderState) (text : Movetext) (line : List ℕ) (after : ℕ) (d : Device) → BeginsText {A = Unit} {E = WriteFault} old begun (Ok tt) d
+pub most_after : (old begun new : ReaderState) (text : Movetext) (line : List ℕ) (after : ℕ) (d : Device)
+    → BeginsText {A = Unit} {E = WriteFault} old begun (Ok tt) d
     → new ≡ record begun { text = text; line = line; most_probes = max begun.most_probes after } → new.most_probes ≡ max old.most_probes after
 most_after old begun new text line after d begins is = cc
 
 -- where the section could not be written, movetext had not begun
-pub unbegun_part : {A : Type 0} (old new : ReaderState) (f : WriteFault) (d : Device) (part : Part) → IsTrue (may_have_movetext old.stage) → BeginsText {A = A} old new (Err f) d
+pub unbegun_part : {A : Type 0} (old new : ReaderState) (f : WriteFault) (d : Device) (part : Part)
+    → IsTrue (may_have_movetext old.stage) → BeginsText {A = A} old new (Err f) d
     → old.stage ≡ part.stage → is_at InMovetext part ≡ false
 unbegun_part old new f d part at begins same = grind arith

@@ -19,7 +19,8 @@ full_lines-cons l = by_lines (λ ls. full_lines (l ∷ ls) ≡ l ∷ full_lines 
 last_line-cons : (l t : List ℕ) (ts : List (List ℕ)) → last_line (l ∷ lines_from t ts) ≡ last_line (lines_from t ts)
 last_line-cons l = by_lines (λ ls. last_line (l ∷ ls) ≡ last_line ls) (λ x xs. refl)
 
-full_lines-append : (xs : List (List ℕ)) (t : List ℕ) (ts : List (List ℕ)) → full_lines (xs ++ lines_from t ts) ≡ xs ++ full_lines (lines_from t ts)
+full_lines-append : (xs : List (List ℕ)) (t : List ℕ) (ts : List (List ℕ))
+    → full_lines (xs ++ lines_from t ts) ≡ xs ++ full_lines (lines_from t ts)
 full_lines-append [] t ts = refl
 full_lines-append (x ∷ []) t ts = full_lines-cons x t ts
 full_lines-append (x ∷ y ∷ ys) t ts = cc (full_lines-append (y ∷ ys) t ts)
@@ -30,7 +31,8 @@ last_line-append (x ∷ []) t ts = last_line-cons x t ts
 last_line-append (x ∷ y ∷ ys) t ts = last_line-append (y ∷ ys) t ts
 
 -- the lines of more tokens go on from the last line
-lines_from-append : (line : List ℕ) (ts us : List (List ℕ)) → lines_from line (ts ++ us) ≡ full_lines (lines_from line ts) ++ lines_from (last_line (lines_from line ts)) us
+lines_from-append : (line : List ℕ) (ts us : List (List ℕ))
+    → lines_from line (ts ++ us) ≡ full_lines (lines_from line ts) ++ lines_from (last_line (lines_from line ts)) us
 lines_from-append line [] us = refl
 lines_from-append line (t ∷ ts) us =
     elim (has_room line t)
@@ -65,7 +67,8 @@ full_lines-front (l ∷ m ∷ ls) =
     (rest.0, (rw rest.1 (sym (append_assoc (l ++ 10 ∷ []) (text_of_lines _) rest.0))))
 
 -- Items.
-pub placed-append : (start : Parts) (ls : Levels) (xs ys : List Item) → placed_from start ls (xs ++ ys) ≡ placed_from start ls xs ++ placed_from start (fold levels_after ls xs) ys
+pub placed-append : (start : Parts) (ls : Levels) (xs ys : List Item)
+    → placed_from start ls (xs ++ ys) ≡ placed_from start ls xs ++ placed_from start (fold levels_after ls xs) ys
 placed-append start ls [] ys = refl
 placed-append start ls (x ∷ xs) ys = cc (placed-append start (levels_after ls x) xs ys)
 
@@ -76,7 +79,10 @@ written-append Reduced xs ys = filter-append is_main_move xs ys
 pub tokens_from-append : (b : Bool) (xs ys : List Placed) → tokens_from b (xs ++ ys) ≡ tokens_from b xs ++ tokens_from (ends_in_move b xs) ys
 tokens_from-append b [] ys = refl
 tokens_from-append b (x ∷ xs) ys =
-    cc (tokens_from-append (is_move x.item) xs ys, append_assoc (tokens_at b x.position x.item) (tokens_from (is_move x.item) xs) (tokens_from (ends_in_move (is_move x.item) xs) ys))
+    cc (
+      tokens_from-append (is_move x.item) xs ys,
+      append_assoc (tokens_at b x.position x.item) (tokens_from (is_move x.item) xs) (tokens_from (ends_in_move (is_move x.item) xs) ys),
+    )
 
 -- the items that are written of a game that begins there, and of those that follow them
 abbrev pub written_from_start : Mode → Parts → List Item → List Placed
@@ -93,11 +99,13 @@ written_more mode start items more = grind (arith, placed-append, written-append
 abbrev pub tokens_behind : Mode → Parts → List Item → List Item → List (List ℕ)
 tokens_behind mode start items more = tokens_from (ends_in_move false (written_from_start mode start items)) (written_behind mode start items more)
 
-pub tokens_more : (mode : Mode) (start : Parts) (items more : List Item) → tokens_out mode start (items ++ more) ≡ tokens_out mode start items ++ tokens_behind mode start items more
+pub tokens_more : (mode : Mode) (start : Parts) (items more : List Item)
+    → tokens_out mode start (items ++ more) ≡ tokens_out mode start items ++ tokens_behind mode start items more
 tokens_more mode start items more = grind (arith, tokens_from-append, written_more)
 
 -- What stands on full lines stays there when more items come.
-pub full_text_grows : (mode : Mode) (start : Parts) (items more : List Item) → IsPrefix (full_text mode start items) (full_text mode start (items ++ more))
+pub full_text_grows : (mode : Mode) (start : Parts) (items more : List Item)
+    → IsPrefix (full_text mode start items) (full_text mode start (items ++ more))
 full_text_grows mode start items more =
     rw (tokens_more mode start items more)
     (full_lines-grow (tokens_out mode start items) (tokens_behind mode start items more))
@@ -111,14 +119,16 @@ full_text_marker mode start items marker =
     let all = full_lines-front (lines_of (ts ++ marker ∷ [])) in (
       full.0 ++ (all.0 ++ 10 ∷ []),
       ap (λ l. l ++ 10 ∷ []) (all.1 ∙ ap (λ l. l ++ all.0) full.1 ∙ append_assoc _ _ all.0)
-          ∙ append_assoc (full_text mode start items) (full.0 ++ all.0) (10 ∷ []) ∙ ap (λ l. full_text mode start items ++ l) (append_assoc _ all.0 _),
+          ∙ append_assoc (full_text mode start items) (full.0 ++ all.0) (10 ∷ [])
+          ∙ ap (λ l. full_text mode start items ++ l) (append_assoc _ all.0 _),
     )
 
 -- Tokens that are put.
 still_not_empty : (line : List ℕ) (ts : List (List ℕ)) → 0 < length line → All IsToken ts → 0 < length (last_line (lines_from line ts))
 still_not_empty line [] some each = some
 still_not_empty line (t ∷ ts) some each =
-    elim (has_room line t) as (λ v. 0 < length (last_line (elim v [ true ↦ lines_from (line ++ 32 ∷ t) ts | false ↦ line ∷ lines_from t ts ]))) [
+    elim (has_room line t) as (λ v.
+    0 < length (last_line (elim v [ true ↦ lines_from (line ++ 32 ∷ t) ts | false ↦ line ∷ lines_from t ts ]))) [
       | true ↦ still_not_empty (line ++ 32 ∷ t) ts (omega (arith, length-append line (32 ∷ t))) (All-tail IsToken t ts each)
       | false ↦ (rw (last_line-cons line t ts) (still_not_empty t ts (All-head IsToken t ts each).not_empty (All-tail IsToken t ts each)))
     ]
@@ -141,7 +151,8 @@ full_lines_put (x ∷ xs) t each =
     rw (lines_from-append x xs _) (ap text_of_lines (full_lines-append full last (t ∷ []))
     ∙ text_of_lines-append full (full_lines _) ∙ ap (λ l. text_of_lines full ++ l) (put_full last t some))
 
-pub last_line_put : (ts : List (List ℕ)) (t : List ℕ) → All IsToken ts → last_line (lines_of (ts ++ t ∷ [])) ≡ line_put (last_line (lines_of ts)) t
+pub last_line_put : (ts : List (List ℕ)) (t : List ℕ) → All IsToken ts
+    → last_line (lines_of (ts ++ t ∷ [])) ≡ line_put (last_line (lines_of ts)) t
 last_line_put [] t each = refl
 last_line_put (x ∷ xs) t each =
     let last = last_line (lines_from x xs) in
@@ -159,10 +170,11 @@ lines_ended (l ∷ m ∷ ls) some =
 held_not_empty : (ts : List (List ℕ)) (m : List ℕ) → All IsToken ts → IsToken m → 0 < length (last_line (lines_of (ts ++ m ∷ [])))
 held_not_empty [] m each token = token.not_empty
 held_not_empty (x ∷ xs) m each token =
-    still_not_empty x _ (All-head IsToken x xs each).not_empty (All-append IsToken xs _ (All-tail IsToken x xs each) (All-cons IsToken m [] token (All-nil IsToken)))
+    still_not_empty x _ (All-head IsToken x xs each).not_empty
+    (All-append IsToken xs _ (All-tail IsToken x xs each) (All-cons IsToken m [] token (All-nil IsToken)))
 
 -- What the marker and the end of the game write behind the lines that are full.
-pub game_ends : (ts : List (List ℕ)) (m : List ℕ) → All IsToken ts → IsToken m
-    → text_of_lines (lines_of (ts ++ m ∷ [])) ++ 10 ∷ []
-    ≡ text_of_lines (full_lines (lines_of ts)) ++ text_at (last_line (lines_of ts)) (Put m) ++ text_at (line_at (last_line (lines_of ts)) (Put m)) EndGame
+pub game_ends : (ts : List (List ℕ)) (m : List ℕ) → All IsToken ts → IsToken m → text_of_lines (lines_of (ts ++ m ∷ [])) ++ 10 ∷ []
+    ≡ text_of_lines (full_lines (lines_of ts)) ++ text_at (last_line (lines_of ts)) (Put m)
+    ++ text_at (line_at (last_line (lines_of ts)) (Put m)) EndGame
 game_ends ts m each token = grind (arith, append_assoc, text_of_lines, full_lines_put, last_line_put, lines_ended, held_not_empty)

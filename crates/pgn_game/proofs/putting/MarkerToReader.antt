@@ -20,9 +20,11 @@ ending line marker = text_at line (Put marker) ++ text_at (line_at line (Put mar
 abbrev line_of : Mode → List Pair → List Item → List ℕ
 line_of mode ps items = last_line (lines_of (tokens_out mode (start_of ps) items))
 
-gain_of : (p : Profile) (part : Part) (marker : List ℕ) → IsTrue (may_have_movetext part.stage) → (part.stage ≡ AfterTags → part.items ≡ [])
+gain_of : (p : Profile) (part : Part) (marker : List ℕ)
+    → IsTrue (may_have_movetext part.stage) → (part.stage ≡ AfterTags → part.items ≡ [])
     → All IsToken (tokens_out p.mode (start_of part.pairs) part.items) → IsToken marker
-    → gain_to (as_written p) part (whole (game_of part marker)) ≡ section_due part.stage p.mode (known_result p.missing_result) part.pairs ++ ending (line_of p.mode part.pairs part.items) marker
+    → gain_to (as_written p) part (whole (game_of part marker))
+    ≡ section_due part.stage p.mode (known_result p.missing_result) part.pairs ++ ending (line_of p.mode part.pairs part.items) marker
 gain_of p part marker at fresh each token =
     let result = known_result p.missing_result in
     let lines = text_of_lines (lines_of (tokens_out p.mode (start_of part.pairs) part.items ++ marker ∷ [])) in
@@ -32,7 +34,8 @@ gain_of p part marker at fresh each token =
     ∙ ap (λ (l : List ℕ). section_due part.stage p.mode result part.pairs ++ l)
     (ap (drop (length (full_text p.mode (start_of part.pairs) part.items)))
     (game_ends ts marker each token
-    ∙ append_assoc (text_of_lines (full_lines (lines_of ts))) (text_at (last_line (lines_of ts)) (Put marker)) (text_at (line_at (last_line (lines_of ts)) (Put marker)) EndGame))
+    ∙ append_assoc (text_of_lines (full_lines (lines_of ts))) (text_at (last_line (lines_of ts)) (Put marker))
+    (text_at (line_at (last_line (lines_of ts)) (Put marker)) EndGame))
     ∙ drop-append_seam (full_text p.mode (start_of part.pairs) part.items) (ending (line_of p.mode part.pairs part.items) marker))
 
 -- what is due for a marker, of a reader that holds the part
@@ -40,15 +43,18 @@ due_is : (old : ReaderState) (part : Part) (marker : List ℕ) → IsTrue (may_h
     → section_due_of old ++ ending old.line marker ≡ gain_to (as_written old.profile) part (whole (game_of part marker))
 due_is old part marker at token is =
     ap (λ (l : List ℕ). l ++ ending old.line marker) (section_is old part is)
-    ∙ ap (λ (l : List ℕ). section_due part.stage old.profile.mode (known_result old.profile.missing_result) part.pairs ++ ending l marker) is.held.last
+    ∙ ap (λ (l : List ℕ).
+    section_due part.stage old.profile.mode (known_result old.profile.missing_result) part.pairs ++ ending l marker) is.held.last
     ∙ sym (gain_of old.profile part marker (open_stage old part is at) (λ e. is.fresh (is.stage ∙ e)) is.held.tokens token)
 
 -- At depth 0 the moves that lead here are those outside variations.
-at_depth_0 : (ls : ModelLevels) (around : List ModelLevel) → ls.around ≡ around → length around ≡ 0 → (outermost ls.present ls.around).trail ≡ ls.present.trail
+at_depth_0 : (ls : ModelLevels) (around : List ModelLevel) → ls.around ≡ around
+    → length around ≡ 0 → (outermost ls.present ls.around).trail ≡ ls.present.trail
 at_depth_0 ls [] e n = ap (λ (l : List ModelLevel). (outermost ls.present l).trail) e
 at_depth_0 ls (l ∷ around) e n = absurd (omega (arith, n))
 
-last_is : (old : ReaderState) (part : Part) → old.text.levels.around ≡ [] → IsOpen old part → (marker : List ℕ) → old.text.levels.present.present ≡ last_position (game_of part marker)
+last_is : (old : ReaderState) (part : Part) → old.text.levels.around ≡ [] → IsOpen old part
+    → (marker : List ℕ) → old.text.levels.present.present ≡ last_position (game_of part marker)
 last_is old part outside is marker =
     let none : depth (levels_of_part part) ≡ 0 = sym (depth_is old part is) ∙ ap (length {A = StoredLevel}) outside in
     position_is old part is
@@ -57,7 +63,8 @@ last_is old part outside is marker =
 abbrev finished_reader : ReaderState → ReaderState
 finished_reader r = record r { stage = Between; line = [] }
 
-behind : (old : ReaderState) (part : Part) (marker : List ℕ) → old.text.levels.around ≡ [] → IsOpen old part → IsBehind (finished_reader old) (game_of part marker)
+behind : (old : ReaderState) (part : Part) (marker : List ℕ) → old.text.levels.around ≡ []
+    → IsOpen old part → IsBehind (finished_reader old) (game_of part marker)
 behind old part marker outside is =
     record {
       agrees = record { stage = refl; pairs = refl; text = refl };
@@ -97,21 +104,25 @@ pub record EndsText (old begun : ReaderState) (marker : Marker) (text : List ℕ
 abbrev of_line : (old begun : ReaderState) → begun ≡ record old { stage = InMovetext } → begun.line ≡ old.line
 of_line old begun e = ap (λ (r : ReaderState). r.line) e
 
-pub ends_well : (old begun new : ReaderState) (marker : Marker) (text : List ℕ) (a b d c : Option (List ℕ)) (n m k : ℕ) → EndsText old begun marker text a b n m
+pub ends_well : (old begun new : ReaderState) (marker : Marker) (text : List ℕ) (a b d c : Option (List ℕ)) (n m k : ℕ)
+    → EndsText old begun marker text a b n m
     → Appends b d (text_at begun.line (Put text)) → Appends d c (text_at (line_at begun.line (Put text)) EndGame)
     → new ≡ record begun { stage = Between; line = new.line } → new.line ≡ [] → k ≡ m
     → PutResult old (IsOpen old) (to_game marker) new (Ok Finished) (from_to a c n k)
 ends_well old begun new marker text a b d c n m k ends put last rest empty counted =
-    let same : new ≡ finished_reader old = rest ∙ ap (λ (l : List ℕ). record begun { stage = Between; line = l }) empty ∙ ap finished_reader ends.begins.begun in
+    let same : new ≡ finished_reader old =
+    rest ∙ ap (λ (l : List ℕ). record begun { stage = Between; line = l }) empty ∙ ap finished_reader ends.begins.begun in
     let earlier : new.earlier_plies ≡ old.earlier_plies = ap (λ (r : ReaderState). r.earlier_plies) same in
     let plies : new.text.plies ≡ old.text.plies = ap (λ (r : ReaderState). r.text.plies) same in
     record {
       goes = λ part is.
           record {
-            leads = subst (λ (r : ReaderState). IsBehind r (game_of part (marker_text marker))) (sym same) (behind old part (marker_text marker) ends.outside is);
+            leads = subst (λ (r : ReaderState). IsBehind r (game_of part (marker_text marker)))
+                (sym same) (behind old part (marker_text marker) ends.outside is);
             plies = ap (λ (s : Stage). plies_behind s new.earlier_plies new.text.plies) (ap (λ (r : ReaderState). r.stage) same)
                 ∙ omega (arith, earlier, plies, is.held.plies, plies_before old ends.at);
-            appended = subst (Appends a c) (ap (λ (l : List ℕ). section_due_of old ++ ending l (marker_text marker)) (of_line old begun ends.begins.begun)
+            appended =
+                subst (Appends a c) (ap (λ (l : List ℕ). section_due_of old ++ ending l (marker_text marker)) (of_line old begun ends.begins.begun)
                 ∙ due_is old part (marker_text marker) ends.at (marker_token marker) is)
                 (Appends-trans a b c _ _ ends.begins.text
                 (subst (λ (t : List ℕ). Appends b c (ending begun.line t)) ends.spells (Appends-trans b d c _ _ put last)));
@@ -126,7 +137,8 @@ ends_well old begun new marker text a b d c n m k ends put last rest empty count
     }
 
 -- a write failed behind the section
-pub ends_ill : (old begun new : ReaderState) (marker : Marker) (text : List ℕ) (a b c : Option (List ℕ)) (n m k : ℕ) → EndsText old begun marker text a b n m
+pub ends_ill : (old begun new : ReaderState) (marker : Marker) (text : List ℕ) (a b c : Option (List ℕ)) (n m k : ℕ)
+    → EndsText old begun marker text a b n m
     → AppendsFront b c (ending begun.line text) → new ≡ record begun { line = new.line } → k ≡ one_more m
     → PutResult old (IsOpen old) (to_game marker) new (Err reasons.WriteFault) (from_to a c n k)
 ends_ill old begun new marker text a b c n m k ends front rest counted =
@@ -134,7 +146,8 @@ ends_ill old begun new marker text a b c n m k ends front rest counted =
     unwritten old new (IsOpen old) (to_game marker) (from_to a c n k)
     (record {
       profile = ap (λ (r : ReaderState). r.profile) rest ∙ begins.profile;
-      plies = omega (arith, ap (λ (r : ReaderState). r.earlier_plies) rest, ap (λ (r : ReaderState). r.text.plies) rest, begins.earlier, begins.plies);
+      plies =
+          omega (arith, ap (λ (r : ReaderState). r.earlier_plies) rest, ap (λ (r : ReaderState). r.text.plies) rest, begins.earlier, begins.plies);
       probes = omega (arith, ap (λ (r : ReaderState). r.most_probes) rest, begins.probes);
     })
     (counted ∙ ap one_more begins.counted) (λ part is.
@@ -143,8 +156,10 @@ ends_ill old begun new marker text a b c n m k ends front rest counted =
     (front_after a b c _ _ begins.text (subst (λ (t : List ℕ). AppendsFront b c (ending begun.line t)) ends.spells front)))
 
 -- A marker that was left is taken after all.
-pub marker_taken : (old ready new : ReaderState) (k : TokenKind) (marker : Marker) (r : Result Accepted Reason) (a b c : Option (List ℕ)) (n m l : ℕ)
-    → MeetsMarker old (kind_of k) marker ready (from_to a b n m) → ((k : TokenKind) → marker_of (kind_of k) ≡ Some (marker_text marker) → TakesEntry ready (kind_of k) new r (from_to b c m l))
+pub marker_taken : (old ready new : ReaderState) (k : TokenKind) (marker : Marker)
+    (r : Result Accepted Reason) (a b c : Option (List ℕ)) (n m l : ℕ)
+    → MeetsMarker old (kind_of k) marker ready (from_to a b n m)
+    → ((k : TokenKind) → marker_of (kind_of k) ≡ Some (marker_text marker) → TakesEntry ready (kind_of k) new r (from_to b c m l))
     → TakesToken old (kind_of k) new r (from_to a c n l)
 marker_taken old ready new k marker r a b c n m l meets takes =
     subst (λ x. TakesToken old (kind_of k) new r (from_to a c x l)) meets.still

@@ -29,12 +29,14 @@ pub record IsStep (old new : ReaderState) (part : Part) (next : Next) : Type 0 w
 steps : (old new : ReaderState) (to : Part → Next) (from stage : Stage) (tags : TagPairs) (start : Option Parts) (o : Option (List ℕ)) (n : ℕ)
     → new ≡ record old { stage = stage; tags = tags; text = movetext_after_fen start old.text }
     → old.stage ≡ from → (from ≡ Between → ⊥) → (stage ≡ Between → ⊥) → (stage ≡ InMovetext → ⊥)
-    → ((part : Part) → Agrees old part → IsStep old (record old { stage = stage; tags = tags; text = movetext_after_fen start old.text }) part (to part))
+    → ((part : Part) → Agrees old part
+    → IsStep old (record old { stage = stage; tags = tags; text = movetext_after_fen start old.text }) part (to part))
     → PutResult old (Agrees old) to new (Ok More) (from_to o o n n)
 steps old new to from stage tags start o n is at begun goes before each = search (rules, le_refl, from_to, more_comes, no_torn, adds_nothing)
 
 -- where a game begins once the pair is held
-begins_with : (name value : List ℕ) (ps : List Pair) (start : Option Parts) (text : Movetext) → has_pair ps name ≡ false → fen_position name value ≡ Ok start → text ≡ movetext_from (start_of ps)
+begins_with : (name value : List ℕ) (ps : List Pair) (start : Option Parts) (text : Movetext)
+    → has_pair ps name ≡ false → fen_position name value ≡ Ok start → text ≡ movetext_from (start_of ps)
     → movetext_after_fen start text ≡ movetext_from (start_of (with_pair name value ps))
 begins_with name value ps start text new told is = grind (arith, start_found, start_kept)
 
@@ -55,7 +57,8 @@ to_stage stage part = going (at_stage stage part)
 pub puts_value : (old new : ReaderState) (value name : List ℕ) (start : Option Parts) (held : TagPairs) (o : Option (List ℕ)) (n : ℕ)
     → old.stage ≡ AfterName → IfSome old.tags.pending_name (λ m. held ≡ completed m value old.tags.held)
     → old.tags.pending_name ≡ Some name → fen_position name value ≡ Ok start
-    → new ≡ record old { stage = AfterValue; tags = held; text = movetext_after_fen start old.text } → PutResult old (Agrees old) (to_value value) new (Ok More) (from_to o o n n)
+    → new ≡ record old { stage = AfterValue; tags = held; text = movetext_after_fen start old.text }
+    → PutResult old (Agrees old) (to_value value) new (Ok More) (from_to o o n n)
 puts_value old new value name start held o n at completes begun told is = search (rules, begun_name, held_at, text_at, with_pair, steps, begins_with)
 
 -- nothing changes at a comment in the tag section, or at a token between games
@@ -63,15 +66,18 @@ pub puts_nothing : (old : ReaderState) (o : Option (List ℕ)) (n : ℕ) → Put
 puts_nothing old o n = search (rules, le_refl, drop-length, Appends-nil, more_comes)
 
 -- a bracket changes the stage alone
-pub puts_left_bracket : (old new : ReaderState) (o : Option (List ℕ)) (n : ℕ) → old.stage ≡ AfterTags → new ≡ record old { stage = AfterLeftBracket }
+pub puts_left_bracket : (old new : ReaderState) (o : Option (List ℕ)) (n : ℕ)
+    → old.stage ≡ AfterTags → new ≡ record old { stage = AfterLeftBracket }
     → PutResult old (Agrees old) (to_stage AfterLeftBracket) new (Ok More) (from_to o o n n)
 puts_left_bracket old new o n at is = search (rules, held_at, text_at, steps)
 
-pub puts_right_bracket : (old new : ReaderState) (o : Option (List ℕ)) (n : ℕ) → old.stage ≡ AfterValue → new ≡ record old { stage = AfterTags }
+pub puts_right_bracket : (old new : ReaderState) (o : Option (List ℕ)) (n : ℕ)
+    → old.stage ≡ AfterValue → new ≡ record old { stage = AfterTags }
     → PutResult old (Agrees old) (to_stage AfterTags) new (Ok More) (from_to o o n n)
 puts_right_bracket old new o n at is = search (rules, held_at, text_at, steps)
 
-pub puts_name : (old new : ReaderState) (name : List ℕ) (held : TagPairs) (o : Option (List ℕ)) (n : ℕ) → old.stage ≡ AfterLeftBracket → has_pair old.tags.held name ≡ false
+pub puts_name : (old new : ReaderState) (name : List ℕ) (held : TagPairs) (o : Option (List ℕ)) (n : ℕ)
+    → old.stage ≡ AfterLeftBracket → has_pair old.tags.held name ≡ false
     → held ≡ record old.tags { pending_name = Some name } → new ≡ record old { stage = AfterName; tags = held }
     → PutResult old (Agrees old) (to_name name) new (Ok More) (from_to o o n n)
 puts_name old new name held o n at fresh begins is = search (rules, held_at, text_at, steps)

@@ -6,8 +6,7 @@ use Rattle.pgn_game.proofs.putting.ItemsAppended.{placed-append}
 
 -- the items placed there are legal moves, or no moves
 abbrev go_on_legally : Parts → Levels → List Item → Bool
-go_on_legally start ls items =
-    list_all (λ i. is_legal_at i.position i.item) (placed_from start ls items)
+go_on_legally start ls items = list_all (λ i. is_legal_at i.position i.item) (placed_from start ls items)
 
 -- no item stands outside movetext
 abbrev HoldsNone : Stage → List Item → Type 0
@@ -18,8 +17,7 @@ none_held : (stage : Stage) (items : List Item) → items ≡ [] → HoldsNone s
 none_held InMovetext items e = tt
 none_held _ items e = e
 
-nothing_to_play : (pairs : List Pair) (items : List Item) → items ≡ []
-    → IsTrue (plays_legally pairs items)
+nothing_to_play : (pairs : List Pair) (items : List Item) → items ≡ [] → IsTrue (plays_legally pairs items)
 nothing_to_play pairs items e = rw e refl
 
 abbrev IsLegal : Part → Type 0
@@ -42,34 +40,28 @@ leads_none : (nx : Next) → AddsNone nx → LeadsLegally nx
 leads_none nx none = search (rules, none_held, nothing_to_play)
 
 more_items : (pairs : List Pair) (items more : List Item) → IsTrue (plays_legally pairs items)
-    → IsTrue (go_on_legally (start_of pairs) (levels_of items) more)
-    → IsTrue (plays_legally pairs (items ++ more))
+    → IsTrue (go_on_legally (start_of pairs) (levels_of items) more) → IsTrue (plays_legally pairs (items ++ more))
 more_items pairs items more h k = grind (arith, and_from, list_all-append, placed-append)
 
 module _ (one_read : TheOneMoveIsRead) where
   -- what a text names is legal
-  pub named_is_legal : (p : Parts) (s : List ℕ) (x : Played) → move_of p s ≡ Some (Ok x)
-      → legal p x.mv ≡ Some x.next
+  pub named_is_legal : (p : Parts) (s : List ℕ) (x : Played) → move_of p s ≡ Some (Ok x) → legal p x.mv ≡ Some x.next
   unfolding move_of
   named_is_legal p s x e = by_form _ e
     where
-      by_form : (o : Option Form) → option_map (move_of_form p) o ≡ Some (Ok x)
-          → legal p x.mv ≡ Some x.next
+      by_form : (o : Option Form) → option_map (move_of_form p) o ≡ Some (Ok x) → legal p x.mv ≡ Some x.next
       by_form None e = absurd (cc)
       by_form (Some f) e = ((one_read p f x).0 (cc)).1
 
   item_legal : (start : Parts) (ls : Levels) (s : List ℕ) (o : Option (Result Played SanFault))
       → move_of (here start ls) s ≡ o → IsTrue (go_on_legally start ls (move_item o))
-  item_legal start ls s (Some (Ok x)) e =
-      and_from _ _ (ap is_some (named_is_legal (here start ls) s x e)) refl
+  item_legal start ls s (Some (Ok x)) e = and_from _ _ (ap is_some (named_is_legal (here start ls) s x e)) refl
   item_legal start ls s _ e = refl
 
-  items_legal : (part : Part) (k : Kind)
-      → IsTrue (go_on_legally (start_of part.pairs) (levels_of_part part) (items_of part k))
+  items_legal : (part : Part) (k : Kind) → IsTrue (go_on_legally (start_of part.pairs) (levels_of_part part) (items_of part k))
   items_legal part k = grind (arith, item_legal)
 
-  text_legal : (part : Part) (k : Kind) → IsTrue (plays_legally part.pairs part.items)
-      → LeadsLegally (in_text part k)
+  text_legal : (part : Part) (k : Kind) → IsTrue (plays_legally part.pairs part.items) → LeadsLegally (in_text part k)
   text_legal part k h = search (rules, more_items, items_legal)
 
   next_legal : (part : Part) (k : Kind) → IsLegal part → LeadsLegally (next part k)
@@ -78,13 +70,11 @@ module _ (one_read : TheOneMoveIsRead) where
   abbrev AllLegal : Progress → Type 0
   AllLegal b = IsTrue (list_all (λ g. plays_legally g.pairs g.items) b.games) × IsLegal b.part
 
-  with_legal : (games : List Game) (nx : Next)
-      → IsTrue (list_all (λ g. plays_legally g.pairs g.items) games) → LeadsLegally nx
+  with_legal : (games : List Game) (nx : Next) → IsTrue (list_all (λ g. plays_legally g.pairs g.items) games) → LeadsLegally nx
       → AllLegal (progress_with games nx)
   with_legal games nx h k = search (rules, and_from, list_all-append)
 
-  read_legal : (p : Profile) (b : Progress) (ts : List Token) → AllLegal b
-      → AllLegal (read_from p b ts).progress
+  read_legal : (p : Profile) (b : Progress) (ts : List Token) → AllLegal b → AllLegal (read_from p b ts).progress
   read_legal p b [] h = h
   read_legal p b (t ∷ ts) h =
       by_token p b t ts (λ r. AllLegal r.progress) (λ reason is. h)

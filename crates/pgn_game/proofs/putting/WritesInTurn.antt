@@ -6,7 +6,8 @@ pub front_of_more : (a b : Option (List ℕ)) (text more : List ℕ) → Appends
 front_of_more a b text more h4 = search (rules, length-append, take-append-le)
 
 -- the whole of one text, and then a front of the next
-pub front_after : (a b c : Option (List ℕ)) (text more : List ℕ) → Appends a b text → AppendsFront b c more → AppendsFront a c (text ++ more)
+pub front_after : (a b c : Option (List ℕ)) (text more : List ℕ)
+    → Appends a b text → AppendsFront b c more → AppendsFront a c (text ++ more)
 front_after a b c text more done (n, within, front) = (
   length text + n,
   omega (arith, length-append text more),
@@ -18,17 +19,19 @@ text_by-append f [] ys = refl
 text_by-append f (x ∷ xs) ys = cc (text_by-append f xs ys, append_assoc (f x) (text_by f xs) (text_by f ys))
 
 -- one element more
-text_by-next : {A : Type 0} (f : A → List ℕ) (xs : List A) (i : ℕ) (x : A) → i < length xs → get_or xs i x ≡ x → text_by f (take (i + 1) xs) ≡ text_by f (take i xs) ++ f x
-text_by-next f xs i x h e =
-    cc (add-one i, take-suc xs i x h, text_by-append f (take i xs) (x ∷ []), append-nil (f x))
+text_by-next : {A : Type 0} (f : A → List ℕ) (xs : List A) (i : ℕ) (x : A) → i < length xs
+    → get_or xs i x ≡ x → text_by f (take (i + 1) xs) ≡ text_by f (take i xs) ++ f x
+text_by-next f xs i x h e = cc (add-one i, take-suc xs i x h, text_by-append f (take i xs) (x ∷ []), append-nil (f x))
 
 -- the texts so far, and the next one
-pub next_text : {A : Type 0} (f : A → List ℕ) (xs : List A) (i : ℕ) (x : A) (a b c : Option (List ℕ)) → i < length xs → get_or xs i x ≡ x
+pub next_text : {A : Type 0} (f : A → List ℕ) (xs : List A) (i : ℕ) (x : A) (a b c : Option (List ℕ))
+    → i < length xs → get_or xs i x ≡ x
     → Appends a b (text_by f (take i xs)) → Appends b c (f x) → Appends a c (text_by f (take (i + 1) xs))
 next_text f xs i x a b c h e done next = rw (text_by-next f xs i x h e) (Appends-trans a b c _ _ done next)
 
 -- the texts so far, and a front of the next one
-pub next_front : {A : Type 0} (f : A → List ℕ) (xs : List A) (i : ℕ) (x : A) (a b c : Option (List ℕ)) → i < length xs → get_or xs i x ≡ x
+pub next_front : {A : Type 0} (f : A → List ℕ) (xs : List A) (i : ℕ) (x : A) (a b c : Option (List ℕ))
+    → i < length xs → get_or xs i x ≡ x
     → Appends a b (text_by f (take i xs)) → AppendsFront b c (f x) → AppendsFront a c (text_by f xs)
 next_front f xs i x a b c h e done next =
     let whole =
@@ -41,7 +44,8 @@ pub within_at : {A : Type 0} (xs : List A) (i : ℕ) (x : A) → slice_get xs i 
 within_at xs i x e = (slice_get_within xs i x e, get_or_from_slice_get xs i x x e)
 
 -- one text, and then another
-pub Writes-append : {A E : Type 0} (a b c : Option (List ℕ)) (text more : List ℕ) (r : Result A E) → Appends a b text → Writes b c r more → Writes a c r (text ++ more)
+pub Writes-append : {A E : Type 0} (a b c : Option (List ℕ)) (text more : List ℕ) (r : Result A E)
+    → Appends a b text → Writes b c r more → Writes a c r (text ++ more)
 Writes-append a b c text more (Ok x) done next = Appends-trans a b c _ _ done next
 Writes-append a b c text more (Err e) done next = front_after a b c text more done next
 

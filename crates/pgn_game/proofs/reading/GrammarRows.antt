@@ -22,12 +22,14 @@ abbrev remark : List ℕ → List Kind
 remark s = tokens.comment_open ∷ tokens.word s ∷ tokens.comment_close ∷ []
 
 -- comments before a game, in a pair and behind the last game are dropped; those in movetext stay
-comments : Spells plain (tokens_of (codes "{a}[A {b} \"1\"{c}] 1. {d} *{e}")) (game (one_pair ∷ []) (games.comment_open ∷ games.word (codes "d") ∷ games.comment_close ∷ []) ∷ [])
+comments : Spells plain (tokens_of (codes "{a}[A {b} \"1\"{c}] 1. {d} *{e}"))
+    (game (one_pair ∷ []) (games.comment_open ∷ games.word (codes "d") ∷ games.comment_close ∷ []) ∷ [])
 comments =
     let a = remark (codes "a") in
     let b = remark (codes "b") in
     let c = remark (codes "c") in
-    let tags : List Kind = tokens.left_bracket ∷ tokens.symbol (codes "A") ∷ (b ++ tokens.str (codes "1") ∷ (c ++ tokens.right_bracket ∷ [])) in
+    let tags : List Kind =
+    tokens.left_bracket ∷ tokens.symbol (codes "A") ∷ (b ++ tokens.str (codes "1") ∷ (c ++ tokens.right_bracket ∷ [])) in
     let text : List Kind = tokens.symbol (codes "1") ∷ tokens.period ∷ remark (codes "d") in
     next_game (a ++ (tags ++ (text ++ tokens.asterisk ∷ []))) (remark (codes "e") ++ tokens.end ∷ []) _ [] (record {
       before = a;
@@ -45,7 +47,8 @@ comments =
       items =
           let l = new_level [] in
           token 0 l _ _ [] _ (number (codes "1") refl) (token 0 l _ _ [] _ period
-          (token 0 l _ _ (games.comment_open ∷ []) _ comment_open (token 0 l _ _ (games.word (codes "d") ∷ []) _ (word (codes "d")) (token 0 l _ _ (games.comment_close ∷ []) _ comment_close (no_more 0 l)))));
+          (token 0 l _ _ (games.comment_open ∷ []) _ comment_open (token 0 l _ _ (games.word (codes "d") ∷ []) _
+          (word (codes "d")) (token 0 l _ _ (games.comment_close ∷ []) _ comment_close (no_more 0 l)))));
       marker = refl;
       result = refl;
     }) (no_game (remark (codes "e")) refl)

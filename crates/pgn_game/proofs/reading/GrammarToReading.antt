@@ -9,7 +9,8 @@ use Rattle.pgn_game.proofs.refusals.RefusalsInMovetext.{move_refusal, marker_ref
 use Rattle.pgn_game.proofs.reading.MovetextTokens.{levels_more, result_meets, stands_free, stands_leads, stands_levels, stands_goes}
 
 dropped_run : (p : Profile) (stage : Stage) (ps : List Pair) (name : List ℕ) (items : List Item) → IsTrue (drops_comments stage)
-    → (ks rest : List Kind) (gs : List Game) → AreDropped ks → Runs p (at stage ps name items) rest gs → Runs p (at stage ps name items) (ks ++ rest) gs
+    → (ks rest : List Kind) (gs : List Game) → AreDropped ks
+    → Runs p (at stage ps name items) rest gs → Runs p (at stage ps name items) (ks ++ rest) gs
 dropped_run p stage ps name items drops [] rest gs are runs = runs
 dropped_run p stage ps name items drops (k ∷ ks) rest gs are runs =
     let both = and_parts (is_comment k) (list_all is_comment ks) are in
@@ -49,24 +50,34 @@ pair_run p ps name rest gs (pair xs ys zs n v before_name before_value before_br
     (dropped_run p _ _ [] [] refl zs _ gs before_bracket
     (goes _ _ _ rest gs (close_refusal p _ refl) refl refl runs)))))))
 
-pairs_run : (p : Profile) (ps : List Pair) (name : List ℕ) {ks : List Kind} (rest : List Kind) {qs : List Pair} (gs : List Game) → SpellsPairs ks qs → Takes p ps qs
+pairs_run : (p : Profile) (ps : List Pair) (name : List ℕ) {ks : List Kind} (rest : List Kind) {qs : List Pair} (gs : List Game)
+    → SpellsPairs ks qs → Takes p ps qs
     → ((n : List ℕ) → Runs p (at AfterTags (with_pairs ps qs) n []) rest gs) → Runs p (at AfterTags ps name []) (ks ++ rest) gs
 pairs_run p ps name rest gs no_pair takes runs = runs name
 pairs_run p ps name rest gs (next_pair ks ls q qs first others) takes runs =
-    rw (append_assoc ks ls rest) (pair_run p ps name (ls ++ rest) gs first takes.0 takes.1 takes.2 (pairs_run p (insert_pair q ps) [] rest gs others takes.3 runs))
+    rw (append_assoc ks ls rest)
+    (pair_run p ps name (ls ++ rest) gs first takes.0 takes.1 takes.2 (pairs_run p (insert_pair q ps) [] rest gs others takes.3 runs))
 
 -- Movetext.
-move_free : (p : Profile) (ps : List Pair) (name : List ℕ) (items : List Item) (s : List ℕ) (played : Played) → Names (here (start_of ps) (levels_of items)) s played
+move_free : (p : Profile) (ps : List Pair) (name : List ℕ) (items : List Item) (s : List ℕ) (played : Played)
+    → Names (here (start_of ps) (levels_of items)) s played
     → refusal p (at InMovetext ps name items) (tokens.symbol s) ≡ None
 move_free p ps name items s played h =
     let place = here (start_of ps) (levels_of items) in
-    cc (text_row p (at InMovetext ps name items) _ refl, move_refusal p (at InMovetext ps name items) s h.no_number h.no_marker, h.one, pass _ _ None h.within)
+    cc (
+      text_row p (at InMovetext ps name items) _ refl,
+      move_refusal p (at InMovetext ps name items) s h.no_number h.no_marker,
+      h.one,
+      pass _ _ None h.within,
+    )
 
-move_leads : (ps : List Pair) (name : List ℕ) (items : List Item) (s : List ℕ) (played : Played) → Names (here (start_of ps) (levels_of items)) s played
+move_leads : (ps : List Pair) (name : List ℕ) (items : List Item) (s : List ℕ) (played : Played)
+    → Names (here (start_of ps) (levels_of items)) s played
     → next (at InMovetext ps name items) (tokens.symbol s) ≡ going (at InMovetext ps name (items ++ games.move played.mv ∷ []))
 move_leads ps name items s played h = cc (symbol_leads (at InMovetext ps name items) s false h.no_number h.no_marker)
 
-opens_free : (p : Profile) (ps : List Pair) (name : List ℕ) (items : List Item) → (levels_of items).present.has_own_move ≡ true → depth (levels_of items) < p.depth
+opens_free : (p : Profile) (ps : List Pair) (name : List ℕ) (items : List Item)
+    → (levels_of items).present.has_own_move ≡ true → depth (levels_of items) < p.depth
     → refusal p (at InMovetext ps name items) tokens.left_paren ≡ None
 opens_free p ps name items holds room =
     let free : nat_le p.depth (depth (levels_of items)) ≡ false = grind (arith, nat_tests) in
@@ -85,8 +96,10 @@ leveled l around = record { present = l; around = around }
 abbrev Further : Profile → List Pair → List ℕ → List Item → List Level → List Kind → List Game → Type 0
 Further p ps name all around rest gs = (m : Level) → levels_of all ≡ leveled m around → Runs p (at InMovetext ps name all) rest gs
 
-text_run : {p : Profile} (ps : List Pair) (name : List ℕ) {deep : ℕ} {l : Level} {ks : List Kind} {items : List Item} → SpellsText p (start_of ps) deep l ks items
-    → (before all : List Item) {around : List Level} (rest : List Kind) (gs : List Game) → levels_of before ≡ leveled l around → length around ≡ deep → before ++ items ≡ all
+text_run : {p : Profile} (ps : List Pair) (name : List ℕ) {deep : ℕ} {l : Level} {ks : List Kind} {items : List Item}
+    → SpellsText p (start_of ps) deep l ks items
+    → (before all : List Item) {around : List Level} (rest : List Kind) (gs : List Game)
+    → levels_of before ≡ leveled l around → length around ≡ deep → before ++ items ≡ all
     → Further p ps name all around rest gs → Runs p (at InMovetext ps name before) (ks ++ rest) gs
 text_run {p} ps name {l} (no_more _ _) before all rest gs at_level at_depth same further =
     let e : all ≡ before = sym same ∙ append-nil before in
@@ -97,7 +110,8 @@ text_run {p} ps name (token _ _ k ks item items stands text) before all rest gs 
     (text_run ps name text _ all rest gs (stands_levels before stands ∙ at_level) at_depth
     (append_assoc before item items ∙ same) further)
 text_run {p} ps name {l} (move _ _ s played ks items names text) before all rest gs at_level at_depth same further =
-    let placed : replayed (start_of ps) l.trail ≡ here (start_of ps) (levels_of before) = ap (λ (x : Levels). here (start_of ps) x) (sym at_level) in
+    let placed : replayed (start_of ps) l.trail ≡ here (start_of ps) (levels_of before) =
+    ap (λ (x : Levels). here (start_of ps) x) (sym at_level) in
     let named : Names (here (start_of ps) (levels_of before)) s played = rw placed at names in
     goes _ _ _ _ gs (move_free p ps name before s played named) refl (move_leads ps name before s played named)
     (text_run ps name text _ all rest gs (rw at_level at (levels_more before (games.move played.mv))) at_depth
@@ -117,7 +131,8 @@ text_run {p} ps name {deep} {l} (variation _ _ ks ls items more holds room inner
     (rw inside at (levels_more middle games.close_variation)) at_depth (joined before items more ∙ same) further))))
   where
     joined : (xs ys zs : List Item)
-        → (((xs ++ games.open_variation ∷ []) ++ ys) ++ games.close_variation ∷ []) ++ zs ≡ xs ++ games.open_variation ∷ (ys ++ games.close_variation ∷ zs)
+        → (((xs ++ games.open_variation ∷ []) ++ ys) ++ games.close_variation ∷ []) ++ zs
+        ≡ xs ++ games.open_variation ∷ (ys ++ games.close_variation ∷ zs)
     joined xs ys zs = simp append_assoc
 
 -- Markers.
@@ -129,7 +144,8 @@ record Finishes (p : Profile) (ps : List Pair) (name : List ℕ) (items : List I
   goes : is_end k ≡ false
   leads : next (at InMovetext ps name items) k ≡ whole (finished ps items marker)
 
-marker_finishes : (p : Profile) (ps : List Pair) (name : List ℕ) (items : List Item) (k : Kind) {marker : List ℕ} → marker_of k ≡ Some marker → depth (levels_of items) ≡ 0
+marker_finishes : (p : Profile) (ps : List Pair) (name : List ℕ) (items : List Item) (k : Kind) {marker : List ℕ}
+    → marker_of k ≡ Some marker → depth (levels_of items) ≡ 0
     → IsResult p.missing_result (value_of ps (codes "Result")) marker → Finishes p ps name items k marker
 marker_finishes p ps name items k {marker} is outside result =
     let shallow : nat_le 1 (depth (levels_of items)) ≡ false = grind (arith, nat_tests) in
@@ -152,11 +168,11 @@ marker_finishes p ps name items k {marker} is outside result =
 -- tokens run from another part too where the first is let pass and leads as it does from this one
 runs_alike : (p : Profile) (part other : Part) (ks : List Kind) (gs : List Game)
     → ((k : Kind) (js : List Kind) → ks ≡ k ∷ js → refusal p part k ≡ None
-    → (refusal p other k ≡ None) × (next other k ≡ next part k))
-    → Runs p part ks gs → Runs p other ks gs
+    → (refusal p other k ≡ None) × (next other k ≡ next part k)) → Runs p part ks gs → Runs p other ks gs
 runs_alike p part other ks gs alike h6 = search (rules, ends, goes, finishes)
 
-textual : (p : Profile) (ps : List Pair) (name : List ℕ) (items : List Item) (k : Kind) → refusal p (at InMovetext ps name items) k ≡ None → IsTrue (is_textual k)
+textual : (p : Profile) (ps : List Pair) (name : List ℕ) (items : List Item) (k : Kind)
+    → refusal p (at InMovetext ps name items) k ≡ None → IsTrue (is_textual k)
 unfolding refusal
 textual p ps name items tokens.left_bracket free = absurd (none-some _ (sym free))
 textual p ps name items tokens.end free = absurd (none-some _ (sym free))
@@ -180,8 +196,10 @@ begins_between p ps name items ks gs bare =
     let plain = subst BeginsBare e bare in
     (between p (at InMovetext ps name items) k is plain ∙ free, leads_between (at InMovetext ps name items) k is plain))
 
-whole_text_run : (p : Profile) (ps : List Pair) (name : List ℕ) {text : List Kind} (rest : List Kind) {items : List Item} (last : Kind) {marker : List ℕ} (gs : List Game)
-    → SpellsText p (start_of ps) 0 (new_level []) text items → marker_of last ≡ Some marker → IsResult p.missing_result (value_of ps (codes "Result")) marker
+whole_text_run : (p : Profile) (ps : List Pair) (name : List ℕ) {text : List Kind}
+    (rest : List Kind) {items : List Item} (last : Kind) {marker : List ℕ} (gs : List Game)
+    → SpellsText p (start_of ps) 0 (new_level []) text items → marker_of last ≡ Some marker
+    → IsResult p.missing_result (value_of ps (codes "Result")) marker
     → Runs p no_part rest gs → Runs p (at InMovetext ps name []) (text ++ last ∷ rest) (finished ps items marker ∷ gs)
 whole_text_run p ps name rest {items} last {marker} gs spells is result runs =
     text_run ps name spells [] items {around = []} (last ∷ rest) (finished ps items marker ∷ gs) refl refl refl
@@ -193,21 +211,27 @@ opens_between : (p : Profile) (ps : List Pair) (name : List ℕ) (ks : List Kind
     → Runs p (at AfterTags ps name []) (tokens.left_bracket ∷ ks) gs → Runs p (at Between ps name []) (tokens.left_bracket ∷ ks) gs
 opens_between p ps name ks gs h5 = search (rules, at, goes, finishes, open_refusal, open_between)
 
-has_fen : {o : Option (List ℕ)} {fen : Bool} → (o ≡ Some (codes "1") → fen ≡ true) → (bytes_eq (unwrap_or o []) (codes "1") && not fen) ≡ false
+has_fen : {o : Option (List ℕ)} {fen : Bool} → (o ≡ Some (codes "1") → fen ≡ true)
+    → (bytes_eq (unwrap_or o []) (codes "1") && not fen) ≡ false
 has_fen h = grind (arith, bytes_eq-Decides, guarded)
 
-bare_with : (text : List Kind) (last : Kind) (rest : List Kind) {marker : List ℕ} → marker_of last ≡ Some marker → BeginsBare text → BeginsBare (text ++ last ∷ rest)
+bare_with : (text : List Kind) (last : Kind) (rest : List Kind) {marker : List ℕ}
+    → marker_of last ≡ Some marker → BeginsBare text → BeginsBare (text ++ last ∷ rest)
 bare_with text last rest is bare = search rules
 
-tags_run : (p : Profile) {tags : List Kind} {given : List Pair} (rest : List Kind) (gs : List Game) → SpellsPairs tags given → Takes p [] given → IsSetUp (with_pairs [] given)
-    → (given ≡ [] → BeginsBare rest) → ((n : List ℕ) → Runs p (at InMovetext (with_pairs [] given) n []) rest gs) → Runs p no_part (tags ++ rest) gs
+tags_run : (p : Profile) {tags : List Kind} {given : List Pair} (rest : List Kind) (gs : List Game)
+    → SpellsPairs tags given → Takes p [] given → IsSetUp (with_pairs [] given)
+    → (given ≡ [] → BeginsBare rest)
+    → ((n : List ℕ) → Runs p (at InMovetext (with_pairs [] given) n []) rest gs) → Runs p no_part (tags ++ rest) gs
 tags_run p rest gs h5 h6 set_up bare runs = search (rules, with_pairs, takes, pairs_run, begins_after_tags, begins_between, opens_between, has_fen)
 
-game_run : (p : Profile) {ks : List Kind} (rest : List Kind) (g : Game) (gs : List Game) → SpellsGame p ks g → Runs p no_part rest gs → Runs p no_part (ks ++ rest) (g ∷ gs)
+game_run : (p : Profile) {ks : List Kind} (rest : List Kind) (g : Game) (gs : List Game)
+    → SpellsGame p ks g → Runs p no_part rest gs → Runs p no_part (ks ++ rest) (g ∷ gs)
 game_run p {ks} rest g gs h runs =
     let behind : List Kind = h.text ++ h.last ∷ rest in
     let whole_text : (n : List ℕ) → Runs p (at InMovetext (by_name h.given) n []) behind (g ∷ gs) = λ n.
-    subst (λ ps. Runs p (at InMovetext ps n []) behind (g ∷ gs)) h.sorted (whole_text_run p g.pairs n rest h.last gs h.items h.marker h.result runs) in
+    subst (λ ps. Runs p (at InMovetext ps n []) behind (g ∷ gs)) h.sorted
+    (whole_text_run p g.pairs n rest h.last gs h.items h.marker h.result runs) in
     let set_up : IsSetUp (by_name h.given) = subst IsSetUp h.sorted h.set_up in
     let e : ks ++ rest ≡ h.before ++ (h.tags ++ behind) = rw h.tokens (simp append_assoc) in
     subst (λ js. Runs p no_part js (g ∷ gs)) (sym e)

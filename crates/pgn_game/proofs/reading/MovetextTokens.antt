@@ -15,7 +15,8 @@ differs missing o marker = not (bytes_eq marker (unwrap_or o (result_for missing
 pub result_is : (missing : Missing) (o : Option (List ℕ)) (marker : List ℕ) → IsFalse (differs missing o marker) → IsResult missing o marker
 result_is missing o marker h = search (rules, not-false, bytes_eq-Decides)
 
-pub result_meets : (missing : Missing) (o : Option (List ℕ)) (marker : List ℕ) → IsResult missing o marker → IsFalse (differs missing o marker)
+pub result_meets : (missing : Missing) (o : Option (List ℕ)) (marker : List ℕ)
+    → IsResult missing o marker → IsFalse (differs missing o marker)
 result_meets missing o marker h = grind (arith, bytes_eq-Decides)
 
 pub number_no_score : (s : List ℕ) → is_number s ≡ true → is_score s ≡ false

@@ -1,7 +1,8 @@
 -- Pairs that come one after another, and what is asked of each beside those before it.
 use Rattle.pgn_game.proofs.Words.{◌≡◌, ℕ, suc, ◌+◌, ◌<◌, ◌≤◌, Bool, true, false, List, [], ◌∷◌, length, refl, sym, ap, ◌∙◌, arith, Option, None, IsFalse, bytes_eq, AllByRecursion, or_parts, or_from, Profile, Pair, value_of, has_pair, insert_pair, IsPair, AreDistinct, KeepsTags, rules, fold}
 use Rattle.pgn_game.proofs.pairs.NameOrder.{InOrder, order-insert}
-use Rattle.pgn_game.proofs.pairs.ValuesByName.{bytes_eq-true, bytes_eq-sym, either_of, either_none, pick, value_of-cons, value_of-put, has-cons, has-insert, not_among, no_value, by_insert, all-insert}
+use Rattle.pgn_game.proofs.pairs.ValuesByName.{bytes_eq-true, bytes_eq-sym, either_of, either_none, pick, value_of-cons, value_of-put, has-cons}
+use Rattle.pgn_game.proofs.pairs.ValuesByName.{has-insert, not_among, no_value, by_insert, all-insert}
 
 abbrev pub with_pairs : List Pair → List Pair → List Pair
 with_pairs ps qs = fold (λ sorted q. insert_pair q sorted) ps qs
@@ -64,7 +65,8 @@ pub taken : {p : Profile} {qs : List Pair} → Takes p [] qs → KeepsTags p qs
 taken h = search (rules, taken_count, taken_each, taken_apart)
 
 -- And back.
-takes_from : (p : Profile) (ps qs : List Pair) → length ps + length qs ≤ p.tags → AllByRecursion (IsPair p.mode) qs → AreDistinct qs → Apart ps qs → Takes p ps qs
+takes_from : (p : Profile) (ps qs : List Pair) → length ps + length qs ≤ p.tags
+    → AllByRecursion (IsPair p.mode) qs → AreDistinct qs → Apart ps qs → Takes p ps qs
 takes_from p ps [] count each distinct apart = tt
 takes_from p ps (q ∷ qs) count each distinct apart =
     let more = length-insert q ps in (
@@ -83,10 +85,16 @@ put_later : (q : Pair) (n : List ℕ) (b : Bool) (o more : Option (List ℕ)) �
 put_later q n true o more is new = cc (new (bytes_eq-true q.name n is))
 put_later q n false o more is new = refl
 
-pub value_of-all : (p : Profile) (ps qs : List Pair) (n : List ℕ) → Takes p ps qs → value_of (with_pairs ps qs) n ≡ either_of (value_of ps n) (value_of qs n)
+pub value_of-all : (p : Profile) (ps qs : List Pair) (n : List ℕ) → Takes p ps qs
+    → value_of (with_pairs ps qs) n ≡ either_of (value_of ps n) (value_of qs n)
 value_of-all p ps [] n h = sym (either_none _)
 value_of-all p ps (q ∷ qs) n h =
-    cc (value_of-all p (insert_pair q ps) qs n h.3, value_of-put q ps n h.1, put_later q n (bytes_eq q.name n) (value_of ps n) (value_of qs n) refl (λ e. no_value (value_of ps n) (ap (has_pair ps) (sym e) ∙ h.1)), value_of-cons q qs n)
+    cc (
+      value_of-all p (insert_pair q ps) qs n h.3,
+      value_of-put q ps n h.1,
+      put_later q n (bytes_eq q.name n) (value_of ps n) (value_of qs n) refl (λ e. no_value (value_of ps n) (ap (has_pair ps) (sym e) ∙ h.1)),
+      value_of-cons q qs n,
+    )
 
 -- what is all put in is in order, and has what each has
 pub order-all : (p : Profile) (ps qs : List Pair) → Takes p ps qs → InOrder ps → InOrder (with_pairs ps qs)

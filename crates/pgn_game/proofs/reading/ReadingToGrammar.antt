@@ -4,7 +4,8 @@ use Rattle.pgn_lexer.specs.Tokens as tokens
 use Rattle.pgn_game.specs.Game as games
 use Rattle.pgn_game.proofs.reading.RunsToEnd.{at, Runs, ends, goes, finishes}
 use Rattle.pgn_game.proofs.refusals.RefusalsInMovetext.{marker_if, rows_for, same_at_zero, symbol_next, symbol_refusal}
-use Rattle.pgn_game.proofs.refusals.RefusalsByStage.{test_failed, rest_passed, open_refusal, open_between, name_refusal, value_refusal, is_textual, after_tags, leads_after_tags, between, leads_between, text_row}
+use Rattle.pgn_game.proofs.refusals.RefusalsByStage.{test_failed, rest_passed, open_refusal, open_between, name_refusal, value_refusal, is_textual}
+use Rattle.pgn_game.proofs.refusals.RefusalsByStage.{after_tags, leads_after_tags, between, leads_between, text_row}
 use Rattle.pgn_game.proofs.reading.PairsInTurn.{with_pairs, Takes, taken}
 use Rattle.pgn_game.proofs.reading.MovetextTokens.{levels_more, stands_levels, differs, result_is}
 
@@ -21,33 +22,38 @@ deep-length (l ∷ around) = let e = deep-length around in omega arith
 data Closes (p : Profile) (first : Parts) : Level → List Level → List Kind → List Item → Type 0 where
   outermost : (l : Level) (ks : List Kind) (items : List Item) → SpellsText p first 0 l ks items → Closes p first l [] ks items
   inside : (l m : Level) (around : List Level) (ks ls : List Kind) (items more : List Item) → SpellsText p first (deep around + 1) l ks items
-      → Closes p first m around ls more → Closes p first l (m ∷ around) (ks ++ tokens.right_paren ∷ ls) (items ++ games.close_variation ∷ more)
+      → Closes p first m around ls more
+      → Closes p first l (m ∷ around) (ks ++ tokens.right_paren ∷ ls) (items ++ games.close_variation ∷ more)
 
 -- one token more at this level, from where it leads
 add_front : (p : Profile) {first : Parts} (l n : Level) (around : List Level) (k : Kind) (ks : List Kind)
     (item items : List Item) → ((d : ℕ) (js : List Kind) (is : List Item) → SpellsText p first d n js is
-    → SpellsText p first d l (k ∷ js) (item ++ is))
-    → Closes p first n around ks items → Closes p first l around (k ∷ ks) (item ++ items)
+    → SpellsText p first d l (k ∷ js) (item ++ is)) → Closes p first n around ks items → Closes p first l around (k ∷ ks) (item ++ items)
 add_front p l _ _ k _ item _ front (outermost n ks items text) = outermost l _ _ (front 0 ks items text)
 add_front p l _ _ k _ item _ front (inside n m around ks ls items more text rest) =
     rw (append_assoc item items _) at (inside l m around (k ∷ ks) ls (item ++ items) more (front _ ks items text) rest)
 
-add_variation : {p : Profile} {first : Parts} (l : Level) (around : List Level) (ks ls : List Kind) (items more : List Item) → IsTrue l.has_own_move → deep around < p.depth
+add_variation : {p : Profile} {first : Parts} (l : Level) (around : List Level) (ks ls : List Kind) (items more : List Item)
+    → IsTrue l.has_own_move → deep around < p.depth
     → SpellsText p first (deep around + 1) (new_level (without_last l.trail)) ks items → Closes p first l around ls more
-    → Closes p first l around (tokens.left_paren ∷ (ks ++ tokens.right_paren ∷ ls)) (games.open_variation ∷ (items ++ games.close_variation ∷ more))
+    → Closes p first l around (tokens.left_paren ∷ (ks ++ tokens.right_paren ∷ ls))
+    (games.open_variation ∷ (items ++ games.close_variation ∷ more))
 add_variation _ _ ks _ items _ holds room inner (outermost l ls more text) =
     outermost l (tokens.left_paren ∷ (ks ++ tokens.right_paren ∷ ls)) (games.open_variation ∷ (items ++ games.close_variation ∷ more))
     (variation 0 l ks ls items more holds room inner text)
 add_variation _ _ ks _ items _ holds room inner (inside l m around ls js more others text rest) =
-    rw (append_assoc ks _ _) at (rw (append_assoc items _ _) at (inside l m around (tokens.left_paren ∷ (ks ++ tokens.right_paren ∷ ls)) js (games.open_variation ∷ (items ++ games.close_variation ∷ more)) others
+    rw (append_assoc ks _ _) at (rw (append_assoc items _ _) at (inside l m around
+    (tokens.left_paren ∷ (ks ++ tokens.right_paren ∷ ls)) js (games.open_variation ∷ (items ++ games.close_variation ∷ more)) others
     (variation _ l ks ls items more holds room inner text) rest))
 
-add_open : (p : Profile) (first : Parts) (l : Level) {n : Level} (around : List Level) (ks : List Kind) (items : List Item) → IsTrue l.has_own_move → deep around < p.depth
+add_open : (p : Profile) (first : Parts) (l : Level) {n : Level} (around : List Level) (ks : List Kind) (items : List Item)
+    → IsTrue l.has_own_move → deep around < p.depth
     → n ≡ new_level (without_last l.trail) → Closes p first n (l ∷ around) ks items
     → Closes p first l around (tokens.left_paren ∷ ks) (games.open_variation ∷ items)
 add_open p first l around ks items holds room e h10 = search (rules, at, add_variation)
 
-add_close : (p : Profile) (first : Parts) (l m : Level) (around : List Level) (ks : List Kind) (items : List Item) → Closes p first m around ks items
+add_close : (p : Profile) (first : Parts) (l m : Level) (around : List Level) (ks : List Kind) (items : List Item)
+    → Closes p first m around ks items
     → Closes p first l (m ∷ around) (tokens.right_paren ∷ ks) (games.close_variation ∷ items)
 add_close p first l m around ks items rest = inside l m around [] ks [] items (no_more _ l) rest
 
@@ -76,7 +82,8 @@ Adds p ps items k new =
     (text : List Kind) (more : List Item) → Closes p (start_of ps) (levels_of (items ++ new)).present (levels_of (items ++ new)).around text more
     → Closes p (start_of ps) (levels_of items).present (levels_of items).around (k ∷ text) (new ++ more)
 
-text_more : {p : Profile} {ps : List Pair} {items : List Item} (new : List Item) {k : Kind} {ks : List Kind} {gs : List Game} → Adds p ps items k new
+text_more : {p : Profile} {ps : List Pair} {items : List Item} (new : List Item) {k : Kind} {ks : List Kind} {gs : List Game}
+    → Adds p ps items k new
     → Text_left p ps (items ++ new) ks gs → Text_left p ps items (k ∷ ks) gs
 text_more new adds h = search (rules, append_assoc)
 
@@ -159,7 +166,8 @@ token_step {p} {items} {item} {k} stands h =
     add_front p l l _ k text item more (λ d js is rest. token d l k js item is stands rest)
     (rw (stands_levels items stands) at c)) h
 
-adds_move : (p : Profile) (ps : List Pair) (items : List Item) (s : List ℕ) (played : Played) → Names (here (start_of ps) (levels_of items)) s played
+adds_move : (p : Profile) (ps : List Pair) (items : List Item) (s : List ℕ) (played : Played)
+    → Names (here (start_of ps) (levels_of items)) s played
     → Adds p ps items (tokens.symbol s) (games.move played.mv ∷ [])
 adds_move p ps items s played names text more c =
     let l = (levels_of items).present in
@@ -176,10 +184,12 @@ close_at : (p : Profile) (first : Parts) (l : Level) (around : List Level) (text
     → Closes p first l around (tokens.right_paren ∷ text) (games.close_variation ∷ more)
 close_at p first l around text more some c = search (rules, false≢true, add_close)
 
-adds_close : (p : Profile) (ps : List Pair) (items : List Item) → (depth (levels_of items) == 0) ≡ false → Adds p ps items tokens.right_paren (games.close_variation ∷ [])
+adds_close : (p : Profile) (ps : List Pair) (items : List Item) → (depth (levels_of items) == 0) ≡ false
+    → Adds p ps items tokens.right_paren (games.close_variation ∷ [])
 adds_close p ps items some = search (rules, at, levels_more, close_at)
 
-open_step : (p : Profile) {ps : List Pair} (name : List ℕ) {items : List Item} {ks : List Kind} {gs : List Game} → refusal p (at InMovetext ps name items) tokens.left_paren ≡ None
+open_step : (p : Profile) {ps : List Pair} (name : List ℕ) {items : List Item} {ks : List Kind} {gs : List Game}
+    → refusal p (at InMovetext ps name items) tokens.left_paren ≡ None
     → Text_left p ps (items ++ games.open_variation ∷ []) ks gs → Text_left p ps items (tokens.left_paren ∷ ks) gs
 open_step p {ps} name {items} free h =
     let e = sym (text_row p (at InMovetext ps name items) _ refl) ∙ free in
@@ -188,14 +198,17 @@ open_step p {ps} name {items} free h =
     test_failed _ TooDeep None (rest_passed (not _) NoMoveBefore e) in
     text_more _ (adds_open p ps items holds (leb-false _ _ room)) h
 
-close_step : (p : Profile) {ps : List Pair} (name : List ℕ) {items : List Item} {ks : List Kind} {gs : List Game} → refusal p (at InMovetext ps name items) tokens.right_paren ≡ None
+close_step : (p : Profile) {ps : List Pair} (name : List ℕ) {items : List Item} {ks : List Kind} {gs : List Game}
+    → refusal p (at InMovetext ps name items) tokens.right_paren ≡ None
     → Text_left p ps (items ++ games.close_variation ∷ []) ks gs → Text_left p ps items (tokens.right_paren ∷ ks) gs
 close_step p {ps} name {items} free h =
     text_more _
     (adds_close p ps items (test_failed _ UnmatchedClose None (sym (text_row p (at InMovetext ps name items) _ refl) ∙ free))) h
 
-marker_step : {p : Profile} {ps : List Pair} {items : List Item} {k : Kind} {marker : List ℕ} {ks : List Kind} {gs : List Game} → marker_of k ≡ Some marker
-    → nat_le 1 (depth (levels_of items)) ≡ false → (differs p.missing_result (value_of ps (codes "Result")) marker && (depth (levels_of items) == 0)) ≡ false
+marker_step : {p : Profile} {ps : List Pair} {items : List Item} {k : Kind} {marker : List ℕ} {ks : List Kind} {gs : List Game}
+    → marker_of k ≡ Some marker
+    → nat_le 1 (depth (levels_of items)) ≡ false
+    → (differs p.missing_result (value_of ps (codes "Result")) marker && (depth (levels_of items) == 0)) ≡ false
     → After p (whole (record { pairs = ps; items = items; marker = marker })) ks gs → Text_left p ps items (k ∷ ks) gs
 marker_step {p} {items} {k} {marker} {ks} is shallow same after =
     let outside : depth (levels_of items) ≡ 0 = omega (arith, leb-false 1 (depth (levels_of items)) shallow) in
@@ -234,7 +247,8 @@ symbol_step name s false true o digits is_marker one free after =
     marker_step (ap (λ b. marker_if b s) is_marker) (test_failed _ MarkerInVariation _ free)
     (test_failed _ ResultDiffers None (rest_passed (nat_le 1 _) MarkerInVariation free)) after
 
-text_step : {p : Profile} {ps : List Pair} (name : List ℕ) {items : List Item} (k : Kind) {ks : List Kind} {gs : List Game} → refusal p (at InMovetext ps name items) k ≡ None
+text_step : {p : Profile} {ps : List Pair} (name : List ℕ) {items : List Item} (k : Kind) {ks : List Kind} {gs : List Game}
+    → refusal p (at InMovetext ps name items) k ≡ None
     → is_end k ≡ false → After p (next (at InMovetext ps name items) k) ks gs → Text_left p ps items (k ∷ ks) gs
 unfolding refusal
 text_step name tokens.left_paren free end after = open_step _ name free (after tt)
@@ -251,7 +265,8 @@ text_step {p} {ps} name {items} tokens.asterisk free end after =
 text_step {p} {ps} name {items} (tokens.symbol s) free end after =
     let place = here (start_of ps) (levels_of items) in
     symbol_step name s _ _ _ refl refl refl
-    (sym (text_row p (at InMovetext ps name items) (tokens.symbol s) refl ∙ symbol_refusal p (at InMovetext ps name items) s _ refl refl) ∙ free) after
+    (sym (text_row p (at InMovetext ps name items) (tokens.symbol s) refl ∙ symbol_refusal p (at InMovetext ps name items) s _ refl refl)
+    ∙ free) after
 text_step name tokens.end free end after = absurd (false≢true (sym end))
 text_step name _ free end after = absurd (none-some _ (sym free))
 
@@ -271,8 +286,7 @@ is_full : (mode : Mode) {b : Bool} → (is_reduced mode && b) ≡ false → b �
 is_full Full h e = refl
 is_full Reduced h e = absurd (cc)
 
-one_dropped : (P : List Kind → Type 0) {k : Kind} {ks : List Kind} → IsTrue (is_comment k) → Dropping P ks
-    → Dropping P (k ∷ ks)
+one_dropped : (P : List Kind → Type 0) {k : Kind} {ks : List Kind} → IsTrue (is_comment k) → Dropping P ks → Dropping P (k ∷ ks)
 one_dropped P {k} is h =
     let kinds = ap (λ xs. k ∷ xs) h.kinds in
     record { front = k ∷ h.front; rest = h.rest; kinds = kinds; dropped = dropped_more k h.front is h.dropped; left = h.left }
@@ -281,13 +295,13 @@ none_dropped : (P : List Kind → Type 0) {ks : List Kind} → P ks → Dropping
 none_dropped P {ks} h = record { front = []; rest = ks; kinds = refl; dropped = refl; left = h }
 
 bracket_step : {p : Profile} {ps : List Pair} (name : List ℕ) {items : List Item} (k : Kind) {ks : List Kind} {gs : List Game} → items ≡ []
-    → refusal p (at AfterValue ps name items) k ≡ None → After p (next (at AfterValue ps name items) k) ks gs → Bracket_left p ps (k ∷ ks) gs
+    → refusal p (at AfterValue ps name items) k ≡ None
+    → After p (next (at AfterValue ps name items) k) ks gs → Bracket_left p ps (k ∷ ks) gs
 unfolding refusal
 bracket_step name tokens.comment_open none free after = one_dropped _ refl (after none)
 bracket_step name (tokens.word s) none free after = one_dropped _ refl (after none)
 bracket_step name tokens.comment_close none free after = one_dropped _ refl (after none)
-bracket_step name tokens.right_bracket {ks} none free after =
-    none_dropped _ (record { behind = ks; kinds = refl; tags = after none })
+bracket_step name tokens.right_bracket {ks} none free after = none_dropped _ (record { behind = ks; kinds = refl; tags = after none })
 bracket_step name _ none free after = absurd (none-some _ (sym free))
 
 value_given : (p : Profile) {ps : List Pair} {name : List ℕ} (items : List Item) (s : List ℕ) {ks : List Kind} {gs : List Game}
@@ -311,7 +325,8 @@ value_given p {name} items s {ks} free h =
     })
 
 value_step : {p : Profile} {ps : List Pair} {name : List ℕ} {items : List Item} (k : Kind) {ks : List Kind} {gs : List Game} → items ≡ []
-    → refusal p (at AfterName ps name items) k ≡ None → After p (next (at AfterName ps name items) k) ks gs → Value_left p ps name (k ∷ ks) gs
+    → refusal p (at AfterName ps name items) k ≡ None
+    → After p (next (at AfterName ps name items) k) ks gs → Value_left p ps name (k ∷ ks) gs
 unfolding refusal
 value_step tokens.comment_open none free after = one_dropped _ refl (after none)
 value_step (tokens.word s) none free after = one_dropped _ refl (after none)
@@ -320,7 +335,8 @@ value_step {p} {items} (tokens.str s) none free after = value_given p items s fr
 value_step _ none free after = absurd (none-some _ (sym free))
 
 name_given : (p : Profile) (ps : List Pair) (name : List ℕ) (items : List Item) (s : List ℕ) (ks : List Kind) {gs : List Game}
-    → refusal p (at AfterLeftBracket ps name items) (tokens.symbol s) ≡ None → Value_left p ps s ks gs → Name_left p ps (tokens.symbol s ∷ ks) gs
+    → refusal p (at AfterLeftBracket ps name items) (tokens.symbol s) ≡ None
+    → Value_left p ps s ks gs → Name_left p ps (tokens.symbol s ∷ ks) gs
 name_given p ps name items s ks free h =
     let e = sym (name_refusal p (at _ ps name items) s refl) ∙ free in
     let f = rest_passed (not (list_all in_name s)) BadTagName e in
@@ -338,7 +354,8 @@ name_given p ps name items s ks free h =
     })
 
 name_step : {p : Profile} {ps : List Pair} (name : List ℕ) {items : List Item} {k : Kind} {ks : List Kind} {gs : List Game} → items ≡ []
-    → refusal p (at AfterLeftBracket ps name items) k ≡ None → After p (next (at AfterLeftBracket ps name items) k) ks gs → Name_left p ps (k ∷ ks) gs
+    → refusal p (at AfterLeftBracket ps name items) k ≡ None
+    → After p (next (at AfterLeftBracket ps name items) k) ks gs → Name_left p ps (k ∷ ks) gs
 unfolding refusal
 name_step name none free after = search (rules, none-some, one_dropped, name_given)
 
@@ -358,7 +375,8 @@ pair_step p {ps} {ks} free dn =
     let whole : ks ≡ xs ++ tokens.symbol n.name ∷ (ys ++ tokens.str v.value ∷ (zs ++ tokens.right_bracket ∷ (t.tags ++ t.behind))) =
     cc (dn.kinds, n.kinds, dv.kinds, v.kinds, db.kinds, b.kinds, t.kinds) in (
       record {
-        tags = (tokens.left_bracket ∷ (xs ++ tokens.symbol n.name ∷ (ys ++ tokens.str v.value ∷ (zs ++ tokens.right_bracket ∷ [])))) ++ t.tags;
+        tags =
+            (tokens.left_bracket ∷ (xs ++ tokens.symbol n.name ∷ (ys ++ tokens.str v.value ∷ (zs ++ tokens.right_bracket ∷ [])))) ++ t.tags;
         given = q ∷ t.given;
         behind = t.behind;
         kinds = (rw whole (simp append_assoc));
@@ -375,7 +393,8 @@ pair_step p {ps} {ks} free dn =
       λ e. absurd (cc),
     )
 
-no_pair_step : {p : Profile} {ps : List Pair} {items : List Item} {ks : List Kind} {gs : List Game} → items ≡ [] → IsSetUp ps → Text_left p ps items ks gs → Tags_left p ps ks gs
+no_pair_step : {p : Profile} {ps : List Pair} {items : List Item} {ks : List Kind} {gs : List Game}
+    → items ≡ [] → IsSetUp ps → Text_left p ps items ks gs → Tags_left p ps ks gs
 no_pair_step {ks} none set_up h = record {
   tags = [];
   given = [];
@@ -387,11 +406,14 @@ no_pair_step {ks} none set_up h = record {
   text = rw none at h;
 }
 
-is_set_up : {o : Option (List ℕ)} {fen : Bool} → (bytes_eq (unwrap_or o []) (codes "1") && not fen) ≡ false → o ≡ Some (codes "1") → fen ≡ true
+is_set_up : {o : Option (List ℕ)} {fen : Bool}
+    → (bytes_eq (unwrap_or o []) (codes "1") && not fen) ≡ false → o ≡ Some (codes "1") → fen ≡ true
 is_set_up h e = grind (arith, not-false)
 
-tags_text : (p : Profile) (ps : List Pair) (name : List ℕ) (items : List Item) (k : Kind) {ks : List Kind} {gs : List Game} → items ≡ [] → IsTrue (is_textual k)
-    → refusal p (at AfterTags ps name items) k ≡ None → is_end k ≡ false → After p (next (at AfterTags ps name items) k) ks gs → Tags_left p ps (k ∷ ks) gs
+tags_text : (p : Profile) (ps : List Pair) (name : List ℕ) (items : List Item) (k : Kind) {ks : List Kind} {gs : List Game}
+    → items ≡ [] → IsTrue (is_textual k)
+    → refusal p (at AfterTags ps name items) k ≡ None → is_end k ≡ false
+    → After p (next (at AfterTags ps name items) k) ks gs → Tags_left p ps (k ∷ ks) gs
 tags_text p ps name items k none is free end after =
     let e = sym (after_tags p (at AfterTags ps name items) k is) ∙ free in
     let lacks = lacks_fen ps in
@@ -399,7 +421,8 @@ tags_text p ps name items k none is free end after =
     (text_step name k (rest_passed lacks SetUpWithoutFen e) end (rw (leads_after_tags (at AfterTags ps name items) k is) at after))
 
 tags_step : {p : Profile} {ps : List Pair} (name : List ℕ) {items : List Item} {k : Kind} {ks : List Kind} {gs : List Game} → items ≡ []
-    → refusal p (at AfterTags ps name items) k ≡ None → is_end k ≡ false → After p (next (at AfterTags ps name items) k) ks gs → Tags_left p ps (k ∷ ks) gs
+    → refusal p (at AfterTags ps name items) k ≡ None → is_end k ≡ false
+    → After p (next (at AfterTags ps name items) k) ks gs → Tags_left p ps (k ∷ ks) gs
 unfolding refusal
 tags_step name none free end after = search (rules, false≢true, none-some, at, test_failed, open_refusal, pair_step, tags_text)
 
@@ -423,14 +446,17 @@ game_drops k is h = record {
   result = h.result;
 }
 
-games_drop : {p : Profile} {k : Kind} {ks : List Kind} {gs : List Game} → IsTrue (is_comment k) → SpellsGames p ks gs → SpellsGames p (k ∷ ks) gs
+games_drop : {p : Profile} {k : Kind} {ks : List Kind} {gs : List Game}
+    → IsTrue (is_comment k) → SpellsGames p ks gs → SpellsGames p (k ∷ ks) gs
 games_drop {k} is (no_game ks are) = no_game (k ∷ ks) (dropped_more k ks is are)
 games_drop {k} is (next_game ks ls g gs first others) = next_game (k ∷ ks) ls g gs (game_drops k is first) others
 
-outer_text : {p : Profile} {first : Parts} {l : Level} {ks : List Kind} {items : List Item} → Closes p first l [] ks items → SpellsText p first 0 l ks items
+outer_text : {p : Profile} {first : Parts} {l : Level} {ks : List Kind} {items : List Item}
+    → Closes p first l [] ks items → SpellsText p first 0 l ks items
 outer_text (outermost _ ks items text) = text
 
-game_begins : {p : Profile} {ps : List Pair} {ks : List Kind} {gs : List Game} → ps ≡ [] → (t : Tags_left p ps ks gs) → (t.given ≡ [] → BeginsBare t.text.text) → SpellsGames p ks gs
+game_begins : {p : Profile} {ps : List Pair} {ks : List Kind} {gs : List Game} → ps ≡ []
+    → (t : Tags_left p ps ks gs) → (t.given ≡ [] → BeginsBare t.text.text) → SpellsGames p ks gs
 game_begins {p} {ps} none t bare =
     let x = t.text in
     let sorted = ap (λ qs. with_pairs qs t.given) none in
@@ -457,20 +483,26 @@ game_begins {p} {ps} none t bare =
     } in
     rw e (subst (SpellsGames p _) (sym x.games) (next_game front _ g x.later game x.others))
 
-bare_from : {k : Kind} {ks : List Kind} (text : List Kind) (last : Kind) (behind : List Kind) → IsFalse (is_comment k) → k ∷ ks ≡ text ++ last ∷ behind → BeginsBare text
+bare_from : {k : Kind} {ks : List Kind} (text : List Kind) (last : Kind) (behind : List Kind)
+    → IsFalse (is_comment k) → k ∷ ks ≡ text ++ last ∷ behind → BeginsBare text
 bare_from [] last behind is e = tt
 bare_from {k} (j ∷ js) last behind is e = let same : j ≡ k = cc in cc
 
-between_text : (p : Profile) {ps : List Pair} (name : List ℕ) {items : List Item} (k : Kind) {ks : List Kind} {gs : List Game} → ps ≡ [] → items ≡ [] → IsTrue (is_textual k)
-    → IsFalse (is_comment k) → refusal p (at Between ps name items) k ≡ None → is_end k ≡ false → After p (next (at Between ps name items) k) ks gs → SpellsGames p (k ∷ ks) gs
+between_text : (p : Profile) {ps : List Pair} (name : List ℕ) {items : List Item} (k : Kind) {ks : List Kind} {gs : List Game}
+    → ps ≡ [] → items ≡ [] → IsTrue (is_textual k)
+    → IsFalse (is_comment k) → refusal p (at Between ps name items) k ≡ None → is_end k ≡ false
+    → After p (next (at Between ps name items) k) ks gs → SpellsGames p (k ∷ ks) gs
 unfolding no_pair_step
 between_text p {ps} name {items} k {ks} {gs} no_pairs none is bare free end after =
-    let text = text_step {p = p} {ps = ps} name {items = items} k {ks = ks} {gs = gs} (sym (between p (at Between ps name items) k is bare) ∙ free) end (rw (leads_between (at Between ps name items) k is bare) at after) in
+    let text = text_step {p = p} {ps = ps} name {items = items} k {ks = ks} {gs = gs}
+    (sym (between p (at Between ps name items) k is bare) ∙ free) end (rw (leads_between (at Between ps name items) k is bare) at after) in
     let t = no_pair_step none (subst IsSetUp (sym no_pairs) (λ e. absurd (cc))) text in
     game_begins no_pairs t (λ given. bare_from t.text.text t.text.last t.text.behind bare t.text.kinds)
 
-between_step : {p : Profile} {ps : List Pair} (name : List ℕ) {items : List Item} (k : Kind) {ks : List Kind} {gs : List Game} → ps ≡ [] → items ≡ []
-    → refusal p (at Between ps name items) k ≡ None → is_end k ≡ false → After p (next (at Between ps name items) k) ks gs → SpellsGames p (k ∷ ks) gs
+between_step : {p : Profile} {ps : List Pair} (name : List ℕ) {items : List Item} (k : Kind) {ks : List Kind} {gs : List Game}
+    → ps ≡ [] → items ≡ []
+    → refusal p (at Between ps name items) k ≡ None → is_end k ≡ false
+    → After p (next (at Between ps name items) k) ks gs → SpellsGames p (k ∷ ks) gs
 unfolding refusal
 between_step name tokens.comment_open no_pairs none free end after = games_drop refl (after (no_pairs, none))
 between_step name (tokens.word s) no_pairs none free end after = games_drop refl (after (no_pairs, none))
@@ -482,11 +514,14 @@ between_step name tokens.end no_pairs none free end after = absurd (false≢true
 between_step name (tokens.refused r) no_pairs none free end after = absurd (none-some _ (sym free))
 between_step {p} name k no_pairs none free end after = between_text p name k no_pairs none refl refl free end after
 
-step : (p : Profile) (stage : Stage) (ps : List Pair) (name : List ℕ) (items : List Item) (k : Kind) (ks : List Kind) (gs : List Game) → Fits stage ps items
-    → refusal p (at stage ps name items) k ≡ None → is_end k ≡ false → After p (next (at stage ps name items) k) ks gs → Left p stage ps name items (k ∷ ks) gs
+step : (p : Profile) (stage : Stage) (ps : List Pair) (name : List ℕ) (items : List Item) (k : Kind) (ks : List Kind) (gs : List Game)
+    → Fits stage ps items
+    → refusal p (at stage ps name items) k ≡ None → is_end k ≡ false
+    → After p (next (at stage ps name items) k) ks gs → Left p stage ps name items (k ∷ ks) gs
 step p stage ps name items k ks gs fits free end after = search (rules, text_step, bracket_step, value_step, name_step, tags_step, between_step)
 
-at_end : (p : Profile) (stage : Stage) (ps : List Pair) (name : List ℕ) (items : List Item) → refusal p (at stage ps name items) tokens.end ≡ None
+at_end : (p : Profile) (stage : Stage) (ps : List Pair) (name : List ℕ) (items : List Item)
+    → refusal p (at stage ps name items) tokens.end ≡ None
     → Left p stage ps name items (tokens.end ∷ []) []
 unfolding refusal
 at_end p Between ps name items free = no_game [] refl
@@ -495,8 +530,7 @@ at_end p _ ps name items free = absurd (none-some _ (sym free))
 left : (p : Profile) (part : Part) (ks : List Kind) (gs : List Game) → Runs p part ks gs → Fits part.stage part.pairs part.items
     → Left p part.stage part.pairs part.name part.items ks gs
 left p _ _ _ (ends part free) fits = at_end p _ _ _ _ free
-left p _ _ _ (goes part to k ks gs free end leads runs) fits =
-    step p _ _ _ _ k ks gs fits free end (rw leads (left p to ks gs runs))
+left p _ _ _ (goes part to k ks gs free end leads runs) fits = step p _ _ _ _ k ks gs fits free end (rw leads (left p to ks gs runs))
 left p _ _ _ (finishes part k g ks gs free end leads runs) fits =
     step p _ _ _ _ k ks _ fits free end
     (rw leads (gs, refl, left p no_part ks gs runs (refl, refl)))

@@ -9,9 +9,11 @@ at stage ps name items = record { stage = stage; pairs = ps; name = name; items 
 -- None is rejected, only the last is the end, and from this part on they finish these games.
 pub data Runs (p : Profile) : Part → List Kind → List Game → Type 0 where
   ends : (part : Part) → refusal p part tokens.end ≡ None → Runs p part (tokens.end ∷ []) []
-  goes : (part to : Part) (k : Kind) (ks : List Kind) (gs : List Game) → refusal p part k ≡ None → is_end k ≡ false → next part k ≡ going to
+  goes : (part to : Part) (k : Kind) (ks : List Kind) (gs : List Game)
+      → refusal p part k ≡ None → is_end k ≡ false → next part k ≡ going to
       → Runs p to ks gs → Runs p part (k ∷ ks) gs
-  finishes : (part : Part) (k : Kind) (g : Game) (ks : List Kind) (gs : List Game) → refusal p part k ≡ None → is_end k ≡ false → next part k ≡ whole g
+  finishes : (part : Part) (k : Kind) (g : Game) (ks : List Kind) (gs : List Game)
+      → refusal p part k ≡ None → is_end k ≡ false → next part k ≡ whole g
       → Runs p no_part ks gs → Runs p part (k ∷ ks) (g ∷ gs)
 
 abbrev pub kinds : List Token → List Kind
@@ -28,14 +30,16 @@ pub not_end : (k : Kind) → (IsLast k → ⊥) → is_end k ≡ false
 not_end tokens.end h = absurd (h tt)
 not_end _ h = refl
 
-end_leads : (stage : Stage) (ps : List Pair) (name : List ℕ) (items : List Item) → (to : Part) × (next (at stage ps name items) tokens.end ≡ going to)
+end_leads : (stage : Stage) (ps : List Pair) (name : List ℕ) (items : List Item)
+    → (to : Part) × (next (at stage ps name items) tokens.end ≡ going to)
 end_leads Between ps name items = (at Between ps name items, refl)
 end_leads AfterLeftBracket ps name items = (at _ ps name items, refl)
 end_leads AfterName ps name items = (at _ ps name items, refl)
 end_leads AfterValue ps name items = (at _ ps name items, refl)
 end_leads _ ps name items = (at _ ps name _, refl)
 
-at_end : {p : Profile} {b : Progress} {place : ℕ} (k : Kind) → IsLast k → (read_from p b (record { at = place; kind = k } ∷ [])).fault ≡ None
+at_end : {p : Profile} {b : Progress} {place : ℕ} (k : Kind) → IsLast k
+    → (read_from p b (record { at = place; kind = k } ∷ [])).fault ≡ None
     → Read_on p b (record { at = place; kind = k } ∷ []) []
 unfolding refusal
 at_end (tokens.refused r) last e = absurd (cc)
@@ -46,7 +50,8 @@ at_end {p} {b} {place} tokens.end last e =
     record { same = search (rules, append-nil, goes_on); runs = ends _ free }
 at_end _ last e = absurd last
 
-one_more : (p : Profile) (b : Progress) (t : Token) {ts : List Token} → refusal p b.part t.kind ≡ None → is_end t.kind ≡ false → (n : Next) → next b.part t.kind ≡ n
+one_more : (p : Profile) (b : Progress) (t : Token) {ts : List Token} → refusal p b.part t.kind ≡ None
+    → is_end t.kind ≡ false → (n : Next) → next b.part t.kind ≡ n
     → {gs : List Game} → Read_on p (progress_with b.games n) ts gs → (all : List Game) × Read_on p b (t ∷ ts) all
 one_more p b t {ts} free end (going to) leads {gs} rest = (
   gs,
@@ -60,7 +65,8 @@ one_more p b t {ts} free end (whole g) leads {gs} rest = (
   },
 )
 
-from_read : (p : Profile) (b : Progress) (ts : List Token) → RisesTo ts → (read_from p b ts).fault ≡ None → (gs : List Game) × Read_on p b ts gs
+from_read : (p : Profile) (b : Progress) (ts : List Token) → RisesTo ts
+    → (read_from p b ts).fault ≡ None → (gs : List Game) × Read_on p b ts gs
 from_read p b [] rises e = absurd rises
 from_read p b (t ∷ []) rises e = ([], at_end t.kind rises e)
 from_read p b (t ∷ u ∷ us) rises e =
@@ -76,11 +82,13 @@ record Read_well (p : Profile) (b : Progress) (ts : List Token) (gs : List Game)
 abbrev behind : List Game → Part → Progress
 behind games part = record { games = games; part = part }
 
-read_one : {p : Profile} {b c : Progress} {t : Token} {ts : List Token} {gs all : List Game} → refusal p b.part t.kind ≡ None → progress_after b t ≡ c → c.games ++ gs ≡ b.games ++ all
+read_one : {p : Profile} {b c : Progress} {t : Token} {ts : List Token} {gs all : List Game}
+    → refusal p b.part t.kind ≡ None → progress_after b t ≡ c → c.games ++ gs ≡ b.games ++ all
     → Read_well p c ts gs → Read_well p b (t ∷ ts) all
 read_one free leads same h = search (rules, goes_on)
 
-to_read : (p : Profile) {part : Part} {ks : List Kind} {gs : List Game} → Runs p part ks gs → (ts : List Token) (before : List Game) → kinds ts ≡ ks
+to_read : (p : Profile) {part : Part} {ks : List Kind} {gs : List Game}
+    → Runs p part ks gs → (ts : List Token) (before : List Game) → kinds ts ≡ ks
     → Read_well p (behind before part) ts gs
 to_read p (ends part free) (t ∷ []) before e = search (rules, append-nil, end_leads, read_one)
 to_read p (goes part to k ks gs free end leads runs) (t ∷ ts) before e =

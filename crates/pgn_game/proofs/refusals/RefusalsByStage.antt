@@ -27,18 +27,20 @@ drops_comments AfterTags = false
 drops_comments InMovetext = false
 drops_comments _ = true
 
-no_value_rows : (name : List ℕ) → or_else (bytes_eq name (codes "Result") && false) BadResult (or_else (bytes_eq name (codes "FEN") && false) (BadFen 0) None) ≡ None
-no_value_rows name =
-    pass _ _ _ (and_right _ false refl) ∙ pass _ _ None (and_right _ false refl)
+no_value_rows : (name : List ℕ)
+    → or_else (bytes_eq name (codes "Result") && false) BadResult (or_else (bytes_eq name (codes "FEN") && false) (BadFen 0) None) ≡ None
+no_value_rows name = pass _ _ _ (and_right _ false refl) ∙ pass _ _ None (and_right _ false refl)
 
 reduced_row : (p : Profile) → or_else (is_reduced p.mode && false) ReducedFen None ≡ None
 reduced_row p = pass _ _ None (and_right _ false refl)
 
-pub comment_free : (p : Profile) (stage : Stage) (part : Part) (k : Kind) → IsTrue (drops_comments stage) → IsTrue (is_comment k) → refusal p (at_stage stage part) k ≡ None
+pub comment_free : (p : Profile) (stage : Stage) (part : Part) (k : Kind) → IsTrue (drops_comments stage)
+    → IsTrue (is_comment k) → refusal p (at_stage stage part) k ≡ None
 unfolding refusal
 comment_free p stage part k drops is = grind (arith, false≢true, no_value_rows, reduced_row)
 
-pub comment_stays : {stage : Stage} (part : Part) (k : Kind) → IsTrue (drops_comments stage) → IsTrue (is_comment k) → next (at_stage stage part) k ≡ going (at_stage stage part)
+pub comment_stays : {stage : Stage} (part : Part) (k : Kind) → IsTrue (drops_comments stage)
+    → IsTrue (is_comment k) → next (at_stage stage part) k ≡ going (at_stage stage part)
 comment_stays part k drops is = grind (arith, false≢true)
 
 pub comment_goes : (k : Kind) → IsTrue (is_comment k) → is_end k ≡ false
@@ -52,21 +54,25 @@ comment_passes p {part} k at out is =
     (comment_free p _ part _ drops (sym is), comment_stays part _ drops (sym is))
 
 -- Pairs.
-expected_name_at : (p : Profile) (part : Part) {k : TokenKind} → false ≡ is_comment (kind_of k) → ((text : Bor (List ℕ)) → k ≡ token_kinds.Symbol text → ⊥)
+expected_name_at : (p : Profile) (part : Part) {k : TokenKind} → false ≡ is_comment (kind_of k)
+    → ((text : Bor (List ℕ)) → k ≡ token_kinds.Symbol text → ⊥)
     → refusal p (at_stage AfterLeftBracket part) (kind_of k) ≡ Some ExpectedName
 unfolding refusal
 expected_name_at p part is other = grind (arith, false≢true)
 
-pub expected_name : (p : Profile) (part : Part) (k : TokenKind) → part.stage ≡ AfterLeftBracket → false ≡ is_comment (kind_of k) → ((text : Bor (List ℕ)) → k ≡ token_kinds.Symbol text → ⊥)
+pub expected_name : (p : Profile) (part : Part) (k : TokenKind) → part.stage ≡ AfterLeftBracket
+    → false ≡ is_comment (kind_of k) → ((text : Bor (List ℕ)) → k ≡ token_kinds.Symbol text → ⊥)
     → refusal p part (kind_of k) ≡ Some ExpectedName
 expected_name p part k at is other = at_the_stage (λ q. refusal p q (kind_of k) ≡ Some ExpectedName) part at (expected_name_at p part is other)
 
-expected_value_at : (p : Profile) (part : Part) {k : TokenKind} → false ≡ is_comment (kind_of k) → ((text : Bor (List ℕ)) → k ≡ token_kinds.Str text → ⊥)
+expected_value_at : (p : Profile) (part : Part) {k : TokenKind} → false ≡ is_comment (kind_of k)
+    → ((text : Bor (List ℕ)) → k ≡ token_kinds.Str text → ⊥)
     → refusal p (at_stage AfterName part) (kind_of k) ≡ Some ExpectedValue
 unfolding refusal
 expected_value_at p part is other = grind (arith, false≢true)
 
-pub expected_value : (p : Profile) (part : Part) (k : TokenKind) → part.stage ≡ AfterName → false ≡ is_comment (kind_of k) → ((text : Bor (List ℕ)) → k ≡ token_kinds.Str text → ⊥)
+pub expected_value : (p : Profile) (part : Part) (k : TokenKind) → part.stage ≡ AfterName
+    → false ≡ is_comment (kind_of k) → ((text : Bor (List ℕ)) → k ≡ token_kinds.Str text → ⊥)
     → refusal p part (kind_of k) ≡ Some ExpectedValue
 expected_value p part k at is other = at_the_stage (λ q. refusal p q (kind_of k) ≡ Some ExpectedValue) part at (expected_value_at p part is other)
 
@@ -75,9 +81,11 @@ expected_bracket_at : (p : Profile) (part : Part) {k : TokenKind} → false ≡ 
 unfolding refusal
 expected_bracket_at p part is other = grind (arith, false≢true)
 
-pub expected_bracket : (p : Profile) (part : Part) (k : TokenKind) → part.stage ≡ AfterValue → false ≡ is_comment (kind_of k) → (k ≡ token_kinds.RightBracket → ⊥)
+pub expected_bracket : (p : Profile) (part : Part) (k : TokenKind) → part.stage ≡ AfterValue
+    → false ≡ is_comment (kind_of k) → (k ≡ token_kinds.RightBracket → ⊥)
     → refusal p part (kind_of k) ≡ Some ExpectedBracket
-expected_bracket p part k at is other = at_the_stage (λ q. refusal p q (kind_of k) ≡ Some ExpectedBracket) part at (expected_bracket_at p part is other)
+expected_bracket p part k at is other =
+    at_the_stage (λ q. refusal p q (kind_of k) ≡ Some ExpectedBracket) part at (expected_bracket_at p part is other)
 
 -- what a name and a value are rejected for, each test before the next
 abbrev pub name_rows : Profile → List Pair → List ℕ → Option Reason
@@ -86,11 +94,13 @@ name_rows p ps s =
     (or_else (has_pair ps s) DuplicateTag (or_else (nat_lt 249 (length s)) TagLineTooLong
     (or_else (is_reduced p.mode && bytes_eq s (codes "FEN")) ReducedFen None)))
 
-pub name_refusal : (p : Profile) (part : Part) (name : List ℕ) → part.stage ≡ AfterLeftBracket → refusal p part (symbol name) ≡ name_rows p part.pairs name
+pub name_refusal : (p : Profile) (part : Part) (name : List ℕ) → part.stage ≡ AfterLeftBracket
+    → refusal p part (symbol name) ≡ name_rows p part.pairs name
 unfolding refusal
 name_refusal p part name at = at_the_stage (λ q. refusal p q (symbol name) ≡ name_rows p q.pairs name) part at refl
 
-pub name_next : (part : Part) (name : List ℕ) → part.stage ≡ AfterLeftBracket → next part (symbol name) ≡ going (record { stage = AfterName; pairs = part.pairs; name = name; items = part.items })
+pub name_next : (part : Part) (name : List ℕ) → part.stage ≡ AfterLeftBracket
+    → next part (symbol name) ≡ going (record { stage = AfterName; pairs = part.pairs; name = name; items = part.items })
 name_next part name at = cc
 
 abbrev pub value_rows : List ℕ → List ℕ → Option Reason
@@ -99,12 +109,14 @@ value_rows name s =
     (or_else (bytes_eq name (codes "FEN") && is_some (fen_field s)) (BadFen (fen_field_of (tokens.str s)))
     (or_else (nat_lt 249 (length name + length (escaped s))) TagLineTooLong None))
 
-pub value_refusal : (p : Profile) (part : Part) (value : List ℕ) → part.stage ≡ AfterName → refusal p part (str value) ≡ value_rows part.name value
+pub value_refusal : (p : Profile) (part : Part) (value : List ℕ)
+    → part.stage ≡ AfterName → refusal p part (str value) ≡ value_rows part.name value
 unfolding refusal
 value_refusal p part value at = at_the_stage (λ q. refusal p q (str value) ≡ value_rows q.name value) part at refl
 
 pub value_next : (part : Part) (value : List ℕ) → part.stage ≡ AfterName
-    → next part (str value) ≡ going (record { stage = AfterValue; pairs = insert_pair (record { name = part.name; value = value }) part.pairs; name = []; items = part.items })
+    → next part (str value) ≡ going
+    (record { stage = AfterValue; pairs = insert_pair (record { name = part.name; value = value }) part.pairs; name = []; items = part.items })
 value_next part value at = cc
 
 pub close_refusal : (p : Profile) (part : Part) → part.stage ≡ AfterValue → refusal p part right_bracket ≡ None
@@ -122,7 +134,8 @@ open_refusal p part at = grind (arith, at_the_stage)
 pub open_next : (part : Part) → part.stage ≡ AfterTags → next part left_bracket ≡ going (at_stage AfterLeftBracket part)
 open_next part at = at_the_stage (λ q. next q left_bracket ≡ going (at_stage AfterLeftBracket q)) part at refl
 
-pub open_between : (p : Profile) (part : Part) → refusal p (at_stage Between part) left_bracket ≡ or_else (nat_le p.tags (length part.pairs)) TooManyTags None
+pub open_between : (p : Profile) (part : Part)
+    → refusal p (at_stage Between part) left_bracket ≡ or_else (nat_le p.tags (length part.pairs)) TooManyTags None
 unfolding refusal
 open_between p part = refl
 
@@ -153,11 +166,13 @@ after_tags p part _ is = refl
 pub leads_after_tags : (part : Part) (k : Kind) → IsTrue (is_textual k) → next (at_stage AfterTags part) k ≡ next (at_stage InMovetext part) k
 leads_after_tags part k is = grind (arith, false≢true)
 
-pub between : (p : Profile) (part : Part) (k : Kind) → IsTrue (is_textual k) → IsFalse (is_comment k) → refusal p (at_stage Between part) k ≡ refusal p (at_stage InMovetext part) k
+pub between : (p : Profile) (part : Part) (k : Kind) → IsTrue (is_textual k) → IsFalse (is_comment k)
+    → refusal p (at_stage Between part) k ≡ refusal p (at_stage InMovetext part) k
 unfolding refusal
 between p part k is bare = grind (arith, false≢true)
 
-pub leads_between : (part : Part) (k : Kind) → IsTrue (is_textual k) → IsFalse (is_comment k) → next (at_stage Between part) k ≡ next (at_stage InMovetext part) k
+pub leads_between : (part : Part) (k : Kind) → IsTrue (is_textual k) → IsFalse (is_comment k)
+    → next (at_stage Between part) k ≡ next (at_stage InMovetext part) k
 leads_between part k is bare = grind (arith, false≢true)
 
 -- the table and the step of movetext are those of a token in it, and of the first one
@@ -169,29 +184,35 @@ no_lexical : (k : TokenKind) → is_lexical (kind_of k) ≡ false
 no_lexical token_kinds.End = refl
 no_lexical _ = refl
 
-pub row_in_movetext : (p : Profile) (part : Part) (k : TokenKind) → part.stage ≡ InMovetext → refusal p part (kind_of k) ≡ text_refusal p part (kind_of k)
-row_in_movetext p part k at = at_the_stage (λ q. refusal p q (kind_of k) ≡ text_refusal p part (kind_of k)) part at (text_row p part _ (no_lexical k))
+pub row_in_movetext : (p : Profile) (part : Part) (k : TokenKind) → part.stage ≡ InMovetext
+    → refusal p part (kind_of k) ≡ text_refusal p part (kind_of k)
+row_in_movetext p part k at =
+    at_the_stage (λ q. refusal p q (kind_of k) ≡ text_refusal p part (kind_of k)) part at (text_row p part _ (no_lexical k))
 
 pub next_in_movetext : (part : Part) (k : TokenKind) → part.stage ≡ InMovetext → next part (kind_of k) ≡ in_text part (kind_of k)
 next_in_movetext part k at = at_the_stage (λ q. next q (kind_of k) ≡ in_text part (kind_of k)) part at refl
 
-pub row_after_tags : (p : Profile) (part : Part) (k : TokenKind) → part.stage ≡ AfterTags → IsTrue (is_textual (kind_of k)) → lacks_fen part.pairs ≡ false
+pub row_after_tags : (p : Profile) (part : Part) (k : TokenKind) → part.stage ≡ AfterTags
+    → IsTrue (is_textual (kind_of k)) → lacks_fen part.pairs ≡ false
     → refusal p part (kind_of k) ≡ text_refusal p part (kind_of k)
 row_after_tags p part k at is free =
     at_the_stage (λ q. refusal p q (kind_of k) ≡ text_refusal p part (kind_of k)) part at
     (after_tags p part _ is ∙ pass _ _ _ free ∙ text_row p part _ (no_lexical k))
 
-pub next_after_tags : (part : Part) (k : TokenKind) → part.stage ≡ AfterTags → IsTrue (is_textual (kind_of k)) → next part (kind_of k) ≡ in_text part (kind_of k)
+pub next_after_tags : (part : Part) (k : TokenKind) → part.stage ≡ AfterTags
+    → IsTrue (is_textual (kind_of k)) → next part (kind_of k) ≡ in_text part (kind_of k)
 next_after_tags part k at is = grind (arith, at_the_stage, leads_after_tags)
 
-pub passes_between : (p : Profile) {part : Part} (k : TokenKind) → part.stage ≡ Between → (is_comment (kind_of k) || is_end (kind_of k)) ≡ true
+pub passes_between : (p : Profile) {part : Part} (k : TokenKind)
+    → part.stage ≡ Between → (is_comment (kind_of k) || is_end (kind_of k)) ≡ true
     → (refusal p part (kind_of k) ≡ None) × (next part (kind_of k) ≡ going part)
 unfolding refusal
 passes_between p k at is = grind (arith, false≢true, at_the_stage)
 
 -- A token that begins a game means what it means after pairs, of which there is none.
 pub begins_alike : (p : Profile) (k : TokenKind) → is_comment (kind_of k) ≡ false → is_end (kind_of k) ≡ false
-    → (refusal p (at_stage AfterTags no_part) (kind_of k) ≡ refusal p no_part (kind_of k)) × (next (at_stage AfterTags no_part) (kind_of k) ≡ next no_part (kind_of k))
+    → (refusal p (at_stage AfterTags no_part) (kind_of k) ≡ refusal p no_part (kind_of k))
+    × (next (at_stage AfterTags no_part) (kind_of k) ≡ next no_part (kind_of k))
 unfolding refusal
 begins_alike p k comment over = grind (arith, false≢true)
 
@@ -200,7 +221,8 @@ unfolding refusal
 end_after_tags p part at = at_the_stage (λ q. refusal p q tokens.end ≡ Some UnexpectedEnd) part at refl
 
 -- a token after the pairs of a game whose SetUp asks for a FEN
-pub refuses_set_up : (p : Profile) (part : Part) (k : TokenKind) → part.stage ≡ AfterTags → IsTrue (is_textual (kind_of k)) → lacks_fen part.pairs ≡ true
+pub refuses_set_up : (p : Profile) (part : Part) (k : TokenKind) → part.stage ≡ AfterTags
+    → IsTrue (is_textual (kind_of k)) → lacks_fen part.pairs ≡ true
     → refusal p part (kind_of k) ≡ Some SetUpWithoutFen
 refuses_set_up p part k at is lacks =
     at_the_stage (λ q. refusal p q (kind_of k) ≡ Some SetUpWithoutFen) part at

@@ -8,12 +8,12 @@ use Rattle.pgn_game.proofs.refusals.RefusalsByStage.{hit, pass, symbol_rows}
 some_before : (start : Parts) (l : ModelLevel) → is_some (before_last start l) ≡ l.has_own_move
 some_before start l = grind arith
 
-pub holds_is : (old : ReaderState) (part : Part) → IsOpen old part → is_some old.text.levels.present.before ≡ (levels_of_part part).present.has_own_move
+pub holds_is : (old : ReaderState) (part : Part) → IsOpen old part
+    → is_some old.text.levels.present.before ≡ (levels_of_part part).present.has_own_move
 holds_is old part is = grind (arith, some_before)
 
 pub depth_is : (old : ReaderState) (part : Part) → IsOpen old part → length old.text.levels.around ≡ depth (levels_of_part part)
-depth_is old part is =
-    cc (length-map (levels_of_part part).around (stored_level (start_of part.pairs)))
+depth_is old part is = cc (length-map (levels_of_part part).around (stored_level (start_of part.pairs)))
 
 pub position_is : (old : ReaderState) (part : Part) → IsOpen old part → old.text.levels.present.present ≡ position_in part
 position_is old part is = rw is.held.levels
@@ -41,13 +41,15 @@ rows_for p part s word score r =
     symbol_rows word r (is_at_limit (position_in part)) (depth (levels_of_part part))
     (other_if p.missing_result part.pairs (marker_if score s)) (is_some (marker_if score s))
 
-pub symbol_refusal : (p : Profile) (part : Part) (s : List ℕ) (word : Bool) {score : Bool} → (is_number s || is_score s) ≡ word → is_score s ≡ score
+pub symbol_refusal : (p : Profile) (part : Part) (s : List ℕ) (word : Bool) {score : Bool}
+    → (is_number s || is_score s) ≡ word → is_score s ≡ score
     → text_refusal p part (symbol s) ≡ rows_for p part s word score (move_of (position_in part) s)
 symbol_refusal p part s word w e = cc
 
 abbrev pub symbol_next : Part → List ℕ → Bool → Bool → MoveReading → Next
 symbol_next part s number score r =
-    elim (marker_if score s) [ Some marker ↦ whole (game_of part marker) | None ↦ going (with_items part (elim number [ true ↦ [] | false ↦ move_item r ])) ]
+    elim (marker_if score
+    s) [ Some marker ↦ whole (game_of part marker) | None ↦ going (with_items part (elim number [ true ↦ [] | false ↦ move_item r ])) ]
 
 pub symbol_leads : (part : Part) (s : List ℕ) (number : Bool) {score : Bool} → is_number s ≡ number → is_score s ≡ score
     → in_text part (symbol s) ≡ symbol_next part s number score (move_of (position_in part) s)
@@ -63,7 +65,8 @@ move_rows : (p : Profile) (part : Part) (s : List ℕ) (r : MoveReading) → row
 move_rows p part s (Some (Err NoMove)) = refl
 move_rows p part s _ = refl
 
-pub move_refusal : (p : Profile) (part : Part) (s : List ℕ) → is_number s ≡ false → is_score s ≡ false → text_refusal p part (symbol s) ≡ refused_as (position_in part) (move_of (position_in part) s)
+pub move_refusal : (p : Profile) (part : Part) (s : List ℕ) → is_number s ≡ false → is_score s ≡ false
+    → text_refusal p part (symbol s) ≡ refused_as (position_in part) (move_of (position_in part) s)
 move_refusal p part s number score = search (rules, move_rows, or_from, symbol_refusal)
 
 abbrev one_move : Played → MoveReading
@@ -76,10 +79,12 @@ found_free : (p : Parts) {r : MoveReading} {played : Played} → found_in p r �
 found_free p h3 = grind (arith, pass)
 
 -- a reason of the table is the one that was met
-met : {known reason : Reason} → is_outside_the_table known ≡ false → known ≡ reason → (Some known ≡ Some reason) × (is_outside_the_table reason ≡ false)
+met : {known reason : Reason} → is_outside_the_table known ≡ false → known ≡ reason
+    → (Some known ≡ Some reason) × (is_outside_the_table reason ≡ false)
 met inside is = (ap Some is, rw is at inside)
 
-found_refused : (p : Parts) (r : MoveReading) {reason : Reason} → found_in p r ≡ Err reason → (refused_as p r ≡ Some reason) × (is_outside_the_table reason ≡ false)
+found_refused : (p : Parts) (r : MoveReading) {reason : Reason} → found_in p r ≡ Err reason
+    → (refused_as p r ≡ Some reason) × (is_outside_the_table reason ≡ false)
 found_refused p None e = met refl (cc)
 found_refused p (Some (Err NoMove)) e = met refl (cc)
 found_refused p (Some (Err Ambiguous)) e = met refl (cc)
@@ -95,29 +100,36 @@ found_refused p (Some (Ok one)) {reason} e = by_limit _ refl
         absurd (cc)
 
 -- what was found at the reader's position was found at the part's
-found_at : (old : ReaderState) (part : Part) (s : List ℕ) {here : Parts} {r : Result Played Reason} → IsOpen old part → here ≡ old.text.levels.present.present → r ≡ found_in here (move_of here s)
+found_at : (old : ReaderState) (part : Part) (s : List ℕ) {here : Parts} {r : Result Played Reason}
+    → IsOpen old part → here ≡ old.text.levels.present.present → r ≡ found_in here (move_of here s)
     → found_in (position_in part) (move_of (position_in part) s) ≡ r
 found_at old part s is same found = cc (position_is old part is)
 
-pub move_free : {old : ReaderState} {part : Part} (s : List ℕ) (here : Parts) {played : Played} → is_number s ≡ false → is_score s ≡ false → IsOpen old part → here ≡ old.text.levels.present.present
+pub move_free : {old : ReaderState} {part : Part} (s : List ℕ) (here : Parts) {played : Played}
+    → is_number s ≡ false → is_score s ≡ false → IsOpen old part → here ≡ old.text.levels.present.present
     → Ok played ≡ found_in here (move_of here s) → text_refusal old.profile part (symbol s) ≡ None
 move_free s here number score is same found = grind (arith, move_refusal, found_free, found_at)
 
-pub move_refused : {old : ReaderState} {part : Part} (s : List ℕ) (here : Parts) {reason : Reason} → is_number s ≡ false → is_score s ≡ false → IsOpen old part → here ≡ old.text.levels.present.present
+pub move_refused : {old : ReaderState} {part : Part} (s : List ℕ) (here : Parts) {reason : Reason}
+    → is_number s ≡ false → is_score s ≡ false → IsOpen old part → here ≡ old.text.levels.present.present
     → Err reason ≡ found_in here (move_of here s) → text_refusal old.profile part (symbol s) ≡ Some reason
 move_refused s here number score is same found = grind (arith, move_refusal, found_refused, found_at)
 
-pub refused_inside : (here : Parts) (s : List ℕ) {reason : Reason} → Err reason ≡ found_in here (move_of here s) → IsFalse (is_outside_the_table reason)
+pub refused_inside : (here : Parts) (s : List ℕ) {reason : Reason}
+    → Err reason ≡ found_in here (move_of here s) → IsFalse (is_outside_the_table reason)
 refused_inside here s found = (found_refused here (move_of here s) (sym found)).1
 
-pub move_leads : {old : ReaderState} {part : Part} (s : List ℕ) (here : Parts) {played : Played} → is_number s ≡ false → is_score s ≡ false → IsOpen old part → here ≡ old.text.levels.present.present
+pub move_leads : {old : ReaderState} {part : Part} (s : List ℕ) (here : Parts) {played : Played}
+    → is_number s ≡ false → is_score s ≡ false → IsOpen old part → here ≡ old.text.levels.present.present
     → Ok played ≡ found_in here (move_of here s) → in_text part (symbol s) ≡ going (with_items part (game.move played.mv ∷ []))
 move_leads s here number score is same found = grind (arith, symbol_leads, found_free, found_at)
 
-pub number_free : (p : Profile) (part : Part) (s : List ℕ) → is_number s ≡ true → is_score s ≡ false → text_refusal p part (symbol s) ≡ None
+pub number_free : (p : Profile) (part : Part) (s : List ℕ) → is_number s ≡ true
+    → is_score s ≡ false → text_refusal p part (symbol s) ≡ None
 number_free p part s number score = cc
 
-pub number_leads : (part : Part) (s : List ℕ) → is_number s ≡ true → is_score s ≡ false → in_text part (symbol s) ≡ going (with_items part [])
+pub number_leads : (part : Part) (s : List ℕ) → is_number s ≡ true
+    → is_score s ≡ false → in_text part (symbol s) ≡ going (with_items part [])
 number_leads part s number score = symbol_leads part s true number score
 
 -- Markers.
@@ -131,35 +143,44 @@ pub score_of : (s marker : List ℕ) (b : Bool) → is_score s ≡ b → marker_
 score_of s marker true e h = (refl, cc)
 score_of s marker false e h = absurd (cc)
 
-symbol_marker : (p : Profile) (part : Part) (s : List ℕ) {marker : List ℕ} → marker_of (symbol s) ≡ Some marker → text_refusal p part (symbol s) ≡ marker_rows p part marker
+symbol_marker : (p : Profile) (part : Part) (s : List ℕ) {marker : List ℕ}
+    → marker_of (symbol s) ≡ Some marker → text_refusal p part (symbol s) ≡ marker_rows p part marker
 symbol_marker p part s is = grind (arith, or_right, symbol_refusal, score_of)
 
-asterisk_marker : (p : Profile) (part : Part) {marker : List ℕ} → codes "*" ≡ marker → text_refusal p part asterisk ≡ marker_rows p part marker
+asterisk_marker : (p : Profile) (part : Part) {marker : List ℕ} → codes "*" ≡ marker
+    → text_refusal p part asterisk ≡ marker_rows p part marker
 asterisk_marker p part e = cc
 
-pub marker_refusal : (p : Profile) (part : Part) (k : Kind) {marker : List ℕ} → marker_of k ≡ Some marker → text_refusal p part k ≡ marker_rows p part marker
+pub marker_refusal : (p : Profile) (part : Part) (k : Kind) {marker : List ℕ}
+    → marker_of k ≡ Some marker → text_refusal p part k ≡ marker_rows p part marker
 marker_refusal p part k is = grind (arith, symbol_marker, asterisk_marker)
 
 -- whether a marker differs from the value for Result, or else from this text
 abbrev pub differs : List ℕ → Option (List ℕ) → List ℕ → Bool
 differs missing value marker = not (bytes_eq marker (unwrap_or value missing))
 
-marker_tested : (p : Profile) (part : Part) (missing marker : List ℕ) (inside other : Bool) → nat_le 1 (depth (levels_of_part part)) ≡ inside → result_for p.missing_result marker ≡ missing
+marker_tested : (p : Profile) (part : Part) (missing marker : List ℕ) (inside other : Bool)
+    → nat_le 1 (depth (levels_of_part part)) ≡ inside → result_for p.missing_result marker ≡ missing
     → differs missing (value_of part.pairs (codes "Result")) marker ≡ other
     → marker_rows p part marker ≡ or_else inside MarkerInVariation (or_else (other && (depth (levels_of_part part) == 0)) ResultDiffers None)
 marker_tested p part missing marker inside other within known test = cc
 
-pub marker_inside : (old : ReaderState) (k : Kind) (marker : List ℕ) (part : Part) → marker_of k ≡ Some marker → nat_le 1 (depth (levels_of_part part)) ≡ true
+pub marker_inside : (old : ReaderState) (k : Kind) (marker : List ℕ) (part : Part)
+    → marker_of k ≡ Some marker → nat_le 1 (depth (levels_of_part part)) ≡ true
     → text_refusal old.profile part k ≡ Some MarkerInVariation
 marker_inside old k marker part is within = marker_refusal old.profile part k is ∙ hit _ _ _ within
 
-pub marker_differs : (old : ReaderState) (k : Kind) (missing marker : List ℕ) (part : Part) → marker_of k ≡ Some marker → depth (levels_of_part part) ≡ 0
-    → result_for old.profile.missing_result marker ≡ missing → differs missing (value_of part.pairs (codes "Result")) marker ≡ true → text_refusal old.profile part k ≡ Some ResultDiffers
+pub marker_differs : (old : ReaderState) (k : Kind) (missing marker : List ℕ) (part : Part)
+    → marker_of k ≡ Some marker → depth (levels_of_part part) ≡ 0
+    → result_for old.profile.missing_result marker ≡ missing
+    → differs missing (value_of part.pairs (codes "Result")) marker ≡ true → text_refusal old.profile part k ≡ Some ResultDiffers
 marker_differs old k missing marker part is none known test =
     cc (marker_refusal old.profile part k is, marker_tested old.profile part missing marker false true (ap (λ n. nat_le 1 n) none) known test)
 
-pub marker_free : (old : ReaderState) (k : Kind) (missing marker : List ℕ) (part : Part) → marker_of k ≡ Some marker → depth (levels_of_part part) ≡ 0
-    → result_for old.profile.missing_result marker ≡ missing → differs missing (value_of part.pairs (codes "Result")) marker ≡ false → text_refusal old.profile part k ≡ None
+pub marker_free : (old : ReaderState) (k : Kind) (missing marker : List ℕ) (part : Part)
+    → marker_of k ≡ Some marker → depth (levels_of_part part) ≡ 0
+    → result_for old.profile.missing_result marker ≡ missing
+    → differs missing (value_of part.pairs (codes "Result")) marker ≡ false → text_refusal old.profile part k ≡ None
 marker_free old k missing marker part is none known test = grind (arith, marker_refusal, marker_tested)
 
 pub marker_whole : (part : Part) (k : Kind) (marker : List ℕ) → marker_of k ≡ Some marker → in_text part k ≡ whole (game_of part marker)
@@ -170,11 +191,12 @@ unwrap_copied : (o : Option (Bor (List ℕ))) (d : Bor (List ℕ)) → (unwrap_o
 unwrap_copied None d = refl
 unwrap_copied (Some x) d = refl
 
-pub test_of : (held : List Pair) (value : Option (Bor (List ℕ))) (d known : Bor (List ℕ)) (missing marker : List ℕ) (test : Bool) (tags : List Pair) → held ≡ tags
-    → option_copied value ≡ value_of held (codes "Result") → d.now ≡ missing → known ≡ unwrap_or value d → test ≡ not (bytes_eq marker known.now)
+pub test_of : (held : List Pair) (value : Option (Bor (List ℕ))) (d known : Bor (List ℕ))
+    (missing marker : List ℕ) (test : Bool) (tags : List Pair) → held ≡ tags
+    → option_copied value ≡ value_of held (codes "Result") → d.now ≡ missing
+    → known ≡ unwrap_or value d → test ≡ not (bytes_eq marker known.now)
     → differs missing (value_of tags (codes "Result")) marker ≡ test
-test_of held value d known missing marker test tags same found text is tested =
-    cc (unwrap_copied value d)
+test_of held value d known missing marker test tags same found text is tested = cc (unwrap_copied value d)
 
 pub none_around : {A : Type 0} (ls : List A) → length ls ≡ 0 → ls ≡ []
 none_around [] e = refl

@@ -25,7 +25,8 @@ leads_more (going part) games r h = (refl, h, refl)
 leads_more (whole g) games r h = absurd h
 
 leads_finished : (nx : Next) (games : List Game) (r : ReaderState) → Leads nx Finished r
-    → (g : Game) × ((progress_with games nx).games ≡ games ++ g ∷ []) × Agrees r (progress_with games nx).part × IsBehind r g × (plies_next nx ≡ plies_of g)
+    → (g : Game) × ((progress_with games nx).games ≡ games ++ g ∷ [])
+    × Agrees r (progress_with games nx).part × IsBehind r g × (plies_next nx ≡ plies_of g)
 leads_finished (going part) games r h = absurd h
 leads_finished (whole g) games r h = (g, refl, h.agrees, h, refl)
 
@@ -36,7 +37,8 @@ finished_behind h = cc (h.pairs, h.plies, h.position)
 plies-snoc : (games : List Game) (g : Game) → sum (map plies_of (games ++ g ∷ [])) ≡ sum (map plies_of games) + plies_of g
 plies-snoc games g =
     let one : sum (plies_of g ∷ []) ≡ plies_of g = omega (arith, sum_by-cons (λ n. n) (plies_of g) []) in
-    ap sum (map-append plies_of games (g ∷ [])) ∙ sum_by-append (λ n. n) (map plies_of games) (plies_of g ∷ []) ∙ ap (λ n. sum (map plies_of games) + n) one
+    ap sum (map-append plies_of games (g ∷ [])) ∙ sum_by-append (λ n. n) (map plies_of games) (plies_of g ∷ [])
+    ∙ ap (λ n. sum (map plies_of games) + n) one
 
 -- a move is in the games before, or in the last one
 moves-snoc : (games : List Game) (g : Game) → IsTrue (play_moves (games ++ g ∷ [])) → IsTrue (play_moves games) ⊎ IsTrue (has_move g.items)
@@ -61,14 +63,16 @@ in_games b h = or_left (play_moves b.games) (has_move b.part.items) h
     or_left false y h = absurd (cc)
 
 -- some pair was tried where a move was played in a game, or in the part
-in_either : {r : ReaderState} (b : Progress) → Agrees r b.part → (IsTrue (play_moves b.games) → 0 < r.most_probes) → IsTrue (has_played_move b) → 0 < r.most_probes
+in_either : {r : ReaderState} (b : Progress) → Agrees r b.part
+    → (IsTrue (play_moves b.games) → 0 < r.most_probes) → IsTrue (has_played_move b) → 0 < r.most_probes
 in_either {r} b agrees before moves = by_or (play_moves b.games) (has_move b.part.items) before (part_probed r agrees) moves
   where
     by_or : (x y : Bool) → (IsTrue x → 0 < r.most_probes) → (IsTrue y → 0 < r.most_probes) → IsTrue (x || y) → 0 < r.most_probes
     by_or true y left right h = left refl
     by_or false y left right h = right h
 
-module _ (p : Profile) (old : Converter) (given : List Token) (t : Token) (l : Standing) (new : ReaderState) (finished : Bool) (has_read : HasRead p old given) (profile : new.profile ≡ old.reading.profile) (probes : old.reading.most_probes ≤ new.most_probes) where
+module _ (p : Profile) (old : Converter) (given : List Token) (t : Token) (l : Standing) (new : ReaderState) (finished : Bool)
+    (has_read : HasRead p old given) (profile : new.profile ≡ old.reading.profile) (probes : old.reading.most_probes ≤ new.most_probes) where
   abbrev b : Progress
   b = (read p given).progress
 
@@ -78,22 +82,26 @@ module _ (p : Profile) (old : Converter) (given : List Token) (t : Token) (l : S
   reads : refusal old.reading.profile b.part t.kind ≡ None → read p (given ++ t ∷ []) ≡ record { progress = progress_after b t; fault = None }
   reads h = read-passes p given t has_read.passes (passes h)
 
-  raised : Raises (Tries old.reading.profile b.part t.kind) old.reading.most_probes new.most_probes → Raises (Tries p b.part t.kind) old.reading.most_probes new.most_probes
+  raised : Raises (Tries old.reading.profile b.part t.kind) old.reading.most_probes new.most_probes
+      → Raises (Tries p b.part t.kind) old.reading.most_probes new.most_probes
   raised h = subst (λ q. Raises (Tries q b.part t.kind) old.reading.most_probes new.most_probes) has_read.profile h
 
-  most_tried : refusal old.reading.profile b.part t.kind ≡ None → Raises (Tries old.reading.profile b.part t.kind) old.reading.most_probes new.most_probes
+  most_tried : refusal old.reading.profile b.part t.kind ≡ None
+      → Raises (Tries old.reading.profile b.part t.kind) old.reading.most_probes new.most_probes
       → MostTried p (given ++ t ∷ []) new.most_probes
   most_tried h tries = most_with p t has_read.tried has_read.passes (passes h) (raised tries)
 
   probed_before : IsTrue (has_played_move b) → 0 < new.most_probes
   probed_before moves = let some = has_read.probed moves in omega (arith, some, probes)
 
-  pub same_games : refusal old.reading.profile b.part t.kind ≡ None → Leads (next b.part t.kind) More new → SameGames p given (given ++ t ∷ [])
+  pub same_games : refusal old.reading.profile b.part t.kind ≡ None
+      → Leads (next b.part t.kind) More new → SameGames p given (given ++ t ∷ [])
   same_games h leads = rw (reads h) ((leads_more (next b.part t.kind) b.games new leads).0)
 
   pub has_read_more : refusal old.reading.profile b.part t.kind ≡ None → Leads (next b.part t.kind) More new
       → whole_plies new ≡ whole_plies old.reading + plies_next (next b.part t.kind)
-      → Raises (Tries old.reading.profile b.part t.kind) old.reading.most_probes new.most_probes → HasRead p (stepped l new old.games finished (Ok (Some More))) (given ++ t ∷ [])
+      → Raises (Tries old.reading.profile b.part t.kind) old.reading.most_probes new.most_probes
+      → HasRead p (stepped l new old.games finished (Ok (Some More))) (given ++ t ∷ [])
   has_read_more h leads plies tries =
       let more = leads_more (next b.part t.kind) b.games new leads in
       let same = same_games h leads in
@@ -120,7 +128,8 @@ module _ (p : Profile) (old : Converter) (given : List Token) (t : Token) (l : S
 
   pub has_read_game : refusal old.reading.profile b.part t.kind ≡ None → Leads (next b.part t.kind) Finished new
       → whole_plies new ≡ whole_plies old.reading + plies_next (next b.part t.kind)
-      → Raises (Tries old.reading.profile b.part t.kind) old.reading.most_probes new.most_probes → HasRead p (stepped l new old.games finished (Ok (Some Finished))) (given ++ t ∷ [])
+      → Raises (Tries old.reading.profile b.part t.kind) old.reading.most_probes new.most_probes
+      → HasRead p (stepped l new old.games finished (Ok (Some Finished))) (given ++ t ∷ [])
   has_read_game h leads plies tries =
       let done = leads_finished (next b.part t.kind) b.games new leads in
       let one = ap (λ (r : Read). r.progress.games) (reads h) ∙ done.1 in
@@ -143,8 +152,10 @@ module _ (p : Profile) (old : Converter) (given : List Token) (t : Token) (l : S
         just_finished = (b.games, g, one, finished_behind behind);
       }
 
-  pub at_refused : (us : List Token) {a c : Option (List ℕ)} {reason : Reason} → refusal old.reading.profile b.part t.kind ≡ Some reason → Appends a c []
-      → Raises (Tries old.reading.profile b.part t.kind) old.reading.most_probes new.most_probes → reported_position new reason ≡ position_if_move reason (position_in b.part)
+  pub at_refused : (us : List Token) {a c : Option (List ℕ)} {reason : Reason}
+      → refusal old.reading.profile b.part t.kind ≡ Some reason → Appends a c []
+      → Raises (Tries old.reading.profile b.part t.kind) old.reading.most_probes new.most_probes
+      → reported_position new reason ≡ position_if_move reason (position_in b.part)
       → FaultAtEnd p given (given ++ t ∷ us) (record { at = t.at; reason = reason }) new a c
   at_refused us {reason} h wrote tries here =
       let some = rw has_read.profile at h in
@@ -162,7 +173,8 @@ module _ (p : Profile) (old : Converter) (given : List Token) (t : Token) (l : S
     shown : as_written old.reading.profile ≡ p
     shown = written ∙ has_read.profile
 
-    pub gains_token : {a c : Option (List ℕ)} → refusal old.reading.profile b.part t.kind ≡ None → Appends a c (gain (as_written old.reading.profile) b.part t.kind) → Gains p given (given ++ t ∷ []) a c
+    pub gains_token : {a c : Option (List ℕ)} → refusal old.reading.profile b.part t.kind ≡ None
+        → Appends a c (gain (as_written old.reading.profile) b.part t.kind) → Gains p given (given ++ t ∷ []) a c
     gains_token h wrote = search (rules, due-passes, passes, shown)
 
     pub at_unwritten : (us : List Token) {a c : Option (List ℕ)} → refusal old.reading.profile b.part t.kind ≡ None
@@ -196,7 +208,8 @@ module _ (p : Profile) (old : Converter) (given : List Token) (t : Token) (l : S
     at_fault us (reader_state.unwritten none wrote tries) = at_unwritten us none wrote tries
 
 -- a text that goes on behind the bytes used goes on behind the piece
-next_in_piece : (l : Standing) (u piece : List ℕ) (used : ℕ) {given : List Token} → StandsAfter l (u ++ take used piece) (first (drop used piece)) given → AreNext (u ++ piece) None given
+next_in_piece : (l : Standing) (u piece : List ℕ) (used : ℕ) {given : List Token}
+    → StandsAfter l (u ++ take used piece) (first (drop used piece)) given → AreNext (u ++ piece) None given
 next_in_piece l u piece used stands s follows =
     let rest = drop used piece in
     let whole : (u ++ piece) ++ s ≡ (u ++ take used piece) ++ (rest ++ s) =
@@ -212,21 +225,28 @@ still_none-none [] = refl
 still_none-none (x ∷ xs) = refl
 
 -- the tokens at fault are those of the piece
-fed_to : {p : Profile} {u : List ℕ} {given ts : List Token} {piece : List ℕ} {f : Fault} {reading : ReaderState} {a c : Option (List ℕ)} → AreNext (u ++ piece) (still None piece) ts
+fed_to : {p : Profile} {u : List ℕ} {given ts : List Token} {piece : List ℕ} {f : Fault} {reading : ReaderState} {a c : Option (List ℕ)}
+    → AreNext (u ++ piece) (still None piece) ts
     → FaultAtEnd p given ts f reading a c → FedToFault p u None given piece f reading a c
 fed_to {ts} next to =
     record { fed = record { tokens = ts; next = next; stops = to.stops }; no_game = to.no_game; counts = to.counts; position = to.position }
 
 -- What the reader answers to a token of the piece.
-pub took : (p : Profile) (old : Converter) (u : List ℕ) (given : List Token) (piece : List ℕ) (used : ℕ) (t : Token) (l : Standing) (new : ReaderState) (finished : Bool)
-    (a c : Option (List ℕ)) (r : Result Accepted Reason) → Stands p old u (first piece) given → AfterScan u (first piece) given piece l used (token t)
-    → EndsAt t.kind t.at l.count → l.count ≡ old.lexer.count + used → new.profile ≡ old.reading.profile → old.reading.most_probes ≤ new.most_probes
+pub took : (p : Profile) (old : Converter) (u : List ℕ) (given : List Token) (piece : List ℕ)
+    (used : ℕ) (t : Token) (l : Standing) (new : ReaderState) (finished : Bool)
+    (a c : Option (List ℕ)) (r : Result Accepted Reason) → Stands p old u (first piece) given
+    → AfterScan u (first piece) given piece l used (token t)
+    → EndsAt t.kind t.at l.count → l.count ≡ old.lexer.count + used
+    → new.profile ≡ old.reading.profile → old.reading.most_probes ≤ new.most_probes
     → as_written old.reading.profile ≡ old.reading.profile → Answers old.reading (read p given).progress.part t.kind new r a c
     → AfterStep p u given piece (stepped l new old.games finished (outcome_at t.at r)) used (outcome_at t.at r) a c
 took p old u given piece used t l new finished a c (Ok More) stands scan ends count profile probes written h = (
   t,
   record {
-    stands = record { lexer = scan.0; has_read = has_read_more p old given t l new finished stands.has_read profile probes h.free h.leads h.plies h.tried };
+    stands = record {
+      lexer = scan.0;
+      has_read = has_read_more p old given t l new finished stands.has_read profile probes h.free h.leads h.plies h.tried;
+    };
     decided = scan.1;
     ends = subst (EndsAt t.kind t.at) (rw stands.lexer.count at count) ends;
     gains = gains_token p old given t l new finished stands.has_read profile probes written h.free h.appended;
@@ -237,7 +257,10 @@ took p old u given piece used t l new finished a c (Ok Finished) stands scan end
     let one = one_game p old given t l new finished stands.has_read profile probes h.free h.leads in (
       t,
       record {
-        stands = record { lexer = scan.0; has_read = has_read_game p old given t l new finished stands.has_read profile probes h.free h.leads h.plies h.tried };
+        stands = record {
+          lexer = scan.0;
+          has_read = has_read_game p old given t l new finished stands.has_read profile probes h.free h.leads h.plies h.tried;
+        };
         decided = scan.1;
         ends = subst (EndsAt t.kind t.at) (rw stands.lexer.count at count) ends;
         gains = gains_token p old given t l new finished stands.has_read profile probes written h.free h.appended;
@@ -248,7 +271,8 @@ took p old u given piece used t l new finished a c (Err why) stands scan ends co
     fed_to (rw (still_none-none piece) (next_in_piece l u piece used scan.0))
     (at_fault p old given t l new finished stands.has_read profile probes written [] stopped)
 
-pub took_none : (p : Profile) (old : Converter) (u : List ℕ) (given : List Token) (piece : List ℕ) (used : ℕ) (l : Standing) (o : Option (List ℕ)) → 0 < length piece
+pub took_none : (p : Profile) (old : Converter) (u : List ℕ) (given : List Token)
+    (piece : List ℕ) (used : ℕ) (l : Standing) (o : Option (List ℕ)) → 0 < length piece
     → Stands p old u (first piece) given → AfterScan u (first piece) given piece l used more
     → AfterStep p u given piece (record old { lexer = l }) used (Ok None) o o
 took_none p old u given piece used l o some stands scan = search (rules, gains_none, passes, still_none)
@@ -259,16 +283,19 @@ unfolding refusal
 lexical-refusal p part f = refl
 
 -- it tries no pair, and rejects no move
-pub at_lexical : {p : Profile} {old : Converter} {given : List Token} (f : LexFault) {reading : ReaderState} {o : Option (List ℕ)} → HasRead p old given → reading ≡ old.reading
+pub at_lexical : {p : Profile} {old : Converter} {given : List Token} (f : LexFault) {reading : ReaderState} {o : Option (List ℕ)}
+    → HasRead p old given → reading ≡ old.reading
     → FaultAtEnd p given (given ++ refusal_token f ∷ []) (record { at = f.at; reason = Lexical f.reason }) reading o o
 at_lexical {p} {old} {given} f {o} has_read same =
     let part = (read p given).progress.part in
     let some = lexical-refusal old.reading.profile part f in
-    subst (λ (r : ReaderState). FaultAtEnd p given (given ++ refusal_token f ∷ []) (record { at = f.at; reason = Lexical f.reason }) r o o) (sym same)
+    subst (λ (r : ReaderState).
+    FaultAtEnd p given (given ++ refusal_token f ∷ []) (record { at = f.at; reason = Lexical f.reason }) r o o) (sym same)
     (at_refused p old given (refusal_token f) old.lexer old.reading false has_read refl (le_refl old.reading.most_probes) [] some (Appends-nil o)
     (raises_none some) refl)
 
-pub took_fault : (p : Profile) (old : Converter) (u : List ℕ) (given : List Token) (piece : List ℕ) (used : ℕ) (f : LexFault) (l : Standing) (new : Converter) (o : Option (List ℕ)) → 0 < length piece
+pub took_fault : (p : Profile) (old : Converter) (u : List ℕ) (given : List Token) (piece : List ℕ)
+    (used : ℕ) (f : LexFault) (l : Standing) (new : Converter) (o : Option (List ℕ)) → 0 < length piece
     → Stands p old u (first piece) given → AfterScan u (first piece) given piece l used (fault f)
     → new.reading ≡ old.reading → AfterStep p u given piece new used (Err (record { at = f.at; reason = Lexical f.reason })) o o
 took_fault p old u given piece used f l new o some stands scan same =
@@ -281,7 +308,8 @@ pub is_some_held : (b : Bool) (reading : ReaderState) → is_some (game_in_reade
 is_some_held true reading = refl
 is_some_held false reading = refl
 
-pub advances_token : (old : Standing) (piece : List ℕ) (new : Standing) (used at : ℕ) (r : Result Accepted Reason) → waiting new < 2 * used + waiting old
+pub advances_token : (old : Standing) (piece : List ℕ) (new : Standing) (used at : ℕ) (r : Result Accepted Reason)
+    → waiting new < 2 * used + waiting old
     → StepAdvances old piece new used (outcome_at at r)
 advances_token old piece new used at (Ok accepted) sooner = sooner
 advances_token old piece new used at (Err reason) sooner = tt

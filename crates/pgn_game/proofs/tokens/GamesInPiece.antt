@@ -5,7 +5,8 @@ use Rattle.pgn_game.proofs.tokens.OneMoreToken.{gains_none, gains_more, stops_mo
 use Rattle.pgn_game.proofs.tokens.AcceptedToConverter.{still_none-none}
 use Rattle.pgn_game.proofs.tokens.StepsInPiece.{further, whole_piece, decided_at_end, stands_before_any}
 
-pub all_none : (p : Profile) (old : Converter) (u : List ℕ) (given : List Token) (piece : List ℕ) (o : Option (List ℕ)) → Stands p old u None given → given ≡ decided u
+pub all_none : (p : Profile) (old : Converter) (u : List ℕ) (given : List Token) (piece : List ℕ) (o : Option (List ℕ))
+    → Stands p old u None given → given ≡ decided u
     → AllSoFar p u given piece 0 old o o
 all_none p old u given piece o stands is_decided =
     record {
@@ -20,8 +21,10 @@ pub behind_first : (xs : List ℕ) → still (first xs) xs ≡ None
 behind_first [] = refl
 behind_first (x ∷ xs) = refl
 
-module _ (p : Profile) (u : List ℕ) (given : List Token) (piece : List ℕ) (at : ℕ) (now : Converter) (a c d : Option (List ℕ)) (so : AllSoFar p u given piece at now a c) where
-  pub all_more : (new : Converter) (used : ℕ) → FedGame p (u ++ take at piece) so.tokens (drop at piece) used new c d → AllSoFar p u given piece (at + used) new a d
+module _ (p : Profile) (u : List ℕ) (given : List Token) (piece : List ℕ) (at : ℕ)
+    (now : Converter) (a c d : Option (List ℕ)) (so : AllSoFar p u given piece at now a c) where
+  pub all_more : (new : Converter) (used : ℕ) → FedGame p (u ++ take at piece) so.tokens (drop at piece) used new c d
+      → AllSoFar p u given piece (at + used) new a d
   all_more new used fed =
       let ts = fed.tokens ++ fed.marker ∷ [] in
       record {
@@ -32,7 +35,8 @@ module _ (p : Profile) (u : List ℕ) (given : List Token) (piece : List ℕ) (a
         gains = gains_more so.gains fed.gains;
       }
 
-  pub all_fed : (new : Converter) → FedAll p (u ++ take at piece) (first (drop at piece)) so.tokens (drop at piece) new c d → FedWhole p u given piece new a d
+  pub all_fed : (new : Converter) → FedAll p (u ++ take at piece) (first (drop at piece)) so.tokens (drop at piece) new c d
+      → FedWhole p u given piece new a d
   all_fed new fed =
       record {
         tokens = fed.tokens;
@@ -48,7 +52,8 @@ module _ (p : Profile) (u : List ℕ) (given : List Token) (piece : List ℕ) (a
           fed.empty (ap (length {A = ℕ}) e) ∙ decided_at_end (u ++ piece) so.tokens (rw e at known)
       which (x ∷ xs) e = fed.decided (rw e (omega arith)) ∙ ap decided (whole_piece u piece at)
 
-  all_fault : {f : Fault} → FedFault p (u ++ take at piece) (first (drop at piece)) so.tokens (drop at piece) f c d → FedFault p u None given piece f a d
+  all_fault : {f : Fault} → FedFault p (u ++ take at piece) (first (drop at piece)) so.tokens (drop at piece) f c d
+      → FedFault p u None given piece f a d
   all_fault fed =
       record {
         tokens = fed.tokens;
@@ -56,7 +61,8 @@ module _ (p : Profile) (u : List ℕ) (given : List Token) (piece : List ℕ) (a
         stops = stops_more so.gains fed.stops;
       }
 
-  all_before : {front : List ℕ} {n : Converter} → length ((u ++ take at piece) ++ front) ≡ 2 ^ 62 → FedAll p (u ++ take at piece) (first (drop at piece)) so.tokens front n c d
+  all_before : {front : List ℕ} {n : Converter} → length ((u ++ take at piece) ++ front) ≡ 2 ^ 62
+      → FedAll p (u ++ take at piece) (first (drop at piece)) so.tokens front n c d
       → ReadsUpTo p given (u ++ (take at piece ++ front)) a d
   all_before {front} end fed =
       record {

@@ -2,7 +2,8 @@
 use Rattle.std.specs.Io.KnownBytes.{Keeps, IsAtEnd}
 use Rattle.pgn_game.proofs.Words.{Token, ReadFault, Fault, Profile, Game, no_part, ◌≡◌, ℕ, ◌^◌, ◌≤◌, Bool, true, false, List, [], ◌∷◌, ◌++◌, length, drop, Option, None, Some, Result, Ok, Err, refl, sym, ap, subst, ◌∙◌, inl, inr, append-nil, append_assoc, length-append, arith, take-append-drop, Consumes-nil, Consumes-trans, tokens_of, decided, coming, IsDecided, first, Gains, Games, games_of, HasReadAll, HaveRead, within, at_end, NextGame, NoGame, NextStops, AfterNext, NextSoFar, IsTrue, is_ok, Consumes, text_of_games as text_of, whole, next, Progress, read, read_from, written_so_far as written, Converter, FedAll, FedGame, FedToFault, StopsIn, at_token, too_long, AfterFinish, Finishes, FinishesToFault, rules, Reason, refusal, Next, going, progress_with, Read, take, finished_game_of, HasRead, no_progress}
 use Rattle.pgn_game.specs.GamesCalls as games_calls
-use Rattle.pgn_game.proofs.tokens.OneMoreToken.{read-passes, read-refuses, stops_from, torn-none, gains_none, gains_more, stops_more, games_still, counts_still}
+use Rattle.pgn_game.proofs.tokens.OneMoreToken.{read-passes, read-refuses, stops_from, torn-none, gains_none, gains_more, stops_more, games_still}
+use Rattle.pgn_game.proofs.tokens.OneMoreToken.{counts_still}
 use Rattle.pgn_game.proofs.tokens.StepsInPiece.{decided_at_end, stands_before_any}
 use Rattle.pgn_game.proofs.tokens.GamesInPiece.{behind_first}
 use Rattle.pgn_game.proofs.tokens.StepsAtEnd.{let_go}
@@ -20,8 +21,7 @@ passes_before p ts us passes = search (rules, none_or_some, stops_from)
 
 -- between games all that is due is the text of games
 pub due_between : (p : Profile) (b : Progress) → b.part ≡ no_part → written p b ≡ text_of p b.games
-due_between p b none =
-    cc (none, torn-none p.missing_result p.mode, append-nil (text_of p b.games))
+due_between p b none = cc (none, torn-none p.missing_result p.mode, append-nil (text_of p b.games))
 
 pub not_one_more : {gs : List Game} (g : Game) → gs ≡ gs ++ g ∷ [] → ⊥
 not_one_more {gs} g e = absurd (omega (arith, ap (length {A = Game}) e, length-append gs (g ∷ [])))
@@ -34,20 +34,20 @@ none_behind p ts t g passes one = by_test (refusal p (read p ts).progress.part t
     before : (read p ts).fault ≡ None
     before = passes_before p ts (t ∷ []) passes
 
-    by_next : (nx : Next) → next (read p ts).progress.part t.kind ≡ nx → (read p (ts ++ t ∷ [])).progress ≡ progress_with (read p ts).progress.games nx
+    by_next : (nx : Next) → next (read p ts).progress.part t.kind ≡ nx
+        → (read p (ts ++ t ∷ [])).progress ≡ progress_with (read p ts).progress.games nx
         → (read p (ts ++ t ∷ [])).progress.part ≡ no_part
     by_next (going part) is reads = absurd (not_one_more g (sym (ap (λ (b : Progress). b.games) reads) ∙ one))
     by_next (whole h) is reads = ap (λ (b : Progress). b.part) reads
 
     by_test : (o : Option Reason) → refusal p (read p ts).progress.part t.kind ≡ o → (read p (ts ++ t ∷ [])).progress.part ≡ no_part
-    by_test (Some reason) is =
-        absurd (none_or_some _ (ap (λ (r : Read). r.fault) (read-refuses p ts t [] reason before is)) passes)
-    by_test None is =
-        by_next (next (read p ts).progress.part t.kind) refl (ap (λ (r : Read). r.progress) (read-passes p ts t before is))
+    by_test (Some reason) is = absurd (none_or_some _ (ap (λ (r : Read). r.fault) (read-refuses p ts t [] reason before is)) passes)
+    by_test None is = by_next (next (read p ts).progress.part t.kind) refl (ap (λ (r : Read). r.progress) (read-passes p ts t before is))
 
 -- ---- one call
 
-pub none_yet : (p : Profile) (u : List ℕ) (given : List Token) (left : Option (List ℕ)) (now : Games) (o : Option (List ℕ)) → HaveRead p left u now given
+pub none_yet : (p : Profile) (u : List ℕ) (given : List Token) (left : Option (List ℕ)) (now : Games) (o : Option (List ℕ))
+    → HaveRead p left u now given
     → now.converter.is_finished ≡ false → NextSoFar p u given left left now o o
 none_yet p u given left now o (within on) not_finished =
     record {
@@ -60,12 +60,15 @@ none_yet p u given left now o (within on) not_finished =
     }
 none_yet p u given left now o (at_end all) not_finished = absurd (cc (all.finished))
 
-pub at_end_again : (p : Profile) (u : List ℕ) (given : List Token) (left : Option (List ℕ)) (now : Games) (new : Converter) (o : Option (List ℕ)) → HaveRead p left u now given
-    → now.converter.is_finished ≡ true → new ≡ record now.converter { just_finished = None } → NoGame p u given left left (games_of new now.unused) o o
+pub at_end_again : (p : Profile) (u : List ℕ) (given : List Token) (left : Option (List ℕ))
+    (now : Games) (new : Converter) (o : Option (List ℕ)) → HaveRead p left u now given
+    → now.converter.is_finished ≡ true → new ≡ record now.converter { just_finished = None }
+    → NoGame p u given left left (games_of new now.unused) o o
 at_end_again p u given left now new o h1 h2 h3 = grind (arith, Consumes-nil, append-nil, gains_none, let_go)
 
 -- what was read of a front of the bytes not used is decided
-front_decided : {p : Profile} {u : List ℕ} (rest front : List ℕ) {given : List Token} → (front ≡ [] → given ≡ decided u) → {new : Converter} {a c : Option (List ℕ)}
+front_decided : {p : Profile} {u : List ℕ} (rest front : List ℕ) {given : List Token}
+    → (front ≡ [] → given ≡ decided u) → {new : Converter} {a c : Option (List ℕ)}
     (fed : FedAll p u (first rest) given front new a c) → fed.tokens ≡ decided (u ++ front)
 front_decided {u} rest [] none fed = fed.empty refl ∙ none refl ∙ ap decided (sym (append-nil u))
 front_decided rest (x ∷ xs) none fed = fed.decided (omega arith)
@@ -86,7 +89,8 @@ decided_before u piece (inr (b, e, k)) = absurd (cc)
 
 -- ---- what a call reads
 
-module _ (p : Profile) (u : List ℕ) (given : List Token) (left_old left : Option (List ℕ)) (now : Games) (a c : Option (List ℕ)) (so : NextSoFar p u given left_old left now a c)
+module _ (p : Profile) (u : List ℕ) (given : List Token) (left_old left : Option (List ℕ))
+    (now : Games) (a c : Option (List ℕ)) (so : NextSoFar p u given left_old left now a c)
     (d : Option (List ℕ)) where
   pub game_read : (new : Converter) (used : ℕ) → FedGame p so.reads_on.used so.tokens now.unused used new c d → new.is_finished ≡ false
       → NextGame p u given left_old left (games_of new (drop used now.unused)) a d
@@ -98,7 +102,8 @@ module _ (p : Profile) (u : List ℕ) (given : List Token) (left_old left : Opti
         tokens = ts;
         have_read = within (record {
           used = so.reads_on.used ++ take used now.unused;
-          bytes = cc (so.reads_on.bytes, take-append-drop used now.unused, append_assoc so.reads_on.used (take used now.unused) (drop used now.unused));
+          bytes =
+              cc (so.reads_on.bytes, take-append-drop used now.unused, append_assoc so.reads_on.used (take used now.unused) (drop used now.unused));
           stands = fed.stands;
           at_limit = fed.at_limit;
           decided = fed.decided;
@@ -148,7 +153,8 @@ module _ (p : Profile) (u : List ℕ) (given : List Token) (left_old left : Opti
       })
   rest_stops new f (too_long front rest cut place some (n, fed, same)) =
       let full : front ≡ [] → so.tokens ≡ decided so.reads_on.used =
-      λ none. so.reads_on.at_limit (ap (length {A = ℕ}) (sym (ap (λ xs. so.reads_on.used ++ xs) none ∙ append-nil so.reads_on.used)) ∙ place) in
+      λ none. so.reads_on.at_limit
+      (ap (length {A = ℕ}) (sym (ap (λ xs. so.reads_on.used ++ xs) none ∙ append-nil so.reads_on.used)) ∙ place) in
       games_calls.too_long so.more (so.reads_on.used ++ front) rest so.consumed
       (so.reads_on.bytes ∙ ap (λ xs. so.reads_on.used ++ xs) cut ∙ sym (append_assoc so.reads_on.used front rest)) place some (record {
         reads = record {
@@ -184,7 +190,8 @@ module _ (p : Profile) (u : List ℕ) (given : List Token) (left_old left left_n
         gains = so.gains;
       }
 
-  pub unread : (f : Fault) (most : ℕ) → Keeps left left_new → f ≡ record { at = now.lexer.count; reason = ReadFault } → NextStops p u given left_old left_new most a c f
+  pub unread : (f : Fault) (most : ℕ) → Keeps left left_new
+      → f ≡ record { at = now.lexer.count; reason = ReadFault } → NextStops p u given left_old left_new most a c f
   unread f most keeps is =
       let place : now.lexer.count ≡ length (u ++ so.more) = so.reads_on.stands.lexer.count ∙ ap (length {A = ℕ}) (sym all_used) in
       subst (NextStops p u given left_old left_new most a c) (sym (is ∙ ap (λ n. record { at = n; reason = ReadFault }) place))
@@ -233,7 +240,8 @@ module _ (p : Profile) (u : List ℕ) (given : List Token) (left_old left left_n
         gains : Gains p given (tokens_of (u ++ so.more)) a d
         gains = subst (λ ts. Gains p given ts a d) text (gains_more so.gains fed.gains)
 
-        none : (flag : Bool) → is_game ≡ flag → flag ≡ false → (read p (tokens_of so.reads_on.used)).progress.games ≡ (read p so.tokens).progress.games
+        none : (flag : Bool) → is_game ≡ flag → flag ≡ false
+            → (read p (tokens_of so.reads_on.used)).progress.games ≡ (read p so.tokens).progress.games
             → NoGame p u given left_old left_new (games_of new []) a d
         none flag is ends same =
             record {
@@ -267,7 +275,8 @@ module _ (p : Profile) (u : List ℕ) (given : List Token) (left_old left left_n
             → AfterNext p u given left_old left_new (games_of new []) (Ok flag) a d
         by_game false is (inl same) = none false is refl same
         by_game false is (inr (passes, (g, more))) =
-            absurd (not_true (rw is at (fed.game.1 (omega (arith, ap (length {A = Game}) more, length-append (read p so.tokens).progress.games (g ∷ []))))))
+            absurd (not_true
+            (rw is at (fed.game.1 (omega (arith, ap (length {A = Game}) more, length-append (read p so.tokens).progress.games (g ∷ []))))))
         by_game true is (inl same) = absurd (omega (arith, fed.game.0 (rw is (cc)), ap (length {A = Game}) same))
         by_game true is (inr (passes, (g, more))) = one g more is
 
@@ -280,7 +289,8 @@ module _ (p : Profile) (u : List ℕ) (given : List Token) (left_old left left_n
           counts = counts_still so.gains fed.stops fed.counts;
         }))
 
-    pub finished : (r : Result Bool Fault) → AfterFinish p so.reads_on.used so.tokens new r c d → new.is_finished ≡ is_ok r → now.lexer.count ≤ 2 ^ 62
+    pub finished : (r : Result Bool Fault) → AfterFinish p so.reads_on.used so.tokens new r c d
+        → new.is_finished ≡ is_ok r → now.lexer.count ≤ 2 ^ 62
         → AfterNext p u given left_old left_new (games_of new []) r a d
     finished (Ok is_game) fed ends few = ended fed ends few
     finished (Err f) fed ends few = ended_at_fault f fed

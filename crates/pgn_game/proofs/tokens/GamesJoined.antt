@@ -28,11 +28,13 @@ first_of_text left {left_new} {u} {now} {given} consumed (games_calls.within on)
 first_of_text left {left_new} {u} {given} consumed (games_calls.at_end all) = search (rules, append-nil, known_whole)
 
 -- what was read and written so far; the games taken are those read
-record SoFar (p : Profile) (left before : Option (List ℕ)) (taken : List FinishedGame) (now : Games) (left_now after : Option (List ℕ)) : Type 0 where
+record SoFar (p : Profile) (left before : Option (List ℕ)) (taken : List FinishedGame)
+    (now : Games) (left_now after : Option (List ℕ)) : Type 0 where
   pub reads : ReadSoFar p left left_now now before after
   pub games : taken ≡ finished (games_read p reads.tokens)
 
-taken_more : {p : Profile} {left left_old left_new before out after : Option (List ℕ)} {taken : List FinishedGame} (game : FinishedGame) {old new : Games}
+taken_more : {p : Profile} {left left_old left_new before out after : Option (List ℕ)} {taken : List FinishedGame}
+    (game : FinishedGame) {old new : Games}
     (so : SoFar p left before taken old left_old out)
     (next : NextGame p so.reads.bytes so.reads.tokens left_old left_new new out after) → new.converter.just_finished ≡ Some game
     → taken ++ game ∷ [] ≡ finished (games_read p next.tokens)
@@ -86,8 +88,10 @@ games_join p left before first old new taken (Ok false) source sink begins calls
     (record {
       games = same;
       counts = verdict_passes (read p (tokens_of text)) end.have_read_all.has_read.passes
-          ∙ ap (λ n. totals (record { games = n; plies = sum (map plies_of games) })) (sym (length-map games finished_game_of) ∙ ap length (sym same))
-          ∙ ap (λ l. totals (record { games = length taken; plies = sum l })) (sym (plies_taken games) ∙ ap (map (λ (game : FinishedGame). game.plies)) (sym same));
+          ∙ ap (λ n. totals (record { games = n; plies = sum (map plies_of games) }))
+          (sym (length-map games finished_game_of) ∙ ap length (sym same))
+          ∙ ap (λ l. totals (record { games = length taken; plies = sum l }))
+          (sym (plies_taken games) ∙ ap (map (λ (game : FinishedGame). game.plies)) (sym same));
       written = appended
           (gains_more so.reads.gains end.gains);
     })

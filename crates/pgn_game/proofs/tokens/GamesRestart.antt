@@ -25,20 +25,18 @@ front_stays p games b [] = refl
 front_stays p games b (t ∷ ts) =
     by_token p b t ts (λ r. read_from p (with_front games b) (t ∷ ts) ≡ reads_with_front games r)
     (λ reason is. read_from-test p (with_front games b) t ts ∙ ap (after_test p (with_front games b) t ts) is)
-    (λ is. goes_on p (with_front games b) t ts is ∙ ap (λ c. read_from p c ts) (front_of_next games b.games (next b.part t.kind)) ∙ front_stays p games (progress_after b t) ts)
+    (λ is. goes_on p (with_front games b) t ts is ∙ ap (λ c. read_from p c ts) (front_of_next games b.games (next b.part t.kind))
+    ∙ front_stays p games (progress_after b t) ts)
 
 text_of-append : (p : Profile) (games more : List Game) → text_of p (games ++ more) ≡ text_of p games ++ text_of p more
 text_of-append p [] more = refl
-text_of-append p (g ∷ games) more =
-    rw (text_of-append p games more) (sym (append_assoc (game_text p g) (text_of p games) (text_of p more)))
+text_of-append p (g ∷ games) more = rw (text_of-append p games more) (sym (append_assoc (game_text p g) (text_of p games) (text_of p more)))
 
 written_with_front : (p : Profile) (games : List Game) (b : Progress) → written p (with_front games b) ≡ text_of p games ++ written p b
-written_with_front p games b =
-    rw (text_of-append p games b.games) (append_assoc (text_of p games) (text_of p b.games) (torn p b.part))
+written_with_front p games b = rw (text_of-append p games b.games) (append_assoc (text_of p games) (text_of p b.games) (torn p b.part))
 
 plies_of_both : (xs ys : List Game) → sum (map plies_of (xs ++ ys)) ≡ sum (map plies_of xs) + sum (map plies_of ys)
-plies_of_both xs ys =
-    omega (arith, sum-map plies_of (xs ++ ys), sum_by-append plies_of xs ys, sum-map plies_of xs, sum-map plies_of ys)
+plies_of_both xs ys = omega (arith, sum-map plies_of (xs ++ ys), sum_by-append plies_of xs ys, sum-map plies_of xs, sum-map plies_of ys)
 
 verdict_with_front : (games : List Game) (r : Read) → verdict_of (reads_with_front games r) ≡ counting_also games (verdict_of r)
 verdict_with_front games r = search (rules, length-append, plies_of_both)

@@ -8,7 +8,8 @@ use Rattle.pgn_lexer.specs.Tokens as tokens
 use Rattle.pgn_game.proofs.Words.{Kind, Token, Reason, Profile, Missing, counts_as, takes_the_marker, Stage, Between, Pair, Item, Game, Part, no_part, ◌≡◌, ℕ, ◌<◌, Bool, true, false, List, [], ◌∷◌, ◌++◌, length, length-append, Option, None, Some, refl, ap, subst, ◌∙◌, append-nil, arith, inl, inr, ◌⊎◌, IsLast, Standing, coming, refusal, if◌then◌else◌, LexReason, SymbolTooLong, WordTooLong, GlyphRange, gives, stops, onto, tokens_to_come_in, text_of_games as text_of, torn, Progress, Next, Read, progress_after, progress_with, going, next, next_in, read_from, whole, written_so_far as written, rules, nat_le, sym}
 use Rattle.pgn_game.proofs.tokens.OneMoreToken.{after_test, by_token, first_passes, goes_on, read_from-test}
 
-reads_on : (p : Profile) (b : Progress) (t : Token) (ts : List Token) {o : Option Reason} → refusal p b.part t.kind ≡ o → read_from p b (t ∷ ts) ≡ after_test p b t ts o
+reads_on : (p : Profile) (b : Progress) (t : Token) (ts : List Token) {o : Option Reason}
+    → refusal p b.part t.kind ≡ o → read_from p b (t ∷ ts) ≡ after_test p b t ts o
 reads_on p b t ts is = read_from-test p b t ts ∙ ap (after_test p b t ts) is
 
 -- ---- tokens that finish no game
@@ -32,7 +33,8 @@ AreQuiet (t ∷ ts) = IsQuiet t.kind × AreQuiet ts
 pub quiet_games : (p : Profile) (b : Progress) (ts : List Token) → AreQuiet ts → (read_from p b ts).progress.games ≡ b.games
 quiet_games p b [] quiet = refl
 quiet_games p b (t ∷ ts) (here, rest) =
-    by_token p b t ts (λ r. r.progress.games ≡ b.games) (λ reason is. refl) (λ is. quiet_games p (progress_after b t) ts rest ∙ quiet_next b here)
+    by_token p b t ts (λ r. r.progress.games ≡ b.games) (λ reason is. refl)
+    (λ is. quiet_games p (progress_after b t) ts rest ∙ quiet_next b here)
 
 quiet_front : (xs ys : List Token) → AreQuiet (xs ++ ys) → AreQuiet xs
 quiet_front [] ys q = tt
@@ -95,7 +97,8 @@ last_torn p b place (tokens.refused r) last free = absurd (some-none free)
 last_torn p b place tokens.end last free = end_torn p b.games b.part.stage b.part.pairs b.part.name b.part.items free
 last_torn p b place _ last free = absurd last
 
-pub none_torn : (p : Profile) (b : Progress) (ts : List Token) → HasLast ts → (read_from p b ts).fault ≡ None → torn p (read_from p b ts).progress.part ≡ []
+pub none_torn : (p : Profile) (b : Progress) (ts : List Token) → HasLast ts
+    → (read_from p b ts).fault ≡ None → torn p (read_from p b ts).progress.part ≡ []
 none_torn p b [] has passes = absurd has
 none_torn p b (t ∷ []) has passes = search (rules, first_passes, goes_on, last_torn)
 none_torn p b (t ∷ u ∷ ts) has passes =
@@ -117,7 +120,8 @@ pub data IsLeft (mode : Mode) (place at : ℕ) (text : List ℕ) : List Token �
   symbol : mode ≡ modes.Symbol → IsLeft mode place at text (token_at at (tokens.symbol (text ++ [])) ∷ end_at place ∷ [])
 
 symbol_left : {place at : ℕ} {text : List ℕ} (fits : Bool)
-    → IsLeft modes.Symbol place at text (onto at (if fits then gives (tokens.symbol (text ++ [])) else stops at SymbolTooLong) (end_at place ∷ []))
+    → IsLeft modes.Symbol place at text
+    (onto at (if fits then gives (tokens.symbol (text ++ [])) else stops at SymbolTooLong) (end_at place ∷ []))
 symbol_left true = symbol refl
 symbol_left false = none _ (refused SymbolTooLong, tt) tt
 
@@ -126,7 +130,8 @@ glyph_left : {mode : Mode} {place at : ℕ} (n : ℕ) {text : List ℕ} (fits : 
 glyph_left n true = glyph n
 glyph_left n false = none _ (refused GlyphRange, tt) tt
 
-suffix_left : (run : SuffixRun) {place at : ℕ} {text : List ℕ} → IsLeft (modes.Suffix run) place at text (tokens_to_come_in (modes.Suffix run) place at text [])
+suffix_left : (run : SuffixRun) {place at : ℕ} {text : List ℕ}
+    → IsLeft (modes.Suffix run) place at text (tokens_to_come_in (modes.Suffix run) place at text [])
 suffix_left suffix_runs.Good = glyph _
 suffix_left suffix_runs.Poor = glyph _
 suffix_left suffix_runs.VeryGood = glyph _
@@ -134,7 +139,8 @@ suffix_left suffix_runs.VeryPoor = glyph _
 suffix_left suffix_runs.Speculative = glyph _
 suffix_left suffix_runs.Questionable = glyph _
 
-word_left : {mode : Mode} {place at : ℕ} {text : List ℕ} (run : List ℕ) (fits : Bool) (t : Token) (ts : List Token) → AreQuiet (t ∷ ts) → HasLast (t ∷ ts)
+word_left : {mode : Mode} {place at : ℕ} {text : List ℕ} (run : List ℕ) (fits : Bool) (t : Token) (ts : List Token)
+    → AreQuiet (t ∷ ts) → HasLast (t ∷ ts)
     → IsLeft mode place at text (onto at (if fits then gives (tokens.word run) else stops at WordTooLong) (t ∷ ts))
 word_left run true t ts q has = none _ (word run, q) has
 word_left run false t ts q has = none _ (refused WordTooLong, tt) tt
@@ -178,14 +184,16 @@ left_none_begun p b l passes = search (rules, append-nil, left, none_torn)
 
 -- The token at fault adds to what is due, and so no game was finished before it: behind a game
 -- there is only the end, which adds nothing.
-pub none_finished_before : (p : Profile) (b : Progress) (l : Standing) (front : List Token) (token : Token) (rest : List Token) → coming l [] ≡ front ++ token ∷ rest
+pub none_finished_before : (p : Profile) (b : Progress) (l : Standing) (front : List Token) (token : Token) (rest : List Token)
+    → coming l [] ≡ front ++ token ∷ rest
     → (read_from p b (front ++ token ∷ [])).fault ≡ None
     → length (written p (read_from p b front).progress) < length (written p (read_from p b (front ++ token ∷ [])).progress)
     → (read_from p b front).progress.games ≡ b.games
 none_finished_before p b l front token rest cut passes more = by_last front (coming l []) (left l) cut passes more
   where
     by_next : (m last : Token) (nx : Next) → last.kind ≡ tokens.end → next b.part m.kind ≡ nx
-        → length (written p (progress_after b m)) < length (written p (progress_after (progress_after b m) last)) → (progress_after b m).games ≡ b.games
+        → length (written p (progress_after b m)) < length (written p (progress_after (progress_after b m) last))
+        → (progress_after b m).games ≡ b.games
     by_next m last (going part) is leads more = ap (λ (n : Next). (progress_with b.games n).games) leads
     by_next m last (whole g) is leads more =
         let after : progress_after b m ≡ record { games = b.games ++ g ∷ []; part = no_part } = ap (progress_with b.games) leads in
@@ -198,7 +206,8 @@ none_finished_before p b l front token rest cut passes more = by_last front (com
         → length (written p (read_from p b front).progress) < length (written p (read_from p b (front ++ token ∷ [])).progress)
         → (read_from p b front).progress.games ≡ b.games
     by_last [] ts last cut passes more = refl
-    by_last (m ∷ mid) _ (quiet ts q has) cut passes more = quiet_games p b (m ∷ mid) (quiet_front (m ∷ mid) (token ∷ rest) (subst AreQuiet cut q))
+    by_last (m ∷ mid) _ (quiet ts q has) cut passes more =
+        quiet_games p b (m ∷ mid) (quiet_front (m ∷ mid) (token ∷ rest) (subst AreQuiet cut q))
     by_last (m ∷ []) _ (one t at) cut passes more =
         let free = first_passes p b m (token ∷ []) passes in
         let here = goes_on p b m (token ∷ []) free in
@@ -207,5 +216,4 @@ none_finished_before p b l front token rest cut passes more = by_last front (com
         let is : token ≡ record { at = at; kind = tokens.end } = cc in
         rw before (by_next m token (next b.part m.kind) (ap (λ (t : Token). t.kind) is) refl
         (rw (here ∙ there) at (rw before at more)))
-    by_last (m ∷ n ∷ mid) _ (one t at) cut passes more =
-        absurd (omega (arith, ap (length {A = Token}) cut, length-append mid (token ∷ rest)))
+    by_last (m ∷ n ∷ mid) _ (one t at) cut passes more = absurd (omega (arith, ap (length {A = Token}) cut, length-append mid (token ∷ rest)))

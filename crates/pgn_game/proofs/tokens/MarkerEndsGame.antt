@@ -46,10 +46,10 @@ plain tokens.asterisk marker is = record { textual = refl; bare = refl; sound = 
 plain (tokens.symbol s) marker is = record { textual = refl; bare = refl; sound = refl }
 plain _ marker is = absurd (cc)
 
-passes_in_text : (p : Profile) (stage : Stage) (part : Part) (k : Kind) (g : Game) → IsPlain k → refusal p (at_stage stage part) k ≡ None → next_in stage part k ≡ whole g
+passes_in_text : (p : Profile) (stage : Stage) (part : Part) (k : Kind) (g : Game) → IsPlain k
+    → refusal p (at_stage stage part) k ≡ None → next_in stage part k ≡ whole g
     → text_refusal p part k ≡ None
-passes_in_text p Between part k g is free leads =
-    sym (text_row p part k is.sound) ∙ sym (between p part k is.textual is.bare) ∙ free
+passes_in_text p Between part k g is free leads = sym (text_row p part k is.sound) ∙ sym (between p part k is.textual is.bare) ∙ free
 passes_in_text p AfterLeftBracket part k g is free leads = absurd (none_in_name part k g leads)
 passes_in_text p AfterName part k g is free leads = absurd (none_in_value part k g leads)
 passes_in_text p AfterValue part k g is free leads = absurd (none_behind_value part k g leads)
@@ -96,17 +96,14 @@ module _ (p : Profile) (given : List Token) (marker : Token) (finishes : Finishe
 
   by_next : (nx : Next) → refusal p part marker.kind ≡ None → next part marker.kind ≡ nx
       → (read p (given ++ marker ∷ [])).progress ≡ progress_with (games_read p given) nx → EndsByMarker p given marker finishes.game
-  by_next (going to) free leads after =
-      absurd (not_one_more finishes.game (sym (ap (λ (b : Progress). b.games) after) ∙ finishes.one_more))
+  by_next (going to) free leads after = absurd (not_one_more finishes.game (sym (ap (λ (b : Progress). b.games) after) ∙ finishes.one_more))
   by_next (whole g) free leads after =
       of_game g free leads
       (last_is (games_read p given) (games_read p given) (sym (ap (λ (b : Progress). b.games) after) ∙ finishes.one_more))
 
   by_test : (o : Option Reason) → refusal p part marker.kind ≡ o → EndsByMarker p given marker finishes.game
-  by_test (Some reason) is =
-      absurd (none_or_some _ (ap (λ (r : Read). r.fault) (read-refuses p given marker [] reason before is)) finishes.passes)
-  by_test None is =
-      by_next (next part marker.kind) is refl (ap (λ (r : Read). r.progress) (read-passes p given marker before is))
+  by_test (Some reason) is = absurd (none_or_some _ (ap (λ (r : Read). r.fault) (read-refuses p given marker [] reason before is)) finishes.passes)
+  by_test None is = by_next (next part marker.kind) is refl (ap (λ (r : Read). r.progress) (read-passes p given marker before is))
 
 pub games_end_by_marker : GamesEndByMarker
 games_end_by_marker p given marker finishes = by_test p given marker finishes (refusal p (read p given).progress.part marker.kind) refl

@@ -1,11 +1,13 @@
 -- A converter that has read no token, where a missing Result counts as another marker from now on.
-use Rattle.pgn_game.proofs.Words.{Fault, Profile, ◌≡◌, Bool, true, false, [], ℕ, Option, refl, Standing, Marker, marker_text, counting, ReaderState, Converter, CountsMissingAs, IsSound, counting_missing_as, game_in_reader_if, MostTried, none, rules}
+use Rattle.pgn_game.proofs.Words.{Fault, Profile, ◌≡◌, Bool, true, false, [], ℕ, Option, refl, Standing, Marker, marker_text, counting}
+use Rattle.pgn_game.proofs.Words.{ReaderState, Converter, CountsMissingAs, IsSound, counting_missing_as, game_in_reader_if, MostTried, none, rules}
 use Rattle.pgn_game.proofs.twice.MarkerCounts.{agrees_under}
 
 abbrev pub reader_counting : Marker → ReaderState → ReaderState
 reader_counting marker r = record r { profile = counting r.profile (marker_text marker) }
 
-pub finished_alike : (finished : Bool) (marker : Marker) (r : ReaderState) → game_in_reader_if finished (reader_counting marker r) ≡ game_in_reader_if finished r
+pub finished_alike : (finished : Bool) (marker : Marker) (r : ReaderState)
+    → game_in_reader_if finished (reader_counting marker r) ≡ game_in_reader_if finished r
 finished_alike true marker r = refl
 finished_alike false marker r = refl
 

@@ -24,7 +24,8 @@ module _ (tags deepest : ℕ) (mode : Mode) (ps : List Pair) (name : List ℕ) (
         | None ↦ going (record { stage = InMovetext; pairs = ps; name = name; items = items ++ items_of (part InMovetext) k })
       ]))) [
         | Some marker ↦ subst (IsPrefix (torn (profile (counts_as text)) (part InMovetext)))
-            (sym (append_assoc (tag_section mode text ps) (text_of_lines (lines_of (tokens_out mode (start_of ps) items ++ marker ∷ []))) (10 ∷ [])))
+            (sym (append_assoc (tag_section mode text ps)
+            (text_of_lines (lines_of (tokens_out mode (start_of ps) items ++ marker ∷ []))) (10 ∷ [])))
             (behind (tag_section mode text ps) _ _ (full_text_marker mode (start_of ps) items marker))
         | None ↦ behind (tag_section mode text ps) _ _ (full_text_grows mode (start_of ps) items (items_of (part InMovetext) k))
       ]
@@ -38,7 +39,8 @@ pub next_grows : (p : Profile) (part : Part) (k : Kind) → IsPrefix (torn p par
 next_grows p part k = stage_grows p.tags p.depth p.mode part.pairs part.name part.items p.missing_result part.stage k
 
 -- so it is what stands written and the rest
-pub next_is : (p : Profile) (part : Part) (k : Kind) → text_next p (next part k) ≡ torn p part ++ drop (length (torn p part)) (text_next p (next part k))
+pub next_is : (p : Profile) (part : Part) (k : Kind)
+    → text_next p (next part k) ≡ torn p part ++ drop (length (torn p part)) (text_next p (next part k))
 next_is p part k =
     let h = next_grows p part k in
     rw (ap (drop (length (torn p part))) h.1 ∙ drop-append_seam (torn p part) h.0) h.1

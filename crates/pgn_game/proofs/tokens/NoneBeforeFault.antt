@@ -4,7 +4,8 @@ use Rattle.pgn_game.proofs.tokens.OneMoreToken.{first_passes, goes_on, due_grows
 use Rattle.pgn_game.proofs.tokens.LastTokens.{AddsOne, left_games, none_finished_before}
 
 -- behind tokens that pass the rest is read from where they led
-pub reads_behind : (p : Profile) (b : Progress) (ts us : List Token) → (read_from p b ts).fault ≡ None → read_from p b (ts ++ us) ≡ read_from p (read_from p b ts).progress us
+pub reads_behind : (p : Profile) (b : Progress) (ts us : List Token) → (read_from p b ts).fault ≡ None
+    → read_from p b (ts ++ us) ≡ read_from p (read_from p b ts).progress us
 reads_behind p b [] us e = refl
 reads_behind p b (t ∷ ts) us e =
     let none = first_passes p b t ts e in
@@ -17,7 +18,8 @@ reads_behind p b (t ∷ ts) us e =
 -- two ways to part a list: one front goes on where the other ends
 abbrev Parted : List Token → List Token → List Token → List Token → Type 0
 Parted xs ys behind_xs behind_ys =
-    ((mid : List Token) × (ys ≡ xs ++ mid) × (behind_xs ≡ mid ++ behind_ys)) ⊎ ((mid : List Token) × (xs ≡ ys ++ mid) × (behind_ys ≡ mid ++ behind_xs))
+    ((mid : List Token) × (ys ≡ xs ++ mid) × (behind_xs ≡ mid ++ behind_ys))
+    ⊎ ((mid : List Token) × (xs ≡ ys ++ mid) × (behind_ys ≡ mid ++ behind_xs))
 
 parted : (xs ys : List Token) {behind_xs behind_ys : List Token} → xs ++ behind_xs ≡ ys ++ behind_ys → Parted xs ys behind_xs behind_ys
 parted [] ys e = inl (ys, refl, e)
@@ -32,7 +34,8 @@ parted (x ∷ xs) (y ∷ ys) {behind_xs} {behind_ys} e = further (parted xs ys (
     further (inr (mid, is, parts)) = inr (mid, ap (λ l. x ∷ l) is ∙ ap (λ z. z ∷ (ys ++ mid)) head_same, parts)
 
 -- the token at fault is the first of those that are left: the games before it are those so far
-module _ (p : Profile) (given : List Token) (l : Standing) (ts : List Token) (passes : (read p given).fault ≡ None) (whole_text : ts ≡ given ++ coming l [])
+module _ (p : Profile) (given : List Token) (l : Standing) (ts : List Token)
+    (passes : (read p given).fault ≡ None) (whole_text : ts ≡ given ++ coming l [])
     (at : ℕ) (a b : Option (List ℕ)) (writing : StopsWriting p given ts at a b) where
   longer : length (due p (writing.front ++ writing.token ∷ [])) ≡ length (due p given) + length writing.text
   longer = ap (length {A = ℕ}) writing.due_for ∙ length-append (due p given) writing.text
@@ -44,7 +47,8 @@ module _ (p : Profile) (given : List Token) (l : Standing) (ts : List Token) (pa
   head : {t u : Token} {ts us : List Token} → t ∷ ts ≡ u ∷ us → t ≡ u
   head e = cc
 
-  by_parts : Parted given writing.front (coming l []) (writing.token ∷ writing.rest) → (read p writing.front).progress.games ≡ (read p given).progress.games
+  by_parts : Parted given writing.front (coming l []) (writing.token ∷ writing.rest)
+      → (read p writing.front).progress.games ≡ (read p given).progress.games
   by_parts (inl (mid, is, parts)) = behind_given mid is parts
   by_parts (inr ([], is, parts)) = rw (is ∙ append-nil writing.front)
   by_parts (inr (m ∷ mid, is, parts)) =
@@ -62,7 +66,8 @@ module _ (p : Profile) (given : List Token) (l : Standing) (ts : List Token) (pa
 -- ---- both
 
 -- u is the whole text, and of its tokens the lexer has left those behind the given ones
-pub none_before_fault : (p : Profile) (u : List ℕ) {given : List Token} (l : Standing) → HasLeft l u given → (read p given).fault ≡ None → {a b : Option (List ℕ)} {f : Fault} (stops : Stops p given (tokens_of u) a b f)
+pub none_before_fault : (p : Profile) (u : List ℕ) {given : List Token} (l : Standing) → HasLeft l u given
+    → (read p given).fault ≡ None → {a b : Option (List ℕ)} {f : Fault} (stops : Stops p given (tokens_of u) a b f)
     → games_before stops ≡ (read p given).progress.games
 none_before_fault p u {given} l left passes {a} {b} (unwritten at writing) =
     by_parts p given l (tokens_of u) passes left at a b writing (parted given writing.front (sym left ∙ writing.cut))
@@ -72,6 +77,7 @@ none_before_fault p u {given} l left passes (refused f fault gains) =
     reads : read p (tokens_of u) ≡ read_from p (read p given).progress (coming l [])
     reads = ap (read p) left ∙ reads_behind p no_progress given (coming l []) passes
 
-    by_games : AddsOne (read p given).progress.games (read p (tokens_of u)) → (read p (tokens_of u)).progress.games ≡ (read p given).progress.games
+    by_games : AddsOne (read p given).progress.games (read p (tokens_of u))
+        → (read p (tokens_of u)).progress.games ≡ (read p given).progress.games
     by_games (inl same) = same
     by_games (inr (none, more)) = absurd (cc (none, fault))

@@ -10,7 +10,8 @@ abbrev pub after_test : Profile → Progress → Token → List Token → Option
 after_test p b t ts (Some reason) = read_as b (Some (record { at = t.at; reason = reason }))
 after_test p b t ts None = read_from p (progress_after b t) ts
 
-pub read_from-test : (p : Profile) (b : Progress) (t : Token) (ts : List Token) → read_from p b (t ∷ ts) ≡ after_test p b t ts (refusal p b.part t.kind)
+pub read_from-test : (p : Profile) (b : Progress) (t : Token) (ts : List Token)
+    → read_from p b (t ∷ ts) ≡ after_test p b t ts (refusal p b.part t.kind)
 read_from-test p b t ts = cc
 
 -- what holds where a token is rejected, and where it passes, holds of what is read from it on
@@ -27,10 +28,12 @@ passed : (p : Profile) (b : Progress) (t : Token) (ts : List Token) (o : Option 
 passed p b t ts (Some reason) e = absurd (cc)
 passed p b t ts None e = refl
 
-pub first_passes : (p : Profile) (b : Progress) (t : Token) (ts : List Token) → (read_from p b (t ∷ ts)).fault ≡ None → refusal p b.part t.kind ≡ None
+pub first_passes : (p : Profile) (b : Progress) (t : Token) (ts : List Token)
+    → (read_from p b (t ∷ ts)).fault ≡ None → refusal p b.part t.kind ≡ None
 first_passes p b t ts e = passed p b t ts (refusal p b.part t.kind) (rw (read_from-test p b t ts) at e)
 
-pub goes_on : (p : Profile) (b : Progress) (t : Token) (ts : List Token) → refusal p b.part t.kind ≡ None → read_from p b (t ∷ ts) ≡ read_from p (progress_after b t) ts
+pub goes_on : (p : Profile) (b : Progress) (t : Token) (ts : List Token)
+    → refusal p b.part t.kind ≡ None → read_from p b (t ∷ ts) ≡ read_from p (progress_after b t) ts
 goes_on p b t ts none = read_from-test p b t ts ∙ ap (after_test p b t ts) none
 
 after_those : (p : Profile) (b : Progress) (ts : List Token) (t : Token) (us : List Token) → (read_from p b ts).fault ≡ None
@@ -41,11 +44,13 @@ after_those p b (x ∷ xs) t us e =
     let here : read_from p b (x ∷ xs) ≡ read_from p (progress_after b x) xs = goes_on p b x xs none in
     cc (goes_on p b x (xs ++ t ∷ us) none, after_those p (progress_after b x) xs t us (rw here at e), here)
 
-pub read-passes : (p : Profile) (given : List Token) (t : Token) → (read p given).fault ≡ None → refusal p (read p given).progress.part t.kind ≡ None
+pub read-passes : (p : Profile) (given : List Token) (t : Token)
+    → (read p given).fault ≡ None → refusal p (read p given).progress.part t.kind ≡ None
     → read p (given ++ t ∷ []) ≡ read_as (progress_after (read p given).progress t) None
 read-passes p given t e none = after_those p no_progress given t [] e ∙ ap (after_test p (read p given).progress t []) none
 
-pub read-refuses : (p : Profile) (given : List Token) (t : Token) (us : List Token) (reason : Reason) → (read p given).fault ≡ None → refusal p (read p given).progress.part t.kind ≡ Some reason
+pub read-refuses : (p : Profile) (given : List Token) (t : Token) (us : List Token) (reason : Reason)
+    → (read p given).fault ≡ None → refusal p (read p given).progress.part t.kind ≡ Some reason
     → read p (given ++ t ∷ us) ≡ read_as (read p given).progress (Some (record { at = t.at; reason = reason }))
 read-refuses p given t us reason e some = after_those p no_progress given t us e ∙ ap (after_test p (read p given).progress t us) some
 
@@ -61,18 +66,16 @@ torn-none takes_the_marker mode = refl
 -- what is written when a token has led so far
 written_with : (p : Profile) (games : List Game) (nx : Next) → written p (progress_with games nx) ≡ text_of p games ++ text_next p nx
 written_with p games (going after) = refl
-written_with p games (whole g) =
-    rw (torn-none p.missing_result p.mode) (append-nil (text_of p (games ++ g ∷ [])) ∙ text_of-snoc p games g)
+written_with p games (whole g) = rw (torn-none p.missing_result p.mode) (append-nil (text_of p (games ++ g ∷ [])) ∙ text_of-snoc p games g)
 
 written-next : (p : Profile) (games : List Game) (part : Part) (k : Kind)
     → written p (progress_with games (next part k)) ≡ written p (record { games = games; part = part }) ++ gain p part k
-written-next p games part k =
-    cc (written_with p games (next part k), next_is p part k, append_assoc (text_of p games) (torn p part) (gain p part k))
+written-next p games part k = cc (written_with p games (next part k), next_is p part k, append_assoc (text_of p games) (torn p part) (gain p part k))
 
-pub due-passes : (p : Profile) (given : List Token) (t : Token) → (read p given).fault ≡ None → refusal p (read p given).progress.part t.kind ≡ None
+pub due-passes : (p : Profile) (given : List Token) (t : Token)
+    → (read p given).fault ≡ None → refusal p (read p given).progress.part t.kind ≡ None
     → due p (given ++ t ∷ []) ≡ due p given ++ gain p (read p given).progress.part t.kind
-due-passes p given t e none =
-    cc (read-passes p given t e none, written-next p (read p given).progress.games (read p given).progress.part t.kind)
+due-passes p given t e none = cc (read-passes p given t e none, written-next p (read p given).progress.games (read p given).progress.part t.kind)
 
 pub gains_none : {p : Profile} {given : List Token} {o : Option (List ℕ)} → Gains p given given o o
 gains_none {p} {given} {o} = record { text = []; due_for = sym (append-nil (due p given)); appended = Appends-nil o }
@@ -80,7 +83,8 @@ gains_none {p} {given} {o} = record { text = []; due_for = sym (append-nil (due 
 pub gains_more : {p : Profile} {x y z : List Token} {a b c : Option (List ℕ)} → Gains p x y a b → Gains p y z b c → Gains p x z a c
 gains_more first more = search (rules, Appends-trans, append_assoc)
 
-writing_more : (p : Profile) (x : List Token) {y tokens : List Token} {at : ℕ} (a b c : Option (List ℕ)) → Gains p x y a b → StopsWriting p y tokens at b c → StopsWriting p x tokens at a c
+writing_more : (p : Profile) (x : List Token) {y tokens : List Token} {at : ℕ} (a b c : Option (List ℕ))
+    → Gains p x y a b → StopsWriting p y tokens at b c → StopsWriting p x tokens at a c
 writing_more p x a b c first more =
     record {
       front = more.front;
@@ -97,31 +101,36 @@ writing_more p x a b c first more =
       appended = subst (Appends a c) (sym (take-append-add first.text more.text more.count)) (Appends-trans a b c _ _ first.appended more.appended);
     }
 
-pub stops_more : {p : Profile} {x y tokens : List Token} {f : Fault} {a b c : Option (List ℕ)} → Gains p x y a b → Stops p y tokens b c f → Stops p x tokens a c f
+pub stops_more : {p : Profile} {x y tokens : List Token} {f : Fault} {a b c : Option (List ℕ)}
+    → Gains p x y a b → Stops p y tokens b c f → Stops p x tokens a c f
 stops_more first (refused g fault gains) = refused g fault (gains_more first gains)
 stops_more {p} {x} {a} {b} {c} first (unwritten at writing) = unwritten at (writing_more p x a b c first writing)
 
 -- where reading stops is not moved by what was read before
-pub games_still : {p : Profile} {x y tokens : List Token} {f : Fault} {a b c : Option (List ℕ)} (first : Gains p x y a b) (stops : Stops p y tokens b c f)
+pub games_still : {p : Profile} {x y tokens : List Token} {f : Fault} {a b c : Option (List ℕ)}
+    (first : Gains p x y a b) (stops : Stops p y tokens b c f)
     → games_before (stops_more first stops) ≡ games_before stops
 unfolding stops_more writing_more
 games_still first (refused g fault gains) = refl
 games_still first (unwritten at writing) = refl
 
-pub counts_still : {p : Profile} {x y tokens : List Token} {f : Fault} {a b c : Option (List ℕ)} (first : Gains p x y a b) (stops : Stops p y tokens b c f) {most : ℕ}
+pub counts_still : {p : Profile} {x y tokens : List Token} {f : Fault} {a b c : Option (List ℕ)}
+    (first : Gains p x y a b) (stops : Stops p y tokens b c f) {most : ℕ}
     → ProbesAtStop stops most → ProbesAtStop (stops_more first stops) most
 unfolding stops_more writing_more
 counts_still first (refused g fault gains) h = record { tried = h.tried; probed = h.probed }
 counts_still first (unwritten at writing) h = record { tried = h.tried; probed = h.probed }
 
-pub position_still : {p : Profile} {x y tokens : List Token} {f : Fault} {a b c : Option (List ℕ)} (first : Gains p x y a b) (stops : Stops p y tokens b c f)
+pub position_still : {p : Profile} {x y tokens : List Token} {f : Fault} {a b c : Option (List ℕ)}
+    (first : Gains p x y a b) (stops : Stops p y tokens b c f)
     → position_at_stop (stops_more first stops) ≡ position_at_stop stops
 unfolding stops_more
 position_still first (refused g fault gains) = refl
 position_still first (unwritten at writing) = refl
 
 -- behind a token that is rejected nothing is read
-pub stops_from : (p : Profile) (b : Progress) (ts us : List Token) {f : Fault} → (read_from p b ts).fault ≡ Some f → read_from p b (ts ++ us) ≡ read_from p b ts
+pub stops_from : (p : Profile) (b : Progress) (ts us : List Token) {f : Fault}
+    → (read_from p b ts).fault ≡ Some f → read_from p b (ts ++ us) ≡ read_from p b ts
 stops_from p b [] us e = absurd (cc)
 stops_from p b (t ∷ ts) us {f} e =
     by_token p b t ts (λ r. r.fault ≡ Some f → read_from p b (t ∷ ts ++ us) ≡ r)
@@ -138,12 +147,15 @@ pub grows_from : (p : Profile) (b : Progress) (us : List Token) → IsPrefix (wr
 grows_from p b [] = same_text (written p b)
 grows_from p b (t ∷ ts) =
     by_token p b t ts (λ r. IsPrefix (written p b) (written p r.progress)) (λ reason is. same_text (written p b))
-    (λ is. also (written p b) (written p (progress_after b t)) _ (gain p b.part t.kind, written-next p b.games b.part t.kind) (grows_from p (progress_after b t) ts))
+    (λ is. also (written p b) (written p (progress_after b t)) _
+    (gain p b.part t.kind, written-next p b.games b.part t.kind) (grows_from p (progress_after b t) ts))
 
-grows : (p : Profile) (b : Progress) (ts us : List Token) → IsPrefix (written p (read_from p b ts).progress) (written p (read_from p b (ts ++ us)).progress)
+grows : (p : Profile) (b : Progress) (ts us : List Token)
+    → IsPrefix (written p (read_from p b ts).progress) (written p (read_from p b (ts ++ us)).progress)
 grows p b [] us = grows_from p b us
 grows p b (t ∷ ts) us =
-    by_token p b t ts (λ r. IsPrefix (written p r.progress) (written p (read_from p b (t ∷ ts ++ us)).progress)) (λ reason is. grows_from p b (t ∷ ts ++ us))
+    by_token p b t ts (λ r. IsPrefix (written p r.progress) (written p (read_from p b (t ∷ ts ++ us)).progress))
+    (λ reason is. grows_from p b (t ∷ ts ++ us))
     (λ is. rw (goes_on p b t (ts ++ us) is) (grows p (progress_after b t) ts us))
 
 pub due_grows : DueGrows

@@ -10,8 +10,7 @@ use Rattle.pgn_game.proofs.refusals.ReaderToPart.{held_at, text_at}
 -- Tokens in turn.
 -- what is tried for tokens, and for those behind them
 most_then : (p : Profile) {b : Progress} {ts : List Token} {most : ℕ} → MostFrom p b ts most → (us : List Token) (n : ℕ)
-    → (read_from p b ts).fault ≡ None → MostFrom p (read_from p b ts).progress us n
-    → MostFrom p b (ts ++ us) (max most n)
+    → (read_from p b ts).fault ≡ None → MostFrom p (read_from p b ts).progress us n → MostFrom p b (ts ++ us) (max most n)
 most_then p (most_tried.none c) us n clear then = let most_of_one : n ≡ max 0 n = omega arith in subst (MostFrom p c us) most_of_one then
 most_then p (most_tried.refused c x xs m reason some h) us n clear then = cc
 most_then p (most_tried.passes c x xs m rest is h more) us n clear then =
@@ -22,7 +21,8 @@ most_then p (most_tried.passes c x xs m rest is h more) us n clear then =
 
 -- so from the start on: a token more, and one that is rejected, whatever comes behind it
 pub most_with : (p : Profile) {given : List Token} (t : Token) {old new : ℕ} → MostTried p given old → (read p given).fault ≡ None
-    → refusal p (read p given).progress.part t.kind ≡ None → Raises (Tries p (read p given).progress.part t.kind) old new → MostTried p (given ++ t ∷ []) new
+    → refusal p (read p given).progress.part t.kind ≡ None
+    → Raises (Tries p (read p given).progress.part t.kind) old new → MostTried p (given ++ t ∷ []) new
 most_with p {given} t before clear free raised =
     let b = (read p given).progress in
     let one = most_tried.passes b t [] raised.tried 0 free raised.allowed (most_tried.none (progress_after b t)) in
@@ -30,8 +30,10 @@ most_with p {given} t before clear free raised =
     let then = subst (MostFrom p b (t ∷ [])) least one in
     subst (MostTried p (given ++ t ∷ [])) (sym raised.most) (most_then p before (t ∷ []) raised.tried clear then)
 
-pub most_to_refused : (p : Profile) {given : List Token} (t : Token) (us : List Token) {why : Reason} {old new : ℕ} → MostTried p given old → (read p given).fault ≡ None
-    → refusal p (read p given).progress.part t.kind ≡ Some why → Raises (Tries p (read p given).progress.part t.kind) old new → MostTried p (given ++ t ∷ us) new
+pub most_to_refused : (p : Profile) {given : List Token} (t : Token) (us : List Token) {why : Reason} {old new : ℕ}
+    → MostTried p given old → (read p given).fault ≡ None
+    → refusal p (read p given).progress.part t.kind ≡ Some why
+    → Raises (Tries p (read p given).progress.part t.kind) old new → MostTried p (given ++ t ∷ us) new
 most_to_refused p {given} t us {why} before clear is raised =
     let then = most_tried.refused (read p given).progress t us raised.tried why is raised.allowed in
     subst (MostTried p (given ++ t ∷ us)) (sym raised.most) (most_then p before (t ∷ us) raised.tried clear then)
@@ -49,8 +51,7 @@ costs_nothing : {sought : Bool} (place : Parts) (s : List ℕ) → sought ≡ fa
 costs_nothing place s none = subst (λ (b : Bool). CostsIf b place s 0) (sym none) refl
 
 pub untried_in_pair : (part : Part) (k : Kind) → is_outside_tag_pairs part ≡ false → CostsToFind part k 0
-untried_in_pair part (tokens.symbol s) inside =
-    costs_nothing (position_in part) s (ap (λ (b : Bool). b && not (is_score s || is_number s)) inside)
+untried_in_pair part (tokens.symbol s) inside = costs_nothing (position_in part) s (ap (λ (b : Bool). b && not (is_score s || is_number s)) inside)
 untried_in_pair part _ inside = refl
 
 pub plain_untried : (part : Part) (s : List ℕ) → (is_score s || is_number s) ≡ true → CostsToFind part (tokens.symbol s) 0
@@ -64,7 +65,8 @@ pub marker_untried : (part : Part) (k : TokenKind) → IsTrue (is_some (marker_o
 marker_untried part k h1 = search (rules, and_right, costs_nothing, false≢true)
 
 -- The move of another symbol is sought where movetext can begin or goes on.
-pub costs_found : {r : ReaderState} {part : Part} (s : List ℕ) (n : ℕ) → IsOpen r part → IsTrue (may_have_movetext r.stage) → is_number s ≡ false → is_score s ≡ false
+pub costs_found : {r : ReaderState} {part : Part} (s : List ℕ) (n : ℕ) → IsOpen r part
+    → IsTrue (may_have_movetext r.stage) → is_number s ≡ false → is_score s ≡ false
     → Costs r.text.levels.present.present s n → CostsToFind part (tokens.symbol s) n
 costs_found s n is at number score costs = search (rules, false≢true, position_is)
 
@@ -92,21 +94,25 @@ abbrev pub TriesPut : Profile → Part → Next → Result Accepted Reason → �
 TriesPut p part to (Ok accepted) n k = CostsToPut p part to n k
 TriesPut p part to (Err reason) n k = CostsToPut p part to n k ⊎ ((is_at InMovetext part ≡ false) × (k ≡ n))
 
-pub tries_put : (p : Profile) (part : Part) (to : Next) (r : Result Accepted Reason) (n k : ℕ) → CostsToPut p part to n k → TriesPut p part to r n k
+pub tries_put : (p : Profile) (part : Part) (to : Next) (r : Result Accepted Reason) (n k : ℕ)
+    → CostsToPut p part to n k → TriesPut p part to r n k
 tries_put p part to (Ok accepted) n k costs = costs
 tries_put p part to (Err reason) n k costs = inl costs
 
 -- an item other than a move, and none; and a token that leaves the items as they are
-adds_items : (p : Profile) (part : Part) (items : List Item) (n k : ℕ) → CostsToAdd p.mode (depth (levels_of_part part)) (position_in part) items n k
+adds_items : (p : Profile) (part : Part) (items : List Item) (n k : ℕ)
+    → CostsToAdd p.mode (depth (levels_of_part part)) (position_in part) items n k
     → CostsToPut p part (going (with_items part items)) n k
 adds_items p part items n k costs =
-    subst (λ (l : List Item). CostsToAdd p.mode (depth (levels_of_part part)) (position_in part) l n k) (sym (drop-append_seam part.items items)) costs
+    subst (λ (l : List Item). CostsToAdd p.mode (depth (levels_of_part part)) (position_in part) l n k)
+    (sym (drop-append_seam part.items items)) costs
 
 pub adds_none : (p : Profile) (part : Part) → CostsToPut p part (going (with_items part [])) 0 0
 adds_none p part = adds_items p part [] 0 0 refl
 
 pub adds_item : (p : Profile) (i : Annotation) (part : Part) → CostsToPut p part (going (with_items part (model_item i ∷ []))) 0 0
-adds_item p i part = adds_items p part (model_item i ∷ []) 0 0 (untried (is_written p.mode (depth (levels_of_part part)) (model_item i)) (position_in part) i {n = 0} {k = 0} refl)
+adds_item p i part = adds_items p part (model_item i ∷ []) 0 0
+    (untried (is_written p.mode (depth (levels_of_part part)) (model_item i)) (position_in part) i {n = 0} {k = 0} refl)
 
 pub adds_same : (p : Profile) (part : Part) (to : Part) → to.items ≡ part.items → CostsToPut p part (going to) 0 0
 adds_same p part to same =

@@ -5,12 +5,14 @@ use Rattle.pgn_game.specs.Game.{move}
 use Rattle.pgn_game.proofs.Words.{Parts, Played, Kind, Reason, Stage, Between, AfterTags, InMovetext, Profile, Item, Part, no_part, ◌≡◌, ◌⊎◌, ℕ, max, true, false, ◌||◌, [], ◌∷◌, List, length, drop, Option, None, Some, Bor, Result, Ok, Err, IsFalse, IsTrue, is_some, refl, sym, ap, subst, ◌∙◌, arith, or_parts, Move, legal, Appends-nil, AppendsFront, Device, kind_of, TokenKind, symbol, Accepted, More, Marker, marker_text, move_of, found_in, torn, refusal, is_at, is_comment, is_end, is_number, is_outside_tag_pairs, is_score, marker_of, position_if_move, position_in, Next, going, at_stage, in_text, next, gain, text_next, CostsToFind, Tries, TriesUnwritten, ReaderState, Agrees, Answers, as_written, IsStopped, is_outside_the_table, FinishesAtMarker, IsEntry, IsOpen, may_have_movetext, model_item, text_refusal, with_items, Annotation, CountsMove, EntersMovetext, Finds, FinishesNone, GoesTo, PutResult, PutsItems, Takes, TakesEntry, TakesOutside, TakesToken, TakesUnwritten, at_game_start, counting_probes, unused, rules, inl, inr, IllegalMove, false≢true, ok_or, with_next, Appends, plies_behind, plies_next, whole_plies, ◌+◌, Finished}
 use Rattle.pgn_game.specs.ReaderState as reader_state
 use Rattle.pgn_game.proofs.refusals.RefusalsByStage.{begins_alike, comment_passes, drops_comments, passes_between}
-use Rattle.pgn_game.proofs.refusals.RefusalsInMovetext.{marker_whole, move_free, move_leads, move_refused as move_row_refused, position_is, refused_inside}
+use Rattle.pgn_game.proofs.refusals.RefusalsInMovetext.{marker_whole, move_free, move_leads, move_refused as move_row_refused, position_is}
+use Rattle.pgn_game.proofs.refusals.RefusalsInMovetext.{refused_inside}
 use Rattle.pgn_game.proofs.refusals.ReaderToPart.{held_at, open_agrees, part_stage, position_in_pair, text_at}
 use Rattle.pgn_game.proofs.putting.ItemToReader.{to_items}
 use Rattle.pgn_game.proofs.putting.MarkerToReader.{to_game}
 use Rattle.pgn_game.proofs.putting.PairStepToReader.{puts_nothing, no_torn}
-use Rattle.pgn_game.proofs.tokens.PairsTriedForToken.{CostsToPut, TriesPut, adds_item, adds_none, adds_same, costs_found, marker_untried, plain_untried, tries_put, untried_in_pair}
+use Rattle.pgn_game.proofs.tokens.PairsTriedForToken.{CostsToPut, TriesPut, adds_item, adds_none, adds_same, costs_found, marker_untried}
+use Rattle.pgn_game.proofs.tokens.PairsTriedForToken.{plain_untried, tries_put, untried_in_pair}
 use Rattle.pgn_game.specs.MostTried as most_tried
 
 pub counting_none : (old : ReaderState) → old ≡ counting_probes old 0
@@ -18,9 +20,12 @@ counting_none old = let same : old.most_probes ≡ max old.most_probes 0 = omega
 
 -- Rejections.
 
-pub refused_after : (old new : ReaderState) (IsOf : Part → Type 0) (k : Kind) (reason : Reason) (n : ℕ) (o : Option (List ℕ)) (m : ℕ) → new ≡ counting_probes old n
-    → IsFalse (is_outside_the_table reason) → ((part : Part) → IsOf part → refusal old.profile part k ≡ Some reason) → ((part : Part) → IsOf part → CostsToFind part k n)
-    → ((part : Part) → IsOf part → position_if_move reason old.text.levels.present.present ≡ position_if_move reason (position_in part)) → Takes old IsOf k new (Err reason) (unused o m)
+pub refused_after : (old new : ReaderState) (IsOf : Part → Type 0) (k : Kind) (reason : Reason) (n : ℕ) (o : Option (List ℕ)) (m : ℕ)
+    → new ≡ counting_probes old n
+    → IsFalse (is_outside_the_table reason) → ((part : Part) → IsOf part → refusal old.profile part k ≡ Some reason)
+    → ((part : Part) → IsOf part → CostsToFind part k n)
+    → ((part : Part) → IsOf part → position_if_move reason old.text.levels.present.present ≡ position_if_move reason (position_in part))
+    → Takes old IsOf k new (Err reason) (unused o m)
 refused_after old new IsOf k reason n o m counted inside why costs here = record {
   accepts = λ part is.
       reader_state.refused reason (why part is) (Appends-nil o)
@@ -41,19 +46,22 @@ refused_after old new IsOf k reason n o m counted inside why costs here = record
 
 -- in movetext, where no pair was tried
 pub entry_refused : (old : ReaderState) (k : Kind) (reason : Reason) (o : Option (List ℕ)) (m : ℕ) → IsFalse (is_outside_the_table reason)
-    → ((part : Part) → IsOpen old part → text_refusal old.profile part k ≡ Some reason) → ((part : Part) → CostsToFind part k 0) → TakesEntry old k old (Err reason) (unused o m)
+    → ((part : Part) → IsOpen old part → text_refusal old.profile part k ≡ Some reason)
+    → ((part : Part) → CostsToFind part k 0) → TakesEntry old k old (Err reason) (unused o m)
 entry_refused old k reason o m inside why costs =
-    refused_after old old (IsEntry old k) k reason 0 o m (counting_none old) inside (λ part is. is.row ∙ why part is.is_open) (λ part is. costs part)
+    refused_after old old (IsEntry old k) k reason 0 o m (counting_none old) inside
+    (λ part is. is.row ∙ why part is.is_open) (λ part is. costs part)
     (λ part is. ap (position_if_move reason) (position_is old part is.is_open))
 
 -- Tokens that are put.
 
 -- what was put after the move of a token was sought is what the reader answers
 module _ (old counted new : ReaderState) (part : Part) (k : Kind) (to : Next) (d : Device) (n more : ℕ) (same : counted ≡ counting_probes old n)
-    (says : (refusal old.profile part k ≡ None) × (next part k ≡ to)) (finds : CostsToFind part k n) (most : new.most_probes ≡ max old.most_probes more) where
-  gain_is : drop (length (torn (as_written counted.profile) part)) (text_next (as_written counted.profile) to) ≡ gain (as_written old.profile) part k
-  gain_is =
-      rw same (ap (λ (x : Next). drop (length (torn (as_written old.profile) part)) (text_next (as_written old.profile) x)) (sym says.1))
+    (says : (refusal old.profile part k ≡ None) × (next part k ≡ to))
+    (finds : CostsToFind part k n) (most : new.most_probes ≡ max old.most_probes more) where
+  gain_is : drop (length (torn (as_written counted.profile) part)) (text_next (as_written counted.profile) to)
+      ≡ gain (as_written old.profile) part k
+  gain_is = rw same (ap (λ (x : Next). drop (length (torn (as_written old.profile) part)) (text_next (as_written old.profile) x)) (sym says.1))
 
   tries : CostsToPut old.profile part to n more → Tries old.profile part k more
   tries costs = record { found = n; finds = finds; writes = search rules }
@@ -62,7 +70,8 @@ module _ (old counted new : ReaderState) (part : Part) (k : Kind) (to : Next) (d
   unwritten (inl costs) = most_tried.at_token (tries costs)
   unwritten (inr (before, none)) = most_tried.in_section before (subst (CostsToFind part k) (sym none) finds)
 
-  answers : (r : Result Accepted Reason) → GoesTo counted part to new r d → TriesPut old.profile part to r n more → Answers old part k new r d.before d.after
+  answers : (r : Result Accepted Reason) → GoesTo counted part to new r d
+      → TriesPut old.profile part to r n more → Answers old part k new r d.before d.after
   answers (Ok accepted) goes costs = record {
     free = says.0;
     leads = rw says.1 goes.leads;
@@ -72,13 +81,17 @@ module _ (old counted new : ReaderState) (part : Part) (k : Kind) (to : Next) (d
   }
   answers (Err reason) (is, front) costs =
       subst (λ (r : Reason). IsStopped old part k new d.before d.after r) (sym is)
-      (reader_state.unwritten says.0 (subst (AppendsFront d.before d.after) gain_is front) (record { tried = more; allowed = unwritten costs; most = most }))
+      (reader_state.unwritten says.0 (subst (AppendsFront d.before d.after) gain_is front)
+      (record { tried = more; allowed = unwritten costs; most = most }))
 
-pub takes_put : (old : ReaderState) {counted new : ReaderState} (IsOf IsPut : Part → Type 0) (k : Kind) {to : Part → Next} {r : Result Accepted Reason} {d : Device} (n more : ℕ)
-    → counted ≡ counting_probes old n → PutResult counted IsPut to new r d → FinishesAtMarker k new r → (counted.stage ≡ Between → counted ≡ old)
+pub takes_put : (old : ReaderState) {counted new : ReaderState} (IsOf IsPut : Part → Type 0)
+    (k : Kind) {to : Part → Next} {r : Result Accepted Reason} {d : Device} (n more : ℕ)
+    → counted ≡ counting_probes old n → PutResult counted IsPut to new r d
+    → FinishesAtMarker k new r → (counted.stage ≡ Between → counted ≡ old)
     → new.most_probes ≡ max old.most_probes more → ((part : Part) → IsOf part → IsPut part)
     → ((part : Part) → IsOf part → (refusal old.profile part k ≡ None) × (next part k ≡ to part))
-    → ((part : Part) → IsOf part → CostsToFind part k n) → ((part : Part) → IsOf part → TriesPut old.profile part (to part) r n more) → Takes old IsOf k new r d
+    → ((part : Part) → IsOf part → CostsToFind part k n)
+    → ((part : Part) → IsOf part → TriesPut old.profile part (to part) r n more) → Takes old IsOf k new r d
 takes_put old IsOf IsPut k n more same puts finished closed most sub says finds costs = search (rules, answers, le-max_left)
 
 finishes_none : (k : Kind) (new : ReaderState) (r : Result Accepted Reason) → FinishesNone r → FinishesAtMarker k new r
@@ -87,29 +100,37 @@ finishes_none k new (Ok Finished) none = absurd none
 finishes_none k new (Err reason) none = tt
 
 -- A step of a tag pair, and a token that changes nothing.
-pub takes_step : (old new : ReaderState) (k : Kind) (to : Part → Next) (o : Option (List ℕ)) (m : ℕ) → PutResult old (Agrees old) to new (Ok More) (unused o m)
-    → new.most_probes ≡ old.most_probes → ((part : Part) → Agrees old part → (refusal old.profile part k ≡ None) × (next part k ≡ to part))
-    → ((part : Part) → Agrees old part → CostsToFind part k 0) → ((part : Part) → CostsToPut old.profile part (to part) 0 0) → TakesToken old k new (Ok More) (unused o m)
+pub takes_step : (old new : ReaderState) (k : Kind) (to : Part → Next) (o : Option (List ℕ)) (m : ℕ)
+    → PutResult old (Agrees old) to new (Ok More) (unused o m)
+    → new.most_probes ≡ old.most_probes
+    → ((part : Part) → Agrees old part → (refusal old.profile part k ≡ None) × (next part k ≡ to part))
+    → ((part : Part) → Agrees old part → CostsToFind part k 0)
+    → ((part : Part) → CostsToPut old.profile part (to part) 0 0) → TakesToken old k new (Ok More) (unused o m)
 takes_step old new k to o m puts most says finds costs =
     takes_put old (Agrees old) (Agrees old) k 0 0 (counting_none old) puts tt (λ at. refl) (omega (arith, most)) (λ part is. is) says finds
     (λ part is. costs part)
 
 -- Tokens of a tag pair, at one of its stages.
-module _ (old new : ReaderState) (k : Kind) (stage : Stage) (at : old.stage ≡ stage) (inside : (q : Part) → is_outside_tag_pairs (at_stage stage q) ≡ false) where
+module _ (old new : ReaderState) (k : Kind) (stage : Stage) (at : old.stage ≡ stage)
+    (inside : (q : Part) → is_outside_tag_pairs (at_stage stage q) ≡ false) where
   untried : (part : Part) → Agrees old part → CostsToFind part k 0
   untried part agrees = untried_in_pair part k (rw (part_stage old part stage agrees at) (inside part))
 
-  pub refused_in_pair : (reason : Reason) → new ≡ old → IsFalse (is_outside_the_table reason) → ((part : Part) → Agrees old part → refusal old.profile part k ≡ Some reason)
+  pub refused_in_pair : (reason : Reason) → new ≡ old → IsFalse (is_outside_the_table reason)
+      → ((part : Part) → Agrees old part → refusal old.profile part k ≡ Some reason)
       → TakesUnwritten old k new (Err reason)
   refused_in_pair reason same in_table why o m = refused_after old new (Agrees old) k reason 0 o m (same ∙ counting_none old) in_table why untried
       (λ part agrees. ap (position_if_move reason) (position_in_pair agrees at (inside part)))
 
-  pub step_in_pair : (to : Part → Next) → ((o : Option (List ℕ)) (m : ℕ) → PutResult old (Agrees old) to new (Ok More) (unused o m)) → new.most_probes ≡ old.most_probes
-      → ((part : Part) → CostsToPut old.profile part (to part) 0 0) → ((part : Part) → Agrees old part → (refusal old.profile part k ≡ None) × (next part k ≡ to part))
+  pub step_in_pair : (to : Part → Next) → ((o : Option (List ℕ)) (m : ℕ) → PutResult old (Agrees old) to new (Ok More) (unused o m))
+      → new.most_probes ≡ old.most_probes
+      → ((part : Part) → CostsToPut old.profile part (to part) 0 0)
+      → ((part : Part) → Agrees old part → (refusal old.profile part k ≡ None) × (next part k ≡ to part))
       → TakesUnwritten old k new (Ok More)
   step_in_pair to puts most costs says o m = takes_step old new k to o m (puts o m) most says untried costs
 
-pub comment_in_pair : (old new : ReaderState) (k : TokenKind) (stage : Stage) → old.stage ≡ stage → ((q : Part) → is_outside_tag_pairs (at_stage stage q) ≡ false) → new ≡ old
+pub comment_in_pair : (old new : ReaderState) (k : TokenKind) (stage : Stage) → old.stage ≡ stage
+    → ((q : Part) → is_outside_tag_pairs (at_stage stage q) ≡ false) → new ≡ old
     → IsTrue (drops_comments stage) → true ≡ is_comment (kind_of k) → TakesUnwritten old (kind_of k) new (Ok More)
 comment_in_pair old new k stage at inside same drops is =
     subst (λ (r : ReaderState). TakesUnwritten old (kind_of k) r (Ok More)) (sym same)
@@ -119,25 +140,31 @@ comment_in_pair old new k stage at inside same drops is =
 -- Items other than moves, and none.
 puts_entry : {old new : ReaderState} (k : Kind) {items : List Item} {r : Result Accepted Reason} {d : Device} → PutsItems old items new r d
     → ((p : Profile) (part : Part) → CostsToPut p part (going (with_items part items)) 0 0)
-    → ((part : Part) → IsOpen old part → (text_refusal old.profile part k ≡ None) × (in_text part k ≡ going (with_items part items))) → ((part : Part) → CostsToFind part k 0)
+    → ((part : Part) → IsOpen old part → (text_refusal old.profile part k ≡ None) × (in_text part k ≡ going (with_items part items)))
+    → ((part : Part) → CostsToFind part k 0)
     → TakesEntry old k new r d
 puts_entry {old} {new} k {items} {r} put costs says finds =
     takes_put old (IsEntry old k) (IsOpen old) k 0 0 (counting_none old) put.puts (finishes_none k new r put.goes_on) (λ at. refl)
-    (omega (arith, put.probes)) (λ part is. is.is_open) (λ part is. (is.row ∙ (says part is.is_open).0, is.leads ∙ (says part is.is_open).1)) (λ part is. finds part)
+    (omega (arith, put.probes)) (λ part is. is.is_open)
+    (λ part is. (is.row ∙ (says part is.is_open).0, is.leads ∙ (says part is.is_open).1)) (λ part is. finds part)
     (λ part is. tries_put old.profile part (going (with_items part items)) r 0 0 (costs old.profile part))
 
 pub passes_entry : (old new : ReaderState) (k : Kind) (r : Result Accepted Reason) (d : Device) → PutsItems old [] new r d
-    → ((part : Part) → IsOpen old part → (text_refusal old.profile part k ≡ None) × (in_text part k ≡ going (with_items part []))) → ((part : Part) → CostsToFind part k 0)
+    → ((part : Part) → IsOpen old part → (text_refusal old.profile part k ≡ None) × (in_text part k ≡ going (with_items part [])))
+    → ((part : Part) → CostsToFind part k 0)
     → TakesEntry old k new r d
 passes_entry old new k r d put says finds = puts_entry k put adds_none says finds
 
-pub item_entry : (old new : ReaderState) (k : Kind) (i : Annotation) (r : Result Accepted Reason) (d : Device) → PutsItems old (model_item i ∷ []) new r d
-    → ((part : Part) → IsOpen old part → (text_refusal old.profile part k ≡ None) × (in_text part k ≡ going (with_items part (model_item i ∷ [])))) → ((part : Part) → CostsToFind part k 0)
+pub item_entry : (old new : ReaderState) (k : Kind) (i : Annotation) (r : Result Accepted Reason) (d : Device)
+    → PutsItems old (model_item i ∷ []) new r d
+    → ((part : Part) → IsOpen old part → (text_refusal old.profile part k ≡ None)
+    × (in_text part k ≡ going (with_items part (model_item i ∷ [])))) → ((part : Part) → CostsToFind part k 0)
     → TakesEntry old k new r d
 item_entry old new k i r d put says finds = puts_entry k put (λ p part. adds_item p i part) says finds
 
 -- A token that belongs to movetext at the stage of the reader.
-pub enters : (old : ReaderState) (k : TokenKind) → IsTrue (may_have_movetext old.stage) → ((part : Part) → Agrees old part → IsEntry old (kind_of k) part) → EntersMovetext old (kind_of k) old
+pub enters : (old : ReaderState) (k : TokenKind) → IsTrue (may_have_movetext old.stage)
+    → ((part : Part) → Agrees old part → IsEntry old (kind_of k) part) → EntersMovetext old (kind_of k) old
 enters old k at entry = search rules
 
 -- A token that begins a game.
@@ -148,7 +175,8 @@ no_pairs = at_stage AfterTags no_part
 finds_alike : (k : TokenKind) (n : ℕ) → CostsToFind no_pairs (kind_of k) n → CostsToFind no_part (kind_of k) n
 finds_alike _ n h = h
 
-module _ (p : Profile) (k : TokenKind) (row : refusal p no_pairs (kind_of k) ≡ refusal p no_part (kind_of k)) (leads : next no_pairs (kind_of k) ≡ next no_part (kind_of k)) where
+module _ (p : Profile) (k : TokenKind) (row : refusal p no_pairs (kind_of k) ≡ refusal p no_part (kind_of k))
+    (leads : next no_pairs (kind_of k) ≡ next no_part (kind_of k)) where
   tries_alike : {n : ℕ} → Tries p no_pairs (kind_of k) n → Tries p no_part (kind_of k) n
   tries_alike t = record {
     found = t.found;
@@ -163,36 +191,44 @@ module _ (p : Profile) (k : TokenKind) (row : refusal p no_pairs (kind_of k) ≡
   gain_alike : gain (as_written p) no_pairs (kind_of k) ≡ gain (as_written p) no_part (kind_of k)
   gain_alike =
       let w = as_written p in
-      rw (no_torn w no_pairs AfterTags refl (λ e. absurd (cc)) ∙ sym (no_torn w no_part Between refl (λ e. absurd (cc)))) (ap (λ (x : Next). drop (length (torn w no_part)) (text_next w x)) leads)
+      rw (no_torn w no_pairs AfterTags refl (λ e. absurd (cc)) ∙ sym (no_torn w no_part Between refl (λ e. absurd (cc))))
+      (ap (λ (x : Next). drop (length (torn w no_part)) (text_next w x)) leads)
 
 answers_alike : (old new : ReaderState) (k : TokenKind) (r : Result Accepted Reason) (a b : Option (List ℕ)) → old.stage ≡ Between
-    → refusal old.profile no_pairs (kind_of k) ≡ refusal old.profile no_part (kind_of k) → next no_pairs (kind_of k) ≡ next no_part (kind_of k)
+    → refusal old.profile no_pairs (kind_of k) ≡ refusal old.profile no_part (kind_of k)
+    → next no_pairs (kind_of k) ≡ next no_part (kind_of k)
     → Answers (at_game_start old) no_pairs (kind_of k) new r a b → Answers old no_part (kind_of k) new r a b
 answers_alike old new k (Ok accepted) a b at row leads h = record {
   free = sym row ∙ h.free;
   leads = rw leads at h.leads;
-  plies = h.plies ∙ ap (λ (s : ℕ). s + plies_next (next no_pairs (kind_of k))) (sym (ap (λ (s : Stage). plies_behind s old.earlier_plies old.text.plies) at))
+  plies = h.plies ∙ ap (λ (s : ℕ). s + plies_next (next no_pairs (kind_of k)))
+      (sym (ap (λ (s : Stage). plies_behind s old.earlier_plies old.text.plies) at))
       ∙ ap (λ (x : Next). whole_plies old + plies_next x) leads;
   appended = subst (Appends a b) (gain_alike old.profile k row leads) h.appended;
   tried = record { tried = h.tried.tried; allowed = tries_alike old.profile k row leads h.tried.allowed; most = h.tried.most };
 }
 answers_alike old new k (Err reason) a b at row leads (reader_state.refused why is none t here) =
-    reader_state.refused why (sym row ∙ is) none (record { tried = t.tried; allowed = tries_alike old.profile k row leads t.allowed; most = t.most }) here
+    reader_state.refused why (sym row ∙ is) none
+    (record { tried = t.tried; allowed = tries_alike old.profile k row leads t.allowed; most = t.most }) here
 answers_alike old new k (Err reason) a b at row leads (reader_state.unwritten free front t) =
     reader_state.unwritten (sym row ∙ free) (subst (AppendsFront a b) (gain_alike old.profile k row leads) front)
     (record { tried = t.tried; allowed = unwritten_alike old.profile k row leads t.allowed; most = t.most })
 
-pub takes_first : (old new : ReaderState) (k : TokenKind) (r : Result Accepted Reason) (d : Device) → old.stage ≡ Between → is_comment (kind_of k) ≡ false → is_end (kind_of k) ≡ false
+pub takes_first : (old new : ReaderState) (k : TokenKind) (r : Result Accepted Reason) (d : Device)
+    → old.stage ≡ Between → is_comment (kind_of k) ≡ false → is_end (kind_of k) ≡ false
     → TakesToken (at_game_start old) (kind_of k) new r d → TakesToken old (kind_of k) new r d
 takes_first old new k r d at comment over t = search (rules, answers_alike, begins_alike, held_at, text_at)
 
 -- Markers.
-pub takes_marker : (old new : ReaderState) (k : TokenKind) (marker : Marker) (r : Result Accepted Reason) (d : Device) → PutResult old (IsOpen old) (to_game marker) new r d
+pub takes_marker : (old new : ReaderState) (k : TokenKind) (marker : Marker) (r : Result Accepted Reason) (d : Device)
+    → PutResult old (IsOpen old) (to_game marker) new r d
     → FinishesAtMarker (kind_of k) new r → new.most_probes ≡ old.most_probes → marker_of (kind_of k) ≡ Some (marker_text marker)
     → ((part : Part) → IsOpen old part → text_refusal old.profile part (kind_of k) ≡ None) → TakesEntry old (kind_of k) new r d
 takes_marker old new k marker r d puts finished most is free =
-    takes_put old (IsEntry old (kind_of k)) (IsOpen old) (kind_of k) 0 0 (counting_none old) puts finished (λ at. refl) (omega (arith, most)) (λ part at. at.is_open)
-    (λ part at. (at.row ∙ free part at.is_open, at.leads ∙ marker_whole part (kind_of k) (marker_text marker) is)) (λ part at. marker_untried part k (ap is_some is))
+    takes_put old (IsEntry old (kind_of k)) (IsOpen old) (kind_of k) 0 0
+    (counting_none old) puts finished (λ at. refl) (omega (arith, most)) (λ part at. at.is_open)
+    (λ part at. (at.row ∙ free part at.is_open, at.leads ∙ marker_whole part (kind_of k) (marker_text marker) is))
+    (λ part at. marker_untried part k (ap is_some is))
     (λ part at. tries_put old.profile part (to_game marker part) r 0 0 refl)
 
 -- Moves.
@@ -206,22 +242,27 @@ next_of None h = absurd (cc)
 next_of (Some q) h = (q, refl)
 
 -- What was found for a symbol that is neither a number nor a marker.
-module _ (old found : ReaderState) (s : List ℕ) (n : ℕ) (at : IsTrue (may_have_movetext old.stage)) (number : is_number s ≡ false) (score : is_score s ≡ false) where
-  pub move_refused : (reason : Reason) (o : Option (List ℕ)) (m : ℕ) → Finds old s found (Err reason) n → TakesEntry old (symbol s) found (Err reason) (unused o m)
+module _ (old found : ReaderState) (s : List ℕ) (n : ℕ) (at : IsTrue (may_have_movetext old.stage))
+    (number : is_number s ≡ false) (score : is_score s ≡ false) where
+  pub move_refused : (reason : Reason) (o : Option (List ℕ)) (m : ℕ)
+      → Finds old s found (Err reason) n → TakesEntry old (symbol s) found (Err reason) (unused o m)
   move_refused reason o m finds =
       let here = old.text.levels.present.present in
       refused_after old found (IsEntry old (symbol s)) (symbol s) reason n o m finds.counted (refused_inside here s finds.found)
-      (λ part is. is.row ∙ move_row_refused s here number score is.is_open refl finds.found) (λ part is. costs_found s n is.is_open at number score finds.tried)
+      (λ part is. is.row ∙ move_row_refused s here number score is.is_open refl finds.found)
+      (λ part is. costs_found s n is.is_open at number score finds.tried)
       (λ part is. ap (position_if_move reason) (position_is old part is.is_open))
 
   pub takes_move : (new : ReaderState) (mv : Move) (r : Result Accepted Reason) (d : Device) (more : ℕ) → Finds old s found (Ok mv) n
       → PutResult found (IsOpen found) (to_items (move mv ∷ [])) new r d → FinishesNone r → new.most_probes ≡ max old.most_probes more
-      → ((part : Part) → IsOpen old part → TriesPut old.profile part (going (with_items part (move mv ∷ []))) r n more) → TakesEntry old (symbol s) new r d
+      → ((part : Part) → IsOpen old part → TriesPut old.profile part (going (with_items part (move mv ∷ []))) r n more)
+      → TakesEntry old (symbol s) new r d
   takes_move new mv r d more finds puts none most costs =
       let here = old.text.levels.present.present in
       let (q, leads) = next_of (legal here mv) finds.legal in
       let played : Played = record { mv = mv; next = q } in
-      let is_found : Ok played ≡ found_in here (move_of here s) = sym (ap (λ (o : Option Parts). ok_or (with_next mv o) IllegalMove) leads) ∙ finds.found in
+      let is_found : Ok played ≡ found_in here (move_of here s) =
+      sym (ap (λ (o : Option Parts). ok_or (with_next mv o) IllegalMove) leads) ∙ finds.found in
       takes_put old (IsEntry old (symbol s)) (IsOpen found) (symbol s) n more finds.counted puts (finishes_none (symbol s) new r none)
       (λ between. not_between (rw finds.counted at between)) most
       (λ part is. rw finds.counted (open_counted n is.is_open)) (λ part is. (
@@ -237,31 +278,37 @@ bare_untried : (k : TokenKind) (part : Part) → (is_comment (kind_of k) || is_e
 bare_untried (token_kinds.Symbol s) part is = absurd (false≢true is)
 bare_untried _ part is = refl
 
-pub passes_first : (old new : ReaderState) (k : TokenKind) (o : Option (List ℕ)) (m : ℕ) → new ≡ old → old.stage ≡ Between → (is_comment (kind_of k) || is_end (kind_of k)) ≡ true
+pub passes_first : (old new : ReaderState) (k : TokenKind) (o : Option (List ℕ)) (m : ℕ)
+    → new ≡ old → old.stage ≡ Between → (is_comment (kind_of k) || is_end (kind_of k)) ≡ true
     → TakesToken old (kind_of k) new (Ok More) (unused o m)
 passes_first old new k o m same at is =
     subst (λ (r : ReaderState). TakesToken old (kind_of k) r (Ok More) (unused o m)) (sym same)
-    (takes_step old old (kind_of k) going o m (puts_nothing old o m) refl (λ part agrees. passes_between old.profile k (part_stage old part Between agrees at) is)
+    (takes_step old old (kind_of k) going o m (puts_nothing old o m) refl
+    (λ part agrees. passes_between old.profile k (part_stage old part Between agrees at) is)
     (λ part agrees. bare_untried k part is) (λ part. adds_same old.profile part part refl))
 
 -- The move of a token that SetUp rejects.
-pub no_symbol_counted : (old : ReaderState) (k : TokenKind) → ((s : Bor (List ℕ)) → k ≡ token_kinds.Symbol s → ⊥) → CountsMove old (kind_of k) old
+pub no_symbol_counted : (old : ReaderState) (k : TokenKind)
+    → ((s : Bor (List ℕ)) → k ≡ token_kinds.Symbol s → ⊥) → CountsMove old (kind_of k) old
 no_symbol_counted old (token_kinds.Symbol s) other = absurd (other s refl)
 no_symbol_counted old k other = record { pairs = 0; counted = counting_none old; tried = λ part agrees. refl }
 
 pub plain_counted : (old : ReaderState) (s : List ℕ) → (is_score s || is_number s) ≡ true → CountsMove old (symbol s) old
 plain_counted old s plain = record { pairs = 0; counted = counting_none old; tried = λ part agrees. plain_untried part s plain }
 
-pub move_counted : (old found : ReaderState) (s : List ℕ) (r : Result Move Reason) (n : ℕ) → old.stage ≡ AfterTags → (is_score s || is_number s) ≡ false → Finds old s found r n → CountsMove old (symbol s) found
+pub move_counted : (old found : ReaderState) (s : List ℕ) (r : Result Move Reason) (n : ℕ) → old.stage ≡ AfterTags
+    → (is_score s || is_number s) ≡ false → Finds old s found r n → CountsMove old (symbol s) found
 move_counted old found s r n at plain finds =
     let may = ap may_have_movetext at in
     let tests = or_parts (is_score s) (is_number s) plain in
     record { pairs = n; counted = finds.counted; tried = λ part agrees. costs_found s n (open_agrees agrees may) may tests.1 tests.0 finds.tried }
 
 -- The first token of a game is taken as after pairs, of which there is none.
-pub takes_outside_first : (old new : ReaderState) (k : TokenKind) (o : Option (Result Accepted Reason)) → old.stage ≡ Between → is_comment (kind_of k) ≡ false → is_end (kind_of k) ≡ false
+pub takes_outside_first : (old new : ReaderState) (k : TokenKind) (o : Option (Result Accepted Reason))
+    → old.stage ≡ Between → is_comment (kind_of k) ≡ false → is_end (kind_of k) ≡ false
     → TakesOutside (at_game_start old) (kind_of k) new o → TakesOutside old (kind_of k) new o
-takes_outside_first old new k (Some r) at comment over t = λ taken failures. takes_first old new k r (unused taken failures) at comment over (t taken failures)
+takes_outside_first old new k (Some r) at comment over t =
+    λ taken failures. takes_first old new k r (unused taken failures) at comment over (t taken failures)
 takes_outside_first old new k None at comment over t = record {
   stage = t.stage;
   plies = omega (arith, t.plies);

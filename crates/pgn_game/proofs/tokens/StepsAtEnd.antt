@@ -33,7 +33,8 @@ no_marker_at_end : (k : Kind) → is_end k ≡ true → IsTrue (is_some (marker_
 no_marker_at_end k is_e marker = let none = marker_or_end k marker in absurd (cc)
 
 -- the tokens of the text begin so in either case
-pub tokens_left : (u : List ℕ) (given : List Token) (e : Bool) (l : Standing) (t : Token) → Left u given e l t → (us : List Token) × (tokens_of u ≡ given ++ t ∷ us)
+pub tokens_left : (u : List ℕ) (given : List Token) (e : Bool) (l : Standing) (t : Token)
+    → Left u given e l t → (us : List Token) × (tokens_of u ≡ given ++ t ∷ us)
 tokens_left u given true l t h = ([], h)
 tokens_left u given false l t h = (coming l [], h ∙ append_assoc given (t ∷ []) (coming l []))
 
@@ -46,13 +47,15 @@ end_at p _ ps name items h = absurd (none-some _ (sym h))
 between_after : {s : Stage} (ps : List Pair) (name : List ℕ) (items : List Item) (games : List Game) → s ≡ Between
     → (progress_with games (next (record { stage = s; pairs = ps; name = name; items = items }) tokens.end)).part.stage ≡ Between
 between_after {s} ps name items games e =
-    subst (λ s. (progress_with games (next (record { stage = s; pairs = ps; name = name; items = items }) tokens.end)).part.stage ≡ Between) (sym e) refl
+    subst (λ s. (progress_with games (next (record { stage = s; pairs = ps; name = name; items = items }) tokens.end)).part.stage ≡ Between)
+    (sym e) refl
 
 pub is_the_end : (k : Kind) → is_end k ≡ true → k ≡ tokens.end
 is_the_end tokens.end h = refl
 is_the_end _ h = absurd (cc)
 
-pub end_passes : (p : Profile) (b : Progress) (k : Kind) → is_end k ≡ true → refusal p b.part k ≡ None → (progress_with b.games (next b.part k)).part.stage ≡ Between
+pub end_passes : (p : Profile) (b : Progress) (k : Kind) → is_end k ≡ true
+    → refusal p b.part k ≡ None → (progress_with b.games (next b.part k)).part.stage ≡ Between
 end_passes p b k e none =
     let k_is = is_the_end k e in
     subst (λ j. (progress_with b.games (next b.part j)).part.stage ≡ Between) (sym k_is)
@@ -65,8 +68,10 @@ let_go p c given h = record { profile = h.profile; no_fault = h.no_fault; passes
 abbrev pub closed : Standing → ReaderState → ℕ → Bool → Result (Option Accepted) Fault → Converter
 closed l r games finished outcome = record (stepped l r games finished outcome) { just_finished = None }
 
-pub closes : (p : Profile) (old : Converter) (u : List ℕ) (given : List Token) (t : Token) (l : Standing) (new : ReaderState) (finished : Bool) (a c : Option (List ℕ))
-    (e : Bool) (r : Result Accepted Reason) → is_end t.kind ≡ e → HasRead p old given → Left u given e l t → new.profile ≡ old.reading.profile → old.reading.most_probes ≤ new.most_probes
+pub closes : (p : Profile) (old : Converter) (u : List ℕ) (given : List Token) (t : Token)
+    (l : Standing) (new : ReaderState) (finished : Bool) (a c : Option (List ℕ))
+    (e : Bool) (r : Result Accepted Reason) → is_end t.kind ≡ e → HasRead p old given
+    → Left u given e l t → new.profile ≡ old.reading.profile → old.reading.most_probes ≤ new.most_probes
     → as_written old.reading.profile ≡ old.reading.profile → Answers old.reading (read p given).progress.part t.kind new r a c
     → Stays old.reading new r → FinishesAtMarker t.kind new r
     → AfterStepAtEnd p u given old (closed l new old.games finished (outcome_at t.at r)) (none_at_end e (outcome_at t.at r)) a c
@@ -106,15 +111,21 @@ closes p old u given t l new finished a c e (Err why) is_e has_read left profile
     (at_fault p old given t l new finished has_read profile probes written rest.0 stopped)
 
 -- the same of what the calls of the step returned
-pub closes_as : (p : Profile) (old : Converter) (u : List ℕ) (given : List Token) (t : Token) (l : Standing) (new : ReaderState) (finished : Bool) (a c : Option (List ℕ)) {e : Bool} (r : Result Accepted Reason)
+pub closes_as : (p : Profile) (old : Converter) (u : List ℕ) (given : List Token) (t : Token) (l : Standing)
+    (new : ReaderState) (finished : Bool) (a c : Option (List ℕ)) {e : Bool} (r : Result Accepted Reason)
     {games : ℕ} {finished_game : Option FinishedGame} {fault : Option Fault} {outcome after : Result (Option Accepted) Fault}
-    → HasRead p old given → outcome ≡ outcome_at t.at r → games ≡ games_after outcome old.games → fault ≡ fault_of_step outcome → finished_game ≡ None → e ≡ is_end t.kind → after ≡ none_at_end e outcome
+    → HasRead p old given → outcome ≡ outcome_at t.at r → games ≡ games_after outcome old.games
+    → fault ≡ fault_of_step outcome → finished_game ≡ None → e ≡ is_end t.kind → after ≡ none_at_end e outcome
     → AfterStepAtEnd p u given old (closed l new old.games finished (outcome_at t.at r)) (none_at_end (is_end t.kind) (outcome_at t.at r)) a c
-    → AfterStepAtEnd p u given old (record { lexer = l; reading = new; games = games; just_finished = finished_game; is_finished = finished; fault = fault }) after a c
-closes_as p old u given t l new finished a c r has_read is games_is fault_is none e_is after_is h = rw (after_is, games_is, fault_is, none, is, e_is) h
+    → AfterStepAtEnd p u given old
+    (record { lexer = l; reading = new; games = games; just_finished = finished_game; is_finished = finished; fault = fault }) after a c
+closes_as p old u given t l new finished a c r has_read is games_is fault_is none e_is after_is h =
+    rw (after_is, games_is, fault_is, none, is, e_is) h
 
-pub closes_fault : (p : Profile) (old new : Converter) (u : List ℕ) (given : List Token) (f : LexFault) (o : Option (List ℕ)) → HasRead p old given
-    → tokens_of u ≡ given ++ refusal_token f ∷ [] → new.reading ≡ old.reading → AfterStepAtEnd p u given old new (Err (record { at = f.at; reason = Lexical f.reason })) o o
+pub closes_fault : (p : Profile) (old new : Converter) (u : List ℕ) (given : List Token) (f : LexFault) (o : Option (List ℕ))
+    → HasRead p old given
+    → tokens_of u ≡ given ++ refusal_token f ∷ [] → new.reading ≡ old.reading
+    → AfterStepAtEnd p u given old new (Err (record { at = f.at; reason = Lexical f.reason })) o o
 closes_fault p old new u given f o has_read whole same =
     subst (λ ts. FaultAtEnd p given ts (record { at = f.at; reason = Lexical f.reason }) new.reading o o) (sym whole) (at_lexical f has_read same)
 
@@ -125,12 +136,15 @@ fault_of_closed false (Ok o) = refl
 fault_of_closed e (Err f) = refl
 
 -- a token that finishes no game is counted as none, and the end is no marker
-games_at_end : (k : Kind) (after : ReaderState) (at : ℕ) (e : Bool) (r : Result Accepted Reason) (games : ℕ) → is_end k ≡ e → FinishesAtMarker k after r
+games_at_end : (k : Kind) (after : ReaderState) (at : ℕ) (e : Bool) (r : Result Accepted Reason) (games : ℕ)
+    → is_end k ≡ e → FinishesAtMarker k after r
     → games_after (outcome_at at r) games ≡ games_after (none_at_end e (outcome_at at r)) games
 games_at_end k after at e r games h1 h2 = search (rules, no_marker_at_end)
 
-pub games_of_closed : (k : Kind) (after : ReaderState) (at : ℕ) (r : Result Accepted Reason) (games : ℕ) {e : Bool} {outcome closed : Result (Option Accepted) Fault}
-    → outcome ≡ outcome_at at r → e ≡ is_end k → closed ≡ none_at_end e outcome → FinishesAtMarker k after r → games_after outcome games ≡ games_after closed games
+pub games_of_closed : (k : Kind) (after : ReaderState) (at : ℕ) (r : Result Accepted Reason)
+    (games : ℕ) {e : Bool} {outcome closed : Result (Option Accepted) Fault}
+    → outcome ≡ outcome_at at r → e ≡ is_end k → closed ≡ none_at_end e outcome
+    → FinishesAtMarker k after r → games_after outcome games ≡ games_after closed games
 games_of_closed k after at r games is e_is closed_is finished = rw (closed_is, is) (games_at_end k after at _ r games (sym e_is) finished)
 
 -- an error of the reader counts as the fault that it is
@@ -141,17 +155,20 @@ pub counts_token : (at : ℕ) (r : Result Accepted Reason) (sink : Device) → C
 counts_token at (Ok accepted) sink h = h
 counts_token at (Err reason) sink h = counts_reason reason sink h
 
-counts_at_end : (e : Bool) (outcome : Result (Option Accepted) Fault) (sink : Device) → CountsFault outcome sink → CountsFault (none_at_end e outcome) sink
+counts_at_end : (e : Bool) (outcome : Result (Option Accepted) Fault) (sink : Device)
+    → CountsFault outcome sink → CountsFault (none_at_end e outcome) sink
 counts_at_end true (Ok o) sink h = h
 counts_at_end false (Ok o) sink h = h
 counts_at_end e (Err f) sink h = h
 
-pub counts_closed : (at : ℕ) (r : Result Accepted Reason) (e : Bool) (sink : Device) {outcome closed : Result (Option Accepted) Fault} → outcome ≡ outcome_at at r
+pub counts_closed : (at : ℕ) (r : Result Accepted Reason) (e : Bool) (sink : Device) {outcome closed : Result (Option Accepted) Fault}
+    → outcome ≡ outcome_at at r
     → closed ≡ none_at_end e outcome → CountsWrites r sink → CountsFault closed sink
 counts_closed at r e sink is closed_is h = rw (closed_is, is) (counts_at_end e _ sink (counts_token at r sink h))
 
 -- after a fault a converter owes nothing
-pub sound_behind_fault : (lexer : Standing) (reading : ReaderState) (games : ℕ) (is_finished : Bool) (f : Fault) → IsKnown reading.profile → IsSound lexer reading games false is_finished (Some f)
+pub sound_behind_fault : (lexer : Standing) (reading : ReaderState) (games : ℕ) (is_finished : Bool) (f : Fault)
+    → IsKnown reading.profile → IsSound lexer reading games false is_finished (Some f)
 sound_behind_fault lexer reading games is_finished f known = search rules
 
 one_more : (accepted : Accepted) (games : ℕ) → games_after (Ok (Some accepted)) games ≤ games + 1
@@ -160,7 +177,8 @@ one_more Finished games = omega arith
 
 -- A token behind the last piece keeps the counts small. The end takes no byte, but it is the last
 -- one.
-pub sound_behind : (old new : Standing) (before after : ReaderState) (games at : ℕ) (k : Kind) (e : Bool) (r : Result Accepted Reason) → is_end k ≡ e → Nearer e old new
+pub sound_behind : (old new : Standing) (before after : ReaderState) (games at : ℕ) (k : Kind) (e : Bool) (r : Result Accepted Reason)
+    → is_end k ≡ e → Nearer e old new
     → FinishesAtMarker k after r → old.count ≤ 2 ^ 62 → games + waiting old ≤ 2 * old.count + 2
     → before.earlier_plies + before.text.plies + waiting old ≤ 2 * old.count + 2
     → after.earlier_plies + after.text.plies ≤ before.earlier_plies + before.text.plies + 1 → IsKnown after.profile
@@ -168,10 +186,13 @@ pub sound_behind : (old new : Standing) (before after : ReaderState) (games at :
 sound_behind old new before after games at k e r h1 h2 h3 h4 h5 h6 h7 h8 = search (rules, no_marker_at_end, one_more, sound_behind_fault)
 
 -- A token in a piece keeps them small too.
-pub sound_token : (old new : Standing) (before after : ReaderState) (games at used n : ℕ) (k : Kind) (r : Result Accepted Reason) {e : Bool} {games_now : ℕ} {had has : Bool} {before_fault fault : Option Fault} {outcome : Result (Option Accepted) Fault}
+pub sound_token : (old new : Standing) (before after : ReaderState) (games at used n : ℕ) (k : Kind) (r : Result Accepted Reason)
+    {e : Bool} {games_now : ℕ} {had has : Bool} {before_fault fault : Option Fault} {outcome : Result (Option Accepted) Fault}
     → outcome ≡ outcome_at at r → games_now ≡ games_after outcome games → has ≡ is_of_game outcome → fault ≡ fault_of_step outcome
-    → IsSound old before games had e before_fault → before_fault ≡ None → new.count ≡ old.count + used → used ≤ n → old.count + n ≤ 2 ^ 62 → waiting new < 2 * used + waiting old
-    → FinishesAtMarker k after r → after.profile ≡ before.profile → after.earlier_plies + after.text.plies ≤ before.earlier_plies + before.text.plies + 1
+    → IsSound old before games had e before_fault → before_fault ≡ None → new.count ≡ old.count + used
+    → used ≤ n → old.count + n ≤ 2 ^ 62 → waiting new < 2 * used + waiting old
+    → FinishesAtMarker k after r → after.profile ≡ before.profile
+    → after.earlier_plies + after.text.plies ≤ before.earlier_plies + before.text.plies + 1
     → IsSound new after games_now has e fault
 sound_token old new before after games at used n k r {e} o games_is has_is fault_is sound none count within short sooner finishes profile plies =
     rw (games_is, has_is, fault_is, o) (by_result r finishes)
@@ -192,11 +213,13 @@ sound_token old new before after games at used n k r {e} o games_is has_is fault
       no_fault = λ is. refl;
     }
       where
-        ends : (accepted : Accepted) → FinishesAtMarker k after (Ok accepted) → IsTrue (is_of_game (Ok (Some accepted))) → after.stage ≡ Between
+        ends : (accepted : Accepted) → FinishesAtMarker k after (Ok accepted)
+            → IsTrue (is_of_game (Ok (Some accepted))) → after.stage ≡ Between
         ends More finishes is = absurd (false≢true is)
         ends Finished finishes is = finishes.1
 
-pub sound_finished : (lexer : Standing) (reading : ReaderState) (games : ℕ) {had has is_finished : Bool} {fault : Option Fault} → IsSound lexer reading games had is_finished fault
+pub sound_finished : (lexer : Standing) (reading : ReaderState) (games : ℕ) {had has is_finished : Bool} {fault : Option Fault}
+    → IsSound lexer reading games had is_finished fault
     → (IsTrue has → reading.stage ≡ Between) → fault ≡ None → IsSound lexer reading games has is_finished fault
 sound_finished lexer reading games sound between none = record {
   known = sound.known;
@@ -209,7 +232,8 @@ sound_finished lexer reading games sound between none = record {
 }
 
 -- with a fault no game is just finished
-pub none_by_fault : (b : Bool) (r : ReaderState) {o : Option Fault} {f : Fault} → (IsTrue b → o ≡ None) → o ≡ Some f → game_in_reader_if b r ≡ None
+pub none_by_fault : (b : Bool) (r : ReaderState) {o : Option Fault} {f : Fault}
+    → (IsTrue b → o ≡ None) → o ≡ Some f → game_in_reader_if b r ≡ None
 none_by_fault true r h e = absurd (none-some _ (sym (h refl) ∙ e))
 none_by_fault false r h e = refl
 
@@ -217,7 +241,8 @@ pub not_just_finished : (b : Bool) (r : ReaderState) → game_in_reader_if b r �
 not_just_finished true r h = absurd (cc)
 not_just_finished false r h = refl
 
-pub left_of : (p : Profile) (old : Converter) (u : List ℕ) (b : Option ℕ) (given : List Token) → Stands p old u b given → HasLeft old.lexer u given
+pub left_of : (p : Profile) (old : Converter) (u : List ℕ) (b : Option ℕ) (given : List Token)
+    → Stands p old u b given → HasLeft old.lexer u given
 left_of p old u b given stands = ap tokens_of (sym (append-nil u)) ∙ stands.lexer.tokens [] (follows_end b)
   where
     follows_end : (b : Option ℕ) → Follows b []
@@ -225,11 +250,13 @@ left_of p old u b given stands = ap tokens_of (sym (append-nil u)) ∙ stands.le
     follows_end (Some x) = tt
 
 -- before the first step behind the last piece
-pub closed_none : (p : Profile) (old : Converter) (u : List ℕ) (b : Option ℕ) (given : List Token) (o : Option (List ℕ)) → Stands p old u b given
+pub closed_none : (p : Profile) (old : Converter) (u : List ℕ) (b : Option ℕ) (given : List Token) (o : Option (List ℕ))
+    → Stands p old u b given
     → AtEndSoFar p u given (record old { just_finished = None }) false o o
 closed_none p old u b given o stands = search (rules, gains_none, le_refl, left_of, let_go)
 
-module _ (p : Profile) (u : List ℕ) (given : List Token) (now new : Converter) (finished_game : Bool) (a c d : Option (List ℕ)) (so : AtEndSoFar p u given now finished_game a c) where
+module _ (p : Profile) (u : List ℕ) (given : List Token) (now new : Converter) (finished_game : Bool)
+    (a c d : Option (List ℕ)) (so : AtEndSoFar p u given now finished_game a c) where
   same_length : (ts : List Token) → SameGames p so.tokens ts
       → IsTrue finished_game ↔ (length (read p given).progress.games < length (read p ts).progress.games)
   same_length ts same = subst (λ gs. IsTrue finished_game ↔ (length (read p given).progress.games < length {A = Game} gs)) (sym same) so.game
@@ -274,18 +301,21 @@ module _ (p : Profile) (u : List ℕ) (given : List Token) (now new : Converter)
       let same_flag = e took.between in
       let held = hands (so.tokens ++ t ∷ []) flag (λ h. held_still _ took.same stays (subst IsTrue same_flag h) took.between) in
       record {
-        has_read = subst (HasRead p _) (sym took.whole) (record { profile = h.profile; no_fault = h.no_fault; passes = h.passes; agrees = h.agrees; games = h.games; plies = h.plies; probed = h.probed; tried = h.tried; just_finished = held });
+        has_read = subst (HasRead p _) (sym took.whole)
+            (record { profile = h.profile; no_fault = h.no_fault; passes = h.passes; agrees = h.agrees; games = h.games; plies = h.plies; probed = h.probed; tried = h.tried; just_finished = held });
         game = rw took.whole (same_length _ took.same);
         just_finished = λ is. (game_in_reader new.reading, ap (λ b. game_in_reader_if b new.reading) (same_flag ∙ is));
         none_just_finished = λ is. ap (λ b. game_in_reader_if b new.reading) (same_flag ∙ is);
         gains = rw took.whole (gains_more so.gains took.gains);
       }
     where
-      hands : (ts : List Token) (b : Bool) → (IsTrue b → IsLast (Some (game_in_reader new.reading)) (read p ts).progress.games) → IsLast (game_in_reader_if b new.reading) (read p ts).progress.games
+      hands : (ts : List Token) (b : Bool) → (IsTrue b → IsLast (Some (game_in_reader new.reading)) (read p ts).progress.games)
+          → IsLast (game_in_reader_if b new.reading) (read p ts).progress.games
       hands ts true h = h refl
       hands ts false h = tt
 
-  pub closed_fault : (f : Fault) (l : Standing) → HasLeft l u given → (read p given).fault ≡ None → AfterStepAtEnd p u so.tokens now new (Err f) c d → new.games ≡ now.games
+  pub closed_fault : (f : Fault) (l : Standing) → HasLeft l u given → (read p given).fault ≡ None
+      → AfterStepAtEnd p u so.tokens now new (Err f) c d → new.games ≡ now.games
       → FinishesToFault p u given new f a d
   closed_fault f l left passes to same =
       let stops = stops_more so.gains to.stops in
@@ -298,15 +328,20 @@ module _ (p : Profile) (u : List ℕ) (given : List Token) (now new : Converter)
       }
 
 -- behind the last piece a token was waiting, unless it is the end
-sooner_at_end : (old new : Standing) (after : ReaderState) (at : ℕ) (k : Kind) (e : Bool) (r : Result Accepted Reason) → is_end k ≡ e → Nearer e old new
+sooner_at_end : (old new : Standing) (after : ReaderState) (at : ℕ) (k : Kind) (e : Bool) (r : Result Accepted Reason)
+    → is_end k ≡ e → Nearer e old new
     → FinishesAtMarker k after r → StepAtEndAdvances old new (none_at_end e (outcome_at at r))
 sooner_at_end old new after at k e r h1 h2 h3 = search (rules, no_marker_at_end)
 
-pub closes_sooner : (old new : Standing) (after : ReaderState) (at : ℕ) (k : Kind) (r : Result Accepted Reason) {e : Bool} {outcome closed : Result (Option Accepted) Fault}
-    → outcome ≡ outcome_at at r → e ≡ is_end k → closed ≡ none_at_end e outcome → Nearer (is_end k) old new → FinishesAtMarker k after r → StepAtEndAdvances old new closed
-closes_sooner old new after at k r is e_is closed_is near finished = rw (closed_is, is, e_is) (sooner_at_end old new after at k _ r refl near finished)
+pub closes_sooner : (old new : Standing) (after : ReaderState) (at : ℕ) (k : Kind)
+    (r : Result Accepted Reason) {e : Bool} {outcome closed : Result (Option Accepted) Fault}
+    → outcome ≡ outcome_at at r → e ≡ is_end k → closed ≡ none_at_end e outcome
+    → Nearer (is_end k) old new → FinishesAtMarker k after r → StepAtEndAdvances old new closed
+closes_sooner old new after at k r is e_is closed_is near finished =
+    rw (closed_is, is, e_is) (sooner_at_end old new after at k _ r refl near finished)
 
 -- while no game is just finished a converter owes no more
-pub sound_at_none : (lexer : Standing) (reading : ReaderState) (games : ℕ) (has_finished_game is_finished : Bool) (fault : Option Fault) → IsSound lexer reading games has_finished_game is_finished fault
+pub sound_at_none : (lexer : Standing) (reading : ReaderState) (games : ℕ) (has_finished_game is_finished : Bool) (fault : Option Fault)
+    → IsSound lexer reading games has_finished_game is_finished fault
     → IsSound lexer reading games false is_finished fault
 sound_at_none lexer reading games has_finished_game is_finished fault sound = search rules

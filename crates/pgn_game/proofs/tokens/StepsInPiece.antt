@@ -4,10 +4,14 @@ use Rattle.pgn_game.proofs.Words.{Reason, InputTooLong, Fault, Profile, take-app
 use Rattle.pgn_game.proofs.tokens.OneMoreToken.{gains_none, gains_more, stops_more, games_still, counts_still, position_still}
 use Rattle.pgn_game.proofs.tokens.AcceptedToConverter.{still_none, still_none-none}
 
-pub lets_go : (p : Profile) (old : Converter) (u : List ℕ) (b : Option ℕ) (given : List Token) → Stands p old u b given → Stands p (record old { just_finished = None }) u b given
+pub lets_go : (p : Profile) (old : Converter) (u : List ℕ) (b : Option ℕ) (given : List Token)
+    → Stands p old u b given → Stands p (record old { just_finished = None }) u b given
 lets_go p old u b given stands =
     let h = stands.has_read in
-    record { lexer = stands.lexer; has_read = record { profile = h.profile; no_fault = h.no_fault; passes = h.passes; agrees = h.agrees; games = h.games; plies = h.plies; probed = h.probed; tried = h.tried; just_finished = tt } }
+    record {
+      lexer = stands.lexer;
+      has_read = record { profile = h.profile; no_fault = h.no_fault; passes = h.passes; agrees = h.agrees; games = h.games; plies = h.plies; probed = h.probed; tried = h.tried; just_finished = tt };
+    }
 
 -- what follows the first byte of the piece follows the byte known
 follows_from : (b : Option ℕ) (x : ℕ) (xs s : List ℕ) → Follows b (x ∷ xs) → Follows (Some x) s → Follows b s
@@ -15,10 +19,12 @@ follows_from None x xs s h k = tt
 follows_from (Some c) x xs [] h k = tt
 follows_from (Some c) x xs (y ∷ ys) h k = k ∙ h
 
-pub begins_with : {p : Profile} {c : Converter} {u : List ℕ} {b : Option ℕ} {given : List Token} (piece : List ℕ) → Stands p c u b given → Follows b piece → Stands p c u (next_at b piece 0) given
+pub begins_with : {p : Profile} {c : Converter} {u : List ℕ} {b : Option ℕ} {given : List Token} (piece : List ℕ)
+    → Stands p c u b given → Follows b piece → Stands p c u (next_at b piece 0) given
 begins_with piece h1 h2 = search (rules, follows_from)
 
-pub so_far_none : (p : Profile) (old : Converter) (u : List ℕ) (b : Option ℕ) (given : List Token) (piece : List ℕ) (o : Option (List ℕ)) → Stands p old u b given → Follows b piece
+pub so_far_none : (p : Profile) (old : Converter) (u : List ℕ) (b : Option ℕ) (given : List Token) (piece : List ℕ) (o : Option (List ℕ))
+    → Stands p old u b given → Follows b piece
     → SoFar p u b given piece 0 old o o
 so_far_none p old u b given piece o stands follows = search (rules, append-nil, begins_with, gains_none)
 
@@ -41,27 +47,32 @@ pub decided_at_end : (u : List ℕ) (ts : List Token) → IsDecided u [] ts → 
 decided_at_end u ts (inl e) = e
 decided_at_end u ts (inr (c, e, k)) = absurd (cc)
 
-decided_behind : (u piece : List ℕ) {ts : List Token} → IsDecided (u ++ take (length piece) piece) (drop (length piece) piece) ts → ts ≡ decided (u ++ piece)
+decided_behind : (u piece : List ℕ) {ts : List Token}
+    → IsDecided (u ++ take (length piece) piece) (drop (length piece) piece) ts → ts ≡ decided (u ++ piece)
 decided_behind u piece {ts} h =
     let here = rw (take_all (length piece) piece (le_refl (length piece))) at h in
     decided_at_end (u ++ piece) ts (rw (drop_of_length-le piece (le_refl (length piece))) at here)
 
 -- the piece is used whole, and no token ends in it
-pub fed_behind : (p : Profile) (u : List ℕ) (b : Option ℕ) (given : List Token) (piece : List ℕ) (at : ℕ) (now : Converter) (a c : Option (List ℕ)) → SoFar p u b given piece at now a c
+pub fed_behind : (p : Profile) (u : List ℕ) (b : Option ℕ) (given : List Token) (piece : List ℕ)
+    (at : ℕ) (now : Converter) (a c : Option (List ℕ)) → SoFar p u b given piece at now a c
     → at ≡ length piece → now.just_finished ≡ None → FedAll p u b given piece now a c
 fed_behind p u b given piece at now a c so end finished = search (rules, decided_behind, le_refl, next_behind, take_all)
 
 -- a converter in the piece stands before the rest
-pub stands_here : (p : Profile) (u : List ℕ) (b : Option ℕ) (given : List Token) (piece : List ℕ) (at : ℕ) (now : Converter) (a c : Option (List ℕ)) (so : SoFar p u b given piece at now a c)
+pub stands_here : (p : Profile) (u : List ℕ) (b : Option ℕ) (given : List Token) (piece : List ℕ)
+    (at : ℕ) (now : Converter) (a c : Option (List ℕ)) (so : SoFar p u b given piece at now a c)
     → at < length piece → Stands p now (u ++ take at piece) (first (drop at piece)) so.tokens
 stands_here p u b given piece at now a c so within =
     subst (λ n. Stands p now (u ++ take at piece) n so.tokens) (next_within b piece at (omega arith)) so.stands
 
-module _ (p : Profile) (u : List ℕ) (b : Option ℕ) (given : List Token) (piece : List ℕ) (at : ℕ) (now : Converter) (a c d : Option (List ℕ)) (so : SoFar p u b given piece at now a c) (within : at < length piece) where
+module _ (p : Profile) (u : List ℕ) (b : Option ℕ) (given : List Token) (piece : List ℕ) (at : ℕ) (now : Converter)
+    (a c d : Option (List ℕ)) (so : SoFar p u b given piece at now a c) (within : at < length piece) where
   some : 0 < length piece
   some = omega arith
 
-  stands_further : {new : Converter} (used : ℕ) {ts : List Token} → Stands p new ((u ++ take at piece) ++ take used (drop at piece)) (first (drop used (drop at piece))) ts
+  stands_further : {new : Converter} (used : ℕ) {ts : List Token}
+      → Stands p new ((u ++ take at piece) ++ take used (drop at piece)) (first (drop used (drop at piece))) ts
       → Stands p new (u ++ take (at + used) piece) (first (drop (at + used) piece)) ts
   stands_further {new} used {ts} stands =
       subst (λ xs. Stands p new (u ++ take (at + used) piece) (first xs) ts) (drop-drop used at piece)
@@ -73,7 +84,8 @@ module _ (p : Profile) (u : List ℕ) (b : Option ℕ) (given : List Token) (pie
       subst (λ xs. IsDecided (u ++ take (at + used) piece) xs ts) (drop-drop used at piece)
       (rw (further u piece at used) at h)
 
-  pub so_far_more : (new : Converter) (used : ℕ) → AfterStep p (u ++ take at piece) so.tokens (drop at piece) new used (Ok (Some More)) c d → SoFar p u b given piece (at + used) new a d
+  pub so_far_more : (new : Converter) (used : ℕ) → AfterStep p (u ++ take at piece) so.tokens (drop at piece) new used (Ok (Some More)) c d
+      → SoFar p u b given piece (at + used) new a d
   so_far_more new used (t, took, same) =
       record {
         tokens = so.tokens ++ t ∷ [];
@@ -84,7 +96,8 @@ module _ (p : Profile) (u : List ℕ) (b : Option ℕ) (given : List Token) (pie
         gains = gains_more so.gains took.gains;
       }
 
-  pub fed_all : (new : Converter) (used : ℕ) → AfterStep p (u ++ take at piece) so.tokens (drop at piece) new used (Ok None) c d → new.just_finished ≡ None → FedAll p u b given piece new a d
+  pub fed_all : (new : Converter) (used : ℕ) → AfterStep p (u ++ take at piece) so.tokens (drop at piece) new used (Ok None) c d
+      → new.just_finished ≡ None → FedAll p u b given piece new a d
   fed_all new used (all, stands, is_decided, gains) finished =
       record {
         tokens = so.tokens;
@@ -106,8 +119,10 @@ module _ (p : Profile) (u : List ℕ) (b : Option ℕ) (given : List Token) (pie
         marker = t;
         game = g;
         stands = stands_further used took.stands;
-        at_limit = λ h. decided_at_end (u ++ take (at + used) piece) _ (subst (λ xs. IsDecided (u ++ take (at + used) piece) xs (so.tokens ++ t ∷ []))
-            (drop_of_length-le piece (omega (arith, h, short, length-append u (take (at + used) piece), length-take (at + used) piece))) (decided_further used took.decided));
+        at_limit =
+            λ h. decided_at_end (u ++ take (at + used) piece) _ (subst (λ xs. IsDecided (u ++ take (at + used) piece) xs (so.tokens ++ t ∷ []))
+            (drop_of_length-le piece (omega (arith, h, short, length-append u (take (at + used) piece), length-take (at + used) piece)))
+            (decided_further used took.decided));
         decided = decided_further used took.decided;
         ends = subst (EndsAt t.kind t.at) place took.ends;
         no_game = so.no_game;
@@ -116,7 +131,8 @@ module _ (p : Profile) (u : List ℕ) (b : Option ℕ) (given : List Token) (pie
         gains = gains_more so.gains took.gains;
       }
 
-  pub fed_fault : (new : Converter) (used : ℕ) (f : Fault) → AfterStep p (u ++ take at piece) so.tokens (drop at piece) new used (Err f) c d → FedToFault p u b given piece f new.reading a d
+  pub fed_fault : (new : Converter) (used : ℕ) (f : Fault)
+      → AfterStep p (u ++ take at piece) so.tokens (drop at piece) new used (Err f) c d → FedToFault p u b given piece f new.reading a d
   fed_fault new used f to_fault =
       let fed = to_fault.fed in
       record {
@@ -139,14 +155,16 @@ follows_front (Some c) (x ∷ xs) zero h = tt
 follows_front (Some c) (x ∷ xs) (suc n) h = h
 
 -- a converter that stands before any byte stands before this one
-pub stands_before_any : {p : Profile} {c : Converter} {u : List ℕ} {b : Option ℕ} {given : List Token} → Stands p c u None given → Stands p c u b given
+pub stands_before_any : {p : Profile} {c : Converter} {u : List ℕ} {b : Option ℕ} {given : List Token}
+    → Stands p c u None given → Stands p c u b given
 stands_before_any stands =
     record {
       lexer = record { count = stands.lexer.count; before = stands.lexer.before; tokens = λ s k. stands.lexer.tokens s tt };
       has_read = stands.has_read;
     }
 
-before_more : {p : Profile} {c : Converter} {u : List ℕ} {given : List Token} (xs : List ℕ) (n : ℕ) → Stands p c u (first (take n xs)) given → Stands p c u (first xs) given
+before_more : {p : Profile} {c : Converter} {u : List ℕ} {given : List Token} (xs : List ℕ) (n : ℕ)
+    → Stands p c u (first (take n xs)) given → Stands p c u (first xs) given
 before_more {p} {c} {u} {given} [] n stands = subst (λ ys. Stands p c u (first ys) given) (take_all n [] (omega arith)) stands
 before_more (x ∷ xs) zero stands = stands_before_any stands
 before_more (x ∷ xs) (suc n) stands = stands
@@ -169,7 +187,8 @@ module _ (p : Profile) (u : List ℕ) (b : Option ℕ) (given : List Token) (pie
   front_all now end fed = subst (λ xs. FedAll p u b given xs now a c) (take_all n piece end) fed
 
   -- a game ends in it
-  pub front_game : (new : Converter) (used : ℕ) → used ≤ n → FedGame p u given (take n piece) used new a c → FedGame p u given piece used new a c
+  pub front_game : (new : Converter) (used : ℕ) → used ≤ n
+      → FedGame p u given (take n piece) used new a c → FedGame p u given piece used new a c
   front_game new used within fed =
       let same : take used (take n piece) ≡ take used piece = take-take used n piece within in
       let more : n ≡ used + (n - used) = omega (arith, within) in
@@ -192,7 +211,8 @@ module _ (p : Profile) (u : List ℕ) (b : Option ℕ) (given : List Token) (pie
       }
 
   -- a token of it is rejected, or a write failed
-  pub front_fault : (f : Fault) (reading : ReaderState) → Follows b piece → FedToFault p u b given (take n piece) f reading a c → FedToFault p u b given piece f reading a c
+  pub front_fault : (f : Fault) (reading : ReaderState) → Follows b piece
+      → FedToFault p u b given (take n piece) f reading a c → FedToFault p u b given piece f reading a c
   front_fault f reading begins to =
       let fed = to.fed in
       record {
@@ -210,7 +230,8 @@ module _ (p : Profile) (u : List ℕ) (b : Option ℕ) (given : List Token) (pie
         position = to.position;
       }
     where
-      goes_on : (xs : List ℕ) (n : ℕ) (s : List ℕ) → Follows b xs → Follows (still b xs) s → Follows (still b (take n xs)) (drop n xs ++ s)
+      goes_on : (xs : List ℕ) (n : ℕ) (s : List ℕ) → Follows b xs
+          → Follows (still b xs) s → Follows (still b (take n xs)) (drop n xs ++ s)
       goes_on [] n s begins follows =
           subst (λ ys. Follows (still b ys) (drop n [] ++ s)) (sym (take_all n [] (omega arith)))
           (subst (λ ys. Follows b (ys ++ s)) (sym (drop_of_length-le [] (omega arith))) follows)
@@ -218,8 +239,10 @@ module _ (p : Profile) (u : List ℕ) (b : Option ℕ) (given : List Token) (pie
       goes_on (x ∷ xs) (suc n) s begins follows = tt
 
   -- the piece goes on past place 2^62
-  pub front_too_long : (now : Converter) (reading : ReaderState) (AtToken : Fault → Type 0) → length u + n ≡ 2 ^ 62 → n < length piece → reading ≡ now.reading → FedAll p u b given (take n piece) now a c
-      → StopsIn u piece AtToken (λ front. (c' : Converter) × FedAll p u b given front c' a c × (reading ≡ c'.reading)) (record { at = 2 ^ 62; reason = InputTooLong })
+  pub front_too_long : (now : Converter) (reading : ReaderState) (AtToken : Fault → Type 0) → length u + n ≡ 2 ^ 62
+      → n < length piece → reading ≡ now.reading → FedAll p u b given (take n piece) now a c
+      → StopsIn u piece AtToken (λ front. (c' : Converter) × FedAll p u b given front c' a c × (reading ≡ c'.reading))
+      (record { at = 2 ^ 62; reason = InputTooLong })
   front_too_long now reading AtToken place more same fed =
       too_long (take n piece) (drop n piece) (sym (take-append-drop n piece))
       (omega (arith, place, length-append u (take n piece), length-take-le n piece (omega (arith, more))))

@@ -6,7 +6,8 @@ use Rattle.pgn_game.proofs.Words.{Token, Profile, Game, ◌≡◌, ℕ, ◌+◌,
 use Rattle.pgn_game.proofs.tokens.GamesInTurn.{passes_before}
 use Rattle.pgn_game.proofs.tokens.NoneBeforeFault.{reads_behind}
 use Rattle.pgn_game.proofs.refusals.RefusalsInMovetext.{score_of}
-use Rattle.pgn_game.proofs.tokens.LastTokens.{AddsOne, HasLast, AreQuiet, IsLeft, end, end_at, glyph, left_games, left_in, none, none_torn, quiet_games, symbol, token_at}
+use Rattle.pgn_game.proofs.tokens.LastTokens.{AddsOne, HasLast, AreQuiet, IsLeft, end, end_at, glyph, left_games, left_in, none, none_torn}
+use Rattle.pgn_game.proofs.tokens.LastTokens.{quiet_games, symbol, token_at}
 
 -- ---- The output of a text without a fault
 
@@ -26,7 +27,8 @@ score_short s is = let m = score_marker s is in omega (arith, marker_short m.0, 
 
 -- where a text goes on with a digit, the symbol does
 symbol_given : (at : ℕ) (text : List ℕ) (behind : List Token) (fits : Bool) → fits ≡ true
-    → (rest : List Token) × (onto at (if fits then gives (tokens.symbol text) else stops at SymbolTooLong) behind ≡ token_at at (tokens.symbol text) ∷ rest)
+    → (rest : List Token)
+    × (onto at (if fits then gives (tokens.symbol text) else stops at SymbolTooLong) behind ≡ token_at at (tokens.symbol text) ∷ rest)
 symbol_given at text behind true is = (behind, refl)
 symbol_given at text behind false is = absurd (cc)
 
@@ -35,13 +37,15 @@ fits_digit text digit short = le-leb _ _ (omega (arith, short, length-append tex
 
 abbrev GoesOn : ℕ → ℕ → List ℕ → ℕ → Type 0
 GoesOn place at text digit =
-    (rest : List Token) × (tokens_to_come_in modes.Symbol place at text (digit ∷ []) ≡ token_at at (tokens.symbol (text ++ digit ∷ [])) ∷ rest)
+    (rest : List Token)
+    × (tokens_to_come_in modes.Symbol place at text (digit ∷ []) ≡ token_at at (tokens.symbol (text ++ digit ∷ [])) ∷ rest)
 
 -- so it ends with the text: no byte behind it could be both digits
 abbrev HasDigit : List ℕ → ℕ → List ℕ → ℕ → Type 0
 HasDigit u at text digit = BeginsWithToken (tokens.symbol (text ++ digit ∷ [])) (drop at (u ++ digit ∷ []))
 
-ends_with_text : (u : List ℕ) (at : ℕ) (text : List ℕ) → HasDigit u at text 49 → HasDigit u at text 50 → length u ≡ at + length (text ++ [])
+ends_with_text : (u : List ℕ) (at : ℕ) (text : List ℕ) → HasDigit u at text 49
+    → HasDigit u at text 50 → length u ≡ at + length (text ++ [])
 ends_with_text u at text one two = by_rest (drop n u) refl
   where
     n : ℕ
@@ -49,7 +53,12 @@ ends_with_text u at text one two = by_rest (drop n u) refl
 
     behind : (digit : ℕ) → (has : HasDigit u at text digit) → drop n (u ++ digit ∷ []) ≡ digit ∷ has.0
     behind digit has =
-        cc (drop-drop (length text) at (u ++ digit ∷ []), has.1, append_assoc text (digit ∷ []) has.0, drop_at text (digit ∷ has.0) (length text) refl)
+        cc (
+          drop-drop (length text) at (u ++ digit ∷ []),
+          has.1,
+          append_assoc text (digit ∷ []) has.0,
+          drop_at text (digit ∷ has.0) (length text) refl,
+        )
 
     within : n ≤ length u
     within = omega (arith, ap (length {A = ℕ}) (behind 49 one), length-drop n (u ++ 49 ∷ []), length-append u (49 ∷ []))
@@ -65,7 +74,8 @@ ends_with_text u at text one two = by_rest (drop n u) refl
 
 -- ---- The game
 
-module _ (stand : SymbolsStandInText) (ends : GamesEndByMarker) (p : Profile) (c : Converter) (u : List ℕ) (given : List Token) (stands : Stands p c u None given)
+module _ (stand : SymbolsStandInText) (ends : GamesEndByMarker) (p : Profile)
+    (c : Converter) (u : List ℕ) (given : List Token) (stands : Stands p c u None given)
     (more : length (games_read p given) < length (games_read p (tokens_of u))) where
   abbrev l : Standing
   l = c.lexer
@@ -108,7 +118,8 @@ module _ (stand : SymbolsStandInText) (ends : GamesEndByMarker) (p : Profile) (c
         ends = ends_there;
       }
 
-  of_symbol : l.held.mode ≡ modes.Symbol → coming l [] ≡ token_at l.held.at (tokens.symbol (l.held.text ++ [])) ∷ end_at l.count ∷ [] → LastGame p u given
+  of_symbol : l.held.mode ≡ modes.Symbol
+      → coming l [] ≡ token_at l.held.at (tokens.symbol (l.held.text ++ [])) ∷ end_at l.count ∷ [] → LastGame p u given
   of_symbol mode is =
       let text = l.held.text in
       let t : Token = token_at l.held.at (tokens.symbol (text ++ [])) in
@@ -120,13 +131,20 @@ module _ (stand : SymbolsStandInText) (ends : GamesEndByMarker) (p : Profile) (c
       let two : GoesOn l.count l.held.at text 50 = symbol_given l.held.at (text ++ 50 ∷ []) _ _ (fits_digit text 50 short_enough) in
       last t is (ends_with_text u l.held.at text
       (stand (u ++ 49 ∷ []) given one.0 (token_at l.held.at (tokens.symbol (text ++ 49 ∷ [])))
-      (stands.lexer.tokens (49 ∷ []) tt ∙ ap (λ m. given ++ tokens_to_come_in m l.count l.held.at text (49 ∷ [])) mode ∙ ap (λ ts. given ++ ts) one.1))
+      (stands.lexer.tokens (49 ∷ []) tt
+      ∙ ap (λ m. given ++ tokens_to_come_in m l.count l.held.at text (49 ∷ [])) mode ∙ ap (λ ts. given ++ ts) one.1))
       (stand (u ++ 50 ∷ []) given two.0 (token_at l.held.at (tokens.symbol (text ++ 50 ∷ [])))
-      (stands.lexer.tokens (50 ∷ []) tt ∙ ap (λ m. given ++ tokens_to_come_in m l.count l.held.at text (50 ∷ [])) mode ∙ ap (λ ts. given ++ ts) two.1)))
+      (stands.lexer.tokens (50 ∷ []) tt ∙ ap (λ m. given ++ tokens_to_come_in m l.count l.held.at text (50 ∷ [])) mode
+      ∙ ap (λ ts. given ++ ts) two.1)))
 
   by_left : (ts : List Token) → coming l [] ≡ ts → IsLeft l.held.mode l.count l.held.at l.held.text ts → LastGame p u given
   by_left _ is (none ts q has) =
-      absurd (omega (arith, more, ap (λ (r : Read). length r.progress.games) reads, ap (length {A = Game}) (quiet_games p (read p given).progress (coming l []) (subst AreQuiet (sym is) q))))
+      absurd (omega (
+        arith,
+        more,
+        ap (λ (r : Read). length r.progress.games) reads,
+        ap (length {A = Game}) (quiet_games p (read p given).progress (coming l []) (subst AreQuiet (sym is) q)),
+      ))
   by_left _ is (glyph n) =
       let finished = (finishes (token_at l.held.at (tokens.glyph n)) l.count is).game in
       let marker = (ends p given (token_at l.held.at (tokens.glyph n)) finished).is_marker in

@@ -6,19 +6,23 @@ use Rattle.pgn_game.specs.Conversion as conversion
 use Rattle.pgn_game.proofs.tokens.OneMoreToken.{torn-none, gains_none, gains_more, stops_more, stops_from}
 use Rattle.pgn_game.proofs.tokens.AcceptedToConverter.{in_games, still_none-none}
 
-pub verdict_passes : (r : Read) → r.fault ≡ None → verdict_of r ≡ totals (record { games = length r.progress.games; plies = sum (map plies_of r.progress.games) })
+pub verdict_passes : (r : Read) → r.fault ≡ None
+    → verdict_of r ≡ totals (record { games = length r.progress.games; plies = sum (map plies_of r.progress.games) })
 verdict_passes r e = rw e
 
 verdict_refused : (r : Read) {f : Fault} → r.fault ≡ Some f → verdict_of r ≡ is_refused f
 verdict_refused r e = rw e
 
 -- the counts of a converter that has read the whole text are those of the text
-pub totalled : {p : Profile} {s : List ℕ} {c : Converter} (t : Totals) → HasRead p c (tokens_of s) → t.games ≡ c.games → t.plies ≡ whole_plies c.reading
+pub totalled : {p : Profile} {s : List ℕ} {c : Converter} (t : Totals)
+    → HasRead p c (tokens_of s) → t.games ≡ c.games → t.plies ≡ whole_plies c.reading
     → t.most_probes ≡ c.reading.most_probes → t.most_probes ≤ 1040 → (verdict p s ≡ verdict_in t) × MostProbes p s t.most_probes
 totalled t has games plies probes bound = search (rules, in_games, verdict_passes)
 
-pub ended : {p : Profile} {u : List ℕ} {given : List Token} {new : Converter} {finished_game : _} (t : Totals) {a c : Option (List ℕ)} → Finishes p u given new finished_game a c
-    → t.games ≡ new.games → t.plies ≡ whole_plies new.reading → t.most_probes ≡ new.reading.most_probes → t.most_probes ≤ 1040 → AfterEnd p u given (Ok t) a c
+pub ended : {p : Profile} {u : List ℕ} {given : List Token} {new : Converter} {finished_game : _} (t : Totals) {a c : Option (List ℕ)}
+    → Finishes p u given new finished_game a c
+    → t.games ≡ new.games → t.plies ≡ whole_plies new.reading
+    → t.most_probes ≡ new.reading.most_probes → t.most_probes ≤ 1040 → AfterEnd p u given (Ok t) a c
 ended t done games plies probes bound =
     let (is_verdict, most) = totalled t done.has_read games plies probes bound in
     (is_verdict, most, done.gains)
@@ -28,11 +32,13 @@ appended {p} {tokens} {a} {c} gains =
     let whole : due p tokens ≡ gains.text = rw (torn-none p.missing_result p.mode) at gains.due_for in
     subst (Appends a c) (sym whole) gains.appended
 
-pub none_read : {p : Profile} {c : Converter} {left : Option (List ℕ)} → Stands p c [] None [] → c.is_finished ≡ false → HaveRead p left [] (games_of c []) []
+pub none_read : {p : Profile} {c : Converter} {left : Option (List ℕ)} → Stands p c [] None []
+    → c.is_finished ≡ false → HaveRead p left [] (games_of c []) []
 none_read stands not_finished =
     within (record { used = []; bytes = refl; stands = stands; at_limit = λ h. refl; decided = inl refl; not_finished = not_finished })
 
-pub read_none : {p : Profile} {now : Games} (left : Option (List ℕ)) {o : Option (List ℕ)} → HaveRead p left [] now [] → ReadSoFar p left left now o o
+pub read_none : {p : Profile} {now : Games} (left : Option (List ℕ)) {o : Option (List ℕ)}
+    → HaveRead p left [] now [] → ReadSoFar p left left now o o
 read_none left have =
     record { bytes = []; tokens = []; consumed = Consumes-nil left; have_read = have; gains = gains_none }
 
@@ -42,7 +48,8 @@ keeps_consumed (Some xs) None n u h k = absurd h
 keeps_consumed (Some xs) (Some ys) None u h k = absurd k
 keeps_consumed (Some xs) (Some ys) (Some zs) u h k = rw k h
 
-no_more : {p : Profile} {u : List ℕ} {tokens : List Token} {a c : Option (List ℕ)} → tokens ≡ decided u → (read p tokens).fault ≡ None → Gains p [] tokens a c → ReadsNoMore p u a c
+no_more : {p : Profile} {u : List ℕ} {tokens : List Token} {a c : Option (List ℕ)} → tokens ≡ decided u
+    → (read p tokens).fault ≡ None → Gains p [] tokens a c → ReadsNoMore p u a c
 no_more is_decided passes gains =
     record {
       passes = rw is_decided at passes;
@@ -50,7 +57,8 @@ no_more is_decided passes gains =
     }
 
 -- the tokens up to a rejected one decide the verdict
-refused_text : {p : Profile} (s : List ℕ) {tokens : List Token} (more : List Token) {f : Fault} {a c : Option (List ℕ)} → tokens_of s ≡ tokens ++ more → (read p tokens).fault ≡ Some f → Gains p [] tokens a c
+refused_text : {p : Profile} (s : List ℕ) {tokens : List Token} (more : List Token) {f : Fault} {a c : Option (List ℕ)}
+    → tokens_of s ≡ tokens ++ more → (read p tokens).fault ≡ Some f → Gains p [] tokens a c
     → IsConverted p s (is_refused f) a c
 refused_text {p} s {tokens} more cut fault gains =
     let same : read p (tokens_of s) ≡ read p tokens = ap (read p) cut ∙ stops_from p no_progress tokens more fault in (
@@ -58,10 +66,12 @@ refused_text {p} s {tokens} more cut fault gains =
       rw same (appended gains),
     )
 
-further_writing : {p : Profile} {given tokens : List Token} (more : List Token) {at : ℕ} {a c : Option (List ℕ)} → StopsWriting p given tokens at a c → StopsWriting p given (tokens ++ more) at a c
+further_writing : {p : Profile} {given tokens : List Token} (more : List Token) {at : ℕ} {a c : Option (List ℕ)}
+    → StopsWriting p given tokens at a c → StopsWriting p given (tokens ++ more) at a c
 further_writing more w = search (rules, append_assoc, appended)
 
-pub known_left : (o n : Option (List ℕ)) (u : List ℕ) (P : List ℕ → Type 0) → Consumes o n u → ((rest : List ℕ) → P (u ++ rest)) → IfSome o P
+pub known_left : (o n : Option (List ℕ)) (u : List ℕ) (P : List ℕ → Type 0)
+    → Consumes o n u → ((rest : List ℕ) → P (u ++ rest)) → IfSome o P
 known_left None n u P h all = tt
 known_left (Some s) None u P h all = absurd h
 known_left (Some s) (Some rest) u P h all = subst P (sym h) (all rest)
@@ -73,14 +83,16 @@ known_whole (Some s) (Some rest) u P h end here = subst P (sym (h ∙ ap (λ l. 
 
 -- ---- games read in turn
 
-module _ (p : Profile) (left_old left left_new : Option (List ℕ)) (now : Games) (a c d : Option (List ℕ)) (so : ReadSoFar p left_old left now a c) where
+module _ (p : Profile) (left_old left left_new : Option (List ℕ)) (now : Games)
+    (a c d : Option (List ℕ)) (so : ReadSoFar p left_old left now a c) where
   all : (more : List ℕ) → Consumes left left_new more → Consumes left_old left_new (so.bytes ++ more)
   all more consumed = Consumes-trans left_old left left_new so.bytes more so.consumed consumed
 
   pub games_more : {new : Games} → NextGame p so.bytes so.tokens left left_new new c d → ReadSoFar p left_old left_new new a d
   games_more game = search (rules, all, gains_more)
 
-  pub games_end : {new : Games} (t : Totals) → NoGame p so.bytes so.tokens left left_new new c d → t.games ≡ new.converter.games → t.plies ≡ whole_plies new.converter.reading
+  pub games_end : {new : Games} (t : Totals) → NoGame p so.bytes so.tokens left left_new new c d
+      → t.games ≡ new.converter.games → t.plies ≡ whole_plies new.converter.reading
       → t.most_probes ≡ new.converter.reading.most_probes → t.most_probes ≤ 1040 → AfterConversion p left_old left_new (Ok t) a d
   games_end t end games plies probes bound =
       let text = so.bytes ++ end.more in
@@ -90,7 +102,8 @@ module _ (p : Profile) (left_old left left_new : Option (List ℕ)) (now : Games
 
   pub games_short : {new : Games} → NoGame p so.bytes so.tokens left left_new new c d → IfSome left_old (λ s. length s ≤ 2 ^ 62)
   games_short end =
-      known_whole left_old left_new (so.bytes ++ end.more) (λ s. length s ≤ 2 ^ 62) (all end.more end.consumed) end.have_read_all.at_end end.have_read_all.short
+      known_whole left_old left_new (so.bytes ++ end.more) (λ s. length s ≤ 2 ^ 62)
+      (all end.more end.consumed) end.have_read_all.at_end end.have_read_all.short
 
   pub games_stop : {most : ℕ} {f : Fault} → NextStops p so.bytes so.tokens left left_new most c d f → Fails p left_old left_new a d f
   games_stop (games_calls.at_token g more consumed to) = by_stops (stops_more so.gains to.stops)
@@ -136,13 +149,13 @@ slice_stops p {text} a c (too_long front rest cut place some before) =
     subst (λ n. FailsOn p text a c (record { at = n; reason = InputTooLong })) place
     (conversion.FailsOn.too_long front rest cut place some (no_more before.decided before.passes before.gains))
 
-pub slice_ends : {p : Profile} {text : List ℕ} {now : Converter} {a c : Option (List ℕ)} (d : Option (List ℕ)) (r : Result Totals Fault) (fed : FedWhole p [] [] text now a c) → AfterEnd p text fed.tokens r c d
+pub slice_ends : {p : Profile} {text : List ℕ} {now : Converter} {a c : Option (List ℕ)} (d : Option (List ℕ))
+    (r : Result Totals Fault) (fed : FedWhole p [] [] text now a c) → AfterEnd p text fed.tokens r c d
     → AfterSlice p text r a d
 slice_ends d (Ok t) fed (is_verdict, probes, gains) =
     record { converted = (is_verdict, appended (gains_more fed.gains gains)); probes = probes }
 slice_ends {p} {text} {a} d (Err f) fed stops = by_stops (stops_more fed.gains stops)
   where
     by_stops : {h : Fault} → Stops p [] (tokens_of text) a d h → FailsOn p text a d h
-    by_stops (refused h fault gains) =
-        conversion.FailsOn.refused h (refused_text text [] (sym (append-nil (tokens_of text))) fault gains)
+    by_stops (refused h fault gains) = conversion.FailsOn.refused h (refused_text text [] (sym (append-nil (tokens_of text))) fault gains)
     by_stops (unwritten at writing) = conversion.FailsOn.unwritten at writing

@@ -8,7 +8,8 @@ use Rattle.pgn_game.proofs.tokens.WholeInput.{known_whole}
 
 -- What one read does to the reading x, whose fields are those of s.
 module _ (left left_new : Option (List ℕ)) (x s : Pass) (view : s ≡ x) (not_ended : x.has_ended ≡ false) (empty : x.unused ≡ []) where
-  module _ (q : Profile) (told : Option CodeMark) (left_old : Option (List ℕ)) (given : List Token) (has : HasGiven q told left_old left x given) where
+  module _ (q : Profile) (told : Option CodeMark) (left_old : Option (List ℕ))
+      (given : List Token) (has : HasGiven q told left_old left x given) where
     consumed : Consumes left_old left has.bytes
     consumed = subst (Consumes left_old left) (ap (λ xs. has.bytes ++ xs) empty ∙ append-nil has.bytes) has.consumed
 
@@ -56,8 +57,7 @@ module _ (left left_new : Option (List ℕ)) (x s : Pass) (view : s ≡ x) (not_
       (stands q told left_old given has).1)
 
   pub fails_too_long : (y : Pass) (at : ℕ) (unused : List ℕ) → at ≡ s.lexer.count → at ≡ 2 ^ 62
-      → FillResult left left_new unused (Ok true)
-      → Fills left left_new x y (Err (record { at = at; reason = InputTooLong }))
+      → FillResult left left_new unused (Ok true) → Fills left left_new x y (Err (record { at = at; reason = InputTooLong }))
   fails_too_long y at unused place long (some, more) q told left_old given has =
       let here = place ∙ ap (λ (s : Pass). s.lexer.count) view ∙ has.counted in
       subst (λ n. ReadFails left_old left_new given (record { at = n; reason = InputTooLong })) (sym here)

@@ -19,7 +19,8 @@ use Rattle.pgn_game.proofs.twice.MarkerCounts.{marker_finishes, no_marker_goes, 
 abbrev by_result : Option Reason → Bool
 by_result o = elim o [ Some reason ↦ is_about_result reason | None ↦ false ]
 
-unless_first : (b : Bool) (reason : Reason) (o with_row : Option Reason) → by_result (or_else b reason with_row) ≡ false → (by_result with_row ≡ false → o ≡ with_row)
+unless_first : (b : Bool) (reason : Reason) (o with_row : Option Reason)
+    → by_result (or_else b reason with_row) ≡ false → (by_result with_row ≡ false → o ≡ with_row)
     → or_else b reason o ≡ or_else b reason with_row
 unless_first true reason o with_row plain further = refl
 unless_first false reason o with_row plain further = further plain
@@ -30,25 +31,32 @@ without_row : (rs : List Row) (x : Bool) (rest : List Row) → by_result (first_
 without_row [] true rest plain = absurd (true≢false plain)
 without_row [] false rest plain = refl
 without_row (r ∷ rs) x rest plain =
-    unless_first r.holds r.reason (first_holding (rs ++ row ResultDiffers false ∷ rest)) (first_holding (rs ++ row ResultDiffers x ∷ rest)) plain (without_row rs x rest)
+    unless_first r.holds r.reason (first_holding (rs ++ row ResultDiffers false ∷ rest))
+    (first_holding (rs ++ row ResultDiffers x ∷ rest)) plain (without_row rs x rest)
 
 and_false : (a b : Bool) → (a && false && b) ≡ false
 and_false true b = refl
 and_false false b = refl
 
 table_without : (q : Profile) (text : List ℕ) (part : Part) (k : Kind) → has_other_result takes_the_marker part k ≡ false
-    → by_result (refusal (counting q text) part k) ≡ false → refusal (with_missing q takes_the_marker) part k ≡ refusal (counting q text) part k
+    → by_result (refusal (counting q text) part k) ≡ false
+    → refusal (with_missing q takes_the_marker) part k ≡ refusal (counting q text) part k
 unfolding refusal
 table_without q text part (tokens.refused r) none plain = refl
 table_without q text part k none plain =
     let outer = depth (levels_of_part part) == 0 in
-    ap (λ (other : Bool). first_holding (take 21 (rows q part k) ++ row ResultDiffers (is_outside_tag_pairs part && other && outer) ∷ drop 22 (rows q part k))) none
-    ∙ ap (λ (x : Bool). first_holding (take 21 (rows q part k) ++ row ResultDiffers x ∷ drop 22 (rows q part k))) (and_false (is_outside_tag_pairs part) outer)
-    ∙ without_row (take 21 (rows q part k)) (is_outside_tag_pairs part && has_other_result (counts_as text) part k && outer) (drop 22 (rows q part k)) plain
+    ap (λ (other : Bool).
+    first_holding (take 21 (rows q part k) ++ row ResultDiffers (is_outside_tag_pairs part && other && outer) ∷ drop 22 (rows q part k))) none
+    ∙ ap (λ (x : Bool). first_holding (take 21 (rows q part k) ++ row ResultDiffers x ∷ drop 22 (rows q part k)))
+    (and_false (is_outside_tag_pairs part) outer)
+    ∙ without_row (take 21 (rows q part k))
+    (is_outside_tag_pairs part && has_other_result (counts_as text) part k && outer) (drop 22 (rows q part k)) plain
 
 -- A marker that takes itself for a missing Result differs from a given one alone.
-other_of : (text : List ℕ) (part : Part) (k : Kind) (o : Option (List ℕ)) (v : Option (List ℕ)) → marker_of k ≡ o → value_of part.pairs (codes "Result") ≡ v
-    → (has_other_result (counts_as text) part k ≡ has_other_result takes_the_marker part k) ⊎ (has_other_result takes_the_marker part k ≡ false)
+other_of : (text : List ℕ) (part : Part) (k : Kind) (o : Option (List ℕ)) (v : Option (List ℕ))
+    → marker_of k ≡ o → value_of part.pairs (codes "Result") ≡ v
+    → (has_other_result (counts_as text) part k ≡ has_other_result takes_the_marker part k)
+    ⊎ (has_other_result takes_the_marker part k ≡ false)
 other_of text part k None v is given = inr (ap (other_if takes_the_marker part.pairs) is)
 other_of text part k (Some marker) (Some value) is given =
     inl (
@@ -61,7 +69,8 @@ other_of text part k (Some marker) None is given =
     ∙ ap not ((bytes_eq-Decides marker marker).1 refl)
     )
 
-refusal_taking : (q : Profile) (text : List ℕ) (part : Part) (k : Kind) → q.missing_result ≡ takes_the_marker → by_result (refusal (counting q text) part k) ≡ false
+refusal_taking : (q : Profile) (text : List ℕ) (part : Part) (k : Kind)
+    → q.missing_result ≡ takes_the_marker → by_result (refusal (counting q text) part k) ≡ false
     → refusal q part k ≡ refusal (counting q text) part k
 refusal_taking q text part k takes plain =
     ap (λ (missing : Missing). refusal (with_missing q missing) part k) takes
@@ -75,52 +84,61 @@ abbrev text_with : Profile → Game → List Pair → List ℕ
 text_with q g ps =
     (tag_lines ps ++ 10 ∷ []) ++ text_of_lines (lines_of (tokens_out q.mode (start_of g.pairs) g.items ++ g.marker ∷ [])) ++ 10 ∷ []
 
-game_alike : (q : Profile) (text : List ℕ) (g : Game) → q.missing_result ≡ takes_the_marker → IsResult (counts_as text) (value_of g.pairs (codes "Result")) g.marker
+game_alike : (q : Profile) (text : List ℕ) (g : Game) → q.missing_result ≡ takes_the_marker
+    → IsResult (counts_as text) (value_of g.pairs (codes "Result")) g.marker
     → game_text q g ≡ game_text (counting q text) g
 game_alike q text g takes is =
     sym (same_game_text q g takes) ∙ sym (ap (text_with q g) (exported_result q.mode (counts_as text) g.marker g.pairs is))
 
-finished_alike : (q : Profile) (text : List ℕ) (part : Part) (k : Kind) (g : Game) → q.missing_result ≡ takes_the_marker → refusal (counting q text) part k ≡ None
+finished_alike : (q : Profile) (text : List ℕ) (part : Part) (k : Kind) (g : Game)
+    → q.missing_result ≡ takes_the_marker → refusal (counting q text) part k ≡ None
     → next part k ≡ whole g → game_text q g ≡ game_text (counting q text) g
 finished_alike q text part k g takes free is = by_marker (marker_of k) refl
   where
     by_marker : (o : Option (List ℕ)) → marker_of k ≡ o → game_text q g ≡ game_text (counting q text) g
     by_marker None none = let to = no_marker_goes part k none in let e : going to.0 ≡ whole g = sym to.1 ∙ is in absurd (cc)
     by_marker (Some marker) some =
-        let e : whole (record { pairs = part.pairs; items = part.items; marker = marker }) ≡ whole g = sym (marker_finishes (counting q text) part k marker some free) ∙ is in
+        let e : whole (record { pairs = part.pairs; items = part.items; marker = marker }) ≡ whole g =
+        sym (marker_finishes (counting q text) part k marker some free) ∙ is in
         let same : record { pairs = part.pairs; items = part.items; marker = marker } ≡ g = cc in
         subst (λ (g : Game). game_text q g ≡ game_text (counting q text) g) same
-        (game_alike q text (record { pairs = part.pairs; items = part.items; marker = marker }) takes (result_of (counting q text) part k marker some free))
+        (game_alike q text (record { pairs = part.pairs; items = part.items; marker = marker }) takes
+        (result_of (counting q text) part k marker some free))
 
 -- so have all games
 abbrev AreAlike : Profile → List ℕ → List Game → Type 0
 AreAlike q text games = text_of q games ≡ text_of (counting q text) games
 
-one_more : (q : Profile) (text : List ℕ) (games : List Game) (to : Next) → AreAlike q text games → ((g : Game) → to ≡ whole g → game_text q g ≡ game_text (counting q text) g)
+one_more : (q : Profile) (text : List ℕ) (games : List Game) (to : Next) → AreAlike q text games
+    → ((g : Game) → to ≡ whole g → game_text q g ≡ game_text (counting q text) g)
     → AreAlike q text (progress_with games to).games
 one_more q text games (going part) before same = before
-one_more q text games (whole g) before same =
-    cc (text_of-snoc q games g, before, same g refl, text_of-snoc (counting q text) games g)
+one_more q text games (whole g) before same = cc (text_of-snoc q games g, before, same g refl, text_of-snoc (counting q text) games g)
 
 all_alike : (q : Profile) (text : List ℕ) (b : Progress) (ts : List Token) → q.missing_result ≡ takes_the_marker → AreAlike q text b.games
     → AreAlike q text (read_from (counting q text) b ts).progress.games
 all_alike q text b [] takes before = before
 all_alike q text b (t ∷ ts) takes before =
     by_token (counting q text) b t ts (λ r. AreAlike q text r.progress.games) (λ reason is. before)
-    (λ is. all_alike q text (progress_after b t) ts takes (one_more q text b.games (next b.part t.kind) before (λ g leads. finished_alike q text b.part t.kind g takes is leads)))
+    (λ is. all_alike q text (progress_after b t) ts takes
+    (one_more q text b.games (next b.part t.kind) before (λ g leads. finished_alike q text b.part t.kind g takes is leads)))
 
 -- Reading.
 
 -- a token that is rejected for another reason, and one that is not rejected
-reads_alike : (q : Profile) (text : List ℕ) (b : Progress) (ts : List Token) → q.missing_result ≡ takes_the_marker → rejects_marker (read_from (counting q text) b ts).fault ≡ false
+reads_alike : (q : Profile) (text : List ℕ) (b : Progress) (ts : List Token)
+    → q.missing_result ≡ takes_the_marker → rejects_marker (read_from (counting q text) b ts).fault ≡ false
     → read_from q b ts ≡ read_from (counting q text) b ts
 reads_alike q text b [] takes plain = refl
 reads_alike q text b (t ∷ ts) takes plain =
     by_token (counting q text) b t ts (λ r. rejects_marker r.fault ≡ false → read_from q b (t ∷ ts) ≡ r)
-    (λ reason is other. read_from-test q b t ts ∙ ap (after_test q b t ts) (refusal_taking q text b.part t.kind takes (ap by_result is ∙ other) ∙ is))
-    (λ is other. goes_on q b t ts (refusal_taking q text b.part t.kind takes (ap by_result is) ∙ is) ∙ reads_alike q text (progress_after b t) ts takes other) plain
+    (λ reason is other. read_from-test q b t ts
+    ∙ ap (after_test q b t ts) (refusal_taking q text b.part t.kind takes (ap by_result is ∙ other) ∙ is))
+    (λ is other. goes_on q b t ts (refusal_taking q text b.part t.kind takes (ap by_result is) ∙ is)
+    ∙ reads_alike q text (progress_after b t) ts takes other) plain
 
-is_read_alike : (q : Profile) (text : List ℕ) (ts : List Token) → q.missing_result ≡ takes_the_marker → read q ts ≡ read (counting q text) ts → IsReadAlike q text ts
+is_read_alike : (q : Profile) (text : List ℕ) (ts : List Token) → q.missing_result ≡ takes_the_marker
+    → read q ts ≡ read (counting q text) ts → IsReadAlike q text ts
 is_read_alike q text ts takes same = record {
   same = same;
   written = ap (λ (r : Read). text_of q r.progress.games) same ∙ all_alike q text no_progress ts takes refl;
@@ -143,9 +161,11 @@ none_lost p b (t ∷ ts) =
     (first.0 + others.0, omega (arith, first.1, others.1)))
 
 -- a game that a token finishes is there at the end
-game_stays : (p : Profile) (b : Progress) (t : Token) (ts : List Token) (g : Game) → next b.part t.kind ≡ whole g → length (read_from p (progress_after b t) ts).progress.games ≡ length b.games → ⊥
+game_stays : (p : Profile) (b : Progress) (t : Token) (ts : List Token) (g : Game) → next b.part t.kind ≡ whole g
+    → length (read_from p (progress_after b t) ts).progress.games ≡ length b.games → ⊥
 game_stays p b t ts g is same =
-    let one : length (progress_after b t).games ≡ length b.games + 1 = ap (λ (to : Next). length (progress_with b.games to).games) is ∙ length-append b.games (g ∷ []) in
+    let one : length (progress_after b t).games ≡ length b.games + 1 =
+    ap (λ (to : Next). length (progress_with b.games to).games) is ∙ length-append b.games (g ∷ []) in
     let others = none_lost p (progress_after b t) ts in
     absurd (omega (arith, one, others.1, same))
 
@@ -153,7 +173,8 @@ game_stays p b t ts g is same =
 abbrev is_harmless : Row → Bool
 is_harmless r = not (is_about_result r.reason && r.holds)
 
-by_row : (b : Bool) (reason : Reason) (rest : Option Reason) → (is_about_result reason && b) ≡ false → by_result rest ≡ false → by_result (or_else b reason rest) ≡ false
+by_row : (b : Bool) (reason : Reason) (rest : Option Reason) → (is_about_result reason && b) ≡ false
+    → by_result rest ≡ false → by_result (or_else b reason rest) ≡ false
 by_row false reason rest plain further = further
 by_row true reason rest plain further = by_reason (is_about_result reason) plain
   where
@@ -172,12 +193,15 @@ unfolding refusal
 not_for_result p part (tokens.refused r) none = refl
 not_for_result p part k none =
     let outer = depth (levels_of_part part) == 0 in
-    ap (λ (other : Bool). by_result (first_holding (take 21 (rows p part k) ++ row ResultDiffers (is_outside_tag_pairs part && other && outer) ∷ drop 22 (rows p part k))))
+    ap (λ (other : Bool). by_result
+    (first_holding (take 21 (rows p part k) ++ row ResultDiffers (is_outside_tag_pairs part && other && outer) ∷ drop 22 (rows p part k))))
     (ap (other_if p.missing_result part.pairs) none)
-    ∙ ap (λ (x : Bool). by_result (first_holding (take 21 (rows p part k) ++ row ResultDiffers x ∷ drop 22 (rows p part k)))) (and_false (is_outside_tag_pairs part) outer)
+    ∙ ap (λ (x : Bool). by_result (first_holding (take 21 (rows p part k) ++ row ResultDiffers x ∷ drop 22 (rows p part k))))
+    (and_false (is_outside_tag_pairs part) outer)
     ∙ no_result (take 21 (rows p part k) ++ row ResultDiffers false ∷ drop 22 (rows p part k)) refl
 
-marker_rejected : (q : Profile) (text : List ℕ) (part : Part) (k : Kind) → q.missing_result ≡ takes_the_marker → refusal (counting q text) part k ≡ Some ResultDiffers
+marker_rejected : (q : Profile) (text : List ℕ) (part : Part) (k : Kind)
+    → q.missing_result ≡ takes_the_marker → refusal (counting q text) part k ≡ Some ResultDiffers
     → (m : Marker) × (marker_of k ≡ Some (marker_text m))
 marker_rejected q text part k takes is = by_marker (marker_of k) refl
   where
@@ -199,28 +223,33 @@ pub record FromThere (q : Profile) (b : Progress) (ts : List Token) (at : ℕ) :
       → read_from q b ts ≡ read_from (counting q (marker_text marker)) b ts
 
 -- at the marker itself
-module _ (q : Profile) (b : Progress) (t : Token) (m : Marker) (takes : q.missing_result ≡ takes_the_marker) (is : marker_of t.kind ≡ Some (marker_text m)) where
+module _ (q : Profile) (b : Progress) (t : Token) (m : Marker)
+    (takes : q.missing_result ≡ takes_the_marker) (is : marker_of t.kind ≡ Some (marker_text m)) where
   same_row : refusal (counting q (marker_text m)) b.part t.kind ≡ refusal q b.part t.kind
   same_row = refusal_counting q (marker_text m) b.part t.kind takes (inr is)
 
   pub up_to_marker : read_from q b (t ∷ []) ≡ read_from (counting q (marker_text m)) b (t ∷ [])
   up_to_marker =
       by_token q b t [] (λ r. r ≡ read_from (counting q (marker_text m)) b (t ∷ []))
-      (λ reason row. sym (read_from-test (counting q (marker_text m)) b t [] ∙ ap (after_test (counting q (marker_text m)) b t []) (same_row ∙ row)))
+      (λ reason row.
+      sym (read_from-test (counting q (marker_text m)) b t [] ∙ ap (after_test (counting q (marker_text m)) b t []) (same_row ∙ row)))
       (λ row. sym (goes_on (counting q (marker_text m)) b t [] (same_row ∙ row)))
 
   pub marker_refused : (ts : List Token) → length (read_from (counting q (marker_text m)) b (t ∷ ts)).progress.games ≡ length b.games
       → read_from q b (t ∷ ts) ≡ read_from (counting q (marker_text m)) b (t ∷ ts)
   marker_refused ts none =
       by_token q b t ts (λ r. r ≡ read_from (counting q (marker_text m)) b (t ∷ ts))
-      (λ reason row. sym (read_from-test (counting q (marker_text m)) b t ts ∙ ap (after_test (counting q (marker_text m)) b t ts) (same_row ∙ row)))
+      (λ reason row.
+      sym (read_from-test (counting q (marker_text m)) b t ts ∙ ap (after_test (counting q (marker_text m)) b t ts) (same_row ∙ row)))
       (λ row.
       absurd (game_stays (counting q (marker_text m)) b t ts _ (marker_finishes q b.part t.kind (marker_text m) is row)
       (ap (λ (r : Read). length r.progress.games) (sym (goes_on (counting q (marker_text m)) b t ts (same_row ∙ row))) ∙ none)))
 
 -- at a token before it, which is no marker
-module _ (q : Profile) (b : Progress) (t : Token) (takes : q.missing_result ≡ takes_the_marker) (none : marker_of t.kind ≡ None) (free : refusal q b.part t.kind ≡ None) where
-  passes_counting : (m : Marker) (us : List Token) → read_from (counting q (marker_text m)) b (t ∷ us) ≡ read_from (counting q (marker_text m)) (progress_after b t) us
+module _ (q : Profile) (b : Progress) (t : Token) (takes : q.missing_result ≡ takes_the_marker)
+    (none : marker_of t.kind ≡ None) (free : refusal q b.part t.kind ≡ None) where
+  passes_counting : (m : Marker) (us : List Token)
+      → read_from (counting q (marker_text m)) b (t ∷ us) ≡ read_from (counting q (marker_text m)) (progress_after b t) us
   passes_counting m us = goes_on (counting q (marker_text m)) b t us (refusal_counting q (marker_text m) b.part t.kind takes (inl none) ∙ free)
 
   pub same_count : length (progress_after b t).games ≡ length b.games
@@ -243,7 +272,8 @@ module _ (q : Profile) (b : Progress) (t : Token) (takes : q.missing_result ≡ 
   }
 
 -- where no game is finished, a token that passes is no marker
-not_a_marker : (p : Profile) (b : Progress) (t : Token) (ts : List Token) (o : Option (List ℕ)) → marker_of t.kind ≡ o → refusal p b.part t.kind ≡ None
+not_a_marker : (p : Profile) (b : Progress) (t : Token) (ts : List Token) (o : Option (List ℕ))
+    → marker_of t.kind ≡ o → refusal p b.part t.kind ≡ None
     → length (read_from p (progress_after b t) ts).progress.games ≡ length b.games → marker_of t.kind ≡ None
 not_a_marker p b t ts None is row there = is
 not_a_marker p b t ts (Some marker) is row there = absurd (game_stays p b t ts _ (marker_finishes p b.part t.kind marker is row) there)
@@ -254,7 +284,8 @@ from_there : (q : Profile) (text : List ℕ) (b : Progress) (ts : List Token) (a
 from_there q text b [] at takes fault same = absurd (cc)
 from_there q text b (t ∷ ts) at takes fault same =
     by_token (counting q text) b t ts
-    (λ r. r.fault ≡ Some (record { at = at; reason = ResultDiffers }) → length r.progress.games ≡ length b.games → FromThere q b (t ∷ ts) at)
+    (λ r. r.fault ≡ Some (record { at = at; reason = ResultDiffers })
+    → length r.progress.games ≡ length b.games → FromThere q b (t ∷ ts) at)
     (λ reason row f there.
     let place : t.at ≡ at = ap (λ (o : Option Fault). elim o [ None ↦ t.at | Some g ↦ g.at ]) f in
     let why : reason ≡ ResultDiffers = ap (λ (o : Option Fault). elim o [ None ↦ reason | Some g ↦ g.reason ]) f in

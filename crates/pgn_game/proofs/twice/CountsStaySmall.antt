@@ -10,10 +10,11 @@ use Rattle.pgn_game.proofs.tokens.StepsAtEnd.{Nearer, nearer_by}
 
 -- Bytes that are used make up for a game and a move more, and for what waits in the lexer.
 keeps_going : (old new : Pass) (used : ℕ) → IsGoing old → new.lexer.count ≡ old.lexer.count + used
-    → new.lexer.count + length new.unused ≤ 2 ^ 62
-    → new.games + waiting new.lexer ≤ old.games + waiting old.lexer + 2 * used
-    → new.reading.earlier_plies + new.reading.text.plies + waiting new.lexer ≤ old.reading.earlier_plies + old.reading.text.plies + waiting old.lexer + 2 * used
-    → waiting new.lexer + until_read new.has_ended new.unused < waiting old.lexer + until_read old.has_ended old.unused + 4 * used → KeepsGoing old new
+    → new.lexer.count + length new.unused ≤ 2 ^ 62 → new.games + waiting new.lexer ≤ old.games + waiting old.lexer + 2 * used
+    → new.reading.earlier_plies + new.reading.text.plies + waiting new.lexer
+    ≤ old.reading.earlier_plies + old.reading.text.plies + waiting old.lexer + 2 * used
+    → waiting new.lexer + until_read new.has_ended new.unused < waiting old.lexer + until_read old.has_ended old.unused + 4 * used
+    → KeepsGoing old new
 keeps_going old new used going count room games plies fewer =
     record {
       going = record { few = omega (arith, going.few, games, count); few_plies = omega (arith, going.few_plies, plies, count); room = room };
@@ -29,7 +30,8 @@ keeps_read x s view going not_ended empty unused has_ended room fewer =
     (record { going = record { few = going.few; few_plies = going.few_plies; room = room }; fewer = rw (not_ended, empty) (omega (arith, fewer)) })
 
 -- so for each answer to a token
-keeps : (old new : Pass) (k : Kind) (Plies : Type 0) (r : Result Taken Fault) → OnOk r Plies → IfOk r (λ x. new.games ≡ games_with x old.games) → IfOk r (TellsEnd k)
+keeps : (old new : Pass) (k : Kind) (Plies : Type 0) (r : Result Taken Fault) → OnOk r Plies
+    → IfOk r (λ x. new.games ≡ games_with x old.games) → IfOk r (TellsEnd k)
     → (is_end k ≡ false → new.games ≤ old.games + 1 → Plies → KeepsGoing old new) → Keeps old new r
 keeps old new k Plies (Ok More) plies games end goes = goes end (omega (arith, games)) plies
 keeps old new k Plies (Ok (GameEnd m)) plies games end goes = goes end (omega (arith, games)) plies
@@ -51,7 +53,8 @@ module _ (x s : Pass) (view : s ≡ x) (going : IsGoing x) (l : Standing) (unuse
   -- a token of the buffer
   pub keeps_in_buffer : (used : ℕ) → used ≤ length s.unused → unused ≡ drop used s.unused → 0 < length s.unused
       → (t : Token) (r : ReaderState) (games : ℕ) (result : Result Taken Fault)
-      → Scans s.lexer s.unused l used (token t) → OnOk result (r.earlier_plies + r.text.plies ≤ s.reading.earlier_plies + s.reading.text.plies + 1)
+      → Scans s.lexer s.unused l used (token t)
+      → OnOk result (r.earlier_plies + r.text.plies ≤ s.reading.earlier_plies + s.reading.text.plies + 1)
       → IfOk result (λ x. games ≡ games_with x s.games) → IfOk result (TellsEnd t.kind)
       → Keeps x (record s { lexer = l; reading = r; games = games; unused = unused }) result
   keeps_in_buffer used within is some t r games result scans plies counts end =

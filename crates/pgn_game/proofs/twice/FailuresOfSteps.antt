@@ -1,5 +1,6 @@
 -- Which device counts a failure in a step, of the reasons one by one.
-use Rattle.pgn_game.proofs.Words.{Reason, ReadFault, WriteFault, Changed, ◌≡◌, ℕ, Err, refl, ap, subst, ◌∙◌, inl, inr, arith, Device, IsStill, one_more, CountsWrites, CountsReason, CountsDevices, changed_reason}
+use Rattle.pgn_game.proofs.Words.{Reason, ReadFault, WriteFault, Changed, ◌≡◌, ℕ, Err, refl, ap, subst, ◌∙◌, inl, inr, arith, Device}
+use Rattle.pgn_game.proofs.Words.{IsStill, one_more, CountsWrites, CountsReason, CountsDevices, changed_reason}
 use Rattle.pgn_game.specs.CheckedConversion.{CountsThree}
 use Rattle.pgn_game.proofs.tokens.StepsAtEnd.{counts_token}
 

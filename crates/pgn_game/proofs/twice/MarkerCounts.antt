@@ -43,7 +43,8 @@ unfolding refusal
 star_leads q Between part free = refl
 star_leads q _ part free = cc
 
-score_leads : (q : Profile) (stage : Stage) (part : Part) (s : List ℕ) → is_score s ≡ true → refusal q (at_stage stage part) (tokens.symbol s) ≡ None
+score_leads : (q : Profile) (stage : Stage) (part : Part) (s : List ℕ)
+    → is_score s ≡ true → refusal q (at_stage stage part) (tokens.symbol s) ≡ None
     → next (at_stage stage part) (tokens.symbol s) ≡ in_text part (tokens.symbol s)
 unfolding refusal
 score_leads q AfterLeftBracket part s is free =
@@ -91,15 +92,16 @@ same_mode q None = refl
 same_mode q (Some m) = refl
 
 -- The reader agrees with a part in any profile of its mode.
-text_under : (q : Profile) (r : ReaderState) (part : Part) (stage : Stage) → q.mode ≡ r.profile.mode → HoldsText stage r part → HoldsText stage (reading_under q r) part
-text_under q r part InMovetext same h =
-    (subst (λ mode. HoldsItems mode (start_of part.pairs) part.items r.text r.line) (sym same) h.0, h.1)
+text_under : (q : Profile) (r : ReaderState) (part : Part) (stage : Stage) → q.mode ≡ r.profile.mode
+    → HoldsText stage r part → HoldsText stage (reading_under q r) part
+text_under q r part InMovetext same h = (subst (λ mode. HoldsItems mode (start_of part.pairs) part.items r.text r.line) (sym same) h.0, h.1)
 text_under q r part _ same h = h
 
 pub agrees_under : (q : Profile) (r : ReaderState) (part : Part) → q.mode ≡ r.profile.mode → Agrees r part → Agrees (reading_under q r) part
 agrees_under q r part same agrees = record { stage = agrees.stage; pairs = agrees.pairs; text = text_under q r part r.stage same agrees.text }
 
-leads_under : (q : Profile) (r : ReaderState) (to : Next) (accepted : Accepted) → q.mode ≡ r.profile.mode → Leads to accepted r → Leads to accepted (reading_under q r)
+leads_under : (q : Profile) (r : ReaderState) (to : Next) (accepted : Accepted)
+    → q.mode ≡ r.profile.mode → Leads to accepted r → Leads to accepted (reading_under q r)
 leads_under q r (going part) More same h = agrees_under q r part same h
 leads_under q r (going part) Finished same h = absurd h
 leads_under q r (whole g) More same h = absurd h
@@ -107,18 +109,22 @@ leads_under q r (whole g) Finished same h =
     record { agrees = agrees_under q r no_part same h.agrees; pairs = h.pairs; plies = h.plies; position = h.position; probed = h.probed }
 
 -- the same pairs are tried for a token
-tries_under : (q p : Profile) (part : Part) (k : Kind) (n : ℕ) → refusal p part k ≡ refusal q part k → p.mode ≡ q.mode → Tries p part k n → Tries q part k n
+tries_under : (q p : Profile) (part : Part) (k : Kind) (n : ℕ) → refusal p part k ≡ refusal q part k
+    → p.mode ≡ q.mode → Tries p part k n → Tries q part k n
 tries_under q p part k n same mode h = record {
   found = h.found;
   finds = h.finds;
   writes =
-      subst (λ (o : Option Reason). CostsUnlessRefused o q.mode (depth (levels_of_part part)) (position_in part) (added part (next part k)) h.found n) same
-      (subst (λ (m : Mode). CostsUnlessRefused (refusal p part k) m (depth (levels_of_part part)) (position_in part) (added part (next part k)) h.found n) mode h.writes);
+      subst (λ (o : Option Reason).
+      CostsUnlessRefused o q.mode (depth (levels_of_part part)) (position_in part) (added part (next part k)) h.found n) same
+      (subst (λ (m : Mode).
+      CostsUnlessRefused (refusal p part k) m (depth (levels_of_part part)) (position_in part) (added part (next part k)) h.found n) mode h.writes);
 }
 
 -- A token that the reader accepts is accepted under q too. This says nothing of what is written.
 pub accepted_under : (q : Profile) (part : Part) (k : Kind) (old new : ReaderState) (accepted : Accepted) (a c : Option (List ℕ))
-    → old.profile.mode ≡ q.mode → new.profile ≡ old.profile → refusal old.profile part k ≡ refusal q part k → IsAccepted old part k new accepted a c
+    → old.profile.mode ≡ q.mode → new.profile ≡ old.profile
+    → refusal old.profile part k ≡ refusal q part k → IsAccepted old part k new accepted a c
     → IsAccepted (reading_under q old) part k (reading_under q new) accepted None None
 accepted_under q part k old new accepted a c mode kept same h =
     record {
@@ -138,11 +144,13 @@ abbrev is_inside : Row → Bool
 is_inside r = not (is_outside_the_table r.reason)
 
 inside_or : (test : Bool) (first reason : Reason) (rest : Option Reason) → is_outside_the_table first ≡ false
-    → (rest ≡ Some reason → is_outside_the_table reason ≡ false) → or_else test first rest ≡ Some reason → is_outside_the_table reason ≡ false
+    → (rest ≡ Some reason → is_outside_the_table reason ≡ false)
+    → or_else test first rest ≡ Some reason → is_outside_the_table reason ≡ false
 inside_or true first reason rest inside more e = let same : first ≡ reason = cc in ap is_outside_the_table (sym same) ∙ inside
 inside_or false first reason rest inside more e = more e
 
-first_inside : (rs : List Row) (reason : Reason) → IsTrue (list_all is_inside rs) → first_holding rs ≡ Some reason → is_outside_the_table reason ≡ false
+first_inside : (rs : List Row) (reason : Reason) → IsTrue (list_all is_inside rs)
+    → first_holding rs ≡ Some reason → is_outside_the_table reason ≡ false
 first_inside [] reason all e = absurd (cc)
 first_inside (r ∷ rs) reason all e =
     let both = and_parts (is_inside r) (list_all is_inside rs) all in
@@ -152,9 +160,11 @@ lexical_inside : (r : LexReason) → is_outside_the_table (Lexical r) ≡ false
 lexical_inside lex_reasons.StrayByte = refl
 lexical_inside _ = refl
 
-pub refusals_are_inside : (q : Profile) (part : Part) (k : Kind) (reason : Reason) → refusal q part k ≡ Some reason → is_outside_the_table reason ≡ false
+pub refusals_are_inside : (q : Profile) (part : Part) (k : Kind) (reason : Reason)
+    → refusal q part k ≡ Some reason → is_outside_the_table reason ≡ false
 unfolding refusal
-refusals_are_inside q part (tokens.refused r) reason is = let same : Lexical r ≡ reason = cc in ap is_outside_the_table (sym same) ∙ lexical_inside r
+refusals_are_inside q part (tokens.refused r) reason is =
+    let same : Lexical r ≡ reason = cc in ap is_outside_the_table (sym same) ∙ lexical_inside r
 refusals_are_inside q part k reason is = first_inside (rows q part k) reason refl is
 
 -- and such a reason shows a change

@@ -4,10 +4,13 @@ use Rattle.pgn_game.proofs.Words.{Token, Reason, Changed, ReadFault, WriteFault,
 use Rattle.pgn_game.specs.declared.conversion.Totals.{Totals}
 use Rattle.pgn_game.specs.declared.checked.Mark.{Mark as CodeMark}
 use Rattle.pgn_game.specs.Text.{game_text, text_of, torn}
-use Rattle.pgn_game.specs.Progress.{Next, going, whole, next, Progress, progress_with, progress_after, Read, read, refused as is_refused, totals, verdict_of}
-use Rattle.pgn_game.specs.CheckedConversion.{AreConverted, AreTotalled, IsTokenPrefix, Decides, HasTaken, MatchesAllMarks, FirstStops, SecondStops, WriteStops, TwoReadingsFail, TwoReadingsConvert}
+use Rattle.pgn_game.specs.Progress.{Next, going, whole, next, Progress, progress_with, progress_after, Read, read, refused as is_refused, totals}
+use Rattle.pgn_game.specs.Progress.{verdict_of}
+use Rattle.pgn_game.specs.CheckedConversion.{AreConverted, AreTotalled, IsTokenPrefix, Decides, HasTaken, MatchesAllMarks, FirstStops, SecondStops}
+use Rattle.pgn_game.specs.CheckedConversion.{WriteStops, TwoReadingsFail, TwoReadingsConvert}
 use Rattle.pgn_game.specs.declared.checked.Taken.TheVariants.{Game as GameEnd, End}
-use Rattle.pgn_game.specs.Pass.{AfterStep, BothSoFar, ComesNext, HasGiven, HasMarked, Pass, ReadFails, ReadsToLast, StandsIn, TokenFails, as_changed, changed_reason, model_mark, other, part_after, refused, unwritten}
+use Rattle.pgn_game.specs.Pass.{AfterStep, BothSoFar, ComesNext, HasGiven, HasMarked, Pass, ReadFails, ReadsToLast, StandsIn, TokenFails, as_changed}
+use Rattle.pgn_game.specs.Pass.{changed_reason, model_mark, other, part_after, refused, unwritten}
 use Rattle.pgn_game.proofs.EqualReadings.{after_marks, marks_test, after_change, change_test, no_mark}
 use Rattle.pgn_game.proofs.tokens.NextGrows.{next_is}
 use Rattle.pgn_game.proofs.tokens.OneMoreToken.{read-refuses, text_of-snoc}
@@ -18,7 +21,8 @@ use Rattle.pgn_game.proofs.twice.MarksInTurn.{matched_mark, not_changed, both_re
 use Rattle.pgn_game.proofs.twice.StepsToGame.{end_marked, game, game_marked, game_matched, game_written, one_game, stands, tokens as tokens_read}
 
 -- what follows for both texts, if both are known
-both_known : (o n : Option (List ℕ)) (A B : List ℕ → Type 0) (P : List ℕ → List ℕ → Type 0) → IfSome o A → IfSome n B → ((s r : List ℕ) → A s → B r → P s r)
+both_known : (o n : Option (List ℕ)) (A B : List ℕ → Type 0) (P : List ℕ → List ℕ → Type 0)
+    → IfSome o A → IfSome n B → ((s r : List ℕ) → A s → B r → P s r)
     → IfSome o (λ s. IfSome n (λ r. P s r))
 both_known o n A B P first second goes =
     IfSome_then o {P = A} {Q = λ s. IfSome n (λ r. P s r)} first (λ s x. IfSome_then n {P = B} {Q = λ r. P s r} second (λ r y. goes s r x y))
@@ -27,7 +31,8 @@ both_known o n A B P first second goes =
 abbrev Begins : List Token → List ℕ → Type 0
 Begins given s = IsTokenPrefix given (tokens_of s)
 
-begins : (has_ended : Bool) (l : Standing) (unused u : List ℕ) (given : List Token) (o n : Option (List ℕ)) → Consumes o n (u ++ unused) → StandsIn has_ended l unused given u o
+begins : (has_ended : Bool) (l : Standing) (unused u : List ℕ) (given : List Token) (o n : Option (List ℕ))
+    → Consumes o n (u ++ unused) → StandsIn has_ended l unused given u o
     → IfSome o (Begins given)
 begins false l unused u given o n consumed (stands, is_decided) =
     known_left o n (u ++ unused) (Begins given) consumed
@@ -36,7 +41,8 @@ begins true l unused u given o n consumed (left, none, all) =
     IfSome_then o {P = λ s. s ≡ u} {Q = Begins given} all (λ s is. (coming l [], ap tokens_of is ∙ left))
 
 -- the bytes of a source that were read decide the tokens that the reading has given
-decides : (has_ended : Bool) (l : Standing) (unused u : List ℕ) (given : List Token) (d : Device) → Consumes d.before d.after (u ++ unused) → StandsIn has_ended l unused given u d.before
+decides : (has_ended : Bool) (l : Standing) (unused u : List ℕ) (given : List Token) (d : Device)
+    → Consumes d.before d.after (u ++ unused) → StandsIn has_ended l unused given u d.before
     → Decides d given
 decides false l unused u given d consumed (stands, is_decided) =
     Decides.so_far (u ++ unused) consumed
@@ -45,11 +51,13 @@ decides true l unused u given d consumed (left, none, all) =
     let is : u ++ unused ≡ u = ap (λ (l : List ℕ). u ++ l) none ∙ append-nil u in
     Decides.at_end u (subst (Consumes d.before d.after) is consumed) all (coming l [], left)
 
-given_first : (q : Profile) (told : Option CodeMark) (left_old left_now : Option (List ℕ)) (s : Pass) (given : List Token) → HasGiven q told left_old left_now s given
+given_first : (q : Profile) (told : Option CodeMark) (left_old left_now : Option (List ℕ)) (s : Pass) (given : List Token)
+    → HasGiven q told left_old left_now s given
     → IfSome left_old (Begins given)
 given_first q told left_old left_now s given h = begins s.has_ended s.lexer s.unused h.bytes given left_old left_now h.consumed h.stands
 
-pub both_none : (q : Profile) (first second : Option (List ℕ)) (a b : Pass) (o : Option (List ℕ)) → HasGiven q None first first a [] → HasGiven q None second second b []
+pub both_none : (q : Profile) (first second : Option (List ℕ)) (a b : Pass) (o : Option (List ℕ))
+    → HasGiven q None first first a [] → HasGiven q None second second b []
     → BothSoFar q first first second second a b o o
 both_none q first second a b o first_given second_given =
     record {
@@ -65,7 +73,8 @@ both_none q first second a b o first_given second_given =
     }
 
 -- Of a game that ends with the mark, the text under that mark is its text.
-under_mark : (q : Profile) (g : Game) (m : Mark) → q.missing_result ≡ takes_the_marker → g.marker ≡ m.text → game_text q g ≡ game_text (with_mark q m) g
+under_mark : (q : Profile) (g : Game) (m : Mark) → q.missing_result ≡ takes_the_marker
+    → g.marker ≡ m.text → game_text q g ≡ game_text (with_mark q m) g
 under_mark q g m takes same =
     let text : Missing → List ℕ = λ missing. game_text (record { tags = q.tags; depth = q.depth; mode = q.mode; missing_result = missing }) g in
     ap text takes ∙ ap (λ (marker : List ℕ). game_text (with_mark q (record { text = marker; at = m.at })) g) same
@@ -76,16 +85,21 @@ torn-between q [] = refl
 torn-between q (m ∷ ms) = refl
 
 -- what is written when a token is taken that shows no difference
-written_at_token : (q : Profile) (m : Mark) (ms : List Mark) (games : List Game) (t : Token) (n : Next) → q.missing_result ≡ takes_the_marker → is_other m n t ≡ false
-    → written_by q (record { progress = progress_with games n; marks_left = marks_after n m ms; fault = None }) ≡ text_of q games ++ text_next (with_mark q m) n
+written_at_token : (q : Profile) (m : Mark) (ms : List Mark) (games : List Game) (t : Token) (n : Next)
+    → q.missing_result ≡ takes_the_marker → is_other m n t ≡ false
+    → written_by q (record { progress = progress_with games n; marks_left = marks_after n m ms; fault = None })
+    ≡ text_of q games ++ text_next (with_mark q m) n
 written_at_token q m ms games t (going to) takes same = refl
 written_at_token q m ms games t (whole g) takes same =
     let marker = (bytes_eq-Decides g.marker m.text).0 (and_parts _ _ (not-false _ same)).0 in
     cc (torn-between q ms, append-nil (text_of q (games ++ g ∷ [])), text_of-snoc q games g, under_mark q g m takes marker)
 
-pub both_more : (q : Profile) (first_old first_now second_old second_now : Option (List ℕ)) (a b : Pass) (before mid : Option (List ℕ)) (so : BothSoFar q first_old first_now second_old second_now a b before mid)
-    (m x : CodeMark) (new_a new_b : Pass) (first_new second_new after : Option (List ℕ)) → ReadsToLast q None first_old first_new so.first_tokens (Ok (GameEnd m)) new_a None None
-    → ReadsToLast q (Some m) second_old second_new so.second_tokens (Ok (GameEnd x)) new_b mid after → BothSoFar q first_old first_new second_old second_new new_a new_b before after
+pub both_more : (q : Profile) (first_old first_now second_old second_now : Option (List ℕ)) (a b : Pass)
+    (before mid : Option (List ℕ)) (so : BothSoFar q first_old first_now second_old second_now a b before mid)
+    (m x : CodeMark) (new_a new_b : Pass) (first_new second_new after : Option (List ℕ))
+    → ReadsToLast q None first_old first_new so.first_tokens (Ok (GameEnd m)) new_a None None
+    → ReadsToLast q (Some m) second_old second_new so.second_tokens (Ok (GameEnd x)) new_b mid after
+    → BothSoFar q first_old first_new second_old second_new new_a new_b before after
 both_more q first_old first_now second_old second_now a b before mid so m x new_a new_b first_new second_new after reads writes =
     record {
       marks = so.marks ++ model_mark m ∷ [];
@@ -95,11 +109,14 @@ both_more q first_old first_now second_old second_now a b before mid so m x new_
       told = Some m;
       second_tokens = tokens_read q (Some m) second_old second_new so.second_tokens x new_b mid after writes;
       second_stands = stands q (Some m) second_old second_new so.second_tokens x new_b mid after writes;
-      matched = game_matched q (Some m) second_old second_new so.second_tokens x new_b mid after writes m refl (so.marks ++ model_mark m ∷ []) (matched_mark q so.marks (model_mark m) so.second_tokens so.matched);
+      matched = game_matched q (Some m) second_old second_new so.second_tokens x new_b mid after writes m refl
+          (so.marks ++ model_mark m ∷ []) (matched_mark q so.marks (model_mark m) so.second_tokens so.matched);
       written = subst (Appends before after)
           (sym (ap (text_of q) (one_game q (Some m) second_old second_new so.second_tokens x new_b mid after writes)
-          ∙ text_of-snoc q (read q so.second_tokens).progress.games (game q (Some m) second_old second_new so.second_tokens x new_b mid after writes)))
-          (Appends-trans before mid after _ _ so.written (game_written q (Some m) second_old second_new so.second_tokens x new_b mid after writes m refl));
+          ∙ text_of-snoc q (read q so.second_tokens).progress.games
+          (game q (Some m) second_old second_new so.second_tokens x new_b mid after writes)))
+          (Appends-trans before mid after _ _ so.written
+          (game_written q (Some m) second_old second_new so.second_tokens x new_b mid after writes m refl));
     }
 
 module _ (q : Profile) (first second sink : Device) (first_now : Option (List ℕ)) (a b : Pass)
@@ -108,7 +125,8 @@ module _ (q : Profile) (first second sink : Device) (first_now : Option (List �
   at_mark = record { progress = (read q so.second_tokens).progress; marks_left = []; fault = None }
 
   -- where `first` has no mark more, `second` is read no further
-  last_mark : (xs us ts vs ws : List Token) → xs ≡ ts ++ vs → us ≡ so.second_tokens ++ ws → HasMarked q ts so.marks → marks_from q (read q ts).progress vs ≡ [] → compared q xs us ≡ at_mark
+  last_mark : (xs us ts vs ws : List Token) → xs ≡ ts ++ vs → us ≡ so.second_tokens ++ ws
+      → HasMarked q ts so.marks → marks_from q (read q ts).progress vs ≡ [] → compared q xs us ≡ at_mark
   last_mark xs us ts vs ws first second marked none =
       cc (first, second, both_read q ts so.second_tokens vs ws so.marks [] marked so.matched, none, no_mark q (read q so.second_tokens).progress ws)
 
@@ -126,8 +144,10 @@ module _ (q : Profile) (first second sink : Device) (first_now : Option (List �
     subst (λ (f : Comparison). HasTaken sink (written_by q f)) (sym is) written,
   )
 
-  pub both_end : (new_a : Pass) (left_new : Option (List ℕ)) (t : Totals) → ReadsToLast q None first.before left_new so.first_tokens (Ok End) new_a None None → t.games ≡ b.games → t.plies ≡ whole_plies b.reading
-      → t.most_probes ≡ max new_a.reading.most_probes b.reading.most_probes → new_a.reading.most_probes ≤ 1040 → b.reading.most_probes ≤ 1040
+  pub both_end : (new_a : Pass) (left_new : Option (List ℕ)) (t : Totals) → ReadsToLast q None first.before left_new so.first_tokens
+      (Ok End) new_a None None → t.games ≡ b.games → t.plies ≡ whole_plies b.reading
+      → t.most_probes ≡ max new_a.reading.most_probes b.reading.most_probes
+      → new_a.reading.most_probes ≤ 1040 → b.reading.most_probes ≤ 1040
       → TwoReadingsConvert q first second sink (Ok t)
   both_end new_a left_new t reads games plies probes first_bound second_bound =
       let end = reads.last.1 in
@@ -135,16 +155,21 @@ module _ (q : Profile) (first second sink : Device) (first_now : Option (List �
       let h = so.second_stands.has_given.has_read in
       let c : Progress = (read q so.second_tokens).progress in
       let same : totals (record { games = length c.games; plies = sum (map plies_of c.games) }) ≡ verdict_in t =
-      ap (λ n. totals (record { games = n; plies = sum (map plies_of c.games) })) (sym (games ∙ h.games)) ∙ ap (λ n. totals (record { games = t.games; plies = n })) (sym (plies ∙ h.plies)) in
-      both_known first.before second.before (λ s. tokens_of s ≡ tokens) (Begins so.second_tokens) (λ s r. AreTotalled q s r t sink) (end.whole refl) second_begins
+      ap (λ n. totals (record { games = n; plies = sum (map plies_of c.games) })) (sym (games ∙ h.games))
+      ∙ ap (λ n. totals (record { games = t.games; plies = n })) (sym (plies ∙ h.plies)) in
+      both_known first.before second.before (λ s. tokens_of s ≡ tokens)
+      (Begins so.second_tokens) (λ s r. AreTotalled q s r t sink) (end.whole refl) second_begins
       (λ s r x y.
-      let is = last_mark (tokens_of s) (tokens_of r) tokens [] y.0 (x ∙ sym (append-nil tokens)) y.1 (end_marked q None first.before left_new so.first_tokens new_a None None so.marks reads so.marked) refl in
+      let is = last_mark (tokens_of s) (tokens_of r) tokens [] y.0 (x ∙ sym (append-nil tokens)) y.1
+      (end_marked q None first.before left_new so.first_tokens new_a None None so.marks reads so.marked) refl in
       record {
-        converted = subst (λ v. AreConverted q s r v sink) same (converted s r None is (ap (λ (ts : List Token). (read q ts).fault) x ∙ end.has_read.passes));
+        converted = subst (λ v. AreConverted q s r v sink) same
+            (converted s r None is (ap (λ (ts : List Token). (read q ts).fault) x ∙ end.has_read.passes));
         probes = record {
           most = omega (arith, probes, first_bound, second_bound);
           some = λ moves.
-              let some : 0 < b.reading.most_probes = h.probed (in_games c (subst (λ (f : Comparison). IsTrue (play_moves f.progress.games)) is moves)) in
+              let some : 0 < b.reading.most_probes =
+              h.probed (in_games c (subst (λ (f : Comparison). IsTrue (play_moves f.progress.games)) is moves)) in
               omega (arith, probes, some);
           tried = record {
             front = so.second_tokens;
@@ -162,7 +187,8 @@ module _ (q : Profile) (first second sink : Device) (first_now : Option (List �
       })
 
   -- `first` gives no token more
-  ends_first : (tokens : List Token) (u : List ℕ) → (read q tokens).fault ≡ None → HasMarked q tokens so.marks → tokens ≡ decided u → FirstStops q u second sink
+  ends_first : (tokens : List Token) (u : List ℕ) → (read q tokens).fault ≡ None
+      → HasMarked q tokens so.marks → tokens ≡ decided u → FirstStops q u second sink
   ends_first tokens u passes marked is_decided =
       record {
         passes = subst (λ (ts : List Token). (read q ts).fault ≡ None) is_decided passes;
@@ -176,14 +202,16 @@ module _ (q : Profile) (first second sink : Device) (first_now : Option (List �
             });
       }
 
-  first_unread : {f : Fault} (tokens : List Token) → (read q tokens).fault ≡ None → HasMarked q tokens so.marks → (f.reason ≡ ReadFault → FailsOnce first) → ReadFails first.before first.after tokens f
+  first_unread : {f : Fault} (tokens : List Token) → (read q tokens).fault ≡ None → HasMarked q tokens so.marks
+      → (f.reason ≡ ReadFault → FailsOnce first) → ReadFails first.before first.after tokens f
       → TwoReadingsFail q first second sink f
   first_unread tokens passes marked counts (ReadFails.unread u consumed is_decided) =
       TwoReadingsFail.first_unread u consumed (counts refl) (ends_first tokens u passes marked is_decided)
   first_unread tokens passes marked counts (ReadFails.too_long u rest consumed place some is_decided) =
       TwoReadingsFail.first_too_long u rest consumed place some (ends_first tokens u passes marked is_decided)
 
-  first_at : (f : Fault) (tokens : List Token) (t : Token) (a c : Option (List ℕ)) → (read q tokens).fault ≡ None → HasMarked q tokens so.marks → ComesNext first.before tokens t
+  first_at : (f : Fault) (tokens : List Token) (t : Token) (a c : Option (List ℕ))
+      → (read q tokens).fault ≡ None → HasMarked q tokens so.marks → ComesNext first.before tokens t
       → TokenFails q (part_after q tokens) None t a c f → (f.reason ≡ WriteFault → ⊥) → TwoReadingsFail q first second sink f
   first_at f tokens t a c passes marked comes (other reason changed differs told wrote) no_write = absurd (cc)
   first_at f tokens t a c passes marked comes (unwritten same wrote) no_write = absurd (no_write refl)
@@ -191,11 +219,13 @@ module _ (q : Profile) (first second sink : Device) (first_now : Option (List �
       let f : Fault = record { at = t.at; reason = reason } in
       let c : Progress = (read q tokens).progress in
       TwoReadingsFail.refused f
-      (both_known first.before second.before (λ s. (ts : List Token) × (tokens_of s ≡ tokens ++ t ∷ ts)) (Begins so.second_tokens) (λ s r. AreConverted q s r (is_refused f) sink) comes second_begins
+      (both_known first.before second.before (λ s. (ts : List Token) × (tokens_of s ≡ tokens ++ t ∷ ts))
+      (Begins so.second_tokens) (λ s r. AreConverted q s r (is_refused f) sink) comes second_begins
       (λ s r x y.
       let none : marks_from q c (t ∷ x.0) ≡ [] = marks_test q c t x.0 ∙ ap (after_marks q c t x.0) rejected in
       let is = last_mark (tokens_of s) (tokens_of r) tokens (t ∷ x.0) y.0 x.1 y.1 marked none in
-      converted s r (Some f) is (ap (λ (ts : List Token). (read q ts).fault) x.1 ∙ ap (λ (r : Read). r.fault) (read-refuses q tokens t x.0 reason passes rejected))))
+      converted s r (Some f) is
+      (ap (λ (ts : List Token). (read q ts).fault) x.1 ∙ ap (λ (r : Read). r.fault) (read-refuses q tokens t x.0 reason passes rejected))))
 
   pub first_stops : (f : Fault) (new_a : Pass) → (f.reason ≡ ReadFault → FailsOnce first) → (f.reason ≡ WriteFault → ⊥)
       → ReadsToLast q None first.before first.after so.first_tokens (Err f) new_a None None → TwoReadingsFail q first second sink f
@@ -237,10 +267,12 @@ module _ (q : Profile) (first second sink : Device) (first_now second_now mid : 
   first_decides : Decides first first_tokens
   first_decides = decides new_a.has_ended new_a.lexer new_a.unused first_given.bytes first_tokens first first_given.consumed first_given.stands
 
-  goes : (xs us vs ws : List Token) → xs ≡ first_tokens ++ vs → us ≡ tokens ++ ws → compared q xs us ≡ compared_from q (mark ∷ behind vs) c ws
+  goes : (xs us vs ws : List Token) → xs ≡ first_tokens ++ vs → us ≡ tokens ++ ws
+      → compared q xs us ≡ compared_from q (mark ∷ behind vs) c ws
   goes xs us vs ws is also =
       ap (λ (l : List Token). compared q l us) is ∙ ap (compared q (first_tokens ++ vs)) also
-      ∙ both_read q first_tokens tokens vs ws (so.marks ++ mark ∷ []) (mark ∷ []) (game_marked q None first.before first.after so.first_tokens m new_a None None reads so.marks so.marked)
+      ∙ both_read q first_tokens tokens vs ws (so.marks ++ mark ∷ []) (mark ∷ [])
+      (game_marked q None first.before first.after so.first_tokens m new_a None None reads so.marks so.marked)
       (writes.so.matched m (so.marks ++ mark ∷ []) refl (matched_mark q so.marks mark so.second_tokens so.matched))
 
   -- what is written of this game stands behind the games
@@ -264,15 +296,18 @@ module _ (q : Profile) (first second sink : Device) (first_now second_now mid : 
         appended = subst (λ (f : Comparison). HasTaken sink (written_by q f)) (sym is) (torn_written wrote);
       }
 
-  second_unread : {f : Fault} → ReadFails second.before second.after tokens f → (changed_reason f.reason ≡ ReadFault → FailsOnce second) → Appends writes.mid sink.after []
+  second_unread : {f : Fault} → ReadFails second.before second.after tokens f
+      → (changed_reason f.reason ≡ ReadFault → FailsOnce second) → Appends writes.mid sink.after []
       → TwoReadingsFail q first second sink (as_changed f)
-  second_unread (ReadFails.unread u consumed is_decided) counts wrote = TwoReadingsFail.second_unread u consumed (counts refl) (ends_second u is_decided wrote)
+  second_unread (ReadFails.unread u consumed is_decided) counts wrote =
+      TwoReadingsFail.second_unread u consumed (counts refl) (ends_second u is_decided wrote)
   second_unread (ReadFails.too_long u rest consumed place some is_decided) counts wrote =
       TwoReadingsFail.second_too_long u rest consumed place some (ends_second u is_decided wrote)
 
   -- a write failed at a token
   stops_at : (t : Token) → is_changed q mark c.part t ≡ false → (n : ℕ) → n < length (gain under c.part t.kind)
-      → Appends writes.mid sink.after (take n (gain under c.part t.kind)) → (r : List ℕ) → (us : List Token) × (tokens_of r ≡ tokens ++ t ∷ us)
+      → Appends writes.mid sink.after (take n (gain under c.part t.kind))
+      → (r : List ℕ) → (us : List Token) × (tokens_of r ≡ tokens ++ t ∷ us)
       → WriteStops q first (tokens_of r) t.at sink
   stops_at t same n short wrote r y =
       let games : List ℕ = text_of q c.games in
@@ -280,11 +315,13 @@ module _ (q : Profile) (first second sink : Device) (first_now second_now mid : 
       let more : List ℕ = gain under c.part t.kind in
       let marks : List Mark = marks_after (next c.part t.kind) mark [] in
       let none : first_tokens ≡ first_tokens ++ [] = sym (append-nil first_tokens) in
-      let at_front : compared q first_tokens tokens ≡ record { progress = c; marks_left = mark ∷ []; fault = None } = goes first_tokens tokens [] [] none (sym (append-nil tokens)) in
+      let at_front : compared q first_tokens tokens ≡ record { progress = c; marks_left = mark ∷ []; fault = None } =
+      goes first_tokens tokens [] [] none (sym (append-nil tokens)) in
       let at_token : compared q first_tokens (tokens ++ t ∷ []) ≡ record { progress = progress_after c t; marks_left = marks; fault = None } =
       goes first_tokens (tokens ++ t ∷ []) [] (t ∷ []) none refl ∙ change_test q mark [] c t [] ∙ ap (after_change q mark [] c t []) same in
       let text : written_by q (compared q first_tokens (tokens ++ t ∷ [])) ≡ (games ++ before_it) ++ more =
-      ap (written_by q) at_token ∙ written_at_token q mark [] c.games t (next c.part t.kind) writes.so.has_given.takes (not_changed q mark c.part t same).1
+      ap (written_by q) at_token
+      ∙ written_at_token q mark [] c.games t (next c.part t.kind) writes.so.has_given.takes (not_changed q mark c.part t same).1
       ∙ ap (λ (l : List ℕ). games ++ l) (next_is under c.part t.kind) ∙ sym (append_assoc games before_it more) in
       let front : games ++ (before_it ++ take n more) ≡ take (length (games ++ before_it) + n) ((games ++ before_it) ++ more) =
       sym (append_assoc games before_it (take n more)) ∙ sym (take-append-add (games ++ before_it) more n) in
@@ -299,8 +336,10 @@ module _ (q : Profile) (first second sink : Device) (first_now second_now mid : 
         fault = ap (λ (f : Comparison). f.fault) at_token;
         count = length (games ++ before_it) + n;
         least = subst (λ (f : Comparison). length (written_by q f) ≤ length (games ++ before_it) + n) (sym at_front) (omega arith);
-        short = subst (λ (l : List ℕ). length (games ++ before_it) + n < length l) (sym text) (omega (arith, short, length-append (games ++ before_it) more));
-        appended = subst (λ (l : List ℕ). HasTaken sink (take (length (games ++ before_it) + n) l)) (sym text) (subst (HasTaken sink) front (all_written _ wrote));
+        short = subst (λ (l : List ℕ). length (games ++ before_it) + n < length l)
+            (sym text) (omega (arith, short, length-append (games ++ before_it) more));
+        appended = subst (λ (l : List ℕ). HasTaken sink (take (length (games ++ before_it) + n) l))
+            (sym text) (subst (HasTaken sink) front (all_written _ wrote));
       }
 
   second_differs : (t : Token) → ComesNext second.before tokens t → is_changed q mark c.part t ≡ true → Appends writes.mid sink.after []
@@ -308,28 +347,34 @@ module _ (q : Profile) (first second sink : Device) (first_now second_now mid : 
   second_differs t comes changed wrote =
       let f : Fault = record { at = t.at; reason = Changed } in
       TwoReadingsFail.refused f
-      (both_known first.before second.before (Begins first_tokens) (λ r. (us : List Token) × (tokens_of r ≡ tokens ++ t ∷ us)) (λ s r. AreConverted q s r (is_refused f) sink) (given_first q None first.before first.after new_a first_tokens first_given) comes
+      (both_known first.before second.before (Begins first_tokens) (λ r. (us : List Token) × (tokens_of r ≡ tokens ++ t ∷ us))
+      (λ s r. AreConverted q s r (is_refused f) sink) (given_first q None first.before first.after new_a first_tokens first_given) comes
       (λ s r x y.
       let is : compared q (tokens_of s) (tokens_of r) ≡ record { progress = c; marks_left = mark ∷ behind x.0; fault = Some f } =
-      goes (tokens_of s) (tokens_of r) x.0 (t ∷ y.0) x.1 y.1 ∙ change_test q mark (behind x.0) c t y.0 ∙ ap (after_change q mark (behind x.0) c t y.0) changed in (
+      goes (tokens_of s) (tokens_of r) x.0 (t ∷ y.0) x.1 y.1 ∙ change_test q mark (behind x.0) c t y.0
+      ∙ ap (after_change q mark (behind x.0) c t y.0) changed in (
         ap (λ (z : Comparison). verdict_of (record { progress = z.progress; fault = earlier_fault z.fault (read q (tokens_of s)).fault })) is,
         subst (λ (z : Comparison). HasTaken sink (written_by q z)) (sym is) (torn_written wrote),
       )))
 
-  second_at : {f : Fault} (t : Token) → ComesNext second.before tokens t → TokenFails q c.part (Some m) t writes.mid sink.after f → TwoReadingsFail q first second sink (as_changed f)
+  second_at : {f : Fault} (t : Token) → ComesNext second.before tokens t
+      → TokenFails q c.part (Some m) t writes.mid sink.after f → TwoReadingsFail q first second sink (as_changed f)
   second_at t comes (refused reason some wrote) =
-      subst (λ r. TwoReadingsFail q first second sink (record { at = t.at; reason = r })) (sym (changes reason (refusals_are_inside q c.part t.kind reason some)))
+      subst (λ r. TwoReadingsFail q first second sink (record { at = t.at; reason = r }))
+      (sym (changes reason (refusals_are_inside q c.part t.kind reason some)))
       (second_differs t comes (ap (λ (o : Option Reason). is_some o || is_other mark (next c.part t.kind) t) some) wrote)
   second_at t comes (other reason changed differs told wrote) =
       subst (λ r. TwoReadingsFail q first second sink (record { at = t.at; reason = r })) (sym changed) (second_differs t comes differs wrote)
   second_at t comes (unwritten same (n, short, wrote)) =
       TwoReadingsFail.unwritten t.at
-      (IfSome_then second.before {P = λ r. (us : List Token) × (tokens_of r ≡ tokens ++ t ∷ us)} {Q = λ r. WriteStops q first (tokens_of r) t.at sink} comes
+      (IfSome_then second.before {P = λ r. (us : List Token) × (tokens_of r ≡ tokens ++ t ∷ us)}
+      {Q = λ r. WriteStops q first (tokens_of r) t.at sink} comes
       (stops_at t same n short wrote))
 
   pub second_stops : (changed_reason e.reason ≡ ReadFault → FailsOnce second) → TwoReadingsFail q first second sink (as_changed e)
   second_stops counts = by_last writes.last
     where
-      by_last : AfterStep q second.before second.after (Some m) tokens new_b (Err e) writes.mid sink.after → TwoReadingsFail q first second sink (as_changed e)
+      by_last : AfterStep q second.before second.after (Some m) tokens new_b (Err e) writes.mid sink.after
+          → TwoReadingsFail q first second sink (as_changed e)
       by_last (inl fails) = second_at fails.token fails.comes fails.fails
       by_last (inr (fails, wrote)) = second_unread fails counts wrote

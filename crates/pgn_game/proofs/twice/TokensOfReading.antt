@@ -7,7 +7,8 @@ use Rattle.pgn_game.specs.declared.checked.Mark.{Mark as CodeMark}
 use Rattle.pgn_game.specs.declared.checked.Taken.{Taken}
 use Rattle.pgn_game.specs.declared.checked.Taken.TheVariants.{More, Game as GameEnd, End}
 use Rattle.pgn_game.proofs.Words.{Token, Lexical, Fault, Profile, takes_the_marker, Part, ◌≡◌, ℕ, ◌+◌, ◌-◌, ◌<◌, ◌≤◌, inl, inr, Bool, true, false, List, [], ◌∷◌, ◌++◌, length, take, drop, Option, None, Some, Result, Ok, Err, IfSome, refl, sym, ap, subst, ◌∙◌, append_assoc, append-nil, length-take, arith, IfOk, drop-drop, drop-take, Appends-nil, Consumes, tokens_of, IsLast, RisesTo, TokensRise, Standing, coming, is_end, Raises, IsAccepted, ReaderState, HasRead}
-use Rattle.pgn_game.specs.Pass.{AfterStep, AfterToken, ComesNext, HasGiven, Pass, StandsIn, Steps, TakesKind, TakesOn, TakesToken, TellsEnd, accepted_of, as_converter, games_with, part_after, profile_under, reading_under, refused}
+use Rattle.pgn_game.specs.Pass.{AfterStep, AfterToken, ComesNext, HasGiven, Pass, StandsIn, Steps, TakesKind, TakesOn, TakesToken, TellsEnd}
+use Rattle.pgn_game.specs.Pass.{accepted_of, as_converter, games_with, part_after, profile_under, reading_under, refused}
 use Rattle.pgn_game.proofs.tokens.AcceptedToConverter.{follows_first, follows_own, has_read_game, has_read_more, lexical-refusal, still_none}
 use Rattle.pgn_game.proofs.tokens.StepsAtEnd.{Left, Nearer, is_the_end, left_by, let_go, nearer_by, tokens_left}
 use Rattle.pgn_game.proofs.tokens.StepsInPiece.{whole_piece}
@@ -16,10 +17,12 @@ use Rattle.pgn_game.proofs.twice.MarkerCounts.{agrees_under, same_mode}
 
 -- The lexer gave a token. It is the next one of the text, and the reading goes on behind it; behind
 -- the end there is nothing.
-pub record Came (left_old left_now : Option (List ℕ)) (l : Standing) (unused : List ℕ) (has_ended : Bool) (given : List Token) (t : Token) : Type 0 where
+pub record Came (left_old left_now : Option (List ℕ)) (l : Standing)
+    (unused : List ℕ) (has_ended : Bool) (given : List Token) (t : Token) : Type 0 where
   pub comes : ComesNext left_old given t
   pub behind : is_end t.kind ≡ false
-      → (bytes : List ℕ) × Consumes left_old left_now (bytes ++ unused) × StandsIn has_ended l unused (given ++ t ∷ []) bytes left_old × (l.count ≡ length bytes)
+      → (bytes : List ℕ) × Consumes left_old left_now (bytes ++ unused)
+      × StandsIn has_ended l unused (given ++ t ∷ []) bytes left_old × (l.count ≡ length bytes)
   pub whole : is_end t.kind ≡ true → IfSome left_old (λ s. tokens_of s ≡ given ++ t ∷ [])
 
 -- the end is the last token
@@ -29,20 +32,24 @@ none_behind [] t (u ∷ ts) last rises = absurd (rises.0 last)
 none_behind (x ∷ []) t ts last rises = none_behind [] t ts last rises.2
 none_behind (x ∷ y ∷ given) t ts last rises = none_behind (y ∷ given) t ts last rises.2
 
-only_end : TokensRise → (s : List ℕ) (given : List Token) (t : Token) → is_end t.kind ≡ true → (ts : List Token) × (tokens_of s ≡ given ++ t ∷ ts) → tokens_of s ≡ given ++ t ∷ []
+only_end : TokensRise → (s : List ℕ) (given : List Token) (t : Token) → is_end t.kind ≡ true
+    → (ts : List Token) × (tokens_of s ≡ given ++ t ∷ ts) → tokens_of s ≡ given ++ t ∷ []
 only_end rise s given t is_e (ts, cut) =
-    cut ∙ ap (λ (us : List Token). given ++ t ∷ us) (none_behind given t ts (subst IsLast (sym (is_the_end t.kind is_e)) tt) (subst RisesTo cut (rise s)))
+    cut ∙ ap (λ (us : List Token). given ++ t ∷ us)
+    (none_behind given t ts (subst IsLast (sym (is_the_end t.kind is_e)) tt) (subst RisesTo cut (rise s)))
 
 if_some : (o : Option (List ℕ)) (P Q : List ℕ → Type 0) → ((s : List ℕ) → P s → Q s) → IfSome o P → IfSome o Q
 if_some None P Q f h = tt
 if_some (Some s) P Q f h = f s h
 
 -- In the buffer.
-module _ (left_old left_now : Option (List ℕ)) (unused bytes : List ℕ) (given : List Token) (new : Standing) (used : ℕ) (consumed : Consumes left_old left_now (bytes ++ unused)) where
+module _ (left_old left_now : Option (List ℕ)) (unused bytes : List ℕ) (given : List Token)
+    (new : Standing) (used : ℕ) (consumed : Consumes left_old left_now (bytes ++ unused)) where
   here : Consumes left_old left_now ((bytes ++ take used unused) ++ drop used unused)
   here = subst (Consumes left_old left_now) (sym (whole_piece bytes unused used)) consumed
 
-  pub came_in_buffer : TokensRise → (t : Token) → AfterScan bytes (first unused) given unused new used (token t) → Came left_old left_now new (drop used unused) false given t
+  pub came_in_buffer : TokensRise → (t : Token) → AfterScan bytes (first unused) given unused new used (token t)
+      → Came left_old left_now new (drop used unused) false given t
   came_in_buffer rise t scan =
       let comes : ComesNext left_old given t =
       known_left left_old left_now _ (λ s. (ts : List Token) × (tokens_of s ≡ given ++ t ∷ ts)) here
@@ -58,7 +65,8 @@ module _ (left_old left_now : Option (List ℕ)) (unused bytes : List ℕ) (give
         whole = λ is. if_some left_old _ _ (λ s h. only_end rise s given t is h) comes;
       }
 
-  pub fault_in_buffer : (f : LexFault) → AfterScan bytes (first unused) given unused new used (fault f) → ComesNext left_old given (refusal_token f)
+  pub fault_in_buffer : (f : LexFault) → AfterScan bytes (first unused) given unused new used (fault f)
+      → ComesNext left_old given (refusal_token f)
   fault_in_buffer f scan =
       known_left left_old left_now _ (λ s. (ts : List Token) × (tokens_of s ≡ given ++ refusal_token f ∷ ts)) consumed
       (λ rest. ([], scan.0 rest (follows_still unused rest)))
@@ -69,7 +77,8 @@ module _ (left_old left_now : Option (List ℕ)) (unused bytes : List ℕ) (give
 
   -- no token ends in it
   pub none_in_buffer : AfterScan bytes (first unused) given unused new used more → 0 < length unused
-      → Consumes left_old left_now ((bytes ++ unused) ++ []) × StandsIn false new [] given (bytes ++ unused) left_old × (new.count ≡ length (bytes ++ unused))
+      → Consumes left_old left_now ((bytes ++ unused) ++ [])
+      × StandsIn false new [] given (bytes ++ unused) left_old × (new.count ≡ length (bytes ++ unused))
   none_in_buffer scan some = (
     subst (Consumes left_old left_now) (sym (append-nil (bytes ++ unused))) consumed,
     (subst (λ b. StandsAfter new (bytes ++ unused) b given) (still_none (first unused) unused some) scan.1, inl (scan.2 some)),
@@ -77,11 +86,13 @@ module _ (left_old left_now : Option (List ℕ)) (unused bytes : List ℕ) (give
   )
 
 -- Where the source has ended.
-module _ (left_old left_now : Option (List ℕ)) (bytes : List ℕ) (given : List Token) (old new : Standing) (consumed : Consumes left_old left_now (bytes ++ [])) (all : IfSome left_old (λ s. s ≡ bytes)) where
+module _ (left_old left_now : Option (List ℕ)) (bytes : List ℕ) (given : List Token) (old new : Standing)
+    (consumed : Consumes left_old left_now (bytes ++ [])) (all : IfSome left_old (λ s. s ≡ bytes)) where
   of_whole : (P : List ℕ → Type 0) → P bytes → IfSome left_old P
   of_whole P h = if_some left_old (λ s. s ≡ bytes) P (λ s is. subst P (sym is) h) all
 
-  pub came_at_end : (t : Token) → IsNext bytes given t.kind new t → (is_end t.kind ≡ false → new.count ≡ length bytes) → Came left_old left_now new [] true given t
+  pub came_at_end : (t : Token) → IsNext bytes given t.kind new t
+      → (is_end t.kind ≡ false → new.count ≡ length bytes) → Came left_old left_now new [] true given t
   came_at_end t is_next count =
       let left = left_by bytes given t.kind new t is_next in
       record {
@@ -94,8 +105,10 @@ module _ (left_old left_now : Option (List ℕ)) (bytes : List ℕ) (given : Lis
   fault_at_end f cut = of_whole (λ s. (ts : List Token) × (tokens_of s ≡ given ++ refusal_token f ∷ ts)) ([], cut)
 
 -- What was taken.
-module _ (q : Profile) (left_old left_now : Option (List ℕ)) (told : Option CodeMark) (given : List Token) (t : Token) (old new : Pass) (a c : Option (List ℕ))
-    (takes : q.missing_result ≡ takes_the_marker) (profile : old.reading.profile ≡ profile_under q told) (has_read : HasRead q (as_converter q old) given)
+module _ (q : Profile) (left_old left_now : Option (List ℕ)) (told : Option CodeMark)
+    (given : List Token) (t : Token) (old new : Pass) (a c : Option (List ℕ))
+    (takes : q.missing_result ≡ takes_the_marker) (profile : old.reading.profile ≡ profile_under q told)
+    (has_read : HasRead q (as_converter q old) given)
     (came : Came left_old left_now new.lexer new.unused new.has_ended given t) where
   abbrev part : Part
   part = part_after q given
@@ -106,11 +119,15 @@ module _ (q : Profile) (left_old left_now : Option (List ℕ)) (told : Option Co
   read_on : (taken : Taken) → IsAccepted (reading_under q old.reading) part t.kind (reading_under q new.reading) (accepted_of taken) None None
       → HasRead q (record (as_converter q new) { games = games_with taken old.games }) (given ++ t ∷ [])
   read_on (GameEnd m) h =
-      let_go q _ _ (has_read_game q (as_converter q old) given t new.lexer (reading_under q new.reading) false has_read refl (raised _ _ h.tried) h.free h.leads h.plies h.tried)
-  read_on More h = has_read_more q (as_converter q old) given t new.lexer (reading_under q new.reading) false has_read refl (raised _ _ h.tried) h.free h.leads h.plies h.tried
-  read_on End h = has_read_more q (as_converter q old) given t new.lexer (reading_under q new.reading) false has_read refl (raised _ _ h.tried) h.free h.leads h.plies h.tried
+      let_go q _ _ (has_read_game q (as_converter q old) given t new.lexer
+      (reading_under q new.reading) false has_read refl (raised _ _ h.tried) h.free h.leads h.plies h.tried)
+  read_on More h = has_read_more q (as_converter q old) given t new.lexer
+      (reading_under q new.reading) false has_read refl (raised _ _ h.tried) h.free h.leads h.plies h.tried
+  read_on End h = has_read_more q (as_converter q old) given t new.lexer
+      (reading_under q new.reading) false has_read refl (raised _ _ h.tried) h.free h.leads h.plies h.tried
 
-  takes_on : (taken : Taken) → TakesToken q part told t old.reading new.reading taken a c → new.games ≡ games_with taken old.games → TellsEnd t.kind taken
+  takes_on : (taken : Taken) → TakesToken q part told t old.reading new.reading taken a c
+      → new.games ≡ games_with taken old.games → TellsEnd t.kind taken
       → TakesOn q left_old left_now told given t new taken a c
   takes_on taken took games end =
       let has_read : HasRead q (as_converter q new) (given ++ t ∷ []) =
@@ -125,22 +142,26 @@ module _ (q : Profile) (left_old left_now : Option (List ℕ)) (told : Option Co
         end = end;
       }
 
-  pub taken : (r : Result Taken Fault) → AfterToken q part told t old.reading new.reading r a c → IfOk r (λ x. new.games ≡ games_with x old.games) → IfOk r (TellsEnd t.kind)
+  pub taken : (r : Result Taken Fault) → AfterToken q part told t old.reading new.reading r a c
+      → IfOk r (λ x. new.games ≡ games_with x old.games) → IfOk r (TellsEnd t.kind)
       → AfterStep q left_old left_now told given new r a c
   taken (Ok More) took games end = inr (t, takes_on More took games end)
   taken (Ok (GameEnd m)) took games end = (t, takes_on (GameEnd m) took games end)
   taken (Ok End) took games end = (t, takes_on End took games end)
   taken (Err f) fails games end = inl (record { token = t; comes = came.comes; fails = fails })
 
-module _ (q : Profile) (left_old left : Option (List ℕ)) (told : Option CodeMark) (given : List Token) (s : Pass) (has : HasGiven q told left_old left s given) where
+module _ (q : Profile) (left_old left : Option (List ℕ)) (told : Option CodeMark)
+    (given : List Token) (s : Pass) (has : HasGiven q told left_old left s given) where
   -- a token that the lexer gave, and what the reader did with it
   reads : (t : Token) (new : Pass) (result : Result Taken Fault) (a c : Option (List ℕ))
       → Came left_old left new.lexer new.unused new.has_ended given t
-      → TakesKind told t.kind t.at s.reading new.reading result a c → IfOk result (λ x. new.games ≡ games_with x s.games) → IfOk result (TellsEnd t.kind)
+      → TakesKind told t.kind t.at s.reading new.reading result a c
+      → IfOk result (λ x. new.games ≡ games_with x s.games) → IfOk result (TellsEnd t.kind)
       → AfterStep q left_old left told given new result a c
   reads t new result a c came h games end =
       taken q left_old left told given t s new a c has.takes has.profile has.has_read came result
-      (h q (part_after q given) has.takes has.profile (agrees_under s.reading.profile (reading_under q s.reading) (part_after q given) (ap (λ (p : Profile). p.mode) has.profile ∙ same_mode q told) has.has_read.agrees)) games end
+      (h q (part_after q given) has.takes has.profile (agrees_under s.reading.profile (reading_under q s.reading)
+      (part_after q given) (ap (λ (p : Profile). p.mode) has.profile ∙ same_mode q told) has.has_read.agrees)) games end
 
   -- where the source has ended
   module _ (ended : s.has_ended ≡ true) where
@@ -175,7 +196,11 @@ module _ (left : Option (List ℕ)) (told : Option CodeMark) (x s : Pass) (view 
       → ComesNext left_old given (refusal_token f)
       → AfterStep q left_old left told given y (Err (record { at = f.at; reason = Lexical f.reason })) o o
   fails_lexical q left_old given f y o comes =
-      inl (record { token = refusal_token f; comes = comes; fails = refused (Lexical f.reason) (lexical-refusal q (part_after q given) f) (Appends-nil o) })
+      inl (record {
+        token = refusal_token f;
+        comes = comes;
+        fails = refused (Lexical f.reason) (lexical-refusal q (part_after q given) f) (Appends-nil o);
+      })
 
   -- Where the source has ended.
   module _ (ended : s.has_ended ≡ true) where
@@ -251,4 +276,5 @@ pub rest_of : (start end used : ℕ) (buffer : List ℕ) → used ≤ length (ta
     → take (end - (start + used)) (drop (start + used) buffer) ≡ drop used (take (end - start) (drop start buffer))
 rest_of start end used buffer within =
     let whole : end - start ≡ used + (end - (start + used)) = omega (arith, within, length-take (end - start) (drop start buffer)) in
-    sym (ap (λ n. drop used (take n (drop start buffer))) whole ∙ drop-take used (end - (start + used)) (drop start buffer) ∙ ap (take (end - (start + used))) (drop-drop used start buffer))
+    sym (ap (λ n. drop used (take n (drop start buffer))) whole ∙ drop-take used (end - (start + used)) (drop start buffer)
+    ∙ ap (take (end - (start + used))) (drop-drop used start buffer))

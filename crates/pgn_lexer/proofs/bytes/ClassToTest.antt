@@ -40,7 +40,8 @@ module _ (sy le bl su pe qu da br se lb rb lp rp pd ast re co : Bool) where
 
 abbrev pub ClassSays : ℕ → Class → Type 0
 ClassSays b c =
-    Says (starts_symbol b) (is_line_end b) (is_blank b) (is_suffix b) (b == 37) (b == 34) (b == 36) (b == 123) (b == 59) (b == 91) (b == 93) (b == 40) (b == 41) (b == 46) (b == 42) ((b == 60) || (b == 62)) (is_control b) c
+    Says (starts_symbol b) (is_line_end b) (is_blank b) (is_suffix b) (b == 37) (b == 34) (b == 36) (b == 123)
+    (b == 59) (b == 91) (b == 93) (b == 40) (b == 41) (b == 46) (b == 42) ((b == 60) || (b == 62)) (is_control b) c
 
 pub class_says : (b : ℕ) → ClassSays b (class b)
 class_says b = says_of _ _ _ _ _ _ _ _ _ _ _ _ _ _ _ _ _

@@ -9,16 +9,14 @@ pub record IsNumber (n : ℕ) (ds : List ℕ) : Type 0 where
   pub value : number_of ds ≡ n
   pub some : 0 < length ds
 
-all_append : (p : ℕ → Bool) (xs ys : List ℕ) → list_all p xs ≡ true → list_all p ys ≡ true
-    → list_all p (xs ++ ys) ≡ true
+all_append : (p : ℕ → Bool) (xs ys : List ℕ) → list_all p xs ≡ true → list_all p ys ≡ true → list_all p (xs ++ ys) ≡ true
 all_append p [] ys all more = more
 all_append p (x ∷ xs) ys all more = grind (arith, all_append p xs ys)
 
 one_digit : (n : ℕ) → n < 10 → IsNumber n ((48 + n) ∷ [])
 one_digit n low = grind arith
 
-last_digit : (n : ℕ) (ds : List ℕ) → 10 ≤ n → IsNumber (n / 10) ds
-    → IsNumber n (ds ++ ((48 + n % 10) ∷ []))
+last_digit : (n : ℕ) (ds : List ℕ) → 10 ≤ n → IsNumber (n / 10) ds → IsNumber n (ds ++ ((48 + n % 10) ∷ []))
 last_digit n ds high front = grind (arith, fold-append, all_append, length-append)
 
 pub number_written : (n : ℕ) → n < 2 ^ 64 → IsNumber n (decimal n)

@@ -21,7 +21,8 @@ split p (b ∷ s) =
     let h = split p s in
     let less = h.shorter in
     elim (cases_Bool (p b)) [
-      | inl e ↦ record { run = b ∷ h.run; rest = h.rest; cut = ap (λ l. b ∷ l) h.cut; all = both_true e h.all; stop = h.stop; shorter = omega arith }
+      | inl e ↦
+          record { run = b ∷ h.run; rest = h.rest; cut = ap (λ l. b ∷ l) h.cut; all = both_true e h.all; stop = h.stop; shorter = omega arith }
       | inr e ↦ record { run = []; rest = b ∷ s; cut = refl; all = refl; stop = e; shorter = omega arith }
     ]
 
@@ -94,8 +95,7 @@ module _ (n b : ℕ) (s : List ℕ) (fits : n ≤ 255) (on : (r : List ℕ) → 
 has_data : (k n : ℕ) (s : List ℕ) → length s ≤ k → n ≤ 255 → HasData n s
 has_data k n [] short fits = stops_here n [] fits (at_line_end n [] tt)
 has_data zero n (b ∷ s) short fits = absurd (omega arith)
-has_data (suc k) n (b ∷ s) short fits =
-    by_class n b s fits (λ r less room. has_data k _ r (omega arith) (omega arith)) _ (string_says b)
+has_data (suc k) n (b ∷ s) short fits = by_class n b s fits (λ r less room. has_data k _ r (omega arith) (omega arith)) _ (string_says b)
 
 abbrev Cut : Where → ℕ → List ℕ → Type 0
 Cut w at s = (ts : List Token) × Cuts w at s ts
@@ -136,7 +136,8 @@ module _ (n at : ℕ) (on : Further n) where
   one_refusal : (first : Bool) (s : List ℕ) (m : ℕ) (r : LexReason) → Refuses s m r → Outer first s
   one_refusal first s m r bad = (_, lexes.refuses _ at m s r bad)
 
-  a_symbol : (first : Bool) (b : ℕ) (bs : List ℕ) → starts_symbol b ≡ true → length bs ≤ n → Split continues_symbol bs → Outer first (b ∷ bs)
+  a_symbol : (first : Bool) (b : ℕ) (bs : List ℕ) → starts_symbol b ≡ true
+      → length bs ≤ n → Split continues_symbol bs → Outer first (b ∷ bs)
   a_symbol first b bs e short h =
       let less = h.shorter in
       rw h.cut (elim (cases_lt 255 _) [
@@ -176,7 +177,8 @@ module _ (n at : ℕ) (on : Further n) where
       cases : (run : List ℕ) → list_all is_suffix run ≡ true → Outer first (b ∷ (run ++ h.rest))
       cases [] all = one_token first (b ∷ []) h.rest _ (lexes.suffix (b ∷ []) h.rest _ (one b e).1 h.stop) less
       cases (c ∷ []) all =
-          one_token first (b ∷ c ∷ []) h.rest _ (lexes.suffix (b ∷ c ∷ []) h.rest _ (two b c e (and_parts (is_suffix c) true all).0).1 h.stop) less
+          one_token first (b ∷ c ∷ []) h.rest _
+          (lexes.suffix (b ∷ c ∷ []) h.rest _ (two b c e (and_parts (is_suffix c) true all).0).1 h.stop) less
       cases (c ∷ d ∷ run) all = one_refusal first _ 0 _ (lexes.bad_suffix (b ∷ c ∷ d ∷ run) h.rest (both_true e all, h.stop) (omega arith))
 
   a_string : (first : Bool) (bs : List ℕ) → length bs ≤ n → HasData 0 bs → Outer first (34 ∷ bs)
@@ -189,7 +191,8 @@ module _ (n at : ℕ) (on : Further n) where
           → Outer first (34 ∷ (h.raw ++ rest))
       cases _ _ same (at_line_end m s stop) written less = one_refusal first _ 0 _ (lexes.open_string h.raw _ s written fit stop)
       cases _ _ same (at_quote m s) written less =
-          rw (sym (append_assoc h.raw (34 ∷ []) s)) (one_token first (34 ∷ (h.raw ++ 34 ∷ [])) s _ (lexes.string h.raw _ s written fit) (omega arith))
+          rw (sym (append_assoc h.raw (34 ∷ []) s))
+          (one_token first (34 ∷ (h.raw ++ 34 ∷ [])) s _ (lexes.string h.raw _ s written fit) (omega arith))
       cases _ _ same (at_barred m b s bad other) written less =
           one_refusal first _ (1 + length h.raw) _ (lexes.control_in_string b h.raw _ s written fit bad other)
       cases _ _ same (too_long m b s full more) written less = one_refusal first _ 0 _ (lexes.long_string b h.raw h.text s written (omega arith) more)

@@ -25,9 +25,11 @@ reading_from : (start at n : ℕ) (e : Bool) (s : List ℕ) → start ≤ at →
 reading_from start at n false [] after = omega arith
 reading_from start at n true [] after = omega arith
 reading_from start at n false (b ∷ bs) after =
-    plain_from start at n b bs _ after (reading_from start (at + 1) n true bs (omega arith)) (reading_from start (at + 1) (n + 1) false bs (omega arith))
+    plain_from start at n b bs _ after (reading_from start (at + 1) n true bs (omega arith))
+    (reading_from start (at + 1) (n + 1) false bs (omega arith))
 reading_from start at n true (b ∷ bs) after =
-    escaped_from start at n b bs _ after (reading_from start (at + 1) (n + 1) false bs (omega arith)) (reading_from start (at + 1) (n + 2) false bs (omega arith))
+    escaped_from start at n b bs _ after (reading_from start (at + 1) (n + 1) false bs (omega arith))
+    (reading_from start (at + 1) (n + 2) false bs (omega arith))
 
 class_from : (at : ℕ) (c : Class) (b : ℕ) (bs : List ℕ) → FoundFrom at (begins_class at c b bs)
 class_from at c b bs = grind (arith, reading_from)
@@ -58,8 +60,7 @@ end_from at within = grind arith
 
 pub tokens_from-from : (at : ℕ) (within : Within) (s : List ℕ) → AllFrom at (tokens_from at within s)
 tokens_from-from at within [] = end_from at within
-tokens_from-from at within (b ∷ bs) =
-    onto_from at (begins at within b bs) _ (begins_from at within b bs) (tokens_from-from (at + 1) _ bs)
+tokens_from-from at within (b ∷ bs) = onto_from at (begins at within b bs) _ (begins_from at within b bs) (tokens_from-from (at + 1) _ bs)
 
 pub all_from-front : (n : ℕ) (xs zs : List Token) → AllFrom n (xs ++ zs) → AllFrom n xs
 all_from-front n [] zs all = tt

@@ -2,7 +2,8 @@
 use Rattle.pgn_lexer.proofs.Words.{◌≡◌, ℕ, ◌+◌, ◌<◌, ◌≤◌, Bool, true, false, List, [], ◌∷◌, ◌++◌, length, refl, sym, ap, ◌∙◌, append-nil, append_assoc, arith, length-append, ◌||◌, not, take_while, false≢true, LexReason, ControlByte, BadSuffix, Class, CommentClass, is_line_end, is_space, is_control, is_digit, starts_symbol, continues_symbol, is_suffix, continues_word, Kind, Token, class, comment_class, symbol_at, word_at, glyph_at, suffix_at, Within, begins_class, begins_brace, begins_line, after_class, after_brace, after_line, onto, tokens_from, StopsAt, IsRun, IsSingle, IsSuffix, SpellsToken, Refuses, Where, Cuts, both_true, string_at, reading, with_front, Data, or_cases, and_parts, not-true, common_steps, outside, column, in_suffix, in_escape_line, line, quotes, begins_first, after_first, refused, comment_close, str, glyph, number_of}
 use Rattle.pgn_lexer.specs.Lexes as lexes
 use Rattle.pgn_lexer.proofs.stepping.RunOfBytes.{take_while-true, take_while-false, suffix_goes}
-use Rattle.pgn_lexer.proofs.bytes.ClassToTest.{stray_class, line_end_class, blank_class, line_end_comment, suffix_class, reserved_class, control_class, control_comment}
+use Rattle.pgn_lexer.proofs.bytes.ClassToTest.{stray_class, line_end_class, blank_class, line_end_comment, suffix_class, reserved_class}
+use Rattle.pgn_lexer.proofs.bytes.ClassToTest.{control_class, control_comment}
 use Rattle.pgn_lexer.proofs.stepping.ByteInSymbol.{symbol_fits, symbol_long}
 use Rattle.pgn_lexer.proofs.cutting.StringData.{reads_data, reads_control, quotes_skip}
 use Rattle.pgn_lexer.proofs.stepping.ByteInComment.{word_fits, word_class, line_ends}
@@ -30,7 +31,8 @@ take_run p [] (b ∷ s) long = take_while-false p b s long.1
 take_run p (b ∷ run) s long = grind (arith, take_while-true, take_run p run s)
 
 -- the places within a run give nothing
-module _ (within out : Within) (p : ℕ → Bool) (goes : (at b : ℕ) (s : List ℕ) → p b ≡ true → tokens_from at within (b ∷ s) ≡ tokens_from (at + 1) within s)
+module _ (within out : Within) (p : ℕ → Bool)
+    (goes : (at b : ℕ) (s : List ℕ) → p b ≡ true → tokens_from at within (b ∷ s) ≡ tokens_from (at + 1) within s)
     (ends : (at : ℕ) (s : List ℕ) → StopsAt p s → tokens_from at within s ≡ tokens_from at out s) where
   skips : (at : ℕ) (run s : List ℕ) → IsRun p run s → tokens_from at within (run ++ s) ≡ tokens_from (at + length run) out s
   skips at [] s long = let same : at ≡ at + 0 = omega arith in ends at s long.1 ∙ ap (λ n. tokens_from n out s) same
@@ -48,8 +50,7 @@ from_class false at b s c e other = grind arith
 from_class true at b s c e other =
     ap (λ c. onto at (begins_first at c b s) (tokens_from (at + 1) (after_first c) s)) e ∙ in_column c other
   where
-    in_column : (c : Class) → (c ≡ Class.Percent → ⊥)
-        → onto at (begins_first at c b s) (tokens_from (at + 1) (after_first c) s)
+    in_column : (c : Class) → (c ≡ Class.Percent → ⊥) → onto at (begins_first at c b s) (tokens_from (at + 1) (after_first c) s)
         ≡ onto at (begins_class at c b s) (tokens_from (at + 1) (after_class c) s)
     in_column Class.Percent other = absurd (other refl)
     in_column c other = refl
@@ -101,8 +102,7 @@ word_goes : (braces : Bool) (at b : ℕ) (s : List ℕ) → continues_word b ≡
 unfolding comment_tokens
 word_goes braces at b s h1 = grind arith
 
-word_stops : (braces : Bool) (at : ℕ) (s : List ℕ) → StopsAt continues_word s
-    → tokens_from at (word_within braces) s ≡ inner braces at s
+word_stops : (braces : Bool) (at : ℕ) (s : List ℕ) → StopsAt continues_word s → tokens_from at (word_within braces) s ≡ inner braces at s
 word_stops braces at s h1 = grind (arith, word_class, line_ends)
 
 letter_first : (braces : Bool) (at b : ℕ) (s : List ℕ) → continues_word b ≡ true
@@ -119,8 +119,7 @@ word_cut braces at b run s e long =
 blank_in_comment : (braces : Bool) (at b : ℕ) (s : List ℕ) → is_space b ≡ true → (braces || not (is_line_end b)) ≡ true
     → inner braces at (b ∷ s) ≡ inner braces (at + 1) s
 unfolding comment_tokens
-blank_in_comment braces at b s h1 h2 =
-    grind (arith, or_cases, common_steps, false≢true, not-true)
+blank_in_comment braces at b s h1 h2 = grind (arith, or_cases, common_steps, false≢true, not-true)
 
 pub control_in_comment : (braces : Bool) (at b : ℕ) (s : List ℕ) → is_control b ≡ true
     → inner braces at (b ∷ s) ≡ placed at (refused ControlByte) ∷ []
@@ -148,14 +147,15 @@ module _ (first : Bool) (at : ℕ) where
   suffix_is _ s _ _ stop = suffix_cut first at _ (_ ∷ []) s refl (refl, stop) ∙ moved _ _ _ s (omega arith)
 
   -- what a string comes to, by its data and what comes after them
-  string_reads : (raw text rest : List ℕ) → Data raw text rest → length text ≤ 255
-      → outer first at (34 ∷ (raw ++ rest))
-      ≡ onto at (string_at (with_front text (reading at (at + 1 + length raw) (length text) false rest))) (tokens_from (at + 1) quotes (raw ++ rest))
+  string_reads : (raw text rest : List ℕ) → Data raw text rest → length text ≤ 255 → outer first at (34 ∷ (raw ++ rest))
+      ≡ onto at (string_at (with_front text (reading at (at + 1 + length raw) (length text) false rest)))
+      (tokens_from (at + 1) quotes (raw ++ rest))
   string_reads raw text rest data' fits =
       let none : 0 + length text ≡ length text = omega arith in
       from_class first at 34 _ _ refl (λ e. cc) ∙ rw (reads_data at (at + 1) 0 raw text rest data' (omega arith), none)
 
-  spells_is : (run s : List ℕ) (k : Kind) → SpellsToken run s k → outer first at (run ++ s) ≡ placed at k ∷ tokens_from (at + length run) outside s
+  spells_is : (run s : List ℕ) (k : Kind) → SpellsToken run s k
+      → outer first at (run ++ s) ≡ placed at k ∷ tokens_from (at + length run) outside s
   spells_is _ _ _ (lexes.symbol b run s e long fits) =
       symbol_cut first at b run s e long ∙ rw (symbol_fits at (b ∷ run) fits) (moved _ _ _ s (omega arith))
   spells_is _ _ _ (lexes.string raw text s data' fits) =
@@ -180,13 +180,11 @@ module _ (first : Bool) (at : ℕ) where
   refuses_is _ _ _ (lexes.control_byte b s e) = grind (arith, from_class, control_class, here)
   refuses_is _ _ _ (lexes.reserved b s e) = grind (arith, from_class, reserved_class, here)
   refuses_is _ _ _ (lexes.long_symbol b run s e long over) = grind (arith, symbol_cut, symbol_long, here)
-  refuses_is _ _ _ (lexes.long_string b raw text s data' full more) =
-      grind (arith, string_reads raw text (b ∷ s) data' (omega arith), here)
+  refuses_is _ _ _ (lexes.long_string b raw text s data' full more) = grind (arith, string_reads raw text (b ∷ s) data' (omega arith), here)
   refuses_is _ _ _ (lexes.control_in_string b raw text s data' fits bad other) =
       let further : at + 1 + length raw ≡ at + (1 + length raw) = omega arith in
       string_reads raw text (b ∷ s) data' fits ∙ rw (reads_control at (at + 1 + length raw) _ b s bad other, further)
-  refuses_is _ _ _ (lexes.open_string raw text s data' fits stop) =
-      grind (arith, string_reads raw text s data' fits, here)
+  refuses_is _ _ _ (lexes.open_string raw text s data' fits stop) = grind (arith, string_reads raw text s data' fits, here)
   refuses_is _ _ _ (lexes.lone_dollar s stop) = grind (arith, glyph_cut, here)
   refuses_is _ _ _ (lexes.large_glyph d ds s e long over) =
       grind (arith, glyph_cut first at (d ∷ ds) s (both_true e long.0, long.1), number_long, here)

@@ -73,8 +73,7 @@ reads_data start at n _ _ _ (lone raw text s stop data') fits =
     rw (lt-ltb n 255 room, reading, lone_same start (at + 1) n (raw ++ s) room stop, reads_data start (at + 1) (n + 1) raw text s data' (omega arith), with_front-cons, here, many)
 
 -- the places within the quotes give nothing
-quotes_go : (at b : ℕ) (s : List ℕ) → IsOther (string_class b)
-    → tokens_from at quotes (b ∷ s) ≡ tokens_from (at + 1) quotes s
+quotes_go : (at b : ℕ) (s : List ℕ) → IsOther (string_class b) → tokens_from at quotes (b ∷ s) ≡ tokens_from (at + 1) quotes s
 quotes_go at b s other = grind arith
 
 -- a byte that is neither goes on, also behind a backslash

@@ -13,8 +13,7 @@ AllStand whole ts = AllByRecursion (λ t. BeginsWithToken t.kind (drop t.at whol
 -- behind these bytes, and behind a run of more of them
 behind : (before run s : List ℕ) (ts : List Token) (at n : ℕ) → length before ≡ at → n ≡ at + length run
     → ((front : List ℕ) → length front ≡ n → AllStand (front ++ s) ts) → AllStand (before ++ (run ++ s)) ts
-behind before run s ts at n is far all =
-    rw (append_assoc _ run s) at (all (before ++ run) (omega (arith, length-append before run)))
+behind before run s ts at n is far all = rw (append_assoc _ run s) at (all (before ++ run) (omega (arith, length-append before run)))
 
 here : (before s : List ℕ) (at : ℕ) (k : Kind) → length before ≡ at → BeginsWithToken k s → BeginsWithToken k (drop at (before ++ s))
 here before s at k is begins = grind (arith, drop-append_seam)
@@ -26,18 +25,14 @@ cut_stands _ _ _ _ (lexes.escape_line at run s ts long more) before is =
     behind before (codes "%" ++ run) s ts at _ is (omega arith) (cut_stands _ _ _ _ more)
 cut_stands _ _ _ _ (lexes.token first at run s k ts spelled more) before is =
     (here before (run ++ s) at k is (spelled_begins run s k spelled), behind before run s ts at _ is refl (cut_stands _ _ _ _ more))
-cut_stands _ _ _ _ (lexes.opens_brace first at s ts more) before is =
-    (tt, behind before (codes "{") s ts at _ is refl (cut_stands _ _ _ _ more))
-cut_stands _ _ _ _ (lexes.opens_line first at s ts more) before is =
-    (tt, behind before (codes ";") s ts at _ is refl (cut_stands _ _ _ _ more))
+cut_stands _ _ _ _ (lexes.opens_brace first at s ts more) before is = (tt, behind before (codes "{") s ts at _ is refl (cut_stands _ _ _ _ more))
+cut_stands _ _ _ _ (lexes.opens_line first at s ts more) before is = (tt, behind before (codes ";") s ts at _ is refl (cut_stands _ _ _ _ more))
 cut_stands _ _ _ _ (lexes.between_words braces at b s ts e other more) before is =
     behind before (b ∷ []) s ts at _ is refl (cut_stands _ _ _ _ more)
 cut_stands _ _ _ _ (lexes.word braces at b run s ts e long fits more) before is =
     (tt, behind before (b ∷ run) s ts at _ is (omega arith) (cut_stands _ _ _ _ more))
-cut_stands _ _ _ _ (lexes.closes_brace at s ts more) before is =
-    (tt, behind before (codes "}") s ts at _ is refl (cut_stands _ _ _ _ more))
-cut_stands _ _ _ _ (lexes.closes_line at b s ts e more) before is =
-    (tt, behind before (b ∷ []) s ts at _ is refl (cut_stands _ _ _ _ more))
+cut_stands _ _ _ _ (lexes.closes_brace at s ts more) before is = (tt, behind before (codes "}") s ts at _ is refl (cut_stands _ _ _ _ more))
+cut_stands _ _ _ _ (lexes.closes_line at b s ts e more) before is = (tt, behind before (b ∷ []) s ts at _ is refl (cut_stands _ _ _ _ more))
 cut_stands _ _ _ _ cut before is = omega arith
 
 lexed_stands : (s : List ℕ) (ts : List Token) → Lexes s ts → AllStand s ts

@@ -75,8 +75,7 @@ end_goes_on at within = grind arith
 
 all_go_on : (at : ℕ) (within : Within) (s : List ℕ) → AllGoOn at s (tokens_from at within s)
 all_go_on at within [] = end_goes_on at within
-all_go_on at within (b ∷ bs) =
-    onto_goes_on at b bs _ _ (begins_goes_on at within b bs) (all_go_on (at + 1) _ bs)
+all_go_on at within (b ∷ bs) = onto_goes_on at b bs _ _ (begins_goes_on at within b bs) (all_go_on (at + 1) _ bs)
 
 -- the token at which a list is cut
 goes_on_at : (at : ℕ) (s : List ℕ) (given : List Token) (t : Token) (rest : List Token) → AllGoOn at s (given ++ t ∷ rest)

@@ -16,10 +16,8 @@ escaped_passes b e = grind arith
 
 data_pass : (raw text s : List ℕ) → Data raw text s → list_all (λ b. not (is_barred b)) text ≡ true
 data_pass _ _ _ (lexes.no_data s) = refl
-data_pass _ _ _ (lexes.plain b raw text s e more) =
-    both_true (plain_passes _ _ e) (data_pass raw text s more)
-data_pass _ _ _ (lexes.escaped b raw text s e more) =
-    both_true (escaped_passes b e) (data_pass raw text s more)
+data_pass _ _ _ (lexes.plain b raw text s e more) = both_true (plain_passes _ _ e) (data_pass raw text s more)
+data_pass _ _ _ (lexes.escaped b raw text s e more) = both_true (escaped_passes b e) (data_pass raw text s more)
 data_pass _ _ _ (lexes.lone raw text s stop more) = both_true refl (data_pass raw text s more)
 
 suffix_small : (run : List ℕ) (n : ℕ) → IsSuffix run n → n ≤ 255
@@ -35,8 +33,7 @@ spelled_sound _ _ _ (lexes.glyph d ds s e long fits) = fits
 spelled_sound _ _ _ (lexes.suffix run s n is stop) = suffix_small run n is
 spelled_sound _ _ _ (lexes.single b s k is) = single_sound b k is
 
-spelled_outside : (run s : List ℕ) (k : Kind) (ks : List Kind) → SpellsToken run s k
-    → CommentsClose false ks → CommentsClose false (k ∷ ks)
+spelled_outside : (run s : List ℕ) (k : Kind) (ks : List Kind) → SpellsToken run s k → CommentsClose false ks → CommentsClose false (k ∷ ks)
 spelled_outside run s k ks h1 h2 = grind arith
 
 abbrev is_inside : Where → Bool
@@ -47,8 +44,7 @@ record SoundFrom (inside : Bool) (ts : List Token) : Type 0 where
   texts : AllByRecursion (λ t. IsSoundKind t.kind) ts
   comments : CommentsClose inside (map (λ t. t.kind) ts)
 
-cut_sound : (w : Where) (at : ℕ) (s : List ℕ) (ts : List Token) → Cuts w at s ts
-    → SoundFrom (is_inside w) ts
+cut_sound : (w : Where) (at : ℕ) (s : List ℕ) (ts : List Token) → Cuts w at s ts → SoundFrom (is_inside w) ts
 cut_sound _ _ _ _ (lexes.space first at b s ts e more) = cut_sound _ _ _ _ more
 cut_sound _ _ _ _ (lexes.escape_line at run s ts long more) = cut_sound _ _ _ _ more
 cut_sound _ _ _ _ (lexes.token first at run s k ts spelled more) = grind (arith, cut_sound _ _ _ _ more, spelled_sound, spelled_outside)

@@ -8,26 +8,22 @@ use Rattle.pgn_lexer.proofs.bytes.DecimalsAreSymbols.{IsNumber, number_written}
 plain_from : (x y : Bool) → not x ≡ true → y ≡ false → not (x || y) ≡ true
 plain_from x y h1 h2 = grind arith
 
-escaped_data : (text s : List ℕ) → list_all (λ b. not (is_barred b)) text ≡ true
-    → Data (escaped text) text s
+escaped_data : (text s : List ℕ) → list_all (λ b. not (is_barred b)) text ≡ true → Data (escaped text) text s
 escaped_data [] s all = lexes.no_data s
 escaped_data (b ∷ bs) s all = cases _ refl (escaped_data bs s (and_parts _ _ all).1)
   where
     cases : (e : Bool) → is_escaped b ≡ e → Data (escaped bs) bs s
         → Data ((if e then 92 ∷ b ∷ [] else b ∷ []) ++ escaped bs) (b ∷ bs) s
     cases true e more = lexes.escaped b _ bs s e more
-    cases false e more =
-        lexes.plain b _ bs s (plain_from _ _ (and_parts _ _ all).0 e) more
+    cases false e more = lexes.plain b _ bs s (plain_from _ _ (and_parts _ _ all).0 e) more
 
-spelled_symbol : (text s : List ℕ) → IsSymbol text → StopsAt continues_symbol s
-    → SpellsToken text s (Kind.symbol text)
+spelled_symbol : (text s : List ℕ) → IsSymbol text → StopsAt continues_symbol s → SpellsToken text s (Kind.symbol text)
 spelled_symbol [] s h stop = cc h.begins
 spelled_symbol (b ∷ bs) s h stop =
     let all = and_parts _ _ h.bytes in
     lexes.symbol b bs s h.begins (all.1, stop) h.fits
 
-spelled_glyph : (n : ℕ) (ds s : List ℕ) → IsNumber n ds → n ≤ 255 → StopsAt is_digit s
-    → SpellsToken (36 ∷ ds) s (Kind.glyph n)
+spelled_glyph : (n : ℕ) (ds s : List ℕ) → IsNumber n ds → n ≤ 255 → StopsAt is_digit s → SpellsToken (36 ∷ ds) s (Kind.glyph n)
 spelled_glyph n [] s h fits stop = absurd (omega arith)
 spelled_glyph n (d ∷ ds) s h fits stop =
     let all = and_parts _ _ h.digits in
@@ -40,8 +36,7 @@ IsOutside (Kind.word text) = ⊥
 IsOutside Kind.comment_close = ⊥
 IsOutside _ = Unit {0}
 
-spelled : (k : Kind) (s : List ℕ) → IsOutside k → IsPiece (token k) → IsEndedBy s k
-    → SpellsToken (written k) s k
+spelled : (k : Kind) (s : List ℕ) → IsOutside k → IsPiece (token k) → IsEndedBy s k → SpellsToken (written k) s k
 spelled Kind.left_bracket s out h end = lexes.single 91 s _ lexes.left_bracket
 spelled Kind.right_bracket s out h end = lexes.single 93 s _ lexes.right_bracket
 spelled Kind.left_paren s out h end = lexes.single 40 s _ lexes.left_paren
@@ -49,8 +44,7 @@ spelled Kind.right_paren s out h end = lexes.single 41 s _ lexes.right_paren
 spelled Kind.period s out h end = lexes.single 46 s _ lexes.period
 spelled Kind.asterisk s out h end = lexes.single 42 s _ lexes.asterisk
 spelled (Kind.symbol text) s out h end = spelled_symbol text s h end
-spelled (Kind.str text) s out h end =
-    lexes.string _ text s (escaped_data text _ h.bytes) h.fits
+spelled (Kind.str text) s out h end = lexes.string _ text s (escaped_data text _ h.bytes) h.fits
 spelled (Kind.glyph n) s out h end = grind (arith, spelled_glyph, number_written)
 spelled _ s out h end = absurd (omega arith)
 
@@ -70,11 +64,9 @@ where_in false first = lexes.outside first
 where_in true first = lexes.comment true
 
 abbrev CutsPieces : Bool → Bool → ℕ → List Piece → Type 0
-CutsPieces inside first at ps =
-    Cuts (where_in inside first) at (text_of_pieces ps) (tokens_at at ps)
+CutsPieces inside first at ps = Cuts (where_in inside first) at (text_of_pieces ps) (tokens_at at ps)
 
-cut_outside : (first : Bool) (at : ℕ) (k : Kind) (ps : List Piece) → IsOutside k
-    → IsPiece (token k) → IsEndedBy (text_of_pieces ps) k
+cut_outside : (first : Bool) (at : ℕ) (k : Kind) (ps : List Piece) → IsOutside k → IsPiece (token k) → IsEndedBy (text_of_pieces ps) k
     → CutsPieces false false (at + length (written k)) ps → CutsPieces false first at (token k ∷ ps)
 cut_outside first at k ps out h end more =
     lexes.token _ at _ _ k _
@@ -107,15 +99,13 @@ cut_pieces (token (Kind.refused r) ∷ ps) true first at all ended close = absur
 cut_pieces (token k ∷ ps) true first at all ended close = absurd close
 
 -- Such a text begins with no byte order mark.
-not_mark : (p : ℕ → Bool) (b : ℕ) (s : List ℕ) → p b ≡ true → p 239 ≡ false
-    → has_mark (b ∷ s) ≡ false
+not_mark : (p : ℕ → Bool) (b : ℕ) (s : List ℕ) → p b ≡ true → p 239 ≡ false → has_mark (b ∷ s) ≡ false
 not_mark p b s passes other = grind arith
 
 symbol_no_mark : (text s : List ℕ) → IsSymbol text → has_mark (text ++ s) ≡ false
 symbol_no_mark text s h1 = grind arith
 
-no_mark : (ps : List Piece) → AllByRecursion IsPiece ps → CommentsClose false (kinds_in ps)
-    → has_mark (text_of_pieces ps) ≡ false
+no_mark : (ps : List Piece) → AllByRecursion IsPiece ps → CommentsClose false (kinds_in ps) → has_mark (text_of_pieces ps) ≡ false
 no_mark [] all close = refl
 no_mark (space b ∷ ps) all close = not_mark is_space b _ all.0 refl
 no_mark (token (Kind.symbol text) ∷ ps) all close = symbol_no_mark _ _ all.0
@@ -127,11 +117,9 @@ lexed ps h =
     (cut_pieces ps false true 0 h.pieces h.ended h.comments)
 
 pub pieces_are_read_back : PiecesAreReadBack
-pieces_are_read_back ps h =
-    sym ((lexes_once _ _).0 (lexed ps h))
+pieces_are_read_back ps h = sym ((lexes_once _ _).0 (lexed ps h))
 
-kinds_of : (at : ℕ) (ps : List Piece)
-    → map (λ t. t.kind) (tokens_at at ps) ≡ kinds_in ps ++ Kind.end ∷ []
+kinds_of : (at : ℕ) (ps : List Piece) → map (λ t. t.kind) (tokens_at at ps) ≡ kinds_in ps ++ Kind.end ∷ []
 kinds_of at [] = refl
 kinds_of at (token k ∷ ps) = ap (λ ks. k ∷ ks) (kinds_of _ ps)
 kinds_of at (space b ∷ ps) = kinds_of (at + 1) ps

@@ -1,5 +1,6 @@
 -- The tokens given are those that are decided.
-use Rattle.pgn_lexer.proofs.Words.{◌≡◌, ℕ, List, [], ◌∷◌, ◌++◌, sym, ap, ◌∙◌, append-nil, arith, Token, tokens_of, common, decided, PartialToken, IsSound, HasNotFailed, tokens_to_come, common_steps}
+use Rattle.pgn_lexer.proofs.Words.{◌≡◌, ℕ, List, [], ◌∷◌, ◌++◌, sym, ap, ◌∙◌, append-nil, arith, Token, tokens_of, common}
+use Rattle.pgn_lexer.proofs.Words.{decided, PartialToken, IsSound, HasNotFailed, tokens_to_come, common_steps}
 use Rattle.pgn_lexer.proofs.deciding.CommonTokens.{common-append, common-refl}
 
 -- what all six lists begin with
@@ -13,14 +14,15 @@ common_of-append ts a b c d e f = grind (arith, common-append)
 -- what is decided, where the tokens of all texts that begin with u are known to begin with those
 -- given
 pub decided_is : (given : List Token) (u : List ℕ) (comes : List ℕ → List Token)
-    → ((s : List ℕ) → tokens_of (u ++ s) ≡ given ++ comes s)
-    → decided u
-    ≡ given ++ common_of (comes []) (comes (49 ∷ [])) (comes (33 ∷ [])) (comes (34 ∷ 34 ∷ [])) (comes (191 ∷ [])) (comes (187 ∷ 191 ∷ []))
+    → ((s : List ℕ) → tokens_of (u ++ s) ≡ given ++ comes s) → decided u
+    ≡ given ++ common_of (comes []) (comes (49 ∷ [])) (comes (33 ∷ []))
+    (comes (34 ∷ 34 ∷ [])) (comes (191 ∷ [])) (comes (187 ∷ 191 ∷ []))
 decided_is given u comes tokens = grind (arith, append-nil, common_of-append)
 
 -- what a lexer that goes on gives next is not decided yet
 pub going_none : (place : ℕ) (h : PartialToken) → IsSound place h → HasNotFailed h.mode
-    → common_of (tokens_to_come place h []) (tokens_to_come place h (49 ∷ [])) (tokens_to_come place h (33 ∷ [])) (tokens_to_come place h (34 ∷ 34 ∷ [])) (tokens_to_come place h (191 ∷ [])) (tokens_to_come place h (187 ∷ 191 ∷ []))
+    → common_of (tokens_to_come place h []) (tokens_to_come place h (49 ∷ [])) (tokens_to_come place h (33 ∷ []))
+    (tokens_to_come place h (34 ∷ 34 ∷ [])) (tokens_to_come place h (191 ∷ [])) (tokens_to_come place h (187 ∷ 191 ∷ []))
     ≡ []
 going_none place h sound not_failed = grind (arith, common_steps)
 

@@ -9,7 +9,8 @@ record Settles (tokens : List ℕ → List Token) : Type 0 where
   given : List Token
   later : List ℕ → List Token
   comes : (s : List ℕ) → tokens s ≡ given ++ later s
-  none : common_of (later []) (later (49 ∷ [])) (later (33 ∷ [])) (later (34 ∷ 34 ∷ [])) (later (191 ∷ [])) (later (187 ∷ 191 ∷ [])) ≡ []
+  none : common_of (later []) (later (49 ∷ [])) (later (33 ∷ []))
+      (later (34 ∷ 34 ∷ [])) (later (191 ∷ [])) (later (187 ∷ 191 ∷ [])) ≡ []
 
 few : (m : Mode) → pending_in m ≤ 2
 few m = grind arith
@@ -30,16 +31,17 @@ settles n [] place h enough sound not_failed =
 settles zero (b ∷ u) place h enough sound not_failed = absurd (omega arith)
 settles (suc n) (b ∷ u) place h enough sound not_failed =
     by_step (after_byte place h b).held (after_byte place h b).step (step_gives place h b sound)
-    (λ new fewer sound not_failed. settles n u _ new fewer sound not_failed) (λ new fewer sound not_failed. settles n (b ∷ u) place new fewer sound not_failed)
+    (λ new fewer sound not_failed. settles n u _ new fewer sound not_failed)
+    (λ new fewer sound not_failed. settles n (b ∷ u) place new fewer sound not_failed)
   where
     by_step : (new : PartialToken) (step : Step) → StepGives (front_of place h b) new step
-        → ((new : PartialToken) → 3 * length u + pending new ≤ n → IsSound (place + 1) new → HasNotFailed new.mode → Settles (λ s. tokens_to_come (place + 1) new (u ++ s)))
-        → ((new : PartialToken) → 3 * length (b ∷ u) + pending new ≤ n → IsSound place new → HasNotFailed new.mode → Settles (λ s. tokens_to_come place new ((b ∷ u) ++ s)))
+        → ((new : PartialToken) → 3 * length u + pending new ≤ n → IsSound (place + 1) new
+        → HasNotFailed new.mode → Settles (λ s. tokens_to_come (place + 1) new (u ++ s)))
+        → ((new : PartialToken) → 3 * length (b ∷ u) + pending new ≤ n → IsSound place new
+        → HasNotFailed new.mode → Settles (λ s. tokens_to_come place new ((b ∷ u) ++ s)))
         → Settles (λ s. tokens_to_come place h ((b ∷ u) ++ s))
-    by_step new Used g on again =
-        same_tokens _ _ (λ s. g.comes (u ++ s)) (on new (omega (arith, few new.mode)) g.sound g.not_failed)
-    by_step new (Ends form) g on again =
-        after_token _ _ (token_of form new) (λ s. g.comes (u ++ s)) (on new (omega arith) g.sound g.not_failed)
+    by_step new Used g on again = same_tokens _ _ (λ s. g.comes (u ++ s)) (on new (omega (arith, few new.mode)) g.sound g.not_failed)
+    by_step new (Ends form) g on again = after_token _ _ (token_of form new) (λ s. g.comes (u ++ s)) (on new (omega arith) g.sound g.not_failed)
     by_step new (EndsBefore form) g on again =
         let less : pending new < pending h = g.less in
         after_token _ _ (token_of form new) (λ s. g.comes (u ++ s)) (again new (omega arith) g.sound g.not_failed)

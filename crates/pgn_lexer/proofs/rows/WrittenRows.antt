@@ -60,8 +60,7 @@ movetext_readable : IsReadable movetext
 unfolding digits
 movetext_readable = grind arith
 
-movetext_by_law : KindsAreReadBack
-    → map (λ i. i.kind) (tokens_of (codes "1. e4 $10\n{\n%a;\n} ( 1... e5)\n1/2-1/2\n*\n"))
+movetext_by_law : KindsAreReadBack → map (λ i. i.kind) (tokens_of (codes "1. e4 $10\n{\n%a;\n} ( 1... e5)\n1/2-1/2\n*\n"))
     ≡ symbol (codes "1") ∷ period ∷ symbol (codes "e4") ∷ glyph 10 ∷ comment_open
     ∷ word (codes "%a;") ∷ comment_close ∷ left_paren ∷ symbol (codes "1") ∷ period ∷ period
     ∷ period ∷ symbol (codes "e5") ∷ right_paren ∷ symbol (codes "1/2-1/2") ∷ asterisk ∷ end ∷ []
@@ -81,8 +80,7 @@ abbrev spaced : List Kind → List Piece
 spaced [] = []
 spaced (k ∷ ks) = token k ∷ sp ∷ spaced ks
 
-spaced_pieces : (ks : List Kind) → AllByRecursion (λ k. IsPiece (token k)) ks
-    → AllByRecursion IsPiece (spaced ks)
+spaced_pieces : (ks : List Kind) → AllByRecursion (λ k. IsPiece (token k)) ks → AllByRecursion IsPiece (spaced ks)
 spaced_pieces [] all = tt
 spaced_pieces (k ∷ ks) all = (all.0, (refl, spaced_pieces ks all.1))
 
@@ -97,8 +95,7 @@ spaced_kinds : (ks : List Kind) → kinds_in (spaced ks) ≡ ks
 spaced_kinds [] = refl
 spaced_kinds (k ∷ ks) = ap (λ l. k ∷ l) (spaced_kinds ks)
 
-sound_tokens_by_law : KindsAreReadBack → (ks : List Kind)
-    → AllByRecursion (λ k. IsPiece (token k)) ks → CommentsClose false ks
+sound_tokens_by_law : KindsAreReadBack → (ks : List Kind) → AllByRecursion (λ k. IsPiece (token k)) ks → CommentsClose false ks
     → map (λ i. i.kind) (tokens_of (text_of_pieces (spaced ks))) ≡ ks ++ end ∷ []
 sound_tokens_by_law law ks all close = grind (arith, spaced_pieces, spaced_ended, spaced_kinds)
 
@@ -209,16 +206,13 @@ word_is_outside h = h.comments
 
 -- ---- So the law is false without each of its premises.
 
-fails_unless_ended : ((ps : List Piece) → AllByRecursion IsPiece ps
-    → CommentsClose false (kinds_in ps) → IsReadBack ps) → ⊥
+fails_unless_ended : ((ps : List Piece) → AllByRecursion IsPiece ps → CommentsClose false (kinds_in ps) → IsReadBack ps) → ⊥
 fails_unless_ended law = symbols_join (law joined_symbols (a_symbol.0, (a_symbol.1, tt)) tt)
 
-fails_unless_pieces : ((ps : List Piece) → AreEnded ps → CommentsClose false (kinds_in ps)
-    → IsReadBack ps) → ⊥
+fails_unless_pieces : ((ps : List Piece) → AreEnded ps → CommentsClose false (kinds_in ps) → IsReadBack ps) → ⊥
 fails_unless_pieces law = percent_escapes (law percent_space (tt, tt) tt)
 
-fails_unless_closed : ((ps : List Piece) → AllByRecursion IsPiece ps → AreEnded ps
-    → IsReadBack ps) → ⊥
+fails_unless_closed : ((ps : List Piece) → AllByRecursion IsPiece ps → AreEnded ps → IsReadBack ps) → ⊥
 fails_unless_closed law = open_is_rejected (law open_comment (tt, tt) (tt, tt))
 
 -- ---- Numbers.

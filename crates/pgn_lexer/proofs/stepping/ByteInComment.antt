@@ -79,7 +79,8 @@ module _ (place at b : ℕ) (text : List ℕ) (some : 0 < length text) (fits : l
         less = omega arith;
         within = brace;
         settled = λ s. refl;
-        comes = λ s. run_ends (word_at at) continues_word at b text s _ _ _ (word_class b ∙ other) (word_fits at text fits) (brace_ends _ place b s other);
+        comes = λ s. run_ends (word_at at) continues_word at b text s _ _ _
+            (word_class b ∙ other) (word_fits at text fits) (brace_ends _ place b s other);
         at_end = run_closes (word_at at) at text _ _ (word_fits at text fits);
       }
 
@@ -97,7 +98,8 @@ module _ (place at b : ℕ) (text : List ℕ) (some : 0 < length text) (fits : l
         less = omega arith;
         within = line;
         settled = λ s. refl;
-        comes = λ s. run_ends (word_at at) continues_word at b text s _ _ _ (word_class b ∙ other) (word_fits at text fits) (line_ends _ place b s other);
+        comes = λ s. run_ends (word_at at) continues_word at b text s _ _ _
+            (word_class b ∙ other) (word_fits at text fits) (line_ends _ place b s other);
         at_end = run_closes (word_at at) at text _ _ (word_fits at text fits);
       }
 

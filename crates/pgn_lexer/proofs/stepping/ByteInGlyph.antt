@@ -2,7 +2,8 @@
 use Rattle.pgn_lexer.proofs.Words.{◌≡◌, ℕ, ◌+◌, ◌-◌, ◌*◌, ◌<◌, ◌≤◌, Bool, true, false, List, [], ◌∷◌, ◌++◌, length, refl, ap, ◌∙◌, arith, take_while, nat_le, ◌==◌, if◌then◌else◌, leb-true, leb-false, LoneDollar, GlyphRange, BadSuffix, Used, EndsBefore, is_digit, is_suffix, glyph, gives, stops, number_from, numbered_at, glyph_at, suffix_at, in_glyph, in_suffix, outside, onto, tokens_from, spelling, into, fails, Mode, TokenForm}
 use Rattle.pgn_lexer.specs.declared.partial_token.SuffixRun.{SuffixRun}
 use Rattle.pgn_lexer.specs.ByteResult as byte_result
-use Rattle.pgn_lexer.proofs.stepping.RunOfBytes.{take_while-true, glyph_goes, glyph_ends, suffix_goes, suffix_ends, run_grows, run_breaks, run_ends, run_closes}
+use Rattle.pgn_lexer.proofs.stepping.RunOfBytes.{take_while-true, glyph_goes, glyph_ends, suffix_goes, suffix_ends, run_grows, run_breaks, run_ends}
+use Rattle.pgn_lexer.proofs.stepping.RunOfBytes.{run_closes}
 use Rattle.pgn_lexer.proofs.stepping.StepGives.{GivesIn}
 
 number_grows : (n : ℕ) (ds : List ℕ) → n ≤ number_from n ds
@@ -20,7 +21,8 @@ digit_small b e = grind arith
 
 pub glyph_gives : (place at b n : ℕ) (text : List ℕ) → length text ≤ 255 → n ≤ 255 → at < place → (c : Bool) → is_digit b ≡ c
     → (d : Bool) → nat_le (10 * n + (b - 48)) 255 ≡ d
-    → GivesIn (Mode.Glyph n) place at b text (λ h. if c then (if d then into h (Mode.Glyph (10 * n + (b - 48))) Used else fails h h.at GlyphRange) else into h Mode.Outside (EndsBefore (TokenForm.Glyph n)))
+    → GivesIn (Mode.Glyph n) place at b text (λ h. if c then (if d then into h (Mode.Glyph (10 * n + (b - 48))) Used else fails h h.at GlyphRange)
+    else into h Mode.Outside (EndsBefore (TokenForm.Glyph n)))
 glyph_gives place at b n text fits small began true e true low =
     record {
       sound = record { room = (fits, leb-true _ _ low); placed = omega arith };
@@ -47,7 +49,8 @@ glyph_gives place at b n text fits small began false e d _ =
       less = omega arith;
       within = outside;
       settled = λ s. refl;
-      comes = λ s. run_ends (λ run. numbered_at at (number_from n run)) is_digit at b [] s _ _ (glyph n) e (number_fits at n small) (glyph_ends place b s e);
+      comes = λ s. run_ends (λ run. numbered_at at (number_from n run)) is_digit at b [] s _ _
+          (glyph n) e (number_fits at n small) (glyph_ends place b s e);
       at_end = ap (λ f. onto at f (tokens_from place in_glyph [])) (number_fits at n small);
     }
 
@@ -81,7 +84,8 @@ module _ (place at b : ℕ) (text : List ℕ) (fits : length text ≤ 255) (bega
         sound = omega arith;
         not_failed = tt;
         comes =
-            λ s. ap (λ rest. onto at (suffix_at at (spelling run ++ rest)) (tokens_from place in_suffix (b ∷ s))) (take_while-true is_suffix b s e)
+            λ s. ap (λ rest. onto at (suffix_at at (spelling run ++ rest)) (tokens_from place in_suffix (b ∷ s)))
+            (take_while-true is_suffix b s e)
             ∙ ap (λ f. onto at f (tokens_from place in_suffix (b ∷ s))) (second (take_while _ s))
             ∙ ap (onto at (suffix_at at (spelling next ++ take_while _ s))) (suffix_goes place b s e);
       }
@@ -95,8 +99,7 @@ module _ (place at b : ℕ) (text : List ℕ) (fits : length text ≤ 255) (bega
         comes = λ s. run_breaks (suffix_at at) is_suffix at b (spelling run) s (tokens_from place in_suffix (b ∷ s)) at _ e (bad _);
       }
 
-  goes_on : (run : SuffixRun) → is_suffix b ≡ true
-      → GivesIn (Mode.Suffix run) place at b text (λ h. byte_result.second_suffix h run b)
+  goes_on : (run : SuffixRun) → is_suffix b ≡ true → GivesIn (Mode.Suffix run) place at b text (λ h. byte_result.second_suffix h run b)
   goes_on SuffixRun.Good e = more SuffixRun.Good _ e (λ rest. second_good at b rest _ refl)
   goes_on SuffixRun.Poor e = more SuffixRun.Poor _ e (λ rest. second_poor at b rest _ refl)
   goes_on run e = too_many run e (λ rest. refl)
@@ -108,7 +111,8 @@ module _ (place at b : ℕ) (text : List ℕ) (fits : length text ≤ 255) (bega
   small_suffix run = grind arith
 
   pub suffix_gives : (run : SuffixRun) (c : Bool) → is_suffix b ≡ c
-      → GivesIn (Mode.Suffix run) place at b text (λ h. if c then byte_result.second_suffix h run b else into h Mode.Outside (EndsBefore (TokenForm.Glyph (byte_result.glyph_of run))))
+      → GivesIn (Mode.Suffix run) place at b text
+      (λ h. if c then byte_result.second_suffix h run b else into h Mode.Outside (EndsBefore (TokenForm.Glyph (byte_result.glyph_of run))))
   suffix_gives run true e = goes_on run e
   suffix_gives run false e =
       record {

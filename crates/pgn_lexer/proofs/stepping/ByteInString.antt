@@ -15,7 +15,8 @@ read_plain start at n b bs c =
       | StringClass.LineEnd ↦ broken start UnclosedString
       | StringClass.Control ↦ broken at ControlByte
       | StringClass.Backslash ↦ elim (nat_lt n 255) [ true ↦ reading start (at + 1) n true bs | false ↦ broken start StringTooLong ]
-      | StringClass.Plain ↦ elim (nat_lt n 255) [ true ↦ datum b (reading start (at + 1) (n + 1) false bs) | false ↦ broken start StringTooLong ]
+      | StringClass.Plain ↦
+          elim (nat_lt n 255) [ true ↦ datum b (reading start (at + 1) (n + 1) false bs) | false ↦ broken start StringTooLong ]
     ]
 
 abbrev pub read_escaped : ℕ → ℕ → ℕ → ℕ → List ℕ → StringClass → Reading
@@ -25,7 +26,8 @@ read_escaped start at n b bs c =
       | StringClass.LineEnd ↦ broken start UnclosedString
       | StringClass.Control ↦ broken at ControlByte
       | StringClass.Backslash ↦ datum b (reading start (at + 1) (n + 1) false bs)
-      | StringClass.Plain ↦ elim (nat_lt n 254) [ true ↦ datum 92 (datum b (reading start (at + 1) (n + 2) false bs)) | false ↦ broken start StringTooLong ]
+      | StringClass.Plain ↦
+          elim (nat_lt n 254) [ true ↦ datum 92 (datum b (reading start (at + 1) (n + 2) false bs)) | false ↦ broken start StringTooLong ]
     ]
 
 abbrev escaped_tokens : ℕ → ℕ → List ℕ → List ℕ → Reading → List Token
@@ -40,19 +42,20 @@ module _ (place at b : ℕ) (text : List ℕ) (fits : length text ≤ 255) (bega
       → GivesIn Mode.Str place at b text (λ h. if d then grown h Mode.Str b else fails h h.at StringTooLong)
   plain_plain d h1 h2 = grind (arith, length-append, datum_comes)
 
-  pub string_gives : (c : StringClass) → string_class b ≡ c
-      → GivesIn Mode.Str place at b text (λ h. byte_result.string false place h b c)
+  pub string_gives : (c : StringClass) → string_class b ≡ c → GivesIn Mode.Str place at b text (λ h. byte_result.string false place h b c)
   string_gives c h1 = grind (arith, append-nil, plain_plain)
 
 module _ (place at b : ℕ) (text : List ℕ) (short : length text < 255) (began : at < place) where
   -- a quote or a backslash is a datum
   taken_back : (c : StringClass)
-      → ((s : List ℕ) → escaped_tokens place at text s (reading at place (length text) true (b ∷ s)) ≡ escaped_tokens place at text s (datum b (reading at (place + 1) (length text + 1) false s)))
+      → ((s : List ℕ) → escaped_tokens place at text s (reading at place (length text) true (b ∷ s))
+      ≡ escaped_tokens place at text s (datum b (reading at (place + 1) (length text + 1) false s)))
       → GivesIn Mode.AfterBackslash place at b text (λ h. grown h Mode.Str b)
   taken_back c same = grind (arith, length-append, datum_comes)
 
   escaped_plain : (d : Bool) → nat_lt (length text) 254 ≡ d → string_class b ≡ StringClass.Plain
-      → GivesIn Mode.AfterBackslash place at b text (λ h. if d then record { held = record { mode = Mode.Str; at = at; text = (text ++ 92 ∷ []) ++ b ∷ [] }; step = Used } else fails h h.at StringTooLong)
+      → GivesIn Mode.AfterBackslash place at b text (λ h. if d
+      then record { held = record { mode = Mode.Str; at = at; text = (text ++ 92 ∷ []) ++ b ∷ [] }; step = Used } else fails h h.at StringTooLong)
   escaped_plain d h1 h2 = grind (arith, length-append, with_front-datum)
 
   pub escaped_gives : (c : StringClass) → string_class b ≡ c

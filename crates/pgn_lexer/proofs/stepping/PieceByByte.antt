@@ -27,7 +27,8 @@ ran_all place piece i h new used all goes old ran =
 going_on : (m : Mode) (at : ℕ) (f : LexFault) → HasNotFailed m → fault_in_mode m at ≡ Some f → ⊥
 going_on m at f h1 h2 = grind arith
 
-module _ (place : ℕ) (old : PartialToken) (piece : List ℕ) (h : PartialToken) (i b : ℕ) (here : i < length piece) (at_b : get_or piece i 0 ≡ b) (ran : Ran place old piece h i) where
+module _ (place : ℕ) (old : PartialToken) (piece : List ℕ) (h : PartialToken) (i b : ℕ)
+    (here : i < length piece) (at_b : get_or piece i 0 ≡ b) (ran : Ran place old piece h i) where
   longer : (s : List ℕ) → tokens_to_come place old (take (i + 1) piece ++ s) ≡ tokens_to_come (place + i) h (b ∷ s)
   longer s = grind (arith, common_steps)
 
@@ -97,8 +98,7 @@ module _ (place : ℕ) (old : PartialToken) (piece : List ℕ) (h : PartialToken
         });
       }
 
-  ran_fails : (new : PartialToken) → IsAfterByte (after_byte (place + i) h b) new Fault
-      → RunsToFault place old piece (fault_met new) new (i + 1)
+  ran_fails : (new : PartialToken) → IsAfterByte (after_byte (place + i) h b) new Fault → RunsToFault place old piece (fault_met new) new (i + 1)
   ran_fails new t =
       let g = takes_gives _ h b new _ ran.sound t in
       record {
@@ -120,18 +120,15 @@ unfolding after_byte
 takes_symbol place b h new answer e t = grind arith
 
 pub takes_symbol_byte : (place b : ℕ) (h new : PartialToken) → h.mode ≡ Symbol → continues_symbol b ≡ true → length h.text < 255
-    → new ≡ record { mode = h.mode; at = h.at; text = h.text ++ b ∷ [] }
-    → IsAfterByte (after_byte place h b) new Used
+    → new ≡ record { mode = h.mode; at = h.at; text = h.text ++ b ∷ [] } → IsAfterByte (after_byte place h b) new Used
 takes_symbol_byte place b h new e goes room grows = takes_symbol _ b h new _ e (grind arith)
 
 pub takes_symbol_end : (place b : ℕ) (h new : PartialToken) → h.mode ≡ Symbol → continues_symbol b ≡ false
-    → new ≡ record { mode = Outside; at = h.at; text = h.text }
-    → IsAfterByte (after_byte place h b) new (EndsBefore TokenForm.Symbol)
+    → new ≡ record { mode = Outside; at = h.at; text = h.text } → IsAfterByte (after_byte place h b) new (EndsBefore TokenForm.Symbol)
 takes_symbol_end place b h new e ends is = takes_symbol _ b h new _ e (grind arith)
 
 pub takes_outside : (place b : ℕ) (h new : PartialToken) (answer : Step) (c : Class) → IsOutside h.mode → class b ≡ c
-    → begin_line place h b c ≡ begin place h b c
-    → IsAfterByte (begin place h b c) new answer → IsAfterByte (after_byte place h b) new answer
+    → begin_line place h b c ≡ begin place h b c → IsAfterByte (begin place h b c) new answer → IsAfterByte (after_byte place h b) new answer
 unfolding after_byte
 takes_outside place b h new answer c outside e same t = grind arith
 
@@ -151,13 +148,11 @@ unfolding after_byte
 taken_string place b h c e same = grind arith
 
 pub takes_plain : (place b : ℕ) (h new : PartialToken) → h.mode ≡ Str → string_class b ≡ StringClass.Plain → length h.text < 255
-    → new ≡ record { mode = h.mode; at = h.at; text = h.text ++ b ∷ [] }
-    → IsAfterByte (after_byte place h b) new Used
+    → new ≡ record { mode = h.mode; at = h.at; text = h.text ++ b ∷ [] } → IsAfterByte (after_byte place h b) new Used
 takes_plain place b h new e same room grows = rw (taken_string _ b h _ e same) (grind arith)
 
 pub takes_quote : (place b : ℕ) (h new : PartialToken) → h.mode ≡ Str → string_class b ≡ StringClass.Quote
-    → new ≡ record { mode = Outside; at = h.at; text = h.text }
-    → IsAfterByte (after_byte place h b) new (Ends TokenForm.Str)
+    → new ≡ record { mode = Outside; at = h.at; text = h.text } → IsAfterByte (after_byte place h b) new (Ends TokenForm.Str)
 takes_quote place b h new e same ends = rw (taken_string _ b h _ e same) (record { held = ends; step = refl })
 
 -- a byte between the words of a comment in braces
@@ -176,7 +171,8 @@ takes_word : (place b : ℕ) (h new : PartialToken) (answer : Step) → h.mode �
 unfolding after_byte
 takes_word place b h new answer e t = grind arith
 
-pub takes_word_byte : (place b : ℕ) (h new : PartialToken) → h.mode ≡ BraceWord → comment_class b ≡ CommentClass.WordByte → length h.text < 79
+pub takes_word_byte : (place b : ℕ) (h new : PartialToken) → h.mode ≡ BraceWord
+    → comment_class b ≡ CommentClass.WordByte → length h.text < 79
     → new ≡ record { mode = h.mode; at = h.at; text = h.text ++ b ∷ [] } → IsAfterByte (after_byte place h b) new Used
 takes_word_byte place b h new e goes room grows = takes_word _ b h new _ e (rw goes (grind arith))
 
@@ -187,5 +183,4 @@ word_ends m h b c h1 = grind arith
 pub takes_word_end : (place b : ℕ) (h new : PartialToken) (c : CommentClass) → h.mode ≡ BraceWord → comment_class b ≡ c
     → (c ≡ CommentClass.WordByte → ⊥) → new ≡ record { mode = Brace; at = h.at; text = h.text }
     → IsAfterByte (after_byte place h b) new (EndsBefore TokenForm.Word)
-takes_word_end place b h new c e same other is =
-    takes_word _ b h new _ e (rw (same, word_ends _ h b c other) (record { held = is; step = refl }))
+takes_word_end place b h new c e same other is = takes_word _ b h new _ e (rw (same, word_ends _ h b c other) (record { held = is; step = refl }))

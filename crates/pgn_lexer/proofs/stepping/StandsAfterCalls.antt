@@ -88,8 +88,12 @@ module _ (count : ℕ) (old new : PartialToken) (piece : List ℕ) (used : ℕ) 
               before = before_more (length u) _ given (omega (arith, length-append u piece)) stands.before;
               tokens = λ s goes. ap tokens_of (append_assoc u piece s) ∙ stands.tokens (piece ++ s) (follows_piece b piece s starts goes)
                   ∙ ap (λ l. given ++ l) (h.comes s);
-            } in
-            (h.all, after, λ some. going_decides (count + used) new (u ++ piece) given h.sound h.not_failed (λ s. after.tokens s (follows_none _ s (still_none b piece some))));
+            } in (
+              h.all,
+              after,
+              λ some. going_decides (count + used) new (u ++ piece) given h.sound h.not_failed
+                  (λ s. after.tokens s (follows_none _ s (still_none b piece some))),
+            );
       }
     where
       same : length piece ≡ 0 → behind ≡ ahead
@@ -156,7 +160,8 @@ module _ (count : ℕ) (old new : PartialToken) (piece : List ℕ) (used : ℕ) 
       stood_decides : (i : ℕ) → 0 < i → StoodAt count old piece i → given ≡ decided (u ++ take i piece)
       stood_decides i some e =
           going_decides (count + i) e.held (u ++ take i piece) given e.sound e.not_failed
-          (λ s. ap tokens_of (append_assoc u _ s) ∙ stands.tokens _ (follows_taken b piece s i h.some some starts) ∙ ap (λ l. given ++ l) (e.comes s))
+          (λ s. ap tokens_of (append_assoc u _ s)
+          ∙ stands.tokens _ (follows_taken b piece s i h.some some starts) ∙ ap (λ l. given ++ l) (e.comes s))
 
       no_sooner_closed : (k : Bool) → k ≡ false → (last : ℕ) → used ≡ last + 1 → StoodAt count old piece last
           → EndsNoSooner k u piece used given
@@ -205,7 +210,8 @@ module _ (count : ℕ) (old new : PartialToken) (piece : List ℕ) (used : ℕ) 
           refused = not_failed_fault new h.not_failed;
           empty = λ none. let some : 0 < length piece = h.some in absurd (omega arith);
           stays = λ f failed. absurd (no_fault h.fresh f failed);
-          carries = λ u b given stands starts. elim h.ends [ inl e ↦ ends_with u b given stands starts e | inr e ↦ ends_before u b given stands starts e ];
+          carries = λ u b given stands starts.
+              elim h.ends [ inl e ↦ ends_with u b given stands starts e | inr e ↦ ends_before u b given stands starts e ];
         }
 
   pub scans_form : (form : TokenForm) (t : Token) → t.at ≡ new.at → t.kind ≡ kind_in form new.text

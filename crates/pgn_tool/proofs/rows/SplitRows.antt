@@ -1,5 +1,6 @@
 -- Worked rows: the files that a split makes of a text.
-use Rattle.pgn_tool.proofs.Words.{◌≡◌, ℕ, List, [], ◌∷◌, ◌++◌, Some, refl, codes, digits, tokens_of, UnmatchedClose, refusal, roster, read, list_profile, FileStep, closed, made, files_of}
+use Rattle.pgn_tool.proofs.Words.{◌≡◌, ℕ, List, [], ◌∷◌, ◌++◌, Some, refl, codes, digits, tokens_of, UnmatchedClose, refusal}
+use Rattle.pgn_tool.proofs.Words.{roster, read, list_profile, FileStep, closed, made, files_of}
 use Rattle.pgn_tool.proofs.rows.RunRows.{head}
 
 abbrev Makes : List ℕ → List FileStep → Type 0
@@ -9,7 +10,8 @@ no_game : Makes (codes "{no game}") []
 unfolding refusal roster
 no_game = refl
 
-two_games : Makes (codes "* $1 *") (made 1 ∷ closed (Some (head ++ codes "*\n\n")) 0 ∷ made 2 ∷ closed (Some (head ++ codes "$1 *\n\n")) 0 ∷ [])
+two_games : Makes (codes "* $1 *")
+    (made 1 ∷ closed (Some (head ++ codes "*\n\n")) 0 ∷ made 2 ∷ closed (Some (head ++ codes "$1 *\n\n")) 0 ∷ [])
 unfolding refusal roster digits
 two_games = refl
 

@@ -19,7 +19,8 @@ own_follows : (xs : List ℕ) → Follows (first xs) xs
 own_follows [] = tt
 own_follows (x ∷ xs) = refl
 
-pub has_read_of : (left : Option (List ℕ)) (u : List ℕ) (games : Games) (given : List Token) → HaveRead list_profile left u games given → HasRead list_profile games.converter given
+pub has_read_of : (left : Option (List ℕ)) (u : List ℕ) (games : Games) (given : List Token)
+    → HaveRead list_profile left u games given → HasRead list_profile games.converter given
 has_read_of left u games given (within on) = on.stands.has_read
 has_read_of left u games given (at_end all) = all.has_read
 
@@ -45,7 +46,8 @@ reads_at_token None n u ts consumed next f fault P follows = tt
 reads_at_token (Some s) None u ts consumed next f fault P follows = absurd consumed
 reads_at_token (Some s) (Some left) u ts consumed next f fault P follows =
     let (rest, begins) = next left tt in
-    follows s (ap (λ l. read list_profile (tokens_of l)) consumed ∙ ap (read list_profile) begins ∙ read_stops list_profile no_progress ts rest f fault)
+    follows s (ap (λ l. read list_profile (tokens_of l)) consumed
+    ∙ ap (read list_profile) begins ∙ read_stops list_profile no_progress ts rest f fault)
 
 -- the source has ended
 pub reads_at_end : (o n : Option (List ℕ)) (u : List ℕ) → Consumes o n u → IsAtEnd n → ReadAs o (tokens_of u)
@@ -65,9 +67,11 @@ module _ (left_old left left_new : Option (List ℕ)) (old new : Games) (a b : O
     next_line : lines_of game.tokens ≡ lines_of so.tokens ++ line_just_finished new.converter
     next_line =
         let games = (read list_profile so.tokens).progress.games in
-        let number : new.converter.games ≡ 1 + length games = has.games ∙ ap (length {A = Game}) game.one_game ∙ length-append games (game.game ∷ []) ∙ omega arith in
+        let number : new.converter.games ≡ 1 + length games =
+        has.games ∙ ap (length {A = Game}) game.one_game ∙ length-append games (game.game ∷ []) ∙ omega arith in
         let line : line_just_finished new.converter ≡ game_line (1 + length games) game.game = rw (game.just_finished, number, has.profile) in
-        ap (lines_from 1) game.one_game ∙ lines_two 1 games (game.game ∷ []) ∙ ap (λ l. lines_of so.tokens ++ l) (append-nil (game_line (1 + length games) game.game) ∙ sym line)
+        ap (lines_from 1) game.one_game ∙ lines_two 1 games (game.game ∷ [])
+        ∙ ap (λ l. lines_of so.tokens ++ l) (append-nil (game_line (1 + length games) game.game) ∙ sym line)
 
     pub game_listed : (c : Option (List ℕ)) → Appends b c (line_just_finished new.converter) → ListedSoFar left_old left_new new a c
     game_listed c wrote =
@@ -96,7 +100,8 @@ module _ (left_old left left_new : Option (List ℕ)) (old new : Games) (a b : O
   -- no game is left
   pub all_listed : NoGame list_profile so.bytes so.tokens left left_new new None None → IfSome left_old (λ s. IsListed s None a b)
   all_listed end =
-      Consumes-whole left_old left_new (so.bytes ++ end.more) (λ s. IsListed s None a b) (all end.more end.consumed) end.have_read_all.at_end (record {
+      Consumes-whole left_old left_new (so.bytes ++ end.more) (λ s. IsListed s None a b)
+      (all end.more end.consumed) end.have_read_all.at_end (record {
         fault = end.have_read_all.has_read.passes;
         written = subst (λ gs. Appends a b (lines_from 1 gs)) (sym end.no_game) so.written;
       })
@@ -105,10 +110,12 @@ module _ (left_old left left_new : Option (List ℕ)) (old new : Games) (a b : O
   no_more u none =
       record {
         passes = subst (λ ts. (read list_profile ts).fault ≡ None) none.reads.decided none.reads.passes;
-        written = subst (λ ts. Appends a b (lines_of ts)) none.reads.decided (subst (λ gs. Appends a b (lines_from 1 gs)) (sym none.no_game) so.written);
+        written =
+            subst (λ ts. Appends a b (lines_of ts)) none.reads.decided (subst (λ gs. Appends a b (lines_from 1 gs)) (sym none.no_game) so.written);
       }
 
-  pub list_stops : (most : ℕ) (f : Fault) (s t : ℕ) → NextStops list_profile so.bytes so.tokens left left_new most None None f → CountsDevices f.reason s t 0 0
+  pub list_stops : (most : ℕ) (f : Fault) (s t : ℕ)
+      → NextStops list_profile so.bytes so.tokens left left_new most None None f → CountsDevices f.reason s t 0 0
       → ListStops left_old left_new a b (Refused f)
   list_stops most f s t stopped counted = by_stop stopped counted
     where
@@ -122,11 +129,13 @@ module _ (left_old left left_new : Option (List ℕ)) (old new : Games) (a b : O
             written = subst (λ gs. Appends a b (lines_from 1 gs)) (sym same ∙ ap (λ (r : Read). r.progress.games) (sym is)) so.written;
           }))
 
-      by_stop : {h : Fault} → NextStops list_profile so.bytes so.tokens left left_new most None None h → CountsDevices h.reason s t 0 0 → ListStops left_old left_new a b (Refused h)
+      by_stop : {h : Fault} → NextStops list_profile so.bytes so.tokens left left_new most None None h
+          → CountsDevices h.reason s t 0 0 → ListStops left_old left_new a b (Refused h)
       by_stop (NextStops.at_token h more consumed to) counts =
           by_stops to.tokens (reads_at_token left_old left_new (so.bytes ++ more) to.tokens (all more consumed) to.next) to.stops to.no_game counts
       by_stop (NextStops.at_end h more consumed end to) counts =
-          by_stops (tokens_of (so.bytes ++ more)) (reads_at_end left_old left_new (so.bytes ++ more) (all more consumed) end) to.stops to.no_game counts
+          by_stops (tokens_of (so.bytes ++ more))
+          (reads_at_end left_old left_new (so.bytes ++ more) (all more consumed) end) to.stops to.no_game counts
       by_stop (NextStops.unread more consumed none) counts = unread (so.bytes ++ more) (all more consumed) (no_more (so.bytes ++ more) none)
       by_stop (NextStops.too_long more front rest consumed cut place some none) counts =
           subst (λ n. ListStops left_old left_new a b (Refused (record { at = n; reason = InputTooLong }))) place

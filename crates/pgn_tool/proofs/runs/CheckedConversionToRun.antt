@@ -15,7 +15,8 @@ module _ (p : Profile) (first second d : Device) (after : Option (List ℕ)) (fa
   first_on : (u : List ℕ) → FirstStops p u second d → FirstStops p u second e
   first_on u ends = record {
     passes = ends.passes;
-    matched = IfSome_then second.before ends.matched (λ r known. record { fault = known.fault; no_mark_left = known.no_mark_left; appended = taken_on _ known.appended });
+    matched = IfSome_then second.before ends.matched
+        (λ r known. record { fault = known.fault; no_mark_left = known.no_mark_left; appended = taken_on _ known.appended });
   }
 
   second_on : (u : List ℕ) → SecondStops p first u d → SecondStops p first u e
@@ -44,7 +45,8 @@ module _ (p : Profile) (first second d : Device) (after : Option (List ℕ)) (fa
   }
 
   fails_on : (f : Fault) → TwoReadingsFail p first second d f → TwoReadingsFail p first second e f
-  fails_on _ (TwoReadingsFail.refused f known) = TwoReadingsFail.refused f (IfSome_then first.before known (λ s known. IfSome_then second.before known (λ r known. (known.0, taken_on _ known.1))))
+  fails_on _ (TwoReadingsFail.refused f known) = TwoReadingsFail.refused f
+      (IfSome_then first.before known (λ s known. IfSome_then second.before known (λ r known. (known.0, taken_on _ known.1))))
   fails_on _ (first_unread u consumed failed ends) = first_unread u consumed failed (first_on u ends)
   fails_on _ (first_too_long u rest consumed long more ends) = first_too_long u rest consumed long more (first_on u ends)
   fails_on _ (second_unread u consumed failed ends) = second_unread u consumed failed (second_on u ends)
@@ -53,7 +55,8 @@ module _ (p : Profile) (first second d : Device) (after : Option (List ℕ)) (fa
 
   pub converts_twice_on : (r : Result Totals Fault) → TwoReadingsConvert p first second d r → TwoReadingsConvert p first second e r
   converts_twice_on (Ok t) converts =
-      IfSome_then first.before converts (λ s known. IfSome_then second.before known (λ r known. record { converted = (known.converted.0, taken_on _ known.converted.1); probes = known.probes }))
+      IfSome_then first.before converts (λ s known.
+      IfSome_then second.before known (λ r known. record { converted = (known.converted.0, taken_on _ known.converted.1); probes = known.probes }))
   converts_twice_on (Err f) converts = fails_on f converts
 
 -- ---- which device is to blame
@@ -63,15 +66,18 @@ one_failed first second (inl rose) = inl (omega (arith, rose.0))
 one_failed first second (inr rose) = inr (omega (arith, rose.1))
 
 -- the conversion counts what is to blame, and the flush after it takes nothing back
-pub blames_twice_of : {A E : Type 0} → (reason : Reason) (flushed : Result A E) (first second d : Device) (after : Option (List ℕ)) (failures_after : ℕ)
+pub blames_twice_of : {A E : Type 0}
+    → (reason : Reason) (flushed : Result A E) (first second d : Device) (after : Option (List ℕ)) (failures_after : ℕ)
     → CountsThree reason first second d → Counts flushed d.failures_after failures_after
     → BlamesTwice reason first second (record { before = d.before; after = after; failures = d.failures; failures_after = failures_after })
 blames_twice_of ReadFault flushed first second d after failures_after devices counts = one_failed first second devices.0
-blames_twice_of WriteFault flushed first second d after failures_after devices counts = risen flushed d.failures d.failures_after failures_after devices.2 counts
+blames_twice_of WriteFault flushed first second d after failures_after devices counts =
+    risen flushed d.failures d.failures_after failures_after devices.2 counts
 blames_twice_of _ flushed first second d after failures_after devices counts = tt
 
 -- it counts one failure of its sink at most
-pub counted_once_of_two : (reason : Reason) (first second sink : Device) → CountsThree reason first second sink → FlushCounts sink.failures sink.failures_after
+pub counted_once_of_two : (reason : Reason) (first second sink : Device)
+    → CountsThree reason first second sink → FlushCounts sink.failures sink.failures_after
 counted_once_of_two ReadFault first second sink devices = inl devices.1
 counted_once_of_two WriteFault first second sink devices = inr devices.2
 counted_once_of_two _ first second sink devices = inl devices.2
@@ -84,7 +90,8 @@ neither_failed first second one other (inr failed) = calm_fails second other fai
 
 module _ (s r : List ℕ) (first second out : Device) (one : IsSmooth s first out) (other : IsSmooth r second out) where
   -- a fault that no device is to blame for is the texts' own
-  own_fault : (p : Profile) (f : Fault) → TwoReadingsFail p first second out f → BlamesTwice f.reason first second out → AreConverted p s r (refused f) out
+  own_fault : (p : Profile) (f : Fault) → TwoReadingsFail p first second out f
+      → BlamesTwice f.reason first second out → AreConverted p s r (refused f) out
   own_fault p _ (TwoReadingsFail.refused f known) blames = rw (one.gives, other.gives) at known
   own_fault p _ (first_unread u consumed failed ends) blames = absurd (neither_failed first second one.reads other.reads blames)
   own_fault p _ (first_too_long u rest consumed long more ends) blames =
@@ -94,7 +101,8 @@ module _ (s r : List ℕ) (first second out : Device) (one : IsSmooth s first ou
       absurd (longer r second.after u rest (rw other.gives at consumed) long more other.short)
   own_fault p _ (unwritten at known) blames = absurd (calm_fails out one.writes blames)
 
-  texts_answer : (mode : Mode) (err : Device) (code : ℕ) (answer : Result Totals Fault) → TwoReadingsConvert (profile_twice mode) first second out answer
+  texts_answer : (mode : Mode) (err : Device) (code : ℕ) (answer : Result Totals Fault)
+      → TwoReadingsConvert (profile_twice mode) first second out answer
       → EndsTwice answer first second out err code → AnswersTwice mode s r out err code
   texts_answer mode err code (Ok t) works ends =
       let converted = (rw (one.gives, other.gives) at works).converted in
@@ -109,7 +117,8 @@ module _ (s r : List ℕ) (first second out : Device) (one : IsSmooth s first ou
   twice_answers mode err code runs = texts_answer mode err code runs.answer runs.works runs.ends
 
 -- two readings of one text are one reading of it
-pub same_answers : (mode : Mode) (s : List ℕ) (out err : Device) (code : ℕ) → EqualReadings → AnswersTwice mode s s out err code → AnswersSame mode s out err code
+pub same_answers : (mode : Mode) (s : List ℕ) (out err : Device) (code : ℕ)
+    → EqualReadings → AnswersTwice mode s s out err code → AnswersSame mode s out err code
 same_answers mode s out err code law answers =
     let same = law (profile_twice mode) s refl in
     record {

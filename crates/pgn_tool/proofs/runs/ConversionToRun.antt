@@ -19,9 +19,12 @@ flush_counts (Ok x) mid new counts = inl counts
 flush_counts (Err e) mid new counts = inr counts
 
 -- the status says whether all was written
-pub concludes_as : {S : Type 0} → (taken : S → Option (List ℕ)) (failures : S → ℕ) (old new : S) (is_written : Bool) (source out : Device) (status : ℕ)
-    → IsStill source → (is_written ≡ true → IsStill out) → (is_written ≡ false → HasFailed out) → status ≡ (if is_written then 0 else 1)
-    → (is_written ≡ true → new ≡ old) → (is_written ≡ false → Tells (device taken failures old new) (line (codes "output cannot be written")))
+pub concludes_as : {S : Type 0}
+    → (taken : S → Option (List ℕ)) (failures : S → ℕ) (old new : S) (is_written : Bool) (source out : Device) (status : ℕ)
+    → IsStill source → (is_written ≡ true → IsStill out)
+    → (is_written ≡ false → HasFailed out) → status ≡ (if is_written then 0 else 1)
+    → (is_written ≡ true → new ≡ old)
+    → (is_written ≡ false → Tells (device taken failures old new) (line (codes "output cannot be written")))
     → Concludes source out (device taken failures old new) status
 concludes_as taken failures old new true source out status read still failed is untouched told = record {
   read = read;
@@ -37,9 +40,12 @@ concludes_as taken failures old new false source out status read still failed is
 }
 
 -- the same where a flush says it: one that did well leaves the count, and one that failed raises it
-pub concludes_flushed : {A E S : Type 0} → (taken : S → Option (List ℕ)) (failures : S → ℕ) (old new : S) (r : Result A E) (is_written : Bool) (source out : Device)
-    (mid status : ℕ) → is_written ≡ is_ok r → IsStill source → mid ≡ out.failures → Counts r mid out.failures_after → status ≡ (if is_written then 0 else 1)
-    → (is_written ≡ true → new ≡ old) → (is_written ≡ false → Tells (device taken failures old new) (line (codes "output cannot be written")))
+pub concludes_flushed : {A E S : Type 0}
+    → (taken : S → Option (List ℕ)) (failures : S → ℕ) (old new : S) (r : Result A E) (is_written : Bool) (source out : Device)
+    (mid status : ℕ) → is_written ≡ is_ok r → IsStill source → mid ≡ out.failures
+    → Counts r mid out.failures_after → status ≡ (if is_written then 0 else 1)
+    → (is_written ≡ true → new ≡ old)
+    → (is_written ≡ false → Tells (device taken failures old new) (line (codes "output cannot be written")))
     → Concludes source out (device taken failures old new) status
 concludes_flushed taken failures old new (Ok x) is_written source out mid status same read kept counts =
     concludes_as taken failures old new is_written source out status read (λ well. counts ∙ kept) (λ ill. absurd (cc))
@@ -79,7 +85,8 @@ module _ (left_old left_new a b c : Option (List ℕ)) (keeps : Keeps b c) where
   fails_on p _ (Fails.too_long u rest consumed long more reads) =
       Fails.too_long u rest consumed long more (record { passes = reads.passes; appended = kept _ reads.appended })
 
-  pub converts_on : (p : Profile) (r : Result Totals Fault) → AfterConversion p left_old left_new r a b → AfterConversion p left_old left_new r a c
+  pub converts_on : (p : Profile) (r : Result Totals Fault)
+      → AfterConversion p left_old left_new r a b → AfterConversion p left_old left_new r a c
   converts_on p (Ok t) converts =
       IfSome_then left_old converts (λ s known. record { converted = (known.converted.0, kept _ known.converted.1); probes = known.probes })
   converts_on p (Err f) converts = fails_on p f converts
@@ -106,13 +113,15 @@ risen (Err e) old mid new rose counts = omega (arith, rose, counts)
 
 -- the conversion counts what is to blame, and the flush after it takes nothing back
 pub blames_of : {A E : Type 0} → (reason : Reason) (flushed : Result A E) (source out : Device) (mid : ℕ)
-    → CountsDevices reason source.failures source.failures_after out.failures mid → Counts flushed mid out.failures_after → Blames reason source out
+    → CountsDevices reason source.failures source.failures_after out.failures mid
+    → Counts flushed mid out.failures_after → Blames reason source out
 blames_of ReadFault flushed source out mid devices counts = omega (arith, devices.0)
 blames_of WriteFault flushed source out mid devices counts = risen flushed out.failures mid out.failures_after devices.1 counts
 blames_of _ flushed source out mid devices counts = tt
 
 -- the same of a conversion to a sink that never fails
-pub silent_blames : (reason : Reason) (source out : Device) → CountsDevices reason source.failures source.failures_after 0 0 → Blames reason source out
+pub silent_blames : (reason : Reason) (source out : Device)
+    → CountsDevices reason source.failures source.failures_after 0 0 → Blames reason source out
 silent_blames ReadFault source out devices = omega (arith, devices.0)
 silent_blames WriteFault source out devices = absurd (omega (arith, devices.1))
 silent_blames _ source out devices = tt
@@ -120,27 +129,31 @@ silent_blames _ source out devices = tt
 -- ---- what a flush leaves in the buffer
 
 -- nothing is left after a flush that did well, and one that failed raises the count
-pub flushed_after : {A E : Type 0} → (r : Result A E) (old mid new : ℕ) (unflushed : List ℕ) (P : Type 0) → FlushCounts old mid → Counts r mid new
+pub flushed_after : {A E : Type 0} → (r : Result A E) (old mid new : ℕ) (unflushed : List ℕ) (P : Type 0)
+    → FlushCounts old mid → Counts r mid new
     → OnOk r (unflushed ≡ []) → (is_ok r ≡ false → P) → (unflushed ≡ []) ⊎ ((one_more old ≤ new) × P)
 flushed_after (Ok x) old mid new unflushed P before counts empty ill = inl empty
 flushed_after (Err e) old mid new unflushed P (inl still) counts empty ill = inr (omega (arith, still, counts), ill refl)
 flushed_after (Err e) old mid new unflushed P (inr rose) counts empty ill = inr (omega (arith, rose, counts), ill refl)
 
 -- a conversion that reports a fault counts one failure of its sink at most
-pub counted_once : (reason : Reason) (source_old source_new old mid : ℕ) → CountsDevices reason source_old source_new old mid → FlushCounts old mid
+pub counted_once : (reason : Reason) (source_old source_new old mid : ℕ)
+    → CountsDevices reason source_old source_new old mid → FlushCounts old mid
 counted_once ReadFault source_old source_new old mid devices = inl devices.1
 counted_once WriteFault source_old source_new old mid devices = inr devices.1
 counted_once _ source_old source_new old mid devices = inl devices.1
 
 -- the same of a run that says whether all was written
 pub flushed_well : (is_written : Bool) (old new status : ℕ) (unflushed : List ℕ) → status ≡ (if is_written then 0 else 1)
-    → (unflushed ≡ []) ⊎ ((one_more old ≤ new) × (is_written ≡ false)) → (unflushed ≡ []) ⊎ ((one_more old ≤ new) × (status ≡ 1))
+    → (unflushed ≡ []) ⊎ ((one_more old ≤ new) × (is_written ≡ false))
+    → (unflushed ≡ []) ⊎ ((one_more old ≤ new) × (status ≡ 1))
 flushed_well is_written old new status unflushed is (inl empty) = inl empty
 flushed_well is_written old new status unflushed is (inr (failed, ill)) = inr (failed, rw ill at is)
 
 -- ---- where no device fails
 
-pub longer : (s : List ℕ) (left_new : Option (List ℕ)) (u rest : List ℕ) → Consumes (Some s) left_new (u ++ rest) → length u ≡ 2 ^ 62 → 0 < length rest
+pub longer : (s : List ℕ) (left_new : Option (List ℕ)) (u rest : List ℕ)
+    → Consumes (Some s) left_new (u ++ rest) → length u ≡ 2 ^ 62 → 0 < length rest
     → length s ≤ 2 ^ 62 → ⊥
 longer s None u rest consumed long more short = absurd consumed
 longer s (Some ys) u rest consumed long more short =
@@ -148,7 +161,8 @@ longer s (Some ys) u rest consumed long more short =
     omega (arith, whole)
 
 -- a run without a fault, and its status if it has written all
-pub concludes_by_verdict : (v : Verdict) (source out err : Device) (code : ℕ) (c : Counted) → v ≡ totals c → IsCalm out → Concludes source out err code
+pub concludes_by_verdict : (v : Verdict) (source out err : Device) (code : ℕ) (c : Counted)
+    → v ≡ totals c → IsCalm out → Concludes source out err code
     → (code ≡ status_of v) × TellsVerdict err v
 concludes_by_verdict v source out err code c is calm ends =
     let written : code ≡ 1 → ⊥ = λ one. calm_fails out calm (ends.ill one).0 in
@@ -162,7 +176,8 @@ refuses_by_verdict v err code f is ends told = (ends ∙ sym (ap status_of is), 
 
 -- ---- a list
 
-pub list_blames : (reason : Reason) (source out : Device) → CountsReadFault reason source.failures source.failures_after → Blames reason source out
+pub list_blames : (reason : Reason) (source out : Device)
+    → CountsReadFault reason source.failures source.failures_after → Blames reason source out
 list_blames ReadFault source out counts = omega (arith, counts)
 list_blames WriteFault source out counts = absurd counts
 list_blames _ source out counts = tt
@@ -184,7 +199,8 @@ module _ (s : List ℕ) (source out : Device) (smooth : IsSmooth s source out) w
       absurd (longer s source.after u rest (rw smooth.gives at consumed) long more smooth.short)
 
   module _ (err : Device) (code : ℕ) where
-    job_answers : (job : Job) (answer : Result Totals Fault) → Works job answer source out → Ends answer source out err code → Answers job s out err code
+    job_answers : (job : Job) (answer : Result Totals Fault) → Works job answer source out
+        → Ends answer source out err code → Answers job s out err code
     job_answers (exporting mode) (Ok t) works ends =
         let converted = (rw smooth.gives at works).converted in
         let by = concludes_by_verdict _ source out err code _ converted.0 smooth.writes ends in
@@ -203,7 +219,8 @@ module _ (s : List ℕ) (source out : Device) (smooth : IsSmooth s source out) w
         record { ends = by.0; written = rw converted.0 (Appends-kept _ _ _ [] (Appends-nil out.before) works.1); told = by.1 }
     job_answers listing answer works ends = absurd works
 
-    stopped_answers : (stopped : Stopped) → ListStops source.before source.after out.before out.after stopped → EndsList (Err stopped) source out err code
+    stopped_answers : (stopped : Stopped) → ListStops source.before source.after out.before out.after stopped
+        → EndsList (Err stopped) source out err code
         → Answers listing s out err code
     stopped_answers _ (ListStops.refused f known) ends =
         let listed = rw smooth.gives at known in

@@ -18,7 +18,8 @@ held_is missing left failures r is = absurd is
 held_is (holds text) left failures r (same, none) = rw (same, none)
 
 -- the source is what was opened
-pub opened_is : (file : Option (List ℕ)) (left : Option (List ℕ)) (failures : ℕ) (r : Reading) (answer : Result Unit SystemFault) → answer ≡ Ok tt
+pub opened_is : (file : Option (List ℕ)) (left : Option (List ℕ)) (failures : ℕ) (r : Reading) (answer : Result Unit SystemFault)
+    → answer ≡ Ok tt
     → StartsFrom file r.holding r.refuses (opening left failures r) answer → source_of file r ≡ Some (left_at left failures r)
 opened_is (Some name) left failures r (Ok done) is starts = held_is (r.holding name) left failures r starts
 opened_is None left failures r (Ok done) is (same, none) = rw (same, none)
@@ -27,13 +28,15 @@ opened_is file left failures r (Err fault) is starts = cc
 -- the file was not opened
 pub unopened_is : (file : Option (List ℕ)) (task : Task) (m : Machine) (status : ℕ) (fault : SystemFault)
     → file_of (request_of task) ≡ file → StartsFrom file m.input.holding m.input.refuses m.input.standard (Err fault)
-    → IsUntouched m.second.standard → m.files_after ≡ m.files → IsUntouched m.out → EndsUnopened fault m.err status → Carries task m status
+    → IsUntouched m.second.standard → m.files_after ≡ m.files
+    → IsUntouched m.out → EndsUnopened fault m.err status → Carries task m status
 unopened_is None task m status fault same starts second files out ends = absurd starts
 unopened_is (Some name) task m status fault same (refuses, stays) second files out ends =
     unopened name fault same refuses (stays, second, files) out ends
 
 -- the task makes no file
-pub opened_to_output : (task : Task) (first : Device) (second : Reading) (out : Device) (lacks_memory : Bool) (has_room : Type 0) (files : Option (List FileStep)) (err : Device)
+pub opened_to_output : (task : Task) (first : Device) (second : Reading) (out : Device)
+    (lacks_memory : Bool) (has_room : Type 0) (files : Option (List FileStep)) (err : Device)
     (status : ℕ) → makes_files task ≡ false → RunsToOutput task first second out lacks_memory has_room err status
     → RunsOpened task first second out lacks_memory has_room files files err status
 opened_to_output (Split dir file) first second out lacks_memory has_room files err status not runs = absurd (true≢false not)
@@ -41,7 +44,8 @@ opened_to_output _ first second out lacks_memory has_room files err status not r
 
 -- the words were parsed, and what that resulted in was carried out
 pub ran_answer : (words : List (List ℕ)) (m : Machine) (status : ℕ) (answer : Result Task ParseFault)
-    → IfOk answer (λ task. request_in words ≡ Some (request_of task)) → AnswersBy words answer → RunsAnswer answer m status → RunsWords words m status
+    → IfOk answer (λ task. request_in words ≡ Some (request_of task))
+    → AnswersBy words answer → RunsAnswer answer m status → RunsWords words m status
 ran_answer words m status (Ok task) request free carries = by_task task request free carries
 ran_answer words m status (Err fault) request refused (answers, idle) = by_fault fault refused answers idle
 

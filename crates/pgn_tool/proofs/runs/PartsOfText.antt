@@ -20,16 +20,20 @@ front_within a b xs ys (n, short, front) = (
   subst (Appends a b) (sym (take-append-le n xs ys (omega (arith, short)))) front,
 )
 
-pub writes_after : {A E : Type 0} → (r : Result A E) (a b c : Option (List ℕ)) (xs ys : List ℕ) → Appends a b xs → Writes b c r ys → Writes a c r (xs ++ ys)
+pub writes_after : {A E : Type 0} → (r : Result A E) (a b c : Option (List ℕ)) (xs ys : List ℕ)
+    → Appends a b xs → Writes b c r ys → Writes a c r (xs ++ ys)
 writes_after (Ok x) a b c xs ys first more = Appends-trans a b c _ _ first more
 writes_after (Err e) a b c xs ys first more = front_after a b c xs ys first more
 
 -- the line of the game just finished, by the answers of a converter
 pub line_told : (o : Option FinishedGame) (number : ℕ) (by : Profile) (p : Parts) → Some p ≡ option_map (λ finished. finished.position) o
     → elim o [ None ↦ [] | Some finished ↦ finished_game_line number by finished ]
-    ≡ six_fields (decimal number) (unwrap_or (elim o [ None ↦ None | Some finished ↦ value_of (exported by.mode (known_result by.missing_result) finished.pairs) (codes "White") ]) [])
-    (unwrap_or (elim o [ None ↦ None | Some finished ↦ value_of (exported by.mode (known_result by.missing_result) finished.pairs) (codes "Black") ]) [])
-    (unwrap_or (elim o [ None ↦ None | Some finished ↦ value_of (exported by.mode (known_result by.missing_result) finished.pairs) (codes "Result") ]) [])
+    ≡ six_fields (decimal number) (unwrap_or
+    (elim o [ None ↦ None | Some finished ↦ value_of (exported by.mode (known_result by.missing_result) finished.pairs) (codes "White") ]) [])
+    (unwrap_or
+    (elim o [ None ↦ None | Some finished ↦ value_of (exported by.mode (known_result by.missing_result) finished.pairs) (codes "Black") ]) [])
+    (unwrap_or
+    (elim o [ None ↦ None | Some finished ↦ value_of (exported by.mode (known_result by.missing_result) finished.pairs) (codes "Result") ]) [])
     (decimal (elim o [ None ↦ 0 | Some finished ↦ finished.plies ])) (fen_text p)
 unfolding finished_game_line
 line_told None number by p e = absurd (cc)

@@ -14,7 +14,8 @@ after_test p b t ts o =
 -- ---- two parts
 
 -- behind a token that is refused nothing is read
-pub read_stops : (p : Profile) (b : Progress) (ts us : List Token) (f : Fault) → (read_from p b ts).fault ≡ Some f → read_from p b (ts ++ us) ≡ read_from p b ts
+pub read_stops : (p : Profile) (b : Progress) (ts us : List Token) (f : Fault)
+    → (read_from p b ts).fault ≡ Some f → read_from p b (ts ++ us) ≡ read_from p b ts
 read_stops p b [] us f e = absurd (cc)
 read_stops p b (t ∷ ts) us f e =
     (elim (refusal p b.part t.kind) as (λ o. (after_test p b t ts o).fault ≡ Some f → after_test p b t (ts ++ us) o ≡ after_test p b t ts o) [
@@ -27,7 +28,8 @@ pub read_more : (p : Profile) (b : Progress) (ts us : List Token) → (read_from
     → read_from p b (ts ++ us) ≡ read_from p (read_from p b ts).progress us
 read_more p b [] us e = refl
 read_more p b (t ∷ ts) us e =
-    (elim (refusal p b.part t.kind) as (λ o. (after_test p b t ts o).fault ≡ None → after_test p b t (ts ++ us) o ≡ read_from p (after_test p b t ts o).progress us) [
+    (elim (refusal p b.part t.kind) as (λ o. (after_test p b t ts o).fault ≡ None
+    → after_test p b t (ts ++ us) o ≡ read_from p (after_test p b t ts o).progress us) [
       | Some reason ↦ λ is. absurd (cc)
       | None ↦ read_more p (progress_after b t) ts us
     ]) e
@@ -56,6 +58,8 @@ games_extend p b (t ∷ ts) =
       | None ↦ extends_on b.games _ _ (extends_next b.games (next b.part t.kind)) (games_extend p (progress_after b t) ts)
     ]
 
-pub games_grow : (p : Profile) (ts us : List Token) → (read p ts).fault ≡ None → Extends (read p ts).progress.games (read p (ts ++ us)).progress.games
+pub games_grow : (p : Profile) (ts us : List Token) → (read p ts).fault ≡ None
+    → Extends (read p ts).progress.games (read p (ts ++ us)).progress.games
 games_grow p ts us e =
-    subst (λ (r : Read). Extends (read p ts).progress.games r.progress.games) (sym (read_more p no_progress ts us e)) (games_extend p (read p ts).progress us)
+    subst (λ (r : Read). Extends (read p ts).progress.games r.progress.games)
+    (sym (read_more p no_progress ts us e)) (games_extend p (read p ts).progress us)

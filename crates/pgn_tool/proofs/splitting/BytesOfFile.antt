@@ -10,13 +10,14 @@ IsKnown (Some log) bytes = is_some bytes ≡ true
 appended : (a b : Option (List ℕ)) (text : List ℕ) → is_some a ≡ true → 0 < length text → Appends a b text → is_text b ≡ true
 appended None b text known some appends = absurd (false≢true known)
 appended (Some xs) None text known some appends = absurd appends
-appended (Some xs) (Some []) text known some appends =
-    absurd (omega (arith, some, ap (length {A = ℕ}) appends, length-append xs text))
+appended (Some xs) (Some []) text known some appends = absurd (omega (arith, some, ap (length {A = ℕ}) appends, length-append xs text))
 appended (Some xs) (Some (y ∷ ys)) text known some appends = refl
 
 -- a write that did not fail leaves bytes in the file
-pub has_more : {E : Type 0} → (log : Option (List FileStep)) (a b : Option (List ℕ)) (r : Result ℕ E) (text : List ℕ) (failed failed_after : ℕ)
-    → (failed ≡ 0 → IsKnown log a) → WriteAppends a b r text → IfOk r (λ n. (0 < n) × (n ≤ length text)) → Counts r failed failed_after
+pub has_more : {E : Type 0}
+    → (log : Option (List FileStep)) (a b : Option (List ℕ)) (r : Result ℕ E) (text : List ℕ) (failed failed_after : ℕ)
+    → (failed ≡ 0 → IsKnown log a) → WriteAppends a b r text
+    → IfOk r (λ n. (0 < n) × (n ≤ length text)) → Counts r failed failed_after
     → failed_after ≡ 0 → has_bytes log b ≡ true
 has_more None a b r text failed failed_after known writes bound counts zero = refl
 has_more (Some log) a b (Ok n) text failed failed_after known writes bound counts zero =
@@ -32,5 +33,6 @@ pub known_made : (log now : Option (List FileStep)) (a : Option (List ℕ)) → 
 known_made None now a same new = tt
 known_made (Some log) now a same new = ap is_some (subst (λ l. IsNew l a) same new)
 
-pub made_first : (log now after : Option (List FileStep)) (steps : List FileStep) → now ≡ added log [] → after ≡ added now steps → after ≡ added log steps
+pub made_first : (log now after : Option (List FileStep)) (steps : List FileStep)
+    → now ≡ added log [] → after ≡ added now steps → after ≡ added log steps
 made_first log now after steps same made = made ∙ ap (λ l. added l steps) (same ∙ added_nil log)

@@ -37,7 +37,8 @@ none_torn ts whole =
 
 -- what tokens add behind whole games: it is written of a game that they begin, or is the text of
 -- the one that they finish
-module _ (given ts : List Token) (text : List ℕ) (none : torn_text given ≡ []) (more : due list_profile ts ≡ due list_profile given ++ text) where
+module _ (given ts : List Token) (text : List ℕ) (none : torn_text given ≡ [])
+    (more : due list_profile ts ≡ due list_profile given ++ text) where
   abbrev earlier : List ℕ
   earlier = text_of list_profile (read list_profile given).progress.games
 
@@ -45,8 +46,7 @@ module _ (given ts : List Token) (text : List ℕ) (none : torn_text given ≡ [
   behind = more ∙ ap (λ l. (earlier ++ l) ++ text) none ∙ ap (λ l. l ++ text) (append-nil earlier)
 
   pub torn_is : (read list_profile ts).progress.games ≡ (read list_profile given).progress.games → torn_text ts ≡ text
-  torn_is same =
-      append_cancel_left earlier (torn_text ts) text (ap (λ gs. text_of list_profile gs ++ torn_text ts) (sym same) ∙ behind)
+  torn_is same = append_cancel_left earlier (torn_text ts) text (ap (λ gs. text_of list_profile gs ++ torn_text ts) (sym same) ∙ behind)
 
   pub game_is : (g : Game) → (read list_profile ts).progress.games ≡ (read list_profile given).progress.games ++ g ∷ []
       → due list_profile ts ≡ text_of list_profile (read list_profile ts).progress.games → game_text list_profile g ≡ text
@@ -55,7 +55,8 @@ module _ (given ts : List Token) (text : List ℕ) (none : torn_text given ≡ [
       (sym (text_and_one (read list_profile given).progress.games g) ∙ ap (text_of list_profile) (sym one) ∙ sym whole ∙ behind)
 
 some_byte : (xs ys : List ℕ) → [] ≡ xs ++ ys ++ 10 ∷ [] → ⊥
-some_byte xs ys e = absurd (omega (arith, ap (length {A = ℕ}) e, length-append (xs ++ ys) (10 ∷ []), length-append xs (ys ++ 10 ∷ []), length-append ys (10 ∷ [])))
+some_byte xs ys e = absurd
+    (omega (arith, ap (length {A = ℕ}) e, length-append (xs ++ ys) (10 ∷ []), length-append xs (ys ++ 10 ∷ []), length-append ys (10 ∷ [])))
 
 -- the file of a text that has bytes
 torn_made : (n : ℕ) (text : List ℕ) → ([] ≡ text → ⊥) → torn_file n text ≡ made (one_more n) ∷ closed (Some text) 0 ∷ []
@@ -63,10 +64,12 @@ torn_made n [] some = absurd (some refl)
 torn_made n (byte ∷ bytes) some = refl
 
 -- the file of a whole game
-pub whole_file : (n : ℕ) (g : Game) → torn_file n (game_text list_profile g) ≡ made (one_more n) ∷ closed (Some (game_text list_profile g)) 0 ∷ []
+pub whole_file : (n : ℕ) (g : Game)
+    → torn_file n (game_text list_profile g) ≡ made (one_more n) ∷ closed (Some (game_text list_profile g)) 0 ∷ []
 whole_file n g =
     torn_made n (game_text list_profile g)
-    (some_byte (tag_section Full (result_for list_profile.missing_result g.marker) g.pairs) (text_of_lines (lines_of (tokens_out Full (start_of g.pairs) g.items ++ g.marker ∷ []))))
+    (some_byte (tag_section Full (result_for list_profile.missing_result g.marker) g.pairs)
+    (text_of_lines (lines_of (tokens_out Full (start_of g.pairs) g.items ++ g.marker ∷ []))))
 
 -- ---- the file of a game
 
@@ -75,7 +78,8 @@ taken_is None text wrote = absurd wrote
 taken_is (Some xs) text wrote = ap (λ l. Some l) wrote
 
 -- it holds what was written, if no write failed
-pub file_holds : {A : Type 0} → (taken : A → Option (List ℕ)) (failures : A → ℕ) (b : List FileStep) (n : ℕ) (file : GameFile A) (text : List ℕ)
+pub file_holds : {A : Type 0}
+    → (taken : A → Option (List ℕ)) (failures : A → ℕ) (b : List FileStep) (n : ℕ) (file : GameFile A) (text : List ℕ)
     → IsBegun taken failures (Some b) file → failures_in failures file ≡ 0 → Appends (Some []) (bytes_in taken (Some b) file) text
     → file_steps taken failures (one_more n) file ≡ torn_file n text
 file_holds taken failures b n NotMade text begun clean wrote = ap (torn_file n) wrote

@@ -14,14 +14,16 @@ logs (Some log) after steps is = is
 -- A failed write, which is counted; or the input or its source, and then no write failed.
 due_to : (at : ℕ) (reason : Reason) (s t failed : ℕ) → CountsDevices reason s t 0 failed
     → CountsSource reason s t × (IsOwn reason → failed ≡ 0)
-    × ((◌≡◌ {A = Fault} (record { at = at; reason = WriteFault }) (record { at = at; reason = reason }) × (0 < failed) × (t ≡ s)) ⊎ (IsOwn reason × (failed ≡ 0)))
+    × ((◌≡◌ {A = Fault} (record { at = at; reason = WriteFault }) (record { at = at; reason = reason }) × (0 < failed) × (t ≡ s))
+    ⊎ (IsOwn reason × (failed ≡ 0)))
 due_to at WriteFault s t failed counts = (counts.0, (λ own. absurd own), inl (refl, omega (arith, counts.1), counts.0))
 due_to at ReadFault s t failed counts = (counts.0, (λ own. counts.1), inr (tt, counts.1))
 due_to at _ s t failed counts = (counts.0, (λ own. counts.1), inr (tt, counts.1))
 
 module _ {A : Type 0} (taken : A → Option (List ℕ)) (failures : A → ℕ) (log : Option (List FileStep)) where
   -- where no write failed the fault itself is reported
-  own_reported : (file : GameFile A) (f : Fault) → IsBegun taken failures log file → failures_in failures file ≡ 0 → reported file f ≡ Unsplit.Refused f
+  own_reported : (file : GameFile A) (f : Fault) → IsBegun taken failures log file
+      → failures_in failures file ≡ 0 → reported file f ≡ Unsplit.Refused f
   own_reported (GameFile.Refused fault failed) f begun clean = absurd (false≢true (begun clean))
   own_reported _ f begun clean = refl
 
@@ -30,7 +32,8 @@ module _ {A : Type 0} (taken : A → Option (List ℕ)) (failures : A → ℕ) (
   write_reported (GameFile.Refused CreateFault.NoMemory failed) at = tt
   write_reported _ at = refl
 
-  counts_source : (file : GameFile A) (f : Fault) (s t : ℕ) → IsBegun taken failures log file → CountsDevices f.reason s t 0 (failures_in failures file)
+  counts_source : (file : GameFile A) (f : Fault) (s t : ℕ) → IsBegun taken failures log file
+      → CountsDevices f.reason s t 0 (failures_in failures file)
       → CountsSplit {A = Unit} (Err (reported file f)) s t
   counts_source (GameFile.Refused CreateFault.NoMemory failed) f s t begun counts =
       elim (due_to f.at f.reason s t failed counts).2 [
@@ -40,11 +43,13 @@ module _ {A : Type 0} (taken : A → Option (List ℕ)) (failures : A → ℕ) (
   counts_source _ f s t begun counts = (due_to f.at f.reason s t _ counts).0
 
   -- the last file
-  last_file : (n : ℕ) (file : GameFile A) (f : Fault) (s t : ℕ) → IsBegun taken failures log file → CountsDevices f.reason s t 0 (failures_in failures file)
+  last_file : (n : ℕ) (file : GameFile A) (f : Fault) (s t : ℕ)
+      → IsBegun taken failures log file → CountsDevices f.reason s t 0 (failures_in failures file)
       → LastFile n (Err (reported file f)) (file_steps taken failures (one_more n) file)
   last_file n file f s t begun counts = by_reason file begun (due_to f.at f.reason s t (failures_in failures file) counts).2
     where
-      by_reason : (file : GameFile A) → IsBegun taken failures log file → ((record { at = f.at; reason = WriteFault } ≡ f) × (0 < failures_in failures file) × (t ≡ s)) ⊎ (IsOwn f.reason × (failures_in failures file ≡ 0))
+      by_reason : (file : GameFile A) → IsBegun taken failures log file → ((record { at = f.at; reason = WriteFault } ≡ f)
+          × (0 < failures_in failures file) × (t ≡ s)) ⊎ (IsOwn f.reason × (failures_in failures file ≡ 0))
           → LastFile n (Err (reported file f)) (file_steps taken failures (one_more n) file)
       by_reason NotMade begun (inl (write, more, same)) = absurd (omega (arith, more))
       by_reason NotMade begun (inr (own, zero)) = LastFile.not_begun f own
@@ -64,7 +69,8 @@ if_known None P h = tt
 if_known (Some x) P h = h x refl
 
 -- the file to which a write failed, or that was not made
-cut_steps : {A : Type 0} → (taken : A → Option (List ℕ)) (failures : A → ℕ) (n : ℕ) (file : GameFile A) (text : List ℕ) (count least : ℕ)
+cut_steps : {A : Type 0}
+    → (taken : A → Option (List ℕ)) (failures : A → ℕ) (n : ℕ) (file : GameFile A) (text : List ℕ) (count least : ℕ)
     → Appends (Some []) (taken_by taken file) (take count text) → count < length text → least ≤ count → 0 < failures_in failures file
     → CutFile n text least (file_steps taken failures (one_more n) file)
 cut_steps taken failures n NotMade text count least wrote short low more = absurd (omega (arith, more))
@@ -75,7 +81,8 @@ cut_steps taken failures n (GameFile.Refused fault failed) text count least wrot
 
 module _ {A : Type 0} (taken : A → Option (List ℕ)) (failures : A → ℕ) (left_old left left_new : Option (List ℕ)) (old new : Games)
     (before log after : Option (List FileStep)) (so : SplitSoFar left_old left old before log)
-    (file : GameFile A) (begun : IsBegun taken failures log file) (logged : after ≡ added log (file_steps taken failures (one_more old.converter.games) file)) where
+    (file : GameFile A) (begun : IsBegun taken failures log file)
+    (logged : after ≡ added log (file_steps taken failures (one_more old.converter.games) file)) where
   abbrev none : Option (List ℕ)
   none = bytes_in taken log NotMade
 
@@ -101,16 +108,19 @@ module _ {A : Type 0} (taken : A → Option (List ℕ)) (failures : A → ℕ) (
       → after ≡ added before (whole_files 0 texts ++ torn_file (number_after 0 texts) text)
   written text wrote clean = log_on before log after _ _ _ so.files logged (λ b is.
       ap (λ n. file_steps taken failures n file) number
-      ∙ file_holds taken failures (b ++ whole_files 0 texts) (number_after 0 texts) file text (subst (λ l. IsBegun taken failures l file) (known_log b is) begun) clean
+      ∙ file_holds taken failures (b ++ whole_files 0 texts) (number_after 0 texts) file text
+      (subst (λ l. IsBegun taken failures l file) (known_log b is) begun) clean
       (subst (λ l. Appends (bytes_in taken l NotMade) (bytes_in taken l file) text) (known_log b is) wrote))
 
   -- a game more
-  game_split : NextGame list_profile so.bytes so.tokens left left_new new none some → failures_in failures file ≡ 0 → SplitSoFar left_old left_new new before after
+  game_split : NextGame list_profile so.bytes so.tokens left left_new new none some
+      → failures_in failures file ≡ 0 → SplitSoFar left_old left_new new before after
   game_split game clean =
       let own = game_text list_profile game.game in
       let is = game_is so.tokens game.tokens game.gains.text so.none_torn game.gains.due_for game.game game.one_game game.whole in
       let all_texts : texts_in game.tokens ≡ texts ++ own ∷ [] =
-      ap (map (game_text list_profile)) game.one_game ∙ map-append (game_text list_profile) (read list_profile so.tokens).progress.games (game.game ∷ []) in
+      ap (map (game_text list_profile)) game.one_game
+      ∙ map-append (game_text list_profile) (read list_profile so.tokens).progress.games (game.game ∷ []) in
       record {
         bytes = so.bytes ++ game.more;
         tokens = game.tokens;
@@ -124,11 +134,13 @@ module _ {A : Type 0} (taken : A → Option (List ℕ)) (failures : A → ℕ) (
       }
 
   -- the files of tokens that finish no game more
-  files_left : (ts : List Token) → Gains list_profile so.tokens ts none some → (read list_profile ts).progress.games ≡ (read list_profile so.tokens).progress.games
+  files_left : (ts : List Token) → Gains list_profile so.tokens ts none some
+      → (read list_profile ts).progress.games ≡ (read list_profile so.tokens).progress.games
       → failures_in failures file ≡ 0 → after ≡ added before (files_of ts)
   files_left ts gains same clean =
       written gains.text gains.appended clean
-      ∙ ap (λ text. added before (whole_files 0 texts ++ torn_file (number_after 0 texts) text)) (sym (torn_is so.tokens ts gains.text so.none_torn gains.due_for same))
+      ∙ ap (λ text. added before (whole_files 0 texts ++ torn_file (number_after 0 texts) text))
+      (sym (torn_is so.tokens ts gains.text so.none_torn gains.due_for same))
       ∙ ap (λ l. added before (whole_files 0 l ++ torn_file (number_after 0 l) (torn_text ts))) (ap (map (game_text list_profile)) (sym same))
 
   -- no game is left
@@ -144,10 +156,11 @@ module _ {A : Type 0} (taken : A → Option (List ℕ)) (failures : A → ℕ) (
 
     all_ended : IfSome left_old (λ s. IsSplitWhole s before after) × SplitFiles before after (Ok tt)
     all_ended = (
-      Consumes-whole left_old left_new (so.bytes ++ end.more) (λ s. IsSplitWhole s before after) (all end.more end.consumed) end.have_read_all.at_end (record {
-        passes = end.have_read_all.has_read.passes;
-        files = logs before after _ (all_files ∙ ap (added before) (append-nil (whole_files 0 (texts_in text_tokens))));
-      }),
+      Consumes-whole left_old left_new (so.bytes ++ end.more) (λ s. IsSplitWhole s before after)
+          (all end.more end.consumed) end.have_read_all.at_end (record {
+            passes = end.have_read_all.has_read.passes;
+            files = logs before after _ (all_files ∙ ap (added before) (append-nil (whole_files 0 (texts_in text_tokens))));
+          }),
       record { texts = texts_in text_tokens; last = []; logged = all_files; ends = LastFile.all_whole },
     )
 
@@ -159,11 +172,13 @@ module _ {A : Type 0} (taken : A → Option (List ℕ)) (failures : A → ℕ) (
       let reads = none_read.reads in
       record {
         passes = subst (λ ts. (read list_profile ts).fault ≡ None) reads.decided reads.passes;
-        files = subst (λ ts. Logs before after (files_of ts)) reads.decided (logs before after _ (files_left reads.tokens reads.gains none_read.no_game clean));
+        files = subst (λ ts. Logs before after (files_of ts)) reads.decided
+            (logs before after _ (files_left reads.tokens reads.gains none_read.no_game clean));
       }
 
   -- where writing stops: the last file, of which a prefix was written
-  cut_file : (b : List FileStep) → before ≡ Some b → (text : List ℕ) (count least : ℕ) → Appends none some (take count text) → count < length text → least ≤ count
+  cut_file : (b : List FileStep) → before ≡ Some b → (text : List ℕ) (count least : ℕ)
+      → Appends none some (take count text) → count < length text → least ≤ count
       → 0 < failures_in failures file → LogsCut b after texts text least
   cut_file b is text count least wrote short low more =
       let last = file_steps taken failures (one_more (number_after 0 texts)) file in
@@ -171,16 +186,19 @@ module _ {A : Type 0} (taken : A → Option (List ℕ)) (failures : A → ℕ) (
       record {
         last = last;
         cut = cut_steps taken failures (number_after 0 texts) file text count least here short low more;
-        logged = log_on before log after _ _ last so.files logged (λ b is. ap (λ n. file_steps taken failures n file) number) ∙ ap (λ o. added o (whole_files 0 texts ++ last)) is;
+        logged = log_on before log after _ _ last so.files logged (λ b is. ap (λ n. file_steps taken failures n file) number)
+            ∙ ap (λ o. added o (whole_files 0 texts ++ last)) is;
       }
 
   cuts : (u : List ℕ) (ts rest : List Token) (at : ℕ) → (writing : StopsWriting list_profile so.tokens ts at none some)
-      → (read list_profile writing.front).progress.games ≡ (read list_profile so.tokens).progress.games → tokens_of u ≡ ts ++ rest → 0 < failures_in failures file
+      → (read list_profile writing.front).progress.games ≡ (read list_profile so.tokens).progress.games
+      → tokens_of u ≡ ts ++ rest → 0 < failures_in failures file
       → CutsFile u (reported file (record { at = at; reason = WriteFault })) before after
   cuts u ts rest at writing same tokens more =
       let earlier = text_of list_profile (read list_profile so.tokens).progress.games in
       let given : due list_profile so.tokens ≡ earlier = ap (λ l. earlier ++ l) so.none_torn ∙ append-nil earlier in
-      let front : due list_profile writing.front ≡ earlier ++ torn_text writing.front = ap (λ gs. text_of list_profile gs ++ torn_text writing.front) same in
+      let front : due list_profile writing.front ≡ earlier ++ torn_text writing.front =
+      ap (λ gs. text_of list_profile gs ++ torn_text writing.front) same in
       record {
         front = writing.front;
         token = writing.token;
@@ -193,7 +211,8 @@ module _ {A : Type 0} (taken : A → Option (List ℕ)) (failures : A → ℕ) (
         files = if_known before _ (λ b is.
             subst (λ l. LogsCut b after l writing.text (length (torn_text writing.front))) (ap (map (game_text list_profile)) (sym same))
             (cut_file b is writing.text writing.count (length (torn_text writing.front)) writing.appended writing.short
-            (omega (arith, writing.least, ap (length {A = ℕ}) given, ap (length {A = ℕ}) front, length-append earlier (torn_text writing.front))) more));
+            (omega (arith, writing.least, ap (length {A = ℕ}) given, ap (length {A = ℕ}) front, length-append earlier (torn_text writing.front)))
+            more));
       }
 
   abbrev Stopped : Fault → Type 0
@@ -209,7 +228,8 @@ module _ {A : Type 0} (taken : A → Option (List ℕ)) (failures : A → ℕ) (
       clean_at : (h : Fault) → IsOwn h.reason → CountsDevices h.reason s t 0 (failures_in failures file) → failures_in failures file ≡ 0
       clean_at h is counts = (due_to h.at h.reason s t (failures_in failures file) counts).1 is
 
-      by_stops : {h : Fault} (u : List ℕ) (ts rest : List Token) → Consumes left_old left_new u → tokens_of u ≡ ts ++ rest → ReadAs left_old ts
+      by_stops : {h : Fault} (u : List ℕ) (ts rest : List Token)
+          → Consumes left_old left_new u → tokens_of u ≡ ts ++ rest → ReadAs left_old ts
           → (stops : Stops list_profile so.tokens ts none some h) → games_before stops ≡ (read list_profile so.tokens).progress.games
           → CountsDevices h.reason s t 0 (failures_in failures file) → Stopped h
       by_stops u ts rest consumed tokens reads (Stops.unwritten at writing) same counts =
@@ -223,7 +243,8 @@ module _ {A : Type 0} (taken : A → Option (List ℕ)) (failures : A → ℕ) (
             files = rw is files;
           })))
 
-      by_stop : {h : Fault} → NextStops list_profile so.bytes so.tokens left left_new most none some h → CountsDevices h.reason s t 0 (failures_in failures file) → Stopped h
+      by_stop : {h : Fault} → NextStops list_profile so.bytes so.tokens left left_new most none some h
+          → CountsDevices h.reason s t 0 (failures_in failures file) → Stopped h
       by_stop (NextStops.at_token h more consumed to) counts =
           let (rest, begins) = to.next [] tt in
           by_stops (so.bytes ++ more) to.tokens rest (all more consumed) (ap tokens_of (sym (append-nil (so.bytes ++ more))) ∙ begins)
@@ -237,9 +258,11 @@ module _ {A : Type 0} (taken : A → Option (List ℕ)) (failures : A → ℕ) (
       by_stop (NextStops.too_long more front rest consumed parts place further none_read) counts =
           let clean = clean_at (record { at = 2 ^ 62; reason = InputTooLong }) tt counts in
           own _ clean (subst (λ n. SplitStops left_old left_new before after (Unsplit.Refused (record { at = n; reason = InputTooLong }))) place
-          (SplitStops.too_long front rest (subst (Consumes left_old left_new) parts (all more consumed)) place further (no_more front none_read clean)))
+          (SplitStops.too_long front rest (subst (Consumes left_old left_new) parts (all more consumed)) place further
+          (no_more front none_read clean)))
 
-  files_stop : (f : Fault) (s t : ℕ) → CountsDevices f.reason s t 0 (failures_in failures file) → SplitFiles before after (Err (reported file f))
+  files_stop : (f : Fault) (s t : ℕ) → CountsDevices f.reason s t 0 (failures_in failures file)
+      → SplitFiles before after (Err (reported file f))
   files_stop f s t counts = record {
     texts = texts;
     last = file_steps taken failures (one_more (number_after 0 texts)) file;
@@ -253,13 +276,15 @@ answered : {A B : Type 0} → (file : GameFile A) (answer : Result B Fault) (x :
 answered file (Ok y) x is = cc
 answered file (Err f) x is = absurd (cc)
 
-stopped : {A B : Type 0} → (file : GameFile A) (answer : Result B Fault) (why : Unsplit) → Err why ≡ settled file answer → (f : Fault) × (answer ≡ Err f) × (reported file f ≡ why)
+stopped : {A B : Type 0} → (file : GameFile A) (answer : Result B Fault) (why : Unsplit)
+    → Err why ≡ settled file answer → (f : Fault) × (answer ≡ Err f) × (reported file f ≡ why)
 stopped file (Ok y) why is = absurd (cc)
 stopped file (Err f) why is = (f, refl, cc)
 
 module _ {A : Type 0} (taken : A → Option (List ℕ)) (failures : A → ℕ) (left_old : Option (List ℕ)) (source : Device) (old new : Games)
     (before log after : Option (List FileStep)) (so : SplitSoFar left_old source.before old before log) where
-  pub one_more_game : GameSplit taken failures old new source log after (Ok true) → SplitSoFar left_old source.after new before after × (source.failures_after ≡ source.failures)
+  pub one_more_game : GameSplit taken failures old new source log after (Ok true)
+      → SplitSoFar left_old source.after new before after × (source.failures_after ≡ source.failures)
   one_more_game call =
       let answer = answered call.file call.answer true call.settles in
       let next = rw answer at call.reads in
@@ -276,7 +301,8 @@ module _ {A : Type 0} (taken : A → Option (List ℕ)) (failures : A → ℕ) (
       (ended.0, ended.1, counted.0)
 
   pub stops_at : (why : Unsplit) → GameSplit taken failures old new source log after (Err why)
-      → SplitStops left_old source.after before after why × SplitFiles before after (Err why) × CountsSplit {A = Unit} (Err why) source.failures source.failures_after
+      → SplitStops left_old source.after before after why × SplitFiles before after (Err why)
+      × CountsSplit {A = Unit} (Err why) source.failures source.failures_after
   stops_at why call =
       let (f, answer, is) = stopped call.file call.answer why call.settles in
       let next = rw answer at call.reads in

@@ -36,9 +36,12 @@ pub returns : goal.returns
 returns c =
     let t = c.args.target in
     view_places c.args.board.now t
-    _ _ _ _ c.nearest.result c.nearest-2.result c.nearest-3.result c.nearest-4.result c.bitor.result c.bitor-2.result c.bitor-3.result c.bitor.ensures c.bitor-2.ensures c.bitor-3.ensures c.recall_invariant.ensures.file c.recall_invariant.ensures.rank
+    _ _ _ _ c.nearest.result c.nearest-2.result c.nearest-3.result c.nearest-4.result c.bitor.result c.bitor-2.result c.bitor-3.result
+    c.bitor.ensures c.bitor-2.ensures c.bitor-3.ensures c.recall_invariant.ensures.file c.recall_invariant.ensures.rank
     (places_and _ _ _ _ _ c.bitand.ensures c.rank_and_file-rank_and_file.ensures c.steep-steep.ensures)
-    (places_and _ _ _ _ _ c.bitand-2.ensures c.rank_and_file-rank_and_file.ensures (places_not _ _ (λ s. is_steep s t) c.not.ensures c.steep-steep.ensures))
+    (places_and _ _ _ _ _ c.bitand-2.ensures c.rank_and_file-rank_and_file.ensures
+    (places_not _ _ (λ s. is_steep s t) c.not.ensures c.steep-steep.ensures))
     (places_and _ _ _ _ _ c.bitand-3.ensures c.diagonals-diagonals.ensures c.steep-steep.ensures)
-    (places_and _ _ _ _ _ c.bitand-4.ensures c.diagonals-diagonals.ensures (places_not _ _ (λ s. is_steep s t) c.not-2.ensures c.steep-steep.ensures))
+    (places_and _ _ _ _ _ c.bitand-4.ensures c.diagonals-diagonals.ensures
+    (places_not _ _ (λ s. is_steep s t) c.not-2.ensures c.steep-steep.ensures))
     c.nearest.ensures c.nearest-2.ensures c.nearest-3.ensures c.nearest-4.ensures

@@ -4,4 +4,5 @@ use Rattle.chess_rules.proofs.candidates.may_have_two_origins.Goals as goal
 
 pub returns : goal.returns
 returns c = λ some.
-    one_may_see c.args.position.now c.args.kind c.args.target c.possible_origins.result c.only.result c.possible_origins.ensures c.only.ensures (c.is_none.ensures ∙ ap not some)
+    one_may_see c.args.position.now c.args.kind c.args.target c.possible_origins.result c.only.result c.possible_origins.ensures c.only.ensures
+    (c.is_none.ensures ∙ ap not some)

@@ -2,7 +2,8 @@ use Rattle.chess_rules.proofs.trying.SetsToCandidates.{clear_are, jumps_are}
 use Rattle.chess_rules.proofs.candidates.origin_set.Goals as goal
 
 pub returns-in-Knight : goal.returns-in-Knight
-returns-in-Knight c = jumps_are c.args.position.now c.args.kind c.args.target c.possible_origins-possible.result c.in-Knight.is c.possible_origins-possible.ensures
+returns-in-Knight c =
+    jumps_are c.args.position.now c.args.kind c.args.target c.possible_origins-possible.result c.in-Knight.is c.possible_origins-possible.ensures
 
 pub returns-in_default : goal.returns-in_default
 returns-in_default c =

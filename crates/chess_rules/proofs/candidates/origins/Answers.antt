@@ -24,6 +24,11 @@ returns c =
     let all : c.loop-origin.origins.items ≡ candidates c.args.position.now c.args.kind c.args.target = grind (arith, append-nil) in
     record {
       exactly = grind arith;
-      once = apart_there (candidates c.args.position.now c.args.kind c.args.target) c.loop-origin.origins.items all (candidates_apart c.args.position.now c.args.kind c.args.target);
-      few = omega (arith, few_there c.args.position.now c.args.kind c.args.target c.recall_invariant.ensures.file c.recall_invariant.ensures.rank, ap length all);
+      once = apart_there (candidates c.args.position.now c.args.kind c.args.target) c.loop-origin.origins.items all
+          (candidates_apart c.args.position.now c.args.kind c.args.target);
+      few = omega (
+        arith,
+        few_there c.args.position.now c.args.kind c.args.target c.recall_invariant.ensures.file c.recall_invariant.ensures.rank,
+        ap length all,
+      );
     }

@@ -12,4 +12,5 @@ pub returns-in-Black : goal.returns-in-Black
 unfolding mask_to mask word
 returns-in-Black c =
     subst (λ (d : Colour). Places c.of_bits-in-Black.result (λ s. reaches Pawn d s c.args.target)) (sym c.in-Black.is)
-    (table_places (reaches Pawn Black) _ c.args.target c.index-in-Black.result _ refl c.of_bits-in-Black.ensures c.index-in-Black.ensures.below c.index-in-Black.ensures.again)
+    (table_places (reaches Pawn Black) _ c.args.target c.index-in-Black.result _ refl
+    c.of_bits-in-Black.ensures c.index-in-Black.ensures.below c.index-in-Black.ensures.again)

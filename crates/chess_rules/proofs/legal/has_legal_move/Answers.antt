@@ -1,4 +1,5 @@
-use Rattle.chess_rules.proofs.Words.{Parts, pair_count, has_legal_move, count_king_steps, count_untried, has_king_step, has_untried_move, is_position, Bits, has, members, ◌≡◌, ℕ, ◌+◌, true, not, ◌||◌, sym, ◌∙◌, ap, arith, list_any, sum_by}
+use Rattle.chess_rules.proofs.Words.{Parts, pair_count, has_legal_move, count_king_steps, count_untried, has_king_step, has_untried_move, is_position}
+use Rattle.chess_rules.proofs.Words.{Bits, has, members, ◌≡◌, ℕ, ◌+◌, true, not, ◌||◌, sym, ◌∙◌, ap, arith, list_any, sum_by}
 use Rattle.chess_rules.proofs.positions.RulesOfPosition.{sound_from_position}
 use Rattle.chess_rules.proofs.trying.PairCounts.{pair_count_parts, pair_count_most}
 use Rattle.chess_rules.proofs.trying.LegalIsTried.{legal_move_found}
@@ -14,7 +15,8 @@ searches : (p : Parts) (w r : ℕ) → is_position p ≡ true → Bits r (λ i. 
 searches p w r position rest =
     record {
       found = legal_move_found p position ∙ ap (λ x. has_king_step p || x) (sym (any_both (has_untried_move p) w r rest));
-      count = sym (pair_count_parts p (sound_from_position p position)) ∙ ap (λ n. count_king_steps p + n) (sym (sum_both_sets (count_untried p) w r rest));
+      count = sym (pair_count_parts p (sound_from_position p position))
+          ∙ ap (λ n. count_king_steps p + n) (sym (sum_both_sets (count_untried p) w r rest));
     }
 
 pub has_king_step-requires : goal.has_king_step-requires

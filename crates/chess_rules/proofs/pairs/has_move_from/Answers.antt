@@ -23,8 +23,10 @@ loop-from-preserved c = grind (arith, fewer_left)
 
 pub returns-clause-found : goal.returns-clause-found
 returns-clause-found c =
-    (none_left (λ s. spec.is_legal_pair c.args.position.now s c.args.target) (members c.args.origins) c.loop-from.left c.args.probes.now c.loop-from.probes c.loop-from.invariant c.in_default.ensures).0
+    (none_left (λ s. spec.is_legal_pair c.args.position.now s c.args.target)
+    (members c.args.origins) c.loop-from.left c.args.probes.now c.loop-from.probes c.loop-from.invariant c.in_default.ensures).0
 
 pub returns-clause-count : goal.returns-clause-count
 returns-clause-count c =
-    (none_left (λ s. spec.is_legal_pair c.args.position.now s c.args.target) (members c.args.origins) c.loop-from.left c.args.probes.now c.loop-from.probes c.loop-from.invariant c.in_default.ensures).1
+    (none_left (λ s. spec.is_legal_pair c.args.position.now s c.args.target)
+    (members c.args.origins) c.loop-from.left c.args.probes.now c.loop-from.probes c.loop-from.invariant c.in_default.ensures).1

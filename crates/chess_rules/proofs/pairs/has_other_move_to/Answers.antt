@@ -1,4 +1,5 @@
-use Rattle.chess_rules.proofs.Words.{Parts, Square, squares, Counts, has_untried_move, count_untried, is_untried, is_legal_pair, Places, members, ◌≡◌, ℕ, Bool, ◌+◌, ◌<◌, ◌^◌, length, sym, ◌∙◌, ap, subst, arith, filter, list_any}
+use Rattle.chess_rules.proofs.Words.{Parts, Square, squares, Counts, has_untried_move, count_untried, is_untried, is_legal_pair, Places, members}
+use Rattle.chess_rules.proofs.Words.{◌≡◌, ℕ, Bool, ◌+◌, ◌<◌, ◌^◌, length, sym, ◌∙◌, ap, subst, arith, filter, list_any}
 use Rattle.chess_rules.specs.Pairs as spec
 use Rattle.chess_rules.proofs.sets.SetsToSquares.{members_are}
 use Rattle.chess_rules.proofs.trying.SearchThatCounts.{target_fits, fewer_targets, target_hit, no_target}
@@ -26,31 +27,43 @@ loop-target-init c = grind arith
 pub has_move_from-requires : goal.has_move_from-requires
 has_move_from-requires c =
     subst (λ n. c.loop-target.probes + n < 2 ^ 32) (sym (many c.args.position.now c.in-Some.target c.untried.result c.untried.ensures))
-    (target_fits (has_untried_move c.args.position.now) (count_untried c.args.position.now) (members c.args.targets) c.loop-target.left c.take_lowest.new.self c.args.probes.now c.loop-target.probes c.in-Some.target
+    (target_fits (has_untried_move c.args.position.now) (count_untried c.args.position.now)
+    (members c.args.targets) c.loop-target.left c.take_lowest.new.self c.args.probes.now c.loop-target.probes c.in-Some.target
     c.in-Some.ensures.next c.loop-target.invariant (2 ^ 32) c.requires)
 
 pub returns-then-has_move_from-clause-found : goal.returns-then-has_move_from-clause-found
 returns-then-has_move_from-clause-found c =
-    (target_hit (has_untried_move c.args.position.now) (count_untried c.args.position.now) (members c.args.targets) c.loop-target.left c.take_lowest.new.self c.args.probes.now c.loop-target.probes c.in-Some.target
-    c.in-Some.ensures.next c.loop-target.invariant c.has_move_from.result c.has_move_from.new.probes (found c.args.position.now c.in-Some.target c.untried.result c.untried.ensures c.has_move_from.result c.has_move_from.ensures.found) c.if-has_move_from.true (counted c.args.position.now c.in-Some.target c.untried.result c.untried.ensures c.has_move_from.result _ _ c.has_move_from.ensures.count)).0
+    (target_hit (has_untried_move c.args.position.now) (count_untried c.args.position.now)
+    (members c.args.targets) c.loop-target.left c.take_lowest.new.self c.args.probes.now c.loop-target.probes c.in-Some.target
+    c.in-Some.ensures.next c.loop-target.invariant c.has_move_from.result c.has_move_from.new.probes (found c.args.position.now
+    c.in-Some.target c.untried.result c.untried.ensures c.has_move_from.result c.has_move_from.ensures.found) c.if-has_move_from.true
+    (counted c.args.position.now c.in-Some.target c.untried.result c.untried.ensures c.has_move_from.result _ _ c.has_move_from.ensures.count)).0
 
 pub returns-then-has_move_from-clause-count : goal.returns-then-has_move_from-clause-count
 returns-then-has_move_from-clause-count c =
-    (target_hit (has_untried_move c.args.position.now) (count_untried c.args.position.now) (members c.args.targets) c.loop-target.left c.take_lowest.new.self c.args.probes.now c.loop-target.probes c.in-Some.target
-    c.in-Some.ensures.next c.loop-target.invariant c.has_move_from.result c.has_move_from.new.probes (found c.args.position.now c.in-Some.target c.untried.result c.untried.ensures c.has_move_from.result c.has_move_from.ensures.found) c.if-has_move_from.true (counted c.args.position.now c.in-Some.target c.untried.result c.untried.ensures c.has_move_from.result _ _ c.has_move_from.ensures.count)).1
+    (target_hit (has_untried_move c.args.position.now) (count_untried c.args.position.now)
+    (members c.args.targets) c.loop-target.left c.take_lowest.new.self c.args.probes.now c.loop-target.probes c.in-Some.target
+    c.in-Some.ensures.next c.loop-target.invariant c.has_move_from.result c.has_move_from.new.probes (found c.args.position.now
+    c.in-Some.target c.untried.result c.untried.ensures c.has_move_from.result c.has_move_from.ensures.found) c.if-has_move_from.true
+    (counted c.args.position.now c.in-Some.target c.untried.result c.untried.ensures c.has_move_from.result _ _ c.has_move_from.ensures.count)).1
 
 pub loop-target-smaller : goal.loop-target-smaller
 loop-target-smaller c = omega (arith, ap length c.in-Some.ensures.next)
 
 pub loop-target-preserved : goal.loop-target-preserved
 loop-target-preserved c =
-    fewer_targets (spec.has_untried_move c.args.position.now) (spec.count_untried c.args.position.now) (members c.args.targets) c.loop-target.left c.take_lowest.new.self c.args.probes.now c.loop-target.probes c.in-Some.target
-    c.in-Some.ensures.next c.loop-target.invariant c.has_move_from.result c.has_move_from.new.probes (found c.args.position.now c.in-Some.target c.untried.result c.untried.ensures c.has_move_from.result c.has_move_from.ensures.found) c.if-has_move_from.false (counted c.args.position.now c.in-Some.target c.untried.result c.untried.ensures c.has_move_from.result _ _ c.has_move_from.ensures.count)
+    fewer_targets (spec.has_untried_move c.args.position.now) (spec.count_untried c.args.position.now)
+    (members c.args.targets) c.loop-target.left c.take_lowest.new.self c.args.probes.now c.loop-target.probes c.in-Some.target
+    c.in-Some.ensures.next c.loop-target.invariant c.has_move_from.result c.has_move_from.new.probes (found c.args.position.now
+    c.in-Some.target c.untried.result c.untried.ensures c.has_move_from.result c.has_move_from.ensures.found) c.if-has_move_from.false
+    (counted c.args.position.now c.in-Some.target c.untried.result c.untried.ensures c.has_move_from.result _ _ c.has_move_from.ensures.count)
 
 pub returns-clause-found : goal.returns-clause-found
 returns-clause-found c =
-    (no_target (spec.has_untried_move c.args.position.now) (spec.count_untried c.args.position.now) (members c.args.targets) c.loop-target.left c.args.probes.now c.loop-target.probes c.loop-target.invariant c.in_default.ensures).0
+    (no_target (spec.has_untried_move c.args.position.now) (spec.count_untried c.args.position.now)
+    (members c.args.targets) c.loop-target.left c.args.probes.now c.loop-target.probes c.loop-target.invariant c.in_default.ensures).0
 
 pub returns-clause-count : goal.returns-clause-count
 returns-clause-count c =
-    (no_target (spec.has_untried_move c.args.position.now) (spec.count_untried c.args.position.now) (members c.args.targets) c.loop-target.left c.args.probes.now c.loop-target.probes c.loop-target.invariant c.in_default.ensures).1
+    (no_target (spec.has_untried_move c.args.position.now) (spec.count_untried c.args.position.now)
+    (members c.args.targets) c.loop-target.left c.args.probes.now c.loop-target.probes c.loop-target.invariant c.in_default.ensures).1

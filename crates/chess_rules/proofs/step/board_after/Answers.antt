@@ -1,4 +1,5 @@
-use Rattle.chess_rules.proofs.Words.{carried, short_right, long_right, short_wing, long_wing, Plain, EnPassant, ShortCastling, LongCastling, ◌≡◌, ◌∙◌, sym, ap, arith, Some}
+use Rattle.chess_rules.proofs.Words.{carried, short_right, long_right, short_wing, long_wing, Plain, EnPassant, ShortCastling, LongCastling}
+use Rattle.chess_rules.proofs.Words.{◌≡◌, ◌∙◌, sym, ap, arith, Some}
 use Rattle.chess_rules.proofs.moves.KindsOfSteps.{obeys_if_step, board_of_step, rook_waits}
 use Rattle.chess_rules.proofs.step.board_after.Goals as goal
 use Rattle.chess_rules.proofs.step.board_after.Goals.{in-None, in-Some}
@@ -25,7 +26,8 @@ returns-in-ShortCastling c =
     let moved : c.match-mv.board ≡ carried p m = elim c.match-mv.branch [ in-None w ↦ grind arith | in-Some w ↦ grind arith ] in
     let is = sym c.in-ShortCastling.is ∙ c.requires.kind.kind in
     let board = board_of_step p m ShortCastling is c.requires.step in
-    let rook = rook_waits p m (short_right p.side p.rights) short_wing (omega arith) (omega arith) (obeys_if_step p m ShortCastling is ∙ c.requires.step) in
+    let rook =
+    rook_waits p m (short_right p.side p.rights) short_wing (omega arith) (omega arith) (obeys_if_step p m ShortCastling is ∙ c.requires.step) in
     grind arith
 
 pub returns-in-LongCastling : goal.returns-in-LongCastling
@@ -35,5 +37,6 @@ returns-in-LongCastling c =
     let moved : c.match-mv.board ≡ carried p m = elim c.match-mv.branch [ in-None w ↦ grind arith | in-Some w ↦ grind arith ] in
     let is = sym c.in-LongCastling.is ∙ c.requires.kind.kind in
     let board = board_of_step p m LongCastling is c.requires.step in
-    let rook = rook_waits p m (long_right p.side p.rights) long_wing (omega arith) (omega arith) (obeys_if_step p m LongCastling is ∙ c.requires.step) in
+    let rook =
+    rook_waits p m (long_right p.side p.rights) long_wing (omega arith) (omega arith) (obeys_if_step p m LongCastling is ∙ c.requires.step) in
     grind arith

@@ -1,4 +1,5 @@
-use Rattle.chess_rules.proofs.Words.{Pawn, reaches, promotion_fits, castles, short_wing, long_wing, Plain, ShortCastling, LongCastling, ◌≡◌, ◌&&◌, ◌∙◌, sym, ap, arith}
+use Rattle.chess_rules.proofs.Words.{Pawn, reaches, promotion_fits, castles, short_wing, long_wing, Plain, ShortCastling, LongCastling, ◌≡◌}
+use Rattle.chess_rules.proofs.Words.{◌&&◌, ◌∙◌, sym, ap, arith}
 use Rattle.chess_rules.proofs.moves.KindsOfSteps.{obeys_if_step, passing_rules}
 use Rattle.chess_rules.proofs.step.is_step_of_kind.Goals as goal
 use Rattle.chess_rules.proofs.step.is_step_of_kind.Goals.{then-promotion_fits, else-promotion_fits}
@@ -31,5 +32,6 @@ returns-in-ShortCastling c =
 
 pub returns-in-LongCastling : goal.returns-in-LongCastling
 returns-in-LongCastling c =
-    c.castles-in-LongCastling.ensures ∙ (ap (λ right. castles c.args.position.now c.args.mv.now right long_wing) c.own_rights-in-LongCastling.ensures.long
+    c.castles-in-LongCastling.ensures
+    ∙ (ap (λ right. castles c.args.position.now c.args.mv.now right long_wing) c.own_rights-in-LongCastling.ensures.long
     ∙ obeys_if_step c.args.position.now c.args.mv.now LongCastling (sym c.in-LongCastling.is ∙ c.requires.kind))

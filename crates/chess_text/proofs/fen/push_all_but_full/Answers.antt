@@ -1,4 +1,5 @@
-use Rattle.chess_text.proofs.Words.{◌≡◌, List, ℕ, [], ◌∷◌, ◌++◌, append_assoc, sym, ◌∙◌, ap, arith, decimal, side_text, rights_text, target_text}
+use Rattle.chess_text.proofs.Words.{◌≡◌, List, ℕ, [], ◌∷◌, ◌++◌, append_assoc, sym, ◌∙◌, ap, arith, decimal, side_text}
+use Rattle.chess_text.proofs.Words.{rights_text, target_text}
 use Rattle.chess_text.proofs.positions.SixFieldsJoined.{five_written, six_written, length-five}
 use Rattle.chess_text.proofs.fen.push_all_but_full.Goals as goal
 

@@ -1,4 +1,5 @@
-use Rattle.chess_text.proofs.Words.{◌≡◌, length, true, ◌&&◌, sym, ◌∙◌, ap, arith, Option, Ok, Err, ◌==◌, is_none, if◌then◌else◌, nat_tests, Parts, built_unless, position_fault, at_field, if_position}
+use Rattle.chess_text.proofs.Words.{◌≡◌, length, true, ◌&&◌, sym, ◌∙◌, ap, arith, Option, Ok, Err, ◌==◌, is_none}
+use Rattle.chess_text.proofs.Words.{if◌then◌else◌, nat_tests, Parts, built_unless, position_fault, at_field, if_position}
 use Rattle.chess_rules.specs.declared.position.PositionFault.{PositionFault}
 use Rattle.chess_text.proofs.fen.read_fen.Goals as goal
 
@@ -12,7 +13,8 @@ of_fault p o long =
 no_fault : (p q : Parts) (o : Option PositionFault) → Ok q ≡ built_unless o p → Ok q ≡ (if is_none o then Ok p else at_field 7)
 no_fault p q o h = grind arith
 
-a_fault : (p : Parts) (f : PositionFault) (o : Option PositionFault) → Err f ≡ built_unless o p → at_field 7 ≡ (if is_none o then Ok p else at_field 7)
+a_fault : (p : Parts) (f : PositionFault) (o : Option PositionFault)
+    → Err f ≡ built_unless o p → at_field 7 ≡ (if is_none o then Ok p else at_field 7)
 a_fault p f o h = grind arith
 
 pub returns-in-Ok : goal.returns-in-Ok

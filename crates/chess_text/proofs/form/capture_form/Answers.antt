@@ -8,4 +8,5 @@ returns-in-Some c =
 
 pub returns-in_ok-file_of-in-None : goal.returns-in_ok-file_of-in-None
 returns-in_ok-file_of-in-None c =
-    pawn_capture c.args.first c.args.file c.args.rank c.in_ok-file_of-in-None.field-0 _ (sym c.file_of.ensures ∙ c.in_ok-file_of-in-None.was) c.move_form-in-None.ensures
+    pawn_capture c.args.first c.args.file c.args.rank c.in_ok-file_of-in-None.field-0 _
+    (sym c.file_of.ensures ∙ c.in_ok-file_of-in-None.was) c.move_form-in-None.ensures

@@ -1,4 +1,5 @@
-use Rattle.chess_text.proofs.Words.{◌+◌, ◌≤◌, map, length, take, sym, ◌∙◌, ap, arith, rules, slice_set, count_by, take_all, squares, form_move, is_step_of_form, origin_kind, origins_of_form, nth_square, step_count, count_steps}
+use Rattle.chess_text.proofs.Words.{◌+◌, ◌≤◌, map, length, take, sym, ◌∙◌, ap, arith, rules, slice_set, count_by, take_all, squares}
+use Rattle.chess_text.proofs.Words.{form_move, is_step_of_form, origin_kind, origins_of_form, nth_square, step_count, count_steps}
 use Rattle.chess_text.proofs.forms.FormOriginKinds.{kinds_more, counts_more, pairs_few, squares_long}
 use Rattle.chess_text.proofs.form_origins.origins_of_form.Goals as goal
 

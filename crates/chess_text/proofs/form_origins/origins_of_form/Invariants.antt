@@ -7,6 +7,7 @@ invariant-loop-index l =
     record {
       long : length l.kinds ≡ 64;
       so_far : take l.index l.kinds ≡ map (origin_kind l.position l.form) (take l.index squares);
-      tried : l.probes ≡ l.fn.probes + count_by (λ s. is_step_of_form l.position l.form (form_move l.position.side l.form s)) (take l.index squares);
+      tried : l.probes
+          ≡ l.fn.probes + count_by (λ s. is_step_of_form l.position l.form (form_move l.position.side l.form s)) (take l.index squares);
       few : l.probes ≤ l.fn.probes + l.index;
     }

@@ -6,5 +6,6 @@ pub returns-then-not-push_item : goal.returns-then-not-push_item
 returns-then-not-push_item c =
     no_cells c.args.text.now
     (no_rank c.args.text.now c.loop-byte.byte-index c.loop-byte-test.true
-    (sym (ap (λ b. is_item (get_or c.args.text.now c.loop-byte.byte-index 0) && nat_le (length b + length (cells_at (get_or c.args.text.now c.loop-byte.byte-index 0))) 8) c.loop-byte.invariant.taken)
+    (sym (ap (λ b. is_item (get_or c.args.text.now c.loop-byte.byte-index 0)
+    && nat_le (length b + length (cells_at (get_or c.args.text.now c.loop-byte.byte-index 0))) 8) c.loop-byte.invariant.taken)
     ∙ sym c.push_item.ensures.fits ∙ c.if-not-push_item.true))

@@ -24,4 +24,5 @@ returns-then-is_castling-clause-answer c =
 pub returns-else-is_castling-clause-answer : goal.returns-else-is_castling-clause-answer
 returns-else-is_castling-clause-answer c =
     castling_other _ _ c.castling_move-mv.result
-    (c.castling_move-mv.ensures ∙ ap (λ side. castling_move side c.args.long) c.side.ensures) (sym c.is_castling.ensures ∙ c.if-is_castling.false)
+    (c.castling_move-mv.ensures ∙ ap (λ side. castling_move side c.args.long) c.side.ensures)
+    (sym c.is_castling.ensures ∙ c.if-is_castling.false)

@@ -17,29 +17,40 @@ only_found : (o : Option Played) → ok_or o NoMove ≡ only (cons_option o [])
 only_found o = grind arith
 
 -- what its move gives is all that is found
-lone_gives : CandidatesComplete → (p : Parts) (k : Kind) (file rank : Option ℕ) (to : Square) (promotion : Option Promotion) (s : Square) → Some s ≡ lone (candidates p k to)
-    → ok_or (played (piece_move_fits p file rank (move_from to promotion s)) p (move_from to promotion s)) NoMove ≡ move_of_form p (Man k file rank to promotion)
+lone_gives : CandidatesComplete → (p : Parts) (k : Kind) (file rank : Option ℕ) (to : Square) (promotion : Option Promotion) (s : Square)
+    → Some s ≡ lone (candidates p k to)
+    → ok_or (played (piece_move_fits p file rank (move_from to promotion s)) p (move_from to promotion s)) NoMove
+    ≡ move_of_form p (Man k file rank to promotion)
 lone_gives complete p k file rank to promotion s alone =
     let perm = subst (IsPermutation (candidates p k to)) (lone_is _ s alone) (IsPermutation-refl _) in
-    cc (tried_own p k file rank to promotion s (candidates_own p k to (s ∷ []) perm 0 s (omega arith)), only_found (from_square p (Man k file rank to _) to promotion s), reads_candidates p k file rank to promotion complete (s ∷ []) perm)
+    cc (
+      tried_own p k file rank to promotion s (candidates_own p k to (s ∷ []) perm 0 s (omega arith)),
+      only_found (from_square p (Man k file rank to _) to promotion s),
+      reads_candidates p k file rank to promotion complete (s ∷ []) perm,
+    )
 
 -- The origins are the candidates.
 
 abbrev tried_from : After-as_slice-origin-items → Square → Option Played
-tried_from o = from_square o.args.position.now (Man o.args.kind o.args.hints.file o.args.hints.rank o.args.to o.args.promotion) o.args.to o.args.promotion
+tried_from o =
+    from_square o.args.position.now (Man o.args.kind o.args.hints.file o.args.hints.rank o.args.to o.args.promotion) o.args.to o.args.promotion
 
 perm : (o : After-as_slice-origin-items) → IsPermutation (candidates o.args.position.now o.args.kind o.args.to) o.as_slice-origin-items.result.now
 perm o = rw o.as_slice-origin-items.ensures.value o.origins-origins.ensures.exactly
 
-count : (o : After-as_slice-origin-items) → length o.as_slice-origin-items.result.now ≡ length (candidates o.args.position.now o.args.kind o.args.to)
+count : (o : After-as_slice-origin-items)
+    → length o.as_slice-origin-items.result.now ≡ length (candidates o.args.position.now o.args.kind o.args.to)
 count o = let same = length_permutation (candidates _ _ _) _ (perm o) in cc
 
 reads : (o : After-as_slice-origin-items)
-    → only (filter_map (tried_from o) o.as_slice-origin-items.result.now) ≡ move_of_form o.args.position.now (Man o.args.kind o.args.hints.file o.args.hints.rank o.args.to o.args.promotion)
+    → only (filter_map (tried_from o) o.as_slice-origin-items.result.now)
+    ≡ move_of_form o.args.position.now (Man o.args.kind o.args.hints.file o.args.hints.rank o.args.to o.args.promotion)
 reads o = reads_candidates o.args.position.now _ _ _ _ _ o.candidates_are_complete.ensures _ (perm o)
 
-tried : (o : After-as_slice-origin-items) (i : ℕ) (s : Square) → i < length o.as_slice-origin-items.result.now → s ≡ get_or o.as_slice-origin-items.result.now i s
-    → played (piece_move_fits o.args.position.now o.args.hints.file o.args.hints.rank (move_from o.args.to o.args.promotion s)) o.args.position.now (move_from o.args.to o.args.promotion s)
+tried : (o : After-as_slice-origin-items) (i : ℕ) (s : Square)
+    → i < length o.as_slice-origin-items.result.now → s ≡ get_or o.as_slice-origin-items.result.now i s
+    → played (piece_move_fits o.args.position.now o.args.hints.file o.args.hints.rank (move_from o.args.to o.args.promotion s)) o.args.position.now
+    (move_from o.args.to o.args.promotion s)
     ≡ tried_from o (get_or o.as_slice-origin-items.result.now i s)
 tried o i s low is = tried_at o.args.position.now o.args.kind _ _ _ o.args.promotion _ (perm o) i s _ low is refl
 
@@ -51,7 +62,8 @@ returns-then-is_some-clause-answer c =
     let fits = piece_move_fits p c.args.hints.file c.args.hints.rank m in
     let agreed = sym c.agrees-in-loop-origin.ensures.agrees ∙ c.if-agrees-2.true in
     let (x, is) = kept_next p m (and_parts _ fits agreed).0 in
-    second_one (tried_from o) _ c.loop-origin.origin-index (with_position p c.loop-origin.found) c.loop-origin.invariant.found c.origin-item.result _ x (omega arith)
+    second_one (tried_from o) _ c.loop-origin.origin-index
+    (with_position p c.loop-origin.found) c.loop-origin.invariant.found c.origin-item.result _ x (omega arith)
     (tried o c.loop-origin.origin-index c.origin-item.result (omega arith) c.origin-item.is)
     (fitting_is_played p m fits agreed ∙ is)
     (kept_is_some p _ c.loop-origin.invariant.legal ∙ sym c.is_some.ensures ∙ c.if-is_some.true)
@@ -66,8 +78,7 @@ returns-then-is_some-clause-two c _ =
     omega arith
 
 pub returns-then-is_some-clause-most : goal.returns-then-is_some-clause-most
-returns-then-is_some-clause-most c =
-    omega (arith, count (goal.at.returns-then-is_some-clause-most c).After-as_slice-origin-items)
+returns-then-is_some-clause-most c = omega (arith, count (goal.at.returns-then-is_some-clause-most c).After-as_slice-origin-items)
 
 pub loop-origin-preserved : goal.loop-origin-preserved
 loop-origin-preserved c =
@@ -83,7 +94,8 @@ loop-origin-preserved c =
           let (x, is) = kept_next p m legal in
           record {
             found =
-                first_one (tried_from o) _ _ (with_position p c.loop-origin.found) c.loop-origin.invariant.found c.origin-item.result _ x (omega arith) here
+                first_one (tried_from o) _ _
+                (with_position p c.loop-origin.found) c.loop-origin.invariant.found c.origin-item.result _ x (omega arith) here
                 (fitting_is_played p m fits agreed ∙ is)
                 (kept_is_some p _ c.loop-origin.invariant.legal ∙ sym w.is_some.ensures ∙ w.if-is_some.false)
                 ∙ (ap option_to_list (sym is) ∙ ap (λ o. option_to_list (with_position p o)) (sym w.found-is));
@@ -93,7 +105,8 @@ loop-origin-preserved c =
       | else-agrees-2 w ↦
           record {
             found =
-                still_none (tried_from o) _ _ (with_position p c.loop-origin.found) c.loop-origin.invariant.found c.origin-item.result _ (omega arith) here
+                still_none (tried_from o) _ _
+                (with_position p c.loop-origin.found) c.loop-origin.invariant.found c.origin-item.result _ (omega arith) here
                 (other_is_not_played p m fits (sym c.agrees-in-loop-origin.ensures.agrees ∙ w.if-agrees-2.false))
                 ∙ ap (λ o. option_to_list (with_position p o)) (sym w.found-is);
             legal = rw w.found-is c.loop-origin.invariant.legal;
@@ -106,30 +119,28 @@ returns-in-None-clause-answer c =
     let o = (goal.at.returns-in-None-clause-answer c).After-as_slice-origin-items in
     let p = c.args.position.now in
     ap (λ x. ok_or (with_position p x) NoMove) (sym c.in-None.is)
-    ∙ (at_the_end (tried_from o) _ c.loop-origin.origin-index (with_position p c.loop-origin.found) c.loop-origin.invariant.found (omega arith) ∙ reads o)
+    ∙ (at_the_end (tried_from o) _ c.loop-origin.origin-index
+    (with_position p c.loop-origin.found) c.loop-origin.invariant.found (omega arith) ∙ reads o)
 
 pub returns-in-None-clause-each : goal.returns-in-None-clause-each
-returns-in-None-clause-each c _ =
-    omega (arith, count (goal.at.returns-in-None-clause-each c).After-as_slice-origin-items)
+returns-in-None-clause-each c _ = omega (arith, count (goal.at.returns-in-None-clause-each c).After-as_slice-origin-items)
 
 pub returns-in-None-clause-most : goal.returns-in-None-clause-most
-returns-in-None-clause-most c =
-    omega (arith, count (goal.at.returns-in-None-clause-most c).After-as_slice-origin-items)
+returns-in-None-clause-most c = omega (arith, count (goal.at.returns-in-None-clause-most c).After-as_slice-origin-items)
 
 pub returns-in-Some-found-clause-answer : goal.returns-in-Some-found-clause-answer
 returns-in-Some-found-clause-answer c =
     let o = (goal.at.returns-in-Some-found-clause-answer c).After-as_slice-origin-items in
     let p = c.args.position.now in
     ap (λ x. ok_or (with_position p x) NoMove) (sym c.in-Some-found.is)
-    ∙ (at_the_end (tried_from o) _ c.loop-origin.origin-index (with_position p c.loop-origin.found) c.loop-origin.invariant.found (omega arith) ∙ reads o)
+    ∙ (at_the_end (tried_from o) _ c.loop-origin.origin-index
+    (with_position p c.loop-origin.found) c.loop-origin.invariant.found (omega arith) ∙ reads o)
 
 pub returns-in-Some-found-clause-each : goal.returns-in-Some-found-clause-each
-returns-in-Some-found-clause-each c _ =
-    omega (arith, count (goal.at.returns-in-Some-found-clause-each c).After-as_slice-origin-items)
+returns-in-Some-found-clause-each c _ = omega (arith, count (goal.at.returns-in-Some-found-clause-each c).After-as_slice-origin-items)
 
 pub returns-in-Some-found-clause-most : goal.returns-in-Some-found-clause-most
-returns-in-Some-found-clause-most c =
-    omega (arith, count (goal.at.returns-in-Some-found-clause-most c).After-as_slice-origin-items)
+returns-in-Some-found-clause-most c = omega (arith, count (goal.at.returns-in-Some-found-clause-most c).After-as_slice-origin-items)
 
 pub returns-in-Some-found-clause-some : goal.returns-in-Some-found-clause-some
 returns-in-Some-found-clause-some c =

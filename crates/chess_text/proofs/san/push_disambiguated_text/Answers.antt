@@ -17,5 +17,6 @@ returns-clause-text c =
     (c.push.ensures.items ∙ ap₂ (λ (s : List ℕ) d. s ++ d ∷ []) c.requires.empty c.letter.ensures.value)
     (apart_same m.from (rivals p k m) _ c.rivals_of-rivals.result.on_file c.rivals_of-rivals.result.on_rank
     c.rivals_of-rivals.ensures.any c.rivals_of-rivals.ensures.file c.rivals_of-rivals.ensures.rank))
-    (ap capture_if (something p m c.at.result _ c.at.ensures c.is_some.ensures ∙ sym (piece_takes p m k c.requires.own (pawn_has_no_rivals k c.requires.may_have_rivals)))))
+    (ap capture_if (something p m c.at.result _ c.at.ensures c.is_some.ensures
+    ∙ sym (piece_takes p m k c.requires.own (pawn_has_no_rivals k c.requires.may_have_rivals)))))
     refl

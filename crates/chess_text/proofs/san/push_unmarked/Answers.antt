@@ -1,4 +1,5 @@
-use Rattle.chess_text.proofs.Words.{◌≡◌, true, Some, sym, ◌∙◌, subst, arith, Kind, King, Pawn, Piece, Move, Parts, at, own, disambiguation_pairs, kind_pairs, kind_text, unmarked}
+use Rattle.chess_text.proofs.Words.{◌≡◌, true, Some, sym, ◌∙◌, subst, arith, Kind, King, Pawn, Piece, Move, Parts, at, own}
+use Rattle.chess_text.proofs.Words.{disambiguation_pairs, kind_pairs, kind_text, unmarked}
 use Rattle.chess_text.proofs.forms.MoverOfMove.{may_have_rivals, mover, mover_stands}
 use Rattle.chess_text.proofs.san.push_unmarked.Goals as goal
 
@@ -31,12 +32,14 @@ push_disambiguated_text-requires c =
 unmarked_is : (p : Parts) (m : Move) (x : Piece) (k : Kind) → at p.board m.from ≡ Some x → x.kind ≡ k → unmarked p m ≡ kind_text k p m
 unmarked_is p m x k e is = cc
 
-pairs_are : (p : Parts) (m : Move) (x : Piece) (k : Kind) → at p.board m.from ≡ Some x → x.kind ≡ k → disambiguation_pairs p m ≡ kind_pairs k p m
+pairs_are : (p : Parts) (m : Move) (x : Piece) (k : Kind) → at p.board m.from ≡ Some x
+    → x.kind ≡ k → disambiguation_pairs p m ≡ kind_pairs k p m
 pairs_are p m x k e is = cc
 
 pub returns-in-King-clause-text : goal.returns-in-King-clause-text
 returns-in-King-clause-text c =
-    c.push_king_text.ensures.text ∙ sym (unmarked_is c.args.position.now c.args.mv.now c.in-Some.piece King (sym c.at.ensures ∙ c.in-Some.is) c.in-King.is)
+    c.push_king_text.ensures.text
+    ∙ sym (unmarked_is c.args.position.now c.args.mv.now c.in-Some.piece King (sym c.at.ensures ∙ c.in-Some.is) c.in-King.is)
 
 pub returns-in-King-clause-pairs : goal.returns-in-King-clause-pairs
 returns-in-King-clause-pairs c =
@@ -44,7 +47,8 @@ returns-in-King-clause-pairs c =
 
 pub returns-in-Pawn-clause-text : goal.returns-in-Pawn-clause-text
 returns-in-Pawn-clause-text c =
-    c.push_pawn_text.ensures.text ∙ sym (unmarked_is c.args.position.now c.args.mv.now c.in-Some.piece Pawn (sym c.at.ensures ∙ c.in-Some.is) c.in-Pawn.is)
+    c.push_pawn_text.ensures.text
+    ∙ sym (unmarked_is c.args.position.now c.args.mv.now c.in-Some.piece Pawn (sym c.at.ensures ∙ c.in-Some.is) c.in-Pawn.is)
 
 pub returns-in-Pawn-clause-pairs : goal.returns-in-Pawn-clause-pairs
 returns-in-Pawn-clause-pairs c =

@@ -1,4 +1,5 @@
-use Rattle.chess_text.proofs.Words.{◌≡◌, Bool, true, length, take, ◌∙◌, ap, arith, list_any, IsPermutation, length_permutation, Square, candidates, rivals}
+use Rattle.chess_text.proofs.Words.{◌≡◌, Bool, true, length, take, ◌∙◌, ap, arith, list_any, IsPermutation, length_permutation, Square}
+use Rattle.chess_text.proofs.Words.{candidates, rivals}
 use Rattle.chess_text.proofs.names.RivalsAreCandidates.{seen, found_more, all_found, rivals_seen, lone_candidate, no_rivals}
 use Rattle.chess_text.proofs.san.rivals_of.Goals as goal
 
@@ -8,7 +9,8 @@ loop-origin-preserved c =
       found =
           found_more _ _ _ _ c.origin-item.result c.is_rival-is_rival.result
           c.loop-origin.found.any c.loop-origin.found.on_file c.loop-origin.found.on_rank _ _ _
-          c.loop-origin-test.true c.origin-item.is c.is_rival-is_rival.ensures.rival c.loop-origin.invariant.found c.with-found.ensures.any c.with-found.ensures.file c.with-found.ensures.rank;
+          c.loop-origin-test.true c.origin-item.is c.is_rival-is_rival.ensures.rival c.loop-origin.invariant.found
+          c.with-found.ensures.any c.with-found.ensures.file c.with-found.ensures.rank;
       tried = omega arith;
     }
 
@@ -35,7 +37,8 @@ perm c =
 
 -- all of them were seen
 whole : (c : goal.After-loop-origin) (test : Square → Bool)
-    → seen c.args.position.now c.args.mv.now test (take c.loop-origin.origin-index c.as_slice-origin-items.result.now) ≡ list_any test (rivals c.args.position.now c.args.kind c.args.mv.now)
+    → seen c.args.position.now c.args.mv.now test (take c.loop-origin.origin-index c.as_slice-origin-items.result.now)
+    ≡ list_any test (rivals c.args.position.now c.args.kind c.args.mv.now)
 whole c test =
     all_found c.args.position.now c.args.mv.now test c.as_slice-origin-items.result.now c.loop-origin.origin-index c.loop-origin-test.false
     ∙ rivals_seen c.candidates_are_complete.ensures c.args.position.now _ c.args.mv.now test c.as_slice-origin-items.result.now (perm c)
@@ -50,5 +53,4 @@ pub returns-clause-rank : goal.returns-clause-rank
 returns-clause-rank c = c.loop-origin.invariant.found.rank_is ∙ whole c _
 
 pub returns-clause-pairs : goal.returns-clause-pairs
-returns-clause-pairs c =
-    omega (arith, length_permutation (candidates _ _ _) c.as_slice-origin-items.result.now (perm c))
+returns-clause-pairs c = omega (arith, length_permutation (candidates _ _ _) c.as_slice-origin-items.result.now (perm c))

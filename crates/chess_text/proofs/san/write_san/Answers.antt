@@ -1,4 +1,5 @@
-use Rattle.chess_text.proofs.Words.{◌≡◌, ◌+◌, ◌≤◌, Bool, [], ◌++◌, length, sym, ◌∙◌, ap, ap₂, subst, arith, length-append, codes, if◌then◌else◌, is_check, is_mate, MarkPairs, mark, mark_after}
+use Rattle.chess_text.proofs.Words.{◌≡◌, ◌+◌, ◌≤◌, Bool, [], ◌++◌, length, sym, ◌∙◌, ap, ap₂, subst, arith, length-append}
+use Rattle.chess_text.proofs.Words.{codes, if◌then◌else◌, is_check, is_mate, MarkPairs, mark, mark_after}
 use Rattle.chess_text.proofs.san.write_san.Goals as goal
 
 pub returns-clause-text : goal.returns-clause-text
@@ -8,7 +9,8 @@ returns-clause-text c = c.push_mark.ensures.text ∙ ap₂ (λ s o. s ++ mark o)
 mark_short : (mates checks : Bool) → length (if mates then codes "#" else if checks then codes "+" else []) ≤ 1
 mark_short mates checks = grind arith
 
-joined : (c : goal.After-push_mark) → length c.push_mark.new.text.items ≡ length c.push_unmarked.new.text.items + length (mark_after c.args.played.now.next)
+joined : (c : goal.After-push_mark)
+    → length c.push_mark.new.text.items ≡ length c.push_unmarked.new.text.items + length (mark_after c.args.played.now.next)
 joined c = ap length c.push_mark.ensures.text ∙ length-append _ _
 
 pub returns-clause-some : goal.returns-clause-some

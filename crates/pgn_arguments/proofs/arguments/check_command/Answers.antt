@@ -9,4 +9,5 @@ pub returns : goal.returns
 unfolding check_command
 returns c =
     let named = app_about _ _ _ c.about.ensures ∙ c.new.ensures.app in
-    IfOk-weaker c.arg.result _ _ (λ made h. h.shape c.file_argument.ensures.local ∙ ap₂ with_rule named c.file_argument.ensures.rule) c.arg.ensures
+    IfOk-weaker c.arg.result _ _
+    (λ made h. h.shape c.file_argument.ensures.local ∙ ap₂ with_rule named c.file_argument.ensures.rule) c.arg.ensures

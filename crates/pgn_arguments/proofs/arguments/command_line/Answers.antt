@@ -42,4 +42,5 @@ returns c =
     c.in_ok-subcommand-3.ensures.shape (is_local _ _ list_is list_is_plain) ∙ ap₂ with_subcommand second (ap (λ (a : App). a.top) list_is) in
     let split_is = c.in_ok-split_command.ensures in
     IfOk-weaker c.subcommand-4.result _ _
-    (λ made h. h.shape (is_local _ _ split_is split_is_plain) ∙ ap₂ with_subcommand third (ap (λ (a : App). a.top) split_is)) c.subcommand-4.ensures
+    (λ made h. h.shape (is_local _ _ split_is split_is_plain) ∙ ap₂ with_subcommand third (ap (λ (a : App). a.top) split_is))
+    c.subcommand-4.ensures

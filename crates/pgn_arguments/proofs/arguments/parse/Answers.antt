@@ -9,8 +9,7 @@ use Rattle.pgn_arguments.proofs.commands.SubcommandToRequest.{line_is_free, meet
 use Rattle.pgn_arguments.proofs.arguments.parse.Goals as goal
 
 pub task_of-requires : goal.task_of-requires
-task_of-requires g c =
-    meets_known c.in_ok-command.command _ c.in-Ok.matches c.in_ok-command.ensures c.in-Ok.ensures.matches c.in-Ok.ensures.parsed
+task_of-requires g c = meets_known c.in_ok-command.command _ c.in-Ok.matches c.in_ok-command.ensures c.in-Ok.ensures.matches c.in-Ok.ensures.parsed
 
 pub returns-in-Ok-clause-task : goal.returns-in-Ok-clause-task
 unfolding request_in

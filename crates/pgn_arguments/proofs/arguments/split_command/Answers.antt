@@ -12,7 +12,9 @@ returns c =
     let dir : rule_of c.help-dir.result ≡ dir_rule = rule_help c.required.result c.help-dir.result _ c.help-dir.ensures
     ∙ rule_required c.value_name.result c.required.result _ c.required.ensures
     ∙ ap (λ (r : Rule). record r { required = true })
-    (rule_value_name c.new.result c.value_name.result _ c.value_name.ensures ∙ ap (λ (r : Rule). record r { value_names = 1 }) c.new.ensures.rule) in
+    (rule_value_name c.new.result c.value_name.result _ c.value_name.ensures
+    ∙ ap (λ (r : Rule). record r { value_names = 1 }) c.new.ensures.rule) in
     let local : c.help-dir.result.global ≡ false = search rules in
     let first = c.in_ok-arg.ensures.shape local ∙ ap₂ with_rule named dir in
-    IfOk-weaker c.arg-2.result _ _ (λ made h. h.shape c.file_argument.ensures.local ∙ ap₂ with_rule first c.file_argument.ensures.rule) c.arg-2.ensures
+    IfOk-weaker c.arg-2.result _ _
+    (λ made h. h.shape c.file_argument.ensures.local ∙ ap₂ with_rule first c.file_argument.ensures.rule) c.arg-2.ensures

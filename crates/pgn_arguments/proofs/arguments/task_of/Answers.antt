@@ -13,7 +13,8 @@ pub unreachable-requires-in_default-name : goal.unreachable-requires-in_default-
 unreachable-requires-in_default-name c =
     let rows = rows_of (found_of c.in-Some.inner.now) in
     let met = request_met c.args.matches.now c.in-Some.name.now rows c.in-Some.ensures.name c.in-Some.ensures.rows in
-    no_other c.in-Some.name.now rows c.in_default-name.not-export c.in_default-name.not-check c.in_default-name.not-list c.in_default-name.not-split (rw met at c.requires)
+    no_other c.in-Some.name.now rows c.in_default-name.not-export c.in_default-name.not-check
+    c.in_default-name.not-list c.in_default-name.not-split (rw met at c.requires)
 
 export_asked : (request : Option Request) (rows : List Row) (twice reduced : Bool) (file : Option Text)
     → request ≡ request_named (codes "export") rows

@@ -1,4 +1,5 @@
-use Rattle.pgn_c.proofs.Words.{◌≡◌, ℕ, length, take, drop, Some, ap, sym, subst, ◌∙◌, arith, length-take-le, NextOf, profile_counting, text_from}
+use Rattle.pgn_c.proofs.Words.{◌≡◌, ℕ, length, take, drop, Some, ap, sym, subst, ◌∙◌, arith, length-take-le, NextOf, profile_counting}
+use Rattle.pgn_c.proofs.Words.{text_from}
 use Rattle.pgn_c.proofs.ConversionToBuffer.{filled}
 use Rattle.pgn_c.proofs.next_game.fill_next.Goals as goal
 
@@ -14,7 +15,8 @@ returns-clause-converts g c =
     record {
       found = found;
       written = written;
-      next = subst (λ (n : ℕ). NextOf (profile_counting c.args.mode c.args.missing) (text_from text from) (drop from text) found (Some (take n c.new.result.buffer.now)) (Some written))
+      next = subst (λ (n : ℕ). NextOf (profile_counting c.args.mode c.args.missing) (text_from text from)
+          (drop from text) found (Some (take n c.new.result.buffer.now)) (Some written))
           c.new.ensures.written call.ensures.next;
       filled = filled _ _ _ sink.within sink.long sink.behind;
       full = λ is. is_count ∙ sink.full (omega (arith, call.ensures.full is, c.new.ensures.failures)) ∙ sink.long;

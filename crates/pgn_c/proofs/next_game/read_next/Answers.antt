@@ -11,7 +11,8 @@ returns-in-Ok-Game-clause-next g c =
     let begun = c.begin_at-converter.ensures in
     rw (← c.is_first_column-place.ensures)
     (game_fed c.args.mode c.args.missing _ _ _ c.games_end_by_marker.ensures c.texts_end_between_games.ensures _ _ c.feed.new.self _ _ used
-    (omega (arith, begun.count, begun.stands.lexer.count)) (feeds _ _ _ _ (c.count_missing_result_as.ensures.stands _ _ _ begun.stands) tt) c.finished_game.ensures.game)
+    (omega (arith, begun.count, begun.stands.lexer.count))
+    (feeds _ _ _ _ (c.count_missing_result_as.ensures.stands _ _ _ begun.stands) tt) c.finished_game.ensures.game)
 
 pub returns-in-Ok-true-clause-next : goal.returns-in-Ok-true-clause-next
 returns-in-Ok-true-clause-next g c =
@@ -20,7 +21,8 @@ returns-in-Ok-true-clause-next g c =
     let begun = c.begin_at-converter.ensures in
     let fed = feeds _ _ _ _ (c.count_missing_result_as.ensures.stands _ _ _ begun.stands) tt in
     rw (← c.is_first_column-place.ensures)
-    (game_at_end c.args.mode c.args.missing _ _ _ c.games_end_by_marker.ensures c.texts_end_between_games.ensures _ _ c.feed.new.self _ fed c.finish.new.self _
+    (game_at_end c.args.mode c.args.missing _ _ _ c.games_end_by_marker.ensures
+    c.texts_end_between_games.ensures _ _ c.feed.new.self _ fed c.finish.new.self _
     c.texts_end_behind_marker.ensures
     (omega (arith, begun.count, begun.stands.lexer.count, length-append (white_space c.args.from c.is_first_column-place.result) (drop c.args.from c.args.text.now), length-drop c.args.from c.args.text.now))
     (ends _ _ _ _ fed.stands) c.finished_game-in-Ok-true.ensures.game)
@@ -32,7 +34,8 @@ returns-in-Ok-false-clause-next g c =
     let begun = c.begin_at-converter.ensures in
     let fed = feeds _ _ _ _ (c.count_missing_result_as.ensures.stands _ _ _ begun.stands) tt in
     rw (← c.is_first_column-place.ensures)
-    (none_at_end c.args.mode c.args.missing _ _ _ c.games_end_by_marker.ensures c.texts_end_between_games.ensures _ _ c.feed.new.self _ fed c.finish.new.self
+    (none_at_end c.args.mode c.args.missing _ _ _ c.games_end_by_marker.ensures
+    c.texts_end_between_games.ensures _ _ c.feed.new.self _ fed c.finish.new.self
     (ends _ _ _ _ fed.stands) c.no_game.ensures)
 
 pub returns-in-Err-finish-clause-next : goal.returns-in-Err-finish-clause-next
@@ -43,7 +46,8 @@ returns-in-Err-finish-clause-next g c =
     let begun = c.begin_at-converter.ensures in
     let fed = feeds _ _ _ _ (c.count_missing_result_as.ensures.stands _ _ _ begun.stands) tt in
     rw (← c.is_first_column-place.ensures)
-    (fault_at_end c.args.mode c.args.missing _ _ _ c.games_end_by_marker.ensures c.texts_end_between_games.ensures _ _ c.feed.new.self _ fed c.finish.new.self _
+    (fault_at_end c.args.mode c.args.missing _ _ _ c.games_end_by_marker.ensures
+    c.texts_end_between_games.ensures _ _ c.feed.new.self _ fed c.finish.new.self _
     (ends _ _ _ _ fed.stands) kept c.refused_game.ensures)
 
 pub returns-in-Err-clause-next : goal.returns-in-Err-clause-next

@@ -23,8 +23,10 @@ returns-in_err-mark-clause-converts g c =
     let e = err_from_is_err_and c.from_residual.result c.from_residual.ensures.1 in
     rw (e.1, e.2)
     (first_stops q (device g.Q.Source.left g.Q.Source.failures c.args.first.now c.read_game.new.source)
-    (device g.R.Source.left g.R.Source.failures c.args.second.now c.loop-mark.second) (device g.W.Sink.taken g.W.Sink.failures c.args.writer.now c.loop-mark.writer) _
-    c.loop-mark.ahead c.loop-mark.behind so.both f c.read_game.new.self (λ is. source_fails f.reason _ _ _ _ c.in_err-mark.ensures.counted is ∙ ap one_more so.first)
+    (device g.R.Source.left g.R.Source.failures c.args.second.now c.loop-mark.second)
+    (device g.W.Sink.taken g.W.Sink.failures c.args.writer.now c.loop-mark.writer) _
+    c.loop-mark.ahead c.loop-mark.behind so.both f c.read_game.new.self
+    (λ is. source_fails f.reason _ _ _ _ c.in_err-mark.ensures.counted is ∙ ap one_more so.first)
     (no_write f.reason _ _ c.in_err-mark.ensures.counted) (c.in_err-mark.ensures.reads q _ so.both.first_tokens so.both.first_stands))
 
 pub returns-in_default-clause-converts : goal.returns-in_default-clause-converts
@@ -34,8 +36,10 @@ returns-in_default-clause-converts g c =
     let reads = rw c.in_default.is at c.in_ok-mark.ensures.reads in
     let tried = c.most_probes.ensures.value ∙ ap (λ (s : Pass). s.reading.most_probes) c.ahead.view_is in
     both_end q (device g.Q.Source.left g.Q.Source.failures c.args.first.now c.read_game.new.source)
-    (device g.R.Source.left g.R.Source.failures c.args.second.now c.loop-mark.second) (device g.W.Sink.taken g.W.Sink.failures c.args.writer.now c.loop-mark.writer) _
-    c.loop-mark.ahead c.loop-mark.behind x c.read_game.new.self _ c.totals.result (reads q _ x.first_tokens x.first_stands) c.totals.ensures.games c.totals.ensures.plies
+    (device g.R.Source.left g.R.Source.failures c.args.second.now c.loop-mark.second)
+    (device g.W.Sink.taken g.W.Sink.failures c.args.writer.now c.loop-mark.writer) _
+    c.loop-mark.ahead c.loop-mark.behind x c.read_game.new.self _ c.totals.result
+    (reads q _ x.first_tokens x.first_stands) c.totals.ensures.games c.totals.ensures.plies
     (c.totals.ensures.probes ∙ ap (λ n. max n c.loop-mark.behind.reading.most_probes) tried) (omega (arith, tried, c.most_probes.ensures.bound))
     (omega (arith, c.totals.ensures.probes, c.totals.ensures.bound))
 
@@ -68,9 +72,12 @@ returns-in_err-write_game-clause-converts g c =
     let e = err_from_is_err_and c.from_residual-in_err-write_game.result c.from_residual-in_err-write_game.ensures.1 in
     rw (e.1, e.2, second.2)
     (second_stops q (device g.Q.Source.left g.Q.Source.failures c.args.first.now c.read_game.new.source)
-    (device g.R.Source.left g.R.Source.failures c.args.second.now c.write_game.new.source) (device g.W.Sink.taken g.W.Sink.failures c.args.writer.now c.write_game.new.out) _ _ _
-    c.loop-mark.ahead c.loop-mark.behind x c.in-Some.mark c.read_game.new.self c.write_game.new.self second.0 (reads q _ x.first_tokens x.first_stands) second.1
-    (λ is. source_fails f.reason _ _ _ _ c.in_err-write_game.ensures.counted (ap (λ (x : Fault). x.reason) second.2 ∙ is) ∙ ap one_more so.second))
+    (device g.R.Source.left g.R.Source.failures c.args.second.now c.write_game.new.source)
+    (device g.W.Sink.taken g.W.Sink.failures c.args.writer.now c.write_game.new.out) _ _ _
+    c.loop-mark.ahead c.loop-mark.behind x c.in-Some.mark c.read_game.new.self c.write_game.new.self second.0
+    (reads q _ x.first_tokens x.first_stands) second.1
+    (λ is. source_fails f.reason _ _ _ _ c.in_err-write_game.ensures.counted (ap (λ (x : Fault). x.reason) second.2 ∙ is)
+    ∙ ap one_more so.second))
 
 pub returns-in_err-write_game-clause-counted : goal.returns-in_err-write_game-clause-counted
 returns-in_err-write_game-clause-counted g c =
@@ -78,7 +85,8 @@ returns-in_err-write_game-clause-counted g c =
     let e = err_from_is_err_and c.from_residual-in_err-write_game.result c.from_residual-in_err-write_game.ensures.1 in
     rw (e.1, e.2)
     (second_counts c.in_err-write_game.field-0.0.reason (device g.Q.Source.left g.Q.Source.failures c.args.first.now c.read_game.new.source)
-    (device g.R.Source.left g.R.Source.failures c.args.second.now c.write_game.new.source) (device g.W.Sink.taken g.W.Sink.failures c.args.writer.now c.write_game.new.out) _ _
+    (device g.R.Source.left g.R.Source.failures c.args.second.now c.write_game.new.source)
+    (device g.W.Sink.taken g.W.Sink.failures c.args.writer.now c.write_game.new.out) _ _
     (c.in_ok-mark.ensures.counted.0 ∙ so.first) so.second so.sink c.in_err-write_game.ensures.counted)
 
 pub returns-in_err-mark-clause-counted : goal.returns-in_err-mark-clause-counted
@@ -87,7 +95,8 @@ returns-in_err-mark-clause-counted g c =
     let e = err_from_is_err_and c.from_residual.result c.from_residual.ensures.1 in
     rw (e.1, e.2)
     (first_counts c.in_err-mark.field-0.0.reason (device g.Q.Source.left g.Q.Source.failures c.args.first.now c.read_game.new.source)
-    (device g.R.Source.left g.R.Source.failures c.args.second.now c.loop-mark.second) (device g.W.Sink.taken g.W.Sink.failures c.args.writer.now c.loop-mark.writer) _
+    (device g.R.Source.left g.R.Source.failures c.args.second.now c.loop-mark.second)
+    (device g.W.Sink.taken g.W.Sink.failures c.args.writer.now c.loop-mark.writer) _
     so.first so.second so.sink c.in_err-mark.ensures.counted)
 
 pub read_game-requires : goal.read_game-requires

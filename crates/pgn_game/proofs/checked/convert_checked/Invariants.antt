@@ -9,7 +9,8 @@ invariant-loop-mark g l =
       first : g.Q.Source.failures l.first ≡ g.Q.Source.failures l.fn.first;
       second : g.R.Source.failures l.second ≡ g.R.Source.failures l.fn.second;
       sink : g.W.Sink.failures l.writer ≡ g.W.Sink.failures l.fn.writer;
-      both : BothSoFar (checked_profile g.row.T (g.row.L - 1) l.fn.mode) (g.Q.Source.left l.fn.first) (g.Q.Source.left l.first) (g.R.Source.left l.fn.second) (g.R.Source.left l.second)
+      both : BothSoFar (checked_profile g.row.T (g.row.L - 1) l.fn.mode) (g.Q.Source.left l.fn.first)
+          (g.Q.Source.left l.first) (g.R.Source.left l.fn.second) (g.R.Source.left l.second)
           l.ahead l.behind (g.W.Sink.taken l.fn.writer) (g.W.Sink.taken l.writer);
     }
 

@@ -1,4 +1,5 @@
-use Rattle.pgn_game.proofs.Words.{None, false, is_some, ◌≡◌, refl, sym, ap, subst, ◌∙◌, Token, Changed, TakesToken, device, kind_of, marker_of, marks_differ}
+use Rattle.pgn_game.proofs.Words.{None, false, is_some, ◌≡◌, refl, sym, ap, subst, ◌∙◌, Token, Changed, TakesToken, device, kind_of}
+use Rattle.pgn_game.proofs.Words.{marker_of, marks_differ}
 use Rattle.pgn_game.specs.Pass.{TokenFails}
 use Rattle.pgn_game.specs.PutResult.{MeetsMarker, ended}
 use Rattle.pgn_game.proofs.pairs.ValuesByName.{no_value}
@@ -22,12 +23,14 @@ returns-in-Err g c =
     let takes = c.in-Err.ensures.0 in
     record {
       takes = λ q part counts under agrees.
-          fails_unless q part c.args.told (record { at = c.args.at; kind = kind_of c.args.kind }) c.args.reader.now c.accept_unless_marker.new.self _ _ counts under
+          fails_unless q part c.args.told
+          (record { at = c.args.at; kind = kind_of c.args.kind }) c.args.reader.now c.accept_unless_marker.new.self _ _ counts under
           c.in-Err.reason (takes.accepts part agrees) c.in-Err.ensures.1;
       plies = tt;
       games = tt;
       end = tt;
-      counted = λ n. reader_counts c.args.at c.in-Err.reason n (device g.W.Sink.taken g.W.Sink.failures c.args.out.now c.accept_unless_marker.new.out) takes.counted;
+      counted = λ n. reader_counts c.args.at c.in-Err.reason n
+          (device g.W.Sink.taken g.W.Sink.failures c.args.out.now c.accept_unless_marker.new.out) takes.counted;
     }
 
 pub returns-then-is_other : goal.returns-then-is_other
@@ -38,7 +41,8 @@ returns-then-is_other g c =
     record {
       takes = λ q part counts under agrees.
           rw c.differs.ensures
-          (subst (λ o. TokenFails q part c.args.told t o (g.W.Sink.taken c.accept_unless_marker.new.out) (record { at = t.at; reason = Changed })) meets.unwritten
+          (subst (λ o. TokenFails q part c.args.told t o (g.W.Sink.taken c.accept_unless_marker.new.out) (record { at = t.at; reason = Changed }))
+          meets.unwritten
           (fails_marks q part c.args.told t c.args.reader.now c.args.reader.now None None counts under _ differ));
       plies = tt;
       games = tt;
@@ -51,13 +55,15 @@ module _ (g : Over) (c : After-end_game g) where
   abbrev t : Token
   t = record { at = c.args.at; kind = kind_of c.args.kind }
 
-  meets : MeetsMarker c.args.reader.now t.kind c.in-Ok-Some.marker c.accept_unless_marker.new.self (device g.W.Sink.taken g.W.Sink.failures c.args.out.now c.accept_unless_marker.new.out)
+  meets : MeetsMarker c.args.reader.now t.kind c.in-Ok-Some.marker c.accept_unless_marker.new.self
+      (device g.W.Sink.taken g.W.Sink.failures c.args.out.now c.accept_unless_marker.new.out)
   meets = rw c.in-Ok-Some.field-0-is at c.in-Ok-Some.ensures
 
   same : marks_differ c.args.told (marker_of t.kind) c.args.at ≡ false
   same = ap (λ o. marks_differ c.args.told o c.args.at) meets.is ∙ sym c.is_other.ensures ∙ c.if-is_other.false
 
-  takes_marker : TakesToken c.args.reader.now t.kind c.end_game.new.self (ended c.end_game.result) (device g.W.Sink.taken g.W.Sink.failures c.args.out.now c.end_game.new.out)
+  takes_marker : TakesToken c.args.reader.now t.kind c.end_game.new.self (ended c.end_game.result)
+      (device g.W.Sink.taken g.W.Sink.failures c.args.out.now c.end_game.new.out)
   takes_marker = marker_taken c.args.reader.now _ _ c.args.kind _ _ _ _ _ _ _ _ meets c.end_game.ensures
 
 pub returns-in-Err-end_game : goal.returns-in-Err-end_game
@@ -66,11 +72,13 @@ returns-in-Err-end_game g c =
     let takes = rw c.in-Err-end_game.is at (takes_marker g b) in
     record {
       takes = λ q part counts under agrees.
-          fails q part c.args.told (t g b) c.args.reader.now c.end_game.new.self _ _ counts under (same g b) c.in-Err-end_game.reason (takes.accepts part agrees);
+          fails q part c.args.told (t g b) c.args.reader.now c.end_game.new.self _ _ counts under
+          (same g b) c.in-Err-end_game.reason (takes.accepts part agrees);
       plies = tt;
       games = tt;
       end = tt;
-      counted = λ n. reader_counts c.args.at c.in-Err-end_game.reason n (device g.W.Sink.taken g.W.Sink.failures c.args.out.now c.end_game.new.out) takes.counted;
+      counted = λ n. reader_counts c.args.at c.in-Err-end_game.reason n
+          (device g.W.Sink.taken g.W.Sink.failures c.args.out.now c.end_game.new.out) takes.counted;
     }
 
 pub returns-in-Ok : goal.returns-in-Ok
@@ -79,7 +87,8 @@ returns-in-Ok g c =
     let takes = rw c.in-Ok.is at (takes_marker g b) in
     record {
       takes = λ q part counts under agrees.
-          taken_game q part c.args.told (t g b) c.args.reader.now c.end_game.new.self _ _ counts under (same g b) (record { marker = c.in-Ok-Some.marker; at = c.args.at }) _ (meets g b).is refl
+          taken_game q part c.args.told (t g b) c.args.reader.now c.end_game.new.self _ _ counts under
+          (same g b) (record { marker = c.in-Ok-Some.marker; at = c.args.at }) _ (meets g b).is refl
           takes.keeps.profile (takes.accepts part agrees);
       plies = takes.keeps.plies;
       games = refl;
@@ -94,7 +103,8 @@ returns-then-not-is_end g c =
       takes = λ q part counts under agrees.
           let t : Token = record { at = c.args.at; kind = kind_of c.args.kind } in
           let h = takes.accepts part agrees in
-          taken_more q part c.args.told t c.args.reader.now c.accept_unless_marker.new.self _ _ counts under (goes_unmarked c.args.told c.args.at _ _ part t.kind _ _ h)
+          taken_more q part c.args.told t c.args.reader.now c.accept_unless_marker.new.self _ _ counts under
+          (goes_unmarked c.args.told c.args.at _ _ part t.kind _ _ h)
           takes.keeps.profile h (sym c.is_end.ensures ∙ c.if-not-is_end.true);
       plies = takes.keeps.plies;
       games = refl;
@@ -110,7 +120,8 @@ returns-then-is_some g c =
           let t : Token = record { at = c.args.at; kind = kind_of c.args.kind } in
           let h = takes.accepts part agrees in
           rw c.differs-then-is_some.ensures
-          (fails_at_end q part c.args.told t c.args.reader.now c.accept_unless_marker.new.self _ _ counts under (goes_unmarked c.args.told c.args.at _ _ part t.kind _ _ h)
+          (fails_at_end q part c.args.told t c.args.reader.now c.accept_unless_marker.new.self _ _ counts under
+          (goes_unmarked c.args.told c.args.at _ _ part t.kind _ _ h)
           takes.keeps.profile h (sym c.is_end.ensures ∙ c.if-not-is_end.false) (sym c.is_some.ensures ∙ c.if-is_some.true));
       plies = tt;
       games = tt;
@@ -125,7 +136,8 @@ returns-else-is_some g c =
       takes = λ q part counts under agrees.
           let t : Token = record { at = c.args.at; kind = kind_of c.args.kind } in
           let h = takes.accepts part agrees in
-          taken_end q part c.args.told t c.args.reader.now c.accept_unless_marker.new.self _ _ counts under (goes_unmarked c.args.told c.args.at _ _ part t.kind _ _ h)
+          taken_end q part c.args.told t c.args.reader.now c.accept_unless_marker.new.self _ _ counts under
+          (goes_unmarked c.args.told c.args.at _ _ part t.kind _ _ h)
           takes.keeps.profile h (no_value c.args.told (sym c.is_some.ensures ∙ c.if-is_some.false));
       plies = takes.keeps.plies;
       games = refl;

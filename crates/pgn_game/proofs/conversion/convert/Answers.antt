@@ -45,7 +45,8 @@ returns g c =
     let next = rw c.if-branch.false at c.in_ok-next_game.ensures.reads in
     record {
       converts =
-          games_end _ _ _ _ (games_of c.loop.converter c.loop.buffer) _ _ _ so c.totals_of.result (next _ _ _ so.have_read) c.totals_of.ensures.games c.totals_of.ensures.plies
+          games_end _ _ _ _ (games_of c.loop.converter c.loop.buffer) _ _ _ so c.totals_of.result
+          (next _ _ _ so.have_read) c.totals_of.ensures.games c.totals_of.ensures.plies
           c.totals_of.ensures.probes c.totals_of.ensures.bound;
       short = games_short _ _ _ _ (games_of c.loop.converter c.loop.buffer) _ _ _ so (next _ _ _ so.have_read);
       counted =

@@ -7,7 +7,8 @@ invariant-loop g l =
       fault : l.converter.fault ≡ None;
       source : g.R.Source.failures l.reader ≡ g.R.Source.failures l.fn.reader;
       sink : g.W.Sink.failures l.writer ≡ g.W.Sink.failures l.fn.writer;
-      read : ReadSoFar (profile_of g.row.T (g.row.L - 1) l.fn.mode) (g.R.Source.left l.fn.reader) (g.R.Source.left l.reader) (games_of l.converter l.buffer)
+      read : ReadSoFar (profile_of g.row.T (g.row.L - 1) l.fn.mode) (g.R.Source.left l.fn.reader)
+          (g.R.Source.left l.reader) (games_of l.converter l.buffer)
           (g.W.Sink.taken l.fn.writer) (g.W.Sink.taken l.writer);
     }
 

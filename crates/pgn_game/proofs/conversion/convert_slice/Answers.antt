@@ -1,4 +1,5 @@
-use Rattle.pgn_game.proofs.Words.{refl, err_from_is_err_and, Reason, ReadFault, Changed, WriteFault, Fault, Device, Result, Ok, Err, ◌≡◌, sym, ◌∙◌, CountsReason, CountsFault, Totals}
+use Rattle.pgn_game.proofs.Words.{refl, err_from_is_err_and, Reason, ReadFault, Changed, WriteFault, Fault, Device, Result, Ok, Err, ◌≡◌, sym}
+use Rattle.pgn_game.proofs.Words.{◌∙◌, CountsReason, CountsFault, Totals}
 use Rattle.pgn_game.specs.Conversion.{CountsSink, CountsWriting}
 use Rattle.pgn_game.proofs.tokens.WholeInput.{slice_stops, slice_ends}
 use Rattle.pgn_game.proofs.conversion.convert_slice.Goals as goal
@@ -10,7 +11,8 @@ counts_writing Changed sink h = absurd h
 counts_writing WriteFault sink h = h
 counts_writing _ sink h = h
 
-counts_sink : (r : Result Totals Fault) (sink last : Device) → last.failures ≡ sink.failures → last.failures_after ≡ sink.failures_after → CountsFault r last → CountsSink r sink
+counts_sink : (r : Result Totals Fault) (sink last : Device) → last.failures ≡ sink.failures
+    → last.failures_after ≡ sink.failures_after → CountsFault r last → CountsSink r sink
 counts_sink (Ok t) sink last before after h = sym after ∙ h ∙ before
 counts_sink (Err f) sink last before after h = counts_writing f.reason sink (rw (before, after) at h)
 

@@ -7,7 +7,8 @@ no_form : (p : Parts) (s : List ℕ) → None ≡ form_of s → move_of p s ≡ 
 unfolding move_of
 no_form p s e = ap (option_map (move_of_form p)) (sym e)
 
-of_form : (p : Parts) (s : List ℕ) (f : Form) (r : Result Played SanFault) → Some f ≡ form_of s → r ≡ move_of_form p f → move_of p s ≡ Some r
+of_form : (p : Parts) (s : List ℕ) (f : Form) (r : Result Played SanFault)
+    → Some f ≡ form_of s → r ≡ move_of_form p f → move_of p s ≡ Some r
 unfolding move_of
 of_form p s f r e h = ap (option_map (move_of_form p)) (sym e) ∙ ap Some (sym h)
 
@@ -17,11 +18,13 @@ limited p played b e = ap (λ (b : Bool). let r : Result Played Reason = elim b 
 
 -- a legal move is found, or rejected at the limit
 module _ (p : Parts) where
-  free : (m : Move) (next : Option Parts) → is_some next ≡ true → is_at_limit p ≡ false → ok_or (with_next m next) IllegalMove ≡ found_in p (Some (ok_or (with_next m next) NoMove))
+  free : (m : Move) (next : Option Parts) → is_some next ≡ true → is_at_limit p ≡ false
+      → ok_or (with_next m next) IllegalMove ≡ found_in p (Some (ok_or (with_next m next) NoMove))
   free m (Some q) legal limit = limited p (record { mv = m; next = q }) false limit
   free m None legal limit = absurd (cc)
 
-  stopped : (m : Move) (next : Option Parts) → is_some next ≡ true → is_at_limit p ≡ true → Err MoveLimit ≡ found_in p (Some (ok_or (with_next m next) NoMove))
+  stopped : (m : Move) (next : Option Parts) → is_some next ≡ true → is_at_limit p ≡ true
+      → Err MoveLimit ≡ found_in p (Some (ok_or (with_next m next) NoMove))
   stopped m (Some q) legal limit = limited p (record { mv = m; next = q }) true limit
   stopped m None legal limit = absurd (cc)
 
@@ -30,11 +33,13 @@ returns-in_default-clause-found c = ap (found_in c.args.position.now) (sym (no_f
 
 pub returns-in-Err-NoMove-clause-found : goal.returns-in-Err-NoMove-clause-found
 returns-in-Err-NoMove-clause-found c =
-    ap (found_in c.args.position.now) (sym (of_form c.args.position.now c.args.text.now c.in-Some.form _ c.in-Some.ensures (rw c.in-Err-NoMove.field-0-is at c.in-Err-NoMove.ensures.answer)))
+    ap (found_in c.args.position.now) (sym (of_form c.args.position.now c.args.text.now c.in-Some.form _ c.in-Some.ensures
+    (rw c.in-Err-NoMove.field-0-is at c.in-Err-NoMove.ensures.answer)))
 
 pub returns-in-Err-Ambiguous-clause-found : goal.returns-in-Err-Ambiguous-clause-found
 returns-in-Err-Ambiguous-clause-found c =
-    ap (found_in c.args.position.now) (sym (of_form c.args.position.now c.args.text.now c.in-Some.form _ c.in-Some.ensures (rw c.in-Err-Ambiguous.field-0-is at c.in-Err-Ambiguous.ensures.answer)))
+    ap (found_in c.args.position.now) (sym (of_form c.args.position.now c.args.text.now c.in-Some.form _ c.in-Some.ensures
+    (rw c.in-Err-Ambiguous.field-0-is at c.in-Err-Ambiguous.ensures.answer)))
 
 pub returns-then-is_at_limit-clause-found : goal.returns-then-is_at_limit-clause-found
 returns-then-is_at_limit-clause-found c =
@@ -66,13 +71,13 @@ from_none : (before after pairs : ℕ) → before ≡ 0 → after ≡ before + p
 from_none before after pairs none e = omega (arith, none, e)
 
 -- what a legal move costs
-of_legal : (p : Parts) (f : Form) (m : Move) (next : Option Parts) (n : ℕ) → is_some next ≡ true → n ≡ form_pairs p f → CostsAnswer p f (ok_or (with_next m next) NoMove) n
+of_legal : (p : Parts) (f : Form) (m : Move) (next : Option Parts) (n : ℕ) → is_some next ≡ true
+    → n ≡ form_pairs p f → CostsAnswer p f (ok_or (with_next m next) NoMove) n
 of_legal p f m (Some q) n legal e = e
 of_legal p f m None n legal e = absurd (cc)
 
 pub returns-in_default-clause-tried : goal.returns-in_default-clause-tried
-returns-in_default-clause-tried c =
-    of_no_form c.args.position.now c.args.text.now _ c.in_default.ensures c.requires
+returns-in_default-clause-tried c = of_no_form c.args.position.now c.args.text.now _ c.in_default.ensures c.requires
 
 pub returns-in-Err-NoMove-clause-tried : goal.returns-in-Err-NoMove-clause-tried
 returns-in-Err-NoMove-clause-tried c =
@@ -83,17 +88,21 @@ returns-in-Err-NoMove-clause-tried c =
 pub returns-in-Err-Ambiguous-clause-tried : goal.returns-in-Err-Ambiguous-clause-tried
 returns-in-Err-Ambiguous-clause-tried c =
     let answer = rw c.in-Err-Ambiguous.field-0-is at c.in-Err-Ambiguous.ensures.answer in
-    of_answer c.args.position.now c.args.text.now c.in-Some.form _ _ c.in-Some.ensures answer
-    (omega (arith, c.in-Err-Ambiguous.ensures.two (ap Err c.in-Err-Ambiguous.field-0-is), c.requires), omega (arith, c.in-Err-Ambiguous.ensures.most, c.requires))
+    of_answer c.args.position.now c.args.text.now c.in-Some.form _ _ c.in-Some.ensures answer (
+      omega (arith, c.in-Err-Ambiguous.ensures.two (ap Err c.in-Err-Ambiguous.field-0-is), c.requires),
+      omega (arith, c.in-Err-Ambiguous.ensures.most, c.requires),
+    )
 
 pub returns-then-is_at_limit-clause-tried : goal.returns-then-is_at_limit-clause-tried
 returns-then-is_at_limit-clause-tried c =
     let f = c.in-Some.form in
     of_answer c.args.position.now c.args.text.now f _ _ c.in-Some.ensures c.in-Ok.ensures.answer
-    (of_legal c.args.position.now f c.in-Ok.mv (legal c.args.position.now c.in-Ok.mv) _ c.in-Ok.ensures.legal (from_none _ _ _ c.requires (c.in-Ok.ensures.each (λ e. false≢true (sym (ap is_ok e))))))
+    (of_legal c.args.position.now f c.in-Ok.mv (legal c.args.position.now c.in-Ok.mv) _ c.in-Ok.ensures.legal
+    (from_none _ _ _ c.requires (c.in-Ok.ensures.each (λ e. false≢true (sym (ap is_ok e))))))
 
 pub returns-else-is_at_limit-clause-tried : goal.returns-else-is_at_limit-clause-tried
 returns-else-is_at_limit-clause-tried c =
     let f = c.in-Some.form in
     of_answer c.args.position.now c.args.text.now f _ _ c.in-Some.ensures c.in-Ok.ensures.answer
-    (of_legal c.args.position.now f c.in-Ok.mv (legal c.args.position.now c.in-Ok.mv) _ c.in-Ok.ensures.legal (from_none _ _ _ c.requires (c.in-Ok.ensures.each (λ e. false≢true (sym (ap is_ok e))))))
+    (of_legal c.args.position.now f c.in-Ok.mv (legal c.args.position.now c.in-Ok.mv) _ c.in-Ok.ensures.legal
+    (from_none _ _ _ c.requires (c.in-Ok.ensures.each (λ e. false≢true (sym (ap is_ok e))))))

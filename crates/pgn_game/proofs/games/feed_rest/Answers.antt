@@ -12,8 +12,7 @@ skip-requires g c = rw (c.in-Game.is, c.unused.ensures) at c.in_ok-feed.ensures.
 pub returns-in-All : goal.returns-in-All
 returns-in-All g c =
     record {
-      feeds =
-          (c.clear.ensures, rw (c.in-All.is, c.unused.ensures) at c.in_ok-feed.ensures.feeds);
+      feeds = (c.clear.ensures, rw (c.in-All.is, c.unused.ensures) at c.in_ok-feed.ensures.feeds);
       game = rw (c.in-All.is, c.unused.ensures) at c.in_ok-feed.ensures.count;
       short = c.in_ok-feed.ensures.short;
       kept =
@@ -27,8 +26,7 @@ returns-in-All g c =
 pub returns-in-Game : goal.returns-in-Game
 returns-in-Game g c =
     record {
-      feeds =
-          (c.in-Game.used, c.skip.ensures, rw (c.in-Game.is, c.unused.ensures) at c.in_ok-feed.ensures.feeds);
+      feeds = (c.in-Game.used, c.skip.ensures, rw (c.in-Game.is, c.unused.ensures) at c.in_ok-feed.ensures.feeds);
       game = rw c.in-Game.is at c.in_ok-feed.ensures.games;
       short = c.in_ok-feed.ensures.short;
       kept = λ same. absurd (false≢true (subst (λ (r : Result Bool Fault). IfOk r (λ b. b ≡ true)) same refl));
@@ -41,8 +39,7 @@ pub returns-in_err-feed : goal.returns-in_err-feed
 returns-in_err-feed g c =
     let e = err_from_is_err_and c.from_residual.result c.from_residual.ensures.1 in
     record {
-      feeds =
-          rw (e.1, e.2) (rw c.unused.ensures at c.in_err-feed.ensures.feeds);
+      feeds = rw (e.1, e.2) (rw c.unused.ensures at c.in_err-feed.ensures.feeds);
       game = rw e.1 tt;
       short = rw e.1 tt;
       kept = λ same. absurd (false≢true (ap is_ok (sym e.1 ∙ same)));

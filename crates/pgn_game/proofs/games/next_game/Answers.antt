@@ -1,11 +1,13 @@
 use Rattle.std.specs.Result.{is_ok}
-use Rattle.pgn_game.proofs.Words.{◌≡◌, ℕ, List, Option, None, refl, sym, ◌∙◌, Token, Profile, Games, HaveRead, games_of, within, at_end, false≢true, none-some, Bool, true, Result, Fault, IfOk, subst, ap, Err, same_Some}
+use Rattle.pgn_game.proofs.Words.{◌≡◌, ℕ, List, Option, None, refl, sym, ◌∙◌, Token, Profile, Games, HaveRead, games_of, within, at_end}
+use Rattle.pgn_game.proofs.Words.{false≢true, none-some, Bool, true, Result, Fault, IfOk, subst, ap, Err, same_Some}
 use Rattle.pgn_game.proofs.ReaderFitsInMemory.{fits_alike}
 use Rattle.pgn_game.proofs.tokens.GamesInTurn.{at_end_again}
 use Rattle.pgn_game.proofs.games.next_game.Goals as goal
 
 -- games that have read tokens have no fault
-no_fault : (p : Profile) (left : Option (List ℕ)) (u : List ℕ) (now : Games) (given : List Token) → HaveRead p left u now given → now.converter.fault ≡ None
+no_fault : (p : Profile) (left : Option (List ℕ)) (u : List ℕ) (now : Games) (given : List Token)
+    → HaveRead p left u now given → now.converter.fault ≡ None
 no_fault p left u now given (within on) = on.stands.has_read.no_fault
 no_fault p left u now given (at_end all) = all.has_read.no_fault
 
@@ -44,8 +46,7 @@ returns-then-is_finished g c =
     }
 
 pub read_game-requires : goal.read_game-requires
-read_game-requires g c =
-    (search fits_alike, (sym c.is_finished.ensures ∙ c.if-is_finished.false, sym c.fault.ensures ∙ c.in_default.is))
+read_game-requires g c = (search fits_alike, (sym c.is_finished.ensures ∙ c.if-is_finished.false, sym c.fault.ensures ∙ c.in_default.is))
 
 pub returns : goal.returns
 returns g c =

@@ -41,7 +41,8 @@ returns-in_err-feed_rest g c =
           (c.in_err-feed_rest.ensures.feeds p _ _ _ so.reads_on.stands (follows_own c.loop-converter.buffer)));
       fewer = λ same. absurd (false≢true (ap is_ok (sym e.1 ∙ same)));
       fault = rw (e.1, e.2) c.in_err-feed_rest.ensures.fault;
-      counted = rw (e.1, e.2) (counts_fault _ _ _ _ _ _ c.loop-converter.invariant.source c.loop-converter.invariant.sink c.in_err-feed_rest.ensures.counted);
+      counted = rw (e.1, e.2)
+          (counts_fault _ _ _ _ _ _ c.loop-converter.invariant.source c.loop-converter.invariant.sink c.in_err-feed_rest.ensures.counted);
     }
 
 pub returns-then-branch : goal.returns-then-branch
@@ -108,7 +109,8 @@ loop-converter-preserved g c =
     record {
       not_finished = ap (λ (s : Converter). s.is_finished) more.0 ∙ c.feed_rest.ensures.not_finished;
       fault = ap (λ (s : Converter). s.fault) more.0 ∙ c.in_ok-feed_rest.ensures.fault;
-      games = ap (λ (s : Converter). s.games) more.0 ∙ c.in_ok-feed_rest.ensures.kept (ap Ok c.if-branch.false) ∙ c.loop-converter.invariant.games;
+      games = ap (λ (s : Converter). s.games) more.0
+          ∙ c.in_ok-feed_rest.ensures.kept (ap Ok c.if-branch.false) ∙ c.loop-converter.invariant.games;
       source = c.in_ok-read_more.ensures.counted ∙ c.loop-converter.invariant.source;
       sink = c.in_ok-feed_rest.ensures.counted ∙ c.loop-converter.invariant.sink;
       reads = λ p u given have.

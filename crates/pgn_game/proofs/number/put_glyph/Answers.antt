@@ -11,7 +11,8 @@ pub returns : goal.returns
 returns g c =
     let digits : c.as_bytes.result.now ≡ decimal c.args.glyph = c.as_bytes.ensures.value ∙ c.format.ensures.text in
     subst
-    (λ (digits : List ℕ). PutsTokens ((36 ∷ digits) ∷ []) c.args.line.now c.put_parts.new.self c.put_parts.result (device g.W.Sink.taken g.W.Sink.failures c.args.out.now c.put_parts.new.out))
+    (λ (digits : List ℕ). PutsTokens ((36 ∷ digits) ∷ []) c.args.line.now c.put_parts.new.self c.put_parts.result
+    (device g.W.Sink.taken g.W.Sink.failures c.args.out.now c.put_parts.new.out))
     digits
     (puts_token (36 ∷ c.as_bytes.result.now) c.args.line.now c.put_parts.new.self c.put_parts.result _
     (subst (λ (digits : List ℕ). IsToken (36 ∷ digits)) (sym digits) (glyph_token c.args.glyph c.ranges.glyph.fits))

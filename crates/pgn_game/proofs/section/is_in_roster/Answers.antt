@@ -7,4 +7,5 @@ pub returns : goal.returns
 returns c =
     let defaults = roster (marker_text Unknown) in
     let name = c.args.name.now in
-    sym (in_roster-value (marker_text Unknown) name ∙ has_pair_found defaults defaults name c.unknown_value.result _ refl c.unknown_value.ensures.value c.is_some.ensures)
+    sym (in_roster-value (marker_text Unknown) name
+    ∙ has_pair_found defaults defaults name c.unknown_value.result _ refl c.unknown_value.ensures.value c.is_some.ensures)

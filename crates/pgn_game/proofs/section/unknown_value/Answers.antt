@@ -5,7 +5,8 @@ use Rattle.pgn_game.proofs.section.unknown_value.Goals as goal
 pub returns-then-eq-clause-value : goal.returns-then-eq-clause-value
 returns-then-eq-clause-value c =
     sym (c.loop-index.invariant
-    ∙ value_of-at (roster (known_result (missing_of c.args.missing_result))) c.loop-index.index _ c.args.name.now c.roster_pair.ensures.pair (sym c.if-eq.true ∙ c.eq.ensures))
+    ∙ value_of-at (roster (known_result (missing_of c.args.missing_result))) c.loop-index.index _ c.args.name.now c.roster_pair.ensures.pair
+    (sym c.if-eq.true ∙ c.eq.ensures))
 
 pub loop-index-preserved : goal.loop-index-preserved
 loop-index-preserved c = search (rules, value_of-at)

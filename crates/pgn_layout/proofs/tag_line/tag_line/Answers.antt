@@ -15,5 +15,4 @@ push_escaped-requires c =
     )
 
 pub loop-byte-preserved : goal.loop-byte-preserved
-loop-byte-preserved c =
-    c.push_escaped.ensures ∙ line_grows (front c.args.name.now) c.args.value.now _ _ c.loop-byte-test.true c.loop-byte.invariant
+loop-byte-preserved c = c.push_escaped.ensures ∙ line_grows (front c.args.name.now) c.args.value.now _ _ c.loop-byte-test.true c.loop-byte.invariant

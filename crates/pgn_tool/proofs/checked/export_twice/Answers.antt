@@ -13,10 +13,13 @@ returns-in-Ok g c =
     record {
       runs = record {
         answer = Ok c.in-Ok.field-0;
-        works = converts_twice_on (profile_twice c.args.mode) first second converted _ _ flush.ensures.bytes (Ok c.in-Ok.field-0) c.in-Ok.ensures.converts;
-        counted = record { converted = converted; failures = refl; conversion = counted; flush = flush_counts flush.result _ _ flush.ensures.failures };
+        works = converts_twice_on (profile_twice c.args.mode) first second converted _ _ flush.ensures.bytes
+            (Ok c.in-Ok.field-0) c.in-Ok.ensures.converts;
+        counted =
+            record { converted = converted; failures = refl; conversion = counted; flush = flush_counts flush.result _ _ flush.ensures.failures };
         ends = (
-          concludes_flushed g.E.Sink.taken g.E.Sink.failures _ _ flush.result c.is_ok.result _ _ _ _ c.is_ok.ensures.value counted.0 counted.2 flush.ensures.failures
+          concludes_flushed g.E.Sink.taken g.E.Sink.failures _ _ flush.result c.is_ok.result
+              _ _ _ _ c.is_ok.ensures.value counted.0 counted.2 flush.ensures.failures
               c.conclude.ensures.status c.conclude.ensures.untouched c.conclude.ensures.told,
           counted.1,
         );
@@ -37,8 +40,10 @@ returns-in-Err g c =
     record {
       runs = record {
         answer = Err c.in-Err.fault;
-        works = converts_twice_on (profile_twice c.args.mode) first second converted _ _ flush.ensures.bytes (Err c.in-Err.fault) c.in-Err.ensures.converts;
-        counted = record { converted = converted; failures = refl; conversion = counted; flush = flush_counts flush.result _ _ flush.ensures.failures };
+        works = converts_twice_on (profile_twice c.args.mode) first second converted _ _ flush.ensures.bytes
+            (Err c.in-Err.fault) c.in-Err.ensures.converts;
+        counted =
+            record { converted = converted; failures = refl; conversion = counted; flush = flush_counts flush.result _ _ flush.ensures.failures };
         ends = record {
           ends = c.refuse.ensures.status;
           told = c.refuse.ensures.told;
@@ -46,6 +51,7 @@ returns-in-Err g c =
         };
       };
       flushed =
-          flushed_after flush.result _ _ _ _ _ (counted_once_of_two reason first second converted counted) flush.ensures.failures flush.ensures.flushed
+          flushed_after flush.result _ _ _ _ _
+          (counted_once_of_two reason first second converted counted) flush.ensures.failures flush.ensures.flushed
           (λ ill. c.refuse.ensures.status);
     }

@@ -16,7 +16,8 @@ returns-clause-same g c =
 pub returns-clause-front : goal.returns-clause-front
 returns-clause-front g c =
     λ s one other. let runs = returns-clause-runs g c in
-    front_written c.decided_is_prefix.ensures c.due_grows.ensures c.equal_readings.ensures c.interrupted_readings.ensures _ refl s _ _ _ one other runs.answer runs.works
+    front_written c.decided_is_prefix.ensures c.due_grows.ensures c.equal_readings.ensures
+    c.interrupted_readings.ensures _ refl s _ _ _ one other runs.answer runs.works
 
 pub returns-clause-status : goal.returns-clause-status
 returns-clause-status g c = (twice_ends c.export_mode.result _ _ _ _ _ c.export_twice.ensures.runs).0

@@ -20,7 +20,8 @@ returns-in-Ok-false-clause-lists g c =
 pub returns-in-Err-clause-lists : goal.returns-in-Err-clause-lists
 returns-in-Err-clause-lists g c =
     let so = c.loop-fault.invariant.read in
-    list_stops _ _ _ c.loop-fault.games c.next.new.self _ _ so _ c.in-Err.fault _ _ (c.in-Err.ensures.reads _ _ _ so.have_read) (c.in-Err.ensures.counted c.loop-fault.invariant.fault)
+    list_stops _ _ _ c.loop-fault.games c.next.new.self _ _ so _ c.in-Err.fault _ _
+    (c.in-Err.ensures.reads _ _ _ so.have_read) (c.in-Err.ensures.counted c.loop-fault.invariant.fault)
 
 pub returns-in-Err-write_game-clause-lists : goal.returns-in-Err-write_game-clause-lists
 returns-in-Err-write_game-clause-lists g c =

@@ -39,7 +39,8 @@ returns g c =
 pub returns-in_err-split_game : goal.returns-in_err-split_game
 returns-in_err-split_game g c =
     let e = err_from_is_err_and c.from_residual.result c.from_residual.ensures.1 in
-    let ended = stops_at g.F.Out.Sink.taken g.F.Out.Sink.failures _ _ c.loop.games c.split_game.new.games _ _ _ c.loop.invariant.split _ c.in_err-split_game.ensures.splits in
+    let ended = stops_at g.F.Out.Sink.taken g.F.Out.Sink.failures _ _ c.loop.games
+    c.split_game.new.games _ _ _ c.loop.invariant.split _ c.in_err-split_game.ensures.splits in
     record {
       files = rw (e.1, e.2) ended.1;
       counted = rw (e.1, e.2, ← c.loop.invariant.source) ended.2;

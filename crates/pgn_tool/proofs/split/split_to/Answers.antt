@@ -1,8 +1,11 @@
-use Rattle.pgn_tool.proofs.Words.{ℕ, List, Option, Result, refl, Device, FileStep, Unsplit, CountsSplit, EndsSplit, RunsSplit, SplitFiles, SplitResult}
+use Rattle.pgn_tool.proofs.Words.{ℕ, List, Option, Result, refl, Device, FileStep, Unsplit, CountsSplit, EndsSplit, RunsSplit, SplitFiles}
+use Rattle.pgn_tool.proofs.Words.{SplitResult}
 use Rattle.pgn_tool.proofs.split.split_to.Goals as goal
 
-runs_by : {before after : Option (List FileStep)} {source err : Device} {status : ℕ} (answer : Result Unit Unsplit) → SplitFiles before after answer
-    → SplitResult source.before source.after answer before after → CountsSplit answer source.failures source.failures_after → EndsSplit answer err status
+runs_by : {before after : Option (List FileStep)} {source err : Device} {status : ℕ} (answer : Result Unit Unsplit)
+    → SplitFiles before after answer
+    → SplitResult source.before source.after answer before after
+    → CountsSplit answer source.failures source.failures_after → EndsSplit answer err status
     → RunsSplit before after source err status
 runs_by answer files splits counted ends = record { answer = answer; files = files; splits = splits; counted = counted; ends = ends }
 

@@ -12,7 +12,8 @@ returns-in-Ok g c =
         lists = lists_on _ (g.R.Source.left c.list_games-answer.new.source) _ _ _ flush.ensures.bytes (Ok tt) c.in-Ok.ensures.lists;
         counted = (_, counted, flush_counts flush.result _ _ flush.ensures.failures);
         ends =
-            concludes_flushed g.E.Sink.taken g.E.Sink.failures _ _ flush.result c.is_ok.result _ _ _ _ c.is_ok.ensures.value counted.0 counted.1 flush.ensures.failures
+            concludes_flushed g.E.Sink.taken g.E.Sink.failures _ _ flush.result c.is_ok.result
+            _ _ _ _ c.is_ok.ensures.value counted.0 counted.1 flush.ensures.failures
             c.conclude.ensures.status c.conclude.ensures.untouched c.conclude.ensures.told;
       };
       flushed =

@@ -8,17 +8,21 @@ use Rattle.chess_rules.proofs.trying.FoundLists.{list_any-filter}
 use Rattle.chess_rules.proofs.board.Board.king.Goals as goal
 
 -- as many squares pass as elements
-counted : {X : Type 0} (test : Square → Bool) (p : X → Bool) (d : X) (a : ℕ) (xs : List X) → ((i : ℕ) → i < length xs → test (square_at (a + i)) ≡ p (get_or xs i d))
+counted : {X : Type 0} (test : Square → Bool) (p : X → Bool) (d : X) (a : ℕ) (xs : List X)
+    → ((i : ℕ) → i < length xs → test (square_at (a + i)) ≡ p (get_or xs i d))
     → length (filter test (map square_at (range_with_len a (length xs)))) ≡ tally p xs
 counted test p d a [] h = refl
 counted test p d a (x ∷ xs) h =
-    by_first (test (square_at a)) (p x) (filter test (map square_at (range_with_len (a + 1) (length xs)))) (ap (λ j. test (square_at j)) (omega arith) ∙ h 0 (omega arith))
+    by_first (test (square_at a)) (p x) (filter test (map square_at (range_with_len (a + 1) (length xs))))
+    (ap (λ j. test (square_at j)) (omega arith) ∙ h 0 (omega arith))
     (counted test p d (a + 1) xs (λ i low. ap (λ j. test (square_at j)) (omega arith) ∙ h (suc i) (omega arith)))
   where
-    by_first : (v w : Bool) (kept : List Square) → v ≡ w → length kept ≡ tally p xs → length (cond v (square_at a ∷ kept) kept) ≡ cond w (1 + tally p xs) (tally p xs)
+    by_first : (v w : Bool) (kept : List Square) → v ≡ w → length kept ≡ tally p xs
+        → length (cond v (square_at a ∷ kept) kept) ≡ cond w (1 + tally p xs) (tally p xs)
     by_first v w kept same few = grind arith
 
-lone_king : (c : Colour) (b : Board) (w : ℕ) → length b ≡ 64 → Places w (λ s. has_piece c King (at b s)) → lone (members w) ≡ (if kings c b == 1 then Some (king_square c b) else None)
+lone_king : (c : Colour) (b : Board) (w : ℕ) → length b ≡ 64 → Places w (λ s. has_piece c King (at b s))
+    → lone (members w) ≡ (if kings c b == 1 then Some (king_square c b) else None)
 lone_king c b w long places = by_members (members w) many here
   where
     kept : members w ≡ filter (λ s. has_piece c King (at b s)) squares
@@ -27,7 +31,8 @@ lone_king c b w long places = by_members (members w) many here
     many : length (members w) ≡ kings c b
     many =
         ap length (kept ∙ ap (filter (λ s. has_piece c King (at b s))) (by_places ∙ ap (λ n. map square_at (range_with_len 0 n)) (sym long)))
-        ∙ (counted (λ s. has_piece c King (at b s)) (has_piece c King) None 0 b (λ i low. let same : cell_of (square_at (0 + i)) ≡ i = omega arith in ap (λ k. has_piece c King (get_or b k None)) same)
+        ∙ (counted (λ s. has_piece c King (at b s)) (has_piece c King) None 0 b
+        (λ i low. let same : cell_of (square_at (0 + i)) ≡ i = omega arith in ap (λ k. has_piece c King (get_or b k None)) same)
         ∙ tally-count_by (has_piece c King) b)
 
     here : kings c b ≡ 1 → list_any (same_square (king_square c b)) (members w) ≡ true
@@ -37,9 +42,11 @@ lone_king c b w long places = by_members (members w) many here
         seen k =
             ap (list_any (same_square (king_square c b))) kept
             ∙ (list_any-filter (same_square (king_square c b)) (λ s. has_piece c King (at b s)) squares
-            ∙ any_square (λ s. has_piece c King (at b s) && same_square (king_square c b) s) (king_square c b) k.file k.rank (and_from _ _ k.king (itself (king_square c b))))
+            ∙ any_square (λ s. has_piece c King (at b s) && same_square (king_square c b) s)
+            (king_square c b) k.file k.rank (and_from _ _ k.king (itself (king_square c b))))
 
-    by_members : (xs : List Square) → length xs ≡ kings c b → (kings c b ≡ 1 → list_any (same_square (king_square c b)) xs ≡ true) → lone xs ≡ (if kings c b == 1 then Some (king_square c b) else None)
+    by_members : (xs : List Square) → length xs ≡ kings c b → (kings c b ≡ 1 → list_any (same_square (king_square c b)) xs ≡ true)
+        → lone xs ≡ (if kings c b == 1 then Some (king_square c b) else None)
     by_members [] none found = grind arith
     by_members (s ∷ []) one found = grind (arith, squares_same)
     by_members (s ∷ (t ∷ xs)) several found = grind arith

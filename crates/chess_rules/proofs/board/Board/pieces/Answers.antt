@@ -5,4 +5,5 @@ use Rattle.chess_rules.proofs.board.Board.pieces.Goals as goal
 
 pub returns : goal.returns
 returns c =
-    places_same _ _ _ (places_and _ _ _ _ _ c.bitand.ensures c.of_kind.ensures c.of_colour.ensures) (λ s. piece_is c.args.colour c.args.kind (at c.args.self.now s))
+    places_same _ _ _ (places_and _ _ _ _ _ c.bitand.ensures c.of_kind.ensures c.of_colour.ensures)
+    (λ s. piece_is c.args.colour c.args.kind (at c.args.self.now s))

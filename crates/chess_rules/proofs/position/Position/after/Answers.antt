@@ -1,4 +1,5 @@
-use Rattle.chess_rules.proofs.Words.{Parts, other, king_attacked, is_position, is_check, after, full_after, king_square, parts_of, arith, ◌≡◌, true, false, sym, ◌∙◌, ap, subst, Some, IfSome}
+use Rattle.chess_rules.proofs.Words.{Parts, other, king_attacked, is_position, is_check, after, full_after, king_square, parts_of, arith, ◌≡◌}
+use Rattle.chess_rules.proofs.Words.{true, false, sym, ◌∙◌, ap, subst, Some, IfSome}
 use Rattle.chess_rules.proofs.positions.RulesOfPosition.{stored}
 use Rattle.chess_rules.proofs.moves.StepsKeepBoard.{other-other}
 use Rattle.chess_rules.proofs.moves.LegalToPosition.{position_after, other_king_stays, legal_when}
@@ -10,9 +11,12 @@ safe : (c : goal.After-king_after) → king_attacked c.board_after-board.result 
 safe c = grind arith
 
 -- the parts that are made
-same : (c : goal.After-king_after) → parts_of (record { board = c.board_after-board.result; side = c.other.result; rights = c.rights_after.result; target = c.target_after.result; half = c.half_after.result; full = c.match-self.result; king = c.self.inside.other_king; other_king = c.king_after.result; checked = c.gives_check-checked.result }) ≡ after c.args.self.now c.args.mv.now c.board_after-board.result
+same : (c : goal.After-king_after) → parts_of
+    (record { board = c.board_after-board.result; side = c.other.result; rights = c.rights_after.result; target = c.target_after.result; half = c.half_after.result; full = c.match-self.result; king = c.self.inside.other_king; other_king = c.king_after.result; checked = c.gives_check-checked.result })
+    ≡ after c.args.self.now c.args.mv.now c.board_after-board.result
 same c =
-    let full : c.match-self.result ≡ full_after c.self.inside.side c.self.inside.full = elim c.match-self.branch [ in-White w ↦ grind arith | in-Black w ↦ grind arith ] in
+    let full : c.match-self.result ≡ full_after c.self.inside.side c.self.inside.full =
+    elim c.match-self.branch [ in-White w ↦ grind arith | in-Black w ↦ grind arith ] in
     grind arith
 
 pub invariant_of-result : goal.invariant_of-result
@@ -22,15 +26,18 @@ invariant_of-result c =
     let s = stored c.self.inside p c.self.invariant c.self.view_is in
     let side : c.other.result ≡ other p.side = c.other.ensures ∙ ap other s.side in
     record {
-      position = subst (λ (q : Parts). is_position q ≡ true) (sym (same c)) (position_after p c.args.mv.now b s.position c.requires.kind.on_board c.board_after-board.ensures (safe c));
-      king = s.other_king ∙ (other_king_stays p c.args.mv.now b s.position c.requires.kind.on_board c.board_after-board.ensures ∙ ap (λ d. king_square d b) (sym side));
+      position = subst (λ (q : Parts). is_position q ≡ true) (sym (same c))
+          (position_after p c.args.mv.now b s.position c.requires.kind.on_board c.board_after-board.ensures (safe c));
+      king = s.other_king ∙ (other_king_stays p c.args.mv.now b s.position c.requires.kind.on_board c.board_after-board.ensures
+          ∙ ap (λ d. king_square d b) (sym side));
       other_king = subst (λ o. IfSome o (λ a. c.king_after.result ≡ king_square p.side a)) c.board_after-board.ensures c.king_after.ensures
           ∙ ap (λ d. king_square d b) (sym (ap other side ∙ other-other p.side));
       checked = c.gives_check-checked.ensures ∙ ap is_check (sym (same c));
     }
 
 pub returns : goal.returns
-returns c = ap Some (same c) ∙ sym (legal_when c.args.self.now c.args.mv.now c.board_after-board.result c.requires.kind.on_board c.board_after-board.ensures (safe c))
+returns c = ap Some (same c)
+    ∙ sym (legal_when c.args.self.now c.args.mv.now c.board_after-board.result c.requires.kind.on_board c.board_after-board.ensures (safe c))
 
 pub board_after-board-requires-clause-step : goal.board_after-board-requires-clause-step
 board_after-board-requires-clause-step c = step_when_legal c.args.self.now c.args.mv.now c.requires.legal

@@ -1,4 +1,5 @@
-use Rattle.chess_rules.proofs.Words.{ℕ, ◌^◌, ◌*◌, ◌+◌, ◌/◌, ◌∙◌, ap, ap₂, sym, div-div-eq-div-mul, pow-add, shr_and_one, has}
+use Rattle.chess_rules.proofs.Words.{ℕ, ◌^◌, ◌*◌, ◌+◌, ◌/◌, ◌∙◌, ap, ap₂, sym, div-div-eq-div-mul, pow-add, shr_and_one}
+use Rattle.chess_rules.proofs.Words.{has}
 use Rattle.std.specs.Prelude.{bit_and, ◌==◌}
 use Rattle.chess_rules.proofs.squares.Squares.has_on_rank.Goals as goal
 

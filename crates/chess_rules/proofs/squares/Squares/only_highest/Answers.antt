@@ -12,5 +12,6 @@ returns c =
     let fits : c.self.inside.bits < 2 ^ 64 = grind arith in
     highest_alone c.args.self (cell_of c.nth-last.result) c.of_bits.result
     (subst (λ n. IsHighest n (cell_of c.nth-last.result)) c.self.view_is
-    (subst (IsHighest c.self.inside.bits) (sym (ap cell_of c.nth-last.ensures ∙ cell_of-square_at (63 - leading_zeros w64 c.self.inside.bits))) (highest_place c.self.inside.bits some fits)))
+    (subst (IsHighest c.self.inside.bits) (sym (ap cell_of c.nth-last.ensures ∙ cell_of-square_at (63 - leading_zeros w64 c.self.inside.bits)))
+    (highest_place c.self.inside.bits some fits)))
     (c.of_bits.ensures ∙ c.bit_of.ensures.bit)

@@ -6,4 +6,5 @@ pub returns-in-None : goal.returns-in-None
 returns-in-None c = no_lowest c.args.self c.in-None.ensures
 
 pub returns-in-Some : goal.returns-in-Some
-returns-in-Some c = lowest_alone c.args.self (cell_of c.in-Some.first) c.of_bits.result c.in-Some.ensures.place (c.of_bits.ensures ∙ c.bit_of.ensures.bit)
+returns-in-Some c =
+    lowest_alone c.args.self (cell_of c.in-Some.first) c.of_bits.result c.in-Some.ensures.place (c.of_bits.ensures ∙ c.bit_of.ensures.bit)

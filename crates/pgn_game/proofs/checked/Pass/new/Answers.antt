@@ -1,4 +1,5 @@
-use Rattle.pgn_game.proofs.Words.{ℕ, ◌-◌, [], length, refl, sym, ap, subst, ◌∙◌, inl, arith, Consumes-nil, Consumes, no_progress, takes_the_marker, no_part, ReaderState, Agrees, whole_plies, checked_profile, reading_under}
+use Rattle.pgn_game.proofs.Words.{ℕ, ◌-◌, [], length, refl, sym, ap, subst, ◌∙◌, inl, arith, Consumes-nil, Consumes, no_progress}
+use Rattle.pgn_game.proofs.Words.{takes_the_marker, no_part, ReaderState, Agrees, whole_plies, checked_profile, reading_under}
 use Rattle.pgn_game.specs.MostTried.{MostTried, none}
 use Rattle.pgn_game.proofs.tokens.SoundAtStart.{few_waiting}
 use Rattle.pgn_game.proofs.ReaderFitsInMemory.{pass_fits_reader}

@@ -10,7 +10,8 @@ invariant-loop-mark g l =
       fewer : steps_left l.self ≤ steps_left l.fn.self;
       source : g.R.Source.failures l.source ≡ g.R.Source.failures l.fn.source;
       sink : g.W.Sink.failures l.out ≡ g.W.Sink.failures l.fn.out;
-      reads : ReadsGameSoFar (g.R.Source.left l.fn.source) (g.R.Source.left l.source) l.fn.told l.fn.self l.self (g.W.Sink.taken l.fn.out) (g.W.Sink.taken l.out);
+      reads : ReadsGameSoFar (g.R.Source.left l.fn.source) (g.R.Source.left l.source) l.fn.told l.fn.self l.self
+          (g.W.Sink.taken l.fn.out) (g.W.Sink.taken l.out);
     }
 
 abbrev pub decreases-loop-mark : goal.decreases-loop-mark

@@ -1,4 +1,5 @@
-use Rattle.pgn_game.proofs.Words.{◌≡◌, ℕ, ◌<◌, ◌==◌, Bool, true, false, List, [], ◌∷◌, length, arith, inl, inr, refl, ap, subst, sym, ◌∙◌, Appends-nil, eqb-true, err_from_is_err_and, IsGoing, Pass}
+use Rattle.pgn_game.proofs.Words.{◌≡◌, ℕ, ◌<◌, ◌==◌, Bool, true, false, List, [], ◌∷◌, length, arith, inl, inr, refl, ap, subst}
+use Rattle.pgn_game.proofs.Words.{sym, ◌∙◌, Appends-nil, eqb-true, err_from_is_err_and, IsGoing, Pass}
 use Rattle.pgn_game.proofs.twice.CountsStaySmall.{keeps_at_end, keeps_in_buffer, keeps_none}
 use Rattle.pgn_game.proofs.twice.TokensOfReading.{fails_at_end, fails_in_buffer, more_in_buffer, token_at_end, token_in_buffer}
 use Rattle.pgn_game.proofs.ReaderFitsInMemory.{pass_alike, pass_fits_reader}
@@ -60,8 +61,10 @@ pub returns-in-NeedMore-outcome : goal.returns-in-NeedMore-outcome
 returns-in-NeedMore-outcome g c =
     let scans = rw (c.in-NeedMore-outcome.is, c.unused-2.ensures) at c.next-scan.follows.holds-at-none in
     record {
-      takes = rw c.clear.ensures (more_in_buffer _ c.args.told _ _ c.self.view_is _ (some _ _ _ c.unused.ensures c.is_empty.ensures c.if-is_empty.false) _ _ scans);
-      keeps = rw c.clear.ensures (keeps_none _ _ c.self.view_is c.requires.going _ [] _ (some _ _ _ c.unused.ensures c.is_empty.ensures c.if-is_empty.false) scans);
+      takes = rw c.clear.ensures
+          (more_in_buffer _ c.args.told _ _ c.self.view_is _ (some _ _ _ c.unused.ensures c.is_empty.ensures c.if-is_empty.false) _ _ scans);
+      keeps = rw c.clear.ensures
+          (keeps_none _ _ c.self.view_is c.requires.going _ [] _ (some _ _ _ c.unused.ensures c.is_empty.ensures c.if-is_empty.false) scans);
       counted = (refl, refl);
     }
 
@@ -70,7 +73,8 @@ returns-in-Token-outcome g c =
     let scans = rw (c.in-Token-outcome.is, c.unused-2.ensures) at c.next-scan.follows.holds-at-none in
     record {
       takes =
-          token_in_buffer _ c.args.told _ _ c.self.view_is _ (some _ _ _ c.unused.ensures c.is_empty.ensures c.if-is_empty.false) _ c.tokens_rise.ensures _ c.skip.ensures _
+          token_in_buffer _ c.args.told _ _ c.self.view_is _
+          (some _ _ _ c.unused.ensures c.is_empty.ensures c.if-is_empty.false) _ c.tokens_rise.ensures _ c.skip.ensures _
           c.take_token-taken.new.reader c.take_token-taken.new.games c.take_token-taken.result _ _ scans
           c.take_token-taken.ensures.takes c.take_token-taken.ensures.games c.take_token-taken.ensures.end;
       keeps =
@@ -86,24 +90,43 @@ returns-in-Fault-outcome g c =
       takes =
           let scans = rw (c.in-Fault-outcome.is, c.unused-2.ensures) at c.next-scan.follows.holds-at-none in
           rw c.lexical-in-Fault-outcome.ensures
-          (fails_in_buffer _ c.args.told _ _ c.self.view_is _ (some _ _ _ c.unused.ensures c.is_empty.ensures c.if-is_empty.false) _ c.in-Fault-outcome.fault c.args.self.now _ scans);
+          (fails_in_buffer _ c.args.told _ _ c.self.view_is _
+          (some _ _ _ c.unused.ensures c.is_empty.ensures c.if-is_empty.false) _ c.in-Fault-outcome.fault c.args.self.now _ scans);
       keeps = tt;
       counted = rw c.lexical-in-Fault-outcome.ensures (refl, refl);
     }
 
 pub take_token-requires : goal.take_token-requires
 take_token-requires g c =
-    let going : IsGoing _ = subst IsGoing (sym c.self.view_is) c.requires.going in
-    (search pass_fits_reader, ((omega (arith, going.few_plies, going.room), omega (arith, going.few, going.room)), rw c.in-Token.is at c.finish.follows.holds-at-none.lengths))
+    let going : IsGoing _ = subst IsGoing (sym c.self.view_is) c.requires.going in (
+      search pass_fits_reader,
+      (
+        (omega (arith, going.few_plies, going.room), omega (arith, going.few, going.room)),
+        rw c.in-Token.is at c.finish.follows.holds-at-none.lengths,
+      ),
+    )
 
 pub fill-requires : goal.fill-requires
-fill-requires g c =
-    (search pass_alike, (c.requires.going, (ap (λ (s : Pass). s.has_ended) (sym c.self.view_is) ∙ c.if-self.false, ap (λ (s : Pass). s.unused) (sym c.self.view_is) ∙ none _ _ _ c.unused.ensures c.is_empty.ensures c.if-is_empty.true)))
+fill-requires g c = (
+  search pass_alike,
+  (
+    c.requires.going,
+    (
+      ap (λ (s : Pass). s.has_ended) (sym c.self.view_is) ∙ c.if-self.false,
+      ap (λ (s : Pass). s.unused) (sym c.self.view_is) ∙ none _ _ _ c.unused.ensures c.is_empty.ensures c.if-is_empty.true,
+    ),
+  ),
+)
 
 pub take_token-taken-requires : goal.take_token-taken-requires
 take_token-taken-requires g c =
-    let going : IsGoing _ = subst IsGoing (sym c.self.view_is) c.requires.going in
-    (search pass_fits_reader, ((omega (arith, going.few_plies, going.room), omega (arith, going.few, going.room)), rw c.in-Token-outcome.is at c.next-scan.follows.holds-at-none.lengths))
+    let going : IsGoing _ = subst IsGoing (sym c.self.view_is) c.requires.going in (
+      search pass_fits_reader,
+      (
+        (omega (arith, going.few_plies, going.room), omega (arith, going.few, going.room)),
+        rw c.in-Token-outcome.is at c.next-scan.follows.holds-at-none.lengths,
+      ),
+    )
 
 -- `finish` gives a token or a fault
 pub returns-in-NeedMore : goal.returns-in-NeedMore

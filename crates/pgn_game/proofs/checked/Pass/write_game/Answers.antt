@@ -11,7 +11,8 @@ returns-in-Ok g c =
       writes = λ q told left_old given stands.
           let here = subst (StandsBetween q told left_old (g.R.Source.left c.args.source.now) given) (sym c.self.view_is) stands in
           write_done q left_old _ c.args.mark given _ c.read_game.new.self c.in-Ok.field-0 _ _
-          (c.in-Ok.ensures.reads q left_old given (tell q told left_old _ c.args.mark given _ _ c.count_missing_result_as.ensures here)) c.in-Ok.ensures.going;
+          (c.in-Ok.ensures.reads q left_old given (tell q told left_old _ c.args.mark given _ _ c.count_missing_result_as.ensures here))
+          c.in-Ok.ensures.going;
       counted = c.in-Ok.ensures.counted;
     }
 

@@ -1,4 +1,5 @@
-use Rattle.pgn_game.proofs.Words.{◌-◌, [], arith, refl, sym, ap, subst, no_progress, no_part, ReaderState, Agrees, IsKnown, whole_plies, profile_of, false≢true}
+use Rattle.pgn_game.proofs.Words.{◌-◌, [], arith, refl, sym, ap, subst, no_progress, no_part, ReaderState, Agrees, IsKnown, whole_plies}
+use Rattle.pgn_game.proofs.Words.{profile_of, false≢true}
 use Rattle.pgn_game.specs.MostTried.{MostTried, none}
 use Rattle.pgn_game.proofs.ReaderFitsInMemory.{fits_reader}
 use Rattle.pgn_game.proofs.tokens.SoundAtStart.{sound_at_start}
@@ -19,7 +20,8 @@ returns g c =
               games = refl;
               plies = ap whole_plies is;
               probed = λ moves. absurd (false≢true moves);
-              tried = subst (MostTried (profile_of g.row.T (g.row.L - 1) c.args.mode) []) (sym (ap (λ (r : ReaderState). r.most_probes) is)) (none no_progress);
+              tried = subst (MostTried (profile_of g.row.T (g.row.L - 1) c.args.mode) [])
+                  (sym (ap (λ (r : ReaderState). r.most_probes) is)) (none no_progress);
               just_finished = tt;
             };
           };
@@ -33,5 +35,6 @@ new-requires g c = (search fits_reader, c.requires.levels)
 pub invariant_of-result : goal.invariant_of-result
 invariant_of-result g c =
     let is = c.new.ensures in
-    sound_at_start c.begin_at.result c.new.result (omega (arith, c.begin_at.ensures.count, c.requires.place)) (ap (λ (r : ReaderState). r.earlier_plies) is) (ap (λ (r : ReaderState). r.text.plies) is)
+    sound_at_start c.begin_at.result c.new.result (omega (arith, c.begin_at.ensures.count, c.requires.place))
+    (ap (λ (r : ReaderState). r.earlier_plies) is) (ap (λ (r : ReaderState). r.text.plies) is)
     (subst (λ (r : ReaderState). IsKnown r.profile) (sym is) refl)

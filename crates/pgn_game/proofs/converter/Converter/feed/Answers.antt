@@ -1,4 +1,5 @@
-use Rattle.pgn_game.proofs.Words.{◌≡◌, ℕ, ◌+◌, ◌≤◌, ◌-◌, ◌^◌, List, length, take, arith, sym, ap, ◌∙◌, le_refl, length-take, none-some, err_from_is_err_and, Converter, at_token, Err, same_Some, refl}
+use Rattle.pgn_game.proofs.Words.{◌≡◌, ℕ, ◌+◌, ◌≤◌, ◌-◌, ◌^◌, List, length, take, arith, sym, ap, ◌∙◌, le_refl}
+use Rattle.pgn_game.proofs.Words.{length-take, none-some, err_from_is_err_and, Converter, at_token, Err, same_Some, refl}
 use Rattle.pgn_game.proofs.ReaderFitsInMemory.{fits_alike}
 use Rattle.pgn_game.proofs.tokens.StepsAtEnd.{none_by_fault, not_just_finished, sound_behind_fault}
 use Rattle.pgn_game.proofs.tokens.StepsInPiece.{follows_front, front_all, front_game, front_fault, front_too_long, limit_left, front_used}
@@ -11,7 +12,8 @@ in_piece n k piece within = omega (arith, within, length-take k piece)
 whole_count : (new old k : ℕ) (piece : List ℕ) → new ≡ old + length (take k piece) → length piece ≤ k → new ≡ old + length piece
 whole_count new old k piece count whole = omega (arith, count, whole, length-take k piece)
 
-stays_short : (new old used now held : ℕ) → new ≡ old + used → used ≤ 2 ^ 62 - now → now ≡ held → held ≤ 2 ^ 62 → held ≡ old → new ≤ 2 ^ 62
+stays_short : (new old used now held : ℕ) → new ≡ old + used → used ≤ 2 ^ 62 - now
+    → now ≡ held → held ≤ 2 ^ 62 → held ≡ old → new ≤ 2 ^ 62
 stays_short new old used now held count room is within view = omega (arith, count, room, is, within, view)
 
 limit_at : {place old held now : ℕ} → old ≡ place → held ≡ old → now ≡ held → held ≤ 2 ^ 62 → place + (2 ^ 62 - now) ≡ 2 ^ 62
@@ -22,8 +24,11 @@ returns-in-Some-clause-feeds g c = λ p u b given stands follows.
     absurd (none-some _ (sym stands.has_read.no_fault ∙ ap (λ (s : Converter). s.fault) (sym c.self.view_is) ∙ c.in-Some.is))
 
 pub returns-in-Some-clause-games : goal.returns-in-Some-clause-games
-returns-in-Some-clause-games g c =
-    (refl, ap (λ (s : Converter). s.just_finished) (sym c.self.view_is) ∙ none_by_fault c.self.inside.has_finished_game c.self.inside.reader c.self.invariant.no_fault c.in-Some.is)
+returns-in-Some-clause-games g c = (
+  refl,
+  ap (λ (s : Converter). s.just_finished) (sym c.self.view_is)
+      ∙ none_by_fault c.self.inside.has_finished_game c.self.inside.reader c.self.invariant.no_fault c.in-Some.is,
+)
 
 pub returns-in-Some-clause-again : goal.returns-in-Some-clause-again
 returns-in-Some-clause-again g c = λ f is.
@@ -65,7 +70,8 @@ returns-in-Game g c =
           front_game p u b given piece _ _ _ c.feed_front.new.self _ room
           (feeds p u b given stands (follows_front b piece _ follows));
       count = count;
-      short = stays_short c.feed_front.new.self.lexer.count c.args.self.now.lexer.count used c.count.result c.self.inside.lexer.count count room c.count.ensures
+      short = stays_short c.feed_front.new.self.lexer.count c.args.self.now.lexer.count
+          used c.count.result c.self.inside.lexer.count count room c.count.ensures
           (c.self.invariant.count c.in_default.is) (ap (λ (s : Converter). s.lexer.count) c.self.view_is);
       advances = rw c.in-Game.is at fed.advances;
       not_finished = c.feed_front.ensures.not_finished;
@@ -87,8 +93,10 @@ returns-then-front-piece g c =
       used = tt;
       feeds = λ p u b given stands follows.
           rw c.too_long.ensures.fault (front_too_long p u b given piece _ _ _ c.feed_front.new.self _ _
-          (limit_at stands.lexer.count (ap (λ (s : Converter). s.lexer.count) c.self.view_is) c.count.ensures (c.self.invariant.count c.in_default.is))
-          (limit_left piece _ more) (ap (λ (s : Converter). s.reading) c.self-2.view_is) (feeds p u b given stands (follows_front b piece _ follows)));
+          (limit_at stands.lexer.count (ap (λ (s : Converter). s.lexer.count) c.self.view_is) c.count.ensures
+          (c.self.invariant.count c.in_default.is))
+          (limit_left piece _ more) (ap (λ (s : Converter). s.reading) c.self-2.view_is)
+          (feeds p u b given stands (follows_front b piece _ follows)));
       count = tt;
       short = tt;
       advances = tt;
@@ -122,7 +130,8 @@ returns-else-front-piece g c =
           front_all p u b given piece _ _ _ c.feed_front.new.self whole
           (feeds p u b given stands (follows_front b piece _ follows));
       count = all;
-      short = stays_short c.feed_front.new.self.lexer.count c.args.self.now.lexer.count (length piece) c.count.result c.self.inside.lexer.count all whole c.count.ensures
+      short = stays_short c.feed_front.new.self.lexer.count c.args.self.now.lexer.count
+          (length piece) c.count.result c.self.inside.lexer.count all whole c.count.ensures
           (c.self.invariant.count c.in_default.is) (ap (λ (s : Converter). s.lexer.count) c.self.view_is);
       advances = tt;
       not_finished = c.feed_front.ensures.not_finished;
@@ -160,4 +169,5 @@ pub invariant_of-self : goal.invariant_of-self
 invariant_of-self g c =
     let kept = rw c.in-All.is at c.in_ok-used.ensures.games in
     let flag = not_just_finished _ _ (ap (λ (s : Converter). s.just_finished) c.self-2.view_is ∙ kept.1) in
-    rw (c.too_long.ensures.kept, flag) (sound_behind_fault c.self-2.inside.lexer c.self-2.inside.reader c.self-2.inside.games c.self-2.inside.is_finished c.too_long.result c.self-2.invariant.known)
+    rw (c.too_long.ensures.kept, flag) (sound_behind_fault c.self-2.inside.lexer c.self-2.inside.reader
+    c.self-2.inside.games c.self-2.inside.is_finished c.too_long.result c.self-2.invariant.known)

@@ -1,4 +1,5 @@
-use Rattle.pgn_game.proofs.Words.{◌≡◌, ℕ, ◌+◌, ◌-◌, ◌^◌, ◌<◌, length, take, drop, arith, refl, sym, ap, subst, ◌∙◌, length-drop, le_refl, Ok, None, Some, More, Finished, take_rest, waiting, Converter, Stands, ◌≤◌}
+use Rattle.pgn_game.proofs.Words.{◌≡◌, ℕ, ◌+◌, ◌-◌, ◌^◌, ◌<◌, length, take, drop, arith, refl, sym, ap, subst, ◌∙◌}
+use Rattle.pgn_game.proofs.Words.{length-drop, le_refl, Ok, None, Some, More, Finished, take_rest, waiting, Converter, Stands, ◌≤◌}
 use Rattle.pgn_game.proofs.ReaderFitsInMemory.{fits_alike}
 use Rattle.pgn_game.proofs.pairs.ValuesByName.{no_value}
 use Rattle.pgn_game.proofs.tokens.StepsAtEnd.{sound_at_none}
@@ -18,12 +19,14 @@ loop-at-init g c =
       probes = omega (arith, ap (λ (s : Converter). s.reading.most_probes) c.self.view_is);
       counted = refl;
       feeds = λ p u b given stands follows.
-          so_far_none p _ u b given c.args.piece.now _ (lets_go p _ u b given (subst (λ (s : Converter). Stands p s u b given) (sym c.self.view_is) stands)) follows;
+          so_far_none p _ u b given c.args.piece.now _
+          (lets_go p _ u b given (subst (λ (s : Converter). Stands p s u b given) (sym c.self.view_is) stands)) follows;
     }
 
 pub step-step-requires : goal.step-step-requires
 step-step-requires g c =
-    let rest : length (take (length c.args.piece.now - c.loop-at.at) (drop c.loop-at.at c.args.piece.now)) ≡ length c.args.piece.now - c.loop-at.at =
+    let rest : length (take (length c.args.piece.now - c.loop-at.at) (drop c.loop-at.at c.args.piece.now))
+    ≡ length c.args.piece.now - c.loop-at.at =
     ap (length {A = ℕ}) (take_rest c.args.piece.now c.loop-at.at) ∙ length-drop c.loop-at.at c.args.piece.now in (
       search fits_alike,
       (
@@ -99,7 +102,8 @@ pub returns-in-Ok-Some-Finished : goal.returns-in-Ok-Some-Finished
 returns-in-Ok-Some-Finished g c =
     let read : c.step-step.result.outcome ≡ Ok c.in-Ok-Some-Finished.field-0 = c.in-Ok-Some-Finished.is in
     let some : c.in-Ok-Some-Finished.field-0 ≡ Some c.in-Ok-Some-Finished.field-0-0 = rw read at c.in-Ok-Some-Finished.field-0-is in
-    let is : c.step-step.result.outcome ≡ Ok (Some Finished) = read ∙ ap Ok (some ∙ ap Some (rw (read, some) at c.in-Ok-Some-Finished.field-0-0-is)) in
+    let is : c.step-step.result.outcome ≡ Ok (Some Finished) =
+    read ∙ ap Ok (some ∙ ap Some (rw (read, some) at c.in-Ok-Some-Finished.field-0-0-is)) in
     let so = c.loop-at.invariant in
     let step = c.step-step.ensures in
     let after = rw (is, take_rest) at step.after in
@@ -166,7 +170,8 @@ returns g c =
 
 pub invariant_of-self : goal.invariant_of-self
 invariant_of-self g c =
-    sound_at_none c.self.inside.lexer c.self.inside.reader c.self.inside.games c.self.inside.has_finished_game c.self.inside.is_finished c.self.inside.fault c.self.invariant
+    sound_at_none c.self.inside.lexer c.self.inside.reader c.self.inside.games
+    c.self.inside.has_finished_game c.self.inside.is_finished c.self.inside.fault c.self.invariant
 
 pub overflow_add-at : goal.overflow_add-at
 overflow_add-at g c =

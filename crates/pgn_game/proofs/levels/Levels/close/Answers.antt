@@ -24,7 +24,8 @@ pub returns-in-Some-Some : goal.returns-in-Some-Some
 returns-in-Some-Some g c =
     let new = c.pop.new.self.items in
     let found : c.pop.result ≡ Some (Some c.in-Some-Some.level) = c.in-Some-Some.is ∙ ap Some c.in-Some-Some.field-0-is in
-    let items : c.self.inside.around.items ≡ new ++ Some c.in-Some-Some.level ∷ [] = c.pop.ensures.items ∙ ap (λ (o : Option (Option CodeLevel)). new ++ option_to_list o) found in
+    let items : c.self.inside.around.items ≡ new ++ Some c.in-Some-Some.level ∷ [] =
+    c.pop.ensures.items ∙ ap (λ (o : Option (Option CodeLevel)). new ++ option_to_list o) found in
     let around : inside [] (new ++ Some c.in-Some-Some.level ∷ []) ≡ c.args.self.now.around =
     ap (inside []) (sym items) ∙ ap (λ (ls : StoredLevels). ls.around) c.self.view_is in
     subst (λ (ls : List StoredLevel). ClosesLevel ls (code_levels c.in-Some-Some.level new)) around (closes new c.in-Some-Some.level)
@@ -33,5 +34,6 @@ pub returns-in-Some-None : goal.returns-in-Some-None
 returns-in-Some-None g c =
     let new = c.pop.new.self.items in
     let found : c.pop.result ≡ Some None = c.in-Some-None.is ∙ ap Some c.in-Some-None.field-0-is in
-    let items : c.self.inside.around.items ≡ new ++ None ∷ [] = c.pop.ensures.items ∙ ap (λ (o : Option (Option CodeLevel)). new ++ option_to_list o) found in
+    let items : c.self.inside.around.items ≡ new ++ None ∷ [] =
+    c.pop.ensures.items ∙ ap (λ (o : Option (Option CodeLevel)). new ++ option_to_list o) found in
     absurd (last-there new (subst AreThere items c.self.invariant.there))

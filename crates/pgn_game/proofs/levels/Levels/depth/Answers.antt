@@ -4,4 +4,9 @@ use Rattle.pgn_game.proofs.levels.Levels.depth.Goals as goal
 
 pub returns-clause-value : goal.returns-clause-value
 returns-clause-value g c =
-    omega (arith, depth-held c.self.inside.around.items c.self.invariant.there, c.len.ensures.value, ap (λ (ls : StoredLevels). length ls.around) c.self.view_is)
+    omega (
+      arith,
+      depth-held c.self.inside.around.items c.self.invariant.there,
+      c.len.ensures.value,
+      ap (λ (ls : StoredLevels). length ls.around) c.self.view_is,
+    )

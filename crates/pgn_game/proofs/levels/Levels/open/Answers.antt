@@ -1,4 +1,5 @@
-use Rattle.pgn_game.proofs.Words.{◌≡◌, List, ◌∷◌, length, Some, ap, subst, sym, ◌∙◌, arith, [], StoredLevel, StoredLevels, AreThere, level_at}
+use Rattle.pgn_game.proofs.Words.{◌≡◌, List, ◌∷◌, length, Some, ap, subst, sym, ◌∙◌, arith, [], StoredLevel, StoredLevels, AreThere}
+use Rattle.pgn_game.proofs.Words.{level_at}
 use Rattle.pgn_game.proofs.putting.CodeLevelsToStored.{depth-held, inside-snoc, there-snoc, opens}
 use Rattle.pgn_game.proofs.levels.Levels.open.Goals as goal
 

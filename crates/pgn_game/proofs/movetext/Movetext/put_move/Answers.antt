@@ -13,10 +13,12 @@ returns-clause-adds g c =
     let m = c.args.mv.now in
     let next = c.position_after-next.result in
     let after = c.in_ok-write_move.ensures.writes.ends in
-    let same = c.present.ensures ∙ ap (λ (t : Movetext). t.levels.present.present) c.self.view_is ∙ sym (ap (λ (t : Movetext). t.levels.present.present) after) in
+    let same = c.present.ensures ∙ ap (λ (t : Movetext). t.levels.present.present) c.self.view_is
+    ∙ sym (ap (λ (t : Movetext). t.levels.present.present) after) in
     adds_put c.args.mode (move m) c.args.self.now c.args.line.now c.write_move.new.line _ c.play.new.self c.in_ok-write_move.ensures.writes.puts
     (subst (λ (t : Movetext). Advances (move m) t c.play.new.self) after
-    (plays_on (record { mv = m; next = next }) c.write_move.new.self c.play.new.self (subst (λ (p : Parts). legal p m ≡ Some next) same c.position_after-next.ensures) c.play.ensures))
+    (plays_on (record { mv = m; next = next }) c.write_move.new.self c.play.new.self
+    (subst (λ (p : Parts). legal p m ≡ Some next) same c.position_after-next.ensures) c.play.ensures))
 
 pub play-requires : goal.play-requires
 play-requires g c = omega (arith, ap (λ (t : Movetext). t.plies) c.in_ok-write_move.ensures.writes.ends, c.requires.few)

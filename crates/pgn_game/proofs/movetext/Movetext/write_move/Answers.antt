@@ -12,30 +12,36 @@ returns-then-not-writes_move-clause-writes g c =
 pub returns-then-not-writes_move-clause-tried : goal.returns-then-not-writes_move-clause-tried
 returns-then-not-writes_move-clause-tried g c =
     let m = c.args.played.now.mv in
-    subst (λ (b : Bool). CostsToWrite b c.args.self.now.levels.present.present (move m) c.args.probes.now c.args.probes.now) (c.if-not-writes_move.ensures m) refl
+    subst (λ (b : Bool). CostsToWrite b c.args.self.now.levels.present.present (move m) c.args.probes.now c.args.probes.now)
+    (c.if-not-writes_move.ensures m) refl
 
 pub returns-in_err-write_tokens_of_move-clause-writes : goal.returns-in_err-write_tokens_of_move-clause-writes
 returns-in_err-write_tokens_of_move-clause-writes g c =
     let m = c.args.played.now.mv in
-    not_written c.args.mode (move m) c.args.self.now c.args.line.now c.write_tokens_of_move.new.line _ c.from_residual.result _ (sym (c.if-not-writes_move.ensures m))
+    not_written c.args.mode (move m) c.args.self.now c.args.line.now c.write_tokens_of_move.new.line _ c.from_residual.result _
+    (sym (c.if-not-writes_move.ensures m))
     c.in_err-write_tokens_of_move.ensures.puts c.from_residual.ensures.0
 
 pub returns-in_err-write_tokens_of_move-clause-tried : goal.returns-in_err-write_tokens_of_move-clause-tried
 returns-in_err-write_tokens_of_move-clause-tried g c =
     let m = c.args.played.now.mv in
-    subst (λ (b : Bool). CostsToWrite b c.args.self.now.levels.present.present (move m) c.args.probes.now c.write_tokens_of_move.new.probes) (c.if-not-writes_move.ensures m)
+    subst (λ (b : Bool). CostsToWrite b c.args.self.now.levels.present.present (move m) c.args.probes.now c.write_tokens_of_move.new.probes)
+    (c.if-not-writes_move.ensures m)
     c.in_err-write_tokens_of_move.ensures.tried
 
 pub returns-clause-writes : goal.returns-clause-writes
 returns-clause-writes g c =
     let m = c.args.played.now.mv in
-    subst (λ (t : Movetext). WritesItem {A = Unit} {E = WriteFault} c.args.mode (move m) c.args.self.now c.args.line.now (record t { is_after_move = true }) c.write_tokens_of_move.new.line (Ok tt)
+    subst (λ (t : Movetext). WritesItem {A = Unit} {E = WriteFault} c.args.mode
+    (move m) c.args.self.now c.args.line.now (record t { is_after_move = true }) c.write_tokens_of_move.new.line (Ok tt)
     (device g.W.Sink.taken g.W.Sink.failures c.args.out.now c.write_tokens_of_move.new.out))
     (sym c.self.view_is)
-    (written_out c.args.mode (move m) c.args.self.now c.args.line.now c.write_tokens_of_move.new.line _ (sym (c.if-not-writes_move.ensures m)) c.in_ok-write_tokens_of_move.ensures.puts)
+    (written_out c.args.mode (move m) c.args.self.now c.args.line.now c.write_tokens_of_move.new.line _
+    (sym (c.if-not-writes_move.ensures m)) c.in_ok-write_tokens_of_move.ensures.puts)
 
 pub returns-clause-tried : goal.returns-clause-tried
 returns-clause-tried g c =
     let m = c.args.played.now.mv in
-    subst (λ (b : Bool). CostsToWrite b c.args.self.now.levels.present.present (move m) c.args.probes.now c.write_tokens_of_move.new.probes) (c.if-not-writes_move.ensures m)
+    subst (λ (b : Bool). CostsToWrite b c.args.self.now.levels.present.present (move m) c.args.probes.now c.write_tokens_of_move.new.probes)
+    (c.if-not-writes_move.ensures m)
     c.in_ok-write_tokens_of_move.ensures.tried

@@ -29,7 +29,8 @@ put-requires-in-CommentClose g c = one_byte 125
 
 pub returns-in-CommentClose : goal.returns-in-CommentClose
 returns-in-CommentClose g c =
-    rw c.in-CommentClose.is (puts_token (125 ∷ []) _ _ _ _ (one_byte 125) c.put-in-CommentClose.ensures.text c.put-in-CommentClose.ensures.line c.put-in-CommentClose.ensures.counted)
+    rw c.in-CommentClose.is (puts_token (125 ∷ []) _ _ _ _
+    (one_byte 125) c.put-in-CommentClose.ensures.text c.put-in-CommentClose.ensures.line c.put-in-CommentClose.ensures.counted)
 
 pub put-requires-in-Open : goal.put-requires-in-Open
 put-requires-in-Open g c = one_byte 40
@@ -43,4 +44,5 @@ put-requires-in-Close g c = one_byte 41
 
 pub returns-in-Close : goal.returns-in-Close
 returns-in-Close g c =
-    rw c.in-Close.is (puts_token (41 ∷ []) _ _ _ _ (one_byte 41) c.put-in-Close.ensures.text c.put-in-Close.ensures.line c.put-in-Close.ensures.counted)
+    rw c.in-Close.is
+    (puts_token (41 ∷ []) _ _ _ _ (one_byte 41) c.put-in-Close.ensures.text c.put-in-Close.ensures.line c.put-in-Close.ensures.counted)

@@ -1,4 +1,5 @@
-use Rattle.pgn_game.proofs.Words.{arith, ◌≡◌, ◌<◌, ◌≤◌, length, ◌∷◌, [], List, ℕ, ap, subst, ◌∙◌, device, IsToken, text_of_move, Movetext, PutsTokens, number_due}
+use Rattle.pgn_game.proofs.Words.{arith, ◌≡◌, ◌<◌, ◌≤◌, length, ◌∷◌, [], List, ℕ, ap, subst, ◌∙◌, device, IsToken}
+use Rattle.pgn_game.proofs.Words.{text_of_move, Movetext, PutsTokens, number_due}
 use Rattle.pgn_game.proofs.putting.ItemToMovetext.{puts_after, puts_fail, is_text, is_token, writes_move}
 use Rattle.pgn_game.proofs.putting.NumberToTokens.{puts_token}
 use Rattle.pgn_game.proofs.movetext.Movetext.write_tokens_of_move.Goals as goal
@@ -25,10 +26,14 @@ returns-clause-puts g c =
     let number = c.in_ok-put_number.ensures.puts in
     let same = c.present.ensures ∙ ap (λ (t : Movetext). t.levels.present.present) c.self.view_is in
     let text = is_text p c.present.result.now c.args.played.now.mv c.write_san-san.result.items c.write_san-san.ensures.text same in
-    let put : PutsTokens (c.as_slice.result.now ∷ []) c.put_number.new.line c.put.new.self c.put.result (device g.W.Sink.taken g.W.Sink.failures c.put_number.new.out c.put.new.out) =
-    puts_token c.as_slice.result.now _ _ _ _ (of_san c.as_slice.result.now _ c.as_slice.ensures.value c.write_san-san.ensures.some c.write_san-san.ensures.short) c.put.ensures.text c.put.ensures.line c.put.ensures.counted in
-    puts_after (number_due c.args.self.now) (text_of_move p c.args.played.now.mv ∷ []) c.args.line.now c.put_number.new.line c.put.new.self _ c.put.result _ _ _ _ _ _ number
-    (subst (λ (t : List ℕ). PutsTokens (t ∷ []) c.put_number.new.line c.put.new.self c.put.result (device g.W.Sink.taken g.W.Sink.failures c.put_number.new.out c.put.new.out))
+    let put : PutsTokens (c.as_slice.result.now ∷ []) c.put_number.new.line c.put.new.self c.put.result
+    (device g.W.Sink.taken g.W.Sink.failures c.put_number.new.out c.put.new.out) =
+    puts_token c.as_slice.result.now _ _ _ _ (of_san c.as_slice.result.now _ c.as_slice.ensures.value
+    c.write_san-san.ensures.some c.write_san-san.ensures.short) c.put.ensures.text c.put.ensures.line c.put.ensures.counted in
+    puts_after (number_due c.args.self.now)
+    (text_of_move p c.args.played.now.mv ∷ []) c.args.line.now c.put_number.new.line c.put.new.self _ c.put.result _ _ _ _ _ _ number
+    (subst (λ (t : List ℕ). PutsTokens (t ∷ []) c.put_number.new.line c.put.new.self c.put.result
+    (device g.W.Sink.taken g.W.Sink.failures c.put_number.new.out c.put.new.out))
     (c.as_slice.ensures.value ∙ text) put)
 
 pub returns-in_err-put_number-clause-tried : goal.returns-in_err-put_number-clause-tried

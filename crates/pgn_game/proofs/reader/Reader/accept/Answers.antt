@@ -1,4 +1,5 @@
-use Rattle.pgn_game.proofs.Words.{◌≡◌, ◌≤◌, ◌+◌, Result, Err, ap, ◌∙◌, err_from_is_err_and, Device, Kind, Reason, ReaderState, Accepts, CountsWrites, FinishesAtMarker, Stays, TakesToken, Accepted}
+use Rattle.pgn_game.proofs.Words.{◌≡◌, ◌≤◌, ◌+◌, Result, Err, ap, ◌∙◌, err_from_is_err_and, Device, Kind, Reason, ReaderState}
+use Rattle.pgn_game.proofs.Words.{Accepts, CountsWrites, FinishesAtMarker, Stays, TakesToken, Accepted}
 use Rattle.pgn_game.proofs.ReaderLemmas.{marker_taken, reader_alike}
 use Rattle.pgn_game.proofs.reader.Reader.accept.Goals as goal
 
@@ -14,7 +15,8 @@ Ensured old k new r d = record {
   probes : old.most_probes ≤ new.most_probes;
 }
 
-taken : (old : ReaderState) (k : Kind) (new : ReaderState) (r : Result Accepted Reason) (d : Device) → TakesToken old k new r d → Ensured old k new r d
+taken : (old : ReaderState) (k : Kind) (new : ReaderState) (r : Result Accepted Reason) (d : Device)
+    → TakesToken old k new r d → Ensured old k new r d
 taken old k new r d t = record {
   accepts = t.accepts;
   profile = t.keeps.profile;

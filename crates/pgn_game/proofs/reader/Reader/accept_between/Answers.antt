@@ -1,4 +1,5 @@
-use Rattle.pgn_game.proofs.Words.{◌≡◌, ◌||◌, Bool, true, refl, sym, ap, subst, ◌∙◌, arith, or_right, kind_of, is_comment, is_end, ReaderState, TakesOutside}
+use Rattle.pgn_game.proofs.Words.{◌≡◌, ◌||◌, Bool, true, refl, sym, ap, subst, ◌∙◌, arith, or_right, kind_of, is_comment, is_end}
+use Rattle.pgn_game.proofs.Words.{ReaderState, TakesOutside}
 use Rattle.std.specs.Prelude.{option_map}
 use Rattle.pgn_game.specs.PutResult.{continued}
 use Rattle.pgn_game.proofs.ReaderLemmas.{reader_alike, passes_first, takes_outside_first}
@@ -9,8 +10,7 @@ pub begin_game-requires : goal.begin_game-requires
 begin_game-requires g c = (search reader_alike, omega (arith, c.requires.few))
 
 pub accept_after_tags-requires : goal.accept_after_tags-requires
-accept_after_tags-requires g c =
-    (search reader_alike, ap (λ (r : ReaderState). r.stage) c.begin_game.ensures)
+accept_after_tags-requires g c = (search reader_alike, ap (λ (r : ReaderState). r.stage) c.begin_game.ensures)
 
 pub returns-then-is_comment : goal.returns-then-is_comment
 returns-then-is_comment g c =
@@ -25,5 +25,7 @@ pub returns : goal.returns
 returns g c =
     let old = c.args.self.now in
     let k = kind_of c.args.kind in
-    takes_outside_first old _ c.args.kind (option_map continued c.accept_after_tags.result) c.requires.stage (sym c.is_comment.ensures ∙ c.if-is_comment.false) (sym c.is_end.ensures ∙ c.if-is_end.false)
-    (subst (λ (r : ReaderState). TakesOutside r k c.accept_after_tags.new.self (option_map continued c.accept_after_tags.result)) c.begin_game.ensures c.accept_after_tags.ensures)
+    takes_outside_first old _ c.args.kind (option_map continued c.accept_after_tags.result) c.requires.stage
+    (sym c.is_comment.ensures ∙ c.if-is_comment.false) (sym c.is_end.ensures ∙ c.if-is_end.false)
+    (subst (λ (r : ReaderState). TakesOutside r k c.accept_after_tags.new.self (option_map continued c.accept_after_tags.result))
+    c.begin_game.ensures c.accept_after_tags.ensures)

@@ -1,4 +1,5 @@
-use Rattle.pgn_game.proofs.Words.{◌≡◌, ℕ, List, Bor, Err, None, false, refl, ap, ◌∙◌, err_from_is_err_and, kind_of, TokenKind, marker_of, is_frequent}
+use Rattle.pgn_game.proofs.Words.{◌≡◌, ℕ, List, Bor, Err, None, false, refl, ap, ◌∙◌, err_from_is_err_and, kind_of, TokenKind}
+use Rattle.pgn_game.proofs.Words.{marker_of, is_frequent}
 use Rattle.pgn_lexer.specs.Tokens as tokens
 use Rattle.pgn_lexer.specs.declared.token.TokenKind.TheVariants as token_kinds
 use Rattle.pgn_game.specs.declared.annotation.Annotation.TheVariants.{Word}
@@ -6,7 +7,8 @@ use Rattle.pgn_game.proofs.ReaderLemmas.{reader_alike, item_entry, passes_entry}
 use Rattle.pgn_game.proofs.reader.Reader.accept_entry.Goals as goal
 
 -- what is left is not frequent, and no marker
-other : (k : TokenKind) → ((s : Bor (List ℕ)) → k ≡ token_kinds.Symbol s → ⊥) → (k ≡ token_kinds.Period → ⊥) → ((s : Bor (List ℕ)) → k ≡ token_kinds.Word s → ⊥)
+other : (k : TokenKind) → ((s : Bor (List ℕ)) → k ≡ token_kinds.Symbol s → ⊥)
+    → (k ≡ token_kinds.Period → ⊥) → ((s : Bor (List ℕ)) → k ≡ token_kinds.Word s → ⊥)
     → (k ≡ token_kinds.Asterisk → ⊥) → (is_frequent (kind_of k) ≡ false) × (marker_of (kind_of k) ≡ None)
 other (token_kinds.Symbol s) symbol period word asterisk = absurd (symbol s refl)
 other token_kinds.Period symbol period word asterisk = absurd (period refl)
@@ -37,13 +39,15 @@ pub returns-in_err-put-in-Word : goal.returns-in_err-put-in-Word
 returns-in_err-put-in-Word g c =
     let p = err_from_is_err_and c.from_residual-in_err-put-in-Word.result c.from_residual-in_err-put-in-Word.ensures.1 in
     let word = c.in-Word.word in
-    let takes = item_entry c.args.self.now _ (tokens.word word.now) (Word word) _ _ c.in_err-put-in-Word.ensures (λ part is. (refl, refl)) (λ part. refl) in
+    let takes =
+    item_entry c.args.self.now _ (tokens.word word.now) (Word word) _ _ c.in_err-put-in-Word.ensures (λ part is. (refl, refl)) (λ part. refl) in
     rw c.in-Word.is (rw (p.1 ∙ ap Err p.2) (record { no_marker = refl; takes = takes }))
 
 pub returns-in_ok-put-in-Word : goal.returns-in_ok-put-in-Word
 returns-in_ok-put-in-Word g c =
     let word = c.in-Word.word in
-    let takes = item_entry c.args.self.now _ (tokens.word word.now) (Word word) _ _ c.in_ok-put-in-Word.ensures (λ part is. (refl, refl)) (λ part. refl) in
+    let takes =
+    item_entry c.args.self.now _ (tokens.word word.now) (Word word) _ _ c.in_ok-put-in-Word.ensures (λ part is. (refl, refl)) (λ part. refl) in
     rw c.in-Word.is (record { no_marker = refl; takes = takes })
 
 pub returns-in-Asterisk : goal.returns-in-Asterisk

@@ -1,19 +1,23 @@
-use Rattle.pgn_game.proofs.Words.{◌∷◌, [], inl, inr, IsTrue, refl, sym, ap, subst, ◌∙◌, arith, Err, err_from_is_err_and, is_legal, InMovetext, Movetext, ReaderState, may_have_movetext, TriesItem}
+use Rattle.pgn_game.proofs.Words.{◌∷◌, [], inl, inr, IsTrue, refl, sym, ap, subst, ◌∙◌, arith, Err, err_from_is_err_and, is_legal}
+use Rattle.pgn_game.proofs.Words.{InMovetext, Movetext, ReaderState, may_have_movetext, TriesItem}
 use Rattle.std.proofs.Math.Nat.{le-max_right}
 use Rattle.pgn_game.specs.Game.{move}
-use Rattle.pgn_game.proofs.ReaderLemmas.{reader_alike, text_fits, begins_as, fails_move, most_after, puts_move, puts_unbegun, text_begun, unbegun_part, adds_move, move_refused, takes_move}
+use Rattle.pgn_game.proofs.ReaderLemmas.{reader_alike, text_fits, begins_as, fails_move, most_after, puts_move, puts_unbegun, text_begun}
+use Rattle.pgn_game.proofs.ReaderLemmas.{unbegun_part, adds_move, move_refused, takes_move}
 use Rattle.pgn_game.proofs.reader.Reader.accept_move.Goals as goal
 
 pub find-requires : goal.find-requires
 find-requires g c = (search reader_alike, c.new-probes.ensures)
 
 pub begin_movetext-requires : goal.begin_movetext-requires
-begin_movetext-requires g c = (search reader_alike, subst (λ (r : ReaderState). IsTrue (may_have_movetext r.stage)) (sym c.find.ensures.counted) c.requires.stage)
+begin_movetext-requires g c =
+    (search reader_alike, subst (λ (r : ReaderState). IsTrue (may_have_movetext r.stage)) (sym c.find.ensures.counted) c.requires.stage)
 
 pub put_move-put-requires : goal.put_move-put-requires
 put_move-put-requires g c =
     let finds = c.in-Ok.ensures in
-    let text = text_begun c.find.new.self _ _ _ c.self.view_is c.in_ok-begin_movetext-in-Ok.ensures.begins ∙ ap (λ (r : ReaderState). r.text) finds.counted in (
+    let text = text_begun c.find.new.self _ _ _ c.self.view_is c.in_ok-begin_movetext-in-Ok.ensures.begins
+    ∙ ap (λ (r : ReaderState). r.text) finds.counted in (
       search text_fits,
       (
         subst (λ (t : Movetext). IsTrue (is_legal t.levels.present.present c.in-Ok.mv)) (sym text) finds.legal,
@@ -29,7 +33,8 @@ count_probes-requires g c = (search reader_alike, omega (arith, c.put_move-put.e
 
 pub returns-in-Err : goal.returns-in-Err
 returns-in-Err g c =
-    move_refused c.args.self.now c.find.new.self c.args.text.now _ c.requires.stage c.requires.number c.requires.score c.in-Err.reason _ _ c.in-Err.ensures
+    move_refused c.args.self.now c.find.new.self c.args.text.now _ c.requires.stage
+    c.requires.number c.requires.score c.in-Err.reason _ _ c.in-Err.ensures
 
 pub returns-in_err-begin_movetext-in-Ok : goal.returns-in_err-begin_movetext-in-Ok
 returns-in_err-begin_movetext-in-Ok g c =
@@ -42,7 +47,11 @@ returns-in_err-begin_movetext-in-Ok g c =
     (takes_move old c.find.new.self c.args.text.now _ c.requires.stage c.requires.number c.requires.score _ c.in-Ok.mv _ _ _ finds
     (puts_unbegun c.find.new.self _ (move c.in-Ok.mv ∷ []) c.in_err-begin_movetext-in-Ok.field-0.0 _ may begins) tt
     (begins.probes ∙ ap (λ (r : ReaderState). r.most_probes) finds.counted)
-    (λ part is. inr (unbegun_part c.find.new.self _ c.in_err-begin_movetext-in-Ok.field-0.0 _ part may begins (ap (λ (r : ReaderState). r.stage) finds.counted ∙ is.stage), refl)))
+    (λ part is. inr (
+      unbegun_part c.find.new.self _ c.in_err-begin_movetext-in-Ok.field-0.0 _ part may begins
+          (ap (λ (r : ReaderState). r.stage) finds.counted ∙ is.stage),
+      refl,
+    )))
 
 pub returns-in_err-put-in-Ok : goal.returns-in_err-put-in-Ok
 returns-in_err-put-in-Ok g c =
@@ -55,9 +64,15 @@ returns-in_err-put-in-Ok g c =
     let tries = subst (λ (r : ReaderState). TriesItem r.profile.mode r.text (move c.in-Ok.mv) c.find.new.probes c.put_move-put.new.probes)
     (begins.begun ∙ ap (λ (r : ReaderState). record r { stage = InMovetext }) finds.counted) put.tried in
     rw (p.1 ∙ ap Err p.2)
-    (takes_move old c.find.new.self c.args.text.now _ c.requires.stage c.requires.number c.requires.score c.count_probes.new.self c.in-Ok.mv _ _ _ finds
+    (takes_move old c.find.new.self c.args.text.now _ c.requires.stage
+    c.requires.number c.requires.score c.count_probes.new.self c.in-Ok.mv _ _ _ finds
     (fails_move c.find.new.self _ c.count_probes.new.self c.in-Ok.mv _ may begins c.count_probes.ensures c.in_err-put-in-Ok.field-0.0 put.adds) tt
-    (omega (arith, most_after c.find.new.self _ c.count_probes.new.self _ _ _ _ begins c.count_probes.ensures, ap (λ (r : ReaderState). r.most_probes) finds.counted, c.put_move-put.ensures.probes))
+    (omega (
+      arith,
+      most_after c.find.new.self _ c.count_probes.new.self _ _ _ _ begins c.count_probes.ensures,
+      ap (λ (r : ReaderState). r.most_probes) finds.counted,
+      c.put_move-put.ensures.probes,
+    ))
     (λ part is. inl (adds_move old part c.in-Ok.mv _ _ is tries)))
 
 pub returns-in_ok-put-in-Ok : goal.returns-in_ok-put-in-Ok
@@ -69,8 +84,14 @@ returns-in_ok-put-in-Ok g c =
     let put = c.in_ok-put-in-Ok.ensures in
     let tries = subst (λ (r : ReaderState). TriesItem r.profile.mode r.text (move c.in-Ok.mv) c.find.new.probes c.put_move-put.new.probes)
     (begins.begun ∙ ap (λ (r : ReaderState). record r { stage = InMovetext }) finds.counted) put.tried in
-    takes_move old c.find.new.self c.args.text.now _ c.requires.stage c.requires.number c.requires.score c.count_probes.new.self c.in-Ok.mv _ _ _ finds
+    takes_move old c.find.new.self c.args.text.now _ c.requires.stage
+    c.requires.number c.requires.score c.count_probes.new.self c.in-Ok.mv _ _ _ finds
     (puts_move c.find.new.self _ c.count_probes.new.self c.in-Ok.mv _ may begins c.count_probes.ensures
     (omega (arith, finds.some, ap (λ (r : ReaderState). r.most_probes) finds.counted, le-max_right old.most_probes c.find.new.probes)) put.adds) tt
-    (omega (arith, most_after c.find.new.self _ c.count_probes.new.self _ _ _ _ begins c.count_probes.ensures, ap (λ (r : ReaderState). r.most_probes) finds.counted, c.put_move-put.ensures.probes))
+    (omega (
+      arith,
+      most_after c.find.new.self _ c.count_probes.new.self _ _ _ _ begins c.count_probes.ensures,
+      ap (λ (r : ReaderState). r.most_probes) finds.counted,
+      c.put_move-put.ensures.probes,
+    ))
     (λ part is. adds_move old part c.in-Ok.mv _ _ is tries)

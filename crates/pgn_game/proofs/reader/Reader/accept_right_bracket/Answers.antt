@@ -1,22 +1,27 @@
-use Rattle.pgn_game.proofs.Words.{refl, sym, ap, ◌∙◌, kind_of, TokenKind, ExpectedBracket, AfterTags, AfterValue, at_stage, next, refusal, ReaderState}
-use Rattle.pgn_game.proofs.ReaderLemmas.{expected_bracket, close_refusal, close_next, part_stage, puts_right_bracket, to_stage, adds_same, comment_in_pair, refused_in_pair, step_in_pair}
+use Rattle.pgn_game.proofs.Words.{refl, sym, ap, ◌∙◌, kind_of, TokenKind, ExpectedBracket, AfterTags, AfterValue, at_stage, next, refusal}
+use Rattle.pgn_game.proofs.Words.{ReaderState}
+use Rattle.pgn_game.proofs.ReaderLemmas.{expected_bracket, close_refusal, close_next, part_stage, puts_right_bracket, to_stage, adds_same}
+use Rattle.pgn_game.proofs.ReaderLemmas.{comment_in_pair, refused_in_pair, step_in_pair}
 use Rattle.pgn_game.proofs.reader.Reader.accept_right_bracket.Goals as goal
 
 pub returns-then-is_comment : goal.returns-then-is_comment
 returns-then-is_comment g c =
-    comment_in_pair c.args.self.now _ c.args.kind AfterValue c.requires.stage (λ q. refl) refl refl (sym c.if-is_comment.true ∙ c.is_comment.ensures)
+    comment_in_pair c.args.self.now _ c.args.kind AfterValue c.requires.stage
+    (λ q. refl) refl refl (sym c.if-is_comment.true ∙ c.is_comment.ensures)
 
 pub returns-in_default : goal.returns-in_default
 returns-in_default g c =
     let old = c.args.self.now in
     refused_in_pair old _ (kind_of c.args.kind) AfterValue c.requires.stage (λ q. refl) ExpectedBracket refl refl (λ part agrees.
-    expected_bracket old.profile part c.args.kind (part_stage old part AfterValue agrees c.requires.stage) (sym c.if-is_comment.false ∙ c.is_comment.ensures) c.in_default.not-RightBracket)
+    expected_bracket old.profile part c.args.kind (part_stage old part AfterValue agrees c.requires.stage)
+    (sym c.if-is_comment.false ∙ c.is_comment.ensures) c.in_default.not-RightBracket)
 
 pub returns-in-RightBracket : goal.returns-in-RightBracket
 returns-in-RightBracket g c =
     let old = c.args.self.now in
     let v = c.self.view_is in
-    step_in_pair old _ (kind_of c.args.kind) AfterValue c.requires.stage (λ q. refl) (to_stage AfterTags) (λ o m. puts_right_bracket old _ o m c.requires.stage (ap (λ (r : ReaderState). record r { stage = AfterTags }) v))
+    step_in_pair old _ (kind_of c.args.kind) AfterValue c.requires.stage (λ q. refl) (to_stage AfterTags)
+    (λ o m. puts_right_bracket old _ o m c.requires.stage (ap (λ (r : ReaderState). record r { stage = AfterTags }) v))
     (ap (λ (r : ReaderState). r.most_probes) v) (λ part. adds_same old.profile part (at_stage AfterTags part) refl) (λ part agrees.
     let at = part_stage old part AfterValue agrees c.requires.stage in (
       ap (λ (k : TokenKind). refusal old.profile part (kind_of k)) c.in-RightBracket.is ∙ close_refusal old.profile part at,

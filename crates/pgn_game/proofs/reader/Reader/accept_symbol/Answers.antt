@@ -1,4 +1,5 @@
-use Rattle.pgn_game.proofs.Words.{◌≡◌, ℕ, List, [], Option, None, Some, Result, Err, is_some, true, false, refl, sym, ap, ◌∙◌, err_from_is_err_and, Device, symbol, Reason, ReaderState, Accepted, Marker, marker_of, is_number, is_score}
+use Rattle.pgn_game.proofs.Words.{◌≡◌, ℕ, List, [], Option, None, Some, Result, Err, is_some, true, false, refl, sym, ap, ◌∙◌}
+use Rattle.pgn_game.proofs.Words.{err_from_is_err_and, Device, symbol, Reason, ReaderState, Accepted, Marker, marker_of, is_number, is_score}
 use Rattle.pgn_game.specs.PutResult.{PutsItems, TakesOther}
 use Rattle.pgn_game.proofs.ReaderLemmas.{reader_alike, number_no_score, number_free, number_leads, number_untried, passes_entry}
 use Rattle.pgn_game.proofs.reader.Reader.accept_symbol.Goals as goal
@@ -8,18 +9,21 @@ use Rattle.pgn_game.proofs.reader.Reader.accept_symbol.Goals.{then-may_be_score_
 unmarked : (s : List ℕ) → is_score s ≡ false → marker_of (symbol s) ≡ None
 unmarked s is = rw (is, marker_of) refl
 
-number_entry : (old new : ReaderState) (s : List ℕ) (r : Result Accepted Reason) (d : Device) → is_number s ≡ true → PutsItems old [] new r d → TakesOther old (symbol s) new r d
+number_entry : (old new : ReaderState) (s : List ℕ) (r : Result Accepted Reason) (d : Device)
+    → is_number s ≡ true → PutsItems old [] new r d → TakesOther old (symbol s) new r d
 number_entry old new s r d number puts =
     let score = number_no_score s number in
     record {
       no_marker = unmarked s score;
-      takes = passes_entry old new (symbol s) r d puts (λ part is. (number_free old.profile part s number score, number_leads part s number score)) (λ part. number_untried part s number);
+      takes = passes_entry old new (symbol s) r d puts
+          (λ part is. (number_free old.profile part s number score, number_leads part s number score)) (λ part. number_untried part s number);
     }
 
 pub returns-in_err-pass : goal.returns-in_err-pass
 returns-in_err-pass g c =
     let p = err_from_is_err_and c.from_residual.result c.from_residual.ensures.1 in
-    rw (p.1 ∙ ap Err p.2) (number_entry c.args.self.now _ c.args.text.now _ _ (sym c.is_number.ensures ∙ c.if-is_number.true) c.in_err-pass.ensures)
+    rw (p.1 ∙ ap Err p.2)
+    (number_entry c.args.self.now _ c.args.text.now _ _ (sym c.is_number.ensures ∙ c.if-is_number.true) c.in_err-pass.ensures)
 
 pub returns-then-is_number : goal.returns-then-is_number
 returns-then-is_number g c = number_entry c.args.self.now _ c.args.text.now _ _ (sym c.is_number.ensures ∙ c.if-is_number.true) c.in_ok-pass.ensures

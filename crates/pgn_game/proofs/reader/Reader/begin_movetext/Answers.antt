@@ -10,12 +10,13 @@ after_tags InMovetext may before = absurd (before refl)
 after_tags _ may before = absurd (cc)
 
 -- The section is that of the reader, whose fields are `held`.
-module _ (old held : ReaderState) (pairs : List Pair) (d : Device) (is : held ≡ old) (at : old.stage ≡ AfterTags) (same : pairs ≡ held.tags.held) where
+module _ (old held : ReaderState) (pairs : List Pair) (d : Device) (is : held ≡ old)
+    (at : old.stage ≡ AfterTags) (same : pairs ≡ held.tags.held) where
   section_is : tag_section held.profile.mode (known_result held.profile.missing_result) pairs ≡ section_due_of old
-  section_is =
-      cc (same, is, at)
+  section_is = cc (same, is, at)
 
-  fails : (f : WriteFault) → WritesText {A = Unit} d (Err f) (tag_section held.profile.mode (known_result held.profile.missing_result) pairs) → BeginsText {A = Unit} old old (Err f) d
+  fails : (f : WriteFault) → WritesText {A = Unit} d (Err f) (tag_section held.profile.mode (known_result held.profile.missing_result) pairs)
+      → BeginsText {A = Unit} old old (Err f) d
   fails f writes = record {
     text = rw (sym section_is) writes.written;
     begun = tt;

@@ -9,8 +9,10 @@ pub returns-in_default : goal.returns-in_default
 returns-in_default g c = no_symbol_counted c.args.self.now c.args.kind c.in_default.not-Symbol
 
 pub returns-then-is_score_or_number : goal.returns-then-is_score_or_number
-returns-then-is_score_or_number g c = rw c.in-Symbol.is (plain_counted c.args.self.now c.in-Symbol.text.now (sym c.is_score_or_number.ensures ∙ c.if-is_score_or_number.true))
+returns-then-is_score_or_number g c =
+    rw c.in-Symbol.is (plain_counted c.args.self.now c.in-Symbol.text.now (sym c.is_score_or_number.ensures ∙ c.if-is_score_or_number.true))
 
 pub returns : goal.returns
 returns g c =
-    rw c.in-Symbol.is (move_counted c.args.self.now _ c.in-Symbol.text.now _ _ c.requires (sym c.is_score_or_number.ensures ∙ c.if-is_score_or_number.false) c.find.ensures)
+    rw c.in-Symbol.is (move_counted c.args.self.now _ c.in-Symbol.text.now _ _ c.requires
+    (sym c.is_score_or_number.ensures ∙ c.if-is_score_or_number.false) c.find.ensures)

@@ -5,9 +5,11 @@ use Rattle.pgn_game.proofs.reader.Reader.end_game.Goals as goal
 -- What the reader's calls say before a game ends: it is at depth 0, and whether its Result differs.
 record Tested (old : ReaderState) (marker : Marker) (other : Bool) : Type 0 where
   none : length old.text.levels.around ≡ 0
-  result : differs (result_for old.profile.missing_result (marker_text marker)) (value_of old.tags.held (codes "Result")) (marker_text marker) ≡ other
+  result : differs (result_for old.profile.missing_result (marker_text marker))
+      (value_of old.tags.held (codes "Result")) (marker_text marker) ≡ other
 
-tested : (old state : ReaderState) (marker : Marker) (deep : ℕ) (value : Option (Bor (List ℕ))) (missing known text : Bor (List ℕ)) (other : Bool) → state ≡ old
+tested : (old state : ReaderState) (marker : Marker) (deep : ℕ) (value : Option (Bor (List ℕ)))
+    (missing known text : Bor (List ℕ)) (other : Bool) → state ≡ old
     → deep ≡ length state.text.levels.around → deep ≤ 0 → option_copied value ≡ value_of state.tags.held (codes "Result")
     → missing.now ≡ result_for state.profile.missing_result (marker_text marker) → known ≡ unwrap_or value missing
     → text.now ≡ marker_text marker → other ≡ not (bytes_eq text.now known.now) → Tested old marker other
@@ -24,10 +26,13 @@ of_part : (old : ReaderState) (marker : Marker) (other : Bool) → Tested old ma
     × (differs (result_for old.profile.missing_result (marker_text marker)) (value_of part.pairs (codes "Result")) (marker_text marker) ≡ other)
 of_part old marker other t part op =
     let text = marker_text marker in
-    let missing = result_for old.profile.missing_result text in
-    (sym (depth_is old part op) ∙ t.none, ap (λ (t : TagPairs). differs missing (value_of t.held (codes "Result")) text) (sym op.pairs) ∙ t.result)
+    let missing = result_for old.profile.missing_result text in (
+      sym (depth_is old part op) ∙ t.none,
+      ap (λ (t : TagPairs). differs missing (value_of t.held (codes "Result")) text) (sym op.pairs) ∙ t.result,
+    )
 
-passes : (old : ReaderState) (marker : Marker) → Tested old marker false → (k : TokenKind) → marker_of (kind_of k) ≡ Some (marker_text marker) → (part : Part) → IsOpen old part
+passes : (old : ReaderState) (marker : Marker) → Tested old marker false → (k : TokenKind)
+    → marker_of (kind_of k) ≡ Some (marker_text marker) → (part : Part) → IsOpen old part
     → text_refusal old.profile part (kind_of k) ≡ None
 passes old marker t k is part op =
     let h = of_part old marker false t part op in marker_free old (kind_of k) _ (marker_text marker) part is h.0 refl h.1
@@ -43,7 +48,8 @@ returns-then-depth-gt0 g c = λ k is.
 pub returns-then-ne : goal.returns-then-ne
 returns-then-ne g c = λ k is.
     let old = c.args.self.now in
-    let t = tested old _ c.args.marker _ c.value.result _ c.unwrap_or.result c.text.result true c.self.view_is c.depth.ensures.value c.if-depth-gt0.false
+    let t =
+    tested old _ c.args.marker _ c.value.result _ c.unwrap_or.result c.text.result true c.self.view_is c.depth.ensures.value c.if-depth-gt0.false
     c.value.ensures.value c.text_at-missing.ensures.text c.unwrap_or.ensures c.text.ensures.text (sym c.if-ne.true ∙ c.ne.ensures) in
     entry_refused old (kind_of k) ResultDiffers _ _ refl (λ part op.
     let h = of_part old c.args.marker true t part op in marker_differs old (kind_of k) _ (marker_text c.args.marker) part is h.0 refl h.1)
@@ -58,55 +64,69 @@ put-requires g c = c.text-2.ensures.token
 pub returns-in_err-begin_movetext : goal.returns-in_err-begin_movetext
 returns-in_err-begin_movetext g c =
     let old = c.args.self.now in
-    let t = tested old _ c.args.marker _ c.value.result _ c.unwrap_or.result c.text.result false c.self.view_is c.depth.ensures.value c.if-depth-gt0.false
+    let t =
+    tested old _ c.args.marker _ c.value.result _ c.unwrap_or.result c.text.result false c.self.view_is c.depth.ensures.value c.if-depth-gt0.false
     c.value.ensures.value c.text_at-missing.ensures.text c.unwrap_or.ensures c.text.ensures.text (sym c.if-ne.false ∙ c.ne.ensures) in
     let p = err_from_is_err_and c.from_residual.result c.from_residual.ensures.1 in
     let begins = c.in_err-begin_movetext.ensures.begins in
     rw (p.1 ∙ ap Err p.2)
     (λ k is.
-    takes_marker old _ k c.args.marker _ _ (ends_unbegun old _ c.args.marker c.in_err-begin_movetext.field-0.0 _ c.requires begins) tt begins.probes is
+    takes_marker old _ k c.args.marker _ _
+    (ends_unbegun old _ c.args.marker c.in_err-begin_movetext.field-0.0 _ c.requires begins) tt begins.probes is
     (passes old c.args.marker t k is))
 
 pub returns-in_err-put : goal.returns-in_err-put
 returns-in_err-put g c =
     let old = c.args.self.now in
-    let t = tested old _ c.args.marker _ c.value.result _ c.unwrap_or.result c.text.result false c.self.view_is c.depth.ensures.value c.if-depth-gt0.false
+    let t =
+    tested old _ c.args.marker _ c.value.result _ c.unwrap_or.result c.text.result false c.self.view_is c.depth.ensures.value c.if-depth-gt0.false
     c.value.ensures.value c.text_at-missing.ensures.text c.unwrap_or.ensures c.text.ensures.text (sym c.if-ne.false ∙ c.ne.ensures) in
     let p = err_from_is_err_and c.from_residual-in_err-put.result c.from_residual-in_err-put.ensures.1 in
     let begins = begins_as old _ _ _ c.self-2.view_is c.in_ok-begin_movetext.ensures.begins in
-    let front = front_of_more (g.W.Sink.taken c.begin_movetext.new.out) (g.W.Sink.taken c.put.new.out) _ (text_at (line_at c.self-2.inside.line (Put c.text-2.result.now)) EndGame) c.in_err-put.ensures.text in
+    let front = front_of_more (g.W.Sink.taken c.begin_movetext.new.out) (g.W.Sink.taken c.put.new.out) _
+    (text_at (line_at c.self-2.inside.line (Put c.text-2.result.now)) EndGame) c.in_err-put.ensures.text in
     rw (p.1 ∙ ap Err p.2)
     (λ k is.
     takes_marker old _ k c.args.marker _ _
-    (ends_ill old _ _ c.args.marker _ _ _ _ _ _ _ (record { begins = begins; outside = none_around old.text.levels.around t.none; spells = c.text-2.ensures.text; at = c.requires }) front refl c.in_err-put.ensures.counted) tt begins.probes is
+    (ends_ill old _ _ c.args.marker _ _ _ _ _ _ _
+    (record { begins = begins; outside = none_around old.text.levels.around t.none; spells = c.text-2.ensures.text; at = c.requires })
+    front refl c.in_err-put.ensures.counted) tt begins.probes is
     (passes old c.args.marker t k is))
 
 pub returns-in_err-end_game : goal.returns-in_err-end_game
 returns-in_err-end_game g c =
     let old = c.args.self.now in
-    let t = tested old _ c.args.marker _ c.value.result _ c.unwrap_or.result c.text.result false c.self.view_is c.depth.ensures.value c.if-depth-gt0.false
+    let t =
+    tested old _ c.args.marker _ c.value.result _ c.unwrap_or.result c.text.result false c.self.view_is c.depth.ensures.value c.if-depth-gt0.false
     c.value.ensures.value c.text_at-missing.ensures.text c.unwrap_or.ensures c.text.ensures.text (sym c.if-ne.false ∙ c.ne.ensures) in
     let p = err_from_is_err_and c.from_residual-in_err-end_game.result c.from_residual-in_err-end_game.ensures.1 in
     let begins = begins_as old _ _ _ c.self-2.view_is c.in_ok-begin_movetext.ensures.begins in
     let held = c.in_ok-put.ensures.line in
-    let last = subst (AppendsFront (g.W.Sink.taken c.put.new.out) (g.W.Sink.taken c.end_game.new.out)) (ap (λ (l : List ℕ). text_at l EndGame) held) c.in_err-end_game.ensures.text in
-    let front = front_after (g.W.Sink.taken c.begin_movetext.new.out) (g.W.Sink.taken c.put.new.out) (g.W.Sink.taken c.end_game.new.out) _ _ c.in_ok-put.ensures.text last in
+    let last = subst (AppendsFront (g.W.Sink.taken c.put.new.out) (g.W.Sink.taken c.end_game.new.out))
+    (ap (λ (l : List ℕ). text_at l EndGame) held) c.in_err-end_game.ensures.text in
+    let front = front_after (g.W.Sink.taken c.begin_movetext.new.out) (g.W.Sink.taken c.put.new.out)
+    (g.W.Sink.taken c.end_game.new.out) _ _ c.in_ok-put.ensures.text last in
     rw (p.1 ∙ ap Err p.2)
     (λ k is.
     takes_marker old _ k c.args.marker _ _
-    (ends_ill old _ _ c.args.marker _ _ _ _ _ _ _ (record { begins = begins; outside = none_around old.text.levels.around t.none; spells = c.text-2.ensures.text; at = c.requires }) front refl
+    (ends_ill old _ _ c.args.marker _ _ _ _ _ _ _
+    (record { begins = begins; outside = none_around old.text.levels.around t.none; spells = c.text-2.ensures.text; at = c.requires }) front refl
     (c.in_err-end_game.ensures.counted ∙ ap one_more c.in_ok-put.ensures.counted)) tt begins.probes is
     (passes old c.args.marker t k is))
 
 pub returns : goal.returns
 returns g c = λ k is.
     let old = c.args.self.now in
-    let t = tested old _ c.args.marker _ c.value.result _ c.unwrap_or.result c.text.result false c.self.view_is c.depth.ensures.value c.if-depth-gt0.false
+    let t =
+    tested old _ c.args.marker _ c.value.result _ c.unwrap_or.result c.text.result false c.self.view_is c.depth.ensures.value c.if-depth-gt0.false
     c.value.ensures.value c.text_at-missing.ensures.text c.unwrap_or.ensures c.text.ensures.text (sym c.if-ne.false ∙ c.ne.ensures) in
     let begins = begins_as old _ _ _ c.self-2.view_is c.in_ok-begin_movetext.ensures.begins in
-    let last = subst (Appends (g.W.Sink.taken c.put.new.out) (g.W.Sink.taken c.end_game.new.out)) (ap (λ (l : List ℕ). text_at l EndGame) c.in_ok-put.ensures.line) c.in_ok-end_game.ensures.text in
+    let last = subst (Appends (g.W.Sink.taken c.put.new.out) (g.W.Sink.taken c.end_game.new.out))
+    (ap (λ (l : List ℕ). text_at l EndGame) c.in_ok-put.ensures.line) c.in_ok-end_game.ensures.text in
     takes_marker old _ k c.args.marker _ _
-    (ends_well old _ _ c.args.marker _ _ _ _ _ _ _ _ (record { begins = begins; outside = none_around old.text.levels.around t.none; spells = c.text-2.ensures.text; at = c.requires }) c.in_ok-put.ensures.text last refl
+    (ends_well old _ _ c.args.marker _ _ _ _ _ _ _ _
+    (record { begins = begins; outside = none_around old.text.levels.around t.none; spells = c.text-2.ensures.text; at = c.requires })
+    c.in_ok-put.ensures.text last refl
     c.in_ok-end_game.ensures.line (c.in_ok-end_game.ensures.counted ∙ c.in_ok-put.ensures.counted)) (ap is_some is, refl) begins.probes is
     (passes old c.args.marker t k is)
 

@@ -1,4 +1,5 @@
-use Rattle.pgn_game.proofs.Words.{◌≡◌, IsTrue, ap, subst, ◌∙◌, arith, is_legal, Parts, move_of, found_in, Costs, ReaderState, IfOk, with_position}
+use Rattle.pgn_game.proofs.Words.{◌≡◌, IsTrue, ap, subst, ◌∙◌, arith, is_legal, Parts, move_of, found_in, Costs, ReaderState, IfOk}
+use Rattle.pgn_game.proofs.Words.{with_position}
 use Rattle.pgn_game.proofs.ReaderLemmas.{reader_alike, text_fits}
 use Rattle.pgn_game.proofs.reader.Reader.find.Goals as goal
 

@@ -1,4 +1,5 @@
-use Rattle.pgn_game.proofs.Words.{◌≡◌, ◌-◌, length, not, refl, sym, ap, ◌∙◌, arith, is_some, le-leb, lt-leb, NoMoveBefore, TooDeep, depth, levels_of_part, ReaderState, left_paren}
+use Rattle.pgn_game.proofs.Words.{◌≡◌, ◌-◌, length, not, refl, sym, ap, ◌∙◌, arith, is_some, le-leb, lt-leb, NoMoveBefore, TooDeep}
+use Rattle.pgn_game.proofs.Words.{depth, levels_of_part, ReaderState, left_paren}
 use Rattle.pgn_game.specs.declared.annotation.Annotation.TheVariants.{Open}
 use Rattle.pgn_game.proofs.ReaderLemmas.{reader_alike, hit, pass, holds_is, depth_is, entry_refused, item_entry}
 use Rattle.pgn_game.proofs.ReaderPartsFitInMemory.{text_fits}
@@ -8,7 +9,8 @@ pub returns-then-not-has_own_move : goal.returns-then-not-has_own_move
 returns-then-not-has_own_move g c =
     let old = c.args.self.now in
     entry_refused old left_paren NoMoveBefore _ _ refl (λ part is.
-    hit _ _ _ (ap not (sym (holds_is old part is) ∙ sym (ap (λ (r : ReaderState). is_some r.text.levels.present.before) c.self.view_is) ∙ sym c.has_own_move.ensures) ∙ ap not c.if-not-has_own_move.true))
+    hit _ _ _ (ap not (sym (holds_is old part is) ∙ sym (ap (λ (r : ReaderState). is_some r.text.levels.present.before) c.self.view_is)
+    ∙ sym c.has_own_move.ensures) ∙ ap not c.if-not-has_own_move.true))
     (λ part. refl)
 
 pub returns-then-depth : goal.returns-then-depth
@@ -17,7 +19,8 @@ returns-then-depth g c =
     let v = c.self.view_is in
     let most : g.row.L - 1 ≡ old.profile.depth = ap (λ (r : ReaderState). r.profile.depth) v in
     entry_refused old left_paren TooDeep _ _ refl (λ part is.
-    pass _ _ _ (ap not (sym (holds_is old part is) ∙ sym (ap (λ (r : ReaderState). is_some r.text.levels.present.before) v) ∙ sym c.has_own_move.ensures) ∙ ap not c.if-not-has_own_move.false)
+    pass _ _ _ (ap not (sym (holds_is old part is) ∙ sym (ap (λ (r : ReaderState). is_some r.text.levels.present.before) v)
+    ∙ sym c.has_own_move.ensures) ∙ ap not c.if-not-has_own_move.false)
     ∙ hit _ _ _ (le-leb old.profile.depth (depth (levels_of_part part))
     (omega (arith, most, c.if-depth.true, c.depth.ensures.value, depth_is old part is, ap (λ (r : ReaderState). length r.text.levels.around) v))))
     (λ part. refl)
@@ -25,15 +28,19 @@ returns-then-depth g c =
 pub put-requires : goal.put-requires
 put-requires g c =
     let v = c.self.view_is in
-    let some = sym (ap (λ (r : ReaderState). is_some r.text.levels.present.before) v) ∙ sym c.has_own_move.ensures ∙ c.if-not-has_own_move.false in
-    (search reader_alike, (c.requires, (some, omega (arith, c.if-depth.false, c.depth.ensures.value, ap (λ (r : ReaderState). length r.text.levels.around) v))))
+    let some =
+    sym (ap (λ (r : ReaderState). is_some r.text.levels.present.before) v) ∙ sym c.has_own_move.ensures ∙ c.if-not-has_own_move.false in (
+      search reader_alike,
+      (c.requires, (some, omega (arith, c.if-depth.false, c.depth.ensures.value, ap (λ (r : ReaderState). length r.text.levels.around) v))),
+    )
 
 pub returns : goal.returns
 returns g c =
     let old = c.args.self.now in
     let v = c.self.view_is in
     let most : g.row.L - 1 ≡ old.profile.depth = ap (λ (r : ReaderState). r.profile.depth) v in
-    let some = sym (ap (λ (r : ReaderState). is_some r.text.levels.present.before) v) ∙ sym c.has_own_move.ensures ∙ c.if-not-has_own_move.false in
+    let some =
+    sym (ap (λ (r : ReaderState). is_some r.text.levels.present.before) v) ∙ sym c.has_own_move.ensures ∙ c.if-not-has_own_move.false in
     item_entry old _ left_paren Open _ _ c.put.ensures (λ part is. (
       pass _ _ _ (ap not (sym (holds_is old part is) ∙ some))
           ∙ pass _ _ _ (lt-leb old.profile.depth (depth (levels_of_part part))

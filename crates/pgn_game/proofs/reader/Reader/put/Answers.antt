@@ -18,7 +18,11 @@ returns-in_err-begin_movetext g c =
     let p = err_from_is_err_and c.from_residual.result c.from_residual.ensures.1 in
     let begins = c.in_err-begin_movetext.ensures.begins in
     rw (p.1 ∙ ap Err p.2)
-    (record { puts = puts_unbegun c.args.self.now _ _ c.in_err-begin_movetext.field-0.0 _ c.requires.stage begins; goes_on = tt; probes = begins.probes })
+    (record {
+      puts = puts_unbegun c.args.self.now _ _ c.in_err-begin_movetext.field-0.0 _ c.requires.stage begins;
+      goes_on = tt;
+      probes = begins.probes;
+    })
 
 pub returns-in_err-put : goal.returns-in_err-put
 returns-in_err-put g c =
@@ -40,7 +44,8 @@ returns g c =
     let begins = begins_as old _ _ _ c.self.view_is c.in_ok-begin_movetext.ensures.begins in
     record {
       puts = puts_item old _ _ (model_item i) _ _ _ _ _ _ c.requires.stage begins
-          (record { profile = refl; stage = refl; tags = refl; earlier = refl; probes = omega arith }) (λ is. absurd (cc (no_move i))) c.in_ok-put.ensures;
+          (record { profile = refl; stage = refl; tags = refl; earlier = refl; probes = omega arith })
+          (λ is. absurd (cc (no_move i))) c.in_ok-put.ensures;
       goes_on = tt;
       probes = begins.probes;
     }

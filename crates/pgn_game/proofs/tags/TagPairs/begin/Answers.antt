@@ -1,5 +1,6 @@
 use Rattle.pgn_game.proofs.Words.{[], arith, rules}
-use Rattle.pgn_game.proofs.pairs.SortedPairs.{first-held, held-count, pairs_seen-snoc, HasPlace, place-of-new, place-of-old, put-in-place, stays-in-place}
+use Rattle.pgn_game.proofs.pairs.SortedPairs.{first-held, held-count, pairs_seen-snoc, HasPlace, place-of-new, place-of-old, put-in-place}
+use Rattle.pgn_game.proofs.pairs.SortedPairs.{stays-in-place}
 use Rattle.pgn_game.proofs.tags.TagPairs.begin.Goals as goal
 use Rattle.pgn_game.proofs.tags.TagPairs.begin.Goals.{then-self-len, else-self-len}
 

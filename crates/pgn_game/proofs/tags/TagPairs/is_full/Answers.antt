@@ -3,8 +3,7 @@ use Rattle.pgn_game.proofs.pairs.SortedPairs.{held-count}
 use Rattle.pgn_game.proofs.tags.TagPairs.is_full.Goals as goal
 
 pub returns-clause-full : goal.returns-clause-full
-returns-clause-full g c =
-    rw (held-count c.self.invariant c.self.view_is c.requires) (grind (arith, nat_tests))
+returns-clause-full g c = rw (held-count c.self.invariant c.self.view_is c.requires) (grind (arith, nat_tests))
 
 pub returns-clause-room : goal.returns-clause-room
 returns-clause-room g c =

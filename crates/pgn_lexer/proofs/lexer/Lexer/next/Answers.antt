@@ -9,10 +9,14 @@ returns-in-End c =
 
 pub returns-in-Token : goal.returns-in-Token
 returns-in-Token c =
-    let ran = rw c.in-Token.is at c.run-used.ensures in
-    ((refl, λ _. tt, scans_of _ _ _ _ _ _ c.self.view_is (scans_form _ _ _ _ _ _ _ c.token.ensures.at c.token.ensures.kind ran)), record { used = ran.within; after = tt })
+    let ran = rw c.in-Token.is at c.run-used.ensures in (
+      (refl, λ _. tt, scans_of _ _ _ _ _ _ c.self.view_is (scans_form _ _ _ _ _ _ _ c.token.ensures.at c.token.ensures.kind ran)),
+      record { used = ran.within; after = tt },
+    )
 
 pub returns-in-Fault : goal.returns-in-Fault
 returns-in-Fault c =
-    let ran = rw c.in-Fault.is at c.run-used.ensures in
-    ((refl, λ _. tt, scans_of _ _ _ _ _ _ c.self.view_is (scans_told _ _ _ _ _ _ _ c.fault_met.ensures ran)), record { used = ran.within; after = tt })
+    let ran = rw c.in-Fault.is at c.run-used.ensures in (
+      (refl, λ _. tt, scans_of _ _ _ _ _ _ c.self.view_is (scans_told _ _ _ _ _ _ _ c.fault_met.ensures ran)),
+      record { used = ran.within; after = tt },
+    )

@@ -7,13 +7,15 @@ pub returns-in-WordByte : goal.returns-in-WordByte
 returns-in-WordByte c = λ old ran.
     let here = c.loop-used.invariant in
     c.run_brace_word.ensures old (ran_uses _ old _ _ _ _ (omega arith) refl (here.ran old ran) _
-    (takes_brace _ _ _ _ _ WordByte here.brace (sym c.comment_class_of.ensures ∙ c.in-WordByte.is) (record { held = c.begin_text.ensures.held; step = refl })))
+    (takes_brace _ _ _ _ _ WordByte here.brace (sym c.comment_class_of.ensures ∙ c.in-WordByte.is)
+    (record { held = c.begin_text.ensures.held; step = refl })))
 
 pub returns-in-CloseBrace : goal.returns-in-CloseBrace
 returns-in-CloseBrace c = λ old ran.
     let here = c.loop-used.invariant in
     ran_ends _ old _ _ _ _ (omega arith) refl (here.ran old ran) _ _
-    (takes_brace _ _ _ _ _ CloseBrace here.brace (sym c.comment_class_of.ensures ∙ c.in-CloseBrace.is) (record { held = c.pass-in-CloseBrace.ensures; step = refl }))
+    (takes_brace _ _ _ _ _ CloseBrace here.brace (sym c.comment_class_of.ensures ∙ c.in-CloseBrace.is)
+    (record { held = c.pass-in-CloseBrace.ensures; step = refl }))
 
 pub returns-in_default : goal.returns-in_default
 returns-in_default c = λ old ran. c.run_on.ensures old (c.loop-used.invariant.ran old ran)

@@ -6,7 +6,8 @@ pub returns-in-Quote : goal.returns-in-Quote
 returns-in-Quote c = λ old ran.
     let here = c.loop-used.invariant in
     ran_ends _ old _ _ _ _ (omega arith) refl (here.ran old ran) _ _
-    (takes_quote _ _ _ _ here.string (sym c.string_class_of.ensures ∙ c.in-Quote.is) (ap (λ (h : PartialToken). record { mode = Outside; at = h.at; text = h.text }) c.self-in-Quote.view_is))
+    (takes_quote _ _ _ _ here.string (sym c.string_class_of.ensures ∙ c.in-Quote.is)
+    (ap (λ (h : PartialToken). record { mode = Outside; at = h.at; text = h.text }) c.self-in-Quote.view_is))
 
 pub returns-in_default : goal.returns-in_default
 returns-in_default c = λ old ran. c.run_on.ensures old (c.loop-used.invariant.ran old ran)
@@ -24,7 +25,8 @@ loop-used-preserved c =
       ran = λ old ran. ran_uses _ old _ _ _ _ (omega arith) refl (here.ran old ran) _
           (takes_plain _ _ _ _ here.string (sym c.string_class_of.ensures ∙ c.in-Plain.is) (omega arith)
           (ap (λ text. record { mode = c.self-in-Plain.inside.mode; at = c.self-in-Plain.inside.at; text = text }) c.push.ensures.items
-          ∙ ap (λ (h : PartialToken). record { mode = h.mode; at = h.at; text = h.text ++ get_or c.args.piece.now c.loop-used.used 0 ∷ [] }) c.self-in-Plain.view_is));
+          ∙ ap (λ (h : PartialToken). record { mode = h.mode; at = h.at; text = h.text ++ get_or c.args.piece.now c.loop-used.used 0 ∷ [] })
+          c.self-in-Plain.view_is));
     }
 
 pub returns-then-used-piece : goal.returns-then-used-piece

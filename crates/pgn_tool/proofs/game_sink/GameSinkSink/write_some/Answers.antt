@@ -13,5 +13,6 @@ invariant_of-self-in-Ok g c =
       number = create.number ∙ sink.number;
       log = made_first _ _ _ _ log (rw sink.number at create.log);
       begun = λ zero.
-          has_more _ _ _ write.result _ _ _ (λ new. known_made _ _ _ log create.empty) write.ensures.bytes write.ensures.count write.ensures.failures zero;
+          has_more _ _ _ write.result _ _ _
+          (λ new. known_made _ _ _ log create.empty) write.ensures.bytes write.ensures.count write.ensures.failures zero;
     }
