@@ -5,7 +5,7 @@ use Rattle.chess_text.proofs.positions.BoardToText.{length-placement_text}
 length-side_text : (c : Colour) → length (side_text c) ≡ 1
 length-side_text c = grind arith
 
-length-target_text : (t : Option Square) → length (target_text t) ≤ 2
+pub length-target_text : (t : Option Square) → length (target_text t) ≤ 2
 length-target_text t = grind arith
 
 length-held : (b : Bool) (c : ℕ) → length (right_letter b c) ≤ 1

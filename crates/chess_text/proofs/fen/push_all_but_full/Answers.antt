@@ -1,6 +1,6 @@
 use Rattle.chess_text.proofs.Words.{◌≡◌, List, ℕ, [], ◌∷◌, ◌++◌, append_assoc, sym, ◌∙◌, ap, arith, decimal, side_text}
-use Rattle.chess_text.proofs.Words.{rights_text, target_text}
-use Rattle.chess_text.proofs.positions.SixFieldsJoined.{five_written, six_written, length-five}
+use Rattle.chess_text.proofs.Words.{◌+◌, ◌≤◌, length, length-append, rights_text, target_text}
+use Rattle.chess_text.proofs.positions.SixFieldsJoined.{five_written, six_written, length-five, length-number, length-target_text}
 use Rattle.chess_text.proofs.fen.push_all_but_full.Goals as goal
 
 -- a field behind a space
@@ -21,3 +21,25 @@ returns c =
     (behind_space _ _ _ _ c.push-3.ensures.items (c.push_target.ensures ∙ ap (λ t. c.push-3.new.self.items ++ target_text t) c.target.ensures))
     (c.push_field-2.ensures ∙ ap (behind _) (c.as_bytes.ensures.value ∙ c.format.ensures.text ∙ ap decimal c.half.ensures.value)) in
     record { text = six_written p _ five; short = length-five p _ five (omega arith) }
+
+-- with a space and at most four bytes more
+with_four : (before after field : List ℕ) → length field ≤ 4 → after ≡ before ++ 32 ∷ field → length after ≤ length before + 5
+with_four before after field few e = omega (arith, ap length e, length-append before (32 ∷ field))
+
+pub push-requires-3 : goal.push-requires-3
+push-requires-3 c = (omega arith, omega (arith, with_four _ _ _ c.as_slice.ensures.fits c.push_field.ensures))
+
+pub push_target-requires : goal.push_target-requires
+push_target-requires c = omega (arith, with_four _ _ _ c.as_slice.ensures.fits c.push_field.ensures)
+
+pub push_field-requires-2 : goal.push_field-requires-2
+push_field-requires-2 c =
+    omega (
+      arith,
+      with_four _ _ _ c.as_slice.ensures.fits c.push_field.ensures,
+      ap length c.push_target.ensures,
+      length-append c.push-3.new.self.items (target_text c.target.result),
+      length-target_text c.target.result,
+      ap length (c.as_bytes.ensures.value ∙ c.format.ensures.text),
+      length-number _ c.half.ensures.limit,
+    )

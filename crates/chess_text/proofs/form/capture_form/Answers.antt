@@ -10,3 +10,6 @@ pub returns-in_ok-file_of-in-None : goal.returns-in_ok-file_of-in-None
 returns-in_ok-file_of-in-None c =
     pawn_capture c.args.first c.args.file c.args.rank c.in_ok-file_of-in-None.field-0 _
     (sym c.file_of.ensures ∙ c.in_ok-file_of-in-None.was) c.move_form-in-None.ensures
+
+pub returns-in_err-file_of-in-None : goal.returns-in_err-file_of-in-None
+returns-in_err-file_of-in-None c = rw c.from_residual.ensures tt

@@ -12,3 +12,6 @@ returns-in_ok-kind_of_letter-in-len3 c =
 
 pub returns-in-120 : goal.returns-in-120
 returns-in-120 c = with_x c.args.text.now _ (omega arith) (omega arith) c.capture_form.ensures
+
+pub returns-in_err-kind_of_letter-in-len3 : goal.returns-in_err-kind_of_letter-in-len3
+returns-in_err-kind_of_letter-in-len3 c = rw c.from_residual.ensures tt
