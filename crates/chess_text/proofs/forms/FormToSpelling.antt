@@ -117,6 +117,9 @@ record Told (s : List ℕ) (f : Form) : Type 0 where
   spelled : SpellsBare s f
   good : is_form f ≡ true
 
+no_form : (f : Form) → None ≡ Some f → ⊥
+no_form f h = cc
+
 -- what stands before the target, and what the rest says
 piece_move_spelled : (s : List ℕ) (f : Form) → piece_move_of s ≡ Some f → Told s f
 piece_move_spelled s f h =
@@ -130,8 +133,8 @@ piece_move_spelled s f h =
 
     by_parts : (k : Option Kind) (to : Option Square) → kind_of_text (before_file (before_rank b)) ≡ k → target_at_end d ≡ to
         → piece_move_if k (file_at_end (before_rank b)) (rank_at_end b) to (promotion_at_end s) ≡ Some f → Told s f
-    by_parts k None e g h = absurd (cc)
-    by_parts None (Some to) e g h = absurd (cc)
+    by_parts k None e g h = absurd (no_form f h)
+    by_parts None (Some to) e g h = absurd (no_form f h)
     by_parts (Some k) (Some to) e g h =
         let a = before_rank b in
         let l = before_file a in

@@ -1,5 +1,6 @@
 use Rattle.std.proofs.lemmas.List.Folds.{list_all_more}
-use Rattle.chess_text.proofs.Words.{◌+◌, ◌∙◌, ◌++◌, ◌∷◌, [], ◌&&◌, length, get_or, take, nat_le, sym, ap, append-nil, and_from, and_parts, flat_map-append, take_more, is_item, cells_at, cells_of}
+use Rattle.chess_text.proofs.Words.{◌+◌, ◌∙◌, ◌++◌, ◌∷◌, [], ◌&&◌, length, get_or, take, nat_le, sym, ap, append-nil}
+use Rattle.chess_text.proofs.Words.{and_from, and_parts, flat_map-append, take_more, is_item, cells_at, cells_of}
 use Rattle.chess_text.proofs.positions.TextToBoard.{no_rank, no_cells}
 use Rattle.chess_text.proofs.placement.read_rank.Goals as goal
 
