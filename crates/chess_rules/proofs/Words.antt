@@ -48,6 +48,7 @@ pub use Rattle.std.proofs.lemmas.List.Sums.{sum_by-cons, sum_by-le-sum_by, sum_b
 pub use Rattle.std.proofs.lemmas.Map.Made.{AllPairs-from_IsDistinct, IsDistinct-from_count, length-from_same_keys}
 pub use Rattle.std.proofs.lemmas.Nat.{and_le_r, leading_length, or_lt, pow-add}
 pub use Rattle.std.proofs.lemmas.Nat.Bits.{bit_at-lt, bit_at-pow_other, bit_at-pow_same, bit_at-suc, bit_at-trailing_zeros, bit_at_above, bit_at_and}
+pub use Rattle.std.proofs.lemmas.Nat.Bits.{bit_at_mask_above, bit_at_mask_below, bit_at_mask_inside}
 pub use Rattle.std.proofs.lemmas.Nat.Bits.{bit_at_lowest, bit_at_not, bit_at_ones, bit_at_ones_above, bit_at_or, same_from_bits_below, shr_and_one}
 pub use Rattle.std.specs.Bool.{then_some}
 pub use Rattle.std.specs.Cmp.{IsEquivalence}

@@ -3,3 +3,4 @@ pub mod AttackToReach
 pub mod ClearWays
 pub mod InView
 pub mod LinesThrough
+pub mod LinesToBetween

@@ -1,6 +1,6 @@
 -- The tables of squares hold what is said of each square.
-use Rattle.chess_rules.proofs.sets.WordsToCells.{has_word, has_zero}
-use Rattle.chess_rules.proofs.Words.{Square, strictly_between, has, word, Places, square_at, is_aligned, ◌≡◌, ℕ, zero, suc, ◌+◌, ◌*◌, ◌/◌, ◌%◌, ◌<◌, Bool, true, false, sym, List, [], ◌∷◌, refl, ◌∙◌, ap, ap₂, arith, get_or, map, if◌then◌else◌, nat_tests, range_with_len, get_or-range_with_len, length-range_with_len}
+use Rattle.chess_rules.proofs.sets.WordsToCells.{has_word, word_fits}
+use Rattle.chess_rules.proofs.Words.{Square, has, word, Places, square_at, ◌≡◌, ℕ, zero, suc, ◌+◌, ◌^◌, ◌<◌, Bool, List, [], ◌∷◌, ◌∙◌, ap, arith, get_or, map, range_with_len, get_or-range_with_len, length-range_with_len}
 
 -- What the tables hold.
 
@@ -11,13 +11,6 @@ mask test = word (λ i. test (square_at i)) (range_with_len 0 64)
 -- for each square: those that lie to it as the test says
 unfoldable pub mask_to : (Square → Square → Bool) → ℕ → ℕ
 mask_to lies n = mask (λ s. lies s (square_at n))
-
--- for each square, for each square: those strictly between
-unfoldable pub between_mask : ℕ → ℕ
-between_mask n =
-    if is_aligned (square_at (n / 64)) (square_at (n % 64))
-    then mask (λ u. strictly_between (square_at (n / 64)) u (square_at (n % 64)))
-    else 0
 
 -- n numbers from k on
 abbrev pub numbers : ℕ → ℕ → List ℕ
@@ -46,6 +39,10 @@ mask_has test i low =
 pub places : (test : Square → Bool) (n : ℕ) → n ≡ mask test → Places n test
 places test n is = record { of = λ i low. ap (λ m. has m i) is ∙ mask_has test i low }
 
+pub mask_fits : (test : Square → Bool) → mask test < 2 ^ 64
+unfolding mask
+mask_fits test = word_fits (λ i. test (square_at i)) (range_with_len 0 64)
+
 -- a table of the squares that lie to each square so
 pub table_places : (lies : Square → Square → Bool) (table : List ℕ) (t : Square) (i n : ℕ)
     → table ≡ map (mask_to lies) (numbers 64 0) → n ≡ get_or table i 0
@@ -53,27 +50,3 @@ pub table_places : (lies : Square → Square → Bool) (table : List ℕ) (t : S
 unfolding mask_to
 table_places lies table t i n are is low again =
     places (λ s. lies s t) n (is ∙ (table_at (mask_to lies) table 64 i are low ∙ ap (λ u. mask (λ s. lies s u)) again))
-
--- two squares with one between them are on a line
-
-pub between_places : (s t : Square) (i j n : ℕ) → square_at i ≡ s → square_at j ≡ t
-    → j < 64 → n ≡ between_mask (64 * i + j) → Places n (λ u. strictly_between s u t)
-unfolding between_mask
-between_places s t i j n from to low is =
-    let first : (64 * i + j) / 64 ≡ i = omega arith in
-    let second : (64 * i + j) % 64 ≡ j = omega arith in
-    by_line (is_aligned s t) refl
-    (is ∙ ap₂ (λ (v w : Square). if is_aligned v w then mask (λ u. strictly_between v u w) else 0)
-    (ap square_at first ∙ from) (ap square_at second ∙ to))
-  where
-    by_line : (x : Bool) → is_aligned s t ≡ x → n ≡ (if is_aligned s t then mask (λ u. strictly_between s u t) else 0)
-        → Places n (λ u. strictly_between s u t)
-    by_line true e h = places (λ u. strictly_between s u t) n (h ∙ ap (λ x. if x then mask (λ u. strictly_between s u t) else 0) e)
-    by_line false e h =
-        record {
-          of = λ i _. ap (λ m. has m i) (h ∙ ap (λ x. if x then mask (λ u. strictly_between s u t) else 0) e)
-              ∙ (has_zero i ∙ sym (none (square_at i) (strictly_between s (square_at i) t) refl));
-        }
-      where
-        none : (u : Square) (x : Bool) → strictly_between s u t ≡ x → strictly_between s u t ≡ false
-        none u x g = grind (arith, nat_tests)

@@ -108,7 +108,7 @@ has_word test (x ∷ xs) (suc i) d low = next (test x) (word test xs) ∙ has_wo
     next : (b : Bool) (n : ℕ) → (bit_at ((if b then 1 else 0) + 2 * n) (suc i) == 1) ≡ (bit_at n i == 1)
     next b n = grind (arith, bit_at-suc)
 
-word_fits : (test : Option Piece → Bool) (xs : List (Option Piece)) → word test xs < 2 ^ length xs
+pub word_fits : {X : Type 0} (test : X → Bool) (xs : List X) → word test xs < 2 ^ length xs
 unfolding word
 word_fits test [] = omega arith
 word_fits test (x ∷ xs) = (let rest : word test xs < 2 ^ length xs = word_fits test xs in grind (arith, pow-suc))
