@@ -1,23 +1,16 @@
 -- The table of the squares between two is made of those of the lines through one.
-use Rattle.chess_rules.proofs.Words.{Square, has, word, Places, square_at, cell_of, inside, in_line, on_diagonal, is_steep, IsLine, strictly_between, ℕ, ◌+◌, ◌-◌, ◌*◌, ◌/◌, ◌%◌, ◌^◌, ◌<◌, ◌≡◌, Bool, true, false, not, ◌&&◌, ◌||◌, get_or, map, refl, sym, ◌∙◌, ap, ap₂, arith, nat_lt, nat_tests, w64, bit_not, if◌then◌else◌, and_from, bit_at_mask_inside, bit_at_mask_below, bit_at_mask_above}
-use Rattle.chess_rules.proofs.sets.TablesOfSquares.{mask, mask_to, mask_fits, numbers, table_at, table_places}
-use Rattle.chess_rules.proofs.sets.WordsToCells.{has_and, has_or, has_not, has_zero}
-use Rattle.chess_rules.proofs.positions.OneKing.{cell_of-square_at}
+use Rattle.chess_rules.proofs.Words.{Square, has, word, Places, square_at, cell_of, inside, in_line, on_diagonal, is_steep, IsLine, strictly_between, ℕ, ◌+◌, ◌-◌, ◌*◌, ◌/◌, ◌%◌, ◌^◌, ◌<◌, ◌≡◌, Bool, true, false, not, ◌&&◌, ◌||◌, get_or, map, refl, sym, ◌∙◌, ap, ap₂, arith, nat_lt, nat_tests, range_with_len, w64, bit_not, if◌then◌else◌, and_from, bit_at_mask_inside, bit_at_mask_below, bit_at_mask_above}
+use Rattle.chess_rules.proofs.sets.TablesOfSquares.{mask, mask_to, numbers, table_at, table_places}
+use Rattle.chess_rules.proofs.sets.WordsToCells.{has_and, has_or, has_not, has_zero, word_fits}
 use Rattle.chess_rules.proofs.lines.LinesThrough.{file_line, rank_line, rising_line, falling_line}
 use Rattle.std.specs.Int.Bits.{bit_and, bit_or}
 use Rattle.chess_rules.specs.declared.tables.TheConstants.{LINES, DIAGONALS, STEEP, BETWEEN}
 
-pub lines_table : LINES ≡ map (mask_to in_line) (numbers 64 0)
+-- the three tables of lines, each compared with its rule
+pub tables : (LINES ≡ map (mask_to in_line) (numbers 64 0))
+    × ((DIAGONALS ≡ map (mask_to on_diagonal) (numbers 64 0)) × (STEEP ≡ map (mask_to is_steep) (numbers 64 0)))
 unfolding mask_to mask word
-lines_table = refl
-
-pub diagonals_table : DIAGONALS ≡ map (mask_to on_diagonal) (numbers 64 0)
-unfolding mask_to mask word
-diagonals_table = refl
-
-pub steep_table : STEEP ≡ map (mask_to is_steep) (numbers 64 0)
-unfolding mask_to mask word
-steep_table = refl
+tables = (refl, (refl, refl))
 
 -- the places strictly between two
 unfoldable gap_word : ℕ → ℕ → ℕ
@@ -28,34 +21,23 @@ unfoldable of_line : (in_line on_diagonal is_steep : Bool) (lines diagonals stee
 of_line x y z lines diagonals steep i j =
     bit_and (bit_and (if x then lines else if y then diagonals else 0) (if z then steep else bit_not w64 steep)) (gap_word i j)
 
-unfoldable by_words : (lines diagonals steep i j : ℕ) → ℕ
+abbrev by_words : (lines diagonals steep i j : ℕ) → ℕ
 by_words lines diagonals steep i j = of_line (has lines i) (has diagonals i) (has steep i) lines diagonals steep i j
 
-unfoldable by_lines : ℕ → ℕ → ℕ
+abbrev by_lines : ℕ → ℕ → ℕ
 by_lines i j = by_words (get_or LINES j 0) (get_or DIAGONALS j 0) (get_or STEEP j 0) i j
 
 between_table : BETWEEN ≡ map (λ n. by_lines (n / 64) (n % 64)) (numbers 4096 0)
-unfolding by_lines by_words of_line gap_word has
+unfolding of_line gap_word has
 between_table = refl
-
--- The places of such a word.
 
 run_has : (i j k : ℕ) → has (2 ^ j - 2 ^ (i + 1)) k ≡ (nat_lt i k && nat_lt k j)
 unfolding has
 run_has i j k = grind (arith, bit_at_mask_inside, bit_at_mask_below, bit_at_mask_above)
 
-gap_has : (i j k : ℕ) → has (gap_word i j) k ≡ inside i k j
+gap_has : (i j k : ℕ) → has (gap_word i j) k ≡ inside (cell_of (square_at i)) (cell_of (square_at k)) (cell_of (square_at j))
 unfolding gap_word
-gap_has i j k = has_or _ _ k ∙ ap₂ (λ x y. x || y) (run_has i j k) (run_has j i k)
-
-same_inside : (i j k : ℕ) → inside i k j ≡ inside (cell_of (square_at i)) (cell_of (square_at k)) (cell_of (square_at j))
-same_inside i j k =
-    sym (ap (λ n. inside n _ _) (cell_of-square_at i) ∙ (ap (λ n. inside i n _) (cell_of-square_at k) ∙ ap (inside i k) (cell_of-square_at j)))
-
--- no square is between two that no line joins
-apart : (s u t : Square) (x : Bool) → in_line s t ≡ false → on_diagonal s t ≡ false → strictly_between s u t ≡ x
-    → strictly_between s u t ≡ false
-apart s u t x a b e = grind (arith, nat_tests)
+gap_has i j k = has_or _ _ k ∙ (ap₂ (λ x y. x || y) (run_has i j k) (run_has j i k) ∙ grind arith)
 
 module _ (lines diagonals steep i j : ℕ) (i_low : i < 64) (j_low : j < 64) (fits : steep < 2 ^ 64)
     (of_lines : Places lines (λ s. in_line s (square_at j))) (of_diagonals : Places diagonals (λ s. on_diagonal s (square_at j)))
@@ -63,14 +45,11 @@ module _ (lines diagonals steep i j : ℕ) (i_low : i < 64) (j_low : j < 64) (fi
   along : (line : Square → Bool) (set k : ℕ) → k < 64 → IsLine line (square_at j) → line (square_at i) ≡ true
       → has set k ≡ line (square_at k) → has (bit_and set (gap_word i j)) k ≡ strictly_between (square_at i) (square_at k) (square_at j)
   along line set k low is there e =
-      has_and set (gap_word i j) k ∙ (ap₂ (λ x y. x && y) e (gap_has i j k ∙ same_inside i j k)
+      has_and set (gap_word i j) k ∙ (ap₂ (λ x y. x && y) e (gap_has i j k)
       ∙ sym (is.between (square_at i) (square_at k) (omega arith) (omega arith) (omega arith) (omega arith) there))
 
   both : (a b k : ℕ) (x y : Bool) → has a k ≡ x → has b k ≡ y → has (bit_and a b) k ≡ (x && y)
   both a b k x y f g = has_and a b k ∙ ap₂ (λ v w. v && w) f g
-
-  flat : (k : ℕ) → k < 64 → has (bit_not w64 steep) k ≡ not (is_steep (square_at k) (square_at j))
-  flat k low = has_not steep k fits low ∙ ap not (of_steep.of k low)
 
   place : (x y z : Bool) (k : ℕ) → k < 64 → in_line (square_at i) (square_at j) ≡ x → on_diagonal (square_at i) (square_at j) ≡ y
       → is_steep (square_at i) (square_at j) ≡ z
@@ -79,37 +58,34 @@ module _ (lines diagonals steep i j : ℕ) (i_low : i < 64) (j_low : j < 64) (fi
   place true y true k low a b c =
       along _ _ k low (file_line (square_at j) (omega arith)) (and_from _ _ a c) (both _ _ k _ _ (of_lines.of k low) (of_steep.of k low))
   place true y false k low a b c =
-      along _ _ k low (rank_line (square_at j) (omega arith)) (and_from _ _ a (ap not c)) (both _ _ k _ _ (of_lines.of k low) (flat k low))
+      along _ _ k low (rank_line (square_at j) (omega arith)) (and_from _ _ a (ap not c))
+      (both _ _ k _ _ (of_lines.of k low) (has_not steep k fits low ∙ ap not (of_steep.of k low)))
   place false true true k low a b c =
       along _ _ k low (rising_line (square_at j) (omega arith)) (and_from _ _ b c) (both _ _ k _ _ (of_diagonals.of k low) (of_steep.of k low))
   place false true false k low a b c =
-      along _ _ k low (falling_line (square_at j) (omega arith)) (and_from _ _ b (ap not c)) (both _ _ k _ _ (of_diagonals.of k low) (flat k low))
-  place false false z k low a b c = has_zero k ∙ sym (apart (square_at i) (square_at k) (square_at j) _ a b refl)
+      along _ _ k low (falling_line (square_at j) (omega arith)) (and_from _ _ b (ap not c))
+      (both _ _ k _ _ (of_diagonals.of k low) (has_not steep k fits low ∙ ap not (of_steep.of k low)))
+  place false false z k low a b c = grind (arith, nat_tests, has_zero)
 
-  by_words_places : Places (by_words lines diagonals steep i j) (λ u. strictly_between (square_at i) u (square_at j))
-  unfolding by_words
-  by_words_places = record {
-    of = λ k low. place _ _ _ k low (sym (of_lines.of i i_low)) (sym (of_diagonals.of i i_low)) (sym (of_steep.of i i_low));
-  }
-
-by_lines_places : (i j : ℕ) → i < 64 → j < 64 → Places (by_lines i j) (λ u. strictly_between (square_at i) u (square_at j))
-unfolding by_lines mask_to
-by_lines_places i j i_low j_low =
-    by_words_places (get_or LINES j 0) (get_or DIAGONALS j 0) (get_or STEEP j 0) i j i_low j_low
-    (omega (arith, table_at (mask_to is_steep) STEEP 64 j steep_table j_low, mask_fits (λ s. is_steep s (square_at j))))
-    (table_places in_line LINES (square_at j) j _ lines_table refl j_low refl)
-    (table_places on_diagonal DIAGONALS (square_at j) j _ diagonals_table refl j_low refl)
-    (table_places is_steep STEEP (square_at j) j _ steep_table refl j_low refl)
+  places : Places (by_words lines diagonals steep i j) (λ u. strictly_between (square_at i) u (square_at j))
+  places = record { of = λ k low. place _ _ _ k low (sym (of_lines.of i i_low)) (sym (of_diagonals.of i i_low)) (sym (of_steep.of i i_low)) }
 
 pub between_places : (s t : Square) (i j n : ℕ) → square_at i ≡ s → square_at j ≡ t → i < 64 → j < 64
     → n ≡ get_or BETWEEN (64 * i + j) 0 → Places n (λ u. strictly_between s u t)
+unfolding mask_to mask
 between_places s t i j n from to i_low j_low is =
     let first : (64 * i + j) / 64 ≡ i = omega arith in
     let second : (64 * i + j) % 64 ≡ j = omega arith in
     let entry = table_at (λ m. by_lines (m / 64) (m % 64)) BETWEEN 4096 (64 * i + j) between_table (omega arith) in
-    let made : n ≡ by_lines i j = is ∙ (entry ∙ ap₂ by_lines first second) in
+    let fits : mask (λ s. is_steep s (square_at j)) < 2 ^ 64 = word_fits _ (range_with_len 0 64) in
+    let there =
+    places _ _ _ i j i_low j_low
+    (omega (arith, table_at (mask_to is_steep) STEEP 64 j tables.1.1 j_low))
+    (table_places in_line LINES (square_at j) j _ tables.0 refl j_low refl)
+    (table_places on_diagonal DIAGONALS (square_at j) j _ tables.1.0 refl j_low refl)
+    (table_places is_steep STEEP (square_at j) j _ tables.1.1 refl j_low refl) in
     record {
       of = λ k low.
-          ap (λ m. has m k) made ∙ ((by_lines_places i j i_low j_low).of k low
-          ∙ ap₂ (λ v w. strictly_between v (square_at k) w) from to);
+          ap (λ m. has m k) (is ∙ (entry ∙ ap₂ by_lines first second))
+          ∙ (there.of k low ∙ ap₂ (λ v w. strictly_between v (square_at k) w) from to);
     }

@@ -1,6 +1,6 @@
 -- The tables of squares hold what is said of each square.
-use Rattle.chess_rules.proofs.sets.WordsToCells.{has_word, word_fits}
-use Rattle.chess_rules.proofs.Words.{Square, has, word, Places, square_at, ◌≡◌, ℕ, zero, suc, ◌+◌, ◌^◌, ◌<◌, Bool, List, [], ◌∷◌, ◌∙◌, ap, arith, get_or, map, range_with_len, get_or-range_with_len, length-range_with_len}
+use Rattle.chess_rules.proofs.sets.WordsToCells.{has_word}
+use Rattle.chess_rules.proofs.Words.{Square, has, word, Places, square_at, ◌≡◌, ℕ, zero, suc, ◌+◌, ◌<◌, Bool, List, [], ◌∷◌, ◌∙◌, ap, arith, get_or, map, range_with_len, get_or-range_with_len, length-range_with_len}
 
 -- What the tables hold.
 
@@ -38,10 +38,6 @@ mask_has test i low =
 
 pub places : (test : Square → Bool) (n : ℕ) → n ≡ mask test → Places n test
 places test n is = record { of = λ i low. ap (λ m. has m i) is ∙ mask_has test i low }
-
-pub mask_fits : (test : Square → Bool) → mask test < 2 ^ 64
-unfolding mask
-mask_fits test = word_fits (λ i. test (square_at i)) (range_with_len 0 64)
 
 -- a table of the squares that lie to each square so
 pub table_places : (lies : Square → Square → Bool) (table : List ℕ) (t : Square) (i n : ℕ)

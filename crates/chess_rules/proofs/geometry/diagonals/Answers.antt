@@ -1,7 +1,7 @@
 use Rattle.chess_rules.proofs.Words.{on_diagonal}
 use Rattle.chess_rules.proofs.sets.TablesOfSquares.{table_places}
-use Rattle.chess_rules.proofs.lines.LinesToBetween.{diagonals_table}
+use Rattle.chess_rules.proofs.lines.LinesToBetween.{tables}
 use Rattle.chess_rules.proofs.geometry.diagonals.Goals as goal
 
 pub returns : goal.returns
-returns c = table_places on_diagonal _ c.args.target c.index.result _ diagonals_table c.of_bits.ensures c.index.ensures.below c.index.ensures.again
+returns c = table_places on_diagonal _ c.args.target c.index.result _ tables.1.0 c.of_bits.ensures c.index.ensures.below c.index.ensures.again
