@@ -10,7 +10,14 @@ with_more b w n xs = take w b ++ take n xs ++ drop (w + n) b
 pub length_with : (b xs : List ℕ) (w n : ℕ) → w ≤ length b → n ≡ min (length xs) (length b - w)
     → length (with_more b w n xs) ≡ length b
 length_with b xs w n within count =
-    omega (arith, within, count, length-append (take w b ++ take n xs) (drop (w + n) b), length_paste_head b w xs n within (omega (arith, count)), length-drop (w + n) b)
+    omega (
+      arith,
+      within,
+      count,
+      length-append (take w b ++ take n xs) (drop (w + n) b),
+      length_paste_head b w xs n within (omega (arith, count)),
+      length-drop (w + n) b,
+    )
 
 pub drop_with : (b k xs : List ℕ) (w n : ℕ) → w ≤ length b → n ≡ min (length xs) (length b - w)
     → drop w b ≡ drop w k → drop (w + n) (with_more b w n xs) ≡ drop (w + n) k

@@ -118,8 +118,7 @@ module _ (mode : Mode) (missing : Marker) (u piece : List ℕ) (before : Option 
   module _ (result : PgnGame) (after : Option (List ℕ)) where
     -- a game that the bytes decide
     pub game_fed : (new : Converter) (used n : ℕ) → used ≤ length piece → n ≡ length u + used
-        → FedGame p u [] piece used new before after → Answered new n result
-        → NextOf p s piece result before after
+        → FedGame p u [] piece used new before after → Answered new n result → NextOf p s piece result before after
     game_fed new used n within count fed answer =
         let finishes : FinishesGame p fed.tokens fed.marker =
         record {
@@ -165,8 +164,7 @@ module _ (mode : Mode) (missing : Marker) (u piece : List ℕ) (before : Option 
         own (b ∷ bs) = refl
 
         by_rest : (rest : List ℕ) → drop used piece ≡ rest → s ≡ (u ++ take used piece) ++ drop used piece
-            → length (u ++ take used piece) ≡ n → result.end ≡ n
-            → result.end < length s → (more : List ℕ)
+            → length (u ++ take used piece) ≡ n → result.end ≡ n → result.end < length s → (more : List ℕ)
             → (later : List Token) × (tokens_of (take (result.end + 1) s ++ more) ≡ (fed.tokens ++ fed.marker ∷ []) ++ later)
         by_rest [] is parts size end behind more =
             absurd (omega (arith, behind, end, size, ap (length {A = ℕ}) parts, length-append (u ++ take used piece) (drop used piece), ap (length {A = ℕ}) is))
@@ -245,8 +243,7 @@ module _ (mode : Mode) (missing : Marker) (u piece : List ℕ) (before : Option 
           (Appends-trans before middle after _ _ fed.gains.appended gains.appended)
 
       pub game_at_end : (new : Converter) (n : ℕ) → TextsEndBehindMarker → n ≡ length s
-          → Finishes p s fed.tokens new true middle after → Answered new n result
-          → NextOf p s piece result before after
+          → Finishes p s fed.tokens new true middle after → Answered new n result → NextOf p s piece result before after
       game_at_end new n law count fin answer =
           let last = law p mid s fed.tokens stands (fin.game.0 refl) in
           let game = last.finishes.game in

@@ -50,8 +50,7 @@ no_mark p b (t ∷ ts) = refl
 
 -- a token that neither is rejected nor shows a difference
 unchanged : (p : Profile) (m : Mark) (b : Progress) (t : Token) {n : Next}
-    → refusal p b.part t.kind ≡ None → next b.part t.kind ≡ n → is_other m n t ≡ false
-    → is_changed p m b.part t ≡ false
+    → refusal p b.part t.kind ≡ None → next b.part t.kind ≡ n → is_other m n t ≡ false → is_changed p m b.part t ≡ false
 unchanged p m b t free leads same = cc
 
 -- Behind the last mark, P depends on the finished games and not on the current one.

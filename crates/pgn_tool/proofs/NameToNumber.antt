@@ -21,8 +21,7 @@ number_of-name : (number : ℕ) → number < 2 ^ 64 → number_of (file_name num
 number_of-name number fits =
     let zeros = zeros_before (length (decimal number)) in
     ap (digits_value 10) (without_ending (zeros ++ decimal number) (codes ".pgn") refl)
-    ∙ zeros_add_nothing (length (decimal number)) (decimal number)
-    ∙ digits_value-decimal (numerals_by_value _ tells_digits) number fits
+    ∙ zeros_add_nothing (length (decimal number)) (decimal number) ∙ digits_value-decimal (numerals_by_value _ tells_digits) number fits
 
 numbered-added : (log : Option (List NameStep)) (step : NameStep)
     → numbered (added log (step ∷ [])) ≡ added (numbered log) (step_of step ∷ [])
@@ -34,6 +33,5 @@ pub numbered-making : (old new : Option (List NameStep)) (name : List ℕ) (numb
     (outcome : Result Unit SystemFault) → number < 2 ^ 64 → name ≡ file_name number
     → new ≡ added old (making name outcome ∷ []) → numbered new ≡ added (numbered old) (step_at number outcome ∷ [])
 numbered-making old new name number outcome fits is more =
-    ap numbered more ∙ numbered-added old (making name outcome)
-    ∙ ap (λ n. added (numbered old) (step_at n outcome ∷ []))
+    ap numbered more ∙ numbered-added old (making name outcome) ∙ ap (λ n. added (numbered old) (step_at n outcome ∷ []))
     (ap number_of is ∙ number_of-name number fits)

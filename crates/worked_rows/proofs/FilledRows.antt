@@ -22,8 +22,7 @@ abbrev fen : Pair
 fen = pair "FEN" "4k3/8/8/8/8/8/8/4K3 w - - 0 1"
 
 -- The pairs of a game that has none, in the order of their names.
-no_pairs : filled Full (game [] [] "*")
-    ≡ game
+no_pairs : filled Full (game [] [] "*") ≡ game
     (pair "Black" "?" ∷ pair "Date" "????.??.??"
     ∷ pair "Event" "?" ∷ pair "Result" "*"
     ∷ pair "Round" "?" ∷ pair "Site" "?"
@@ -32,8 +31,7 @@ unfolding roster
 no_pairs = refl
 
 -- A missing Result is the marker.
-marker_is_result : filled Full (game (pair "White" "A" ∷ []) [] "1-0")
-    ≡ game
+marker_is_result : filled Full (game (pair "White" "A" ∷ []) [] "1-0") ≡ game
     (pair "Black" "?" ∷ pair "Date" "????.??.??"
     ∷ pair "Event" "?" ∷ pair "Result" "1-0"
     ∷ pair "Round" "?" ∷ pair "Site" "?"
@@ -54,14 +52,12 @@ unfolding roster
 set_up_is_added = refl
 
 set_up_is_mended :
-    (filled Full (game (fen ∷ pair "SetUp" "0" ∷ []) [] "*")).pairs
-    ≡ with_fen
+    (filled Full (game (fen ∷ pair "SetUp" "0" ∷ []) [] "*")).pairs ≡ with_fen
 unfolding roster
 set_up_is_mended = refl
 
 -- Without a FEN it stays as it is.
-set_up_alone : (filled Full (game (pair "SetUp" "0" ∷ []) [] "*")).pairs
-    ≡ pair "Black" "?" ∷ pair "Date" "????.??.??"
+set_up_alone : (filled Full (game (pair "SetUp" "0" ∷ []) [] "*")).pairs ≡ pair "Black" "?" ∷ pair "Date" "????.??.??"
     ∷ pair "Event" "?" ∷ pair "Result" "*"
     ∷ pair "Round" "?" ∷ pair "SetUp" "0"
     ∷ pair "Site" "?" ∷ pair "White" "?" ∷ []
@@ -195,8 +191,7 @@ no_room_for_nine h = let nine = nine_lines in absurd (omega arith)
 
 -- Games that have the same text: a default may be written out; in the reduced format the other
 -- pairs, glyphs, comments and variations make no difference.
-default_written_out : filled Full (game [] [] "*")
-    ≡ filled Full (game (pair "White" "?" ∷ []) [] "*")
+default_written_out : filled Full (game [] [] "*") ≡ filled Full (game (pair "White" "?" ∷ []) [] "*")
 unfolding roster
 default_written_out = refl
 

@@ -147,8 +147,7 @@ unfolding squares
 piece_candidates =
     let knights_for_f3 : candidates initial Knight (sq "f3") ≡ sq "g1" ∷ [] = refl in
     let pawns_for_e4 : candidates initial Pawn (sq "e4") ≡ sq "c2" ∷ sq "e2" ∷ sq "g2" ∷ [] = refl in
-    let queens_for_e1 : candidates (white "1k6/8/8/8/4Q2Q/8/8/K6Q") Queen (sq "e1")
-    ≡ sq "h1" ∷ sq "e4" ∷ sq "h4" ∷ [] = refl in
+    let queens_for_e1 : candidates (white "1k6/8/8/8/4Q2Q/8/8/K6Q") Queen (sq "e1") ≡ sq "h1" ∷ sq "e4" ∷ sq "h4" ∷ [] = refl in
     let hidden_queen : candidates (white "4k3/8/8/8/8/8/8/K1Q1Q2Q") Queen (sq "f1") ≡ sq "e1" ∷ sq "h1" ∷ [] = refl in
     let pawn_en_passant : candidates (position "4k3/8/8/8/3pP3/8/8/4K3" Black "" (Some (sq "e3")) 0 1) Pawn (sq "e3") ≡ sq "d4" ∷ [] = refl in
     tt

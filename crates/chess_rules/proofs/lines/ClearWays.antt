@@ -32,6 +32,5 @@ module _ (test : Square → Bool) (set : ℕ) where
   none_left left kept none w =
       record {
         of = λ i low.
-            w.of i low
-            ∙ ap₂ (λ x y. x && (y || test (square_at i))) (ap (has set) (sym (cell_of-square_at i))) (none.of i low);
+            w.of i low ∙ ap₂ (λ x y. x && (y || test (square_at i))) (ap (has set) (sym (cell_of-square_at i))) (none.of i low);
       }

@@ -188,13 +188,11 @@ module _ (p : Parts) (m : Move) where
       stepped ∙ ap Some (sym (ap (λ l. board_of l p m) is ∙ (step_of_kind b stepped).board))
 
   -- en passant asks these rules beside what its kind says
-  pub passing_rules : EnPassant ≡ step_kind p m
-      → is_some (board_after p m)
+  pub passing_rules : EnPassant ≡ step_kind p m → is_some (board_after p m)
       ≡ ((promotion_fits p m && reaches Pawn p.side m.from m.to) && has_piece (other p.side) Pawn (at p.board (captured_pawn m)))
   unfolding step_kind
   passing_rules is =
-      sym (obeys_if_step EnPassant is)
-      ∙ with_passing (own p Pawn m.from) (promotion_fits p m) (is_target p.target m.to)
+      sym (obeys_if_step EnPassant is) ∙ with_passing (own p Pawn m.from) (promotion_fits p m) (is_target p.target m.to)
       (is_empty p.board m.to) (attacks p.board m.from m.to) (reaches Pawn p.side m.from m.to) _
       (second_true _ _ (first_true _ _ passes)) (first_true _ _ (first_true _ _ passes))
       (second_true _ _ (second_true _ _ passes)) (hits (second_true _ _ (first_true _ _ passes)))

@@ -27,8 +27,7 @@ Ways p m b =
     ⊎ ((castles_long p m ≡ true) × (castled p m 0 3 ≡ b)))))
 
 five : (v w x y z : Bool) (i j k l b : Board)
-    → (if v || w then Some i else if x then Some j else if y then Some k else if z then Some l else None) ≡ Some b
-    → ((v ≡ true) × (i ≡ b))
+    → (if v || w then Some i else if x then Some j else if y then Some k else if z then Some l else None) ≡ Some b → ((v ≡ true) × (i ≡ b))
     ⊎ (((w ≡ true) × (i ≡ b)) ⊎ (((x ≡ true) × (j ≡ b)) ⊎ (((y ≡ true) × (k ≡ b)) ⊎ ((z ≡ true) × (l ≡ b)))))
 five v w x y z i j k l b h = grind arith
 

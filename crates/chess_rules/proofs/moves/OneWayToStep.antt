@@ -31,8 +31,7 @@ king_steps_apart p m wing far h g = grind arith
 wings_apart : (p : Parts) (m : Move) → Castles p m short_wing → Castles p m long_wing → ⊥
 wings_apart p m h g = grind arith
 
-one_at_most : (a b c d e : Bool)
-    → (a ≡ true → b ≡ true → ⊥) → (a ≡ true → c ≡ true → ⊥)
+one_at_most : (a b c d e : Bool) → (a ≡ true → b ≡ true → ⊥) → (a ≡ true → c ≡ true → ⊥)
     → (a ≡ true → d ≡ true → ⊥) → (a ≡ true → e ≡ true → ⊥)
     → (b ≡ true → c ≡ true → ⊥) → (b ≡ true → d ≡ true → ⊥) → (b ≡ true → e ≡ true → ⊥)
     → (c ≡ true → d ≡ true → ⊥) → (c ≡ true → e ≡ true → ⊥) → (d ≡ true → e ≡ true → ⊥)

@@ -1,6 +1,7 @@
 -- The tables of squares hold what is said of each square.
 use Rattle.chess_rules.proofs.sets.WordsToCells.{has_word}
-use Rattle.chess_rules.proofs.Words.{Square, has, word, Places, square_at, ◌≡◌, ℕ, zero, suc, ◌+◌, ◌<◌, Bool, List, [], ◌∷◌, ◌∙◌, ap, arith, get_or, map, range_with_len, get_or-range_with_len, length-range_with_len}
+use Rattle.chess_rules.proofs.Words.{Square, has, word, Places, square_at, ◌≡◌, ℕ, zero, suc, ◌+◌, ◌<◌, Bool, List, [], ◌∷◌}
+use Rattle.chess_rules.proofs.Words.{◌∙◌, ap, arith, get_or, map, range_with_len, get_or-range_with_len, length-range_with_len}
 
 -- What the tables hold.
 
@@ -41,8 +42,7 @@ places test n is = record { of = λ i low. ap (λ m. has m i) is ∙ mask_has te
 
 -- a table of the squares that lie to each square so
 pub table_places : (lies : Square → Square → Bool) (table : List ℕ) (t : Square) (i n : ℕ)
-    → table ≡ map (mask_to lies) (numbers 64 0) → n ≡ get_or table i 0
-    → i < 64 → square_at i ≡ t → Places n (λ s. lies s t)
+    → table ≡ map (mask_to lies) (numbers 64 0) → n ≡ get_or table i 0 → i < 64 → square_at i ≡ t → Places n (λ s. lies s t)
 unfolding mask_to
 table_places lies table t i n are is low again =
     places (λ s. lies s t) n (is ∙ (table_at (mask_to lies) table 64 i are low ∙ ap (λ u. mask (λ s. lies s u)) again))

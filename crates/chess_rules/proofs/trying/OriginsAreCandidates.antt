@@ -92,8 +92,7 @@ by_attack p m k h g = seen_by k p.side p m.from m.to (attacks_as p.side k (at p.
 by_pawn : (p : Parts) (m : Move) (k : Kind) → own p k m.from ≡ true → is_pawn_step p m ≡ true → sees k p m.from m.to ≡ true
 by_pawn p m k h g = grind (arith, or_cases, sees_pawn, advance_seen, double_seen, by_attack, first_true, second_true)
 
-by_castling : (p : Parts) (m : Move) (k : Kind) (wing : Wing)
-    → (is_clear p.board (home p 4) (home p wing.rook) ≡ true
+by_castling : (p : Parts) (m : Move) (k : Kind) (wing : Wing) → (is_clear p.board (home p 4) (home p wing.rook) ≡ true
     → (is_aligned (home p 4) (home p wing.end) && is_clear p.board (home p 4) (home p wing.end)) ≡ true)
     → own p k m.from ≡ true → Castles p m wing → sees k p m.from m.to ≡ true
 by_castling p m k wing way h g = grind arith

@@ -198,8 +198,7 @@ king_part p t sound = by_step (is_king_step p t) refl
   where
     by_step : (step : Bool) → is_king_step p t ≡ step → sum_by (λ s. bit (step && is_candidate p King t s)) squares ≡ bit step
     by_step true is =
-        sym (length_by_bits (is_candidate p King t) squares)
-        ∙ one_king_near p t sound
+        sym (length_by_bits (is_candidate p King t) squares) ∙ one_king_near p t sound
         (adjacent_back (king_square p.side p.board) t
         ∙ first_true (is_adjacent t (king_square p.side p.board)) (not (has_colour p.side (at p.board t))) is)
     by_step false is = sum_none squares

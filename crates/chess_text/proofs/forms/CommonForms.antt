@@ -14,10 +14,8 @@ move_to k file a b = piece_move_if (Some k) file None (square_of (file_of a) (ra
 module _ (k : Kind) (file : Option ℕ) (a b : ℕ) (moved : Option Form) (is : moved ≡ move_to k file a b) where
   -- s is the whole text: the letters, the file, the x and the two bytes
   reads : (s letters capture : List ℕ) → is_among letters (letter_texts k) ≡ true
-      → is_among capture capture_texts ≡ true → below_eight file ≡ true
-      → ((to : Square) → a ∷ b ∷ [] ≡ square_text to
-      → s ≡ letters ++ hint_text file_letter file ++ [] ++ capture ++ square_text to ++ [])
-      → Reads moved s
+      → is_among capture capture_texts ≡ true → below_eight file ≡ true → ((to : Square) → a ∷ b ∷ [] ≡ square_text to
+      → s ≡ letters ++ hint_text file_letter file ++ [] ++ capture ++ square_text to ++ []) → Reads moved s
   reads s letters capture letters_fit capture_fits below joined =
       rw is (by_target (square_of (file_of a) (rank_of b)) refl)
     where
@@ -26,7 +24,13 @@ module _ (k : Kind) (file : Option ℕ) (a b : ℕ) (moved : Option Form) (is : 
       by_target (Some to) e =
           let target = target_spelled (a ∷ b ∷ []) to e in
           cc (form_read s (Man k file None to None)
-          (record { bare = s; marks = []; joined = sym (append-nil s); spells_bare = record { letters = letters; capture = capture; promoted = []; joined = joined to target.0; letters_fit = letters_fit; capture_fits = capture_fits; promoted_fits = refl }; marks_alone = refl })
+          (record {
+            bare = s;
+            marks = [];
+            joined = sym (append-nil s);
+            spells_bare = record { letters = letters; capture = capture; promoted = []; joined = joined to target.0; letters_fit = letters_fit; capture_fits = capture_fits; promoted_fits = refl };
+            marks_alone = refl;
+          })
           (ap₂ (λ x y. (x && true) && y) below target.1))
 
 -- e4

@@ -30,10 +30,8 @@ module _ (p : Parts) (f : Form) (i : ℕ) (low : i < 64) where
       → take (i + 1) (set kinds i (origin_kind p f (nth_square i))) ≡ map (origin_kind p f) (take (i + 1) squares)
   kinds_more kinds long so_far =
       let within : i < length kinds = omega arith in
-      take_more_set kinds i _ within
-      ∙ ap (λ ks. ks ++ origin_kind p f (nth_square i) ∷ []) so_far
-      ∙ sym (map-append _ _ (nth_square i ∷ []))
-      ∙ ap (λ ss. map (origin_kind p f) ss) (sym one_more)
+      take_more_set kinds i _ within ∙ ap (λ ks. ks ++ origin_kind p f (nth_square i) ∷ []) so_far
+      ∙ sym (map-append _ _ (nth_square i ∷ [])) ∙ ap (λ ss. map (origin_kind p f) ss) (sym one_more)
 
   -- the pairs of one square more
   pub counts_more : count_by (λ s. is_step_of_form p f (form_move p.side f s)) (take (i + 1) squares)
@@ -56,19 +54,16 @@ kind_counts : (p : Parts) (f : Form) (m : Move)
     → length (cons_option (played (describes p f m) p m) []) ≡ cond (is_legal_kind (kind_of_move p f m)) 1 0
 kind_counts p f m = by_described _
   where
-    by_safe : (q : Parts) (safe : Bool)
-        → length (cons_option (with_next m (if safe then Some q else None)) [])
+    by_safe : (q : Parts) (safe : Bool) → length (cons_option (with_next m (if safe then Some q else None)) [])
         ≡ cond (is_legal_kind (if is_some (if safe then Some q else None) then Legal else Unsafe)) 1 0
     by_safe q safe = grind arith
 
-    by_step : (o : Option Parts)
-        → length (cons_option (with_next m (if_safe o)) [])
+    by_step : (o : Option Parts) → length (cons_option (with_next m (if_safe o)) [])
         ≡ cond (is_legal_kind (if is_some o && true then (if is_some (if_safe o) then Legal else Unsafe) else NoStep)) 1 0
     by_step None = refl
     by_step (Some q) = by_safe q _
 
-    by_described : (b : Bool)
-        → length (cons_option (played b p m) [])
+    by_described : (b : Bool) → length (cons_option (played b p m) [])
         ≡ cond (is_legal_kind (if is_some (step p m) && b then (if is_some (if_safe (step p m)) then Legal else Unsafe) else NoStep)) 1 0
     by_described true = by_step _
     by_described false = rw (and-false (is_some (step p m))) refl
@@ -100,12 +95,10 @@ agreeing_count : (p : Parts) (f : Form) → length (agreeing p f) ≡ count_lega
 unfolding agreeing
 agreeing_count p (Man k file rank to promotion) =
     let f = Man k file rank to _ in
-    ap length (filter_map-map _ _ squares)
-    ∙ moves_count p f
+    ap length (filter_map-map _ _ squares) ∙ moves_count p f
 agreeing_count p (Castle long) =
     ap (λ ss. length (filter_map (move_at p (Castle long)) ss)) (sym (king_square_alone p.side))
-    ∙ ap length (filter_map-filter _ _ elsewhere squares)
-    ∙ moves_count p _
+    ∙ ap length (filter_map-filter _ _ elsewhere squares) ∙ moves_count p _
   where
     elsewhere : (s : Square) → same_square (square 4 (home_rank p.side)) s ≡ false → move_at p (Castle long) s ≡ None
     elsewhere s other =

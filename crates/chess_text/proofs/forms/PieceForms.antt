@@ -58,8 +58,7 @@ candidates_own p k t xs perm =
 
 -- what the code tries from the i-th of them
 pub tried_at : (p : Parts) (k : Kind) (file rank : Option ℕ) (to : Square) (promotion : Option Promotion) (xs : List Square)
-    → IsPermutation (candidates p k to) xs
-    → (i : ℕ) (s : Square) (o : Option Played) → i < length xs → s ≡ get_or xs i s
+    → IsPermutation (candidates p k to) xs → (i : ℕ) (s : Square) (o : Option Played) → i < length xs → s ≡ get_or xs i s
     → o ≡ played (piece_move_fits p file rank (move_from to promotion s)) p (move_from to promotion s)
     → o ≡ from_square p (Man k file rank to promotion) to promotion (get_or xs i s)
 tried_at p k file rank to promotion xs perm i s o low is tried =

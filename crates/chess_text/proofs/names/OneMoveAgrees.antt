@@ -38,8 +38,7 @@ is_it_rival p m n g to named apart =
 pub among_rivals : (p : Parts) (k : Kind) (m n : Move) (test : Square → Bool) → is_legal p n ≡ true
     → own p k n.from ≡ true → is_rival p m n.from ≡ true → test n.from ≡ true → list_any test (rivals p k m) ≡ true
 among_rivals p k m n test g stands rival found =
-    any-filter test _ squares
-    ∙ any_contained _ squares n.from (in_squares _ (stepped p n g).from_on)
+    any-filter test _ squares ∙ any_contained _ squares n.from (in_squares _ (stepped p n g).from_on)
     (and_from _ _ (and_from _ _ stands rival) found)
 
 pub turn : (x y : ℕ) → (x == y) ≡ true → (y == x) ≡ true

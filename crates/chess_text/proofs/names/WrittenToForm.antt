@@ -35,8 +35,7 @@ written k p m = disambiguated_form k p m
 pub capture_fits : (b : Bool) → is_among (capture_if b) capture_texts ≡ true
 capture_fits b = grind arith
 
-hints_written : (l : ℕ) (s : Square) (any file rank : Bool)
-    → (l ∷ []) ++ disambiguation_by s any file rank
+hints_written : (l : ℕ) (s : Square) (any file rank : Bool) → (l ∷ []) ++ disambiguation_by s any file rank
     ≡ ((l ∷ []) ++ hint_text file_letter (file_by s any file rank)) ++ hint_text rank_digit (rank_by s any file rank)
 hints_written l s any file rank = grind arith
 

@@ -109,8 +109,7 @@ number_spelled n h =
 
 -- The whole.
 
-fourth_and_fifth : (a b c d e : Bool)
-    → is_none (if not a then Some Kings else if b then Some PawnOnEdge else if c then Some KingCapturable
+fourth_and_fifth : (a b c d e : Bool) → is_none (if not a then Some Kings else if b then Some PawnOnEdge else if c then Some KingCapturable
     else if not d then Some TargetRank else if not e then Some NumberRange else None) ≡ true
     → (d ≡ true) × (e ≡ true)
 fourth_and_fifth a b c d e h = grind arith

@@ -106,7 +106,13 @@ module _ (text : List ℕ) (left start : ℕ) (cells : Board) (last : List ℕ) 
           cells-last (ranks_before start text) last,
         );
         passed = cc (list_all-last (ranks_before start text) last, and-true (list_all is_rank (ranks_before start text)));
-        count = omega (arith, length-append cells (cells_of last), eight_cells last good, ap length split, length-append (ranks_before start text) (last ∷ []));
+        count = omega (
+          arith,
+          length-append cells (cells_of last),
+          eight_cells last good,
+          ap length split,
+          length-append (ranks_before start text) (last ∷ []),
+        );
       }
 
   -- a rank that is none

@@ -45,8 +45,7 @@ written_again : (p : Profile) (s : List ℕ) (gs : List Game) (t : Totals) (befo
 written_again p s gs t before after out ver h = search (rules, same_totals)
 
 slice_fails : (p : Profile) (s : List ℕ) (gs : List Game) (f : Fault) (before after : Option (List ℕ))
-    → verdict p s ≡ totals (counted gs) → length s ≤ 2 ^ 62
-    → FailsOn p s before after f → SliceIsKept p gs (Err f) before after
+    → verdict p s ≡ totals (counted gs) → length s ≤ 2 ^ 62 → FailsOn p s before after f → SliceIsKept p gs (Err f) before after
 slice_fails p s gs _ before after ver short (conversion.FailsOn.refused f h) = absurd (no_fault p s gs f ver h.0)
 slice_fails p s gs _ before after ver short (conversion.FailsOn.unwritten at stops) = refl
 slice_fails p s gs _ before after ver short (conversion.FailsOn.too_long u rest e long some none) =

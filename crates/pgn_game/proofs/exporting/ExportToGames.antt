@@ -89,8 +89,7 @@ module _ (one_read : TheOneMoveIsRead) (leaves : LeavesPosition) (is_symbol : Wr
   }
 
   game_closed : {p : Profile} (g : Game) (h : SoundGame p g) (k : KeptText p.mode p (start_of g.pairs) h.text g.items) (more : List Kind)
-      → CommentsClose false more
-      → CommentsClose false ((tag_kinds (exported_pairs p.mode g) ++ (k.kinds ++ h.last ∷ [])) ++ more)
+      → CommentsClose false more → CommentsClose false ((tag_kinds (exported_pairs p.mode g) ++ (k.kinds ++ h.last ∷ [])) ++ more)
   game_closed g h k more closes =
       simp append_assoc (tags_close (exported_pairs _ g) (k.kinds ++ h.last ∷ more)
       (k.closes (h.last ∷ h.later) _ (λ d c. marker_opens _ d _ more h.marker c closes)

@@ -24,8 +24,7 @@ star_outside p Between part free = refl
 star_outside p _ part free = cc
 
 score_outside : (p : Profile) (stage : Stage) (part : Part) (s : List ℕ)
-    → is_score s ≡ true → refusal p (at_stage stage part) (tokens.symbol s) ≡ None
-    → is_outside_tag_pairs (at_stage stage part) ≡ true
+    → is_score s ≡ true → refusal p (at_stage stage part) (tokens.symbol s) ≡ None → is_outside_tag_pairs (at_stage stage part) ≡ true
 unfolding refusal
 score_outside p stage part s is free = grind (arith, true≢false, name_refusal, test_failed, no_name)
 

@@ -6,8 +6,7 @@ use Rattle.pgn_game.proofs.putting.PlayedMovesAreLegal.{named_is_legal}
 use Rattle.pgn_game.proofs.exporting.PiecesToTokens.{IsWritable, AllShown, next_shown, white, black}
 
 -- Positions: the fullmove number is at most 99,999.
-last_test : (a b c d : Bool) {e : Bool}
-    → is_none (if a then Some Kings else if b then Some PawnOnEdge else if c then Some KingCapturable
+last_test : (a b c d : Bool) {e : Bool} → is_none (if a then Some Kings else if b then Some PawnOnEdge else if c then Some KingCapturable
     else if d then Some TargetRank else if not e then Some NumberRange else None) ≡ true
     → e ≡ true
 last_test a b c d h = grind (arith, false≢true)
@@ -97,8 +96,7 @@ module _ (one_read : TheOneMoveIsRead) (leaves : LeavesPosition) (is_symbol : Wr
   number_shown b is_black n h = search (rules, next_shown, white, black)
 
   pub number_spells : {p : Profile} {first : Parts} (at : Parts) {deep : ℕ} (l : Level) (b is_black : Bool) {ks : List Kind} {items : List Item}
-      → IsTrue (is_position at)
-      → SpellsText p first deep l ks items → SpellsText p first deep l (number_kinds b is_black at.full ++ ks) items
+      → IsTrue (is_position at) → SpellsText p first deep l ks items → SpellsText p first deep l (number_kinds b is_black at.full ++ ks) items
   number_spells at {deep} l b false {ks} {items} h text =
       token deep l _ _ [] items (number _ (number_is_symbol at h).1) (token deep l _ ks [] items period text)
   number_spells at {deep} l false true {ks} {items} h text =

@@ -60,8 +60,7 @@ main_same : {p : Profile} {first : Parts} {deep : ℕ} {l : Level} {items : List
 main_same more e same r = search rules
 
 main : {p : Profile} {first : Parts} {deep : ℕ} {l : Level} {ks : List Kind} {items : List Item}
-    → SpellsText p first deep l ks items → AllByRecursion IsSoundKind ks
-    → Main p first deep l items
+    → SpellsText p first deep l ks items → AllByRecursion IsSoundKind ks → Main p first deep l items
 main (no_more deep l) sound = record { kinds = []; spells = no_more deep l; sound = tt; closes = λ more h. h; placed = refl; levels = refl }
 main {first} (token deep l k ks item items stands rest) sound =
     let same = aside items first (level_in l []) stands in
@@ -106,8 +105,7 @@ pub record KeptText (mode : Mode) (p : Profile) (first : Parts) (ks : List Kind)
   pub shown : AllShown kinds (tokens_out mode first items)
   pub writable : AllByRecursion IsWritable kinds
   pub closes : (more then : List Kind) → ((d : Bool) → CommentsClose d more → CommentsClose d then)
-      → CommentsClose false then → CommentsClose false (ks ++ more)
-      → CommentsClose false (kinds ++ then)
+      → CommentsClose false then → CommentsClose false (ks ++ more) → CommentsClose false (kinds ++ then)
   pub again : tokens_out mode first (kept mode first items) ≡ tokens_out mode first items
   pub moves : main_moves (kept mode first items) ≡ main_moves items
 

@@ -65,8 +65,7 @@ no_comment k on is c more h =
     let none = plain k c more on is h in rw none.0 none.1
 
 left_out : {p : Profile} {first : Parts} {deep : ℕ} {l : Level} {k : Kind} {ks : List Kind} {items : List Item} {ts : List (List ℕ)}
-    → IsLeftOut k
-    → Rewritten p first deep l ks items ts → Rewritten p first deep l (k ∷ ks) items ts
+    → IsLeftOut k → Rewritten p first deep l ks items ts → Rewritten p first deep l (k ∷ ks) items ts
 left_out out r = record {
   kinds = r.kinds;
   spells = r.spells;
@@ -114,8 +113,7 @@ variation_closes js ks ls ms inner rest false more then f h =
     behind true k = absurd k
 
 variation_again : {p : Profile} {first : Parts} {deep : ℕ} (l : Level) {ks ls : List Kind} {items : List Item}
-    (more : List Item) {ts : List (List ℕ)} (us : List (List ℕ))
-    → IsTrue l.has_own_move → deep < p.depth
+    (more : List Item) {ts : List (List ℕ)} (us : List (List ℕ)) → IsTrue l.has_own_move → deep < p.depth
     → Rewritten p first (deep + 1) (new_level (without_last l.trail)) ks items ts → Rewritten p first deep l ls more us
     → Rewritten p first deep l (tokens.left_paren ∷ (ks ++ tokens.right_paren ∷ ls))
     (games.open_variation ∷ (items ++ games.close_variation ∷ more))

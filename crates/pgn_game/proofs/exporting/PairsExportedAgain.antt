@@ -97,8 +97,7 @@ differ : (a b : List ℕ) → bytes_eq a b ≡ false → a ≡ b → ⊥
 differ a b e f = false≢true (sym e ∙ bytes_eq-refl a b f)
 
 plain_pair : {mode : Mode} {n v : List ℕ} → IsTrue (list_all in_name n) → length n + length (escaped v) ≤ 249
-    → bytes_eq n (codes "Result") ≡ false → bytes_eq n (codes "FEN") ≡ false
-    → IsPair mode (record { name = n; value = v })
+    → bytes_eq n (codes "Result") ≡ false → bytes_eq n (codes "FEN") ≡ false → IsPair mode (record { name = n; value = v })
 plain_pair name room no_result h6 = search (rules, no_fen, differ)
 
 result_pair : {mode : Mode} {m : List ℕ} → is_result m ≡ true → IsPair mode (record { name = codes "Result"; value = m })
@@ -112,8 +111,7 @@ each_exported : (mode : Mode) (m : List ℕ) (ps : List Pair) → is_result m �
 each_exported mode m ps e h = search (rules, all-exported, plain_pair, each_of_roster)
 
 roster_distinct : (m : List ℕ) (ps others : List Pair)
-    → ((n : List ℕ) → in_roster n ≡ true → IsFalse (has_pair others n)) → AreDistinct others
-    → AreDistinct (roster_pairs m ps ++ others)
+    → ((n : List ℕ) → in_roster n ≡ true → IsFalse (has_pair others n)) → AreDistinct others → AreDistinct (roster_pairs m ps ++ others)
 unfolding roster
 roster_distinct m ps others off h = search rules
 
@@ -125,8 +123,7 @@ distinct_exported : (mode : Mode) (m : List ℕ) (ps : List Pair) → InOrder ps
 distinct_exported mode m ps h = search (rules, other_value, distinct_in_order, order_others, roster_distinct, roster_alone)
 
 pub keeps_exported : (p : Profile) (m : List ℕ) (ps : List Pair) → is_result m ≡ true
-    → InOrder ps → AllByRecursion (IsPair p.mode) ps → length (exported p.mode m ps) ≤ p.tags
-    → KeepsTags p (exported p.mode m ps)
+    → InOrder ps → AllByRecursion (IsPair p.mode) ps → length (exported p.mode m ps) ≤ p.tags → KeepsTags p (exported p.mode m ps)
 keeps_exported p m ps e order each room = search (rules, each_exported, distinct_exported)
 
 -- pairs that are kept have their values and their order by name

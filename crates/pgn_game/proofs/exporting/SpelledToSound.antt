@@ -135,8 +135,7 @@ pub record SoundGame (p : Profile) (g : Game) : Type 0 where
   pub result : IsResult p.missing_result (value_of g.pairs (codes "Result")) g.marker
 
 pub sound_game : {p : Profile} {ks : List Kind} (ls : List Kind) {g : Game}
-    → SpellsGame p ks g → AllByRecursion IsSoundKind ks → CommentsClose false (ks ++ ls)
-    → SoundGame p g × CommentsClose false ls
+    → SpellsGame p ks g → AllByRecursion IsSoundKind ks → CommentsClose false (ks ++ ls) → SoundGame p g × CommentsClose false ls
 sound_game ls h sound closes =
     let sound_behind = all_behind IsSoundKind h.before (h.tags ++ (h.text ++ h.last ∷ [])) (rw h.tokens at sound) in
     let sound_rest = all_behind IsSoundKind h.tags (h.text ++ h.last ∷ []) sound_behind in

@@ -112,8 +112,7 @@ pub other_value : (ps : List Pair) (n : List ℕ)
 other_value ps n = value_of-kept (λ m. not _) (with_set_up ps) n
 
 full_value : (m : List ℕ) (ps : List Pair) (n : List ℕ) {o : Option (List ℕ)} → value_of (roster m) n ≡ o
-    → value_of (exported Full m ps) n
-    ≡ either_of (defaulted (value_of ps n) o) (value_of (other_pairs (with_set_up ps)) n)
+    → value_of (exported Full m ps) n ≡ either_of (defaulted (value_of ps n) o) (value_of (other_pairs (with_set_up ps)) n)
 full_value m ps n e = search (rules, reduced_value, value_of-append)
 
 -- a name of the roster has its value, or what stands for it

@@ -25,13 +25,11 @@ found_by : {is : Bool} {read : Result Parts FenFault} (name value : List ℕ) (p
 found_by name value ps named reads none told = grind (arith, pick, value_of-put, bytes_eq-true, bytes_eq-refl)
 
 pub start_found : (name value : List ℕ) (ps : List Pair) (start : Parts)
-    → has_pair ps name ≡ false → fen_position name value ≡ Ok (Some start)
-    → start_of (with_pair name value ps) ≡ start
+    → has_pair ps name ≡ false → fen_position name value ≡ Ok (Some start) → start_of (with_pair name value ps) ≡ start
 start_found name value ps start none told = found_by name value ps refl refl none told
 
 kept_by : {is : Bool} (read : Result Parts FenFault) (name value : List ℕ) (ps : List Pair)
-    → bytes_eq name (codes "FEN") ≡ is → told_by is read ≡ Ok None
-    → start_of (with_pair name value ps) ≡ start_of ps
+    → bytes_eq name (codes "FEN") ≡ is → told_by is read ≡ Ok None → start_of (with_pair name value ps) ≡ start_of ps
 kept_by read name value ps named told = grind (arith, value_of-insert)
 
 -- another pair decides nothing of it

@@ -103,8 +103,7 @@ pub place-of-old : {most : ℕ} {ps : List Pair} {n : ℕ} {held : List Pair}
 place-of-old room same place = record { same = same; place = place; room = room }
 
 pub place-of-new : {most : ℕ} (ps more : List Pair) {n : ℕ} {held : List Pair} (p : Pair)
-    → more ≡ ps ++ p ∷ [] → take n ps ≡ held → n ≡ length ps → n < most
-    → HasPlace most more n held
+    → more ≡ ps ++ p ∷ [] → take n ps ≡ held → n ≡ length ps → n < most → HasPlace most more n held
 place-of-new ps more p is same all room = search (rules, take-append-le, length-append)
 
 pub put-in-place : {most : ℕ} {ps : List Pair} {n : ℕ} {held : List Pair} (p : Pair) → HasPlace most ps n held

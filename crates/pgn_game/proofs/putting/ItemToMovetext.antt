@@ -12,15 +12,20 @@ use Rattle.pgn_game.proofs.putting.ItemsAppended.{written_from_start, written_be
 use Rattle.pgn_game.proofs.putting.ItemsAppended.{last_line_put}
 
 -- Tokens put in turn: what goes out, and the line that is held.
-full_lines_laid : (ts us : List (List ℕ)) → All IsToken ts → All IsToken us
-    → text_of_lines (full_lines (lines_of (ts ++ us)))
+full_lines_laid : (ts us : List (List ℕ)) → All IsToken ts → All IsToken us → text_of_lines (full_lines (lines_of (ts ++ us)))
     ≡ text_of_lines (full_lines (lines_of ts)) ++ (laid_from (last_line (lines_of ts)) (map Put us)).written
 full_lines_laid ts [] each more = cc (append-nil ts, append-nil (text_of_lines _))
 full_lines_laid ts (u ∷ us) each more =
     let full = text_of_lines (full_lines (lines_of ts)) in
     let last = last_line (lines_of ts) in
     let first = All-append IsToken ts (u ∷ []) each (All-cons IsToken u [] (All-head IsToken u us more) (All-nil IsToken)) in
-    cc (append_assoc ts (u ∷ []) us, full_lines_laid (ts ++ u ∷ []) us first (All-tail IsToken u us more), full_lines_put ts u each, last_line_put ts u each, append_assoc full (text_put last u) (laid_from (line_put last u) (map Put us)).written)
+    cc (
+      append_assoc ts (u ∷ []) us,
+      full_lines_laid (ts ++ u ∷ []) us first (All-tail IsToken u us more),
+      full_lines_put ts u each,
+      last_line_put ts u each,
+      append_assoc full (text_put last u) (laid_from (line_put last u) (map Put us)).written,
+    )
 
 last_line_laid : (ts us : List (List ℕ)) → All IsToken ts → All IsToken us
     → last_line (lines_of (ts ++ us)) ≡ (laid_from (last_line (lines_of ts)) (map Put us)).line
@@ -159,7 +164,13 @@ module _ (mode : Mode) (i : Item) (text : Movetext) (line new_line : List ℕ) (
       record {
         levels = cc (on.levels start (levels_of items) holds.levels, levels_more items i);
         plies = cc (on.plies, same_depth mode start items i text line written holds refl, holds.plies, plies-snoc items i);
-        is_after_move = cc (on.is_after_move, ends_are mode start items i text line written holds refl, holds.is_after_move, written_more mode start items _, ends_in_move-append false (written_from_start mode start items) behind);
+        is_after_move = cc (
+          on.is_after_move,
+          ends_are mode start items i text line written holds refl,
+          holds.is_after_move,
+          written_more mode start items _,
+          ends_in_move-append false (written_from_start mode start items) behind,
+        );
         tokens = subst (All IsToken) (sym (tokens_then start items holds)) (All-append IsToken ts us holds.tokens each);
         last = cc (holds.last, tokens_then start items holds, last_line_laid ts us holds.tokens each);
       }
@@ -176,8 +187,7 @@ module _ (mode : Mode) (i : Item) (text : Movetext) (line new_line : List ℕ) (
   }
 
   pub adds_front : {A E : Type 0} (new : Movetext) (e : E) (result : Result Unit WriteFault)
-      → PutsTokens {A = A} us line new_line (Err e) d → new ≡ text
-      → IsErr result → Adds mode i text line new new_line result d
+      → PutsTokens {A = A} us line new_line (Err e) d → new ≡ text → IsErr result → Adds mode i text line new new_line result d
   adds_front new e result puts same err = search (rules, item_text_is)
 
 -- Such an item was written, or left out.
@@ -187,8 +197,7 @@ pub left_out : (mode : Mode) (i : Item) (text : Movetext) (line : List ℕ) (d :
 left_out mode i text line d none nothing counted = search (rules, All-nil)
 
 pub written_out : (mode : Mode) (i : Item) (text : Movetext) (line new_line : List ℕ) (d : Device)
-    → writes mode (length text.levels.around) i ≡ true
-    → PutsTokens {A = Unit} {E = WriteFault} (tokens_due text i) line new_line (Ok tt) d
+    → writes mode (length text.levels.around) i ≡ true → PutsTokens {A = Unit} {E = WriteFault} (tokens_due text i) line new_line (Ok tt) d
     → WritesItem {A = Unit} {E = WriteFault} mode i text line (record text { is_after_move = is_move i }) new_line (Ok tt) d
 written_out mode i text line new_line d is puts = record {
   puts = rw is puts;
@@ -202,8 +211,7 @@ pub not_written : {A E : Type 0} (mode : Mode) (i : Item) (text : Movetext)
 not_written mode i text line new_line e result d is puts err = search rules
 
 -- Tokens put after others.
-laid-written : (line : List ℕ) (xs ys : List (List ℕ))
-    → (laid_from line (map Put (xs ++ ys))).written
+laid-written : (line : List ℕ) (xs ys : List (List ℕ)) → (laid_from line (map Put (xs ++ ys))).written
     ≡ (laid_from line (map Put xs)).written ++ (laid_from (laid_from line (map Put xs)).line (map Put ys)).written
 laid-written line [] ys = refl
 laid-written line (x ∷ xs) ys =

@@ -20,8 +20,7 @@ no_text Reduced start = refl
 pub gain_at : (mode : Mode) (result : List ℕ) (stage : Stage) (ps : List Pair) (name : List ℕ) (items : List Item) (lines : List ℕ)
     → IsTrue (may_have_movetext stage) → (stage ≡ AfterTags → items ≡ [])
     → drop (length (torn_at stage mode result (record { stage = stage; pairs = ps; name = name; items = items })))
-    (tag_section mode result ps ++ lines)
-    ≡ section_due stage mode result ps ++ drop (length (full_text mode (start_of ps) items)) lines
+    (tag_section mode result ps ++ lines) ≡ section_due stage mode result ps ++ drop (length (full_text mode (start_of ps) items)) lines
 gain_at mode result stage ps name items lines at fresh = grind (arith, length-append, drop-append-add, no_text)
 
 -- the stage of a part is the reader's
@@ -65,8 +64,7 @@ module _ (old new : ReaderState) (IsOf : Part → Type 0) (to : Part → Next) (
   unwritten counted front = search rules
 
   pub more_comes : (new.stage ≡ Between → new ≡ old) → d.failures_after ≡ d.failures
-      → ((part : Part) → IsOf part → Goes old part (to part) new More d)
-      → PutResult old IsOf to new (Ok More) d
+      → ((part : Part) → IsOf part → Goes old part (to part) new More d) → PutResult old IsOf to new (Ok More) d
   more_comes stays counted on = record { goes = on; keeps = keeps; stays = stays; counted = counted }
 
 -- a reader in movetext agrees with the part that it holds
@@ -197,6 +195,5 @@ most_after old begun new text line after d begins is = cc
 
 -- where the section could not be written, movetext had not begun
 pub unbegun_part : {A : Type 0} (old new : ReaderState) (f : WriteFault) (d : Device) (part : Part)
-    → IsTrue (may_have_movetext old.stage) → BeginsText {A = A} old new (Err f) d
-    → old.stage ≡ part.stage → is_at InMovetext part ≡ false
+    → IsTrue (may_have_movetext old.stage) → BeginsText {A = A} old new (Err f) d → old.stage ≡ part.stage → is_at InMovetext part ≡ false
 unbegun_part old new f d part at begins same = grind arith

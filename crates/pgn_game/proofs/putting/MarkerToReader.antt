@@ -157,8 +157,7 @@ ends_ill old begun new marker text a b c n m k ends front rest counted =
 
 -- A marker that was left is taken after all.
 pub marker_taken : (old ready new : ReaderState) (k : TokenKind) (marker : Marker)
-    (r : Result Accepted Reason) (a b c : Option (List ℕ)) (n m l : ℕ)
-    → MeetsMarker old (kind_of k) marker ready (from_to a b n m)
+    (r : Result Accepted Reason) (a b c : Option (List ℕ)) (n m l : ℕ) → MeetsMarker old (kind_of k) marker ready (from_to a b n m)
     → ((k : TokenKind) → marker_of (kind_of k) ≡ Some (marker_text marker) → TakesEntry ready (kind_of k) new r (from_to b c m l))
     → TakesToken old (kind_of k) new r (from_to a c n l)
 marker_taken old ready new k marker r a b c n m l meets takes =

@@ -31,8 +31,7 @@ next_text f xs i x a b c h e done next = rw (text_by-next f xs i x h e) (Appends
 
 -- the texts so far, and a front of the next one
 pub next_front : {A : Type 0} (f : A → List ℕ) (xs : List A) (i : ℕ) (x : A) (a b c : Option (List ℕ))
-    → i < length xs → get_or xs i x ≡ x
-    → Appends a b (text_by f (take i xs)) → AppendsFront b c (f x) → AppendsFront a c (text_by f xs)
+    → i < length xs → get_or xs i x ≡ x → Appends a b (text_by f (take i xs)) → AppendsFront b c (f x) → AppendsFront a c (text_by f xs)
 next_front f xs i x a b c h e done next =
     let whole =
     ap (text_by f) (sym (take-append-drop _ xs)) ∙ text_by-append f (take _ xs) (drop _ xs)

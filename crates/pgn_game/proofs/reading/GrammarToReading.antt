@@ -60,8 +60,7 @@ pairs_run p ps name rest gs (next_pair ks ls q qs first others) takes runs =
 
 -- Movetext.
 move_free : (p : Profile) (ps : List Pair) (name : List ℕ) (items : List Item) (s : List ℕ) (played : Played)
-    → Names (here (start_of ps) (levels_of items)) s played
-    → refusal p (at InMovetext ps name items) (tokens.symbol s) ≡ None
+    → Names (here (start_of ps) (levels_of items)) s played → refusal p (at InMovetext ps name items) (tokens.symbol s) ≡ None
 move_free p ps name items s played h =
     let place = here (start_of ps) (levels_of items) in
     cc (
@@ -81,8 +80,7 @@ opens_free : (p : Profile) (ps : List Pair) (name : List ℕ) (items : List Item
     → refusal p (at InMovetext ps name items) tokens.left_paren ≡ None
 opens_free p ps name items holds room =
     let free : nat_le p.depth (depth (levels_of items)) ≡ false = grind (arith, nat_tests) in
-    text_row p (at InMovetext ps name items) _ refl ∙ pass _ _ _ (ap not holds)
-    ∙ pass _ TooDeep None free
+    text_row p (at InMovetext ps name items) _ refl ∙ pass _ _ _ (ap not holds) ∙ pass _ TooDeep None free
 
 closes_free : (p : Profile) (ps : List Pair) (name : List ℕ) (items : List Item) → 0 < depth (levels_of items)
     → refusal p (at InMovetext ps name items) tokens.right_paren ≡ None
@@ -97,8 +95,7 @@ abbrev Further : Profile → List Pair → List ℕ → List Item → List Level
 Further p ps name all around rest gs = (m : Level) → levels_of all ≡ leveled m around → Runs p (at InMovetext ps name all) rest gs
 
 text_run : {p : Profile} (ps : List Pair) (name : List ℕ) {deep : ℕ} {l : Level} {ks : List Kind} {items : List Item}
-    → SpellsText p (start_of ps) deep l ks items
-    → (before all : List Item) {around : List Level} (rest : List Kind) (gs : List Game)
+    → SpellsText p (start_of ps) deep l ks items → (before all : List Item) {around : List Level} (rest : List Kind) (gs : List Game)
     → levels_of before ≡ leveled l around → length around ≡ deep → before ++ items ≡ all
     → Further p ps name all around rest gs → Runs p (at InMovetext ps name before) (ks ++ rest) gs
 text_run {p} ps name {l} (no_more _ _) before all rest gs at_level at_depth same further =
@@ -130,8 +127,7 @@ text_run {p} ps name {deep} {l} (variation _ _ ks ls items more holds room inner
     goes _ _ _ _ gs (closes_free p ps name middle some) refl refl (text_run ps name text _ all rest gs
     (rw inside at (levels_more middle games.close_variation)) at_depth (joined before items more ∙ same) further))))
   where
-    joined : (xs ys zs : List Item)
-        → (((xs ++ games.open_variation ∷ []) ++ ys) ++ games.close_variation ∷ []) ++ zs
+    joined : (xs ys zs : List Item) → (((xs ++ games.open_variation ∷ []) ++ ys) ++ games.close_variation ∷ []) ++ zs
         ≡ xs ++ games.open_variation ∷ (ys ++ games.close_variation ∷ zs)
     joined xs ys zs = simp append_assoc
 
@@ -220,8 +216,7 @@ bare_with : (text : List Kind) (last : Kind) (rest : List Kind) {marker : List �
 bare_with text last rest is bare = search rules
 
 tags_run : (p : Profile) {tags : List Kind} {given : List Pair} (rest : List Kind) (gs : List Game)
-    → SpellsPairs tags given → Takes p [] given → IsSetUp (with_pairs [] given)
-    → (given ≡ [] → BeginsBare rest)
+    → SpellsPairs tags given → Takes p [] given → IsSetUp (with_pairs [] given) → (given ≡ [] → BeginsBare rest)
     → ((n : List ℕ) → Runs p (at InMovetext (with_pairs [] given) n []) rest gs) → Runs p no_part (tags ++ rest) gs
 tags_run p rest gs h5 h6 set_up bare runs = search (rules, with_pairs, takes, pairs_run, begins_after_tags, begins_between, opens_between, has_fen)
 

@@ -47,14 +47,12 @@ add_variation _ _ ks _ items _ holds room inner (inside l m around ls js more ot
     (variation _ l ks ls items more holds room inner text) rest))
 
 add_open : (p : Profile) (first : Parts) (l : Level) {n : Level} (around : List Level) (ks : List Kind) (items : List Item)
-    → IsTrue l.has_own_move → deep around < p.depth
-    → n ≡ new_level (without_last l.trail) → Closes p first n (l ∷ around) ks items
+    → IsTrue l.has_own_move → deep around < p.depth → n ≡ new_level (without_last l.trail) → Closes p first n (l ∷ around) ks items
     → Closes p first l around (tokens.left_paren ∷ ks) (games.open_variation ∷ items)
 add_open p first l around ks items holds room e h10 = search (rules, at, add_variation)
 
 add_close : (p : Profile) (first : Parts) (l m : Level) (around : List Level) (ks : List Kind) (items : List Item)
-    → Closes p first m around ks items
-    → Closes p first l (m ∷ around) (tokens.right_paren ∷ ks) (games.close_variation ∷ items)
+    → Closes p first m around ks items → Closes p first l (m ∷ around) (tokens.right_paren ∷ ks) (games.close_variation ∷ items)
 add_close p first l m around ks items rest = inside l m around [] ks [] items (no_more _ l) rest
 
 nothing_left : (p : Profile) (first : Parts) (l : Level) (around : List Level) → length around ≡ 0 → Closes p first l around [] []
@@ -83,8 +81,7 @@ Adds p ps items k new =
     → Closes p (start_of ps) (levels_of items).present (levels_of items).around (k ∷ text) (new ++ more)
 
 text_more : {p : Profile} {ps : List Pair} {items : List Item} (new : List Item) {k : Kind} {ks : List Kind} {gs : List Game}
-    → Adds p ps items k new
-    → Text_left p ps (items ++ new) ks gs → Text_left p ps items (k ∷ ks) gs
+    → Adds p ps items k new → Text_left p ps (items ++ new) ks gs → Text_left p ps items (k ∷ ks) gs
 text_more new adds h = search (rules, append_assoc)
 
 -- What is left of a game at each stage.
@@ -167,8 +164,7 @@ token_step {p} {items} {item} {k} stands h =
     (rw (stands_levels items stands) at c)) h
 
 adds_move : (p : Profile) (ps : List Pair) (items : List Item) (s : List ℕ) (played : Played)
-    → Names (here (start_of ps) (levels_of items)) s played
-    → Adds p ps items (tokens.symbol s) (games.move played.mv ∷ [])
+    → Names (here (start_of ps) (levels_of items)) s played → Adds p ps items (tokens.symbol s) (games.move played.mv ∷ [])
 adds_move p ps items s played names text more c =
     let l = (levels_of items).present in
     add_front p l (level_after_move _ _) _ _ text (games.move _ ∷ []) more
@@ -206,8 +202,7 @@ close_step p {ps} name {items} free h =
     (adds_close p ps items (test_failed _ UnmatchedClose None (sym (text_row p (at InMovetext ps name items) _ refl) ∙ free))) h
 
 marker_step : {p : Profile} {ps : List Pair} {items : List Item} {k : Kind} {marker : List ℕ} {ks : List Kind} {gs : List Game}
-    → marker_of k ≡ Some marker
-    → nat_le 1 (depth (levels_of items)) ≡ false
+    → marker_of k ≡ Some marker → nat_le 1 (depth (levels_of items)) ≡ false
     → (differs p.missing_result (value_of ps (codes "Result")) marker && (depth (levels_of items) == 0)) ≡ false
     → After p (whole (record { pairs = ps; items = items; marker = marker })) ks gs → Text_left p ps items (k ∷ ks) gs
 marker_step {p} {items} {k} {marker} {ks} is shallow same after =
@@ -411,8 +406,7 @@ is_set_up : {o : Option (List ℕ)} {fen : Bool}
 is_set_up h e = grind (arith, not-false)
 
 tags_text : (p : Profile) (ps : List Pair) (name : List ℕ) (items : List Item) (k : Kind) {ks : List Kind} {gs : List Game}
-    → items ≡ [] → IsTrue (is_textual k)
-    → refusal p (at AfterTags ps name items) k ≡ None → is_end k ≡ false
+    → items ≡ [] → IsTrue (is_textual k) → refusal p (at AfterTags ps name items) k ≡ None → is_end k ≡ false
     → After p (next (at AfterTags ps name items) k) ks gs → Tags_left p ps (k ∷ ks) gs
 tags_text p ps name items k none is free end after =
     let e = sym (after_tags p (at AfterTags ps name items) k is) ∙ free in
@@ -500,8 +494,7 @@ between_text p {ps} name {items} k {ks} {gs} no_pairs none is bare free end afte
     game_begins no_pairs t (λ given. bare_from t.text.text t.text.last t.text.behind bare t.text.kinds)
 
 between_step : {p : Profile} {ps : List Pair} (name : List ℕ) {items : List Item} (k : Kind) {ks : List Kind} {gs : List Game}
-    → ps ≡ [] → items ≡ []
-    → refusal p (at Between ps name items) k ≡ None → is_end k ≡ false
+    → ps ≡ [] → items ≡ [] → refusal p (at Between ps name items) k ≡ None → is_end k ≡ false
     → After p (next (at Between ps name items) k) ks gs → SpellsGames p (k ∷ ks) gs
 unfolding refusal
 between_step name tokens.comment_open no_pairs none free end after = games_drop refl (after (no_pairs, none))
@@ -515,14 +508,12 @@ between_step name (tokens.refused r) no_pairs none free end after = absurd (none
 between_step {p} name k no_pairs none free end after = between_text p name k no_pairs none refl refl free end after
 
 step : (p : Profile) (stage : Stage) (ps : List Pair) (name : List ℕ) (items : List Item) (k : Kind) (ks : List Kind) (gs : List Game)
-    → Fits stage ps items
-    → refusal p (at stage ps name items) k ≡ None → is_end k ≡ false
+    → Fits stage ps items → refusal p (at stage ps name items) k ≡ None → is_end k ≡ false
     → After p (next (at stage ps name items) k) ks gs → Left p stage ps name items (k ∷ ks) gs
 step p stage ps name items k ks gs fits free end after = search (rules, text_step, bracket_step, value_step, name_step, tags_step, between_step)
 
 at_end : (p : Profile) (stage : Stage) (ps : List Pair) (name : List ℕ) (items : List Item)
-    → refusal p (at stage ps name items) tokens.end ≡ None
-    → Left p stage ps name items (tokens.end ∷ []) []
+    → refusal p (at stage ps name items) tokens.end ≡ None → Left p stage ps name items (tokens.end ∷ []) []
 unfolding refusal
 at_end p Between ps name items free = no_game [] refl
 at_end p _ ps name items free = absurd (none-some _ (sym free))

@@ -10,11 +10,9 @@ at stage ps name items = record { stage = stage; pairs = ps; name = name; items 
 pub data Runs (p : Profile) : Part → List Kind → List Game → Type 0 where
   ends : (part : Part) → refusal p part tokens.end ≡ None → Runs p part (tokens.end ∷ []) []
   goes : (part to : Part) (k : Kind) (ks : List Kind) (gs : List Game)
-      → refusal p part k ≡ None → is_end k ≡ false → next part k ≡ going to
-      → Runs p to ks gs → Runs p part (k ∷ ks) gs
+      → refusal p part k ≡ None → is_end k ≡ false → next part k ≡ going to → Runs p to ks gs → Runs p part (k ∷ ks) gs
   finishes : (part : Part) (k : Kind) (g : Game) (ks : List Kind) (gs : List Game)
-      → refusal p part k ≡ None → is_end k ≡ false → next part k ≡ whole g
-      → Runs p no_part ks gs → Runs p part (k ∷ ks) (g ∷ gs)
+      → refusal p part k ≡ None → is_end k ≡ false → next part k ≡ whole g → Runs p no_part ks gs → Runs p part (k ∷ ks) (g ∷ gs)
 
 abbrev pub kinds : List Token → List Kind
 kinds ts = map (λ t. t.kind) ts
@@ -39,8 +37,7 @@ end_leads AfterValue ps name items = (at _ ps name items, refl)
 end_leads _ ps name items = (at _ ps name _, refl)
 
 at_end : {p : Profile} {b : Progress} {place : ℕ} (k : Kind) → IsLast k
-    → (read_from p b (record { at = place; kind = k } ∷ [])).fault ≡ None
-    → Read_on p b (record { at = place; kind = k } ∷ []) []
+    → (read_from p b (record { at = place; kind = k } ∷ [])).fault ≡ None → Read_on p b (record { at = place; kind = k } ∷ []) []
 unfolding refusal
 at_end (tokens.refused r) last e = absurd (cc)
 at_end {p} {b} {place} tokens.end last e =
@@ -88,8 +85,7 @@ read_one : {p : Profile} {b c : Progress} {t : Token} {ts : List Token} {gs all 
 read_one free leads same h = search (rules, goes_on)
 
 to_read : (p : Profile) {part : Part} {ks : List Kind} {gs : List Game}
-    → Runs p part ks gs → (ts : List Token) (before : List Game) → kinds ts ≡ ks
-    → Read_well p (behind before part) ts gs
+    → Runs p part ks gs → (ts : List Token) (before : List Game) → kinds ts ≡ ks → Read_well p (behind before part) ts gs
 to_read p (ends part free) (t ∷ []) before e = search (rules, append-nil, end_leads, read_one)
 to_read p (goes part to k ks gs free end leads runs) (t ∷ ts) before e =
     let kind : t.kind ≡ k = cc in

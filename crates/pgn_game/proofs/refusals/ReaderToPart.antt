@@ -19,8 +19,7 @@ text_at old part stage agrees at = rw (← at) agrees.text
 
 -- a call that found a value found it in the list, and one that found none did not
 pub has_pair_found : (ps qs : List Pair) (name : List ℕ) (found : Option (Bor (List ℕ))) (b : Bool)
-    → ps ≡ qs → option_copied found ≡ value_of ps name → b ≡ is_some found
-    → has_pair qs name ≡ b
+    → ps ≡ qs → option_copied found ≡ value_of ps name → b ≡ is_some found → has_pair qs name ≡ b
 has_pair_found ps qs name None b same copied is = cc
 has_pair_found ps qs name (Some x) b same copied is = cc
 
@@ -37,8 +36,7 @@ nothing_held : {mode : Mode} {start : Parts} → HoldsItems mode start [] (movet
 nothing_held = search (rules, All-nil)
 
 held_none : {mode : Mode} {start : Parts} {items : List Item} {text : Movetext} (line : List ℕ)
-    → items ≡ [] → text ≡ movetext_from start → line ≡ []
-    → HoldsItems mode start items text line
+    → items ≡ [] → text ≡ movetext_from start → line ≡ [] → HoldsItems mode start items text line
 held_none line none begins_game empty = rw (none, begins_game, empty) (nothing_held)
 
 open_at : {old : ReaderState} {part : Part} {stage : Stage} → Agrees old part
@@ -53,8 +51,7 @@ first_held : (old : ReaderState) (part : Part) → part.items ≡ []
 first_held old part none begins_game = grind arith
 
 pub position_in_pair : {old : ReaderState} {part : Part} {stage : Stage} → Agrees old part
-    → old.stage ≡ stage → is_outside_tag_pairs (at_stage stage part) ≡ false
-    → old.text.levels.present.present ≡ position_in part
+    → old.stage ≡ stage → is_outside_tag_pairs (at_stage stage part) ≡ false → old.text.levels.present.present ≡ position_in part
 position_in_pair agrees at is = grind (arith, text_at, first_held)
 
 -- The table and the step of movetext are those of a token in it, and of the first one.
@@ -63,6 +60,5 @@ pub entry_in_movetext : (old : ReaderState) (k : TokenKind) (part : Part)
 entry_in_movetext old k part at agrees = search (rules, row_in_movetext, next_in_movetext, part_stage, open_agrees)
 
 pub entry_after_tags : (old : ReaderState) (k : TokenKind) (part : Part) → old.stage ≡ AfterTags
-    → IsTrue (is_textual (kind_of k)) → lacks_fen part.pairs ≡ false → Agrees old part
-    → IsEntry old (kind_of k) part
+    → IsTrue (is_textual (kind_of k)) → lacks_fen part.pairs ≡ false → Agrees old part → IsEntry old (kind_of k) part
 entry_after_tags old k part at is free agrees = search (rules, row_after_tags, next_after_tags, part_stage, open_agrees)

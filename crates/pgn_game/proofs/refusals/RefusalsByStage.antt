@@ -66,8 +66,7 @@ pub expected_name : (p : Profile) (part : Part) (k : TokenKind) → part.stage �
 expected_name p part k at is other = at_the_stage (λ q. refusal p q (kind_of k) ≡ Some ExpectedName) part at (expected_name_at p part is other)
 
 expected_value_at : (p : Profile) (part : Part) {k : TokenKind} → false ≡ is_comment (kind_of k)
-    → ((text : Bor (List ℕ)) → k ≡ token_kinds.Str text → ⊥)
-    → refusal p (at_stage AfterName part) (kind_of k) ≡ Some ExpectedValue
+    → ((text : Bor (List ℕ)) → k ≡ token_kinds.Str text → ⊥) → refusal p (at_stage AfterName part) (kind_of k) ≡ Some ExpectedValue
 unfolding refusal
 expected_value_at p part is other = grind (arith, false≢true)
 
@@ -82,8 +81,7 @@ unfolding refusal
 expected_bracket_at p part is other = grind (arith, false≢true)
 
 pub expected_bracket : (p : Profile) (part : Part) (k : TokenKind) → part.stage ≡ AfterValue
-    → false ≡ is_comment (kind_of k) → (k ≡ token_kinds.RightBracket → ⊥)
-    → refusal p part (kind_of k) ≡ Some ExpectedBracket
+    → false ≡ is_comment (kind_of k) → (k ≡ token_kinds.RightBracket → ⊥) → refusal p part (kind_of k) ≡ Some ExpectedBracket
 expected_bracket p part k at is other =
     at_the_stage (λ q. refusal p q (kind_of k) ≡ Some ExpectedBracket) part at (expected_bracket_at p part is other)
 
@@ -114,8 +112,7 @@ pub value_refusal : (p : Profile) (part : Part) (value : List ℕ)
 unfolding refusal
 value_refusal p part value at = at_the_stage (λ q. refusal p q (str value) ≡ value_rows q.name value) part at refl
 
-pub value_next : (part : Part) (value : List ℕ) → part.stage ≡ AfterName
-    → next part (str value) ≡ going
+pub value_next : (part : Part) (value : List ℕ) → part.stage ≡ AfterName → next part (str value) ≡ going
     (record { stage = AfterValue; pairs = insert_pair (record { name = part.name; value = value }) part.pairs; name = []; items = part.items })
 value_next part value at = cc
 
@@ -193,8 +190,7 @@ pub next_in_movetext : (part : Part) (k : TokenKind) → part.stage ≡ InMovete
 next_in_movetext part k at = at_the_stage (λ q. next q (kind_of k) ≡ in_text part (kind_of k)) part at refl
 
 pub row_after_tags : (p : Profile) (part : Part) (k : TokenKind) → part.stage ≡ AfterTags
-    → IsTrue (is_textual (kind_of k)) → lacks_fen part.pairs ≡ false
-    → refusal p part (kind_of k) ≡ text_refusal p part (kind_of k)
+    → IsTrue (is_textual (kind_of k)) → lacks_fen part.pairs ≡ false → refusal p part (kind_of k) ≡ text_refusal p part (kind_of k)
 row_after_tags p part k at is free =
     at_the_stage (λ q. refusal p q (kind_of k) ≡ text_refusal p part (kind_of k)) part at
     (after_tags p part _ is ∙ pass _ _ _ free ∙ text_row p part _ (no_lexical k))
@@ -222,8 +218,7 @@ end_after_tags p part at = at_the_stage (λ q. refusal p q tokens.end ≡ Some U
 
 -- a token after the pairs of a game whose SetUp asks for a FEN
 pub refuses_set_up : (p : Profile) (part : Part) (k : TokenKind) → part.stage ≡ AfterTags
-    → IsTrue (is_textual (kind_of k)) → lacks_fen part.pairs ≡ true
-    → refusal p part (kind_of k) ≡ Some SetUpWithoutFen
+    → IsTrue (is_textual (kind_of k)) → lacks_fen part.pairs ≡ true → refusal p part (kind_of k) ≡ Some SetUpWithoutFen
 refuses_set_up p part k at is lacks =
     at_the_stage (λ q. refusal p q (kind_of k) ≡ Some SetUpWithoutFen) part at
     (after_tags p part _ is ∙ hit _ _ _ lacks)

@@ -166,20 +166,17 @@ marker_tested : (p : Profile) (part : Part) (missing marker : List ℕ) (inside 
 marker_tested p part missing marker inside other within known test = cc
 
 pub marker_inside : (old : ReaderState) (k : Kind) (marker : List ℕ) (part : Part)
-    → marker_of k ≡ Some marker → nat_le 1 (depth (levels_of_part part)) ≡ true
-    → text_refusal old.profile part k ≡ Some MarkerInVariation
+    → marker_of k ≡ Some marker → nat_le 1 (depth (levels_of_part part)) ≡ true → text_refusal old.profile part k ≡ Some MarkerInVariation
 marker_inside old k marker part is within = marker_refusal old.profile part k is ∙ hit _ _ _ within
 
 pub marker_differs : (old : ReaderState) (k : Kind) (missing marker : List ℕ) (part : Part)
-    → marker_of k ≡ Some marker → depth (levels_of_part part) ≡ 0
-    → result_for old.profile.missing_result marker ≡ missing
+    → marker_of k ≡ Some marker → depth (levels_of_part part) ≡ 0 → result_for old.profile.missing_result marker ≡ missing
     → differs missing (value_of part.pairs (codes "Result")) marker ≡ true → text_refusal old.profile part k ≡ Some ResultDiffers
 marker_differs old k missing marker part is none known test =
     cc (marker_refusal old.profile part k is, marker_tested old.profile part missing marker false true (ap (λ n. nat_le 1 n) none) known test)
 
 pub marker_free : (old : ReaderState) (k : Kind) (missing marker : List ℕ) (part : Part)
-    → marker_of k ≡ Some marker → depth (levels_of_part part) ≡ 0
-    → result_for old.profile.missing_result marker ≡ missing
+    → marker_of k ≡ Some marker → depth (levels_of_part part) ≡ 0 → result_for old.profile.missing_result marker ≡ missing
     → differs missing (value_of part.pairs (codes "Result")) marker ≡ false → text_refusal old.profile part k ≡ None
 marker_free old k missing marker part is none known test = grind (arith, marker_refusal, marker_tested)
 
@@ -194,8 +191,7 @@ unwrap_copied (Some x) d = refl
 pub test_of : (held : List Pair) (value : Option (Bor (List ℕ))) (d known : Bor (List ℕ))
     (missing marker : List ℕ) (test : Bool) (tags : List Pair) → held ≡ tags
     → option_copied value ≡ value_of held (codes "Result") → d.now ≡ missing
-    → known ≡ unwrap_or value d → test ≡ not (bytes_eq marker known.now)
-    → differs missing (value_of tags (codes "Result")) marker ≡ test
+    → known ≡ unwrap_or value d → test ≡ not (bytes_eq marker known.now) → differs missing (value_of tags (codes "Result")) marker ≡ test
 test_of held value d known missing marker test tags same found text is tested = cc (unwrap_copied value d)
 
 pub none_around : {A : Type 0} (ls : List A) → length ls ≡ 0 → ls ≡ []

@@ -87,8 +87,7 @@ module _ (p : Profile) (old : Converter) (given : List Token) (t : Token) (l : S
   raised h = subst (λ q. Raises (Tries q b.part t.kind) old.reading.most_probes new.most_probes) has_read.profile h
 
   most_tried : refusal old.reading.profile b.part t.kind ≡ None
-      → Raises (Tries old.reading.profile b.part t.kind) old.reading.most_probes new.most_probes
-      → MostTried p (given ++ t ∷ []) new.most_probes
+      → Raises (Tries old.reading.profile b.part t.kind) old.reading.most_probes new.most_probes → MostTried p (given ++ t ∷ []) new.most_probes
   most_tried h tries = most_with p t has_read.tried has_read.passes (passes h) (raised tries)
 
   probed_before : IsTrue (has_played_move b) → 0 < new.most_probes
@@ -226,8 +225,7 @@ still_none-none (x ∷ xs) = refl
 
 -- the tokens at fault are those of the piece
 fed_to : {p : Profile} {u : List ℕ} {given ts : List Token} {piece : List ℕ} {f : Fault} {reading : ReaderState} {a c : Option (List ℕ)}
-    → AreNext (u ++ piece) (still None piece) ts
-    → FaultAtEnd p given ts f reading a c → FedToFault p u None given piece f reading a c
+    → AreNext (u ++ piece) (still None piece) ts → FaultAtEnd p given ts f reading a c → FedToFault p u None given piece f reading a c
 fed_to {ts} next to =
     record { fed = record { tokens = ts; next = next; stops = to.stops }; no_game = to.no_game; counts = to.counts; position = to.position }
 
@@ -235,8 +233,7 @@ fed_to {ts} next to =
 pub took : (p : Profile) (old : Converter) (u : List ℕ) (given : List Token) (piece : List ℕ)
     (used : ℕ) (t : Token) (l : Standing) (new : ReaderState) (finished : Bool)
     (a c : Option (List ℕ)) (r : Result Accepted Reason) → Stands p old u (first piece) given
-    → AfterScan u (first piece) given piece l used (token t)
-    → EndsAt t.kind t.at l.count → l.count ≡ old.lexer.count + used
+    → AfterScan u (first piece) given piece l used (token t) → EndsAt t.kind t.at l.count → l.count ≡ old.lexer.count + used
     → new.profile ≡ old.reading.profile → old.reading.most_probes ≤ new.most_probes
     → as_written old.reading.profile ≡ old.reading.profile → Answers old.reading (read p given).progress.part t.kind new r a c
     → AfterStep p u given piece (stepped l new old.games finished (outcome_at t.at r)) used (outcome_at t.at r) a c
@@ -309,7 +306,6 @@ is_some_held true reading = refl
 is_some_held false reading = refl
 
 pub advances_token : (old : Standing) (piece : List ℕ) (new : Standing) (used at : ℕ) (r : Result Accepted Reason)
-    → waiting new < 2 * used + waiting old
-    → StepAdvances old piece new used (outcome_at at r)
+    → waiting new < 2 * used + waiting old → StepAdvances old piece new used (outcome_at at r)
 advances_token old piece new used at (Ok accepted) sooner = sooner
 advances_token old piece new used at (Err reason) sooner = tt

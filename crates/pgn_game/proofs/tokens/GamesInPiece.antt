@@ -6,8 +6,7 @@ use Rattle.pgn_game.proofs.tokens.AcceptedToConverter.{still_none-none}
 use Rattle.pgn_game.proofs.tokens.StepsInPiece.{further, whole_piece, decided_at_end, stands_before_any}
 
 pub all_none : (p : Profile) (old : Converter) (u : List ℕ) (given : List Token) (piece : List ℕ) (o : Option (List ℕ))
-    → Stands p old u None given → given ≡ decided u
-    → AllSoFar p u given piece 0 old o o
+    → Stands p old u None given → given ≡ decided u → AllSoFar p u given piece 0 old o o
 all_none p old u given piece o stands is_decided =
     record {
       tokens = given;
@@ -62,8 +61,7 @@ module _ (p : Profile) (u : List ℕ) (given : List Token) (piece : List ℕ) (a
       }
 
   all_before : {front : List ℕ} {n : Converter} → length ((u ++ take at piece) ++ front) ≡ 2 ^ 62
-      → FedAll p (u ++ take at piece) (first (drop at piece)) so.tokens front n c d
-      → ReadsUpTo p given (u ++ (take at piece ++ front)) a d
+      → FedAll p (u ++ take at piece) (first (drop at piece)) so.tokens front n c d → ReadsUpTo p given (u ++ (take at piece ++ front)) a d
   all_before {front} end fed =
       record {
         tokens = fed.tokens;

@@ -35,8 +35,7 @@ none_behind p ts t g passes one = by_test (refusal p (read p ts).progress.part t
     before = passes_before p ts (t ∷ []) passes
 
     by_next : (nx : Next) → next (read p ts).progress.part t.kind ≡ nx
-        → (read p (ts ++ t ∷ [])).progress ≡ progress_with (read p ts).progress.games nx
-        → (read p (ts ++ t ∷ [])).progress.part ≡ no_part
+        → (read p (ts ++ t ∷ [])).progress ≡ progress_with (read p ts).progress.games nx → (read p (ts ++ t ∷ [])).progress.part ≡ no_part
     by_next (going part) is reads = absurd (not_one_more g (sym (ap (λ (b : Progress). b.games) reads) ∙ one))
     by_next (whole h) is reads = ap (λ (b : Progress). b.part) reads
 
@@ -47,8 +46,7 @@ none_behind p ts t g passes one = by_test (refusal p (read p ts).progress.part t
 -- ---- one call
 
 pub none_yet : (p : Profile) (u : List ℕ) (given : List Token) (left : Option (List ℕ)) (now : Games) (o : Option (List ℕ))
-    → HaveRead p left u now given
-    → now.converter.is_finished ≡ false → NextSoFar p u given left left now o o
+    → HaveRead p left u now given → now.converter.is_finished ≡ false → NextSoFar p u given left left now o o
 none_yet p u given left now o (within on) not_finished =
     record {
       more = [];
@@ -290,7 +288,6 @@ module _ (p : Profile) (u : List ℕ) (given : List Token) (left_old left left_n
         }))
 
     pub finished : (r : Result Bool Fault) → AfterFinish p so.reads_on.used so.tokens new r c d
-        → new.is_finished ≡ is_ok r → now.lexer.count ≤ 2 ^ 62
-        → AfterNext p u given left_old left_new (games_of new []) r a d
+        → new.is_finished ≡ is_ok r → now.lexer.count ≤ 2 ^ 62 → AfterNext p u given left_old left_new (games_of new []) r a d
     finished (Ok is_game) fed ends few = ended fed ends few
     finished (Err f) fed ends few = ended_at_fault f fed

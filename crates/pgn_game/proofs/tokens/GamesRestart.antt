@@ -59,8 +59,7 @@ games_restart restart p u s given rest marker cut ends finishes =
     (none_behind p given marker finishes.game finishes.passes finishes.one_more) in
     let same : rest ≡ tokens_of later = restart u s given rest marker cut ends kind in
     let joined : read p (tokens_of (u ++ s)) ≡ reads_with_front gs (read p (tokens_of later)) =
-    ap (read p) (cut ∙ sym (append_assoc given (marker ∷ []) rest))
-    ∙ reads_behind p no_progress ts rest finishes.passes
+    ap (read p) (cut ∙ sym (append_assoc given (marker ∷ []) rest)) ∙ reads_behind p no_progress ts rest finishes.passes
     ∙ ap (λ (c : Progress). read_from p c rest) (progress ∙ ap (λ (l : List Game). record { games = l; part = no_part }) (sym (append-nil gs)))
     ∙ front_stays p gs no_progress rest ∙ ap (λ (us : List Token). reads_with_front gs (read p us)) same in
     record {

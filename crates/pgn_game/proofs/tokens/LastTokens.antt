@@ -119,8 +119,7 @@ pub data IsLeft (mode : Mode) (place at : ℕ) (text : List ℕ) : List Token �
   glyph : (n : ℕ) → IsLeft mode place at text (token_at at (tokens.glyph n) ∷ end_at place ∷ [])
   symbol : mode ≡ modes.Symbol → IsLeft mode place at text (token_at at (tokens.symbol (text ++ [])) ∷ end_at place ∷ [])
 
-symbol_left : {place at : ℕ} {text : List ℕ} (fits : Bool)
-    → IsLeft modes.Symbol place at text
+symbol_left : {place at : ℕ} {text : List ℕ} (fits : Bool) → IsLeft modes.Symbol place at text
     (onto at (if fits then gives (tokens.symbol (text ++ [])) else stops at SymbolTooLong) (end_at place ∷ []))
 symbol_left true = symbol refl
 symbol_left false = none _ (refused SymbolTooLong, tt) tt
@@ -185,8 +184,7 @@ left_none_begun p b l passes = search (rules, append-nil, left, none_torn)
 -- The token at fault adds to what is due, and so no game was finished before it: behind a game
 -- there is only the end, which adds nothing.
 pub none_finished_before : (p : Profile) (b : Progress) (l : Standing) (front : List Token) (token : Token) (rest : List Token)
-    → coming l [] ≡ front ++ token ∷ rest
-    → (read_from p b (front ++ token ∷ [])).fault ≡ None
+    → coming l [] ≡ front ++ token ∷ rest → (read_from p b (front ++ token ∷ [])).fault ≡ None
     → length (written p (read_from p b front).progress) < length (written p (read_from p b (front ++ token ∷ [])).progress)
     → (read_from p b front).progress.games ≡ b.games
 none_finished_before p b l front token rest cut passes more = by_last front (coming l []) (left l) cut passes more

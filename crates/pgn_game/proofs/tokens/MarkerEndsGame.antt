@@ -47,8 +47,7 @@ plain (tokens.symbol s) marker is = record { textual = refl; bare = refl; sound 
 plain _ marker is = absurd (cc)
 
 passes_in_text : (p : Profile) (stage : Stage) (part : Part) (k : Kind) (g : Game) → IsPlain k
-    → refusal p (at_stage stage part) k ≡ None → next_in stage part k ≡ whole g
-    → text_refusal p part k ≡ None
+    → refusal p (at_stage stage part) k ≡ None → next_in stage part k ≡ whole g → text_refusal p part k ≡ None
 passes_in_text p Between part k g is free leads = sym (text_row p part k is.sound) ∙ sym (between p part k is.textual is.bare) ∙ free
 passes_in_text p AfterLeftBracket part k g is free leads = absurd (none_in_name part k g leads)
 passes_in_text p AfterName part k g is free leads = absurd (none_in_value part k g leads)

@@ -108,8 +108,7 @@ stops_more {p} {x} {a} {b} {c} first (unwritten at writing) = unwritten at (writ
 
 -- where reading stops is not moved by what was read before
 pub games_still : {p : Profile} {x y tokens : List Token} {f : Fault} {a b c : Option (List ℕ)}
-    (first : Gains p x y a b) (stops : Stops p y tokens b c f)
-    → games_before (stops_more first stops) ≡ games_before stops
+    (first : Gains p x y a b) (stops : Stops p y tokens b c f) → games_before (stops_more first stops) ≡ games_before stops
 unfolding stops_more writing_more
 games_still first (refused g fault gains) = refl
 games_still first (unwritten at writing) = refl
@@ -122,8 +121,7 @@ counts_still first (refused g fault gains) h = record { tried = h.tried; probed 
 counts_still first (unwritten at writing) h = record { tried = h.tried; probed = h.probed }
 
 pub position_still : {p : Profile} {x y tokens : List Token} {f : Fault} {a b c : Option (List ℕ)}
-    (first : Gains p x y a b) (stops : Stops p y tokens b c f)
-    → position_at_stop (stops_more first stops) ≡ position_at_stop stops
+    (first : Gains p x y a b) (stops : Stops p y tokens b c f) → position_at_stop (stops_more first stops) ≡ position_at_stop stops
 unfolding stops_more
 position_still first (refused g fault gains) = refl
 position_still first (unwritten at writing) = refl

@@ -31,8 +31,7 @@ most_with p {given} t before clear free raised =
     subst (MostTried p (given ++ t ∷ [])) (sym raised.most) (most_then p before (t ∷ []) raised.tried clear then)
 
 pub most_to_refused : (p : Profile) {given : List Token} (t : Token) (us : List Token) {why : Reason} {old new : ℕ}
-    → MostTried p given old → (read p given).fault ≡ None
-    → refusal p (read p given).progress.part t.kind ≡ Some why
+    → MostTried p given old → (read p given).fault ≡ None → refusal p (read p given).progress.part t.kind ≡ Some why
     → Raises (Tries p (read p given).progress.part t.kind) old new → MostTried p (given ++ t ∷ us) new
 most_to_refused p {given} t us {why} before clear is raised =
     let then = most_tried.refused (read p given).progress t us raised.tried why is raised.allowed in
@@ -101,8 +100,7 @@ tries_put p part to (Err reason) n k costs = inl costs
 
 -- an item other than a move, and none; and a token that leaves the items as they are
 adds_items : (p : Profile) (part : Part) (items : List Item) (n k : ℕ)
-    → CostsToAdd p.mode (depth (levels_of_part part)) (position_in part) items n k
-    → CostsToPut p part (going (with_items part items)) n k
+    → CostsToAdd p.mode (depth (levels_of_part part)) (position_in part) items n k → CostsToPut p part (going (with_items part items)) n k
 adds_items p part items n k costs =
     subst (λ (l : List Item). CostsToAdd p.mode (depth (levels_of_part part)) (position_in part) l n k)
     (sym (drop-append_seam part.items items)) costs

@@ -101,8 +101,7 @@ finishes_none k new (Err reason) none = tt
 
 -- A step of a tag pair, and a token that changes nothing.
 pub takes_step : (old new : ReaderState) (k : Kind) (to : Part → Next) (o : Option (List ℕ)) (m : ℕ)
-    → PutResult old (Agrees old) to new (Ok More) (unused o m)
-    → new.most_probes ≡ old.most_probes
+    → PutResult old (Agrees old) to new (Ok More) (unused o m) → new.most_probes ≡ old.most_probes
     → ((part : Part) → Agrees old part → (refusal old.profile part k ≡ None) × (next part k ≡ to part))
     → ((part : Part) → Agrees old part → CostsToFind part k 0)
     → ((part : Part) → CostsToPut old.profile part (to part) 0 0) → TakesToken old k new (Ok More) (unused o m)
@@ -117,14 +116,12 @@ module _ (old new : ReaderState) (k : Kind) (stage : Stage) (at : old.stage ≡ 
   untried part agrees = untried_in_pair part k (rw (part_stage old part stage agrees at) (inside part))
 
   pub refused_in_pair : (reason : Reason) → new ≡ old → IsFalse (is_outside_the_table reason)
-      → ((part : Part) → Agrees old part → refusal old.profile part k ≡ Some reason)
-      → TakesUnwritten old k new (Err reason)
+      → ((part : Part) → Agrees old part → refusal old.profile part k ≡ Some reason) → TakesUnwritten old k new (Err reason)
   refused_in_pair reason same in_table why o m = refused_after old new (Agrees old) k reason 0 o m (same ∙ counting_none old) in_table why untried
       (λ part agrees. ap (position_if_move reason) (position_in_pair agrees at (inside part)))
 
   pub step_in_pair : (to : Part → Next) → ((o : Option (List ℕ)) (m : ℕ) → PutResult old (Agrees old) to new (Ok More) (unused o m))
-      → new.most_probes ≡ old.most_probes
-      → ((part : Part) → CostsToPut old.profile part (to part) 0 0)
+      → new.most_probes ≡ old.most_probes → ((part : Part) → CostsToPut old.profile part (to part) 0 0)
       → ((part : Part) → Agrees old part → (refusal old.profile part k ≡ None) × (next part k ≡ to part))
       → TakesUnwritten old k new (Ok More)
   step_in_pair to puts most costs says o m = takes_step old new k to o m (puts o m) most says untried costs
@@ -141,8 +138,7 @@ comment_in_pair old new k stage at inside same drops is =
 puts_entry : {old new : ReaderState} (k : Kind) {items : List Item} {r : Result Accepted Reason} {d : Device} → PutsItems old items new r d
     → ((p : Profile) (part : Part) → CostsToPut p part (going (with_items part items)) 0 0)
     → ((part : Part) → IsOpen old part → (text_refusal old.profile part k ≡ None) × (in_text part k ≡ going (with_items part items)))
-    → ((part : Part) → CostsToFind part k 0)
-    → TakesEntry old k new r d
+    → ((part : Part) → CostsToFind part k 0) → TakesEntry old k new r d
 puts_entry {old} {new} k {items} {r} put costs says finds =
     takes_put old (IsEntry old k) (IsOpen old) k 0 0 (counting_none old) put.puts (finishes_none k new r put.goes_on) (λ at. refl)
     (omega (arith, put.probes)) (λ part is. is.is_open)
@@ -151,13 +147,11 @@ puts_entry {old} {new} k {items} {r} put costs says finds =
 
 pub passes_entry : (old new : ReaderState) (k : Kind) (r : Result Accepted Reason) (d : Device) → PutsItems old [] new r d
     → ((part : Part) → IsOpen old part → (text_refusal old.profile part k ≡ None) × (in_text part k ≡ going (with_items part [])))
-    → ((part : Part) → CostsToFind part k 0)
-    → TakesEntry old k new r d
+    → ((part : Part) → CostsToFind part k 0) → TakesEntry old k new r d
 passes_entry old new k r d put says finds = puts_entry k put adds_none says finds
 
 pub item_entry : (old new : ReaderState) (k : Kind) (i : Annotation) (r : Result Accepted Reason) (d : Device)
-    → PutsItems old (model_item i ∷ []) new r d
-    → ((part : Part) → IsOpen old part → (text_refusal old.profile part k ≡ None)
+    → PutsItems old (model_item i ∷ []) new r d → ((part : Part) → IsOpen old part → (text_refusal old.profile part k ≡ None)
     × (in_text part k ≡ going (with_items part (model_item i ∷ [])))) → ((part : Part) → CostsToFind part k 0)
     → TakesEntry old k new r d
 item_entry old new k i r d put says finds = puts_entry k put (λ p part. adds_item p i part) says finds

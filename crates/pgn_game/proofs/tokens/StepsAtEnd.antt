@@ -123,8 +123,7 @@ closes_as p old u given t l new finished a c r has_read is games_is fault_is non
     rw (after_is, games_is, fault_is, none, is, e_is) h
 
 pub closes_fault : (p : Profile) (old new : Converter) (u : List ℕ) (given : List Token) (f : LexFault) (o : Option (List ℕ))
-    → HasRead p old given
-    → tokens_of u ≡ given ++ refusal_token f ∷ [] → new.reading ≡ old.reading
+    → HasRead p old given → tokens_of u ≡ given ++ refusal_token f ∷ [] → new.reading ≡ old.reading
     → AfterStepAtEnd p u given old new (Err (record { at = f.at; reason = Lexical f.reason })) o o
 closes_fault p old new u given f o has_read whole same =
     subst (λ ts. FaultAtEnd p given ts (record { at = f.at; reason = Lexical f.reason }) new.reading o o) (sym whole) (at_lexical f has_read same)
@@ -137,8 +136,7 @@ fault_of_closed e (Err f) = refl
 
 -- a token that finishes no game is counted as none, and the end is no marker
 games_at_end : (k : Kind) (after : ReaderState) (at : ℕ) (e : Bool) (r : Result Accepted Reason) (games : ℕ)
-    → is_end k ≡ e → FinishesAtMarker k after r
-    → games_after (outcome_at at r) games ≡ games_after (none_at_end e (outcome_at at r)) games
+    → is_end k ≡ e → FinishesAtMarker k after r → games_after (outcome_at at r) games ≡ games_after (none_at_end e (outcome_at at r)) games
 games_at_end k after at e r games h1 h2 = search (rules, no_marker_at_end)
 
 pub games_of_closed : (k : Kind) (after : ReaderState) (at : ℕ) (r : Result Accepted Reason)
@@ -162,8 +160,7 @@ counts_at_end false (Ok o) sink h = h
 counts_at_end e (Err f) sink h = h
 
 pub counts_closed : (at : ℕ) (r : Result Accepted Reason) (e : Bool) (sink : Device) {outcome closed : Result (Option Accepted) Fault}
-    → outcome ≡ outcome_at at r
-    → closed ≡ none_at_end e outcome → CountsWrites r sink → CountsFault closed sink
+    → outcome ≡ outcome_at at r → closed ≡ none_at_end e outcome → CountsWrites r sink → CountsFault closed sink
 counts_closed at r e sink is closed_is h = rw (closed_is, is) (counts_at_end e _ sink (counts_token at r sink h))
 
 -- after a fault a converter owes nothing
@@ -178,8 +175,7 @@ one_more Finished games = omega arith
 -- A token behind the last piece keeps the counts small. The end takes no byte, but it is the last
 -- one.
 pub sound_behind : (old new : Standing) (before after : ReaderState) (games at : ℕ) (k : Kind) (e : Bool) (r : Result Accepted Reason)
-    → is_end k ≡ e → Nearer e old new
-    → FinishesAtMarker k after r → old.count ≤ 2 ^ 62 → games + waiting old ≤ 2 * old.count + 2
+    → is_end k ≡ e → Nearer e old new → FinishesAtMarker k after r → old.count ≤ 2 ^ 62 → games + waiting old ≤ 2 * old.count + 2
     → before.earlier_plies + before.text.plies + waiting old ≤ 2 * old.count + 2
     → after.earlier_plies + after.text.plies ≤ before.earlier_plies + before.text.plies + 1 → IsKnown after.profile
     → IsSound new after (games_after (outcome_at at r) games) false (is_ended (none_at_end e (outcome_at at r))) (fault_of_step (outcome_at at r))
@@ -192,8 +188,7 @@ pub sound_token : (old new : Standing) (before after : ReaderState) (games at us
     → IsSound old before games had e before_fault → before_fault ≡ None → new.count ≡ old.count + used
     → used ≤ n → old.count + n ≤ 2 ^ 62 → waiting new < 2 * used + waiting old
     → FinishesAtMarker k after r → after.profile ≡ before.profile
-    → after.earlier_plies + after.text.plies ≤ before.earlier_plies + before.text.plies + 1
-    → IsSound new after games_now has e fault
+    → after.earlier_plies + after.text.plies ≤ before.earlier_plies + before.text.plies + 1 → IsSound new after games_now has e fault
 sound_token old new before after games at used n k r {e} o games_is has_is fault_is sound none count within short sooner finishes profile plies =
     rw (games_is, has_is, fault_is, o) (by_result r finishes)
   where
@@ -251,8 +246,7 @@ left_of p old u b given stands = ap tokens_of (sym (append-nil u)) ∙ stands.le
 
 -- before the first step behind the last piece
 pub closed_none : (p : Profile) (old : Converter) (u : List ℕ) (b : Option ℕ) (given : List Token) (o : Option (List ℕ))
-    → Stands p old u b given
-    → AtEndSoFar p u given (record old { just_finished = None }) false o o
+    → Stands p old u b given → AtEndSoFar p u given (record old { just_finished = None }) false o o
 closed_none p old u b given o stands = search (rules, gains_none, le_refl, left_of, let_go)
 
 module _ (p : Profile) (u : List ℕ) (given : List Token) (now new : Converter) (finished_game : Bool)
@@ -295,7 +289,14 @@ module _ (p : Profile) (u : List ℕ) (given : List Token) (now new : Converter)
       }
 
   pub closed_end : (flag : Bool) → AfterStepAtEnd p u so.tokens now new (Ok None) c d → (new.reading.stage ≡ Between → flag ≡ finished_game)
-      → Finishes p u given (record { lexer = new.lexer; reading = new.reading; games = new.games; just_finished = game_in_reader_if flag new.reading; is_finished = new.is_finished; fault = new.fault }) finished_game a d
+      → Finishes p u given (record {
+        lexer = new.lexer;
+        reading = new.reading;
+        games = new.games;
+        just_finished = game_in_reader_if flag new.reading;
+        is_finished = new.is_finished;
+        fault = new.fault;
+      }) finished_game a d
   closed_end flag (t, took, stays) e =
       let h = took.has_read in
       let same_flag = e took.between in
@@ -315,8 +316,7 @@ module _ (p : Profile) (u : List ℕ) (given : List Token) (now new : Converter)
       hands ts false h = tt
 
   pub closed_fault : (f : Fault) (l : Standing) → HasLeft l u given → (read p given).fault ≡ None
-      → AfterStepAtEnd p u so.tokens now new (Err f) c d → new.games ≡ now.games
-      → FinishesToFault p u given new f a d
+      → AfterStepAtEnd p u so.tokens now new (Err f) c d → new.games ≡ now.games → FinishesToFault p u given new f a d
   closed_fault f l left passes to same =
       let stops = stops_more so.gains to.stops in
       record {
@@ -329,8 +329,7 @@ module _ (p : Profile) (u : List ℕ) (given : List Token) (now new : Converter)
 
 -- behind the last piece a token was waiting, unless it is the end
 sooner_at_end : (old new : Standing) (after : ReaderState) (at : ℕ) (k : Kind) (e : Bool) (r : Result Accepted Reason)
-    → is_end k ≡ e → Nearer e old new
-    → FinishesAtMarker k after r → StepAtEndAdvances old new (none_at_end e (outcome_at at r))
+    → is_end k ≡ e → Nearer e old new → FinishesAtMarker k after r → StepAtEndAdvances old new (none_at_end e (outcome_at at r))
 sooner_at_end old new after at k e r h1 h2 h3 = search (rules, no_marker_at_end)
 
 pub closes_sooner : (old new : Standing) (after : ReaderState) (at : ℕ) (k : Kind)
@@ -342,6 +341,5 @@ closes_sooner old new after at k r is e_is closed_is near finished =
 
 -- while no game is just finished a converter owes no more
 pub sound_at_none : (lexer : Standing) (reading : ReaderState) (games : ℕ) (has_finished_game is_finished : Bool) (fault : Option Fault)
-    → IsSound lexer reading games has_finished_game is_finished fault
-    → IsSound lexer reading games false is_finished fault
+    → IsSound lexer reading games has_finished_game is_finished fault → IsSound lexer reading games false is_finished fault
 sound_at_none lexer reading games has_finished_game is_finished fault sound = search rules

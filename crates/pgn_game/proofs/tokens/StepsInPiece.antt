@@ -24,8 +24,7 @@ pub begins_with : {p : Profile} {c : Converter} {u : List ℕ} {b : Option ℕ} 
 begins_with piece h1 h2 = search (rules, follows_from)
 
 pub so_far_none : (p : Profile) (old : Converter) (u : List ℕ) (b : Option ℕ) (given : List Token) (piece : List ℕ) (o : Option (List ℕ))
-    → Stands p old u b given → Follows b piece
-    → SoFar p u b given piece 0 old o o
+    → Stands p old u b given → Follows b piece → SoFar p u b given piece 0 old o o
 so_far_none p old u b given piece o stands follows = search (rules, append-nil, begins_with, gains_none)
 
 pub next_within : (b : Option ℕ) (piece : List ℕ) (at : ℕ) → 0 < length piece → next_at b piece at ≡ first (drop at piece)

@@ -26,8 +26,7 @@ score_short : (s : List ℕ) → is_score s ≡ true → length s ≤ 7
 score_short s is = let m = score_marker s is in omega (arith, marker_short m.0, ap (length {A = ℕ}) m.1)
 
 -- where a text goes on with a digit, the symbol does
-symbol_given : (at : ℕ) (text : List ℕ) (behind : List Token) (fits : Bool) → fits ≡ true
-    → (rest : List Token)
+symbol_given : (at : ℕ) (text : List ℕ) (behind : List Token) (fits : Bool) → fits ≡ true → (rest : List Token)
     × (onto at (if fits then gives (tokens.symbol text) else stops at SymbolTooLong) behind ≡ token_at at (tokens.symbol text) ∷ rest)
 symbol_given at text behind true is = (behind, refl)
 symbol_given at text behind false is = absurd (cc)

@@ -20,8 +20,7 @@ pub totalled : {p : Profile} {s : List ℕ} {c : Converter} (t : Totals)
 totalled t has games plies probes bound = search (rules, in_games, verdict_passes)
 
 pub ended : {p : Profile} {u : List ℕ} {given : List Token} {new : Converter} {finished_game : _} (t : Totals) {a c : Option (List ℕ)}
-    → Finishes p u given new finished_game a c
-    → t.games ≡ new.games → t.plies ≡ whole_plies new.reading
+    → Finishes p u given new finished_game a c → t.games ≡ new.games → t.plies ≡ whole_plies new.reading
     → t.most_probes ≡ new.reading.most_probes → t.most_probes ≤ 1040 → AfterEnd p u given (Ok t) a c
 ended t done games plies probes bound =
     let (is_verdict, most) = totalled t done.has_read games plies probes bound in
@@ -58,8 +57,7 @@ no_more is_decided passes gains =
 
 -- the tokens up to a rejected one decide the verdict
 refused_text : {p : Profile} (s : List ℕ) {tokens : List Token} (more : List Token) {f : Fault} {a c : Option (List ℕ)}
-    → tokens_of s ≡ tokens ++ more → (read p tokens).fault ≡ Some f → Gains p [] tokens a c
-    → IsConverted p s (is_refused f) a c
+    → tokens_of s ≡ tokens ++ more → (read p tokens).fault ≡ Some f → Gains p [] tokens a c → IsConverted p s (is_refused f) a c
 refused_text {p} s {tokens} more cut fault gains =
     let same : read p (tokens_of s) ≡ read p tokens = ap (read p) cut ∙ stops_from p no_progress tokens more fault in (
       ap verdict_of same ∙ verdict_refused (read p tokens) fault,
@@ -150,8 +148,7 @@ slice_stops p {text} a c (too_long front rest cut place some before) =
     (conversion.FailsOn.too_long front rest cut place some (no_more before.decided before.passes before.gains))
 
 pub slice_ends : {p : Profile} {text : List ℕ} {now : Converter} {a c : Option (List ℕ)} (d : Option (List ℕ))
-    (r : Result Totals Fault) (fed : FedWhole p [] [] text now a c) → AfterEnd p text fed.tokens r c d
-    → AfterSlice p text r a d
+    (r : Result Totals Fault) (fed : FedWhole p [] [] text now a c) → AfterEnd p text fed.tokens r c d → AfterSlice p text r a d
 slice_ends d (Ok t) fed (is_verdict, probes, gains) =
     record { converted = (is_verdict, appended (gains_more fed.gains gains)); probes = probes }
 slice_ends {p} {text} {a} d (Err f) fed stops = by_stops (stops_more fed.gains stops)

@@ -52,8 +52,7 @@ no_mark (Some m) o at is = ap (λ x. marks_differ (Some m) x at) is
 
 -- so it is with one that only goes on
 pub goes_unmarked : (told : Option CodeMark) (at : ℕ) (old new : ReaderState) (part : Part) (k : Kind) (a c : Option (List ℕ))
-    → IsAccepted old part k new Continues a c
-    → marks_differ told (marker_of k) at ≡ false
+    → IsAccepted old part k new Continues a c → marks_differ told (marker_of k) at ≡ false
 goes_unmarked told at old new part k a c h = by_marker (marker_of k) refl
   where
     by_marker : (o : Option (List ℕ)) → marker_of k ≡ o → marks_differ told (marker_of k) at ≡ false
@@ -87,8 +86,7 @@ module _ (q : Profile) (part : Part) (told : Option CodeMark) (t : Token) (old n
 
     -- It was taken.
     takes_token : (taken : Taken) → new.profile ≡ old.profile → IsAccepted old part k new (accepted_of taken) a c
-        → shows_other told (next part k) t ≡ false → LeadsTo (next part k) t taken
-        → TakesToken q part told t old new taken a c
+        → shows_other told (next part k) t ≡ false → LeadsTo (next part k) t taken → TakesToken q part told t old new taken a c
     takes_token taken kept h same leads =
         let free : refusal q part k ≡ None = sym row ∙ h.free in
         record {

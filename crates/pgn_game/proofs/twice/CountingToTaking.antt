@@ -48,8 +48,7 @@ table_without q text part k none plain =
     ap (λ (other : Bool).
     first_holding (take 21 (rows q part k) ++ row ResultDiffers (is_outside_tag_pairs part && other && outer) ∷ drop 22 (rows q part k))) none
     ∙ ap (λ (x : Bool). first_holding (take 21 (rows q part k) ++ row ResultDiffers x ∷ drop 22 (rows q part k)))
-    (and_false (is_outside_tag_pairs part) outer)
-    ∙ without_row (take 21 (rows q part k))
+    (and_false (is_outside_tag_pairs part) outer) ∙ without_row (take 21 (rows q part k))
     (is_outside_tag_pairs part && has_other_result (counts_as text) part k && outer) (drop 22 (rows q part k)) plain
 
 -- A marker that takes itself for a missing Result differs from a given one alone.
@@ -85,8 +84,7 @@ text_with q g ps =
     (tag_lines ps ++ 10 ∷ []) ++ text_of_lines (lines_of (tokens_out q.mode (start_of g.pairs) g.items ++ g.marker ∷ [])) ++ 10 ∷ []
 
 game_alike : (q : Profile) (text : List ℕ) (g : Game) → q.missing_result ≡ takes_the_marker
-    → IsResult (counts_as text) (value_of g.pairs (codes "Result")) g.marker
-    → game_text q g ≡ game_text (counting q text) g
+    → IsResult (counts_as text) (value_of g.pairs (codes "Result")) g.marker → game_text q g ≡ game_text (counting q text) g
 game_alike q text g takes is =
     sym (same_game_text q g takes) ∙ sym (ap (text_with q g) (exported_result q.mode (counts_as text) g.marker g.pairs is))
 
@@ -110,8 +108,7 @@ abbrev AreAlike : Profile → List ℕ → List Game → Type 0
 AreAlike q text games = text_of q games ≡ text_of (counting q text) games
 
 one_more : (q : Profile) (text : List ℕ) (games : List Game) (to : Next) → AreAlike q text games
-    → ((g : Game) → to ≡ whole g → game_text q g ≡ game_text (counting q text) g)
-    → AreAlike q text (progress_with games to).games
+    → ((g : Game) → to ≡ whole g → game_text q g ≡ game_text (counting q text) g) → AreAlike q text (progress_with games to).games
 one_more q text games (going part) before same = before
 one_more q text games (whole g) before same = cc (text_of-snoc q games g, before, same g refl, text_of-snoc (counting q text) games g)
 

@@ -52,8 +52,7 @@ module _ (x s : Pass) (view : s ≡ x) (going : IsGoing x) (l : Standing) (unuse
 
   -- a token of the buffer
   pub keeps_in_buffer : (used : ℕ) → used ≤ length s.unused → unused ≡ drop used s.unused → 0 < length s.unused
-      → (t : Token) (r : ReaderState) (games : ℕ) (result : Result Taken Fault)
-      → Scans s.lexer s.unused l used (token t)
+      → (t : Token) (r : ReaderState) (games : ℕ) (result : Result Taken Fault) → Scans s.lexer s.unused l used (token t)
       → OnOk result (r.earlier_plies + r.text.plies ≤ s.reading.earlier_plies + s.reading.text.plies + 1)
       → IfOk result (λ x. games ≡ games_with x s.games) → IfOk result (TellsEnd t.kind)
       → Keeps x (record s { lexer = l; reading = r; games = games; unused = unused }) result

@@ -22,8 +22,7 @@ use Rattle.pgn_game.proofs.twice.StepsToGame.{end_marked, game, game_marked, gam
 
 -- what follows for both texts, if both are known
 both_known : (o n : Option (List ℕ)) (A B : List ℕ → Type 0) (P : List ℕ → List ℕ → Type 0)
-    → IfSome o A → IfSome n B → ((s r : List ℕ) → A s → B r → P s r)
-    → IfSome o (λ s. IfSome n (λ r. P s r))
+    → IfSome o A → IfSome n B → ((s r : List ℕ) → A s → B r → P s r) → IfSome o (λ s. IfSome n (λ r. P s r))
 both_known o n A B P first second goes =
     IfSome_then o {P = A} {Q = λ s. IfSome n (λ r. P s r)} first (λ s x. IfSome_then n {P = B} {Q = λ r. P s r} second (λ r y. goes s r x y))
 
@@ -32,8 +31,7 @@ abbrev Begins : List Token → List ℕ → Type 0
 Begins given s = IsTokenPrefix given (tokens_of s)
 
 begins : (has_ended : Bool) (l : Standing) (unused u : List ℕ) (given : List Token) (o n : Option (List ℕ))
-    → Consumes o n (u ++ unused) → StandsIn has_ended l unused given u o
-    → IfSome o (Begins given)
+    → Consumes o n (u ++ unused) → StandsIn has_ended l unused given u o → IfSome o (Begins given)
 begins false l unused u given o n consumed (stands, is_decided) =
     known_left o n (u ++ unused) (Begins given) consumed
     (λ rest. (coming l (unused ++ rest), ap tokens_of (append_assoc u unused rest) ∙ stands.tokens (unused ++ rest) (follows_first unused rest)))
@@ -42,8 +40,7 @@ begins true l unused u given o n consumed (left, none, all) =
 
 -- the bytes of a source that were read decide the tokens that the reading has given
 decides : (has_ended : Bool) (l : Standing) (unused u : List ℕ) (given : List Token) (d : Device)
-    → Consumes d.before d.after (u ++ unused) → StandsIn has_ended l unused given u d.before
-    → Decides d given
+    → Consumes d.before d.after (u ++ unused) → StandsIn has_ended l unused given u d.before → Decides d given
 decides false l unused u given d consumed (stands, is_decided) =
     Decides.so_far (u ++ unused) consumed
     (λ rest. (coming l (unused ++ rest), ap tokens_of (append_assoc u unused rest) ∙ stands.tokens (unused ++ rest) (follows_first unused rest)))
@@ -52,13 +49,11 @@ decides true l unused u given d consumed (left, none, all) =
     Decides.at_end u (subst (Consumes d.before d.after) is consumed) all (coming l [], left)
 
 given_first : (q : Profile) (told : Option CodeMark) (left_old left_now : Option (List ℕ)) (s : Pass) (given : List Token)
-    → HasGiven q told left_old left_now s given
-    → IfSome left_old (Begins given)
+    → HasGiven q told left_old left_now s given → IfSome left_old (Begins given)
 given_first q told left_old left_now s given h = begins s.has_ended s.lexer s.unused h.bytes given left_old left_now h.consumed h.stands
 
 pub both_none : (q : Profile) (first second : Option (List ℕ)) (a b : Pass) (o : Option (List ℕ))
-    → HasGiven q None first first a [] → HasGiven q None second second b []
-    → BothSoFar q first first second second a b o o
+    → HasGiven q None first first a [] → HasGiven q None second second b [] → BothSoFar q first first second second a b o o
 both_none q first second a b o first_given second_given =
     record {
       marks = [];
@@ -147,8 +142,7 @@ module _ (q : Profile) (first second sink : Device) (first_now : Option (List �
   pub both_end : (new_a : Pass) (left_new : Option (List ℕ)) (t : Totals) → ReadsToLast q None first.before left_new so.first_tokens
       (Ok End) new_a None None → t.games ≡ b.games → t.plies ≡ whole_plies b.reading
       → t.most_probes ≡ max new_a.reading.most_probes b.reading.most_probes
-      → new_a.reading.most_probes ≤ 1040 → b.reading.most_probes ≤ 1040
-      → TwoReadingsConvert q first second sink (Ok t)
+      → new_a.reading.most_probes ≤ 1040 → b.reading.most_probes ≤ 1040 → TwoReadingsConvert q first second sink (Ok t)
   both_end new_a left_new t reads games plies probes first_bound second_bound =
       let end = reads.last.1 in
       let tokens = reads.so.tokens ++ reads.last.0 ∷ [] in
@@ -203,8 +197,7 @@ module _ (q : Profile) (first second sink : Device) (first_now : Option (List �
       }
 
   first_unread : {f : Fault} (tokens : List Token) → (read q tokens).fault ≡ None → HasMarked q tokens so.marks
-      → (f.reason ≡ ReadFault → FailsOnce first) → ReadFails first.before first.after tokens f
-      → TwoReadingsFail q first second sink f
+      → (f.reason ≡ ReadFault → FailsOnce first) → ReadFails first.before first.after tokens f → TwoReadingsFail q first second sink f
   first_unread tokens passes marked counts (ReadFails.unread u consumed is_decided) =
       TwoReadingsFail.first_unread u consumed (counts refl) (ends_first tokens u passes marked is_decided)
   first_unread tokens passes marked counts (ReadFails.too_long u rest consumed place some is_decided) =
@@ -307,8 +300,7 @@ module _ (q : Profile) (first second sink : Device) (first_now second_now mid : 
   -- a write failed at a token
   stops_at : (t : Token) → is_changed q mark c.part t ≡ false → (n : ℕ) → n < length (gain under c.part t.kind)
       → Appends writes.mid sink.after (take n (gain under c.part t.kind))
-      → (r : List ℕ) → (us : List Token) × (tokens_of r ≡ tokens ++ t ∷ us)
-      → WriteStops q first (tokens_of r) t.at sink
+      → (r : List ℕ) → (us : List Token) × (tokens_of r ≡ tokens ++ t ∷ us) → WriteStops q first (tokens_of r) t.at sink
   stops_at t same n short wrote r y =
       let games : List ℕ = text_of q c.games in
       let before_it : List ℕ = torn under c.part in

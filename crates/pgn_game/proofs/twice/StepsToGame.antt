@@ -30,8 +30,7 @@ after_passing q given t clear free = ap (λ (r : Read). r.progress) (read-passes
 
 -- Before the first step.
 pub goes_none : (q : Profile) (told : Option CodeMark) (left_old left : Option (List ℕ)) (given : List Token) (s : Pass) (o : Option (List ℕ))
-    → StandsBetween q told left_old left given s
-    → GoesSoFar q told left_old left given s o o
+    → StandsBetween q told left_old left given s → GoesSoFar q told left_old left given s o o
 goes_none q told left_old left given s o stands =
     record {
       tokens = given;

@@ -20,8 +20,7 @@ use Rattle.pgn_game.proofs.twice.MarkerCounts.{agrees_under, same_mode}
 pub record Came (left_old left_now : Option (List ℕ)) (l : Standing)
     (unused : List ℕ) (has_ended : Bool) (given : List Token) (t : Token) : Type 0 where
   pub comes : ComesNext left_old given t
-  pub behind : is_end t.kind ≡ false
-      → (bytes : List ℕ) × Consumes left_old left_now (bytes ++ unused)
+  pub behind : is_end t.kind ≡ false → (bytes : List ℕ) × Consumes left_old left_now (bytes ++ unused)
       × StandsIn has_ended l unused (given ++ t ∷ []) bytes left_old × (l.count ≡ length bytes)
   pub whole : is_end t.kind ≡ true → IfSome left_old (λ s. tokens_of s ≡ given ++ t ∷ [])
 
@@ -127,8 +126,7 @@ module _ (q : Profile) (left_old left_now : Option (List ℕ)) (told : Option Co
       (reading_under q new.reading) false has_read refl (raised _ _ h.tried) h.free h.leads h.plies h.tried
 
   takes_on : (taken : Taken) → TakesToken q part told t old.reading new.reading taken a c
-      → new.games ≡ games_with taken old.games → TellsEnd t.kind taken
-      → TakesOn q left_old left_now told given t new taken a c
+      → new.games ≡ games_with taken old.games → TellsEnd t.kind taken → TakesOn q left_old left_now told given t new taken a c
   takes_on taken took games end =
       let has_read : HasRead q (as_converter q new) (given ++ t ∷ []) =
       subst (λ n. HasRead q (record (as_converter q new) { games = n }) (given ++ t ∷ [])) (sym games) (read_on taken took.accepted) in
@@ -143,8 +141,7 @@ module _ (q : Profile) (left_old left_now : Option (List ℕ)) (told : Option Co
       }
 
   pub taken : (r : Result Taken Fault) → AfterToken q part told t old.reading new.reading r a c
-      → IfOk r (λ x. new.games ≡ games_with x old.games) → IfOk r (TellsEnd t.kind)
-      → AfterStep q left_old left_now told given new r a c
+      → IfOk r (λ x. new.games ≡ games_with x old.games) → IfOk r (TellsEnd t.kind) → AfterStep q left_old left_now told given new r a c
   taken (Ok More) took games end = inr (t, takes_on More took games end)
   taken (Ok (GameEnd m)) took games end = (t, takes_on (GameEnd m) took games end)
   taken (Ok End) took games end = (t, takes_on End took games end)
@@ -154,8 +151,7 @@ module _ (q : Profile) (left_old left : Option (List ℕ)) (told : Option CodeMa
     (given : List Token) (s : Pass) (has : HasGiven q told left_old left s given) where
   -- a token that the lexer gave, and what the reader did with it
   reads : (t : Token) (new : Pass) (result : Result Taken Fault) (a c : Option (List ℕ))
-      → Came left_old left new.lexer new.unused new.has_ended given t
-      → TakesKind told t.kind t.at s.reading new.reading result a c
+      → Came left_old left new.lexer new.unused new.has_ended given t → TakesKind told t.kind t.at s.reading new.reading result a c
       → IfOk result (λ x. new.games ≡ games_with x s.games) → IfOk result (TellsEnd t.kind)
       → AfterStep q left_old left told given new result a c
   reads t new result a c came h games end =

@@ -113,8 +113,7 @@ letter_first braces at b s h1 = grind arith
 pub word_cut : (braces : Bool) (at b : ℕ) (run s : List ℕ) → continues_word b ≡ true → IsRun continues_word run s
     → inner braces at (b ∷ (run ++ s)) ≡ onto at (word_at at (b ∷ run)) (inner braces (at + 1 + length run) s)
 word_cut braces at b run s e long =
-    letter_first braces at b _ e
-    ∙ rw (take_run _ run s long, skips _ _ _ (word_goes braces) (word_stops braces) _ run s long)
+    letter_first braces at b _ e ∙ rw (take_run _ run s long, skips _ _ _ (word_goes braces) (word_stops braces) _ run s long)
 
 blank_in_comment : (braces : Bool) (at b : ℕ) (s : List ℕ) → is_space b ≡ true → (braces || not (is_line_end b)) ≡ true
     → inner braces at (b ∷ s) ≡ inner braces (at + 1) s
@@ -160,8 +159,7 @@ module _ (first : Bool) (at : ℕ) where
       symbol_cut first at b run s e long ∙ rw (symbol_fits at (b ∷ run) fits) (moved _ _ _ s (omega arith))
   spells_is _ _ _ (lexes.string raw text s data' fits) =
       let same : at + 1 + length raw + 1 ≡ at + length (34 ∷ (raw ++ 34 ∷ [])) = omega (arith, length-append raw (34 ∷ [])) in
-      ap (λ l. outer first at (34 ∷ l)) (append_assoc raw (34 ∷ []) s)
-      ∙ string_reads raw text _ data' fits
+      ap (λ l. outer first at (34 ∷ l)) (append_assoc raw (34 ∷ []) s) ∙ string_reads raw text _ data' fits
       ∙ ap (λ t. placed at (str t) ∷ tokens_from (at + 1) quotes (raw ++ 34 ∷ s)) (append-nil text)
       ∙ ap (λ ts. placed at (str text) ∷ ts) (quotes_skip _ raw text _ s data' refl ∙ ap (λ n. tokens_from n outside s) same)
   spells_is _ _ _ (lexes.glyph d ds s e long fits) =

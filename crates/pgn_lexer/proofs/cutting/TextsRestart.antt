@@ -103,8 +103,7 @@ behind_white_space zero first s = grind arith
 behind_white_space (suc n) first s =
     rw (other_first 32 ((replicate n 32 ++ last ∷ []) ++ s) refl)
     (ap (tokens_from 1 outside) (append_assoc (replicate n 32) (last ∷ []) s)
-    ∙ behind_spaces n 1 (last ∷ s)
-    ∙ last_white_space (1 + n) first s
+    ∙ behind_spaces n 1 (last ∷ s) ∙ last_white_space (1 + n) first s
     ∙ ap (λ place. tokens_from place (column_or_outside first) s) (omega arith))
   where
     last : ℕ
@@ -121,10 +120,8 @@ texts_restart u s given rest t cut ends can =
         let all = subst (AllGoOn k (drop k (u ++ s))) (sym same ∙ cut) (all_go_on k column (drop k (u ++ s))) in
         let found = goes_on_at k (drop k _) given t rest all (length u) ends can in
         let many : length u ≡ suc (k + found.0) = omega arith in
-        found.2
-        ∙ ap (tokens_from (length u) outside) (drop-drop (suc found.0) k _ ∙ drop_at u s _ found.1)
-        ∙ ap (λ n. tokens_from n outside s) many
-        ∙ sym (behind_white_space (k + found.0) false s)
+        found.2 ∙ ap (tokens_from (length u) outside) (drop-drop (suc found.0) k _ ∙ drop_at u s _ found.1)
+        ∙ ap (λ n. tokens_from n outside s) many ∙ sym (behind_white_space (k + found.0) false s)
         ∙ ap (λ n. tokens_of (white_space n false ++ s)) (sym many)
 
 -- ---- A lexer that begins there

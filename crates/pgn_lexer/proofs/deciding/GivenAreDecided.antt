@@ -22,8 +22,7 @@ decided_is given u comes tokens = grind (arith, append-nil, common_of-append)
 -- what a lexer that goes on gives next is not decided yet
 pub going_none : (place : ℕ) (h : PartialToken) → IsSound place h → HasNotFailed h.mode
     → common_of (tokens_to_come place h []) (tokens_to_come place h (49 ∷ [])) (tokens_to_come place h (33 ∷ []))
-    (tokens_to_come place h (34 ∷ 34 ∷ [])) (tokens_to_come place h (191 ∷ [])) (tokens_to_come place h (187 ∷ 191 ∷ []))
-    ≡ []
+    (tokens_to_come place h (34 ∷ 34 ∷ [])) (tokens_to_come place h (191 ∷ [])) (tokens_to_come place h (187 ∷ 191 ∷ [])) ≡ []
 going_none place h sound not_failed = grind (arith, common_steps)
 
 -- of a lexer that goes on, nothing more is decided

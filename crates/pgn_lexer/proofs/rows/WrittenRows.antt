@@ -49,8 +49,7 @@ movetext_text : text_of_pieces movetext ≡ codes "1. e4 $10\n{\n%a;\n} ( 1... e
 unfolding digits
 movetext_text = refl
 
-a_symbol : IsSymbol (codes "1") × IsSymbol (codes "e4") × IsSymbol (codes "e5")
-    × IsSymbol (codes "1/2-1/2")
+a_symbol : IsSymbol (codes "1") × IsSymbol (codes "e4") × IsSymbol (codes "e5") × IsSymbol (codes "1/2-1/2")
 a_symbol = grind arith
 
 a_word : IsWord (codes "%a;")

@@ -85,8 +85,7 @@ module _ (place at b : ℕ) (text : List ℕ) (fits : length text ≤ 255) (bega
         not_failed = tt;
         comes =
             λ s. ap (λ rest. onto at (suffix_at at (spelling run ++ rest)) (tokens_from place in_suffix (b ∷ s)))
-            (take_while-true is_suffix b s e)
-            ∙ ap (λ f. onto at f (tokens_from place in_suffix (b ∷ s))) (second (take_while _ s))
+            (take_while-true is_suffix b s e) ∙ ap (λ f. onto at f (tokens_from place in_suffix (b ∷ s))) (second (take_while _ s))
             ∙ ap (onto at (suffix_at at (spelling next ++ take_while _ s))) (suffix_goes place b s e);
       }
 
@@ -110,8 +109,7 @@ module _ (place at b : ℕ) (text : List ℕ) (fits : length text ≤ 255) (bega
   pub small_suffix : (run : SuffixRun) → byte_result.glyph_of run ≤ 255
   small_suffix run = grind arith
 
-  pub suffix_gives : (run : SuffixRun) (c : Bool) → is_suffix b ≡ c
-      → GivesIn (Mode.Suffix run) place at b text
+  pub suffix_gives : (run : SuffixRun) (c : Bool) → is_suffix b ≡ c → GivesIn (Mode.Suffix run) place at b text
       (λ h. if c then byte_result.second_suffix h run b else into h Mode.Outside (EndsBefore (TokenForm.Glyph (byte_result.glyph_of run))))
   suffix_gives run true e = goes_on run e
   suffix_gives run false e =

@@ -47,8 +47,7 @@ module _ (place at b : ℕ) (text : List ℕ) (fits : length text ≤ 255) (bega
 
 module _ (place at b : ℕ) (text : List ℕ) (short : length text < 255) (began : at < place) where
   -- a quote or a backslash is a datum
-  taken_back : (c : StringClass)
-      → ((s : List ℕ) → escaped_tokens place at text s (reading at place (length text) true (b ∷ s))
+  taken_back : (c : StringClass) → ((s : List ℕ) → escaped_tokens place at text s (reading at place (length text) true (b ∷ s))
       ≡ escaped_tokens place at text s (datum b (reading at (place + 1) (length text + 1) false s)))
       → GivesIn Mode.AfterBackslash place at b text (λ h. grown h Mode.Str b)
   taken_back c same = grind (arith, length-append, datum_comes)

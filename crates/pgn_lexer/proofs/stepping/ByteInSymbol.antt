@@ -10,8 +10,7 @@ pub symbol_long : (at : ℕ) (run : List ℕ) → 255 < length run → symbol_at
 symbol_long at run long = grind arith
 
 pub symbol_gives : (place at b : ℕ) (text : List ℕ) → length text ≤ 255 → 0 < length text → place ≡ at + length text → (c : Bool)
-    → continues_symbol b ≡ c → (d : Bool) → nat_lt (length text) 255 ≡ d
-    → GivesIn Mode.Symbol place at b text
+    → continues_symbol b ≡ c → (d : Bool) → nat_lt (length text) 255 ≡ d → GivesIn Mode.Symbol place at b text
     (λ h. if c then (if d then grown h Mode.Symbol b else fails h h.at SymbolTooLong) else into h Mode.Outside (EndsBefore TokenForm.Symbol))
 symbol_gives place at b text fits some began true e true room =
     let short = ltb-true _ _ room in

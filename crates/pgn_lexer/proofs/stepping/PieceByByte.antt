@@ -64,7 +64,14 @@ module _ (place : ℕ) (old : PartialToken) (piece : List ℕ) (h : PartialToken
         ends_at = rw next_place at g.ends_at;
         before = rw next_place at g.before;
         advances = omega arith;
-        ends = inl (record { some = omega arith; closed = g.closed; last = i; is_last = refl; stood = standing; comes = λ s. longer s ∙ g.comes s ∙ ap (λ p. token_of form new ∷ tokens_to_come p new s) next_place });
+        ends = inl (record {
+          some = omega arith;
+          closed = g.closed;
+          last = i;
+          is_last = refl;
+          stood = standing;
+          comes = λ s. longer s ∙ g.comes s ∙ ap (λ p. token_of form new ∷ tokens_to_come p new s) next_place;
+        });
       }
 
   -- a token that took no byte was pending

@@ -50,8 +50,7 @@ known_is : (u : List ℕ) (b : ℕ) (given : List Token) (comes : List ℕ → L
     → AllFrom (length u) (comes (b ∷ [])) → ((s : List ℕ) → tokens_of (u ++ b ∷ s) ≡ given ++ comes (b ∷ s)) → given ≡ known u b
 known_is u b given comes before from tokens =
     let later : List ℕ → List Token = λ s. comes (b ∷ s) in
-    let all : decided (u ++ b ∷ [])
-    ≡ given ++ common_of (later []) (later (49 ∷ [])) (later (33 ∷ [])) _ (later (191 ∷ [])) _ =
+    let all : decided (u ++ b ∷ []) ≡ given ++ common_of (later []) (later (49 ∷ [])) (later (33 ∷ [])) _ (later (191 ∷ [])) _ =
     decided_is given (u ++ b ∷ []) later (λ s. ap tokens_of (append_assoc u _ s) ∙ tokens s) in
     let front = common_front (later []) _ in
     sym (ap (take_while _) all

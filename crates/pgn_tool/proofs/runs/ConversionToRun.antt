@@ -22,8 +22,7 @@ flush_counts (Err e) mid new counts = inr counts
 pub concludes_as : {S : Type 0}
     → (taken : S → Option (List ℕ)) (failures : S → ℕ) (old new : S) (is_written : Bool) (source out : Device) (status : ℕ)
     → IsStill source → (is_written ≡ true → IsStill out)
-    → (is_written ≡ false → HasFailed out) → status ≡ (if is_written then 0 else 1)
-    → (is_written ≡ true → new ≡ old)
+    → (is_written ≡ false → HasFailed out) → status ≡ (if is_written then 0 else 1) → (is_written ≡ true → new ≡ old)
     → (is_written ≡ false → Tells (device taken failures old new) (line (codes "output cannot be written")))
     → Concludes source out (device taken failures old new) status
 concludes_as taken failures old new true source out status read still failed is untouched told = record {
@@ -43,8 +42,7 @@ concludes_as taken failures old new false source out status read still failed is
 pub concludes_flushed : {A E S : Type 0}
     → (taken : S → Option (List ℕ)) (failures : S → ℕ) (old new : S) (r : Result A E) (is_written : Bool) (source out : Device)
     (mid status : ℕ) → is_written ≡ is_ok r → IsStill source → mid ≡ out.failures
-    → Counts r mid out.failures_after → status ≡ (if is_written then 0 else 1)
-    → (is_written ≡ true → new ≡ old)
+    → Counts r mid out.failures_after → status ≡ (if is_written then 0 else 1) → (is_written ≡ true → new ≡ old)
     → (is_written ≡ false → Tells (device taken failures old new) (line (codes "output cannot be written")))
     → Concludes source out (device taken failures old new) status
 concludes_flushed taken failures old new (Ok x) is_written source out mid status same read kept counts =
@@ -153,8 +151,7 @@ flushed_well is_written old new status unflushed is (inr (failed, ill)) = inr (f
 -- ---- where no device fails
 
 pub longer : (s : List ℕ) (left_new : Option (List ℕ)) (u rest : List ℕ)
-    → Consumes (Some s) left_new (u ++ rest) → length u ≡ 2 ^ 62 → 0 < length rest
-    → length s ≤ 2 ^ 62 → ⊥
+    → Consumes (Some s) left_new (u ++ rest) → length u ≡ 2 ^ 62 → 0 < length rest → length s ≤ 2 ^ 62 → ⊥
 longer s None u rest consumed long more short = absurd consumed
 longer s (Some ys) u rest consumed long more short =
     let whole = simp length-append at (ap length consumed) in
@@ -162,8 +159,7 @@ longer s (Some ys) u rest consumed long more short =
 
 -- a run without a fault, and its status if it has written all
 pub concludes_by_verdict : (v : Verdict) (source out err : Device) (code : ℕ) (c : Counted)
-    → v ≡ totals c → IsCalm out → Concludes source out err code
-    → (code ≡ status_of v) × TellsVerdict err v
+    → v ≡ totals c → IsCalm out → Concludes source out err code → (code ≡ status_of v) × TellsVerdict err v
 concludes_by_verdict v source out err code c is calm ends =
     let written : code ≡ 1 → ⊥ = λ one. calm_fails out calm (ends.ill one).0 in
     let zero : code ≡ 0 = omega (arith, ends.ends, written) in
@@ -220,8 +216,7 @@ module _ (s : List ℕ) (source out : Device) (smooth : IsSmooth s source out) w
     job_answers listing answer works ends = absurd works
 
     stopped_answers : (stopped : Stopped) → ListStops source.before source.after out.before out.after stopped
-        → EndsList (Err stopped) source out err code
-        → Answers listing s out err code
+        → EndsList (Err stopped) source out err code → Answers listing s out err code
     stopped_answers _ (ListStops.refused f known) ends =
         let listed = rw smooth.gives at known in
         let by = refuses_by_verdict _ err code f (verdict_is (read list_profile (tokens_of s)) (Some f) listed.fault) ends.ends ends.told in

@@ -17,8 +17,7 @@ appended (Some xs) (Some (y ∷ ys)) text known some appends = refl
 pub has_more : {E : Type 0}
     → (log : Option (List FileStep)) (a b : Option (List ℕ)) (r : Result ℕ E) (text : List ℕ) (failed failed_after : ℕ)
     → (failed ≡ 0 → IsKnown log a) → WriteAppends a b r text
-    → IfOk r (λ n. (0 < n) × (n ≤ length text)) → Counts r failed failed_after
-    → failed_after ≡ 0 → has_bytes log b ≡ true
+    → IfOk r (λ n. (0 < n) × (n ≤ length text)) → Counts r failed failed_after → failed_after ≡ 0 → has_bytes log b ≡ true
 has_more None a b r text failed failed_after known writes bound counts zero = refl
 has_more (Some log) a b (Ok n) text failed failed_after known writes bound counts zero =
     appended a b (take n text) (known (sym counts ∙ zero)) (omega (arith, bound.0, bound.1, length-take n text)) writes

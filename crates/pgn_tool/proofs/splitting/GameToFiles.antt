@@ -33,8 +33,7 @@ module _ {A : Type 0} (taken : A → Option (List ℕ)) (failures : A → ℕ) (
   write_reported _ at = refl
 
   counts_source : (file : GameFile A) (f : Fault) (s t : ℕ) → IsBegun taken failures log file
-      → CountsDevices f.reason s t 0 (failures_in failures file)
-      → CountsSplit {A = Unit} (Err (reported file f)) s t
+      → CountsDevices f.reason s t 0 (failures_in failures file) → CountsSplit {A = Unit} (Err (reported file f)) s t
   counts_source (GameFile.Refused CreateFault.NoMemory failed) f s t begun counts =
       elim (due_to f.at f.reason s t failed counts).2 [
         | inl (write, more, same) ↦ same
@@ -138,8 +137,7 @@ module _ {A : Type 0} (taken : A → Option (List ℕ)) (failures : A → ℕ) (
       → (read list_profile ts).progress.games ≡ (read list_profile so.tokens).progress.games
       → failures_in failures file ≡ 0 → after ≡ added before (files_of ts)
   files_left ts gains same clean =
-      written gains.text gains.appended clean
-      ∙ ap (λ text. added before (whole_files 0 texts ++ torn_file (number_after 0 texts) text))
+      written gains.text gains.appended clean ∙ ap (λ text. added before (whole_files 0 texts ++ torn_file (number_after 0 texts) text))
       (sym (torn_is so.tokens ts gains.text so.none_torn gains.due_for same))
       ∙ ap (λ l. added before (whole_files 0 l ++ torn_file (number_after 0 l) (torn_text ts))) (ap (map (game_text list_profile)) (sym same))
 

@@ -36,7 +36,14 @@ has_other_move_to-requires c =
 pub has_other_move_to-requires-else-has_other_move_to : goal.has_other_move_to-requires-else-has_other_move_to
 has_other_move_to-requires-else-has_other_move_to c =
     let s = searches c.args.position.now c.evasion_targets-first.result c.not-others.result c.recall_invariant.ensures c.not-others.ensures in
-    omega (arith, s.count, pair_count_most c.args.position.now, c.requires, c.has_king_step.ensures.count.all c.if-has_king_step.false, c.has_other_move_to.ensures.count.all c.if-has_other_move_to.false)
+    omega (
+      arith,
+      s.count,
+      pair_count_most c.args.position.now,
+      c.requires,
+      c.has_king_step.ensures.count.all c.if-has_king_step.false,
+      c.has_other_move_to.ensures.count.all c.if-has_other_move_to.false,
+    )
 
 pub returns-then-has_other_move_to-clause-found : goal.returns-then-has_other_move_to-clause-found
 returns-then-has_other_move_to-clause-found c =
@@ -47,7 +54,14 @@ returns-then-has_other_move_to-clause-found c =
 pub returns-then-has_other_move_to-clause-most : goal.returns-then-has_other_move_to-clause-most
 returns-then-has_other_move_to-clause-most c =
     let s = searches c.args.position.now c.evasion_targets-first.result c.not-others.result c.recall_invariant.ensures c.not-others.ensures in
-    omega (arith, s.count, pair_count_most c.args.position.now, c.requires, c.has_king_step.ensures.count.all c.if-has_king_step.false, c.has_other_move_to.ensures.count.most)
+    omega (
+      arith,
+      s.count,
+      pair_count_most c.args.position.now,
+      c.requires,
+      c.has_king_step.ensures.count.all c.if-has_king_step.false,
+      c.has_other_move_to.ensures.count.most,
+    )
 
 pub returns-else-has_other_move_to-clause-found : goal.returns-else-has_other_move_to-clause-found
 returns-else-has_other_move_to-clause-found c =
@@ -63,4 +77,10 @@ returns-else-has_other_move_to-clause-most c =
 pub returns-else-has_other_move_to-clause-all : goal.returns-else-has_other_move_to-clause-all
 returns-else-has_other_move_to-clause-all c none =
     let s = searches c.args.position.now c.evasion_targets-first.result c.not-others.result c.recall_invariant.ensures c.not-others.ensures in
-    omega (arith, s.count, c.has_king_step.ensures.count.all c.if-has_king_step.false, c.has_other_move_to.ensures.count.all c.if-has_other_move_to.false, c.has_other_move_to-else-has_other_move_to.ensures.count.all none)
+    omega (
+      arith,
+      s.count,
+      c.has_king_step.ensures.count.all c.if-has_king_step.false,
+      c.has_other_move_to.ensures.count.all c.if-has_other_move_to.false,
+      c.has_other_move_to-else-has_other_move_to.ensures.count.all none,
+    )

@@ -29,9 +29,7 @@ returns-clause-kinds c =
     let f = c.args.form.now in
     let all : length c.loop-index.kinds ≤ c.loop-index.index = omega arith in
     let every : length squares ≤ c.loop-index.index = omega (arith, squares_long) in
-    sym (take_all _ _ all)
-    ∙ c.loop-index.invariant.so_far
-    ∙ ap (λ ss. map (origin_kind p f) ss) (take_all _ squares every)
+    sym (take_all _ _ all) ∙ c.loop-index.invariant.so_far ∙ ap (λ ss. map (origin_kind p f) ss) (take_all _ squares every)
 
 pub returns-clause-count : goal.returns-clause-count
 unfolding count_steps

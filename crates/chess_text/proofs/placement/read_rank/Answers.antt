@@ -19,8 +19,7 @@ loop-byte-preserved c =
     let next = take_more s c.loop-byte.byte-index 0 c.loop-byte-test.true in
     record {
       taken =
-          c.if-not-push_item.ensures.added
-          ∙ ap (λ b. b ++ cells_at byte) c.loop-byte.invariant.taken
+          c.if-not-push_item.ensures.added ∙ ap (λ b. b ++ cells_at byte) c.loop-byte.invariant.taken
           ∙ sym (ap cells_of next ∙ flat_map-append cells_at (take c.loop-byte.byte-index s) (byte ∷ [])
           ∙ ap (λ b. cells_of (take c.loop-byte.byte-index s) ++ b) (append-nil (cells_at byte)));
       items_alone =

@@ -42,16 +42,14 @@ count : (o : After-as_slice-origin-items)
     → length o.as_slice-origin-items.result.now ≡ length (candidates o.args.position.now o.args.kind o.args.to)
 count o = let same = length_permutation (candidates _ _ _) _ (perm o) in cc
 
-reads : (o : After-as_slice-origin-items)
-    → only (filter_map (tried_from o) o.as_slice-origin-items.result.now)
+reads : (o : After-as_slice-origin-items) → only (filter_map (tried_from o) o.as_slice-origin-items.result.now)
     ≡ move_of_form o.args.position.now (Man o.args.kind o.args.hints.file o.args.hints.rank o.args.to o.args.promotion)
 reads o = reads_candidates o.args.position.now _ _ _ _ _ o.candidates_are_complete.ensures _ (perm o)
 
 tried : (o : After-as_slice-origin-items) (i : ℕ) (s : Square)
     → i < length o.as_slice-origin-items.result.now → s ≡ get_or o.as_slice-origin-items.result.now i s
     → played (piece_move_fits o.args.position.now o.args.hints.file o.args.hints.rank (move_from o.args.to o.args.promotion s)) o.args.position.now
-    (move_from o.args.to o.args.promotion s)
-    ≡ tried_from o (get_or o.as_slice-origin-items.result.now i s)
+    (move_from o.args.to o.args.promotion s) ≡ tried_from o (get_or o.as_slice-origin-items.result.now i s)
 tried o i s low is = tried_at o.args.position.now o.args.kind _ _ _ o.args.promotion _ (perm o) i s _ low is refl
 
 pub returns-then-is_some-clause-answer : goal.returns-then-is_some-clause-answer
@@ -66,8 +64,7 @@ returns-then-is_some-clause-answer c =
     (with_position p c.loop-origin.found) c.loop-origin.invariant.found c.origin-item.result _ x (omega arith)
     (tried o c.loop-origin.origin-index c.origin-item.result (omega arith) c.origin-item.is)
     (fitting_is_played p m fits agreed ∙ is)
-    (kept_is_some p _ c.loop-origin.invariant.legal ∙ sym c.is_some.ensures ∙ c.if-is_some.true)
-    ∙ reads o
+    (kept_is_some p _ c.loop-origin.invariant.legal ∙ sym c.is_some.ensures ∙ c.if-is_some.true) ∙ reads o
 
 pub returns-then-is_some-clause-two : goal.returns-then-is_some-clause-two
 returns-then-is_some-clause-two c _ =

@@ -8,8 +8,7 @@ returns-clause-text c =
     let p = c.args.position.now in
     let m = c.args.mv.now in
     let k = c.args.kind in
-    c.push_square.ensures
-    ∙ ap₂ ◌++◌
+    c.push_square.ensures ∙ ap₂ ◌++◌
     (c.push_capture.ensures
     ∙ ap₂ ◌++◌
     (c.push_disambiguation.ensures.text

@@ -5,8 +5,7 @@ use Rattle.chess_text.proofs.san.push_pawn_text.Goals as goal
 pub returns-clause-text : goal.returns-clause-text
 returns-clause-text c =
     let m = c.args.mv.now in
-    c.push_promotion.ensures.text
-    ∙ ap₂ ◌++◌
+    c.push_promotion.ensures.text ∙ ap₂ ◌++◌
     (c.push_square.ensures
     ∙ ap₂ ◌++◌
     (c.push_pawn_capture.ensures.text

@@ -10,8 +10,7 @@ unfolding split_command dir_rule
 returns c =
     let named = app_about _ _ _ c.about.ensures ∙ c.new-2.ensures.app in
     let dir : rule_of c.help-dir.result ≡ dir_rule = rule_help c.required.result c.help-dir.result _ c.help-dir.ensures
-    ∙ rule_required c.value_name.result c.required.result _ c.required.ensures
-    ∙ ap (λ (r : Rule). record r { required = true })
+    ∙ rule_required c.value_name.result c.required.result _ c.required.ensures ∙ ap (λ (r : Rule). record r { required = true })
     (rule_value_name c.new.result c.value_name.result _ c.value_name.ensures
     ∙ ap (λ (r : Rule). record r { value_names = 1 }) c.new.ensures.rule) in
     let local : c.help-dir.result.global ≡ false = search rules in

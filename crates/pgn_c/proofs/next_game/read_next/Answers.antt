@@ -24,7 +24,13 @@ returns-in-Ok-true-clause-next g c =
     (game_at_end c.args.mode c.args.missing _ _ _ c.games_end_by_marker.ensures
     c.texts_end_between_games.ensures _ _ c.feed.new.self _ fed c.finish.new.self _
     c.texts_end_behind_marker.ensures
-    (omega (arith, begun.count, begun.stands.lexer.count, length-append (white_space c.args.from c.is_first_column-place.result) (drop c.args.from c.args.text.now), length-drop c.args.from c.args.text.now))
+    (omega (
+      arith,
+      begun.count,
+      begun.stands.lexer.count,
+      length-append (white_space c.args.from c.is_first_column-place.result) (drop c.args.from c.args.text.now),
+      length-drop c.args.from c.args.text.now,
+    ))
     (ends _ _ _ _ fed.stands) c.finished_game-in-Ok-true.ensures.game)
 
 pub returns-in-Ok-false-clause-next : goal.returns-in-Ok-false-clause-next

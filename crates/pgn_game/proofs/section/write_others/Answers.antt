@@ -5,8 +5,7 @@ use Rattle.pgn_game.proofs.section.write_others.Goals as goal
 
 -- the pairs on both sides of SetUp's place
 both_sides : (held pairs before after : List Pair) (n : ℕ) → pairs ≡ held
-    → n ≡ index_of (codes "SetUp") pairs → before ≡ take n pairs → after ≡ drop n pairs
-    → has_pair held (codes "FEN") ≡ true
+    → n ≡ index_of (codes "SetUp") pairs → before ≡ take n pairs → after ≡ drop n pairs → has_pair held (codes "FEN") ≡ true
     → (text_by (other_line true) before ++ tag_line (codes "SetUp") (codes "1")) ++ text_by (other_line true) after
     ≡ tag_lines (other_pairs (with_set_up held))
 both_sides held pairs before after n is place front back some = grind (arith, others_with_fen, lines_about)

@@ -4,8 +4,7 @@ use Rattle.pgn_game.proofs.putting.WritesInTurn.{next_text, next_front, within_a
 use Rattle.pgn_game.proofs.section.write_roster.Goals as goal
 
 next_line : (result : List ℕ) (held : List Pair) (i : ℕ) (name unknown value : List ℕ) (a b c : Option (List ℕ))
-    → slice_get (roster result) i ≡ Some (record { name = name; value = unknown })
-    → value ≡ unwrap_or (value_of held name) unknown
+    → slice_get (roster result) i ≡ Some (record { name = name; value = unknown }) → value ≡ unwrap_or (value_of held name) unknown
     → Appends a b (text_by (roster_line held) (take i (roster result))) → Appends b c (tag_line name value)
     → Appends a c (text_by (roster_line held) (take (i + 1) (roster result)))
 next_line result held i name unknown value a b c at is done next =
@@ -13,8 +12,7 @@ next_line result held i name unknown value a b c at is done next =
     next_text (roster_line held) (roster result) i (record { name = name; value = unknown }) a b c p.0 p.1 done (rw is at next)
 
 front_of_line : (result : List ℕ) (held : List Pair) (i : ℕ) (name unknown value : List ℕ) (a b c : Option (List ℕ))
-    → slice_get (roster result) i ≡ Some (record { name = name; value = unknown })
-    → value ≡ unwrap_or (value_of held name) unknown
+    → slice_get (roster result) i ≡ Some (record { name = name; value = unknown }) → value ≡ unwrap_or (value_of held name) unknown
     → Appends a b (text_by (roster_line held) (take i (roster result))) → AppendsFront b c (tag_line name value)
     → AppendsFront a c (text_by (roster_line held) (roster result))
 front_of_line result held i name unknown value a b c at is done next =

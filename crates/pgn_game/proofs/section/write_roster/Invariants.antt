@@ -3,6 +3,5 @@ use Rattle.pgn_game.proofs.section.write_roster.Given as goal
 
 abbrev pub invariant-loop-index : goal.invariant-loop-index
 invariant-loop-index g l =
-    (g.W.Sink.failures l.out ≡ g.W.Sink.failures l.fn.out)
-    × Appends (g.W.Sink.taken l.fn.out) (g.W.Sink.taken l.out)
+    (g.W.Sink.failures l.out ≡ g.W.Sink.failures l.fn.out) × Appends (g.W.Sink.taken l.fn.out) (g.W.Sink.taken l.out)
     (text_by (roster_line l.pairs) (take l.index (roster (known_result (missing_of l.missing_result)))))

@@ -3,10 +3,8 @@ use Rattle.pgn_tool.proofs.Words.{SplitResult}
 use Rattle.pgn_tool.proofs.split.split_to.Goals as goal
 
 runs_by : {before after : Option (List FileStep)} {source err : Device} {status : ℕ} (answer : Result Unit Unsplit)
-    → SplitFiles before after answer
-    → SplitResult source.before source.after answer before after
-    → CountsSplit answer source.failures source.failures_after → EndsSplit answer err status
-    → RunsSplit before after source err status
+    → SplitFiles before after answer → SplitResult source.before source.after answer before after
+    → CountsSplit answer source.failures source.failures_after → EndsSplit answer err status → RunsSplit before after source err status
 runs_by answer files splits counted ends = record { answer = answer; files = files; splits = splits; counted = counted; ends = ends }
 
 pub returns-in-Ok-clause-runs : goal.returns-in-Ok-clause-runs

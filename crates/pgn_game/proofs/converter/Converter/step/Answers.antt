@@ -36,7 +36,13 @@ returns-in-Token g c =
           let scans = c.next-scan.follows.holds-at-none in
           let carries = rw c.in-Token.is at scans.carries in
           let ends = rw c.in-Token.is at scans.ends in
-          rw (c.settle-outcome.ensures.outcome, c.finished_game-self-inside.ensures, c.settle-outcome.ensures.games, c.settle-outcome.ensures.fault, c.settle-outcome.ensures.outcome)
+          rw (
+            c.settle-outcome.ensures.outcome,
+            c.finished_game-self-inside.ensures,
+            c.settle-outcome.ensures.games,
+            c.settle-outcome.ensures.fault,
+            c.settle-outcome.ensures.outcome,
+          )
           (took p _ u given c.args.piece.now _ _ c.next-scan.follows.lender-at-none
           c.accept-accepted.new.self c.self.inside.is_finished _ _ c.accept-accepted.result
           here (carries u _ given here.lexer (follows_own c.args.piece.now)) ends

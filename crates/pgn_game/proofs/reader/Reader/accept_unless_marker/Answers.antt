@@ -6,8 +6,7 @@ use Rattle.pgn_game.proofs.reader.Reader.accept_unless_marker.Goals as goal
 
 -- a token that enters movetext is met there
 met : (old ready new : ReaderState) (k : Kind) (r : Result (Option Marker) Reason) (d : Device)
-    → EntersMovetext old k ready → MeetsEntry ready k new r d
-    → TakesUnlessMarker old k new r d
+    → EntersMovetext old k ready → MeetsEntry ready k new r d → TakesUnlessMarker old k new r d
 met old ready new k (Ok (Some marker)) d enters h =
     record { is = h.is; enters = subst (EntersMovetext old k) (sym h.same) enters; unwritten = h.unwritten; still = h.still }
 met old ready new k (Ok None) d enters h = enters.takes new (Ok _) d h.takes

@@ -42,7 +42,13 @@ returns-then-depth-gt0 g c = λ k is.
     let old = c.args.self.now in
     entry_refused old (kind_of k) MarkerInVariation _ _ refl (λ part op.
     marker_inside old (kind_of k) (marker_text c.args.marker) part is (le-leb 1 (depth (levels_of_part part))
-    (omega (arith, c.if-depth-gt0.true, c.depth.ensures.value, depth_is old part op, ap (λ (r : ReaderState). length r.text.levels.around) c.self.view_is))))
+    (omega (
+      arith,
+      c.if-depth-gt0.true,
+      c.depth.ensures.value,
+      depth_is old part op,
+      ap (λ (r : ReaderState). length r.text.levels.around) c.self.view_is,
+    ))))
     (λ part. marker_untried part k (ap is_some is))
 
 pub returns-then-ne : goal.returns-then-ne

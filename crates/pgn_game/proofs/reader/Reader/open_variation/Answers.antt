@@ -44,7 +44,14 @@ returns g c =
     item_entry old _ left_paren Open _ _ c.put.ensures (λ part is. (
       pass _ _ _ (ap not (sym (holds_is old part is) ∙ some))
           ∙ pass _ _ _ (lt-leb old.profile.depth (depth (levels_of_part part))
-          (omega (arith, most, c.if-depth.false, c.depth.ensures.value, depth_is old part is, ap (λ (r : ReaderState). length r.text.levels.around) v))),
+          (omega (
+            arith,
+            most,
+            c.if-depth.false,
+            c.depth.ensures.value,
+            depth_is old part is,
+            ap (λ (r : ReaderState). length r.text.levels.around) v,
+          ))),
       refl,
     )) (λ part. refl)
 

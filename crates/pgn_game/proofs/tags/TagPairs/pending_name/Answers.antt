@@ -7,5 +7,4 @@ returns g c =
     let last = c.index-as_slice-self.result in
     let at : last ≡ get_or c.self.inside.pairs.items (c.self.inside.count - 1) last =
     rw c.as_slice.ensures.value at c.index-as_slice-self.is in
-    begun-last c.self.inside.has_pending_name c.self.invariant c.self.view_is at c.requires
-    ∙ ap Some (sym c.name.ensures.name)
+    begun-last c.self.inside.has_pending_name c.self.invariant c.self.view_is at c.requires ∙ ap Some (sym c.name.ensures.name)
