@@ -1,11 +1,11 @@
--- Where a converter or one of two readings fits in memory, its reader does; and where games fit,
--- their converter does.
+-- Where a converter fits in memory, its reader does; where games or a reading fit, their converter
+-- does.
 use Rattle.std.proofs.Common.{rules, arith, ℕ, ◌+◌, ◌<◌, ◌≤◌}
 use prog.Memory.{up}
 use Rattle.std.specs.Mem.{FitsInMemory}
 use Rattle.std.specs.Borrow.{RattleType}
 use Rattle.pgn_game.specs.contracts.converter.Converter.{the_row}
-use Rattle.pgn_game.specs.contracts.checked.Pass.{the_row as pass_row}
+use Rattle.pgn_game.specs.contracts.checked.Reading.{the_row as reading_row}
 use Rattle.pgn_game.specs.contracts.games.Games.{the_row as games_row}
 use Rattle.pgn_game.specs.contracts.reader.Reader.{the_row as reader_row}
 
@@ -34,9 +34,10 @@ reader_alike T L fits = fits
 pub games_fit_converter : (T L : RattleType) → FitsInMemory (games_row T L) → FitsInMemory (the_row T L)
 games_fit_converter T L fits = second _ _ _ _ (first _ _ _ _ fits)
 
-pub pass_fits_reader : (T L : RattleType) → FitsInMemory (pass_row T L) → FitsInMemory (reader_row T L)
-pass_fits_reader T L fits = second _ _ _ _ (first _ _ _ _ fits)
+-- and where a reading does
+pub reading_fits_converter : (T L : RattleType) → FitsInMemory (reading_row T L) → FitsInMemory (the_row T L)
+reading_fits_converter T L fits = second _ _ _ _ (first _ _ _ _ (first _ _ _ _ fits))
 
 -- and another reading
-pub pass_alike : (T L : RattleType) → FitsInMemory (pass_row T L) → FitsInMemory (pass_row T L)
-pass_alike T L fits = fits
+pub reading_alike : (T L : RattleType) → FitsInMemory (reading_row T L) → FitsInMemory (reading_row T L)
+reading_alike T L fits = fits

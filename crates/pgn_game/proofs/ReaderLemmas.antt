@@ -5,7 +5,7 @@ pub use Rattle.pgn_game.proofs.pairs.PairsToFirstPosition.{start_faults, start_f
 pub use Rattle.pgn_game.proofs.putting.ItemToMovetext.{no_move}
 pub use Rattle.pgn_game.proofs.putting.ItemToReader.{begins_as, begun_before, fails_item, fails_move, most_after, puts_item, puts_move, puts_number}
 pub use Rattle.pgn_game.proofs.putting.ItemToReader.{puts_unbegun, text_begun, unbegun_part}
-pub use Rattle.pgn_game.proofs.putting.MarkerToReader.{ends_ill, ends_unbegun, ends_well, marker_taken}
+pub use Rattle.pgn_game.proofs.putting.MarkerToReader.{ends_ill, ends_unbegun, ends_well}
 pub use Rattle.pgn_game.proofs.putting.PairStepToReader.{completed, puts_left_bracket, puts_name, puts_right_bracket, puts_value, to_name, to_stage}
 pub use Rattle.pgn_game.proofs.putting.PairStepToReader.{to_value}
 pub use Rattle.pgn_game.proofs.putting.WritesInTurn.{front_after, front_of_more}

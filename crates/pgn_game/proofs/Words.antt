@@ -54,7 +54,7 @@ pub use Rattle.pgn_game.specs.Markers.{marker_text, missing_of}
 pub use Rattle.pgn_game.specs.Movetext.{AreThere, ClosesLevel, FitsLevelStore, HoldsItems, Movetext, StoredLevel, StoredLevels, before_last, code_levels, ends_in_move, inside, level_at, level_of, movetext_after_fen, movetext_from, only_level, stored_level, stored_levels}
 pub use Rattle.pgn_game.specs.Progress.{Next, Progress, Read, at_stage, going, in_text, items_of, move_item, next, next_in, no_progress, output, progress_after, progress_with, read, read_from, refused, totals, verdict, whole, due, verdict_of, written as written_so_far, position_at_fault}
 pub use Rattle.pgn_game.specs.PutResult.{BeginsText, Goes, Keeps, PutResult, PutsItems, TakesOutside, TakesToken, at_game_start, gain_to, section_due, section_due_of, CountsMove, EntersMovetext, Finds, FinishesNone, GoesTo, Takes, TakesEntry, TakesUnwritten, counting_probes, unused}
-pub use Rattle.pgn_game.specs.ReaderState.{Accepts, Agrees, AreSound, CountsWrites, FinishesAtMarker, HoldsPairs, HoldsText, IsBehind, ReaderState, Stays, as_written, is_outside_the_table, plies_behind, whole_plies, Answers, IsAccepted, IsKnown, IsStopped, Leads, plies_next}
+pub use Rattle.pgn_game.specs.ReaderState.{Accepted, More, Finished, Agrees, AreSound, CountsWrites, FinishesAtMarker, HoldsPairs, HoldsText, IsBehind, ReaderState, as_written, is_outside_the_table, known_of, known_text, plies_behind, whole_plies, Answers, IsAccepted, IsKnown, IsStopped, Leads, plies_next}
 pub use Rattle.pgn_game.specs.SectionLines.{other_line, roster_line, text_by}
 pub use Rattle.pgn_game.specs.Spells.{AreDistinct, AreDropped, BeginsBare, IsPair, IsResult, IsSetUp, KeepsTags, Names, Spells, SpellsGame, SpellsGames, SpellsPair, SpellsPairs, SpellsText, StandsFor, by_name, comment_close, comment_open, glyph, level_after_move, move, new_level, next_game, next_pair, no_game, no_more, no_pair, number, pair, period, token, variation, word}
 pub use Rattle.pgn_game.specs.StoredPairs.{FitsPairStore, TagPairs, but_last, index_of, last_name, pairs_seen}
@@ -64,7 +64,6 @@ pub use Rattle.pgn_game.specs.Text.{Placed, full_text, game_text, has_move, is_m
 pub use Rattle.pgn_game.specs.Text.{tokens_out, torn, torn_at, torn_for, written_items, text_of as text_of_games}
 pub use Rattle.pgn_game.specs.TokenInMovetext.{IsEntry, IsOpen, ItemFits, fen_position, game_of, is_frequent, may_have_movetext, model_item, or_else}
 pub use Rattle.pgn_game.specs.TokenInMovetext.{text_refusal, with_items}
-pub use Rattle.pgn_game.specs.declared.accepted.Accepted.TheVariants.{Finished, More}
 pub use Rattle.pgn_game.specs.declared.marker.Marker.{Marker}
 pub use Rattle.pgn_game.specs.declared.marker.Marker.TheVariants.{BlackWins, Draw, Unknown, WhiteWins}
 pub use Rattle.pgn_layout.specs.Device.{AppendsFront, Counts, Device, Writes, WritesText, device, one_more, FailsOnce, IsStill}
@@ -90,21 +89,19 @@ pub use Rattle.pgn_game.specs.Tried.{CostsAnswer, CostsForm}
 pub use Rattle.pgn_game.specs.ConverterCalls.{AreNext, Converter, CountsFault, CountsMissingAs, CountsReason, FedAll, FedFault, FedGame, FedToFault, FedWhole, FinishedGame, HasRead, IsSound, ReadsUpTo, Stands, StopsIn, at_token, counting_missing_as, finished_game_of, finished_game_plies, game_in_reader_if, play_moves, profile_of, too_long, AfterFinish, Finishes, FinishesToFault, game_in_reader, Stops, unwritten, StopsWriting, games_before, position_at_stop, ProbesAtStop, has_played_move, reported_position, refused as refused_stop, IsLast as IsLastGame}
 pub use Rattle.pgn_lexer.specs.Standing.{Standing, coming, waiting}
 pub use Rattle.pgn_lexer.specs.Stands.{AfterScan, FinishGivesToken, Follows, HasLeft, IsDecided, IsNext, StandsAfter, first, still}
-pub use Rattle.pgn_game.specs.Pass.{BothSoFar, HasMarked, HasMatched, IsGoing, Pass, changed_reason, marks_differ, part_after, profile_under}
-pub use Rattle.pgn_game.specs.Pass.{reading_under, steps_left}
-pub use Rattle.pgn_game.specs.MostTried.{CostsIf, CostsToAdd, CostsToFind, CostsToWrite, CostsUnlessRefused, MostFrom, MostTried, Raises, Tries}
+pub use Rattle.pgn_game.specs.Readings.{BothSoFar, HasMarked, HasMatched, IsGoing, Reading, changed_reason, model_mark}
+pub use Rattle.pgn_game.specs.MostTried.{CostsIf, CostsToAdd, CostsToFind, CostsToWrite, MostFrom, MostTried, Raises, Tries}
 pub use Rattle.pgn_game.specs.MostTried.{TriesUnwritten, added, is_written, none}
 pub use Rattle.pgn_game.specs.GamesCalls.{AfterNext, CountsNext, Games, HasReadAll, HaveRead, NextGame, NextStops, NoGame, ReadSoFar, at_end}
 pub use Rattle.pgn_game.specs.GamesCalls.{games_of, most_left, within}
 pub use Rattle.pgn_game.specs.Due.{Gains, gain, text_next}
-pub use Rattle.pgn_game.specs.ConverterSteps.{AfterStepAtEnd, AllSoFar, AtEndSoFar, FaultAtEnd, FeedsAllSoFar, FeedsSoFar, FinishesSoFar, SameGames, StaysBetween, StepAtEndAdvances, fault_of_step, games_after, is_ended, none_at_end, outcome_at, AfterStep, next_at, SoFar, OneGame, finished_game, StepAdvances}
+pub use Rattle.pgn_game.specs.ConverterSteps.{AfterStep, AfterStepAtEnd, AllSoFar, AtEndSoFar, EndsGame, EndsWithin, FaultAtEnd, FeedsAllSoFar, FeedsSoFar, FinishesSoFar, GainsAs, Meets, NotTaken, OneGame, Reaches, ReadsMore, SameGames, SoFar, StaysBetween, due_as, ended_by, fault_of_step, next_at, outcome_at, part_after}
 pub use Rattle.pgn_game.specs.Checked.{Comparison, Mark, checked_profile, compared, compared_from, earlier_fault, is_changed, is_other, mark_at}
 pub use Rattle.pgn_game.specs.Checked.{marks, marks_after, marks_from, torn_before, with_mark, written_by}
 pub use Rattle.pgn_lexer.specs.Decided.{decided}
-pub use Rattle.pgn_game.specs.declared.accepted.Accepted.{Accepted}
 pub use Rattle.pgn_game.specs.Conversion.{AfterConversion, AfterEnd, AfterSlice, CountsDevices, Fails, FailsOn, IsConverted, IsTotalled, MostProbes}
 pub use Rattle.pgn_game.specs.Conversion.{ReadsNoMore, verdict_in}
-pub use Rattle.pgn_game.specs.GamesSteps.{FillResult, MoreResult, NextSoFar, ReadsSoFar}
+pub use Rattle.pgn_game.specs.GamesSteps.{FillResult, MoreResult, MoreSoFar, ReadsSoFar, StandsWithin}
 pub use Rattle.pgn_game.specs.GamesRestart.{FinishesGame, GamesRestart, counting_also, games_read}
 pub use Rattle.pgn_game.specs.declared.conversion.Totals.{Totals}
 pub use Rattle.pgn_lexer.specs.declared.token.LexFault.{LexFault}

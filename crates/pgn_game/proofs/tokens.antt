@@ -1,16 +1,21 @@
 -- One token and many: from what the reader returns to whole inputs.
 pub mod AcceptedToConverter
+pub mod BytesToMarker
+pub mod EndOfText
+pub mod FinishesGames
 pub mod GamesInPiece
 pub mod GamesInTurn
 pub mod GamesJoined
 pub mod GamesRestart
 pub mod LastTokens
 pub mod MarkerEndsGame
+pub mod MarkerToGame
 pub mod MissingCountsAs
 pub mod NextGrows
 pub mod NoneBeforeFault
 pub mod OneMoreToken
 pub mod PairsTriedForToken
+pub mod PieceToGame
 pub mod PutToAnswer
 pub mod SoundAtStart
 pub mod StepsAtEnd

@@ -67,11 +67,10 @@ abbrev pub game_in_reader_if : Bool → ReaderState → Option FinishedGame
 game_in_reader_if true reading = Some (game_in_reader reading)
 game_in_reader_if false reading = None
 
--- What a converter keeps to. A missing Result counts as a text. Before a fault its counts stay
--- small: a byte ends at most two tokens, so the games fit, and the moves; the end is one more. A
--- game is just finished only between games, and not after a fault.
+-- What a converter keeps to. Before a fault its counts stay small: a byte ends at most two tokens,
+-- so the games fit, and the moves; the end is one more. A game is just finished only between games,
+-- and not after a fault.
 pub record IsSound (lexer : Standing) (reading : ReaderState) (games : ℕ) (has_finished_game is_finished : Bool) (fault : Option Fault) : Type 0 where
-  pub known : IsKnown reading.profile
   pub count : fault ≡ None → lexer.count ≤ 2 ^ 62
   pub few : fault ≡ None → games + waiting lexer ≤ 2 * lexer.count + 2
   pub few_plies : fault ≡ None → reading.earlier_plies + reading.text.plies + waiting lexer ≤ 2 * lexer.count + 3
@@ -126,8 +125,9 @@ pub record HasRead (p : Profile) (c : Converter) (given : List Token) : Type 0 w
   pub just_finished : IsLast c.just_finished (read p given).progress.games
 
 -- The converter stands after the bytes u, of which the lexer has given these tokens; b, where there
--- is one, is known to be next.
+-- is one, is known to be next. A missing Result counts as a text.
 pub record Stands (p : Profile) (c : Converter) (u : List ℕ) (b : Option ℕ) (given : List Token) : Type 0 where
+  pub known : IsKnown p
   pub lexer : StandsAfter c.lexer u b given
   pub has_read : HasRead p c given
 

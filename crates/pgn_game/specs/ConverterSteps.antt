@@ -1,104 +1,367 @@
--- **Bookkeeping**: what one token does to a converter, in a piece and after the last one.
+-- **Bookkeeping**: what one token does to a converter, in a piece and after the last one, and what
+-- is read up to a marker.
 -- Letters: p is the profile, u the bytes used so far, b the byte known to be next, if one is.
--- `given` are the tokens given so far, and f is a fault. `sink` is the sink before the call and
--- after it, `before` and `after` are the bytes that it has taken, if it reports them. The token of
--- the step is t, and g is a game.
-use Rattle.std.specs.Prelude.{◌≡◌, ℕ, ◌+◌, ◌*◌, ◌<◌, ◌≤◌, ◌^◌, ◌↔◌, Bool, true, false, IsTrue, List, [], ◌∷◌, ◌++◌, length, take, drop, Option, None, Some, Result, Ok, Err}
+-- `given` are the tokens given before a call, `tokens` those read when it ends. t is the token that
+-- comes then, m the mark of a marker, f a fault, g a game. `sink` is the sink before the call and
+-- after it, `before` and `after` are the bytes that it has taken, if it reports them.
+use Rattle.std.specs.Prelude.{◌≡◌, ℕ, ◌+◌, ◌*◌, ◌<◌, ◌≤◌, ◌^◌, ◌↔◌, Bool, true, false, IsTrue, List, [], ◌∷◌, ◌++◌, length, take, drop, Option, None, Some, Result, Ok, Err, MatchResult}
+use Rattle.std.specs.Io.KnownBytes.{Appends}
 use Rattle.pgn_layout.specs.Device.{Device}
-use Rattle.pgn_lexer.specs.Tokens.{Token, EndsAt}
+use Rattle.pgn_lexer.specs.Tokens.{Kind, Token, EndsAt}
 use Rattle.pgn_lexer.specs.TokensOf.{tokens_of}
 use Rattle.pgn_lexer.specs.Decided.{decided}
 use Rattle.pgn_lexer.specs.Standing.{Standing, waiting}
-use Rattle.pgn_lexer.specs.Stands.{HasLeft, Follows, IsDecided, first}
+use Rattle.pgn_lexer.specs.Stands.{StandsAfter, HasLeft, Follows, IsDecided, first, still}
 use Rattle.pgn_game.specs.declared.stage.Stage.TheVariants.{Between}
+use Rattle.pgn_game.specs.declared.marker.Marker.{Marker}
+use Rattle.pgn_game.specs.declared.marker.Mark.{Mark}
 use Rattle.pgn_game.specs.declared.reason.Fault.{Fault}
 use Rattle.pgn_game.specs.declared.reason.Reason.{Reason}
-use Rattle.pgn_game.specs.declared.accepted.Accepted.{Accepted}
-use Rattle.pgn_game.specs.declared.accepted.Accepted.TheVariants.{More, Finished}
-use Rattle.pgn_game.specs.declared.converter.Fed.{Fed}
-use Rattle.pgn_game.specs.declared.converter.Fed.TheVariants.{All, Game as GameEnd}
-use Rattle.pgn_game.specs.Profile.{Profile}
-use Rattle.pgn_game.specs.Game.{Game}
+use Rattle.pgn_game.specs.declared.reason.Reason.TheVariants.{WriteFault}
+use Rattle.pgn_game.specs.declared.converter.Met.{Met}
+use Rattle.pgn_game.specs.declared.converter.Met.TheVariants.{Token as Other, Marker as AtMarker}
+use Rattle.pgn_game.specs.declared.converter.Reached.{Reached}
+use Rattle.pgn_game.specs.declared.converter.Reached.TheVariants.{All, Marker as ToMarker}
+use Rattle.pgn_game.specs.Markers.{marker_text}
+use Rattle.pgn_game.specs.Profile.{Profile, takes_the_marker, with_missing}
+use Rattle.pgn_game.specs.Game.{Game, Part}
+use Rattle.pgn_game.specs.FaultTable.{is_end, marker_of, refusal}
+use Rattle.pgn_game.specs.Text.{text_of, torn}
 use Rattle.pgn_game.specs.Progress.{read}
 use Rattle.pgn_game.specs.Due.{Gains}
-use Rattle.pgn_game.specs.ConverterCalls.{Converter, game_in_reader, finished_game_of, IsLast, HasRead, Stands, Stops, games_before, position_at_stop, reported_position, ProbesAtStop, FedAll, FedGame, FedToFault}
-use Rattle.pgn_game.specs.ReaderState.{ReaderState}
+use Rattle.pgn_game.specs.ReaderState.{Accepted, Finished, ReaderState, IsStopped, as_written}
+use Rattle.pgn_game.specs.TokenInMovetext.{may_have_movetext}
+use Rattle.pgn_game.specs.PutResult.{EntersMovetext, TakesEntry}
+use Rattle.pgn_game.specs.ConverterCalls.{Converter, FinishedGame, game_in_reader, IsLast, HasRead, Stands, Stops, StopsIn, AreNext, games_before, position_at_stop, reported_position, ProbesAtStop}
 
--- the games read with one token more: none more, or one
+-- ---- what was read and written
+
+-- the games read with more tokens: none more, or one
 abbrev pub SameGames : Profile → List Token → List Token → Type 0
 SameGames p given tokens = (read p tokens).progress.games ≡ (read p given).progress.games
 
 abbrev pub OneGame : Profile → List Token → List Token → Game → Type 0
 OneGame p given tokens g = (read p tokens).progress.games ≡ (read p given).progress.games ++ g ∷ []
 
--- a token was read
-pub record ReadsToken (p : Profile) (u : List ℕ) (given : List Token) (piece : List ℕ) (used : ℕ) (t : Token) (new : Converter) (before after : Option (List ℕ)) : Type 0 where
-  pub stands : Stands p new (u ++ take used piece) (first (drop used piece)) (given ++ t ∷ [])
+-- the part before the next token
+abbrev pub part_after : Profile → List Token → Part
+part_after p given = (read p given).progress.part
+
+-- What is due for tokens, where a missing Result of the current game is written as in the profile
+-- w.
+abbrev pub due_as : Profile → Profile → List Token → List ℕ
+due_as w p tokens = text_of p (read p tokens).progress.games ++ torn w (part_after p tokens)
+
+-- What was appended is that for `tokens` without that for `given`.
+pub record GainsAs (w p : Profile) (given tokens : List Token) (before after : Option (List ℕ)) : Type 0 where
+  pub text : List ℕ
+  pub due_for : due_as w p tokens ≡ due_as w p given ++ text
+  pub appended : Appends before after text
+
+-- The converter has read these tokens, and its lexer stands after the bytes u.
+pub record Reaches (p : Profile) (c : Converter) (u : List ℕ) (b : Option ℕ) (given : List Token) : Type 0 where
+  pub lexer : StandsAfter c.lexer u b given
+  pub has_read : HasRead p c given
+
+-- The converter has read `tokens`: those given and more, which finish no game. What they gain was
+-- written.
+pub record ReadsMore (p : Profile) (given tokens : List Token) (now : Converter) (before after : Option (List ℕ)) : Type 0 where
+  pub more : List Token
+  pub extends : tokens ≡ given ++ more
+  pub has_read : HasRead p now tokens
+  pub no_game : SameGames p given tokens
+  pub gains : GainsAs (as_written now.reading) p given tokens before after
+
+-- Behind them comes a marker, which was met and not taken yet.
+pub record Meets (p : Profile) (given tokens : List Token) (t : Token) (m : Mark) (new : Converter) (before after : Option (List ℕ)) : Type 0 where
+  pub reader : ReaderState
+  pub reads : ReadsMore p given tokens (record new { reading = reader }) before after
+  pub is : marker_of t.kind ≡ Some (marker_text m.marker)
+  pub place : t.at ≡ m.at
+  pub enters : EntersMovetext reader t.kind new.reading
+
+-- Behind them comes a token that was not taken: it is rejected, or a write failed, which is the
+-- fault of no marker.
+pub record NotTaken (p : Profile) (given tokens : List Token) (t : Token) (f : Fault) (new : ReaderState) (before after : Option (List ℕ)) : Type 0 where
+  pub now : Converter
+  pub mid : Option (List ℕ)
+  pub reads : ReadsMore p given tokens now before mid
+  pub place : f.at ≡ t.at
+  pub no_marker : f.reason ≡ WriteFault → marker_of t.kind ≡ None
+  pub stopped : IsStopped now.reading (part_after p tokens) t.kind new mid after f.reason
+  pub profile : new.profile ≡ now.reading.profile
+  pub told : new.told ≡ now.reading.told
+  pub probes : now.reading.most_probes ≤ new.most_probes
+
+-- What is asked for a marker: movetext may have it, and counts have room for its game.
+pub record IsReady (c : Converter) : Type 0 where
+  pub stage : IsTrue (may_have_movetext c.reading.stage)
+  pub few : c.games + 1 + waiting c.lexer ≤ 2 * c.lexer.count + 2
+  pub few_plies : c.reading.earlier_plies + c.reading.text.plies + 1 + waiting c.lexer ≤ 2 * c.lexer.count + 2
+
+-- ---- one token
+
+-- what an answer of the reader, to a token at this place, is for the converter
+abbrev pub outcome_at : ℕ → Result (Option Marker) Reason → Result (Option Met) Fault
+outcome_at at (Ok None) = Ok (Some Other)
+outcome_at at (Ok (Some marker)) = Ok (Some (AtMarker (record { marker = marker; at = at })))
+outcome_at at (Err reason) = Err (record { at = at; reason = reason })
+
+-- the fault that is kept after a step
+abbrev pub fault_of_step : Result (Option Met) Fault → Option Fault
+fault_of_step (Ok met) = None
+fault_of_step (Err f) = Some f
+
+-- whether it passed the end
+abbrev pub is_ended : Result (Option Met) Fault → Bool
+is_ended (Ok None) = true
+is_ended _ = false
+
+-- a marker that was met can be taken
+abbrev pub IsReadyAfter : Converter → Result (Option Met) Fault → Type 0
+IsReadyAfter new (Ok (Some (AtMarker m))) = IsReady new
+IsReadyAfter new _ = Unit {0}
+
+-- The lexer stands behind a token that ends in the piece.
+pub record EndsWithin (u : List ℕ) (given : List Token) (piece : List ℕ) (used : ℕ) (t : Token) (l : Standing) : Type 0 where
+  pub stands : StandsAfter l (u ++ take used piece) (first (drop used piece)) (given ++ t ∷ [])
   pub decided : IsDecided (u ++ take used piece) (drop used piece) (given ++ t ∷ [])
   pub ends : EndsAt t.kind t.at (length u + used)
-  pub gains : Gains p given (given ++ t ∷ []) before after
 
 -- What a step in a piece results in.
 abbrev pub AfterStep : Profile → List ℕ → List Token → List ℕ → Converter → ℕ
-    → Result (Option Accepted) Fault → Option (List ℕ) → Option (List ℕ) → Type 0
+    → Result (Option Met) Fault → Option (List ℕ) → Option (List ℕ) → Type 0
 AfterStep p u given piece new used (Ok None) before after =
-    (used ≡ length piece) × Stands p new (u ++ piece) None given × (given ≡ decided (u ++ piece)) × Gains p given given before after
-AfterStep p u given piece new used (Ok (Some More)) before after =
-    (t : Token) × ReadsToken p u given piece used t new before after × SameGames p given (given ++ t ∷ [])
-AfterStep p u given piece new used (Ok (Some Finished)) before after =
-    (t : Token) × ReadsToken p u given piece used t new before after × ((g : Game) × OneGame p given (given ++ t ∷ []) g × (new.just_finished ≡ Some (finished_game_of g)))
+    (used ≡ length piece) × StandsAfter new.lexer (u ++ piece) None given × (given ≡ decided (u ++ piece)) × ReadsMore p given given new before after
+AfterStep p u given piece new used (Ok (Some Other)) before after =
+    (t : Token) × EndsWithin u given piece used t new.lexer × ReadsMore p given (given ++ t ∷ []) new before after
+AfterStep p u given piece new used (Ok (Some (AtMarker m))) before after =
+    (t : Token) × EndsWithin u given piece used t new.lexer × Meets p given given t m new before after
 AfterStep p u given piece new used (Err f) before after =
-    FedToFault p u None given piece f new.reading before after
+    (t : Token) × AreNext (u ++ piece) None (given ++ t ∷ []) × NotTaken p given given t f new.reading before after
 
 -- What `step` does to a converter.
-abbrev pub Steps : Converter → List ℕ → Converter → ℕ → Result (Option Accepted) Fault → Device → Type 0
+abbrev pub Steps : Converter → List ℕ → Converter → ℕ → Result (Option Met) Fault → Device → Type 0
 Steps old piece new used outcome sink =
-    (p : Profile) (u : List ℕ) (given : List Token) → Stands p old u (first piece) given
+    (p : Profile) (u : List ℕ) (given : List Token) → Reaches p old u (first piece) given
     → AfterStep p u given piece new used outcome sink.before sink.after
 
 -- Where no game is begun after a token, nothing has changed with it.
 abbrev pub StaysBetween : Converter → Converter → Type 0
 StaysBetween old new = new.reading.stage ≡ Between → new.reading ≡ old.reading
 
--- What a step after the last piece reads, if it is not the end; u is the whole text.
-pub record ReadsTokenAtEnd (p : Profile) (u : List ℕ) (given : List Token) (t : Token) (new : Converter) (before after : Option (List ℕ)) : Type 0 where
-  pub left : HasLeft new.lexer u (given ++ t ∷ [])
-  pub has_read : HasRead p new (given ++ t ∷ [])
-  pub gains : Gains p given (given ++ t ∷ []) before after
-
--- the end was reached: no game is begun
-pub record ReadsEnd (p : Profile) (u : List ℕ) (given : List Token) (t : Token) (new : Converter) (before after : Option (List ℕ)) : Type 0 where
-  pub whole : tokens_of u ≡ given ++ t ∷ []
-  pub has_read : HasRead p new (given ++ t ∷ [])
+-- The end was reached: it is the last token of the text u, and no game is begun.
+pub record ReadsEnd (p : Profile) (u : List ℕ) (given tokens : List Token) (t : Token) (new : Converter) (before after : Option (List ℕ)) : Type 0 where
+  pub whole : tokens_of u ≡ tokens ++ t ∷ []
+  pub is_end : is_end t.kind ≡ true
+  pub place : t.at ≡ length u
+  pub passes : refusal p (part_after p tokens) t.kind ≡ None
+  pub reads : ReadsMore p given tokens new before after
+  pub has_read : HasRead p new (tokens ++ t ∷ [])
   pub between : new.reading.stage ≡ Between
-  pub same : SameGames p given (given ++ t ∷ [])
-  pub gains : Gains p given (given ++ t ∷ []) before after
 
--- A token of these is rejected, or a write failed. Before it no game was finished, and the reader
--- holds the position in which a move was rejected.
-pub record FaultAtEnd (p : Profile) (given tokens : List Token) (f : Fault) (reading : ReaderState) (before after : Option (List ℕ)) : Type 0 where
-  pub stops : Stops p given tokens before after f
-  pub no_game : games_before stops ≡ (read p given).progress.games
-  pub counts : ProbesAtStop stops reading.most_probes
-  pub position : reported_position reading f.reason ≡ position_at_stop stops
+-- A token of the text u was not taken.
+pub record FailsAtEnd (p : Profile) (u : List ℕ) (given : List Token) (f : Fault) (new : ReaderState) (before after : Option (List ℕ)) : Type 0 where
+  pub tokens : List Token
+  pub token : Token
+  pub rest : List Token
+  pub cut : tokens_of u ≡ tokens ++ token ∷ rest
+  pub fails : NotTaken p given tokens token f new before after
 
 -- What a step after the last piece results in.
 abbrev pub AfterStepAtEnd : Profile → List ℕ → List Token → Converter → Converter
-    → Result (Option Accepted) Fault → Option (List ℕ) → Option (List ℕ) → Type 0
-AfterStepAtEnd p u given old new (Ok (Some More)) before after =
-    (t : Token) × ReadsTokenAtEnd p u given t new before after × SameGames p given (given ++ t ∷ []) × StaysBetween old new
-AfterStepAtEnd p u given old new (Ok (Some Finished)) before after =
-    (t : Token) × ReadsTokenAtEnd p u given t new before after × ((g : Game) × OneGame p given (given ++ t ∷ []) g × (game_in_reader new.reading ≡ finished_game_of g))
+    → Result (Option Met) Fault → Option (List ℕ) → Option (List ℕ) → Type 0
+AfterStepAtEnd p u given old new (Ok (Some Other)) before after =
+    (t : Token) × HasLeft new.lexer u (given ++ t ∷ []) × ReadsMore p given (given ++ t ∷ []) new before after × StaysBetween old new
+AfterStepAtEnd p u given old new (Ok (Some (AtMarker m))) before after =
+    (t : Token) × HasLeft new.lexer u (given ++ t ∷ []) × Meets p given given t m new before after
 AfterStepAtEnd p u given old new (Ok None) before after =
-    (t : Token) × ReadsEnd p u given t new before after × StaysBetween old new
+    (t : Token) × ReadsEnd p u given given t new before after × StaysBetween old new
 AfterStepAtEnd p u given old new (Err f) before after =
-    FaultAtEnd p given (tokens_of u) f new.reading before after
+    (t : Token) × (rest : List Token) × (tokens_of u ≡ given ++ t ∷ rest) × NotTaken p given given t f new.reading before after
 
 -- What `step_at_end` does to a converter.
-abbrev pub StepsAtEnd : Converter → Converter → Result (Option Accepted) Fault → Device → Type 0
+abbrev pub StepsAtEnd : Converter → Converter → Result (Option Met) Fault → Device → Type 0
 StepsAtEnd old new result sink =
     (p : Profile) (u : List ℕ) (given : List Token) → HasLeft old.lexer u given → HasRead p old given
     → AfterStepAtEnd p u given old new result sink.before sink.after
+
+-- A step without a token uses the whole piece; one with a token uses a byte, or the token was
+-- waiting.
+abbrev pub StepAdvances : Standing → List ℕ → Standing → ℕ → Result (Option Met) Fault → Type 0
+StepAdvances old piece new used (Ok None) = used ≡ length piece
+StepAdvances old piece new used (Ok (Some met)) = waiting new < 2 * used + waiting old
+StepAdvances old piece new used (Err f) = Unit {0}
+
+-- behind the last piece a token was waiting
+abbrev pub StepAtEndAdvances : Standing → Standing → Result (Option Met) Fault → Type 0
+StepAtEndAdvances old new (Ok None) = Unit {0}
+StepAtEndAdvances old new (Ok (Some met)) = waiting new < waiting old
+StepAtEndAdvances old new (Err f) = Unit {0}
+
+-- ---- up to a marker, in a piece
+
+-- how much of the piece was used
+abbrev pub used_to : Reached → List ℕ → ℕ
+used_to All piece = length piece
+used_to (ToMarker used m) piece = used
+
+-- a marker took a byte, or was waiting
+abbrev pub AdvancesTo : Standing → Standing → Reached → Type 0
+AdvancesTo old new All = Unit {0}
+AdvancesTo old new (ToMarker used m) = waiting new < 2 * used + waiting old
+
+abbrev pub IsReadyAt : Converter → Reached → Type 0
+IsReadyAt new All = Unit {0}
+IsReadyAt new (ToMarker used m) = IsReady new
+
+-- The whole piece was used: all tokens that are decided then were read, and none is a marker that
+-- ends a game.
+pub record ReadsPiece (p : Profile) (u : List ℕ) (b : Option ℕ) (given : List Token) (piece : List ℕ) (new : Converter) (before after : Option (List ℕ)) : Type 0 where
+  pub tokens : List Token
+  pub stands : StandsAfter new.lexer (u ++ piece) (still b piece) tokens
+  pub decided : 0 < length piece → tokens ≡ decided (u ++ piece)
+  pub empty : length piece ≡ 0 → tokens ≡ given
+  pub reads : ReadsMore p given tokens new before after
+
+-- The used bytes end with a marker. A byte at place 2^62 is never looked at.
+pub record ReadsToMarker (p : Profile) (u : List ℕ) (given : List Token) (piece : List ℕ) (used : ℕ) (m : Mark) (new : Converter) (before after : Option (List ℕ)) : Type 0 where
+  pub tokens : List Token
+  pub token : Token
+  pub ends : EndsWithin u tokens piece used token new.lexer
+  pub at_limit : length (u ++ take used piece) ≡ 2 ^ 62
+      → tokens ++ token ∷ [] ≡ decided (u ++ take used piece)
+  pub meets : Meets p given tokens token m new before after
+
+-- A token that is known by now was not taken.
+pub record FailsIn (p : Profile) (u : List ℕ) (b : Option ℕ) (given : List Token) (piece : List ℕ) (f : Fault) (new : ReaderState) (before after : Option (List ℕ)) : Type 0 where
+  pub tokens : List Token
+  pub token : Token
+  pub next : AreNext (u ++ piece) (still b piece) (tokens ++ token ∷ [])
+  pub fails : NotTaken p given tokens token f new before after
+
+-- the result of a piece that ends before place 2^62
+abbrev pub AfterFront : Profile → List ℕ → Option ℕ → List Token → List ℕ → Converter
+    → Result Reached Fault → Option (List ℕ) → Option (List ℕ) → Type 0
+AfterFront p u b given piece new (Ok All) before after = ReadsPiece p u b given piece new before after
+AfterFront p u b given piece new (Ok (ToMarker used m)) before after =
+    ReadsToMarker p u given piece used m new before after
+AfterFront p u b given piece new (Err f) before after =
+    FailsIn p u b given piece f new.reading before after
+
+abbrev pub FeedsFront : Converter → List ℕ → Converter → Result Reached Fault → Device → Type 0
+FeedsFront old piece new result sink =
+    (p : Profile) (u : List ℕ) (b : Option ℕ) (given : List Token)
+    → Reaches p old u b given → Follows b piece
+    → AfterFront p u b given piece new result sink.before sink.after
+
+-- and of any piece
+abbrev pub AfterFeedToMarker : Profile → List ℕ → Option ℕ → List Token → List ℕ → Converter
+    → Result Reached Fault → Option (List ℕ) → Option (List ℕ) → Type 0
+AfterFeedToMarker p u b given piece new (Ok All) before after = ReadsPiece p u b given piece new before after
+AfterFeedToMarker p u b given piece new (Ok (ToMarker used m)) before after =
+    ReadsToMarker p u given piece used m new before after
+AfterFeedToMarker p u b given piece new (Err f) before after =
+    StopsIn u piece
+    (λ fault. FailsIn p u b given piece fault new.reading before after)
+    (λ front. (now : Converter) × ReadsPiece p u b given front now before after
+    × (new.reading ≡ now.reading)) f
+
+-- What `feed_to_marker` does to a converter that stands after any bytes.
+abbrev pub FeedsToMarker : Converter → List ℕ → Converter → Result Reached Fault → Device → Type 0
+FeedsToMarker old piece new result sink =
+    (p : Profile) (u : List ℕ) (b : Option ℕ) (given : List Token)
+    → Reaches p old u b given → Follows b piece
+    → AfterFeedToMarker p u b given piece new result sink.before sink.after
+
+-- the byte known to be next at a place of a piece that b was known to begin with
+abbrev pub next_at : Option ℕ → List ℕ → ℕ → Option ℕ
+next_at b [] at = b
+next_at b (c ∷ piece) at = first (drop at (c ∷ piece))
+
+-- what was read of a piece up to a place
+pub record SoFar (p : Profile) (u : List ℕ) (b : Option ℕ) (given : List Token) (piece : List ℕ) (at : ℕ) (now : Converter) (before after : Option (List ℕ)) : Type 0 where
+  pub tokens : List Token
+  pub stands : StandsAfter now.lexer (u ++ take at piece) (next_at b piece at) tokens
+  pub decided : 0 < at → IsDecided (u ++ take at piece) (drop at piece) tokens
+  pub empty : length piece ≡ 0 → tokens ≡ given
+  pub reads : ReadsMore p given tokens now before after
+
+abbrev pub FeedsSoFar : Converter → List ℕ → ℕ → Converter → Device → Type 0
+FeedsSoFar old piece at now sink =
+    (p : Profile) (u : List ℕ) (b : Option ℕ) (given : List Token)
+    → Reaches p old u b given → Follows b piece
+    → SoFar p u b given piece at now sink.before sink.after
+
+-- ---- the marker
+
+-- the reader's answer to a marker
+abbrev pub ended_by : Result Unit Fault → Result Accepted Reason
+ended_by (Ok done) = Ok Finished
+ended_by (Err f) = Err f.reason
+
+-- The marker at this mark is taken, or not.
+pub record EndsGame (old : ReaderState) (m : Mark) (new : ReaderState) (result : Result Unit Fault) (sink : Device) : Type 0 where
+  pub takes : (k : Kind) → marker_of k ≡ Some (marker_text m.marker) → TakesEntry old k new (ended_by result) sink
+  pub place : MatchResult result (λ done. Unit {0}) (λ f. f.at ≡ m.at)
+
+-- how many games there are then, and the game just finished
+abbrev pub games_ended : Result Unit Fault → ℕ → ℕ
+games_ended (Ok done) games = games + 1
+games_ended (Err f) games = games
+
+abbrev pub game_ended : Result Unit Fault → ReaderState → Option FinishedGame
+game_ended (Ok done) reading = Some (game_in_reader reading)
+game_ended (Err f) reading = None
+
+-- ---- up to a marker, behind the last piece
+
+-- whether the call has read the end of the input
+abbrev pub is_end_of_input : Result (Option Mark) Fault → Bool
+is_end_of_input (Ok None) = true
+is_end_of_input _ = false
+
+-- a marker was waiting
+abbrev pub AdvancesAtEnd : Standing → Standing → Option Mark → Type 0
+AdvancesAtEnd old new None = Unit {0}
+AdvancesAtEnd old new (Some m) = waiting new < waiting old
+
+-- The end was reached behind these tokens.
+pub record ReadsToEnd (p : Profile) (u : List ℕ) (given : List Token) (new : Converter) (before after : Option (List ℕ)) : Type 0 where
+  pub tokens : List Token
+  pub token : Token
+  pub ends : ReadsEnd p u given tokens token new before after
+
+-- A marker is left, and more tokens may be behind it.
+pub record LeavesMarker (p : Profile) (u : List ℕ) (given : List Token) (m : Mark) (new : Converter) (before after : Option (List ℕ)) : Type 0 where
+  pub tokens : List Token
+  pub token : Token
+  pub left : HasLeft new.lexer u (tokens ++ token ∷ [])
+  pub meets : Meets p given tokens token m new before after
+
+abbrev pub AfterEndToMarker : Profile → List ℕ → List Token → Converter → Converter
+    → Result (Option Mark) Fault → Option (List ℕ) → Option (List ℕ) → Type 0
+AfterEndToMarker p u given old new (Ok None) before after = ReadsToEnd p u given new before after × StaysBetween old new
+AfterEndToMarker p u given old new (Ok (Some m)) before after = LeavesMarker p u given m new before after
+AfterEndToMarker p u given old new (Err f) before after = FailsAtEnd p u given f new.reading before after
+
+-- What `finish_to_marker` does to a converter, where u is the whole text.
+abbrev pub EndsToMarker : Converter → Converter → Result (Option Mark) Fault → Device → Type 0
+EndsToMarker old new result sink =
+    (p : Profile) (u : List ℕ) (given : List Token) → HasLeft old.lexer u given → HasRead p old given
+    → AfterEndToMarker p u given old new result sink.before sink.after
+
+-- what was read behind the last piece so far, up to no marker
+pub record LeftSoFar (p : Profile) (u : List ℕ) (given : List Token) (old now : Converter) (before after : Option (List ℕ)) : Type 0 where
+  pub tokens : List Token
+  pub left : HasLeft now.lexer u tokens
+  pub reads : ReadsMore p given tokens now before after
+  pub stays : StaysBetween old now
+
+abbrev pub EndsSoFar : Converter → Converter → Device → Type 0
+EndsSoFar old now sink =
+    (p : Profile) (u : List ℕ) (given : List Token) → HasLeft old.lexer u given → HasRead p old given
+    → LeftSoFar p u given old now sink.before sink.after
 
 -- What was read behind the last piece so far, and whether a game was finished there. It is still
 -- held while none is begun.
@@ -116,85 +379,7 @@ FinishesSoFar old now finished_game sink =
     (p : Profile) (u : List ℕ) (b : Option ℕ) (given : List Token)
     → Stands p old u b given → AtEndSoFar p u given now finished_game sink.before sink.after
 
--- what an answer of the reader, to a token at this place, is for the converter
-abbrev pub outcome_at : ℕ → Result Accepted Reason → Result (Option Accepted) Fault
-outcome_at at (Ok accepted) = Ok (Some accepted)
-outcome_at at (Err reason) = Err (record { at = at; reason = reason })
-
--- whether a step finished a game
-abbrev pub finished_game : Result (Option Accepted) Fault → Bool
-finished_game (Ok (Some Finished)) = true
-finished_game _ = false
-
--- whether it passed the end
-abbrev pub is_ended : Result (Option Accepted) Fault → Bool
-is_ended (Ok None) = true
-is_ended _ = false
-
--- how many games there are with it
-abbrev pub games_after : Result (Option Accepted) Fault → ℕ → ℕ
-games_after (Ok (Some Finished)) games = games + 1
-games_after _ games = games
-
--- the fault that is kept after a step
-abbrev pub fault_of_step : Result (Option Accepted) Fault → Option Fault
-fault_of_step (Ok accepted) = None
-fault_of_step (Err f) = Some f
-
--- the outcome of a step after the last piece: none if the token is the end and accepted
-abbrev pub none_at_end : Bool → Result (Option Accepted) Fault → Result (Option Accepted) Fault
-none_at_end is_end (Err f) = Err f
-none_at_end true (Ok accepted) = Ok None
-none_at_end false (Ok accepted) = Ok accepted
-
--- A step without a token uses the whole piece; one with a token uses a byte, or the token was
--- waiting.
-abbrev pub StepAdvances : Standing → List ℕ → Standing → ℕ → Result (Option Accepted) Fault
-    → Type 0
-StepAdvances old piece new used (Ok None) = used ≡ length piece
-StepAdvances old piece new used (Ok (Some accepted)) = waiting new < 2 * used + waiting old
-StepAdvances old piece new used (Err f) = Unit {0}
-
--- behind the last piece a token was waiting
-abbrev pub StepAtEndAdvances : Standing → Standing → Result (Option Accepted) Fault → Type 0
-StepAtEndAdvances old new (Ok None) = Unit {0}
-StepAtEndAdvances old new (Ok (Some accepted)) = waiting new < waiting old
-StepAtEndAdvances old new (Err f) = Unit {0}
-
--- the byte known to be next at a place of a piece that b was known to begin with
-abbrev pub next_at : Option ℕ → List ℕ → ℕ → Option ℕ
-next_at b [] at = b
-next_at b (c ∷ piece) at = first (drop at (c ∷ piece))
-
--- the result of a piece that ends before place 2^62
-abbrev pub AfterFront : Profile → List ℕ → Option ℕ → List Token → List ℕ → Converter
-    → Result Fed Fault → Option (List ℕ) → Option (List ℕ) → Type 0
-AfterFront p u b given piece new (Ok All) before after = FedAll p u b given piece new before after
-AfterFront p u b given piece new (Ok (GameEnd used)) before after =
-    FedGame p u given piece used new before after
-AfterFront p u b given piece new (Err f) before after =
-    FedToFault p u b given piece f new.reading before after
-
-abbrev pub FeedsFront : Converter → List ℕ → Converter → Result Fed Fault → Device → Type 0
-FeedsFront old piece new result sink =
-    (p : Profile) (u : List ℕ) (b : Option ℕ) (given : List Token)
-    → Stands p old u b given → Follows b piece
-    → AfterFront p u b given piece new result sink.before sink.after
-
--- what was read of a piece up to a place, no game finished in it
-pub record SoFar (p : Profile) (u : List ℕ) (b : Option ℕ) (given : List Token) (piece : List ℕ) (at : ℕ) (now : Converter) (before after : Option (List ℕ)) : Type 0 where
-  pub tokens : List Token
-  pub stands : Stands p now (u ++ take at piece) (next_at b piece at) tokens
-  pub decided : 0 < at → IsDecided (u ++ take at piece) (drop at piece) tokens
-  pub empty : length piece ≡ 0 → tokens ≡ given
-  pub no_game : SameGames p given tokens
-  pub gains : Gains p given tokens before after
-
-abbrev pub FeedsSoFar : Converter → List ℕ → ℕ → Converter → Device → Type 0
-FeedsSoFar old piece at now sink =
-    (p : Profile) (u : List ℕ) (b : Option ℕ) (given : List Token)
-    → Stands p old u b given → Follows b piece
-    → SoFar p u b given piece at now sink.before sink.after
+-- ---- however many games
 
 -- what was read of a piece up to a place, however many games were finished in it
 pub record AllSoFar (p : Profile) (u : List ℕ) (given : List Token) (piece : List ℕ) (at : ℕ)
@@ -210,3 +395,21 @@ FeedsAllSoFar old piece at now sink =
     (p : Profile) (u : List ℕ) (given : List Token)
     → Stands p old u None given → given ≡ decided u
     → AllSoFar p u given piece at now sink.before sink.after
+
+-- A token of these is rejected, or a write failed. Before it no game was finished, and the reader
+-- holds the position in which a move was rejected.
+pub record FaultAtEnd (p : Profile) (given tokens : List Token) (f : Fault) (reading : ReaderState) (before after : Option (List ℕ)) : Type 0 where
+  pub stops : Stops p given tokens before after f
+  pub no_game : games_before stops ≡ (read p given).progress.games
+  pub counts : ProbesAtStop stops reading.most_probes
+  pub position : reported_position reading f.reason ≡ position_at_stop stops
+
+-- ---- an input that is read twice
+
+-- a missing Result takes the marker from now on, and the marker of the next game was told
+abbrev pub taking_marker : Converter → Converter
+taking_marker c =
+    record c { reading = record c.reading { profile = with_missing c.reading.profile takes_the_marker } }
+
+abbrev pub told_of : Marker → Converter → Converter
+told_of marker c = record c { reading = record c.reading { told = Some (marker_text marker) } }

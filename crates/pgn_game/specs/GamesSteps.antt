@@ -1,18 +1,22 @@
--- **Bookkeeping**: the parts of a call of `Games::next`: what is stored on the way.
--- Letters: as in `GamesCalls`.
-use Rattle.std.specs.Prelude.{◌≡◌, ℕ, ◌+◌, ◌^◌, ◌<◌, Bool, true, false, List, [], ◌++◌, length, drop, Option, Result, Ok, Err}
+-- **Bookkeeping**: the parts of a call of `Games::next`: what is stored on the way, and what is
+-- read up to a marker.
+-- Letters: as in `GamesCalls` and `ConverterSteps`.
+use Rattle.std.specs.Prelude.{◌≡◌, ℕ, ◌^◌, ◌<◌, Bool, true, false, List, [], ◌∷◌, ◌++◌, length, drop, Option, None, Some, Result, Ok, Err}
 use Rattle.std.specs.Io.KnownBytes.{Consumes, IsAtEnd, Keeps}
-use Rattle.pgn_layout.specs.Device.{Device}
+use Rattle.pgn_layout.specs.Device.{Device, IsStill}
 use Rattle.pgn_lexer.specs.Tokens.{Token}
-use Rattle.pgn_game.specs.declared.reason.Reason.TheVariants.{ReadFault}
+use Rattle.pgn_lexer.specs.Decided.{decided}
+use Rattle.pgn_lexer.specs.Stands.{StandsAfter, HasLeft, IsDecided, first}
+use Rattle.pgn_game.specs.declared.reason.Reason.TheVariants.{ReadFault, InputTooLong}
 use Rattle.pgn_game.specs.declared.reason.Fault.{Fault}
 use Rattle.pgn_game.specs.declared.source.ReadFailed.{ReadFailed}
-use Rattle.pgn_game.specs.declared.converter.Fed.TheVariants.{All, Game as GameEnd}
+use Rattle.pgn_game.specs.declared.marker.Mark.{Mark}
+use Rattle.pgn_game.specs.declared.converter.Reached.TheVariants.{All, Marker as ToMarker}
 use Rattle.pgn_game.specs.Profile.{Profile}
-use Rattle.pgn_game.specs.Progress.{read}
-use Rattle.pgn_game.specs.Due.{Gains}
-use Rattle.pgn_game.specs.ConverterCalls.{Converter, Feeds}
-use Rattle.pgn_game.specs.GamesCalls.{Games, HaveRead, ReadsOn}
+use Rattle.pgn_game.specs.ConverterCalls.{Converter, AreNext, HasRead}
+use Rattle.pgn_game.specs.Conversion.{CountsDevices}
+use Rattle.pgn_game.specs.ConverterSteps.{NotTaken, FeedsToMarker, Meets, ReadsMore}
+use Rattle.pgn_game.specs.GamesCalls.{Games}
 
 -- what a read puts into the buffer
 abbrev pub FillResult : Option (List ℕ) → Option (List ℕ) → List ℕ → Result Bool ReadFailed → Type 0
@@ -26,28 +30,80 @@ MoreResult left_old left_new old new unused (Ok true) = (new ≡ old) × (0 < le
 MoreResult left_old left_new old new unused (Ok false) = (new ≡ old) × (unused ≡ []) × Consumes left_old left_new [] × IsAtEnd left_new
 MoreResult left_old left_new old new unused (Err f) = (f ≡ record { at = old.lexer.count; reason = ReadFault }) × (new.reading ≡ old.reading) × Keeps left_old left_new
 
--- The bytes not used yet are fed: up to the end of a game, or all.
-abbrev pub RestResult : Games → Games → Result Bool Fault → Device → Type 0
-RestResult old new (Ok true) sink = (used : ℕ) × (new.unused ≡ drop used old.unused) × Feeds old.converter old.unused new.converter (Ok (GameEnd used)) sink
-RestResult old new (Ok false) sink = (new.unused ≡ []) × Feeds old.converter old.unused new.converter (Ok All) sink
-RestResult old new (Err f) sink = Feeds old.converter old.unused new.converter (Err f) sink
+-- The bytes not used yet are fed: up to a marker, or all.
+abbrev pub RestResult : Games → Games → Result (Option Mark) Fault → Device → Type 0
+RestResult old new (Ok (Some m)) sink = (used : ℕ) × (new.unused ≡ drop used old.unused) × FeedsToMarker old.converter old.unused new.converter (Ok (ToMarker used m)) sink
+RestResult old new (Ok None) sink = (new.unused ≡ []) × FeedsToMarker old.converter old.unused new.converter (Ok All) sink
+RestResult old new (Err f) sink = FeedsToMarker old.converter old.unused new.converter (Err f) sink
 
--- a game more is counted, or none
-abbrev pub CountsGame : Games → Games → Result Bool Fault → Type 0
-CountsGame old new (Ok true) = (new.converter.games ≡ old.converter.games + 1) × (old.converter.games < 2 ^ 64)
-CountsGame old new (Ok false) = new.converter.lexer.count ≡ old.converter.lexer.count + length old.unused
-CountsGame old new (Err f) = Unit {0}
+-- The lexer stands after the bytes `used`, and the other bytes that the source gave are not used
+-- yet. The tokens given are those that are decided then.
+pub record StandsWithin (u : List ℕ) (games : Games) (given : List Token) : Type 0 where
+  pub used : List ℕ
+  pub bytes : u ≡ used ++ games.unused
+  pub lexer : StandsAfter games.converter.lexer used (first games.unused) given
+  pub at_limit : length used ≡ 2 ^ 62 → given ≡ decided used
+  pub decided : IsDecided used games.unused given
 
--- What was read since the call began: no game was finished by it.
-pub record NextSoFar (p : Profile) (u : List ℕ) (given : List Token) (left_old left_now : Option (List ℕ)) (now : Games) (before after : Option (List ℕ)) : Type 0 where
+-- What was read since the call began, of which no token is a marker that ends a game.
+pub record MoreSoFar (p : Profile) (u : List ℕ) (given : List Token) (left_old left_now : Option (List ℕ)) (now : Games) (before after : Option (List ℕ)) : Type 0 where
   pub more : List ℕ
   pub consumed : Consumes left_old left_now more
   pub tokens : List Token
-  pub reads_on : ReadsOn p (u ++ more) now tokens
-  pub no_game : (read p tokens).progress.games ≡ (read p given).progress.games
-  pub gains : Gains p given tokens before after
+  pub stands : StandsWithin (u ++ more) now tokens
+  pub reads : ReadsMore p given tokens now.converter before after
+
+-- A marker was met.
+pub record MeetsNext (p : Profile) (u : List ℕ) (given : List Token) (left_old left_new : Option (List ℕ)) (m : Mark) (new : Games) (before after : Option (List ℕ)) : Type 0 where
+  pub more : List ℕ
+  pub consumed : Consumes left_old left_new more
+  pub tokens : List Token
+  pub token : Token
+  pub stands : StandsWithin (u ++ more) new (tokens ++ token ∷ [])
+  pub meets : Meets p given tokens token m new.converter before after
+
+-- The source has ended, and its bytes are used.
+pub record UsesAll (p : Profile) (u : List ℕ) (given : List Token) (left_old left_new : Option (List ℕ)) (new : Games) (before after : Option (List ℕ)) : Type 0 where
+  pub so_far : MoreSoFar p u given left_old left_new new before after
+  pub none_left : new.unused ≡ []
+  pub at_end : IsAtEnd left_new
+
+-- All tokens that the bytes u decide were read.
+pub record ReadsAllOf (p : Profile) (given : List Token) (u : List ℕ) (new : Converter) (before after : Option (List ℕ)) : Type 0 where
+  pub now : Converter
+  pub same : new.reading ≡ now.reading
+  pub left : HasLeft now.lexer u (decided u)
+  pub reads : ReadsMore p given (decided u) now before after
+
+-- How reading stops before a marker: at a token that the bytes so far decide; because a read
+-- failed; or since the byte at place 2^62 came.
+pub data StopsBefore (p : Profile) (u : List ℕ) (given : List Token) (left_old left_new : Option (List ℕ)) (new : Converter) (before after : Option (List ℕ)) : Fault → Type 0 where
+  at_token : (f : Fault) (more : List ℕ) (tokens : List Token) (t : Token) → Consumes left_old left_new more → AreNext (u ++ more) None (tokens ++ t ∷ [])
+      → NotTaken p given tokens t f new.reading before after
+      → StopsBefore p u given left_old left_new new before after f
+  unread : (more : List ℕ) → Consumes left_old left_new more → ReadsAllOf p given (u ++ more) new before after
+      → StopsBefore p u given left_old left_new new before after (record { at = length (u ++ more); reason = ReadFault })
+  too_long : (more front rest : List ℕ) → Consumes left_old left_new more → u ++ more ≡ front ++ rest → length front ≡ 2 ^ 62 → 0 < length rest
+      → ReadsAllOf p given front new before after
+      → StopsBefore p u given left_old left_new new before after (record { at = 2 ^ 62; reason = InputTooLong })
+
+abbrev pub AfterToMarker : Profile → List ℕ → List Token → Option (List ℕ) → Option (List ℕ) → Games → Result (Option Mark) Fault → Option (List ℕ) → Option (List ℕ) → Type 0
+AfterToMarker p u given left_old left_new new (Ok (Some m)) before after = MeetsNext p u given left_old left_new m new before after
+AfterToMarker p u given left_old left_new new (Ok None) before after = UsesAll p u given left_old left_new new before after
+AfterToMarker p u given left_old left_new new (Err f) before after = StopsBefore p u given left_old left_new new.converter before after f
+
+-- What `next_marker` does to a converter and a buffer that have read any bytes of the source.
+abbrev pub ReadsToMarker : Games → Games → Result (Option Mark) Fault → Device → Device → Type 0
+ReadsToMarker old new result source sink =
+    (p : Profile) (u : List ℕ) (given : List Token) → StandsWithin u old given → HasRead p old.converter given
+    → AfterToMarker p u given source.before source.after new result sink.before sink.after
 
 abbrev pub ReadsSoFar : Games → Games → Device → Device → Type 0
 ReadsSoFar old now source sink =
-    (p : Profile) (u : List ℕ) (given : List Token) → HaveRead p source.before u old given
-    → NextSoFar p u given source.before source.after now sink.before sink.after
+    (p : Profile) (u : List ℕ) (given : List Token) → StandsWithin u old given → HasRead p old.converter given
+    → MoreSoFar p u given source.before source.after now sink.before sink.after
+
+-- ReadFault is returned if the source counts one failure more, WriteFault if the sink does.
+abbrev pub CountsReading : {A : Type 0} → Result A Fault → Device → Device → Type 0
+CountsReading (Ok x) source sink = IsStill source × IsStill sink
+CountsReading (Err f) source sink = CountsDevices f.reason source.failures source.failures_after sink.failures sink.failures_after

@@ -30,7 +30,7 @@ pub mod GamesCalls
 pub mod GamesSteps
 pub mod Checked
 pub mod CheckedConversion
-pub mod Pass
+pub mod Readings
 pub mod EqualReadings
 pub mod Laws
 pub mod MovesAreLegal

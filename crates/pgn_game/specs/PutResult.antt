@@ -9,13 +9,11 @@ use Rattle.pgn_game.specs.declared.marker.Marker.{Marker}
 use Rattle.pgn_game.specs.declared.mode.Mode.{Mode}
 use Rattle.pgn_game.specs.declared.stage.Stage.{Stage}
 use Rattle.pgn_game.specs.declared.stage.Stage.TheVariants.{AfterTags, InMovetext}
-use Rattle.pgn_game.specs.declared.accepted.Accepted.{Accepted}
-use Rattle.pgn_game.specs.declared.accepted.Accepted.TheVariants.{More, Finished}
 use Rattle.pgn_game.specs.declared.reason.Reason.{Reason}
 use Rattle.pgn_game.specs.declared.reason.Reason.TheVariants.{WriteFault}
 use Rattle.pgn_game.specs.Markers.{marker_text}
 use Rattle.pgn_game.specs.FaultTable.{marker_of}
-use Rattle.pgn_game.specs.Profile.{Profile, known_result}
+use Rattle.pgn_game.specs.Profile.{Profile}
 use Rattle.pgn_game.specs.Pairs.{Pair}
 use Rattle.pgn_game.specs.Chess.{first_position, move_of}
 use Rattle.pgn_game.specs.Game.{Item, Part}
@@ -27,7 +25,7 @@ use Rattle.pgn_game.specs.Progress.{Next, going}
 use Rattle.pgn_game.specs.Due.{text_next}
 use Rattle.pgn_game.specs.FoundMove.{found_in, with_position}
 use Rattle.pgn_game.specs.Movetext.{movetext_from}
-use Rattle.pgn_game.specs.ReaderState.{ReaderState, Agrees, Answers, as_written, FinishesAtMarker, Leads, Stays, CountsWrites, plies_next, whole_plies}
+use Rattle.pgn_game.specs.ReaderState.{Accepted, More, Finished, ReaderState, Agrees, Answers, as_written, FinishesAtMarker, Leads, Stays, CountsWrites, known_of, plies_next, whole_plies}
 use Rattle.pgn_game.specs.TokenInMovetext.{IsEntry, IsOpen, may_have_movetext, with_items}
 
 -- A game begins.
@@ -44,6 +42,7 @@ at_game_start old = record old {
 -- What a call leaves as it was, or nearly.
 pub record Keeps (old new : ReaderState) : Type 0 where
   pub profile : new.profile ≡ old.profile
+  pub told : new.told ≡ old.told
   pub plies : new.earlier_plies + new.text.plies ≤ old.earlier_plies + old.text.plies + 1
   pub probes : old.most_probes ≤ new.most_probes
 
@@ -56,13 +55,13 @@ pub record Goes (old : ReaderState) (part : Part) (to : Next) (new : ReaderState
     (d : Device) : Type 0 where
   pub leads : Leads to accepted new
   pub plies : whole_plies new ≡ whole_plies old + plies_next to
-  pub appended : Appends d.before d.after (gain_to (as_written old.profile) part to)
+  pub appended : Appends d.before d.after (gain_to (as_written old) part to)
 
 -- or a write failed, and a front of it was
 abbrev pub GoesTo : ReaderState → Part → Next → ReaderState → Result Accepted Reason → Device → Type 0
 GoesTo old part to new (Ok accepted) d = Goes old part to new accepted d
 GoesTo old part to new (Err reason) d =
-    (reason ≡ WriteFault) × AppendsFront d.before d.after (gain_to (as_written old.profile) part to)
+    (reason ≡ WriteFault) × AppendsFront d.before d.after (gain_to (as_written old) part to)
 
 -- What putting results in, for each of these parts.
 pub record PutResult (old : ReaderState) (IsOf : Part → Type 0) (to : Part → Next) (new : ReaderState)
@@ -141,7 +140,10 @@ TakesUnwritten old k new r =
 -- A token belongs to movetext, and the reader is ready to take it so.
 pub record EntersMovetext (old : ReaderState) (k : Kind) (ready : ReaderState) : Type 0 where
   pub stage : IsTrue (may_have_movetext ready.stage)
-  pub plies : ready.text.plies ≤ old.earlier_plies + old.text.plies
+  pub profile : ready.profile ≡ old.profile
+  pub told : ready.told ≡ old.told
+  pub plies : ready.earlier_plies + ready.text.plies ≤ old.earlier_plies + old.text.plies
+  pub probes : old.most_probes ≤ ready.most_probes
   pub takes : (new : ReaderState) (r : Result Accepted Reason) (d : Device) → TakesEntry ready k new r d
       → TakesToken old k new r d
 
@@ -197,7 +199,7 @@ section_due _ mode result ps = tag_section mode result ps
 
 -- the same, for a reader
 abbrev pub section_due_of : ReaderState → List ℕ
-section_due_of r = section_due r.stage r.profile.mode (known_result r.profile.missing_result) r.tags.held
+section_due_of r = section_due r.stage r.profile.mode (known_of r) r.tags.held
 
 -- The tag section was written, where it was due, and nothing else has changed.
 pub record BeginsText {A E : Type 0} (old new : ReaderState) (r : Result A E)
@@ -205,6 +207,7 @@ pub record BeginsText {A E : Type 0} (old new : ReaderState) (r : Result A E)
   pub text : Writes d.before d.after r (section_due_of old)
   pub begun : OnOk r (new ≡ record old { stage = InMovetext })
   pub profile : new.profile ≡ old.profile
+  pub told : new.told ≡ old.told
   pub earlier : new.earlier_plies ≡ old.earlier_plies
   pub plies : new.text.plies ≡ old.text.plies
   pub probes : new.most_probes ≡ old.most_probes

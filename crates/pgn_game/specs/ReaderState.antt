@@ -9,9 +9,7 @@ use Rattle.pgn_game.specs.declared.reason.Reason.{Reason}
 use Rattle.pgn_game.specs.declared.reason.Reason.TheVariants.{WriteFault}
 use Rattle.pgn_game.specs.declared.stage.Stage.{Stage}
 use Rattle.pgn_game.specs.declared.stage.Stage.TheVariants.{Between, AfterLeftBracket, AfterName, InMovetext}
-use Rattle.pgn_game.specs.declared.accepted.Accepted.{Accepted}
-use Rattle.pgn_game.specs.declared.accepted.Accepted.TheVariants.{More, Finished}
-use Rattle.pgn_game.specs.Profile.{Profile, counts_as, known_result}
+use Rattle.pgn_game.specs.Profile.{Missing, Profile, counting, counts_as, known_result, takes_the_marker}
 use Rattle.pgn_game.specs.Pairs.{has_pair}
 use Rattle.pgn_game.specs.StoredPairs.{TagPairs}
 use Rattle.pgn_game.specs.Game.{Game, Part, no_part}
@@ -24,10 +22,12 @@ use Rattle.pgn_game.specs.Progress.{Next, going, whole, next}
 use Rattle.pgn_game.specs.Due.{gain}
 use Rattle.pgn_game.specs.MostTried.{Raises, Tries, TriesUnwritten}
 
--- What is asked for, how far the game is, its pairs, its movetext, how many moves outside
--- variations the games before it have, the most pairs tried for a move, and the line of movetext.
+-- What is asked for, the marker that was told for the game, if one was, how far the game is, its
+-- pairs, its movetext, how many moves outside variations the games before it have, the most pairs
+-- tried for a move, and the line of movetext.
 pub record ReaderState : Type 0 where
   pub profile : Profile
+  pub told : Option (List ℕ)
   pub stage : Stage
   pub tags : TagPairs
   pub text : Movetext
@@ -86,18 +86,30 @@ abbrev pub plies_next : Next → ℕ
 plies_next (going part) = 0
 plies_next (whole g) = plies_of g
 
--- where a token that is not rejected leads
+-- A token that is not rejected finishes no game, or its own, as a marker does.
+pub data Accepted : Type 0 where
+  More : Accepted
+  Finished : Accepted
+
+-- where it leads
 abbrev pub Leads : Next → Accepted → ReaderState → Type 0
 Leads (going part) More new = Agrees new part
 Leads (going part) Finished new = ⊥
 Leads (whole g) More new = ⊥
 Leads (whole g) Finished new = IsBehind new g
 
--- The profile by which a reader writes. Before the marker nothing is known of a Result that takes
--- it, so its value is written as no text.
-abbrev pub as_written : Profile → Profile
-as_written p =
-    record { tags = p.tags; depth = p.depth; mode = p.mode; missing_result = counts_as (known_result p.missing_result) }
+-- What a reader knows of a missing Result before the marker: its text; or, if it takes the marker,
+-- the one that was told, or nothing. Where it writes, a missing Result counts as that.
+abbrev pub known_text : Missing → Option (List ℕ) → List ℕ
+known_text (counts_as text) told = text
+known_text takes_the_marker None = []
+known_text takes_the_marker (Some marker) = marker
+
+abbrev pub known_of : ReaderState → List ℕ
+known_of reading = known_text reading.profile.missing_result reading.told
+
+abbrev pub as_written : ReaderState → Profile
+as_written reading = counting reading.profile (known_of reading)
 
 -- a missing Result counts as a text
 abbrev pub IsKnown : Profile → Type 0
@@ -108,7 +120,7 @@ pub record IsAccepted (old : ReaderState) (part : Part) (k : Kind) (new : Reader
   pub free : refusal old.profile part k ≡ None
   pub leads : Leads (next part k) accepted new
   pub plies : whole_plies new ≡ whole_plies old + plies_next (next part k)
-  pub appended : Appends before after (gain (as_written old.profile) part k)
+  pub appended : Appends before after (gain (as_written old) part k)
   pub tried : Raises (Tries old.profile part k) old.most_probes new.most_probes
 
 -- A token is not accepted: a row of the fault table rejects it, and nothing is appended; or a write
@@ -121,7 +133,7 @@ pub data IsStopped (old : ReaderState) (part : Part) (k : Kind) (new : ReaderSta
       → position_if_move reason new.text.levels.present.present ≡ position_if_move reason (position_in part)
       → IsStopped old part k new before after reason
   unwritten : refusal old.profile part k ≡ None
-      → AppendsFront before after (gain (as_written old.profile) part k)
+      → AppendsFront before after (gain (as_written old) part k)
       → Raises (TriesUnwritten old.profile part k) old.most_probes new.most_probes
       → IsStopped old part k new before after WriteFault
 
@@ -130,11 +142,6 @@ abbrev pub Answers : ReaderState → Part → Kind → ReaderState → Result Ac
     → Option (List ℕ) → Type 0
 Answers old part k new (Ok accepted) before after = IsAccepted old part k new accepted before after
 Answers old part k new (Err reason) before after = IsStopped old part k new before after reason
-
--- so for every part
-abbrev pub Accepts : ReaderState → Kind → ReaderState → Result Accepted Reason → Device → Type 0
-Accepts old k new r sink =
-    (part : Part) → Agrees old part → Answers old part k new r sink.before sink.after
 
 -- A token after which no game is begun, and that finished none, changes nothing.
 abbrev pub Stays : ReaderState → ReaderState → Result Accepted Reason → Type 0

@@ -3,10 +3,10 @@
 use Rattle.std.specs.Mem.{FitsInMemory}
 use Rattle.std.specs.Borrow.{RattleType}
 use Rattle.pgn_game.specs.contracts.converter.Converter.{the_row}
-use Rattle.pgn_game.specs.contracts.checked.Pass.{the_row as pass_row}
+use Rattle.pgn_game.specs.contracts.checked.Reading.{the_row as reading_row}
 
 abbrev pub Holds : RattleType → RattleType → Type 0
 Holds T L = FitsInMemory (the_row T L)
 
 abbrev pub HoldsTwice : RattleType → RattleType → Type 0
-HoldsTwice T L = FitsInMemory (pass_row T L)
+HoldsTwice T L = FitsInMemory (reading_row T L)

@@ -1,31 +1,27 @@
 //! Converts an input that is read twice, so that a missing Result takes the marker.
-ghost use Rattle.std.specs.Prelude.{◌≡◌, ◌-◌, ◌+◌, ◌≤◌, ◌<◌, ◌^◌, length, max, false, [], ℕ, List};
-ghost use Rattle.std.specs.Prelude.{Option, None, Some, OnOk, IfOk, IfSome};
+ghost use Rattle.std.specs.Prelude.{◌≡◌, ◌-◌, ◌≤◌, ◌&&◌, ◌==◌, bytes_eq, not, max, [], ℕ, List};
+ghost use Rattle.std.specs.Prelude.{Option, OnOk, IfOk, IfSome};
 ghost use Rattle.pgn_layout.specs.Device.{device};
-ghost use Rattle.pgn_lexer.specs.Scanned.{kind_of};
-ghost use Rattle.pgn_lexer.specs.Tokens.{HasLength};
 ghost use Rattle.pgn_game.specs.declared.reason.Reason.TheVariants.{Changed};
 ghost use Rattle.pgn_game.specs.Checked.{checked_profile};
 ghost use Rattle.pgn_game.specs.CheckedConversion.{TwoReadingsConvert, TwoReadingsCount};
+ghost use Rattle.pgn_game.specs.GamesSteps.{CountsReading};
 ghost use Rattle.pgn_game.specs.Markers.{marker_text};
-ghost use Rattle.pgn_game.specs.Pass.{CountsStep, Fills, GoesOn, HasGiven, IsGoing, Keeps};
-ghost use Rattle.pgn_game.specs.Pass.{KeepsGoing, ReadsGame, Steps, TakesKind, TellsEnd};
-ghost use Rattle.pgn_game.specs.Pass.{WritesGame, as_changed, games_with, marks_differ};
-ghost use Rattle.pgn_game.specs.ReaderState.{whole_plies};
+ghost use Rattle.pgn_game.specs.Readings.{GoesOn, HasGiven, IsGoing, IsReadyToEnd, ReadsGame};
+ghost use Rattle.pgn_game.specs.Readings.{ReadsUpToMarker, WritesGame, as_changed, no_sink};
+ghost use Rattle.pgn_game.specs.ReaderState.{as_written, whole_plies};
 ghost use Rattle.pgn_game.specs.Size.{HoldsTwice};
 
 use crate::conversion::Totals;
-use crate::converter::{MAX_INPUT_LENGTH, lexical};
-use crate::marker::{Marker, MissingResult};
+use crate::converter::Converter;
+use crate::games::next_marker;
+use crate::marker::Mark;
 use crate::mode::Mode;
-use crate::read_buffer::{READ_LENGTH, ReadBuffer};
-use crate::reader::Reader;
+use crate::read_buffer::ReadBuffer;
 use crate::reason::{Fault, Reason};
 use crate::source::Source;
-use crate::token_tests::is_end;
 use pgn_layout::{Nowhere, Sink};
 use pgn_lexer::laws::tokens_rise;
-use pgn_lexer::{Lexer, Outcome, TokenKind};
 use std::marker::Model;
 
 /// Converts an input that is read twice: a missing Result takes the game's marker (PGN 8.1.1.7).
@@ -77,122 +73,98 @@ pub fn convert_checked<const T: usize, const L: usize, Q: Source, R: Source, W: 
         (device R.left R.failures second.old second.new)
         (device W.taken W.failures writer.old writer.new) result }
 {
-    let mut ahead = Pass::<T, L>::new(mode);
-    let mut behind = Pass::<T, L>::new(mode);
-    loop {
-        let Some(mark) = ahead.read_game(first, None, &mut Nowhere)? else {
-            return Ok(behind.totals(ahead.reader.most_probes()));
-        };
+    let mut ahead = Reading::<T, L>::new(mode);
+    let mut behind = Reading::<T, L>::new(mode);
+    while let Some(mark) = ahead.read_game(first)? {
         behind.write_game(second, mark, writer)?;
     }
+    Ok(behind.totals(ahead.most_probes()))
 }
 
-/// How a game ends: its termination marker, and the place of that.
-#[derive(Clone, Copy)]
-struct Mark {
-    marker: Marker,
-    at: u64,
-}
-
-/// What one step of a reading did.
-#[derive(Clone, Copy)]
-enum Taken {
-    /// It read bytes, or a token that finishes no game.
-    More,
-    /// It read the marker that finishes a game.
-    Game(Mark),
-    /// It read the end of the input.
-    End,
-}
-
-/// One of the two readings: the bytes that were read and not used yet, and the game they are in.
+/// One of the two readings: its converter, the bytes that were read and not used yet, and whether
+/// the source has ended.
 #[derive(Drop)]
-struct Pass<const T: usize, const L: usize> {
+struct Reading<const T: usize, const L: usize> {
+    converter: Converter<T, L>,
     buffer: ReadBuffer,
     has_ended: bool,
-    lexer: Lexer,
-    reader: Reader<T, L>,
-    games: u64,
 }
 
-impl<const T: usize, const L: usize> Model for Pass<T, L> {
-    ghost use Rattle.pgn_game.specs.Pass.{Pass as Seen};
+impl<const T: usize, const L: usize> Model for Reading<T, L> {
+    ghost use Rattle.pgn_game.specs.Readings.{Reading as Seen};
 
     ghost Value = { Seen };
 
-    ghost view = { λ p. record {
-      lexer = p.lexer;
-      reading = p.reader;
-      games = p.games;
-      unused = p.buffer;
-      has_ended = p.has_ended;
+    ghost view = { λ r. record {
+      converter = r.converter;
+      unused = r.buffer;
+      has_ended = r.has_ended;
     } };
 }
 
-impl<const T: usize, const L: usize> Pass<T, L> {
+impl<const T: usize, const L: usize> Reading<T, L> {
     // Returns a reading that has read nothing.
     fn new(mode: Mode) -> Self
         requires { 1 ≤ L }
         ensures given { (left : Option (List ℕ))
-            → HasGiven (checked_profile T (L - 1) mode) None left left result [] }
+            → HasGiven (checked_profile T (L - 1) mode) left left result [] }
         ensures going { IsGoing result }
     {
-        let mut reader = Reader::new(mode);
-        reader.count_missing_result_as(MissingResult::TakesTheMarker);
-        Pass {
+        let mut converter = Converter::new(mode);
+        converter.take_marker_for_missing_result();
+        Reading {
+            converter,
             buffer: ReadBuffer::new(),
             has_ended: false,
-            lexer: Lexer::new(),
-            reader,
-            games: 0,
         }
     }
 
     // Returns the counts of what was written, where the other reading tried at most so many pairs
     // for one move.
     fn totals(&self, other_probes: u32) -> Totals
-        requires few { self.now.reading.earlier_plies + self.now.reading.text.plies < 2 ^ 64 }
+        requires going { IsGoing self.now }
         requires bound { other_probes ≤ 1040 }
-        ensures games { result.games ≡ self.now.games }
-        ensures plies { result.plies ≡ whole_plies self.now.reading }
-        ensures probes { result.most_probes ≡ max other_probes self.now.reading.most_probes }
+        ensures games { result.games ≡ self.now.converter.games }
+        ensures plies { result.plies ≡ whole_plies self.now.converter.reading }
+        ensures probes { result.most_probes
+            ≡ max other_probes self.now.converter.reading.most_probes }
         ensures bound { result.most_probes ≤ 1040 }
     {
         Totals {
-            games: self.games,
-            plies: self.reader.whole_plies(),
-            most_probes: other_probes.max(self.reader.most_probes()),
+            games: self.converter.games(),
+            plies: self.converter.whole_plies(),
+            most_probes: other_probes.max(self.converter.most_probes()),
         }
     }
 
-    // Reads to the end of the next game, and returns its mark. `None` is the end of the input.
-    //
-    // `told` is the mark that the game has to end with, if the other reading has told it.
-    fn read_game<R: Source, W: Sink>(
-        &mut self,
-        source: &mut R,
-        told: Option<Mark>,
-        out: &mut W,
-    ) -> Result<Option<Mark>, Fault>
-        requires going { IsGoing self.old }
-        ensures reads { ReadsGame (R.left source.old) (R.left source.new) told self.old self.new
-            result (W.taken out.old) (W.taken out.new) }
-        ensures going { GoesOn self.old self.new result }
-        ensures counted { CountsStep result (R.failures source.old) (R.failures source.new)
-            (W.failures out.old) (W.failures out.new) }
+    // Returns the most pairs that it tried for one move.
+    fn most_probes(&self) -> u32
+        ensures value { result ≡ self.now.converter.reading.most_probes }
+        ensures bound { result ≤ 1040 }
     {
-        loop {
-            match self.step(source, told, out)? {
-                Taken::More => {}
-                Taken::Game(mark) => return Ok(Some(mark)),
-                Taken::End => return Ok(None),
-            }
-        }
+        self.converter.most_probes()
+    }
+
+    // Reads to the end of the next game, and returns its mark. `None` is the end of the input.
+    // Nothing is written.
+    fn read_game<R: Source>(&mut self, source: &mut R) -> Result<Option<Mark>, Fault>
+        requires going { IsGoing self.old }
+        ensures reads { ReadsGame (R.left source.old) (R.left source.new) self.old self.new
+            result }
+        ensures going { GoesOn self.old self.new result }
+        ensures counted { CountsReading result (device R.left R.failures source.old source.new)
+            no_sink }
+    {
+        let Some(mark) = self.next_marker(source, &mut Nowhere)? else {
+            return Ok(None);
+        };
+        self.converter.end_game(mark, &mut Nowhere)?;
+        Ok(Some(mark))
     }
 
     // Reads the next game, and writes it. It has to end with this mark.
     //
-    // A missing Result counts as the marker. A fault of the input's own is `Reason::Changed`.
+    // A missing Result is written as that marker. A fault of the input's own is `Reason::Changed`.
     fn write_game<R: Source, W: Sink>(
         &mut self,
         source: &mut R,
@@ -202,162 +174,53 @@ impl<const T: usize, const L: usize> Pass<T, L> {
         requires going { IsGoing self.old }
         ensures writes { WritesGame (R.left source.old) (R.left source.new) self.old mark self.new
             result (W.taken out.old) (W.taken out.new) }
-        ensures counted { CountsStep result (R.failures source.old) (R.failures source.new)
-            (W.failures out.old) (W.failures out.new) }
+        ensures going { OnOk result (IsGoing self.new) }
+        ensures counted { CountsReading result (device R.left R.failures source.old source.new)
+            (device W.taken W.failures out.old out.new) }
     {
-        self.reader
-            .count_missing_result_as(MissingResult::CountsAs(mark.marker));
-        match self.read_game(source, Some(mark), out) {
-            // It is never `None`: the end is a difference.
-            Ok(_) => Ok(()),
+        tokens_rise();
+        self.converter.tell(mark.marker);
+        match self.next_marker(source, out) {
             Err(fault) => Err(changed(fault)),
+            Ok(None) => Err(differs(self.converter.count())),
+            Ok(Some(found)) => {
+                if is_other(found, mark) {
+                    return Err(differs(found.at));
+                }
+                if let Err(fault) = self.converter.end_game(found, out) {
+                    return Err(changed(fault));
+                }
+                Ok(())
+            }
         }
     }
 
-    // Takes the next token, or reads the bytes that it needs.
-    //
-    // `told` is the mark that the game has to end with, if the other reading has told it.
-    #[inline(always)]
-    fn step<R: Source, W: Sink>(
+    // Reads up to the next marker, which `end_game` takes then. `None` is the end of the input.
+    fn next_marker<R: Source, W: Sink>(
         &mut self,
         source: &mut R,
-        told: Option<Mark>,
         out: &mut W,
-    ) -> Result<Taken, Fault>
+    ) -> Result<Option<Mark>, Fault>
         requires going { IsGoing self.old }
-        ensures takes { Steps (R.left source.old) (R.left source.new) told self.old self.new
+        ensures reads { ReadsUpToMarker (R.left source.old) (R.left source.new) self.old self.new
             result (W.taken out.old) (W.taken out.new) }
-        ensures keeps { Keeps self.old self.new result }
-        ensures counted { CountsStep result (R.failures source.old) (R.failures source.new)
-            (W.failures out.old) (W.failures out.new) }
+        ensures ready { IfOk result (λ marker. IfSome marker (λ mark. IsReadyToEnd self.new)) }
+        ensures games { self.new.converter.games ≡ self.old.converter.games }
+        ensures written { as_written self.new.converter.reading
+            ≡ as_written self.old.converter.reading }
+        ensures probes { self.old.converter.reading.most_probes
+            ≤ self.new.converter.reading.most_probes }
+        ensures counted { CountsReading result (device R.left R.failures source.old source.new)
+            (device W.taken W.failures out.old out.new) }
     {
-        if self.buffer.unused().is_empty() {
-            if self.has_ended {
-                match self.lexer.finish() {
-                    // Never: `finish` gives a token or a fault.
-                    Outcome::NeedMore => return Ok(Taken::More),
-                    Outcome::Token(token) => {
-                        return take_token(
-                            token.kind,
-                            token.at,
-                            told,
-                            &mut self.reader,
-                            &mut self.games,
-                            out,
-                        );
-                    }
-                    Outcome::Fault(fault) => return Err(lexical(fault)),
-                }
-            }
-            self.fill(source)?;
-            return Ok(Taken::More);
+        if self.has_ended {
+            return self.converter.finish_to_marker(out);
         }
-        tokens_rise();
-        let scan = self.lexer.next(self.buffer.unused());
-        let used = scan.used;
-        match scan.outcome {
-            Outcome::NeedMore => {
-                self.buffer.clear();
-                Ok(Taken::More)
-            }
-            // Its bytes are skipped last: the compiler then chooses by kind and stage at once.
-            Outcome::Token(token) => {
-                let taken = take_token(
-                    token.kind,
-                    token.at,
-                    told,
-                    &mut self.reader,
-                    &mut self.games,
-                    out,
-                );
-                self.buffer.skip(used);
-                taken
-            }
-            Outcome::Fault(fault) => Err(lexical(fault)),
+        if let Some(mark) = next_marker(&mut self.converter, &mut self.buffer, source, out)? {
+            return Ok(Some(mark));
         }
-    }
-
-    // Reads bytes into the buffer, whose bytes are used. The source has ended if it gives none.
-    #[inline(never)]
-    fn fill<R: Source>(&mut self, source: &mut R) -> Result<(), Fault>
-        requires going { IsGoing self.old }
-        requires empty { (self.old.has_ended ≡ false) × (self.old.unused ≡ []) }
-        ensures fills { Fills (R.left source.old) (R.left source.new) self.old self.new result }
-        ensures keeps { OnOk result (KeepsGoing self.old self.new) }
-        ensures counted { (n : ℕ)
-            → CountsStep result (R.failures source.old) (R.failures source.new) n n }
-    {
-        let at = self.lexer.count();
-        let room = MAX_INPUT_LENGTH - at;
-        match self.buffer.fill(source, bytes_to_read(room)) {
-            Err(_) => Err(Fault {
-                at,
-                reason: Reason::ReadFault,
-            }),
-            Ok(false) => {
-                self.has_ended = true;
-                Ok(())
-            }
-            Ok(true) => {
-                if room == 0 {
-                    return Err(Fault {
-                        at,
-                        reason: Reason::InputTooLong,
-                    });
-                }
-                Ok(())
-            }
-        }
-    }
-}
-
-// Takes a token.
-//
-// Another mark than the one that was told is not taken. The end is, and is a difference then.
-#[inline(always)]
-fn take_token<const T: usize, const L: usize, W: Sink>(
-    kind: TokenKind<'_>,
-    at: u64,
-    told: Option<Mark>,
-    reader: &mut Reader<T, L>,
-    games: &mut u64,
-    out: &mut W,
-) -> Result<Taken, Fault>
-    requires few { (reader.old.earlier_plies + reader.old.text.plies < 2 ^ 64 - 1)
-        × (games.old < 2 ^ 64 - 1) }
-    requires token { HasLength (kind_of kind) }
-    ensures takes { TakesKind told (kind_of kind.entry) at reader.old reader.new result
-        (W.taken out.old) (W.taken out.new) }
-    ensures plies { OnOk result (reader.new.earlier_plies + reader.new.text.plies
-        ≤ reader.old.earlier_plies + reader.old.text.plies + 1) }
-    ensures games { IfOk result (λ taken. games.new ≡ games_with taken games.old) }
-    ensures end { IfOk result (TellsEnd (kind_of kind.entry)) }
-    ensures counted { (n : ℕ) → CountsStep result n n (W.failures out.old) (W.failures out.new) }
-{
-    match reader.accept_unless_marker(kind, out) {
-        Err(reason) => Err(Fault { at, reason }),
-        Ok(Some(marker)) => {
-            let mark = Mark { marker, at };
-            if is_other(told, mark) {
-                return Err(differs(at));
-            }
-            match reader.end_game(marker, out) {
-                Err(reason) => Err(Fault { at, reason }),
-                Ok(()) => {
-                    *games += 1;
-                    Ok(Taken::Game(mark))
-                }
-            }
-        }
-        Ok(None) => {
-            if !is_end(kind) {
-                return Ok(Taken::More);
-            }
-            if told.is_some() {
-                return Err(differs(at));
-            }
-            Ok(Taken::End)
-        }
+        self.has_ended = true;
+        self.converter.finish_to_marker(out)
     }
 }
 
@@ -371,27 +234,12 @@ fn differs(at: u64) -> Fault
     }
 }
 
-// Whether the mark differs from the one that the other reading has told. False if none was told.
-fn is_other(told: Option<Mark>, mark: Mark) -> bool
-    ensures { result ≡ marks_differ told (Some (marker_text mark.marker)) mark.at }
+// Whether the mark differs from the one that the other reading has told.
+fn is_other(mark: Mark, told: Mark) -> bool
+    ensures { result ≡ not (bytes_eq (marker_text mark.marker) (marker_text told.marker)
+        && (mark.at == told.at)) }
 {
-    let Some(told) = told else {
-        return false;
-    };
     mark.marker.text() != told.marker.text() || mark.at != told.at
-}
-
-// How many bytes to ask the source for: as many as fit into both the buffer and the room. If there
-// is no room, one byte, which shows that the input is too long.
-fn bytes_to_read(room: u64) -> usize
-    ensures some { 0 < result }
-    ensures fits { result ≤ 4096 }
-    ensures room { result ≤ max 1 room }
-{
-    if room == 0 {
-        return 1;
-    }
-    room.min(READ_LENGTH as u64) as usize
 }
 
 // The fault of the second reading: its own faults show that the input has changed.

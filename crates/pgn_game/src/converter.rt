@@ -1,24 +1,25 @@
 //! Converts games in pieces of any length.
 ghost use Rattle.std.specs.Prelude.{◌≡◌, ◌+◌, ◌-◌, ◌≤◌, ◌<◌, ◌^◌, [], false};
-ghost use Rattle.std.specs.Prelude.{None, Some, is_some, Err, is_ok, IfOk, OnOk, OnErr, length, take};
+ghost use Rattle.std.specs.Prelude.{None, Some, Err, is_ok, IfOk, IfSome, OnOk, OnErr, length, take};
 ghost use Rattle.std.specs.Option.{option_copied};
 ghost use Rattle.pgn_layout.specs.Device.{device};
 ghost use Rattle.pgn_lexer.specs.WhiteSpace.{white_space};
 ghost use Rattle.pgn_game.specs.declared.reason.Reason.TheVariants.{InputTooLong, Lexical, ReadFault};
-ghost use Rattle.pgn_game.specs.ConverterSteps.{FeedsFront, Steps, StepsAtEnd};
-ghost use Rattle.pgn_game.specs.ConverterSteps.{StepAdvances, StepAtEndAdvances, outcome_at, games_after};
-ghost use Rattle.pgn_game.specs.ConverterSteps.{fault_of_step};
-ghost use Rattle.pgn_game.specs.ConverterSteps as converter_steps;
+ghost use Rattle.pgn_game.specs.ConverterSteps.{FeedsFront, FeedsToMarker, Steps, StepsAtEnd};
+ghost use Rattle.pgn_game.specs.ConverterSteps.{StepAdvances, StepAtEndAdvances, AdvancesTo};
+ghost use Rattle.pgn_game.specs.ConverterSteps.{AdvancesAtEnd, EndsGame, EndsToMarker, IsReady};
+ghost use Rattle.pgn_game.specs.ConverterSteps.{IsReadyAfter, IsReadyAt, fault_of_step, game_ended, games_ended};
+ghost use Rattle.pgn_game.specs.ConverterSteps.{taking_marker, told_of};
+ghost use Rattle.pgn_game.specs.ConverterSteps.{is_end_of_input, is_ended, outcome_at, used_to};
 ghost use Rattle.pgn_game.specs.ConverterCalls.{Stands, Feeds, KeepsGames, FeedsAll, Ends};
 ghost use Rattle.pgn_game.specs.ConverterCalls.{Again, KeepsFault, CountsFault, Advances, profile_of};
 ghost use Rattle.pgn_game.specs.ConverterCalls.{used_of, finished_game_value};
 ghost use Rattle.pgn_game.specs.ConverterCalls.{finished_game_plies, finished_game_position};
 ghost use Rattle.pgn_game.specs.ConverterCalls.{refused_position};
 ghost use Rattle.pgn_game.specs.ConverterCalls.{CountsMissingAs, counting_missing_as};
-ghost use Rattle.pgn_game.specs.ReaderState.{whole_plies};
+ghost use Rattle.pgn_game.specs.ReaderState.{as_written, whole_plies};
 
-use crate::accepted::Accepted;
-use crate::marker::{Marker, MissingResult};
+use crate::marker::{Mark, Marker, MissingResult};
 use crate::mode::Mode;
 use crate::reader::Reader;
 use crate::reason::{Fault, Reason};
@@ -40,12 +41,30 @@ pub enum Fed {
     Game(usize),
 }
 
-/// One step in a piece: how many of its bytes were used, and the reader's result for its token. The
-/// outcome is `Ok(None)` if no token ends in the rest of the piece.
+/// Up to where a piece was fed.
+#[derive(Clone, Copy)]
+pub enum Reached {
+    /// The whole piece was used, and no marker ends in it.
+    All,
+    /// This many of its bytes were used, and a marker ends there, which `end_game` takes.
+    Marker(usize, Mark),
+}
+
+/// A token that was met.
+#[derive(Clone, Copy)]
+enum Met {
+    /// It is no marker, and was taken.
+    Token,
+    /// It is a marker, which was not taken yet.
+    Marker(Mark),
+}
+
+/// One step in a piece: how many of its bytes were used, and the token that was met. The outcome is
+/// `Ok(None)` if no token ends in the rest of the piece.
 #[derive(Clone, Copy)]
 struct Step {
     used: usize,
-    outcome: Result<Option<Accepted>, Fault>,
+    outcome: Result<Option<Met>, Fault>,
 }
 
 /// Converts games from import format to export format (PGN 3), in pieces of any length.
@@ -169,6 +188,21 @@ impl<const T: usize, const L: usize> Converter<T, L> {
             .count_missing_result_as(MissingResult::CountsAs(marker));
     }
 
+    /// From now on a missing Result takes the marker that ends its game.
+    pub(crate) fn take_marker_for_missing_result(&mut self)
+        ensures { self.new ≡ taking_marker self.old }
+    {
+        self.reader
+            .count_missing_result_as(MissingResult::TakesTheMarker);
+    }
+
+    /// Tells the marker that the next game ends with. A missing Result that takes it is written so.
+    pub(crate) fn tell(&mut self, marker: Marker)
+        ensures { self.new ≡ told_of marker self.old }
+    {
+        self.reader.tell(marker);
+    }
+
     /// Converts the piece up to the end of the next game, and reports how much of it was used.
     ///
     /// After `Game(used)` the next piece that is not empty has to begin with the rest of this one.
@@ -200,17 +234,93 @@ impl<const T: usize, const L: usize> Converter<T, L> {
         ensures counted { self.old.fault ≡ None
             → CountsFault result (device W.taken W.failures out.old out.new) }
     {
+        match self.feed_to_marker(piece, out)? {
+            Reached::All => Ok(Fed::All),
+            Reached::Marker(used, mark) => {
+                self.end_game(mark, out)?;
+                Ok(Fed::Game(used))
+            }
+        }
+    }
+
+    /// Converts the piece up to the end of the next marker, which `end_game` takes then.
+    ///
+    /// # Errors
+    ///
+    /// As `feed`.
+    pub(crate) fn feed_to_marker<W: Sink>(
+        &mut self,
+        piece: &[u8],
+        out: &mut W,
+    ) -> Result<Reached, Fault>
+        requires not_finished { self.old.is_finished ≡ false }
+        ensures used { IfOk result (λ reached. used_to reached piece.now ≤ length piece.now) }
+        ensures feeds { FeedsToMarker self.old piece.now self.new result
+            (device W.taken W.failures out.old out.new) }
+        ensures count { IfOk result (λ reached.
+            self.new.lexer.count ≡ self.old.lexer.count + used_to reached piece.now) }
+        ensures short { OnOk result (self.new.lexer.count ≤ 2 ^ 62) }
+        ensures advances { IfOk result (λ reached.
+            AdvancesTo self.old.lexer self.new.lexer reached) }
+        ensures ready { IfOk result (IsReadyAt self.new) }
+        ensures written { as_written self.new.reading ≡ as_written self.old.reading }
+        ensures not_finished { self.new.is_finished ≡ false }
+        ensures fault { KeepsFault self.new result }
+        ensures games { self.new.games ≡ self.old.games }
+        ensures none_just_finished { self.new.just_finished ≡ None }
+        ensures probes { self.old.reading.most_probes ≤ self.new.reading.most_probes }
+        ensures again { Again self.old self.new result out.old out.new }
+        ensures counted { self.old.fault ≡ None
+            → CountsFault result (device W.taken W.failures out.old out.new) }
+    {
         if let Some(fault) = self.fault {
             return Err(fault);
         }
         let front = within_limit(self.lexer.count(), piece);
         match self.feed_front(front, out)? {
-            Fed::Game(used) => Ok(Fed::Game(used)),
-            Fed::All => {
+            Reached::Marker(used, mark) => Ok(Reached::Marker(used, mark)),
+            Reached::All => {
                 if front.len() < piece.len() {
                     return Err(too_long(&mut self.fault));
                 }
-                Ok(Fed::All)
+                Ok(Reached::All)
+            }
+        }
+    }
+
+    /// Ends the game with the marker that was met.
+    ///
+    /// # Errors
+    ///
+    /// The row of the fault table that rejects the marker, or `Reason::WriteFault`.
+    pub(crate) fn end_game<W: Sink>(&mut self, mark: Mark, out: &mut W) -> Result<(), Fault>
+        requires ready { IsReady self.old }
+        requires no_fault { self.old.fault ≡ None }
+        requires not_finished { self.old.is_finished ≡ false }
+        requires none_just_finished { self.old.just_finished ≡ None }
+        ensures ends { EndsGame self.old.reading mark self.new.reading result
+            (device W.taken W.failures out.old out.new) }
+        ensures lexer { self.new.lexer ≡ self.old.lexer }
+        ensures not_finished { self.new.is_finished ≡ false }
+        ensures fault { KeepsFault self.new result }
+        ensures games { self.new.games ≡ games_ended result self.old.games }
+        ensures few { self.old.games < 2 ^ 64 }
+        ensures just_finished { self.new.just_finished ≡ game_ended result self.new.reading }
+        ensures written { as_written self.new.reading ≡ as_written self.old.reading }
+        ensures probes { self.old.reading.most_probes ≤ self.new.reading.most_probes }
+        ensures counted { CountsFault result (device W.taken W.failures out.old out.new) }
+    {
+        let Mark { marker, at } = mark;
+        match self.reader.end_game(marker, out) {
+            Err(reason) => {
+                let fault = Fault { at, reason };
+                self.fault = Some(fault);
+                Err(fault)
+            }
+            Ok(()) => {
+                self.games += 1;
+                self.has_finished_game = true;
+                Ok(())
             }
         }
     }
@@ -260,18 +370,52 @@ impl<const T: usize, const L: usize> Converter<T, L> {
         if let Some(fault) = self.fault {
             return Err(fault);
         }
-        self.has_finished_game = false;
         let mut finished_game = false;
         loop {
-            match self.step_at_end(out) {
-                Ok(Some(Accepted::More)) => {}
-                Ok(Some(Accepted::Finished)) => finished_game = true,
-                Ok(None) => {
+            match self.finish_to_marker(out)? {
+                Some(mark) => {
+                    self.end_game(mark, out)?;
+                    finished_game = true;
+                }
+                None => {
                     // The end is accepted only between games.
                     self.has_finished_game = finished_game && self.reader.is_between();
                     return Ok(finished_game);
                 }
-                Err(fault) => return Err(fault),
+            }
+        }
+    }
+
+    /// Converts what is left at the end of the input, up to the end of the next marker, which
+    /// `end_game` takes then. `None` if the input has ended.
+    ///
+    /// # Errors
+    ///
+    /// As `finish`.
+    pub(crate) fn finish_to_marker<W: Sink>(&mut self, out: &mut W) -> Result<Option<Mark>, Fault>
+        requires no_fault { self.old.fault ≡ None }
+        requires not_finished { self.old.is_finished ≡ false }
+        ensures ends { EndsToMarker self.old self.new result
+            (device W.taken W.failures out.old out.new) }
+        ensures count { IfOk result (λ marker.
+            self.new.lexer.count ≡ self.old.lexer.count) }
+        ensures advances { IfOk result (λ marker.
+            AdvancesAtEnd self.old.lexer self.new.lexer marker) }
+        ensures ready { IfOk result (λ marker. IfSome marker (λ mark. IsReady self.new)) }
+        ensures written { as_written self.new.reading ≡ as_written self.old.reading }
+        ensures finished { self.new.is_finished ≡ is_end_of_input result }
+        ensures fault { KeepsFault self.new result }
+        ensures games { self.new.games ≡ self.old.games }
+        ensures none_just_finished { self.new.just_finished ≡ None }
+        ensures probes { self.old.reading.most_probes ≤ self.new.reading.most_probes }
+        ensures counted { CountsFault result (device W.taken W.failures out.old out.new) }
+    {
+        self.has_finished_game = false;
+        loop {
+            match self.step_at_end(out)? {
+                Some(Met::Token) => {}
+                Some(Met::Marker(mark)) => return Ok(Some(mark)),
+                None => return Ok(None),
             }
         }
     }
@@ -399,20 +543,24 @@ impl<const T: usize, const L: usize> Converter<T, L> {
         self.is_finished
     }
 
-    /// Converts a piece that ends before place 2^62, up to the end of the next game.
-    fn feed_front<W: Sink>(&mut self, piece: &[u8], out: &mut W) -> Result<Fed, Fault>
+    /// Converts a piece that ends before place 2^62, up to the end of the next marker.
+    fn feed_front<W: Sink>(&mut self, piece: &[u8], out: &mut W) -> Result<Reached, Fault>
         requires not_finished { self.old.is_finished ≡ false }
         requires no_fault { self.old.fault ≡ None }
         requires short { self.old.lexer.count + length piece.now ≤ 2 ^ 62 }
-        ensures used { IfOk result (λ fed. used_of fed piece.now ≤ length piece.now) }
+        ensures used { IfOk result (λ reached. used_to reached piece.now ≤ length piece.now) }
         ensures feeds { FeedsFront self.old piece.now self.new result
             (device W.taken W.failures out.old out.new) }
-        ensures count { IfOk result (λ fed.
-            self.new.lexer.count ≡ self.old.lexer.count + used_of fed piece.now) }
-        ensures advances { IfOk result (λ fed. Advances self.old.lexer self.new.lexer fed) }
+        ensures count { IfOk result (λ reached.
+            self.new.lexer.count ≡ self.old.lexer.count + used_to reached piece.now) }
+        ensures advances { IfOk result (λ reached.
+            AdvancesTo self.old.lexer self.new.lexer reached) }
+        ensures ready { IfOk result (IsReadyAt self.new) }
+        ensures written { as_written self.new.reading ≡ as_written self.old.reading }
         ensures not_finished { self.new.is_finished ≡ false }
         ensures fault { KeepsFault self.new result }
-        ensures games { KeepsGames self.old self.new result }
+        ensures games { self.new.games ≡ self.old.games }
+        ensures none_just_finished { self.new.just_finished ≡ None }
         ensures probes { self.old.reading.most_probes ≤ self.new.reading.most_probes }
         ensures counted { CountsFault result (device W.taken W.failures out.old out.new) }
     {
@@ -422,33 +570,36 @@ impl<const T: usize, const L: usize> Converter<T, L> {
             let step = self.step(&piece[at..], out);
             at += step.used;
             match step.outcome {
-                Ok(None) => return Ok(Fed::All),
-                Ok(Some(Accepted::More)) => {}
-                Ok(Some(Accepted::Finished)) => return Ok(Fed::Game(at)),
+                Ok(None) => return Ok(Reached::All),
+                Ok(Some(Met::Token)) => {}
+                Ok(Some(Met::Marker(mark))) => return Ok(Reached::Marker(at, mark)),
                 Err(fault) => return Err(fault),
             }
         }
-        Ok(Fed::All)
+        Ok(Reached::All)
     }
 
-    /// Takes the next token of the piece.
+    /// Takes the next token of the piece, unless it is a marker.
+    #[inline(always)]
     fn step<W: Sink>(&mut self, piece: &[u8], out: &mut W) -> Step
         requires no_fault { self.old.fault ≡ None }
         requires short { self.old.lexer.count + length piece.now ≤ 2 ^ 62 }
         requires some { 0 < length piece.now }
         requires none_just_finished { self.old.just_finished ≡ None }
+        requires not_finished { self.old.is_finished ≡ false }
         ensures used { result.used ≤ length piece.now }
         ensures after { Steps self.old piece.now self.new result.used result.outcome
             (device W.taken W.failures out.old out.new) }
         ensures count { self.new.lexer.count ≡ self.old.lexer.count + result.used }
         ensures advances { StepAdvances self.old.lexer piece.now self.new.lexer result.used
             result.outcome }
+        ensures ready { IsReadyAfter self.new result.outcome }
+        ensures written { as_written self.new.reading ≡ as_written self.old.reading }
         ensures fault { self.new.fault ≡ fault_of_step result.outcome }
-        ensures games { self.new.games ≡ games_after result.outcome self.old.games }
+        ensures games { self.new.games ≡ self.old.games }
         ensures probes { self.old.reading.most_probes ≤ self.new.reading.most_probes }
-        ensures just_finished { is_some self.new.just_finished
-            ≡ converter_steps.finished_game result.outcome }
-        ensures finished { self.new.is_finished ≡ self.old.is_finished }
+        ensures none_just_finished { self.new.just_finished ≡ None }
+        ensures not_finished { self.new.is_finished ≡ false }
         ensures counted { CountsFault result.outcome
             (device W.taken W.failures out.old out.new) }
     {
@@ -461,10 +612,11 @@ impl<const T: usize, const L: usize> Converter<T, L> {
             },
             Outcome::Token(token) => {
                 let at = token.at;
-                let accepted = self.reader.accept(token.kind, out);
-                let outcome = settle(at, accepted, &mut self.games, &mut self.fault);
-                self.has_finished_game = finished_game(outcome);
-                Step { used, outcome }
+                let met = self.reader.accept_unless_marker(token.kind, out);
+                Step {
+                    used,
+                    outcome: settle(at, met, &mut self.fault),
+                }
             }
             Outcome::Fault(fault) => Step {
                 used,
@@ -473,19 +625,23 @@ impl<const T: usize, const L: usize> Converter<T, L> {
         }
     }
 
-    /// Takes the next of the tokens that are left after the last piece; `None` is the end.
-    fn step_at_end<W: Sink>(&mut self, out: &mut W) -> Result<Option<Accepted>, Fault>
+    /// Takes the next of the tokens that are left after the last piece, unless it is a marker.
+    /// `None` is the end.
+    fn step_at_end<W: Sink>(&mut self, out: &mut W) -> Result<Option<Met>, Fault>
         requires no_fault { self.old.fault ≡ None }
         requires not_finished { self.old.is_finished ≡ false }
         requires none_just_finished { self.old.just_finished ≡ None }
         ensures after { StepsAtEnd self.old self.new result
             (device W.taken W.failures out.old out.new) }
+        ensures count { IfOk result (λ met. self.new.lexer.count ≡ self.old.lexer.count) }
         ensures advances { StepAtEndAdvances self.old.lexer self.new.lexer result }
+        ensures ready { IsReadyAfter self.new result }
+        ensures written { as_written self.new.reading ≡ as_written self.old.reading }
         ensures fault { self.new.fault ≡ fault_of_step result }
-        ensures games { self.new.games ≡ games_after result self.old.games }
+        ensures games { self.new.games ≡ self.old.games }
         ensures probes { self.old.reading.most_probes ≤ self.new.reading.most_probes }
         ensures none_just_finished { self.new.just_finished ≡ None }
-        ensures finished { self.new.is_finished ≡ converter_steps.is_ended result }
+        ensures finished { self.new.is_finished ≡ is_ended result }
         ensures counted { CountsFault result (device W.taken W.failures out.old out.new) }
     {
         match self.lexer.finish() {
@@ -494,11 +650,13 @@ impl<const T: usize, const L: usize> Converter<T, L> {
             Outcome::Token(token) => {
                 let at = token.at;
                 let is_end = is_end(token.kind);
-                let accepted = self.reader.accept(token.kind, out);
-                let outcome = settle(at, accepted, &mut self.games, &mut self.fault);
-                let closed = none_at_end(is_end, outcome);
-                self.is_finished = is_ended(closed);
-                closed
+                let met = self.reader.accept_unless_marker(token.kind, out);
+                let outcome = settle(at, met, &mut self.fault);
+                if is_end && outcome.is_ok() {
+                    self.is_finished = true;
+                    return Ok(None);
+                }
+                outcome
             }
             Outcome::Fault(fault) => fail(lexical(fault), &mut self.fault),
         }
@@ -528,32 +686,25 @@ fn too_long(kept: &mut Option<Fault>) -> Fault
     Fault { at, reason }
 }
 
-// Counts the game that a token has finished, or keeps the fault that it has. Returns the reader's
-// result for the token, with the token's place in a fault.
+// Keeps the fault that a token has. Returns what was met, with the token's place.
 fn settle(
     at: u64,
-    accepted: Result<Accepted, Reason>,
-    games: &mut u64,
+    met: Result<Option<Marker>, Reason>,
     fault: &mut Option<Fault>,
-) -> Result<Option<Accepted>, Fault>
-    requires few { games.old < 2 ^ 64 - 1 }
+) -> Result<Option<Met>, Fault>
     requires no_fault { fault.old ≡ None }
-    ensures outcome { result ≡ outcome_at at accepted }
-    ensures games { games.new ≡ games_after result games.old }
+    ensures outcome { result ≡ outcome_at at met }
     ensures fault { fault.new ≡ fault_of_step result }
 {
-    match accepted {
-        Ok(Accepted::More) => Ok(Some(Accepted::More)),
-        Ok(Accepted::Finished) => {
-            *games += 1;
-            Ok(Some(Accepted::Finished))
-        }
+    match met {
+        Ok(None) => Ok(Some(Met::Token)),
+        Ok(Some(marker)) => Ok(Some(Met::Marker(Mark { marker, at }))),
         Err(reason) => fail(Fault { at, reason }, fault),
     }
 }
 
 // Keeps the fault.
-fn fail(fault: Fault, kept: &mut Option<Fault>) -> Result<Option<Accepted>, Fault>
+fn fail(fault: Fault, kept: &mut Option<Fault>) -> Result<Option<Met>, Fault>
     ensures outcome { result ≡ Err fault }
     ensures kept { kept.new ≡ Some fault }
 {
@@ -568,43 +719,5 @@ pub fn lexical(fault: LexFault) -> Fault
     Fault {
         at: fault.at,
         reason: Reason::Lexical(fault.reason),
-    }
-}
-
-// Whether the step finished a game.
-fn finished_game(outcome: Result<Option<Accepted>, Fault>) -> bool
-    ensures { result ≡ converter_steps.finished_game outcome }
-{
-    match outcome {
-        Ok(Some(Accepted::Finished)) => true,
-        _ => false,
-    }
-}
-
-// Whether the step read the end of the input.
-fn is_ended(outcome: Result<Option<Accepted>, Fault>) -> bool
-    ensures { result ≡ converter_steps.is_ended outcome }
-{
-    match outcome {
-        Ok(None) => true,
-        _ => false,
-    }
-}
-
-// The outcome of a step at the end of the input: `Ok(None)` if the token is the end and accepted.
-fn none_at_end(
-    is_end: bool,
-    outcome: Result<Option<Accepted>, Fault>,
-) -> Result<Option<Accepted>, Fault>
-    ensures { result ≡ converter_steps.none_at_end is_end outcome }
-{
-    match outcome {
-        Ok(_) => {
-            if is_end {
-                return Ok(None);
-            }
-            outcome
-        }
-        Err(_) => outcome,
     }
 }

@@ -1,15 +1,18 @@
 //! Games one at a time, from a source.
-ghost use Rattle.std.specs.Prelude.{◌≡◌, ◌+◌, ◌-◌, ◌<◌, ◌≤◌, ◌^◌, ℕ, List, [], Option, true, false, None, Ok, OnOk, length};
+ghost use Rattle.std.specs.Prelude.{◌≡◌, ◌+◌, ◌-◌, ◌<◌, ◌≤◌, ◌^◌, ℕ, List, [], Option, true, false, None, Ok, OnOk, IfOk, IfSome, length};
 ghost use Rattle.std.specs.Option.{option_copied};
 ghost use Rattle.pgn_layout.specs.Device.{Counts, device};
 ghost use Rattle.pgn_game.specs.ConverterCalls.{CountsFault, KeepsFault, profile_of};
 ghost use Rattle.pgn_game.specs.ConverterCalls.{finished_game_value, finished_game_plies, finished_game_position};
 ghost use Rattle.pgn_game.specs.GamesCalls.{HaveRead, ReadsNext, NextAgain, NextAtEnd, CountsNext, games_of, most_left};
-ghost use Rattle.pgn_game.specs.GamesSteps.{CountsGame, MoreResult, RestResult};
+ghost use Rattle.pgn_game.specs.GamesSteps.{CountsReading, MoreResult, ReadsToMarker, RestResult};
+ghost use Rattle.pgn_game.specs.ConverterSteps.{IsReady};
+ghost use Rattle.pgn_game.specs.ReaderState.{as_written};
 
-use crate::converter::{Converter, Fed};
+use crate::converter::{Converter, Reached};
+use crate::marker::Mark;
 use crate::mode::Mode;
-use crate::read_buffer::{READ_LENGTH, ReadBuffer};
+use crate::read_buffer::ReadBuffer;
 use crate::reason::Fault;
 use crate::source::Source;
 use chess_rules::Position;
@@ -192,43 +195,81 @@ fn read_game<const T: usize, const L: usize, R: Source, W: Sink>(
     ensures counted { CountsNext result (device R.left R.failures source.old source.new)
         (device W.taken W.failures out.old out.new) }
 {
+    match next_marker(converter, buffer, source, out)? {
+        Some(mark) => {
+            converter.end_game(mark, out)?;
+            Ok(true)
+        }
+        None => converter.finish(out),
+    }
+}
+
+/// Reads up to the next marker of a source whose end was not read yet, which `end_game` takes then.
+/// `None` if the source has ended: all bytes are used, and `finish` or `finish_to_marker` is next.
+pub(crate) fn next_marker<const T: usize, const L: usize, R: Source, W: Sink>(
+    converter: &mut Converter<T, L>,
+    buffer: &mut ReadBuffer,
+    source: &mut R,
+    out: &mut W,
+) -> Result<Option<Mark>, Fault>
+    requires not_finished { converter.old.is_finished ≡ false }
+    requires no_fault { converter.old.fault ≡ None }
+    ensures reads { ReadsToMarker (games_of converter.old buffer.old)
+        (games_of converter.new buffer.new) result
+        (device R.left R.failures source.old source.new)
+        (device W.taken W.failures out.old out.new) }
+    ensures ready { IfOk result (λ marker. IfSome marker (λ mark. IsReady converter.new)) }
+    ensures short { OnOk result (converter.new.lexer.count ≤ 2 ^ 62) }
+    ensures written { as_written converter.new.reading ≡ as_written converter.old.reading }
+    ensures not_finished { converter.new.is_finished ≡ false }
+    ensures fault { KeepsFault converter.new result }
+    ensures games { converter.new.games ≡ converter.old.games }
+    ensures none_just_finished { OnOk result (converter.new.just_finished ≡ None) }
+    ensures probes { converter.old.reading.most_probes ≤ converter.new.reading.most_probes }
+    ensures counted { CountsReading result (device R.left R.failures source.old source.new)
+        (device W.taken W.failures out.old out.new) }
+{
     loop {
-        if feed_rest(converter, buffer, out)? {
-            return Ok(true);
+        if let Some(mark) = feed_rest(converter, buffer, out)? {
+            return Ok(Some(mark));
         }
         if !read_more(converter, buffer, source)? {
-            return converter.finish(out);
+            return Ok(None);
         }
     }
 }
 
-// Feeds the bytes that are not used yet, and returns whether they finished a game.
+// Feeds the bytes that are not used yet, up to the next marker that ends in them.
 fn feed_rest<const T: usize, const L: usize, W: Sink>(
     converter: &mut Converter<T, L>,
     buffer: &mut ReadBuffer,
     out: &mut W,
-) -> Result<bool, Fault>
+) -> Result<Option<Mark>, Fault>
     requires not_finished { converter.old.is_finished ≡ false }
     requires no_fault { converter.old.fault ≡ None }
     ensures feeds { RestResult (games_of converter.old buffer.old)
         (games_of converter.new buffer.new) result
         (device W.taken W.failures out.old out.new) }
-    ensures game { CountsGame (games_of converter.old buffer.old)
-        (games_of converter.new buffer.new) result }
+    ensures used { result ≡ Ok None
+        → converter.new.lexer.count ≡ converter.old.lexer.count + length buffer.old }
+    ensures ready { IfOk result (λ marker. IfSome marker (λ mark. IsReady converter.new)) }
     ensures short { OnOk result (converter.new.lexer.count ≤ 2 ^ 62) }
-    ensures kept { result ≡ Ok false → converter.new.games ≡ converter.old.games }
+    ensures written { as_written converter.new.reading ≡ as_written converter.old.reading }
     ensures not_finished { converter.new.is_finished ≡ false }
     ensures fault { KeepsFault converter.new result }
+    ensures games { converter.new.games ≡ converter.old.games }
+    ensures none_just_finished { OnOk result (converter.new.just_finished ≡ None) }
+    ensures probes { converter.old.reading.most_probes ≤ converter.new.reading.most_probes }
     ensures counted { CountsFault result (device W.taken W.failures out.old out.new) }
 {
-    match converter.feed(buffer.unused(), out)? {
-        Fed::All => {
+    match converter.feed_to_marker(buffer.unused(), out)? {
+        Reached::All => {
             buffer.clear();
-            Ok(false)
+            Ok(None)
         }
-        Fed::Game(used) => {
+        Reached::Marker(used, mark) => {
             buffer.skip(used);
-            Ok(true)
+            Ok(Some(mark))
         }
     }
 }
@@ -243,10 +284,12 @@ fn read_more<const T: usize, const L: usize, R: Source>(
     ensures more { MoreResult (R.left source.old) (R.left source.new) converter.old converter.new
         buffer.new result }
     ensures fits { length buffer.new ≤ 4096 }
+    ensures not_finished { converter.new.is_finished ≡ converter.old.is_finished }
     ensures fault { KeepsFault converter.new result }
+    ensures games { converter.new.games ≡ converter.old.games }
     ensures counted { Counts result (R.failures source.old) (R.failures source.new) }
 {
-    match buffer.fill(source, READ_LENGTH) {
+    match buffer.fill(source) {
         Ok(has_more) => Ok(has_more),
         Err(_) => Err(converter.keep_failed_read()),
     }

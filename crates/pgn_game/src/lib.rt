@@ -6,7 +6,6 @@
 //! allocates.
 #![tactic(auto)]
 
-mod accepted;
 mod annotation;
 mod checked;
 mod conversion;

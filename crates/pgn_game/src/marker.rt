@@ -65,6 +65,13 @@ impl Marker {
     }
 }
 
+/// How a game ends: its termination marker, and the place of that.
+#[derive(Clone, Copy)]
+pub struct Mark {
+    pub marker: Marker,
+    pub at: u64,
+}
+
 /// What a missing Result counts as.
 #[derive(Clone, Copy)]
 pub enum MissingResult {

@@ -7,7 +7,7 @@ use crate::source::{ReadFailed, Source};
 use std::marker::Model;
 
 /// The most bytes of one read.
-pub const READ_LENGTH: usize = 4096;
+const READ_LENGTH: usize = 4096;
 
 /// The bytes that were read and are not used yet.
 #[derive(Drop)]
@@ -61,18 +61,16 @@ impl ReadBuffer {
         self.start = self.end;
     }
 
-    /// Replaces the bytes by those of one read of at most so many, and returns whether it gave any.
-    /// It gives none at the end of the source.
-    pub fn fill<R: Source>(&mut self, source: &mut R, most: usize) -> Result<bool, ReadFailed>
-        requires some { 0 < most }
-        requires room { most ≤ 4096 }
+    /// Replaces the bytes by those of one read, and returns whether it gave any. It gives none at
+    /// the end of the source.
+    pub fn fill<R: Source>(&mut self, source: &mut R) -> Result<bool, ReadFailed>
         ensures fills { FillResult (R.left source.old) (R.left source.new) self.new result }
-        ensures fits { length self.new ≤ most }
+        ensures fits { length self.new ≤ 4096 }
         ensures counted { Counts result (R.failures source.old) (R.failures source.new) }
     {
         self.start = 0;
         self.end = 0;
-        match source.read_some(&mut self.bytes[..most]) {
+        match source.read_some(&mut self.bytes) {
             Err(_) => Err(ReadFailed),
             Ok(0) => Ok(false),
             Ok(count) => {

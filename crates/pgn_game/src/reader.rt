@@ -1,10 +1,9 @@
 //! Reads games token by token, stage by stage.
 ghost use Rattle.std.specs.Prelude.{◌≡◌, ◌+◌, ◌-◌, ◌≤◌, ◌<◌, ◌^◌, ◌&&◌, ◌∷◌, [], false, not};
-ghost use Rattle.std.specs.Prelude.{None, Some, option_map, IsTrue, ◌↔◌, bytes_eq, codes, max};
+ghost use Rattle.std.specs.Prelude.{None, OnOk, Some, option_map, IsTrue, ◌↔◌, bytes_eq, codes, max};
 ghost use Rattle.std.specs.Option.{option_copied};
 ghost use Rattle.pgn_layout.specs.Device.{device};
-ghost use Rattle.pgn_lexer.specs.declared.token.TokenKind.{TokenKind};
-ghost use Rattle.pgn_lexer.specs.Tokens.{HasLength, left_paren, right_paren, symbol};
+ghost use Rattle.pgn_lexer.specs.Tokens.{HasLength, Kind, left_paren, right_paren, symbol};
 ghost use Rattle.pgn_lexer.specs.Scanned.{kind_of};
 ghost use Rattle.pgn_game.specs.Pairs.{value_of};
 ghost use Rattle.pgn_game.specs.Chess.{first_position};
@@ -14,17 +13,15 @@ ghost use Rattle.pgn_game.specs.declared.stage.Stage.TheVariants.{AfterValue, Af
 ghost use Rattle.pgn_game.specs.Profile.{counts_as, known_result};
 ghost use Rattle.pgn_game.specs.Markers.{marker_text, missing_of};
 ghost use Rattle.pgn_game.specs.Movetext.{movetext_from};
-ghost use Rattle.pgn_game.specs.ReaderState.{Accepts, Stays, FinishesAtMarker, CountsWrites};
-ghost use Rattle.pgn_game.specs.ReaderState.{whole_plies};
+ghost use Rattle.pgn_game.specs.ReaderState.{CountsWrites, known_of, whole_plies};
 ghost use Rattle.pgn_game.specs.TokenInMovetext.{ItemFits, is_frequent, may_have_movetext, model_item};
 ghost use Rattle.pgn_game.specs.TokenInMovetext.{fen_position as position_in_fen};
-ghost use Rattle.pgn_game.specs.PutResult.{BeginsText, CountsMove, Finds, MeetsEntry, PutsItems};
-ghost use Rattle.pgn_game.specs.PutResult.{TakesEntry, TakesOutside, TakesUnlessMarker};
+ghost use Rattle.pgn_game.specs.PutResult.{BeginsText, CountsMove, Finds, Keeps, MeetsEntry};
+ghost use Rattle.pgn_game.specs.PutResult.{PutsItems, TakesEntry, TakesOutside, TakesUnlessMarker};
 ghost use Rattle.pgn_game.specs.PutResult.{TakesUnwritten, at_game_start, continued, ended};
 ghost use Rattle.pgn_game.specs.FaultTable as spec;
 ghost use Rattle.pgn_game.specs.FaultTable.{is_reduced, marker_of};
 
-use crate::accepted::Accepted;
 use crate::annotation::Annotation;
 use crate::find::named_move;
 use crate::marker::{Marker, MissingResult};
@@ -58,12 +55,13 @@ pub struct Reader<const T: usize, const L: usize> {
     most_probes: u32,
     mode: Mode,
     missing_result: MissingResult,
+    told: Option<Marker>,
     stage: Stage,
 }
 
 impl<const T: usize, const L: usize> Model for Reader<T, L> {
-    ghost use Rattle.std.specs.Prelude.{◌-◌, ◌≤◌};
-    ghost use Rattle.pgn_game.specs.Markers.{missing_of};
+    ghost use Rattle.std.specs.Prelude.{◌-◌, ◌≤◌, option_map};
+    ghost use Rattle.pgn_game.specs.Markers.{marker_text, missing_of};
     ghost use Rattle.pgn_game.specs.ReaderState.{ReaderState, AreSound};
 
     ghost Value = { ReaderState };
@@ -75,6 +73,7 @@ impl<const T: usize, const L: usize> Model for Reader<T, L> {
         mode = r.mode;
         missing_result = missing_of r.missing_result;
       };
+      told = option_map marker_text r.told;
       stage = r.stage;
       tags = r.tags;
       text = r.text;
@@ -97,6 +96,7 @@ impl<const T: usize, const L: usize> Reader<T, L> {
             mode = mode;
             missing_result = counts_as (codes "*");
           };
+          told = None;
           stage = Between;
           tags = record { held = []; pending_name = None };
           text = movetext_from first_position;
@@ -108,6 +108,7 @@ impl<const T: usize, const L: usize> Reader<T, L> {
         Reader {
             mode,
             missing_result: MissingResult::CountsAs(Marker::Unknown),
+            told: None,
             stage: Stage::Between,
             tags: TagPairs::new(),
             text: Movetext::new(),
@@ -176,37 +177,21 @@ impl<const T: usize, const L: usize> Reader<T, L> {
         self.missing_result = missing;
     }
 
-    /// Takes one token, and writes what it adds to the text of its game.
+    /// Tells the marker that the next game ends with. A missing Result that takes it is written so,
+    /// where it would be written as nothing.
+    pub fn tell(&mut self, marker: Marker)
+        ensures { self.new ≡ record self.old { told = Some (marker_text marker) } }
+    {
+        self.told = Some(marker);
+    }
+
+    /// Takes one token, and writes what it adds to the text of its game. A marker that may end the
+    /// game is only returned, and `end_game` takes it.
     ///
     /// # Errors
     ///
     /// The row of the fault table that rejects the token, or `Reason::WriteFault` if a write
     /// failed. Do not call this again after an error.
-    #[inline(always)]
-    pub fn accept<W: Sink>(&mut self, kind: TokenKind<'_>, out: &mut W) -> Result<Accepted, Reason>
-        requires few { self.old.earlier_plies + self.old.text.plies < 2 ^ 64 - 1 }
-        requires token { HasLength (kind_of kind) }
-        ensures accepts { Accepts self.old (kind_of kind.entry) self.new result
-            (device W.taken W.failures out.old out.new) }
-        ensures profile { self.new.profile ≡ self.old.profile }
-        ensures stays { Stays self.old self.new result }
-        ensures finished { FinishesAtMarker (kind_of kind.entry) self.new result }
-        ensures counted { CountsWrites result (device W.taken W.failures out.old out.new) }
-        ensures plies { self.new.earlier_plies + self.new.text.plies
-            ≤ self.old.earlier_plies + self.old.text.plies + 1 }
-        ensures probes { self.old.most_probes ≤ self.new.most_probes }
-    {
-        match self.accept_unless_marker(kind, out)? {
-            None => Ok(Accepted::More),
-            Some(marker) => {
-                self.end_game(marker, out)?;
-                Ok(Accepted::Finished)
-            }
-        }
-    }
-
-    /// Takes one token as `accept` does, but for a marker that may end the game: it is only
-    /// returned, and `end_game` takes it.
     #[inline(always)]
     pub fn accept_unless_marker<W: Sink>(
         &mut self,
@@ -578,8 +563,12 @@ impl<const T: usize, const L: usize> Reader<T, L> {
     #[inline(never)]
     pub fn end_game<W: Sink>(&mut self, marker: Marker, out: &mut W) -> Result<(), Reason>
         requires { IsTrue (may_have_movetext self.old.stage) }
-        ensures { (k : TokenKind) → marker_of (kind_of k) ≡ Some (marker_text marker)
-            → TakesEntry self.old (kind_of k) self.new (ended result)
+        ensures takes { (k : Kind) → marker_of k ≡ Some (marker_text marker)
+            → TakesEntry self.old k self.new (ended result)
+            (device W.taken W.failures out.old out.new) }
+        ensures keeps { Keeps self.old self.new }
+        ensures between { OnOk result (self.new.stage ≡ Between) }
+        ensures counted { CountsWrites (ended result)
             (device W.taken W.failures out.old out.new) }
     {
         if self.text.depth() > 0 {
@@ -614,9 +603,25 @@ impl<const T: usize, const L: usize> Reader<T, L> {
         if self.is_in_movetext() {
             return Ok(());
         }
-        write_section(self.mode, self.missing_result, self.tags.pairs(), out)?;
+        write_section(
+            self.mode,
+            self.known_missing_result(),
+            self.tags.pairs(),
+            out,
+        )?;
         self.stage = Stage::InMovetext;
         Ok(())
+    }
+
+    // What is known of a missing Result before the marker.
+    #[inline(always)]
+    fn known_missing_result(&self) -> MissingResult
+        ensures { known_result (missing_of result) ≡ known_of self.now }
+    {
+        match (self.missing_result, self.told) {
+            (MissingResult::TakesTheMarker, Some(told)) => MissingResult::CountsAs(told),
+            (missing, _) => missing,
+        }
     }
 }
 

@@ -86,7 +86,9 @@ pub fn run_checked<Q: Source, R: Source, O: Output, E: Sink>(
     export_twice(export_mode(*reduced), first, second, out, err)
 }
 
-// Writes the games in export format, each after it has been read.
+// Writes the games in export format, each after it has been read. It is not inlined, so that only
+// this task has room for two converters on its stack.
+#[inline(never)]
 fn export_twice<Q: Source, R: Source, O: Output, E: Sink>(
     mode: Mode,
     first: &mut Q,

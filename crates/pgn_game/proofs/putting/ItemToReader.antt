@@ -1,5 +1,5 @@
 -- What putting a token of movetext adds to what stands written of its game, and to the reader.
-use Rattle.pgn_game.proofs.Words.{◌≡◌, max, ℕ, ◌<◌, ◌≤◌, true, false, List, [], ◌∷◌, ◌++◌, length, drop, Option, None, refl, sym, ap, subst, ◌∙◌, append-nil, length-append, arith, IsTrue, Ok, Err, list_any-append, drop-append-add, drop-length, Appends-trans, Appends, Move, AppendsFront, Device, one_more, Parts, Mode, Full, Reduced, Stage, Between, AfterTags, InMovetext, known_result, Pair, Item, Part, More, is_at, start_of, tag_section, is_move, full_text, torn_at, has_move, Next, going, Movetext, HoldsItems, ReaderState, Agrees, as_written, whole_plies, IsOpen, may_have_movetext, with_items, Adds, BeginsText, Goes, Keeps, PutResult, PutsItems, gain_to, section_due, section_due_of, rules}
+use Rattle.pgn_game.proofs.Words.{◌≡◌, max, ℕ, ◌<◌, ◌≤◌, true, false, List, [], ◌∷◌, ◌++◌, length, drop, Option, None, refl, sym, ap, subst, ◌∙◌, append-nil, length-append, arith, IsTrue, Ok, Err, list_any-append, drop-append-add, drop-length, Appends-trans, Appends, Move, AppendsFront, Device, one_more, Parts, Mode, Full, Reduced, Stage, Between, AfterTags, InMovetext, Pair, Item, Part, More, is_at, start_of, tag_section, is_move, full_text, torn_at, has_move, Next, going, Movetext, HoldsItems, ReaderState, Agrees, as_written, known_of, whole_plies, IsOpen, may_have_movetext, with_items, Adds, BeginsText, Goes, Keeps, PutResult, PutsItems, gain_to, section_due, section_due_of, rules}
 use Rattle.std.proofs.Math.Nat.{le-max_left}
 use Rattle.pgn_layout.specs.declared.sink.WriteFault.{WriteFault}
 use Rattle.pgn_game.specs.declared.reason.Reason.TheVariants as reasons
@@ -30,20 +30,20 @@ open_stage old part is at = rw is.stage at at
 
 -- what is due of the section is the part's
 pub section_is : (old : ReaderState) (part : Part) → IsOpen old part
-    → section_due_of old ≡ section_due part.stage old.profile.mode (known_result old.profile.missing_result) part.pairs
+    → section_due_of old ≡ section_due part.stage old.profile.mode (known_of old) part.pairs
 section_is old part is =
-    let result = known_result old.profile.missing_result in
+    let result = known_of old in
     cc
 
 -- What items add: the tag section, where movetext begins, and what they add to the full lines.
 pub gain_is : (old : ReaderState) (part : Part) (more : List Item) → IsTrue (may_have_movetext old.stage) → IsOpen old part
     → section_due_of old ++ lines_gain old.profile.mode part.pairs part.items more
-    ≡ gain_to (as_written old.profile) part (going (with_items part more))
+    ≡ gain_to (as_written old) part (going (with_items part more))
 gain_is old part more at is =
     let p = old.profile in
     cc (
       section_is old part is,
-      gain_at p.mode (known_result p.missing_result) part.stage part.pairs part.name part.items
+      gain_at p.mode (known_of old) part.stage part.pairs part.name part.items
           (full_text p.mode (start_of part.pairs) (part.items ++ more)) (open_stage old part is at) (λ e. is.fresh (is.stage ∙ e)),
     )
 
@@ -59,7 +59,7 @@ plies_before old at = grind arith
 -- a put that failed, and one after which the game goes on
 module _ (old new : ReaderState) (IsOf : Part → Type 0) (to : Part → Next) (d : Device) (keeps : Keeps old new) where
   pub unwritten : d.failures_after ≡ one_more d.failures
-      → ((part : Part) → IsOf part → AppendsFront d.before d.after (gain_to (as_written old.profile) part (to part)))
+      → ((part : Part) → IsOf part → AppendsFront d.before d.after (gain_to (as_written old) part (to part)))
       → PutResult old IsOf to new (Err reasons.WriteFault) d
   unwritten counted front = search rules
 
@@ -81,6 +81,7 @@ not_between stage at e = let h = sym at ∙ e in absurd (cc)
 -- else but the count of probes.
 pub record IsAfterItem (begun new : ReaderState) : Type 0 where
   pub profile : new.profile ≡ begun.profile
+  pub told : new.told ≡ begun.told
   pub stage : new.stage ≡ begun.stage
   pub tags : new.tags ≡ begun.tags
   pub earlier : new.earlier_plies ≡ begun.earlier_plies
@@ -91,7 +92,7 @@ goes_with : (old begun new : ReaderState) (part : Part) (more : List Item) (d : 
     → begun ≡ record old { stage = InMovetext } → IsAfterItem begun new
     → HoldsItems old.profile.mode (start_of part.pairs) (part.items ++ more) new.text new.line
     → (IsTrue (has_move (part.items ++ more)) → 0 < new.most_probes)
-    → Appends d.before d.after (gain_to (as_written old.profile) part (going (with_items part more)))
+    → Appends d.before d.after (gain_to (as_written old) part (going (with_items part more)))
     → Goes old part (going (with_items part more)) new More d
 goes_with old begun new part more d at is begins next held probed appended = search (rules, plies_before, agrees_in_text)
 
@@ -130,6 +131,7 @@ module _ (old begun new : ReaderState) (i : Item) (a b c : Option (List ℕ)) (n
       more_comes old new (IsOpen old) (to_items _) (from_to a c n k)
       (record {
         profile = next.profile ∙ begins.profile;
+        told = next.told ∙ begins.told;
         plies = omega (arith, next.earlier, begins.earlier, begins.plies, adds.plies);
         probes = most;
       })
@@ -147,6 +149,7 @@ module _ (old begun new : ReaderState) (i : Item) (a b c : Option (List ℕ)) (n
       unwritten old new (IsOpen old) (to_items _) (from_to a c n k)
       (record {
         profile = next.profile ∙ begins.profile;
+        told = next.told ∙ begins.told;
         plies = omega (arith, next.earlier, begins.earlier, begins.plies, adds.plies);
         probes = omega (arith, next.probes, begins.probes);
       })
@@ -159,7 +162,13 @@ pub puts_unbegun : (old new : ReaderState) (more : List Item) (f : WriteFault) (
     → BeginsText {A = Unit} old new (Err f) d → PutResult old (IsOpen old) (to_items more) new (Err reasons.WriteFault) d
 puts_unbegun old new more f d at begins =
     unwritten old new (IsOpen old) (to_items more) d
-    (record { profile = begins.profile; plies = omega (arith, begins.earlier, begins.plies); probes = omega (arith, begins.probes) }) begins.counted
+    (record {
+      profile = begins.profile;
+      told = begins.told;
+      plies = omega (arith, begins.earlier, begins.plies);
+      probes = omega (arith, begins.probes);
+    })
+    begins.counted
     (λ part is.
     (rw (gain_is old part more at is) at (front_of_more _ _ _ (lines_gain old.profile.mode part.pairs part.items more) begins.text)))
 

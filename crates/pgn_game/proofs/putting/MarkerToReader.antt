@@ -1,7 +1,6 @@
 -- What putting a marker comes to, and a token of movetext whose section cannot be written.
-use Rattle.pgn_game.proofs.Words.{◌≡◌, ℕ, List, [], ◌∷◌, ◌++◌, length, drop, Option, Some, Result, refl, sym, ap, subst, ◌∙◌, append_assoc, arith, IsTrue, Ok, Err, All, lit<, lit≤, drop-append_seam, Appends-trans, Appends, Move, AppendsFront, Device, one_more, IsToken, lines_of, full_lines, last_line, text_of as text_of_lines, Put, EndGame, text_at, line_at, Accepted, Finished, TokenKind, kind_of, Reason, marker_of, TakesEntry, TakesToken, Marker, WhiteWins, BlackWins, Draw, Unknown, marker_text, Mode, Stage, Between, AfterTags, InMovetext, Profile, counts_as, known_result, Pair, Item, Part, Level as ModelLevel, Levels as ModelLevels, depth, start_of, outermost, replayed, last_position, tag_section, levels_of_part, tokens_out, full_text, torn_for, Next, whole, StoredLevel, ReaderState, IsBehind, as_written, plies_behind, IsOpen, game_of, may_have_movetext, BeginsText, PutResult, gain_to, section_due, section_due_of}
+use Rattle.pgn_game.proofs.Words.{◌≡◌, ℕ, List, [], ◌∷◌, ◌++◌, length, drop, Option, refl, sym, ap, subst, ◌∙◌, append_assoc, arith, IsTrue, Ok, Err, All, lit<, lit≤, drop-append_seam, Appends-trans, Appends, Move, AppendsFront, Device, one_more, IsToken, lines_of, full_lines, last_line, text_of as text_of_lines, Put, EndGame, text_at, line_at, Finished, Marker, WhiteWins, BlackWins, Draw, Unknown, marker_text, Mode, Stage, Between, AfterTags, InMovetext, Profile, counting, counts_as, Pair, Item, Part, Level as ModelLevel, Levels as ModelLevels, depth, start_of, outermost, replayed, last_position, tag_section, levels_of_part, tokens_out, full_text, torn_for, Next, whole, StoredLevel, ReaderState, IsBehind, as_written, known_of, plies_behind, IsOpen, game_of, may_have_movetext, BeginsText, PutResult, gain_to, section_due, section_due_of}
 use Rattle.pgn_layout.specs.declared.sink.WriteFault.{WriteFault}
-use Rattle.pgn_game.specs.PutResult.{MeetsMarker}
 use Rattle.pgn_game.specs.declared.reason.Reason.TheVariants as reasons
 use Rattle.pgn_game.proofs.putting.WritesInTurn.{front_of_more, front_after}
 use Rattle.pgn_game.proofs.putting.ItemToMovetext.{from_to}
@@ -20,13 +19,12 @@ ending line marker = text_at line (Put marker) ++ text_at (line_at line (Put mar
 abbrev line_of : Mode → List Pair → List Item → List ℕ
 line_of mode ps items = last_line (lines_of (tokens_out mode (start_of ps) items))
 
-gain_of : (p : Profile) (part : Part) (marker : List ℕ)
+gain_of : (p : Profile) (result : List ℕ) (part : Part) (marker : List ℕ)
     → IsTrue (may_have_movetext part.stage) → (part.stage ≡ AfterTags → part.items ≡ [])
     → All IsToken (tokens_out p.mode (start_of part.pairs) part.items) → IsToken marker
-    → gain_to (as_written p) part (whole (game_of part marker))
-    ≡ section_due part.stage p.mode (known_result p.missing_result) part.pairs ++ ending (line_of p.mode part.pairs part.items) marker
-gain_of p part marker at fresh each token =
-    let result = known_result p.missing_result in
+    → gain_to (counting p result) part (whole (game_of part marker))
+    ≡ section_due part.stage p.mode result part.pairs ++ ending (line_of p.mode part.pairs part.items) marker
+gain_of p result part marker at fresh each token =
     let lines = text_of_lines (lines_of (tokens_out p.mode (start_of part.pairs) part.items ++ marker ∷ [])) in
     let ts = tokens_out p.mode (start_of part.pairs) part.items in
     ap (drop (length (torn_for (counts_as result) p.mode part))) (append_assoc (tag_section p.mode result part.pairs) lines (10 ∷ []))
@@ -40,12 +38,12 @@ gain_of p part marker at fresh each token =
 
 -- what is due for a marker, of a reader that holds the part
 due_is : (old : ReaderState) (part : Part) (marker : List ℕ) → IsTrue (may_have_movetext old.stage) → IsToken marker → IsOpen old part
-    → section_due_of old ++ ending old.line marker ≡ gain_to (as_written old.profile) part (whole (game_of part marker))
+    → section_due_of old ++ ending old.line marker ≡ gain_to (as_written old) part (whole (game_of part marker))
 due_is old part marker at token is =
     ap (λ (l : List ℕ). l ++ ending old.line marker) (section_is old part is)
     ∙ ap (λ (l : List ℕ).
-    section_due part.stage old.profile.mode (known_result old.profile.missing_result) part.pairs ++ ending l marker) is.held.last
-    ∙ sym (gain_of old.profile part marker (open_stage old part is at) (λ e. is.fresh (is.stage ∙ e)) is.held.tokens token)
+    section_due part.stage old.profile.mode (known_of old) part.pairs ++ ending l marker) is.held.last
+    ∙ sym (gain_of old.profile (known_of old) part marker (open_stage old part is at) (λ e. is.fresh (is.stage ∙ e)) is.held.tokens token)
 
 -- At depth 0 the moves that lead here are those outside variations.
 at_depth_0 : (ls : ModelLevels) (around : List ModelLevel) → ls.around ≡ around
@@ -89,7 +87,13 @@ pub ends_unbegun : (old new : ReaderState) (marker : Marker) (f : WriteFault) (d
     → BeginsText {A = Unit} old new (Err f) d → PutResult old (IsOpen old) (to_game marker) new (Err reasons.WriteFault) d
 ends_unbegun old new marker f d at begins =
     unwritten old new (IsOpen old) (to_game marker) d
-    (record { profile = begins.profile; plies = omega (arith, begins.earlier, begins.plies); probes = omega (arith, begins.probes) }) begins.counted
+    (record {
+      profile = begins.profile;
+      told = begins.told;
+      plies = omega (arith, begins.earlier, begins.plies);
+      probes = omega (arith, begins.probes);
+    })
+    begins.counted
     (λ part is.
     subst (AppendsFront d.before d.after) (due_is old part (marker_text marker) at (marker_token marker) is)
     (front_of_more d.before d.after _ (ending old.line (marker_text marker)) begins.text))
@@ -129,6 +133,7 @@ ends_well old begun new marker text a b d c n m k ends put last rest empty count
           };
       keeps = record {
         profile = ap (λ (r : ReaderState). r.profile) same;
+        told = ap (λ (r : ReaderState). r.told) same;
         plies = omega (arith, earlier, plies);
         probes = omega (arith, ap (λ (r : ReaderState). r.most_probes) same);
       };
@@ -146,6 +151,7 @@ ends_ill old begun new marker text a b c n m k ends front rest counted =
     unwritten old new (IsOpen old) (to_game marker) (from_to a c n k)
     (record {
       profile = ap (λ (r : ReaderState). r.profile) rest ∙ begins.profile;
+      told = ap (λ (r : ReaderState). r.told) rest ∙ begins.told;
       plies =
           omega (arith, ap (λ (r : ReaderState). r.earlier_plies) rest, ap (λ (r : ReaderState). r.text.plies) rest, begins.earlier, begins.plies);
       probes = omega (arith, ap (λ (r : ReaderState). r.most_probes) rest, begins.probes);
@@ -154,12 +160,3 @@ ends_ill old begun new marker text a b c n m k ends front rest counted =
     subst (AppendsFront a c) (ap (λ (l : List ℕ). section_due_of old ++ ending l (marker_text marker)) (of_line old begun begins.begun)
     ∙ due_is old part (marker_text marker) ends.at (marker_token marker) is)
     (front_after a b c _ _ begins.text (subst (λ (t : List ℕ). AppendsFront b c (ending begun.line t)) ends.spells front)))
-
--- A marker that was left is taken after all.
-pub marker_taken : (old ready new : ReaderState) (k : TokenKind) (marker : Marker)
-    (r : Result Accepted Reason) (a b c : Option (List ℕ)) (n m l : ℕ) → MeetsMarker old (kind_of k) marker ready (from_to a b n m)
-    → ((k : TokenKind) → marker_of (kind_of k) ≡ Some (marker_text marker) → TakesEntry ready (kind_of k) new r (from_to b c m l))
-    → TakesToken old (kind_of k) new r (from_to a c n l)
-marker_taken old ready new k marker r a b c n m l meets takes =
-    subst (λ x. TakesToken old (kind_of k) new r (from_to a c x l)) meets.still
-    (subst (λ x. TakesToken old (kind_of k) new r (from_to x c m l)) meets.unwritten (meets.enters.takes new r _ (takes k meets.is)))

@@ -1,10 +1,13 @@
 -- One token that the lexer gave, and what the reader answered to it.
 use Rattle.pgn_lexer.specs.PartialToken.{refusal as refusal_token}
 use Rattle.pgn_lexer.specs.Scanned.{token, more, fault}
-use Rattle.pgn_game.proofs.Words.{Reason, Lexical, WriteFault, Fault, Profile, Game, Part, ◌≡◌, ℕ, ◌+◌, ◌*◌, is_some, ◌<◌, ◌≤◌, ◌⊎◌, Bool, false, true, List, [], ◌∷◌, ◌++◌, length, take, drop, Option, None, Some, Result, Ok, Err, refl, sym, ap, subst, ◌∙◌, append_assoc, append-nil, length-append, le_refl, arith, IsTrue, map, sum, take-append-drop, map-append, list_any-append, or_cases, Appends-nil, Appends, Token, EndsAt, tokens_of, Standing, coming, waiting, StandsAfter, Follows, AfterScan, first, still, Accepted, More, Finished, refusal, position_if_move, position_in, Next, going, whole, next, Progress, progress_with, progress_after, Read, read, gain, Gains, plies_of, has_move, ReaderState, Agrees, IsKnown, as_written, IsBehind, whole_plies, plies_next, Leads, Answers, AppendsFront, MostTried, Raises, Tries, TriesUnwritten, sum_by-append, sum_by-cons, LexFault, FinishedGame, finished_game_of, Converter, game_in_reader, game_in_reader_if, play_moves, has_played_move, HasRead, Stands, refused_stop as refused, unwritten, AreNext, reported_position, FedToFault, FaultAtEnd, SameGames, OneGame, AfterStep, outcome_at, finished_game, games_after, fault_of_step, StepAdvances, written_so_far as written, rules, inl, inr, position_at_fault, due, ◌||◌}
+use Rattle.pgn_game.proofs.Words.{Reason, Lexical, WriteFault, Profile, Game, Part, ◌≡◌, ℕ, ◌+◌, ◌<◌, ◌≤◌, ◌⊎◌, Bool, false, true, List, [], ◌∷◌, ◌++◌, length, take, drop, Option, None, Some, Result, Ok, Err, refl, sym, ap, subst, ◌∙◌, append_assoc, append-nil, length-append, le_refl, arith, IsTrue, map, sum, take-append-drop, map-append, list_any-append, or_cases, Appends-nil, Appends, Token, EndsAt, tokens_of, Standing, coming, StandsAfter, Follows, AfterScan, first, still, More, Finished, refusal, marker_of, position_if_move, position_in, Next, going, whole, next, Progress, progress_with, progress_after, Read, read, gain, text_next, Gains, plies_of, has_move, ReaderState, Agrees, as_written, IsBehind, whole_plies, plies_next, Leads, Answers, AppendsFront, MostTried, Raises, Tries, TriesUnwritten, sum_by-append, sum_by-cons, LexFault, finished_game_of, Converter, game_in_reader, play_moves, has_played_move, HasRead, refused_stop as refused, unwritten, AreNext, reported_position, FaultAtEnd, SameGames, OneGame, AfterStep, EndsWithin, GainsAs, Meets, NotTaken, Reaches, ReadsMore, due_as, part_after, outcome_at, fault_of_step, TakesToken, Device, Marker, rules, inl, inr, position_at_fault, due, torn, text_of_games as text_of, ◌||◌}
 use Rattle.pgn_game.specs.ReaderState as reader_state
 use Rattle.pgn_game.proofs.tokens.PairsTriedForToken.{most_with, most_to_refused, part_probed, raises_none}
-use Rattle.pgn_game.proofs.tokens.OneMoreToken.{read-passes, read-refuses, due-passes, gains_none}
+use Rattle.pgn_game.proofs.tokens.OneMoreToken.{read-passes, read-refuses, due-passes}
+use Rattle.pgn_game.proofs.tokens.NextGrows.{next_is}
+use Rattle.pgn_game.specs.PutResult.{MeetsMarker, TakesUnlessMarker}
+use Rattle.pgn_game.specs.ReaderState.{refused as refused_by}
 
 pub follows_first : (xs s : List ℕ) → Follows (first xs) (xs ++ s)
 follows_first [] s = tt
@@ -14,15 +17,21 @@ pub follows_own : (xs : List ℕ) → Follows (first xs) xs
 follows_own [] = tt
 follows_own (x ∷ xs) = refl
 
--- where a missing Result counts as a text, that is written
-pub written_known : (p : Profile) → IsKnown p → as_written p ≡ p
-written_known p known = rw known
+-- what is written for a missing Result follows from the profile and what was told
+pub written_same : (old new : ReaderState) → new.profile ≡ old.profile → new.told ≡ old.told → as_written new ≡ as_written old
+written_same old new profile told = rw (profile, told) refl
 
 -- what a token leads to, with the games before; one that finishes no game counts no move
 leads_more : (nx : Next) (games : List Game) (r : ReaderState) → Leads nx More r
     → ((progress_with games nx).games ≡ games) × Agrees r (progress_with games nx).part × (plies_next nx ≡ 0)
 leads_more (going part) games r h = (refl, h, refl)
 leads_more (whole g) games r h = absurd h
+
+-- what stands written then, where a missing Result is written as by w
+text_more : (w p : Profile) (nx : Next) (games : List Game) (r : ReaderState) → Leads nx More r
+    → text_of p (progress_with games nx).games ++ torn w (progress_with games nx).part ≡ text_of p games ++ text_next w nx
+text_more w p (going part) games r h = refl
+text_more w p (whole g) games r h = absurd h
 
 leads_finished : (nx : Next) (games : List Game) (r : ReaderState) → Leads nx Finished r
     → (g : Game) × ((progress_with games nx).games ≡ games ++ g ∷ [])
@@ -44,17 +53,6 @@ plies-snoc games g =
 moves-snoc : (games : List Game) (g : Game) → IsTrue (play_moves (games ++ g ∷ [])) → IsTrue (play_moves games) ⊎ IsTrue (has_move g.items)
 moves-snoc games g h = search (rules, list_any-append, or_cases)
 
-abbrev pub stepped : Standing → ReaderState → ℕ → Bool → Result (Option Accepted) Fault → Converter
-stepped l r games finished outcome =
-    record {
-      lexer = l;
-      reading = r;
-      games = games_after outcome games;
-      just_finished = game_in_reader_if (finished_game outcome) r;
-      is_finished = finished;
-      fault = fault_of_step outcome;
-    }
-
 pub in_games : (b : Progress) → IsTrue (play_moves b.games) → IsTrue (has_played_move b)
 in_games b h = or_left (play_moves b.games) (has_move b.part.items) h
   where
@@ -70,6 +68,11 @@ in_either {r} b agrees before moves = by_or (play_moves b.games) (has_move b.par
     by_or : (x y : Bool) → (IsTrue x → 0 < r.most_probes) → (IsTrue y → 0 < r.most_probes) → IsTrue (x || y) → 0 < r.most_probes
     by_or true y left right h = left refl
     by_or false y left right h = right h
+
+-- a converter after a token, where it finishes no game and is no fault
+abbrev pub now_at : Standing → ReaderState → ℕ → Bool → Converter
+now_at l r games finished =
+    record { lexer = l; reading = r; games = games; just_finished = None; is_finished = finished; fault = None }
 
 module _ (p : Profile) (old : Converter) (given : List Token) (t : Token) (l : Standing) (new : ReaderState) (finished : Bool)
     (has_read : HasRead p old given) (profile : new.profile ≡ old.reading.profile) (probes : old.reading.most_probes ≤ new.most_probes) where
@@ -100,7 +103,7 @@ module _ (p : Profile) (old : Converter) (given : List Token) (t : Token) (l : S
   pub has_read_more : refusal old.reading.profile b.part t.kind ≡ None → Leads (next b.part t.kind) More new
       → whole_plies new ≡ whole_plies old.reading + plies_next (next b.part t.kind)
       → Raises (Tries old.reading.profile b.part t.kind) old.reading.most_probes new.most_probes
-      → HasRead p (stepped l new old.games finished (Ok (Some More))) (given ++ t ∷ [])
+      → HasRead p (now_at l new old.games finished) (given ++ t ∷ [])
   has_read_more h leads plies tries =
       let more = leads_more (next b.part t.kind) b.games new leads in
       let same = same_games h leads in
@@ -128,7 +131,14 @@ module _ (p : Profile) (old : Converter) (given : List Token) (t : Token) (l : S
   pub has_read_game : refusal old.reading.profile b.part t.kind ≡ None → Leads (next b.part t.kind) Finished new
       → whole_plies new ≡ whole_plies old.reading + plies_next (next b.part t.kind)
       → Raises (Tries old.reading.profile b.part t.kind) old.reading.most_probes new.most_probes
-      → HasRead p (stepped l new old.games finished (Ok (Some Finished))) (given ++ t ∷ [])
+      → HasRead p (record {
+        lexer = l;
+        reading = new;
+        games = old.games + 1;
+        just_finished = Some (game_in_reader new);
+        is_finished = finished;
+        fault = None;
+      }) (given ++ t ∷ [])
   has_read_game h leads plies tries =
       let done = leads_finished (next b.part t.kind) b.games new leads in
       let one = ap (λ (r : Read). r.progress.games) (reads h) ∙ done.1 in
@@ -167,17 +177,25 @@ module _ (p : Profile) (old : Converter) (given : List Token) (t : Token) (l : S
         position = here ∙ sym (ap position_at_fault ends);
       }
 
+  -- where the game goes on, the same profile writes what the token adds
+  pub due_more : (w : Profile) → refusal old.reading.profile b.part t.kind ≡ None → Leads (next b.part t.kind) More new
+      → due_as w p (given ++ t ∷ []) ≡ due_as w p given ++ gain w b.part t.kind
+  due_more w h leads =
+      ap (λ (r : Read). text_of p r.progress.games ++ torn w r.progress.part) (reads h) ∙ text_more w p (next b.part t.kind) b.games new leads
+      ∙ ap (λ l. text_of p b.games ++ l) (next_is w b.part t.kind)
+      ∙ sym (append_assoc (text_of p b.games) (torn w b.part) (gain w b.part t.kind))
+
   -- what is written is the profile's
-  module _ (written : as_written old.reading.profile ≡ old.reading.profile) where
-    shown : as_written old.reading.profile ≡ p
+  module _ (written : as_written old.reading ≡ old.reading.profile) where
+    shown : as_written old.reading ≡ p
     shown = written ∙ has_read.profile
 
     pub gains_token : {a c : Option (List ℕ)} → refusal old.reading.profile b.part t.kind ≡ None
-        → Appends a c (gain (as_written old.reading.profile) b.part t.kind) → Gains p given (given ++ t ∷ []) a c
+        → Appends a c (gain (as_written old.reading) b.part t.kind) → Gains p given (given ++ t ∷ []) a c
     gains_token h wrote = search (rules, due-passes, passes, shown)
 
     pub at_unwritten : (us : List Token) {a c : Option (List ℕ)} → refusal old.reading.profile b.part t.kind ≡ None
-        → AppendsFront a c (gain (as_written old.reading.profile) b.part t.kind)
+        → AppendsFront a c (gain (as_written old.reading) b.part t.kind)
         → Raises (TriesUnwritten old.reading.profile b.part t.kind) old.reading.most_probes new.most_probes
         → FaultAtEnd p given (given ++ t ∷ us) (record { at = t.at; reason = WriteFault }) new a c
     at_unwritten us {a} {c} h (n, short, wrote) tries =
@@ -207,13 +225,20 @@ module _ (p : Profile) (old : Converter) (given : List Token) (t : Token) (l : S
     at_fault us (reader_state.unwritten none wrote tries) = at_unwritten us none wrote tries
 
 -- a text that goes on behind the bytes used goes on behind the piece
-next_in_piece : (l : Standing) (u piece : List ℕ) (used : ℕ) {given : List Token}
+pub next_in_piece : (l : Standing) (u piece : List ℕ) (used : ℕ) {given : List Token}
     → StandsAfter l (u ++ take used piece) (first (drop used piece)) given → AreNext (u ++ piece) None given
 next_in_piece l u piece used stands s follows =
     let rest = drop used piece in
     let whole : (u ++ piece) ++ s ≡ (u ++ take used piece) ++ (rest ++ s) =
     cc (take-append-drop used piece, append_assoc u (take used piece) rest, append_assoc (u ++ take used piece) rest s) in
     (coming l (rest ++ s), ap tokens_of whole ∙ stands.tokens (rest ++ s) (follows_first rest s))
+
+-- the lexer stands behind the token, which ends in the piece
+ends_within : {p : Profile} {old : Converter} {u : List ℕ} {given : List Token} {piece : List ℕ} {used : ℕ} {t : Token} {l : Standing}
+    → Reaches p old u (first piece) given → AfterScan u (first piece) given piece l used (token t) → EndsAt t.kind t.at l.count
+    → l.count ≡ old.lexer.count + used → EndsWithin u given piece used t l
+ends_within {t} reaches scan ends count =
+    record { stands = scan.0; decided = scan.1; ends = subst (EndsAt t.kind t.at) (rw reaches.lexer.count at count) ends }
 
 pub still_none : (b : Option ℕ) (piece : List ℕ) → 0 < length piece → still b piece ≡ None
 still_none b [] h = absurd (omega arith)
@@ -223,56 +248,85 @@ pub still_none-none : (piece : List ℕ) → still None piece ≡ None
 still_none-none [] = refl
 still_none-none (x ∷ xs) = refl
 
--- the tokens at fault are those of the piece
-fed_to : {p : Profile} {u : List ℕ} {given ts : List Token} {piece : List ℕ} {f : Fault} {reading : ReaderState} {a c : Option (List ℕ)}
-    → AreNext (u ++ piece) (still None piece) ts → FaultAtEnd p given ts f reading a c → FedToFault p u None given piece f reading a c
-fed_to {ts} next to =
-    record { fed = record { tokens = ts; next = next; stops = to.stops }; no_game = to.no_game; counts = to.counts; position = to.position }
+-- where nothing was read, nothing was gained
+pub gains_as_none : (w p : Profile) (given : List Token) {a c : Option (List ℕ)} → c ≡ a → GainsAs w p given given a c
+gains_as_none w p given {a} same = record { text = []; due_for = sym (append-nil (due_as w p given)); appended = rw same (Appends-nil a) }
 
--- What the reader answers to a token of the piece.
-pub took : (p : Profile) (old : Converter) (u : List ℕ) (given : List Token) (piece : List ℕ)
-    (used : ℕ) (t : Token) (l : Standing) (new : ReaderState) (finished : Bool)
-    (a c : Option (List ℕ)) (r : Result Accepted Reason) → Stands p old u (first piece) given
-    → AfterScan u (first piece) given piece l used (token t) → EndsAt t.kind t.at l.count → l.count ≡ old.lexer.count + used
-    → new.profile ≡ old.reading.profile → old.reading.most_probes ≤ new.most_probes
-    → as_written old.reading.profile ≡ old.reading.profile → Answers old.reading (read p given).progress.part t.kind new r a c
-    → AfterStep p u given piece (stepped l new old.games finished (outcome_at t.at r)) used (outcome_at t.at r) a c
-took p old u given piece used t l new finished a c (Ok More) stands scan ends count profile probes written h = (
-  t,
-  record {
-    stands = record {
-      lexer = scan.0;
-      has_read = has_read_more p old given t l new finished stands.has_read profile probes h.free h.leads h.plies h.tried;
-    };
-    decided = scan.1;
-    ends = subst (EndsAt t.kind t.at) (rw stands.lexer.count at count) ends;
-    gains = gains_token p old given t l new finished stands.has_read profile probes written h.free h.appended;
-  },
-  same_games p old given t l new finished stands.has_read profile probes h.free h.leads,
-)
-took p old u given piece used t l new finished a c (Ok Finished) stands scan ends count profile probes written h =
-    let one = one_game p old given t l new finished stands.has_read profile probes h.free h.leads in (
-      t,
-      record {
-        stands = record {
-          lexer = scan.0;
-          has_read = has_read_game p old given t l new finished stands.has_read profile probes h.free h.leads h.plies h.tried;
-        };
-        decided = scan.1;
-        ends = subst (EndsAt t.kind t.at) (rw stands.lexer.count at count) ends;
-        gains = gains_token p old given t l new finished stands.has_read profile probes written h.free h.appended;
-      },
-      (one.0, one.1, ap (λ (finished : FinishedGame). Some finished) one.2),
-    )
-took p old u given piece used t l new finished a c (Err why) stands scan ends count profile probes written stopped =
-    fed_to (rw (still_none-none piece) (next_in_piece l u piece used scan.0))
-    (at_fault p old given t l new finished stands.has_read profile probes written [] stopped)
+-- the same was read, wherever the lexer stands
+pub read_at : (p : Profile) (old : Converter) (given : List Token) (l : Standing) (finished : Bool) → HasRead p old given
+    → HasRead p (now_at l old.reading old.games finished) given
+read_at p old given l finished h = record {
+  profile = h.profile;
+  no_fault = refl;
+  passes = h.passes;
+  agrees = h.agrees;
+  games = h.games;
+  plies = h.plies;
+  probed = h.probed;
+  tried = h.tried;
+  just_finished = tt;
+}
 
-pub took_none : (p : Profile) (old : Converter) (u : List ℕ) (given : List Token)
-    (piece : List ℕ) (used : ℕ) (l : Standing) (o : Option (List ℕ)) → 0 < length piece
-    → Stands p old u (first piece) given → AfterScan u (first piece) given piece l used more
-    → AfterStep p u given piece (record old { lexer = l }) used (Ok None) o o
-took_none p old u given piece used l o some stands scan = search (rules, gains_none, passes, still_none)
+-- No token more was read.
+pub reads_none : (p : Profile) (old : Converter) (given : List Token) (l : Standing) (finished : Bool) {a c : Option (List ℕ)}
+    → HasRead p old given → c ≡ a → ReadsMore p given given (now_at l old.reading old.games finished) a c
+reads_none p old given l finished has_read same = record {
+  more = [];
+  extends = sym (append-nil given);
+  has_read = read_at p old given l finished has_read;
+  no_game = refl;
+  gains = gains_as_none (as_written old.reading) p given same;
+}
+
+-- A token was taken.
+pub reads_token : (p : Profile) (old : Converter) (given : List Token) (t : Token) (l : Standing) (new : ReaderState) (finished : Bool)
+    (d : Device) → HasRead p old given → TakesToken old.reading t.kind new (Ok More) d
+    → ReadsMore p given (given ++ t ∷ []) (now_at l new old.games finished) d.before d.after
+reads_token p old given t l new finished d has_read takes =
+    let h = takes.accepts (part_after p given) has_read.agrees in
+    let keeps = takes.keeps in
+    let w = as_written old.reading in
+    record {
+      more = t ∷ [];
+      extends = refl;
+      has_read = has_read_more p old given t l new finished has_read keeps.profile keeps.probes h.free h.leads h.plies h.tried;
+      no_game = same_games p old given t l new finished has_read keeps.profile keeps.probes h.free h.leads;
+      gains = subst (λ w. GainsAs w p given (given ++ t ∷ []) d.before d.after) (sym (written_same old.reading new keeps.profile keeps.told))
+          (record {
+            text = gain w (part_after p given) t.kind;
+            due_for = due_more p old given t l new finished has_read keeps.profile keeps.probes w h.free h.leads;
+            appended = h.appended;
+          });
+    }
+
+-- A marker was met.
+pub meets_marker : (p : Profile) (old : Converter) (given : List Token) (t : Token) (marker : Marker) (l : Standing) (new : ReaderState)
+    (finished : Bool) (d : Device) → HasRead p old given → MeetsMarker old.reading t.kind marker new d
+    → Meets p given given t (record { marker = marker; at = t.at }) (now_at l new old.games finished) d.before d.after
+meets_marker p old given t marker l new finished d has_read meets = record {
+  reader = old.reading;
+  reads = reads_none p old given l finished has_read meets.unwritten;
+  is = meets.is;
+  place = refl;
+  enters = meets.enters;
+}
+
+-- A token was not taken.
+pub not_taken : (p : Profile) (old : Converter) (given : List Token) (t : Token) (new : ReaderState) (reason : Reason)
+    (d : Device) → HasRead p old given → TakesToken old.reading t.kind new (Err reason) d
+    → (reason ≡ WriteFault → marker_of t.kind ≡ None)
+    → NotTaken p given given t (record { at = t.at; reason = reason }) new d.before d.after
+not_taken p old given t new reason d has_read takes no_marker = record {
+  now = now_at old.lexer old.reading old.games old.is_finished;
+  mid = d.before;
+  reads = reads_none p old given old.lexer old.is_finished has_read refl;
+  place = refl;
+  no_marker = no_marker;
+  stopped = takes.accepts (part_after p given) has_read.agrees;
+  profile = takes.keeps.profile;
+  told = takes.keeps.told;
+  probes = takes.keeps.probes;
+}
 
 -- a rejection of the lexer is a row of its own
 pub lexical-refusal : (p : Profile) (part : Part) (f : LexFault) → refusal p part (refusal_token f).kind ≡ Some (Lexical f.reason)
@@ -280,32 +334,59 @@ unfolding refusal
 lexical-refusal p part f = refl
 
 -- it tries no pair, and rejects no move
-pub at_lexical : {p : Profile} {old : Converter} {given : List Token} (f : LexFault) {reading : ReaderState} {o : Option (List ℕ)}
-    → HasRead p old given → reading ≡ old.reading
-    → FaultAtEnd p given (given ++ refusal_token f ∷ []) (record { at = f.at; reason = Lexical f.reason }) reading o o
-at_lexical {p} {old} {given} f {o} has_read same =
-    let part = (read p given).progress.part in
-    let some = lexical-refusal old.reading.profile part f in
-    subst (λ (r : ReaderState).
-    FaultAtEnd p given (given ++ refusal_token f ∷ []) (record { at = f.at; reason = Lexical f.reason }) r o o) (sym same)
-    (at_refused p old given (refusal_token f) old.lexer old.reading false has_read refl (le_refl old.reading.most_probes) [] some (Appends-nil o)
-    (raises_none some) refl)
+pub not_taken_lexical : (p : Profile) (old : Converter) (given : List Token) (f : LexFault) (new : ReaderState) (o : Option (List ℕ))
+    → HasRead p old given → new ≡ old.reading
+    → NotTaken p given given (refusal_token f) (record { at = f.at; reason = Lexical f.reason }) new o o
+not_taken_lexical p old given f new o has_read same =
+    let some = lexical-refusal old.reading.profile (part_after p given) f in
+    rw same (record {
+      now = now_at old.lexer old.reading old.games old.is_finished;
+      mid = o;
+      reads = reads_none p old given old.lexer old.is_finished has_read refl;
+      place = refl;
+      no_marker = λ is. absurd (cc);
+      stopped = refused_by (Lexical f.reason) some (Appends-nil o) (raises_none some) refl;
+      profile = refl;
+      told = refl;
+      probes = le_refl old.reading.most_probes;
+    })
+
+-- What the reader answers to a token of the piece.
+pub took : (p : Profile) (old : Converter) (u : List ℕ) (given : List Token) (piece : List ℕ)
+    (used : ℕ) (t : Token) (l : Standing) (new : ReaderState) (finished : Bool) (d : Device)
+    (r : Result (Option Marker) Reason) → Reaches p old u (first piece) given
+    → AfterScan u (first piece) given piece l used (token t) → EndsAt t.kind t.at l.count → l.count ≡ old.lexer.count + used
+    → TakesUnlessMarker old.reading t.kind new r d
+    → AfterStep p u given piece
+    (record { lexer = l; reading = new; games = old.games; just_finished = None; is_finished = finished; fault = fault_of_step (outcome_at t.at r) })
+    used (outcome_at t.at r) d.before d.after
+took p old u given piece used t l new finished d (Ok None) reaches scan ends count h =
+    (t, ends_within reaches scan ends count, reads_token p old given t l new finished d reaches.has_read h)
+took p old u given piece used t l new finished d (Ok (Some marker)) reaches scan ends count h =
+    (t, ends_within reaches scan ends count, meets_marker p old given t marker l new finished d reaches.has_read h)
+took p old u given piece used t l new finished d (Err why) reaches scan ends count h =
+    (t, next_in_piece l u piece used scan.0, not_taken p old given t new why d reaches.has_read h.0 h.1)
+
+pub took_none : (p : Profile) (old : Converter) (u : List ℕ) (given : List Token)
+    (piece : List ℕ) (used : ℕ) (l : Standing) (o : Option (List ℕ)) → 0 < length piece
+    → Reaches p old u (first piece) given → AfterScan u (first piece) given piece l used more
+    → AfterStep p u given piece (now_at l old.reading old.games old.is_finished) used (Ok None) o o
+took_none p old u given piece used l o some reaches scan = (
+  scan.0,
+  subst (λ b. StandsAfter l (u ++ piece) b given) (still_none (first piece) piece some) scan.1,
+  scan.2 some,
+  reads_none p old given l old.is_finished reaches.has_read refl,
+)
 
 pub took_fault : (p : Profile) (old : Converter) (u : List ℕ) (given : List Token) (piece : List ℕ)
     (used : ℕ) (f : LexFault) (l : Standing) (new : Converter) (o : Option (List ℕ)) → 0 < length piece
-    → Stands p old u (first piece) given → AfterScan u (first piece) given piece l used (fault f)
+    → Reaches p old u (first piece) given → AfterScan u (first piece) given piece l used (fault f)
     → new.reading ≡ old.reading → AfterStep p u given piece new used (Err (record { at = f.at; reason = Lexical f.reason })) o o
-took_fault p old u given piece used f l new o some stands scan same =
-    fed_to (λ s follows.
-    let rest = rw (still_none-none piece ∙ sym (still_none (first piece) piece some)) at follows in
-    ([], scan.0 s rest ∙ sym (append-nil (given ++ refusal_token f ∷ [])))) (at_lexical f stands.has_read same)
-
--- a game is just finished after a step where the step finished one
-pub is_some_held : (b : Bool) (reading : ReaderState) → is_some (game_in_reader_if b reading) ≡ b
-is_some_held true reading = refl
-is_some_held false reading = refl
-
-pub advances_token : (old : Standing) (piece : List ℕ) (new : Standing) (used at : ℕ) (r : Result Accepted Reason)
-    → waiting new < 2 * used + waiting old → StepAdvances old piece new used (outcome_at at r)
-advances_token old piece new used at (Ok accepted) sooner = sooner
-advances_token old piece new used at (Err reason) sooner = tt
+took_fault p old u given piece used f l new o some reaches scan same = (
+  refusal_token f,
+  λ s follows. (
+    [],
+    scan.0 s (subst (λ b. Follows b s) (sym (still_none (first piece) piece some)) follows) ∙ sym (append-nil (given ++ refusal_token f ∷ [])),
+  ),
+  not_taken_lexical p old given f new.reading o reaches.has_read same,
+)

@@ -1,15 +1,18 @@
 -- Games read in turn from a source.
-use Rattle.std.specs.Io.KnownBytes.{Keeps, IsAtEnd}
-use Rattle.pgn_game.proofs.Words.{Token, ReadFault, Fault, Profile, Game, no_part, ◌≡◌, ℕ, ◌^◌, ◌≤◌, Bool, true, false, List, [], ◌∷◌, ◌++◌, length, drop, Option, None, Some, Result, Ok, Err, refl, sym, ap, subst, ◌∙◌, inl, inr, append-nil, append_assoc, length-append, arith, take-append-drop, Consumes-nil, Consumes-trans, tokens_of, decided, coming, IsDecided, first, Gains, Games, games_of, HasReadAll, HaveRead, within, at_end, NextGame, NoGame, NextStops, AfterNext, NextSoFar, IsTrue, is_ok, Consumes, text_of_games as text_of, whole, next, Progress, read, read_from, written_so_far as written, Converter, FedAll, FedGame, FedToFault, StopsIn, at_token, too_long, AfterFinish, Finishes, FinishesToFault, rules, Reason, refusal, Next, going, progress_with, Read, take, finished_game_of, HasRead, no_progress}
+use Rattle.pgn_game.proofs.Words.{Token, Fault, Profile, Game, no_part, ◌≡◌, ℕ, ◌+◌, ◌^◌, ◌≤◌, Bool, true, false, List, [], ◌∷◌, ◌++◌, length, Option, None, Some, Result, Ok, Err, refl, sym, ap, subst, ◌∙◌, inl, inr, append-nil, append_assoc, length-append, arith, Consumes-nil, tokens_of, decided, coming, first, Gains, Games, games_of, HasReadAll, HaveRead, within, at_end, NextGame, NoGame, NextStops, AfterNext, IsTrue, is_ok, text_of_games as text_of, whole, next, Progress, read, read_from, written_so_far as written, Converter, AfterFinish, Finishes, FinishesToFault, rules, Reason, refusal, Next, going, progress_with, Read, finished_game_of, HasRead, no_progress, Device, FinishedGame, game_in_reader, AreNext, IsKnown, Stands, MoreSoFar, StandsWithin, EndsGame}
+use Rattle.pgn_game.specs.declared.marker.Mark.{Mark}
 use Rattle.pgn_game.specs.GamesCalls as games_calls
+use Rattle.pgn_game.specs.GamesCalls.{ReadsNoGame}
+use Rattle.pgn_game.specs.GamesSteps as games_steps
+use Rattle.pgn_game.specs.GamesSteps.{MeetsNext, ReadsAllOf, StopsBefore, UsesAll}
 use Rattle.pgn_game.proofs.tokens.OneMoreToken.{read-passes, read-refuses, stops_from, torn-none, gains_none, gains_more, stops_more, games_still}
 use Rattle.pgn_game.proofs.tokens.OneMoreToken.{counts_still}
-use Rattle.pgn_game.proofs.tokens.StepsInPiece.{decided_at_end, stands_before_any}
-use Rattle.pgn_game.proofs.tokens.GamesInPiece.{behind_first}
-use Rattle.pgn_game.proofs.tokens.StepsAtEnd.{let_go}
+use Rattle.pgn_game.proofs.tokens.AcceptedToConverter.{follows_first}
+use Rattle.pgn_game.proofs.tokens.BytesToMarker.{follows_none}
 use Rattle.pgn_game.proofs.tokens.LastTokens.{AddsOne, left_games, left_none_begun}
+use Rattle.pgn_game.proofs.tokens.MarkerToGame.{fault_not_taken, fault_of_marker, gains_known, gains_marker, game_by_marker, has_read_marker}
 use Rattle.pgn_game.proofs.tokens.NoneBeforeFault.{reads_behind}
-use Rattle.pgn_game.proofs.tokens.WholeInput.{keeps_consumed}
+use Rattle.pgn_game.proofs.tokens.StepsAtEnd.{let_go}
 
 -- ---- the text of a game
 
@@ -45,31 +48,11 @@ none_behind p ts t g passes one = by_test (refusal p (read p ts).progress.part t
 
 -- ---- one call
 
-pub none_yet : (p : Profile) (u : List ℕ) (given : List Token) (left : Option (List ℕ)) (now : Games) (o : Option (List ℕ))
-    → HaveRead p left u now given → now.converter.is_finished ≡ false → NextSoFar p u given left left now o o
-none_yet p u given left now o (within on) not_finished =
-    record {
-      more = [];
-      consumed = Consumes-nil left;
-      tokens = given;
-      reads_on = rw (append-nil u) on;
-      no_game = refl;
-      gains = gains_none;
-    }
-none_yet p u given left now o (at_end all) not_finished = absurd (cc (all.finished))
-
 pub at_end_again : (p : Profile) (u : List ℕ) (given : List Token) (left : Option (List ℕ))
     (now : Games) (new : Converter) (o : Option (List ℕ)) → HaveRead p left u now given
     → now.converter.is_finished ≡ true → new ≡ record now.converter { just_finished = None }
     → NoGame p u given left left (games_of new now.unused) o o
 at_end_again p u given left now new o h1 h2 h3 = grind (arith, Consumes-nil, append-nil, gains_none, let_go)
-
--- what was read of a front of the bytes not used is decided
-front_decided : {p : Profile} {u : List ℕ} (rest front : List ℕ) {given : List Token}
-    → (front ≡ [] → given ≡ decided u) → {new : Converter} {a c : Option (List ℕ)}
-    (fed : FedAll p u (first rest) given front new a c) → fed.tokens ≡ decided (u ++ front)
-front_decided {u} rest [] none fed = fed.empty refl ∙ none refl ∙ ap decided (sym (append-nil u))
-front_decided rest (x ∷ xs) none fed = fed.decided (omega arith)
 
 -- the last of a list
 pub last_is : {A : Type 0} → (xs ys : List A) {x y : A} → xs ++ x ∷ [] ≡ ys ++ y ∷ [] → x ≡ y
@@ -81,196 +64,189 @@ last_is (z ∷ zs) (w ∷ ws) e = last_is zs ws (cc)
 not_true : IsTrue false → ⊥
 not_true h = absurd (cc)
 
-decided_before : (u piece : List ℕ) {ts : List Token} → IsDecided u [] ts → IsDecided u piece ts
-decided_before u piece (inl e) = inl e
-decided_before u piece (inr (b, e, k)) = absurd (cc)
+-- games that have not read the end stand within the bytes
+pub begins : (p : Profile) (u : List ℕ) (given : List Token) (left : Option (List ℕ)) (now : Games) → HaveRead p left u now given
+    → now.converter.is_finished ≡ false → IsKnown p × StandsWithin u now given × HasRead p now.converter given
+begins p u given left now (within on) not_finished = (
+  on.stands.known,
+  record { used = on.used; bytes = on.bytes; lexer = on.stands.lexer; at_limit = on.at_limit; decided = on.decided },
+  on.stands.has_read,
+)
+begins p u given left now (at_end all) not_finished = absurd (cc (all.finished))
 
--- ---- what a call reads
+-- the tokens given are those of every text that goes on with the bytes
+next_within : (u : List ℕ) (now : Games) (ts : List Token) → StandsWithin u now ts → AreNext u None ts
+next_within u now ts stands s follows = (
+  coming now.converter.lexer (now.unused ++ s),
+  ap (λ l. tokens_of (l ++ s)) stands.bytes ∙ ap tokens_of (append_assoc stands.used now.unused s)
+      ∙ stands.lexer.tokens (now.unused ++ s) (follows_first now.unused s),
+)
 
-module _ (p : Profile) (u : List ℕ) (given : List Token) (left_old left : Option (List ℕ))
-    (now : Games) (a c : Option (List ℕ)) (so : NextSoFar p u given left_old left now a c)
-    (d : Option (List ℕ)) where
-  pub game_read : (new : Converter) (used : ℕ) → FedGame p so.reads_on.used so.tokens now.unused used new c d → new.is_finished ≡ false
-      → NextGame p u given left_old left (games_of new (drop used now.unused)) a d
-  game_read new used fed not_finished =
-      let ts = fed.tokens ++ fed.marker ∷ [] in
+-- ---- up to a marker
+
+module _ (p : Profile) (known : IsKnown p) (u : List ℕ) (given : List Token) (left_old left : Option (List ℕ)) (a : Option (List ℕ)) where
+  -- The marker is taken, or not.
+  module _ (m : Mark) (mid : Games) (sink : Device) (met : MeetsNext p u given left_old left m mid a sink.before) (new : Converter) where
+    pub game_read : EndsGame mid.converter.reading m new.reading (Ok tt) sink → new.lexer ≡ mid.converter.lexer
+        → new.is_finished ≡ false → new.fault ≡ None → new.games ≡ mid.converter.games + 1
+        → new.just_finished ≡ Some (game_in_reader new.reading) → NextGame p u given left_old left (games_of new mid.unused) a sink.after
+    game_read ends lexer not_finished no_fault games finished =
+        let ts = met.tokens ++ met.token ∷ [] in
+        let h = has_read_marker p given met.tokens met.token m mid.converter a sink met.meets new.reading ends new.lexer false in
+        let has_read : HasRead p new ts = record {
+          profile = h.profile;
+          no_fault = no_fault;
+          passes = h.passes;
+          agrees = h.agrees;
+          games = games ∙ h.games;
+          plies = h.plies;
+          probed = h.probed;
+          tried = h.tried;
+          just_finished = rw finished h.just_finished;
+        } in
+        let one = game_by_marker p given met.tokens met.token m mid.converter a sink met.meets new.reading ends in
+        record {
+          more = met.more;
+          consumed = met.consumed;
+          tokens = ts;
+          have_read = within (record {
+            used = met.stands.used;
+            bytes = met.stands.bytes;
+            stands = record { known = known; lexer = rw lexer met.stands.lexer; has_read = has_read };
+            at_limit = met.stands.at_limit;
+            decided = met.stands.decided;
+            not_finished = not_finished;
+          });
+          game = one.0;
+          one_game = one.1;
+          just_finished = finished ∙ ap (λ (game : FinishedGame). Some game) one.2;
+          whole = due_between p (read p ts).progress (none_behind p met.tokens met.token one.0 h.passes
+              (one.1 ∙ ap (λ gs. gs ++ one.0 ∷ []) (sym met.meets.reads.no_game)));
+          gains = gains_marker p given met.tokens met.token m mid.converter a sink met.meets new.reading ends known;
+        }
+
+    pub marker_stops : (f : Fault) → EndsGame mid.converter.reading m new.reading (Err f) sink
+        → NextStops p u given left_old left new.reading.most_probes a sink.after f
+    marker_stops f ends =
+        let ts = met.tokens ++ met.token ∷ [] in
+        let to = fault_of_marker p given met.tokens met.token m mid.converter a sink met.meets new.reading known [] f ends in
+        games_calls.at_token f met.more met.consumed (record {
+          tokens = ts;
+          next = next_within (u ++ met.more) mid ts met.stands;
+          stops = to.stops;
+          no_game = to.no_game;
+          counts = to.counts;
+        })
+
+  none_in : {v : List ℕ} {new : Converter} {c : Option (List ℕ)} → ReadsAllOf p given v new a c → ReadsNoGame p given v a c
+  none_in {v} {new} {c} all =
       record {
-        more = so.more;
-        consumed = so.consumed;
-        tokens = ts;
-        have_read = within (record {
-          used = so.reads_on.used ++ take used now.unused;
-          bytes =
-              cc (so.reads_on.bytes, take-append-drop used now.unused, append_assoc so.reads_on.used (take used now.unused) (drop used now.unused));
-          stands = fed.stands;
-          at_limit = fed.at_limit;
-          decided = fed.decided;
-          not_finished = not_finished;
-        });
-        game = fed.game;
-        one_game = rw so.no_game at fed.one_game;
-        just_finished = fed.just_finished;
-        whole = due_between p (read p ts).progress
-            (none_behind p fed.tokens fed.marker fed.game fed.stands.has_read.passes (rw fed.no_game fed.one_game));
-        gains = gains_more so.gains fed.gains;
-      }
-
-  pub rest_read : (new : Converter) → FedAll p so.reads_on.used (first now.unused) so.tokens now.unused new c d → new.is_finished ≡ false
-      → NextSoFar p u given left_old left (games_of new []) a d
-  rest_read new fed not_finished =
-      let is = front_decided now.unused now.unused
-      (λ none. decided_at_end so.reads_on.used so.tokens (rw none at so.reads_on.decided)) fed in
-      record {
-        more = so.more;
-        consumed = so.consumed;
-        tokens = fed.tokens;
-        reads_on = record {
-          used = so.reads_on.used ++ now.unused;
-          bytes = so.reads_on.bytes ∙ sym (append-nil (so.reads_on.used ++ now.unused));
-          stands = rw (behind_first now.unused) at fed.stands;
-          at_limit = λ h. is;
-          decided = inl is;
-          not_finished = not_finished;
-        };
-        no_game = fed.no_game ∙ so.no_game;
-        gains = gains_more so.gains fed.gains;
-      }
-
-  -- a token was rejected, a write failed, or the input is too long
-  pub rest_stops : (new : Converter) (f : Fault) → StopsIn so.reads_on.used now.unused
-      (λ fault. FedToFault p so.reads_on.used (first now.unused) so.tokens now.unused fault new.reading c d)
-      (λ front. (n : Converter) × FedAll p so.reads_on.used (first now.unused) so.tokens front n c d × (new.reading ≡ n.reading)) f
-      → NextStops p u given left_old left new.reading.most_probes a d f
-  rest_stops new f (at_token h to) =
-      games_calls.at_token h so.more so.consumed (record {
-        tokens = to.fed.tokens;
-        next = rw so.reads_on.bytes (rw (behind_first now.unused) at to.fed.next);
-        stops = stops_more so.gains to.fed.stops;
-        no_game = games_still so.gains to.fed.stops ∙ to.no_game ∙ so.no_game;
-        counts = counts_still so.gains to.fed.stops to.counts;
-      })
-  rest_stops new f (too_long front rest cut place some (n, fed, same)) =
-      let full : front ≡ [] → so.tokens ≡ decided so.reads_on.used =
-      λ none. so.reads_on.at_limit
-      (ap (length {A = ℕ}) (sym (ap (λ xs. so.reads_on.used ++ xs) none ∙ append-nil so.reads_on.used)) ∙ place) in
-      games_calls.too_long so.more (so.reads_on.used ++ front) rest so.consumed
-      (so.reads_on.bytes ∙ ap (λ xs. so.reads_on.used ++ xs) cut ∙ sym (append_assoc so.reads_on.used front rest)) place some (record {
         reads = record {
-          tokens = fed.tokens;
-          decided = front_decided now.unused front full fed;
-          passes = fed.stands.has_read.passes;
-          gains = gains_more so.gains fed.gains;
+          tokens = decided v;
+          decided = refl;
+          passes = all.reads.has_read.passes;
+          gains = gains_known p known given (decided v) all.now a c all.reads;
         };
-        no_game = fed.no_game ∙ so.no_game;
-      })
-
--- all bytes read are used
-module _ (p : Profile) (u : List ℕ) (given : List Token) (left_old left left_new : Option (List ℕ)) (now : Converter) (a c : Option (List ℕ))
-    (so : NextSoFar p u given left_old left (games_of now []) a c) where
-  all_used : u ++ so.more ≡ so.reads_on.used
-  all_used = so.reads_on.bytes ∙ append-nil so.reads_on.used
-
-  pub filled : (piece : List ℕ) → Consumes left left_new piece → NextSoFar p u given left_old left_new (games_of now piece) a c
-  filled piece consumed =
-      record {
-        more = so.more ++ piece;
-        consumed = Consumes-trans left_old left left_new so.more piece so.consumed consumed;
-        tokens = so.tokens;
-        reads_on = record {
-          used = so.reads_on.used;
-          bytes = rw all_used at (sym (append_assoc u so.more piece));
-          stands = stands_before_any so.reads_on.stands;
-          at_limit = so.reads_on.at_limit;
-          decided = decided_before so.reads_on.used piece so.reads_on.decided;
-          not_finished = so.reads_on.not_finished;
-        };
-        no_game = so.no_game;
-        gains = so.gains;
+        no_game = all.reads.no_game;
       }
 
-  pub unread : (f : Fault) (most : ℕ) → Keeps left left_new
-      → f ≡ record { at = now.lexer.count; reason = ReadFault } → NextStops p u given left_old left_new most a c f
-  unread f most keeps is =
-      let place : now.lexer.count ≡ length (u ++ so.more) = so.reads_on.stands.lexer.count ∙ ap (length {A = ℕ}) (sym all_used) in
-      subst (NextStops p u given left_old left_new most a c) (sym (is ∙ ap (λ n. record { at = n; reason = ReadFault }) place))
-      (games_calls.unread so.more (keeps_consumed left_old left left_new so.more so.consumed keeps) (record {
-        reads = record {
-          tokens = so.tokens;
-          decided = decided_at_end so.reads_on.used so.tokens so.reads_on.decided ∙ ap decided (sym all_used);
-          passes = so.reads_on.stands.has_read.passes;
-          gains = so.gains;
-        };
-        no_game = so.no_game;
-      }))
+  -- no marker was met
+  pub stops_before : (new : Converter) (c : Option (List ℕ)) (f : Fault)
+      → StopsBefore p u given left_old left new a c f → NextStops p u given left_old left new.reading.most_probes a c f
+  stops_before new c f (games_steps.at_token h more tokens t consumed next fails) =
+      let to = fault_not_taken p known given tokens t [] h new.reading a c fails in
+      games_calls.at_token h more consumed (record {
+        tokens = tokens ++ t ∷ [];
+        next = next;
+        stops = to.stops;
+        no_game = to.no_game;
+        counts = to.counts;
+      })
+  stops_before new c f (games_steps.unread more consumed all) = games_calls.unread more consumed (none_in all)
+  stops_before new c f (games_steps.too_long more front rest consumed cut place some all) =
+      games_calls.too_long more front rest consumed cut place some (none_in all)
 
-  -- the source has ended
-  module _ (consumed : Consumes left left_new []) (end : IsAtEnd left_new) (new : Converter) (d : Option (List ℕ)) where
-    all : Consumes left_old left_new so.more
-    all = subst (Consumes left_old left_new) (append-nil so.more) (Consumes-trans left_old left left_new so.more [] so.consumed consumed)
+-- ---- the source has ended
 
-    left_over : tokens_of so.reads_on.used ≡ so.tokens ++ coming now.lexer []
-    left_over = ap tokens_of (sym (append-nil so.reads_on.used)) ∙ so.reads_on.stands.lexer.tokens [] tt
+module _ (p : Profile) (known : IsKnown p) (u : List ℕ) (given : List Token) (left_old left : Option (List ℕ))
+    (now : Games) (a c : Option (List ℕ)) (uses : UsesAll p u given left_old left now a c) where
+  abbrev so : MoreSoFar p u given left_old left now a c
+  so = uses.so_far
 
-    reads : read p (tokens_of so.reads_on.used) ≡ read_from p (read p so.tokens).progress (coming now.lexer [])
-    reads = ap (read p) left_over ∙ reads_behind p no_progress so.tokens (coming now.lexer []) so.reads_on.stands.has_read.passes
+  all_used : u ++ so.more ≡ so.stands.used
+  all_used = so.stands.bytes ∙ ap (λ l. so.stands.used ++ l) uses.none_left ∙ append-nil so.stands.used
 
-    adds : AddsOne (read p so.tokens).progress.games (read p (tokens_of so.reads_on.used))
-    adds = subst (AddsOne (read p so.tokens).progress.games) (sym reads) (left_games p (read p so.tokens).progress now.lexer)
+  pub stands_at_end : Stands p now.converter so.stands.used (first now.unused) so.tokens
+  stands_at_end = record { known = known; lexer = so.stands.lexer; has_read = so.reads.has_read }
 
-    ended : {is_game : Bool} → Finishes p so.reads_on.used so.tokens new is_game c d → new.is_finished ≡ true → now.lexer.count ≤ 2 ^ 62
-        → AfterNext p u given left_old left_new (games_of new []) (Ok is_game) a d
+  gained : Gains p given so.tokens a c
+  gained = gains_known p known given so.tokens now.converter a c so.reads
+
+  module _ (new : Converter) (d : Option (List ℕ)) where
+    left_over : tokens_of so.stands.used ≡ so.tokens ++ coming now.converter.lexer []
+    left_over = ap tokens_of (sym (append-nil so.stands.used)) ∙ so.stands.lexer.tokens [] (follows_none (first now.unused))
+
+    reads : read p (tokens_of so.stands.used) ≡ read_from p (read p so.tokens).progress (coming now.converter.lexer [])
+    reads = ap (read p) left_over ∙ reads_behind p no_progress so.tokens (coming now.converter.lexer []) so.reads.has_read.passes
+
+    adds : AddsOne (read p so.tokens).progress.games (read p (tokens_of so.stands.used))
+    adds = subst (AddsOne (read p so.tokens).progress.games) (sym reads) (left_games p (read p so.tokens).progress now.converter.lexer)
+
+    ended : {is_game : Bool} → Finishes p so.stands.used so.tokens new is_game c d → new.is_finished ≡ true
+        → now.converter.lexer.count ≤ 2 ^ 62 → AfterNext p u given left_old left (games_of new now.unused) (Ok is_game) a d
     ended {is_game} fed finished few = by_game is_game refl adds
       where
-        text : tokens_of so.reads_on.used ≡ tokens_of (u ++ so.more)
+        text : tokens_of so.stands.used ≡ tokens_of (u ++ so.more)
         text = ap tokens_of (sym all_used)
 
-        read_all : HasReadAll p left_new (u ++ so.more) (games_of new []) (tokens_of (u ++ so.more))
+        read_all : HasReadAll p left (u ++ so.more) (games_of new now.unused) (tokens_of (u ++ so.more))
         read_all =
             record {
-              at_end = end;
-              short = omega (arith, so.reads_on.stands.lexer.count, few, ap (length {A = ℕ}) all_used);
+              at_end = uses.at_end;
+              short = omega (arith, so.stands.lexer.count, few, ap (length {A = ℕ}) all_used);
               whole = refl;
-              none_begun = rw (← reads, text) at (left_none_begun p (read p so.tokens).progress now.lexer (rw reads at fed.has_read.passes));
+              none_begun = rw (← reads, text) at
+                  (left_none_begun p (read p so.tokens).progress now.converter.lexer (rw reads at fed.has_read.passes));
               has_read = subst (HasRead p new) text fed.has_read;
               finished = finished;
             }
 
         gains : Gains p given (tokens_of (u ++ so.more)) a d
-        gains = subst (λ ts. Gains p given ts a d) text (gains_more so.gains fed.gains)
+        gains = subst (λ ts. Gains p given ts a d) text (gains_more gained fed.gains)
 
         none : (flag : Bool) → is_game ≡ flag → flag ≡ false
-            → (read p (tokens_of so.reads_on.used)).progress.games ≡ (read p so.tokens).progress.games
-            → NoGame p u given left_old left_new (games_of new []) a d
+            → (read p (tokens_of so.stands.used)).progress.games ≡ (read p so.tokens).progress.games
+            → NoGame p u given left_old left (games_of new now.unused) a d
         none flag is ends same =
             record {
               more = so.more;
-              consumed = all;
+              consumed = so.consumed;
               have_read_all = read_all;
-              no_game = rw (← text) (same ∙ so.no_game);
+              no_game = rw (← text) (same ∙ so.reads.no_game);
               none_just_finished = fed.none_just_finished (is ∙ ends);
               gains = gains;
             }
 
-        one : (g : Game) → (read p (tokens_of so.reads_on.used)).progress.games ≡ (read p so.tokens).progress.games ++ g ∷ []
-            → is_game ≡ true → NextGame p u given left_old left_new (games_of new []) a d
+        one : (g : Game) → (read p (tokens_of so.stands.used)).progress.games ≡ (read p so.tokens).progress.games ++ g ∷ []
+            → is_game ≡ true → NextGame p u given left_old left (games_of new now.unused) a d
         one g adds_one is =
             let finished_game = fed.just_finished is in
             let last = rw finished_game.1 at fed.has_read.just_finished in
             let same : last.1 ≡ g = last_is last.0 (read p so.tokens).progress.games (sym last.2 ∙ adds_one) in
             record {
               more = so.more;
-              consumed = all;
+              consumed = so.consumed;
               tokens = tokens_of (u ++ so.more);
               have_read = at_end read_all;
               game = g;
-              one_game = rw (← text) (rw so.no_game at adds_one);
+              one_game = rw (← text) (rw so.reads.no_game at adds_one);
               just_finished = rw (last.3 ∙ ap finished_game_of same) at finished_game.1;
               whole = read_all.none_begun;
               gains = gains;
             }
 
-        by_game : (flag : Bool) → is_game ≡ flag → AddsOne (read p so.tokens).progress.games (read p (tokens_of so.reads_on.used))
-            → AfterNext p u given left_old left_new (games_of new []) (Ok flag) a d
+        by_game : (flag : Bool) → is_game ≡ flag → AddsOne (read p so.tokens).progress.games (read p (tokens_of so.stands.used))
+            → AfterNext p u given left_old left (games_of new now.unused) (Ok flag) a d
         by_game false is (inl same) = none false is refl same
         by_game false is (inr (passes, (g, more))) =
             absurd (not_true
@@ -278,16 +254,16 @@ module _ (p : Profile) (u : List ℕ) (given : List Token) (left_old left left_n
         by_game true is (inl same) = absurd (omega (arith, fed.game.0 (rw is (cc)), ap (length {A = Game}) same))
         by_game true is (inr (passes, (g, more))) = one g more is
 
-    ended_at_fault : (f : Fault) → FinishesToFault p so.reads_on.used so.tokens new f c d
-        → NextStops p u given left_old left_new new.reading.most_probes a d f
+    ended_at_fault : (f : Fault) → FinishesToFault p so.stands.used so.tokens new f c d
+        → NextStops p u given left_old left new.reading.most_probes a d f
     ended_at_fault f fed =
-        games_calls.at_end f so.more all end (rw all_used (record {
-          stops = stops_more so.gains fed.stops;
-          no_game = games_still so.gains fed.stops ∙ fed.no_game ∙ so.no_game;
-          counts = counts_still so.gains fed.stops fed.counts;
+        games_calls.at_end f so.more so.consumed uses.at_end (rw all_used (record {
+          stops = stops_more gained fed.stops;
+          no_game = games_still gained fed.stops ∙ fed.no_game ∙ so.reads.no_game;
+          counts = counts_still gained fed.stops fed.counts;
         }))
 
-    pub finished : (r : Result Bool Fault) → AfterFinish p so.reads_on.used so.tokens new r c d
-        → new.is_finished ≡ is_ok r → now.lexer.count ≤ 2 ^ 62 → AfterNext p u given left_old left_new (games_of new []) r a d
+    pub finished : (r : Result Bool Fault) → AfterFinish p so.stands.used so.tokens new r c d
+        → new.is_finished ≡ is_ok r → now.converter.lexer.count ≤ 2 ^ 62 → AfterNext p u given left_old left (games_of new now.unused) r a d
     finished (Ok is_game) fed ends few = ended fed ends few
     finished (Err f) fed ends few = ended_at_fault f fed

@@ -1,7 +1,7 @@
 -- How many pairs were tried for a token: from what the reader counts to what is said of tokens.
 use Rattle.pgn_game.proofs.tokens.OneMoreToken.{goes_on}
 use Rattle.pgn_lexer.specs.Tokens as tokens
-use Rattle.pgn_game.proofs.Words.{Parts, Kind, Token, Mode, Full, Reduced, Reason, InMovetext, Profile, ◌≡◌, ◌⊎◌, inl, ℕ, ◌<◌, max, Bool, true, false, ◌||◌, List, [], ◌∷◌, ◌++◌, None, Some, is_some, Result, Ok, Err, refl, sym, subst, arith, IsTrue, drop-append_seam, drop-length, and_right, or_right, false≢true, Move, kind_of, TokenKind, Accepted, depth, refusal, is_at, is_number, is_outside_tag_pairs, is_score, levels_of_part, marker_of, position_in, Next, going, Progress, progress_after, read_from, read, Costs, CostsIf, CostsToFind, is_written, CostsToWrite, added, CostsToAdd, Tries, MostFrom, MostTried, Raises, has_move, ReaderState, Agrees, IsOpen, may_have_movetext, model_item, with_items, TriesItem, writes, LexReason, Annotation, Item, Part, rules, not, length, drop, ap, ◌&&◌, ◌∙◌}
+use Rattle.pgn_game.proofs.Words.{Parts, Kind, Token, Mode, Full, Reduced, Reason, InMovetext, Profile, ◌≡◌, ◌⊎◌, inl, ℕ, ◌<◌, max, Bool, true, false, ◌||◌, List, [], ◌∷◌, ◌++◌, None, Some, is_some, Result, Ok, Err, refl, sym, subst, arith, IsTrue, drop-append_seam, drop-length, and_right, or_right, false≢true, Move, Accepted, depth, refusal, is_at, is_number, is_outside_tag_pairs, is_score, levels_of_part, marker_of, position_in, Next, going, Progress, progress_after, read_from, read, Costs, CostsIf, CostsToFind, is_written, CostsToWrite, added, CostsToAdd, Tries, MostFrom, MostTried, Raises, has_move, ReaderState, Agrees, IsOpen, may_have_movetext, model_item, with_items, TriesItem, writes, LexReason, Annotation, Item, Part, rules, not, length, drop, ap, ◌&&◌, ◌∙◌}
 use Rattle.pgn_game.specs.Game.{move}
 use Rattle.pgn_game.specs.MostTried as most_tried
 use Rattle.pgn_game.proofs.refusals.RefusalsInMovetext.{depth_is, position_is}
@@ -60,7 +60,7 @@ plain_untried part s plain =
 pub number_untried : (part : Part) (s : List ℕ) → is_number s ≡ true → CostsToFind part (tokens.symbol s) 0
 number_untried part s number = plain_untried part s (or_right (is_score s) (is_number s) number)
 
-pub marker_untried : (part : Part) (k : TokenKind) → IsTrue (is_some (marker_of (kind_of k))) → CostsToFind part (kind_of k) 0
+pub marker_untried : (part : Part) (k : Kind) → IsTrue (is_some (marker_of k)) → CostsToFind part k 0
 marker_untried part k h1 = search (rules, and_right, costs_nothing, false≢true)
 
 -- The move of another symbol is sought where movetext can begin or goes on.

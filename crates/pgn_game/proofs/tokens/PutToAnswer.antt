@@ -36,6 +36,7 @@ refused_after old new IsOf k reason n o m counted inside why costs here = record
       }) (rw counted (here part is));
   keeps = record {
     profile = rw counted;
+    told = rw counted;
     plies = omega (arith, ap (λ (r : ReaderState). r.earlier_plies) counted, ap (λ (r : ReaderState). r.text.plies) counted);
     probes = omega (arith, ap (λ (r : ReaderState). r.most_probes) counted, le-max_left old.most_probes n);
   };
@@ -59,9 +60,8 @@ entry_refused old k reason o m inside why costs =
 module _ (old counted new : ReaderState) (part : Part) (k : Kind) (to : Next) (d : Device) (n more : ℕ) (same : counted ≡ counting_probes old n)
     (says : (refusal old.profile part k ≡ None) × (next part k ≡ to))
     (finds : CostsToFind part k n) (most : new.most_probes ≡ max old.most_probes more) where
-  gain_is : drop (length (torn (as_written counted.profile) part)) (text_next (as_written counted.profile) to)
-      ≡ gain (as_written old.profile) part k
-  gain_is = rw same (ap (λ (x : Next). drop (length (torn (as_written old.profile) part)) (text_next (as_written old.profile) x)) (sym says.1))
+  gain_is : drop (length (torn (as_written counted) part)) (text_next (as_written counted) to) ≡ gain (as_written old) part k
+  gain_is = rw same (ap (λ (x : Next). drop (length (torn (as_written old) part)) (text_next (as_written old) x)) (sym says.1))
 
   tries : CostsToPut old.profile part to n more → Tries old.profile part k more
   tries costs = record { found = n; finds = finds; writes = search rules }
@@ -182,9 +182,8 @@ module _ (p : Profile) (k : TokenKind) (row : refusal p no_pairs (kind_of k) ≡
   unwritten_alike (most_tried.at_token t) = most_tried.at_token (tries_alike t)
   unwritten_alike {n} (most_tried.in_section before finds) = most_tried.in_section refl (finds_alike k n finds)
 
-  gain_alike : gain (as_written p) no_pairs (kind_of k) ≡ gain (as_written p) no_part (kind_of k)
-  gain_alike =
-      let w = as_written p in
+  gain_alike : (w : Profile) → gain w no_pairs (kind_of k) ≡ gain w no_part (kind_of k)
+  gain_alike w =
       rw (no_torn w no_pairs AfterTags refl (λ e. absurd (cc)) ∙ sym (no_torn w no_part Between refl (λ e. absurd (cc))))
       (ap (λ (x : Next). drop (length (torn w no_part)) (text_next w x)) leads)
 
@@ -198,14 +197,14 @@ answers_alike old new k (Ok accepted) a b at row leads h = record {
   plies = h.plies ∙ ap (λ (s : ℕ). s + plies_next (next no_pairs (kind_of k)))
       (sym (ap (λ (s : Stage). plies_behind s old.earlier_plies old.text.plies) at))
       ∙ ap (λ (x : Next). whole_plies old + plies_next x) leads;
-  appended = subst (Appends a b) (gain_alike old.profile k row leads) h.appended;
+  appended = subst (Appends a b) (gain_alike old.profile k row leads (as_written old)) h.appended;
   tried = record { tried = h.tried.tried; allowed = tries_alike old.profile k row leads h.tried.allowed; most = h.tried.most };
 }
 answers_alike old new k (Err reason) a b at row leads (reader_state.refused why is none t here) =
     reader_state.refused why (sym row ∙ is) none
     (record { tried = t.tried; allowed = tries_alike old.profile k row leads t.allowed; most = t.most }) here
 answers_alike old new k (Err reason) a b at row leads (reader_state.unwritten free front t) =
-    reader_state.unwritten (sym row ∙ free) (subst (AppendsFront a b) (gain_alike old.profile k row leads) front)
+    reader_state.unwritten (sym row ∙ free) (subst (AppendsFront a b) (gain_alike old.profile k row leads (as_written old)) front)
     (record { tried = t.tried; allowed = unwritten_alike old.profile k row leads t.allowed; most = t.most })
 
 pub takes_first : (old new : ReaderState) (k : TokenKind) (r : Result Accepted Reason) (d : Device)
@@ -214,14 +213,14 @@ pub takes_first : (old new : ReaderState) (k : TokenKind) (r : Result Accepted R
 takes_first old new k r d at comment over t = search (rules, answers_alike, begins_alike, held_at, text_at)
 
 -- Markers.
-pub takes_marker : (old new : ReaderState) (k : TokenKind) (marker : Marker) (r : Result Accepted Reason) (d : Device)
+pub takes_marker : (old new : ReaderState) (k : Kind) (marker : Marker) (r : Result Accepted Reason) (d : Device)
     → PutResult old (IsOpen old) (to_game marker) new r d
-    → FinishesAtMarker (kind_of k) new r → new.most_probes ≡ old.most_probes → marker_of (kind_of k) ≡ Some (marker_text marker)
-    → ((part : Part) → IsOpen old part → text_refusal old.profile part (kind_of k) ≡ None) → TakesEntry old (kind_of k) new r d
+    → FinishesAtMarker k new r → new.most_probes ≡ old.most_probes → marker_of k ≡ Some (marker_text marker)
+    → ((part : Part) → IsOpen old part → text_refusal old.profile part k ≡ None) → TakesEntry old k new r d
 takes_marker old new k marker r d puts finished most is free =
-    takes_put old (IsEntry old (kind_of k)) (IsOpen old) (kind_of k) 0 0
+    takes_put old (IsEntry old k) (IsOpen old) k 0 0
     (counting_none old) puts finished (λ at. refl) (omega (arith, most)) (λ part at. at.is_open)
-    (λ part at. (at.row ∙ free part at.is_open, at.leads ∙ marker_whole part (kind_of k) (marker_text marker) is))
+    (λ part at. (at.row ∙ free part at.is_open, at.leads ∙ marker_whole part k (marker_text marker) is))
     (λ part at. marker_untried part k (ap is_some is))
     (λ part at. tries_put old.profile part (to_game marker part) r 0 0 refl)
 
@@ -305,6 +304,9 @@ takes_outside_first old new k (Some r) at comment over t =
     λ taken failures. takes_first old new k r (unused taken failures) at comment over (t taken failures)
 takes_outside_first old new k None at comment over t = record {
   stage = t.stage;
+  profile = t.profile;
+  told = t.told;
   plies = omega (arith, t.plies);
+  probes = t.probes;
   takes = λ newer r d entry. takes_first old newer k r d at comment over (t.takes newer r d entry);
 }

@@ -1,5 +1,5 @@
 -- How many tokens come without another byte, and the counts before the first byte.
-use Rattle.pgn_game.proofs.Words.{◌≡◌, ◌≤◌, ◌^◌, false, None, arith, Standing, waiting, IsKnown, ReaderState, IsSound, pending_in}
+use Rattle.pgn_game.proofs.Words.{◌≡◌, ◌≤◌, ◌^◌, false, None, arith, Standing, waiting, ReaderState, IsSound, pending_in}
 use Rattle.pgn_game.proofs.Words.{rules}
 use Rattle.pgn_lexer.specs.declared.partial_token.Mode.{Mode}
 use Rattle.pgn_lexer.specs.declared.partial_token.Mode.TheVariants.{LineWord, Symbol, Glyph, Suffix, BraceWord, Line}
@@ -17,5 +17,5 @@ pub few_waiting : (l : Standing) → waiting l ≤ 2
 few_waiting l = few_waiting_in l.held.mode
 
 pub sound_at_start : (l : Standing) (r : ReaderState) → l.count ≤ 2 ^ 62 → r.earlier_plies ≡ 0
-    → r.text.plies ≡ 0 → IsKnown r.profile → IsSound l r 0 false false None
-sound_at_start l r count earlier plies known = search (rules, few_waiting)
+    → r.text.plies ≡ 0 → IsSound l r 0 false false None
+sound_at_start l r count earlier plies = search (rules, few_waiting)

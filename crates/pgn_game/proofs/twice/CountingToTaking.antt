@@ -158,7 +158,7 @@ none_lost p b (t ∷ ts) =
     (first.0 + others.0, omega (arith, first.1, others.1)))
 
 -- a game that a token finishes is there at the end
-game_stays : (p : Profile) (b : Progress) (t : Token) (ts : List Token) (g : Game) → next b.part t.kind ≡ whole g
+pub game_stays : (p : Profile) (b : Progress) (t : Token) (ts : List Token) (g : Game) → next b.part t.kind ≡ whole g
     → length (read_from p (progress_after b t) ts).progress.games ≡ length b.games → ⊥
 game_stays p b t ts g is same =
     let one : length (progress_after b t).games ≡ length b.games + 1 =

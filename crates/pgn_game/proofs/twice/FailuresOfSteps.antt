@@ -1,18 +1,13 @@
 -- Which device counts a failure in a step, of the reasons one by one.
-use Rattle.pgn_game.proofs.Words.{Reason, ReadFault, WriteFault, Changed, ◌≡◌, ℕ, Err, refl, ap, subst, ◌∙◌, inl, inr, arith, Device}
-use Rattle.pgn_game.proofs.Words.{IsStill, one_more, CountsWrites, CountsReason, CountsDevices, changed_reason}
+use Rattle.pgn_game.proofs.Words.{Reason, ReadFault, WriteFault, Changed, ◌≡◌, ℕ, refl, ap, subst, ◌∙◌, inl, inr, arith, Device}
+use Rattle.pgn_game.proofs.Words.{IsStill, one_more, CountsReason, CountsDevices, changed_reason}
 use Rattle.pgn_game.specs.CheckedConversion.{CountsThree}
-use Rattle.pgn_game.proofs.tokens.StepsAtEnd.{counts_token}
 
 -- an error of the reader is no difference, and no failed read
-reader_reason : (r : Reason) (s o n : ℕ) → CountsReason r o n → CountsDevices r s s o n
+pub reader_reason : (r : Reason) (s o n : ℕ) → CountsReason r o n → CountsDevices r s s o n
 reader_reason ReadFault s o n h = absurd h
 reader_reason Changed s o n h = absurd h
 reader_reason _ s o n h = (refl, h)
-
-pub reader_counts : (at : ℕ) (r : Reason) (s : ℕ) (sink : Device) → CountsWrites (Err r) sink
-    → CountsDevices r s s sink.failures sink.failures_after
-reader_counts at r s sink h = reader_reason r s sink.failures sink.failures_after (counts_token at (Err r) sink h)
 
 -- a sink that counts nothing
 pub no_write : (r : Reason) (s t : ℕ) → CountsDevices r s t 0 0 → r ≡ WriteFault → ⊥

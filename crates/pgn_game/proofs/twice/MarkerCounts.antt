@@ -6,8 +6,7 @@ use Rattle.std.proofs.lemmas.Bool.{and_parts, not-true}
 use Rattle.pgn_lexer.specs.Tokens as tokens
 use Rattle.pgn_lexer.specs.declared.token.LexReason.{LexReason}
 use Rattle.pgn_lexer.specs.declared.token.LexReason.TheVariants as lex_reasons
-use Rattle.pgn_game.proofs.Words.{Kind, Reason, Changed, Lexical, ReadFault, WriteFault, BadTagName, ResultDiffers, changed_reason, Mode, Stage, Between, AfterLeftBracket, AfterName, AfterValue, AfterTags, InMovetext, Profile, Missing, counts_as, takes_the_marker, Game, Part, no_part, ◌≡◌, ℕ, ◌⊎◌, Bool, true, false, ◌&&◌, not, List, [], ◌∷◌, ◌++◌, take, drop, Option, None, Some, inl, inr, refl, sym, ap, subst, ◌∙◌, true≢false, IsTrue, ◌==◌, list_all, Accepted, More, Finished, counting, with_missing, depth, start_of, Row, row, rows, first_holding, refusal, in_name, is_score, is_outside_tag_pairs, has_other_result, levels_of_part, marker_of, position_in, game_text, Next, going, whole, at_stage, items_of, in_text, next, next_in, CostsUnlessRefused, Tries, added, HoldsItems, ReaderState, Agrees, HoldsText, IsAccepted, Leads, is_outside_the_table, game_of, or_else, with_items, profile_under, reading_under}
-use Rattle.pgn_game.specs.declared.checked.Mark.{Mark as CodeMark}
+use Rattle.pgn_game.proofs.Words.{Kind, Reason, Changed, Lexical, ReadFault, WriteFault, BadTagName, ResultDiffers, changed_reason, Stage, Between, AfterLeftBracket, AfterName, AfterValue, AfterTags, InMovetext, Profile, Missing, counts_as, takes_the_marker, Game, Part, ◌≡◌, ℕ, ◌⊎◌, Bool, true, false, ◌&&◌, not, List, [], ◌∷◌, ◌++◌, take, drop, Option, None, Some, inl, inr, refl, sym, ap, subst, ◌∙◌, true≢false, IsTrue, ◌==◌, list_all, counting, with_missing, depth, start_of, Row, row, rows, first_holding, refusal, in_name, is_score, is_outside_tag_pairs, has_other_result, levels_of_part, marker_of, game_text, going, whole, at_stage, items_of, in_text, next, next_in, HoldsItems, ReaderState, Agrees, HoldsText, is_outside_the_table, game_of, or_else, with_items}
 use Rattle.pgn_game.proofs.MarkerTexts.{score_marker, marker_no_name}
 use Rattle.pgn_game.proofs.refusals.RefusalsByStage.{name_refusal, test_failed}
 use Rattle.pgn_game.proofs.refusals.RefusalsInMovetext.{marker_whole, other_if, score_of}
@@ -86,58 +85,14 @@ goes_at _ part _ none = (_, refl)
 pub no_marker_goes : (part : Part) (k : Kind) → marker_of k ≡ None → (to : Part) × (next part k ≡ going to)
 no_marker_goes part k none = goes_at part.stage part k none
 
--- A profile in which a missing Result counts as another text has the same mode.
-pub same_mode : (q : Profile) (told : Option CodeMark) → (profile_under q told).mode ≡ q.mode
-same_mode q None = refl
-same_mode q (Some m) = refl
-
 -- The reader agrees with a part in any profile of its mode.
 text_under : (q : Profile) (r : ReaderState) (part : Part) (stage : Stage) → q.mode ≡ r.profile.mode
-    → HoldsText stage r part → HoldsText stage (reading_under q r) part
+    → HoldsText stage r part → HoldsText stage (record r { profile = q }) part
 text_under q r part InMovetext same h = (subst (λ mode. HoldsItems mode (start_of part.pairs) part.items r.text r.line) (sym same) h.0, h.1)
 text_under q r part _ same h = h
 
-pub agrees_under : (q : Profile) (r : ReaderState) (part : Part) → q.mode ≡ r.profile.mode → Agrees r part → Agrees (reading_under q r) part
+pub agrees_under : (q : Profile) (r : ReaderState) (part : Part) → q.mode ≡ r.profile.mode → Agrees r part → Agrees (record r { profile = q }) part
 agrees_under q r part same agrees = record { stage = agrees.stage; pairs = agrees.pairs; text = text_under q r part r.stage same agrees.text }
-
-leads_under : (q : Profile) (r : ReaderState) (to : Next) (accepted : Accepted)
-    → q.mode ≡ r.profile.mode → Leads to accepted r → Leads to accepted (reading_under q r)
-leads_under q r (going part) More same h = agrees_under q r part same h
-leads_under q r (going part) Finished same h = absurd h
-leads_under q r (whole g) More same h = absurd h
-leads_under q r (whole g) Finished same h =
-    record { agrees = agrees_under q r no_part same h.agrees; pairs = h.pairs; plies = h.plies; position = h.position; probed = h.probed }
-
--- the same pairs are tried for a token
-tries_under : (q p : Profile) (part : Part) (k : Kind) (n : ℕ) → refusal p part k ≡ refusal q part k
-    → p.mode ≡ q.mode → Tries p part k n → Tries q part k n
-tries_under q p part k n same mode h = record {
-  found = h.found;
-  finds = h.finds;
-  writes =
-      subst (λ (o : Option Reason).
-      CostsUnlessRefused o q.mode (depth (levels_of_part part)) (position_in part) (added part (next part k)) h.found n) same
-      (subst (λ (m : Mode).
-      CostsUnlessRefused (refusal p part k) m (depth (levels_of_part part)) (position_in part) (added part (next part k)) h.found n) mode h.writes);
-}
-
--- A token that the reader accepts is accepted under q too. This says nothing of what is written.
-pub accepted_under : (q : Profile) (part : Part) (k : Kind) (old new : ReaderState) (accepted : Accepted) (a c : Option (List ℕ))
-    → old.profile.mode ≡ q.mode → new.profile ≡ old.profile
-    → refusal old.profile part k ≡ refusal q part k → IsAccepted old part k new accepted a c
-    → IsAccepted (reading_under q old) part k (reading_under q new) accepted None None
-accepted_under q part k old new accepted a c mode kept same h =
-    record {
-      free = sym same ∙ h.free;
-      leads = leads_under q new (next part k) accepted (sym (ap (λ (p : Profile). p.mode) kept ∙ mode)) h.leads;
-      plies = h.plies;
-      appended = tt;
-      tried = record {
-        tried = h.tried.tried;
-        allowed = tries_under q old.profile part k h.tried.tried same mode h.tried.allowed;
-        most = h.tried.most;
-      };
-    }
 
 -- The reasons of the table.
 abbrev is_inside : Row → Bool

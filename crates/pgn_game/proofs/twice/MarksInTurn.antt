@@ -1,8 +1,11 @@
 -- One token more, of either reading: the marks of the first, and the tokens of the second up to a
 -- mark.
-use Rattle.pgn_game.proofs.Words.{Token, Reason, Profile, Game, Part, ◌≡◌, Bool, false, ◌||◌, is_some, List, [], ◌∷◌, ◌++◌, Option, None, Some, refl, sym, ap, subst, ◌∙◌, append_assoc, append-nil, refusal, Next, going, whole, next, no_progress, progress_after, Read, read, Mark, mark_at, marks, marks_from, is_other, is_changed, marks_after, compared_from, compared, HasMarked, HasMatched, part_after}
+use Rattle.pgn_game.proofs.Words.{Token, Reason, Profile, Game, Part, ◌≡◌, ℕ, Bool, false, ◌||◌, is_some, List, [], ◌∷◌, ◌++◌, length, Option, None, Some, refl, sym, ap, subst, ◌∙◌, append_assoc, append-nil, tokens_of, RisesTo, TokensRise, refusal, is_end, Next, going, whole, next, Progress, progress_with, no_progress, progress_after, Read, read, read_from, Mark, mark_at, marks, marks_from, is_other, is_changed, marks_after, compared_from, compared, HasMarked, HasMatched, SameGames, part_after}
 use Rattle.pgn_game.proofs.EqualReadings.{after_marks, marks_test, after_change, change_test}
-use Rattle.pgn_game.proofs.tokens.OneMoreToken.{read-passes}
+use Rattle.pgn_game.proofs.reading.RunsToEnd.{not_end}
+use Rattle.pgn_game.proofs.tokens.NoneBeforeFault.{reads_behind}
+use Rattle.pgn_game.proofs.tokens.OneMoreToken.{first_passes, goes_on, read-passes}
+use Rattle.pgn_game.proofs.twice.CountingToTaking.{game_stays}
 
 marked_token : (q : Profile) (given : List Token) (t : Token) (ms : List Mark) → (read q given).fault ≡ None
     → refusal q (part_after q given) t.kind ≡ None → HasMarked q given ms
@@ -65,6 +68,102 @@ pub matched_next : (q : Profile) (ms : List Mark) (m : Mark) (us : List Token) (
     → next (part_after q us) t.kind ≡ n → HasMatched q ms us (m ∷ []) → HasMatched q ms (us ++ t ∷ []) (marks_after n m [])
 matched_next q ms m us t n passes same leads so =
     subst (λ (n : Next). HasMatched q ms (us ++ t ∷ []) (marks_after n m [])) leads (matched_token q ms m us t passes same so)
+
+-- Tokens that finish no game.
+
+-- none of these is the end
+abbrev pub HasNoEnd : List Token → Type 0
+HasNoEnd [] = Unit {0}
+HasNoEnd (t ∷ ts) = (is_end t.kind ≡ false) × HasNoEnd ts
+
+none_is_end : (ts : List Token) (t : Token) (rest : List Token) → RisesTo (ts ++ t ∷ rest) → HasNoEnd ts
+none_is_end [] t rest rises = tt
+none_is_end (x ∷ []) t rest rises = (not_end x.kind rises.0, tt)
+none_is_end (x ∷ y ∷ ts) t rest rises = (not_end x.kind rises.0, none_is_end (y ∷ ts) t rest rises.2)
+
+behind_those : (xs ts : List Token) → HasNoEnd (xs ++ ts) → HasNoEnd ts
+behind_those [] ts none = none
+behind_those (x ∷ xs) ts none = behind_those xs ts none.1
+
+-- so it is with tokens behind which another comes
+pub no_end_before : TokensRise → (s : List ℕ) (given more tokens : List Token) (t : Token) (rest : List Token) → tokens_of s ≡ tokens ++ t ∷ rest
+    → tokens ≡ given ++ more → HasNoEnd more
+no_end_before rise s given more tokens t rest cut is =
+    behind_those given more (subst HasNoEnd is (none_is_end tokens t rest (subst RisesTo cut (rise s))))
+
+-- where a token leads that finishes none
+quiet_token : (q : Profile) (b : Progress) (t : Token) (ts : List Token) → length (read_from q (progress_after b t) ts).progress.games ≡ length b.games
+    → (n : Next) → next b.part t.kind ≡ n → (to : Part) × (next b.part t.kind ≡ going to)
+quiet_token q b t ts same (going to) leads = (to, leads)
+quiet_token q b t ts same (whole g) leads = absurd (game_stays q b t ts g leads same)
+
+module _ (q : Profile) (b : Progress) (t : Token) (ts : List Token) (passes : (read_from q b (t ∷ ts)).fault ≡ None)
+    (same : length (read_from q b (t ∷ ts)).progress.games ≡ length b.games) where
+  free : refusal q b.part t.kind ≡ None
+  free = first_passes q b t ts passes
+
+  here : read_from q b (t ∷ ts) ≡ read_from q (progress_after b t) ts
+  here = goes_on q b t ts free
+
+  kept : length (read_from q (progress_after b t) ts).progress.games ≡ length b.games
+  kept = subst (λ (r : Read). length r.progress.games ≡ length b.games) here same
+
+  leads : (to : Part) × (next b.part t.kind ≡ going to)
+  leads = quiet_token q b t ts kept (next b.part t.kind) refl
+
+  pub then_same : length (read_from q (progress_after b t) ts).progress.games ≡ length (progress_after b t).games
+  then_same = kept ∙ ap (λ (n : Next). length (progress_with b.games n).games) (sym leads.1)
+
+  pub then_passes : (read_from q (progress_after b t) ts).fault ≡ None
+  then_passes = ap (λ (r : Read). r.fault) (sym here) ∙ passes
+
+quiet_marks : (q : Profile) (b : Progress) (more ts : List Token) → (read_from q b more).fault ≡ None
+    → length (read_from q b more).progress.games ≡ length b.games
+    → marks_from q b (more ++ ts) ≡ marks_from q (read_from q b more).progress ts
+quiet_marks q b [] ts passes same = refl
+quiet_marks q b (t ∷ us) ts passes same =
+    marks_test q b t (us ++ ts) ∙ ap (after_marks q b t (us ++ ts)) (free q b t us passes same)
+    ∙ ap (λ (n : Next). mark_at t.at n ++ marks_from q (progress_after b t) (us ++ ts)) (leads q b t us passes same).1
+    ∙ quiet_marks q (progress_after b t) us ts (then_passes q b t us passes same) (then_same q b t us passes same)
+    ∙ ap (λ (r : Read). marks_from q r.progress ts) (sym (here q b t us passes same))
+
+quiet_compared : (q : Profile) (m : Mark) (ns : List Mark) (b : Progress) (more ts : List Token) → HasNoEnd more
+    → (read_from q b more).fault ≡ None → length (read_from q b more).progress.games ≡ length b.games
+    → compared_from q (m ∷ ns) b (more ++ ts) ≡ compared_from q (m ∷ ns) (read_from q b more).progress ts
+quiet_compared q m ns b [] ts no_end passes same = refl
+quiet_compared q m ns b (t ∷ us) ts no_end passes same =
+    let to = leads q b t us passes same in
+    change_test q m ns b t (us ++ ts)
+    ∙ ap (λ (o : Option Reason). after_change q m ns b t (us ++ ts) (is_some o || is_other m (next b.part t.kind) t)) (free q b t us passes same)
+    ∙ ap (λ (n : Next). after_change q m ns b t (us ++ ts) (is_other m n t)) to.1
+    ∙ ap (after_change q m ns b t (us ++ ts)) no_end.0
+    ∙ ap (λ (n : Next). compared_from q (marks_after n m ns) (progress_after b t) (us ++ ts)) to.1
+    ∙ quiet_compared q m ns (progress_after b t) us ts no_end.1 (then_passes q b t us passes same) (then_same q b t us passes same)
+    ∙ ap (λ (r : Read). compared_from q (m ∷ ns) r.progress ts) (sym (here q b t us passes same))
+
+-- They bring no mark more, and show no difference.
+module _ (q : Profile) (given more : List Token) (before : (read q given).fault ≡ None)
+    (passes : (read q (given ++ more)).fault ≡ None) (same : SameGames q given (given ++ more)) where
+  behind : read q (given ++ more) ≡ read_from q (read q given).progress more
+  behind = reads_behind q no_progress given more before
+
+  more_passes : (read_from q (read q given).progress more).fault ≡ None
+  more_passes = ap (λ (r : Read). r.fault) (sym behind) ∙ passes
+
+  more_same : length (read_from q (read q given).progress more).progress.games ≡ length (read q given).progress.games
+  more_same = ap (λ (r : Read). length r.progress.games) (sym behind) ∙ ap (length {A = Game}) same
+
+  pub marked_on : (ms : List Mark) → HasMarked q given ms → HasMarked q (given ++ more) ms
+  marked_on ms so ts =
+      ap (marks q) (append_assoc given more ts) ∙ so (more ++ ts)
+      ∙ ap (λ (l : List Mark). ms ++ l) (quiet_marks q (read q given).progress more ts more_passes more_same
+      ∙ ap (λ (r : Read). marks_from q r.progress ts) (sym behind))
+
+  pub matched_on : HasNoEnd more → (ms : List Mark) (m : Mark) → HasMatched q ms given (m ∷ []) → HasMatched q ms (given ++ more) (m ∷ [])
+  matched_on no_end ms m so ns ts =
+      ap (compared_from q (ms ++ ns) no_progress) (append_assoc given more ts) ∙ so ns (more ++ ts)
+      ∙ quiet_compared q m ns (read q given).progress more ts no_end more_passes more_same
+      ∙ ap (λ (r : Read). compared_from q (m ∷ ns) r.progress ts) (sym behind)
 
 -- both readings, whatever comes behind them
 pub both_read : (q : Profile) (ts us vs ws : List Token) (ms left : List Mark) → HasMarked q ts ms → HasMatched q ms us left

@@ -1,24 +1,21 @@
 -- From what the calls of each game return, in both readings, to the conversion.
 use Rattle.std.proofs.lemmas.Option.{IfSome_then}
-use Rattle.pgn_game.proofs.Words.{Token, Reason, Changed, ReadFault, WriteFault, Fault, Profile, Missing, takes_the_marker, Game, no_part, ◌≡◌, inl, inr, ◌||◌, is_some, Err, ℕ, ◌+◌, ◌<◌, ◌≤◌, max, Bool, true, false, List, [], ◌∷◌, ◌++◌, length, take, Option, None, Some, Ok, IfSome, refl, sym, ap, subst, ◌∙◌, append_assoc, append-nil, length-append, arith, IsTrue, map, sum, take-append-add, Appends-nil, Appends-trans, and_parts, not-false, bytes_eq-Decides, Appends, Consumes, Device, FailsOnce, tokens_of, decided, Standing, coming, plies_of, text_next, gain, whole_plies, play_moves, verdict_in, MostTried, Mark, marks_from, is_other, is_changed, marks_after, Comparison, compared_from, compared, with_mark, torn_before, written_by, earlier_fault}
+use Rattle.pgn_game.proofs.Words.{Token, Reason, Changed, ReadFault, Fault, Profile, Missing, takes_the_marker, Game, no_part, ◌≡◌, ℕ, ◌+◌, ◌<◌, ◌≤◌, max, Bool, true, false, List, [], ◌∷◌, ◌++◌, length, take, Option, None, Some, Ok, IfSome, refl, sym, ap, subst, ◌∙◌, append_assoc, append-nil, length-append, arith, IsTrue, map, sum, take-append-add, Appends-nil, Appends-trans, and_parts, not-false, bytes_eq-Decides, Appends, Device, FailsOnce, tokens_of, decided, coming, plies_of, text_next, gain, refusal, whole_plies, play_moves, verdict_in, MostTried, Mark, marks_from, is_other, is_changed, marks_after, Comparison, compared_from, compared, with_mark, torn_before, written_by, earlier_fault, BothSoFar, HasMarked, Reading, changed_reason, model_mark, part_after}
 use Rattle.pgn_game.specs.declared.conversion.Totals.{Totals}
-use Rattle.pgn_game.specs.declared.checked.Mark.{Mark as CodeMark}
+use Rattle.pgn_game.specs.declared.marker.Mark.{Mark as CodeMark}
 use Rattle.pgn_game.specs.Text.{game_text, text_of, torn}
 use Rattle.pgn_game.specs.Progress.{Next, going, whole, next, Progress, progress_with, progress_after, Read, read, refused as is_refused, totals}
 use Rattle.pgn_game.specs.Progress.{verdict_of}
 use Rattle.pgn_game.specs.CheckedConversion.{AreConverted, AreTotalled, IsTokenPrefix, Decides, HasTaken, MatchesAllMarks, FirstStops, SecondStops}
 use Rattle.pgn_game.specs.CheckedConversion.{WriteStops, TwoReadingsFail, TwoReadingsConvert}
-use Rattle.pgn_game.specs.declared.checked.Taken.TheVariants.{Game as GameEnd, End}
-use Rattle.pgn_game.specs.Pass.{AfterStep, BothSoFar, ComesNext, HasGiven, HasMarked, Pass, ReadFails, ReadsToLast, StandsIn, TokenFails, as_changed}
-use Rattle.pgn_game.specs.Pass.{changed_reason, model_mark, other, part_after, refused, unwritten}
+use Rattle.pgn_game.specs.Readings.{AllRead, ComesNext, FirstFails, GameRead, GameWritten, HasCome, HasGiven, ReadFails, SecondFails, StandsIn, WhyFirst, WhySecond, as_changed}
+use Rattle.pgn_game.specs.Readings as readings
 use Rattle.pgn_game.proofs.EqualReadings.{after_marks, marks_test, after_change, change_test, no_mark}
 use Rattle.pgn_game.proofs.tokens.NextGrows.{next_is}
 use Rattle.pgn_game.proofs.tokens.OneMoreToken.{read-refuses, text_of-snoc}
 use Rattle.pgn_game.proofs.tokens.AcceptedToConverter.{follows_first, in_games}
-use Rattle.pgn_game.proofs.tokens.WholeInput.{known_left}
-use Rattle.pgn_game.proofs.twice.MarkerCounts.{changes, refusals_are_inside}
+use Rattle.pgn_game.proofs.twice.GamesOfReadings.{begins}
 use Rattle.pgn_game.proofs.twice.MarksInTurn.{matched_mark, not_changed, both_read}
-use Rattle.pgn_game.proofs.twice.StepsToGame.{end_marked, game, game_marked, game_matched, game_written, one_game, stands, tokens as tokens_read}
 
 -- what follows for both texts, if both are known
 both_known : (o n : Option (List ℕ)) (A B : List ℕ → Type 0) (P : List ℕ → List ℕ → Type 0)
@@ -30,37 +27,28 @@ both_known o n A B P first second goes =
 abbrev Begins : List Token → List ℕ → Type 0
 Begins given s = IsTokenPrefix given (tokens_of s)
 
-begins : (has_ended : Bool) (l : Standing) (unused u : List ℕ) (given : List Token) (o n : Option (List ℕ))
-    → Consumes o n (u ++ unused) → StandsIn has_ended l unused given u o → IfSome o (Begins given)
-begins false l unused u given o n consumed (stands, is_decided) =
-    known_left o n (u ++ unused) (Begins given) consumed
-    (λ rest. (coming l (unused ++ rest), ap tokens_of (append_assoc u unused rest) ∙ stands.tokens (unused ++ rest) (follows_first unused rest)))
-begins true l unused u given o n consumed (left, none, all) =
-    IfSome_then o {P = λ s. s ≡ u} {Q = Begins given} all (λ s is. (coming l [], ap tokens_of is ∙ left))
-
 -- the bytes of a source that were read decide the tokens that the reading has given
-decides : (has_ended : Bool) (l : Standing) (unused u : List ℕ) (given : List Token) (d : Device)
-    → Consumes d.before d.after (u ++ unused) → StandsIn has_ended l unused given u d.before → Decides d given
-decides false l unused u given d consumed (stands, is_decided) =
-    Decides.so_far (u ++ unused) consumed
-    (λ rest. (coming l (unused ++ rest), ap tokens_of (append_assoc u unused rest) ∙ stands.tokens (unused ++ rest) (follows_first unused rest)))
-decides true l unused u given d consumed (left, none, all) =
-    let is : u ++ unused ≡ u = ap (λ (l : List ℕ). u ++ l) none ∙ append-nil u in
-    Decides.at_end u (subst (Consumes d.before d.after) is consumed) all (coming l [], left)
+decides : (r : Reading) (given : List Token) (d : Device) → HasCome d.before d.after r given → Decides d given
+decides r given d h = by_end r.has_ended h.stands
+  where
+    by_end : (e : Bool) → StandsIn e r h.bytes given d.before → Decides d given
+    by_end false stands =
+        Decides.so_far h.bytes h.consumed
+        (λ rest. (
+          coming r.converter.lexer (r.unused ++ rest),
+          ap tokens_of (ap (λ (l : List ℕ). l ++ rest) stands.bytes ∙ append_assoc stands.used r.unused rest)
+              ∙ stands.lexer.tokens (r.unused ++ rest) (follows_first r.unused rest),
+        ))
+    by_end true (left, count, text_is) = Decides.at_end h.bytes h.consumed text_is (coming r.converter.lexer [], left)
 
-given_first : (q : Profile) (told : Option CodeMark) (left_old left_now : Option (List ℕ)) (s : Pass) (given : List Token)
-    → HasGiven q told left_old left_now s given → IfSome left_old (Begins given)
-given_first q told left_old left_now s given h = begins s.has_ended s.lexer s.unused h.bytes given left_old left_now h.consumed h.stands
-
-pub both_none : (q : Profile) (first second : Option (List ℕ)) (a b : Pass) (o : Option (List ℕ))
-    → HasGiven q None first first a [] → HasGiven q None second second b [] → BothSoFar q first first second second a b o o
+pub both_none : (q : Profile) (first second : Option (List ℕ)) (a b : Reading) (o : Option (List ℕ))
+    → HasGiven q first first a [] → HasGiven q second second b [] → BothSoFar q first first second second a b o o
 both_none q first second a b o first_given second_given =
     record {
       marks = [];
       first_tokens = [];
       first_stands = record { has_given = first_given; between = refl };
       marked = λ ts. refl;
-      told = None;
       second_tokens = [];
       second_stands = record { has_given = second_given; between = refl };
       matched = λ ns ts. refl;
@@ -89,32 +77,27 @@ written_at_token q m ms games t (whole g) takes same =
     let marker = (bytes_eq-Decides g.marker m.text).0 (and_parts _ _ (not-false _ same)).0 in
     cc (torn-between q ms, append-nil (text_of q (games ++ g ∷ [])), text_of-snoc q games g, under_mark q g m takes marker)
 
-pub both_more : (q : Profile) (first_old first_now second_old second_now : Option (List ℕ)) (a b : Pass)
+pub both_more : (q : Profile) (first_old first_now second_old second_now : Option (List ℕ)) (a b : Reading)
     (before mid : Option (List ℕ)) (so : BothSoFar q first_old first_now second_old second_now a b before mid)
-    (m x : CodeMark) (new_a new_b : Pass) (first_new second_new after : Option (List ℕ))
-    → ReadsToLast q None first_old first_new so.first_tokens (Ok (GameEnd m)) new_a None None
-    → ReadsToLast q (Some m) second_old second_new so.second_tokens (Ok (GameEnd x)) new_b mid after
+    (m : CodeMark) (new_a new_b : Reading) (first_new second_new after : Option (List ℕ))
+    → GameRead q first_old first_new so.first_tokens m new_a
+    → GameWritten q second_old second_new so.second_tokens m new_b mid after
     → BothSoFar q first_old first_new second_old second_new new_a new_b before after
-both_more q first_old first_now second_old second_now a b before mid so m x new_a new_b first_new second_new after reads writes =
+both_more q first_old first_now second_old second_now a b before mid so m new_a new_b first_new second_new after reads writes =
     record {
       marks = so.marks ++ model_mark m ∷ [];
-      first_tokens = tokens_read q None first_old first_new so.first_tokens m new_a None None reads;
-      first_stands = stands q None first_old first_new so.first_tokens m new_a None None reads;
-      marked = game_marked q None first_old first_new so.first_tokens m new_a None None reads so.marks so.marked;
-      told = Some m;
-      second_tokens = tokens_read q (Some m) second_old second_new so.second_tokens x new_b mid after writes;
-      second_stands = stands q (Some m) second_old second_new so.second_tokens x new_b mid after writes;
-      matched = game_matched q (Some m) second_old second_new so.second_tokens x new_b mid after writes m refl
-          (so.marks ++ model_mark m ∷ []) (matched_mark q so.marks (model_mark m) so.second_tokens so.matched);
+      first_tokens = reads.tokens;
+      first_stands = reads.stands;
+      marked = reads.marked so.marks so.marked;
+      second_tokens = writes.tokens;
+      second_stands = writes.stands;
+      matched = writes.matched (so.marks ++ model_mark m ∷ []) (matched_mark q so.marks (model_mark m) so.second_tokens so.matched);
       written = subst (Appends before after)
-          (sym (ap (text_of q) (one_game q (Some m) second_old second_new so.second_tokens x new_b mid after writes)
-          ∙ text_of-snoc q (read q so.second_tokens).progress.games
-          (game q (Some m) second_old second_new so.second_tokens x new_b mid after writes)))
-          (Appends-trans before mid after _ _ so.written
-          (game_written q (Some m) second_old second_new so.second_tokens x new_b mid after writes m refl));
+          (sym (ap (text_of q) writes.one_game ∙ text_of-snoc q (read q so.second_tokens).progress.games writes.game))
+          (Appends-trans before mid after _ _ so.written writes.written);
     }
 
-module _ (q : Profile) (first second sink : Device) (first_now : Option (List ℕ)) (a b : Pass)
+module _ (q : Profile) (first second sink : Device) (first_now : Option (List ℕ)) (a b : Reading)
     (so : BothSoFar q first.before first_now second.before second.after a b sink.before sink.after) where
   abbrev at_mark : Comparison
   at_mark = record { progress = (read q so.second_tokens).progress; marks_left = []; fault = None }
@@ -129,7 +112,7 @@ module _ (q : Profile) (first second sink : Device) (first_now : Option (List �
   written = subst (HasTaken sink) (sym (append-nil (text_of q (read q so.second_tokens).progress.games))) so.written
 
   second_begins : IfSome second.before (Begins so.second_tokens)
-  second_begins = given_first q so.told second.before second.after b so.second_tokens so.second_stands.has_given
+  second_begins = begins second.before second.after b so.second_tokens so.second_stands.has_given.come
 
   converted : (s r : List ℕ) (o : Option Fault) → compared q (tokens_of s) (tokens_of r) ≡ at_mark → (read q (tokens_of s)).fault ≡ o
       → AreConverted q s r (verdict_of (record { progress = (read q so.second_tokens).progress; fault = o })) sink
@@ -139,30 +122,29 @@ module _ (q : Profile) (first second sink : Device) (first_now : Option (List �
     subst (λ (f : Comparison). HasTaken sink (written_by q f)) (sym is) written,
   )
 
-  pub both_end : (new_a : Pass) (left_new : Option (List ℕ)) (t : Totals) → ReadsToLast q None first.before left_new so.first_tokens
-      (Ok End) new_a None None → t.games ≡ b.games → t.plies ≡ whole_plies b.reading
-      → t.most_probes ≡ max new_a.reading.most_probes b.reading.most_probes
-      → new_a.reading.most_probes ≤ 1040 → b.reading.most_probes ≤ 1040 → TwoReadingsConvert q first second sink (Ok t)
-  both_end new_a left_new t reads games plies probes first_bound second_bound =
-      let end = reads.last.1 in
-      let tokens = reads.so.tokens ++ reads.last.0 ∷ [] in
+  pub both_end : (new_a : Reading) (t : Totals) → AllRead q first.before so.first_tokens new_a
+      → t.games ≡ b.converter.games → t.plies ≡ whole_plies b.converter.reading
+      → t.most_probes ≡ max new_a.converter.reading.most_probes b.converter.reading.most_probes
+      → new_a.converter.reading.most_probes ≤ 1040 → b.converter.reading.most_probes ≤ 1040 → TwoReadingsConvert q first second sink (Ok t)
+  both_end new_a t reads games plies probes first_bound second_bound =
+      let tokens = reads.tokens in
       let h = so.second_stands.has_given.has_read in
       let c : Progress = (read q so.second_tokens).progress in
       let same : totals (record { games = length c.games; plies = sum (map plies_of c.games) }) ≡ verdict_in t =
       ap (λ n. totals (record { games = n; plies = sum (map plies_of c.games) })) (sym (games ∙ h.games))
       ∙ ap (λ n. totals (record { games = t.games; plies = n })) (sym (plies ∙ h.plies)) in
       both_known first.before second.before (λ s. tokens_of s ≡ tokens)
-      (Begins so.second_tokens) (λ s r. AreTotalled q s r t sink) (end.whole refl) second_begins
+      (Begins so.second_tokens) (λ s r. AreTotalled q s r t sink) reads.whole second_begins
       (λ s r x y.
       let is = last_mark (tokens_of s) (tokens_of r) tokens [] y.0 (x ∙ sym (append-nil tokens)) y.1
-      (end_marked q None first.before left_new so.first_tokens new_a None None so.marks reads so.marked) refl in
+      (reads.marked so.marks so.marked) refl in
       record {
         converted = subst (λ v. AreConverted q s r v sink) same
-            (converted s r None is (ap (λ (ts : List Token). (read q ts).fault) x ∙ end.has_read.passes));
+            (converted s r None is (ap (λ (ts : List Token). (read q ts).fault) x ∙ reads.has_read.passes));
         probes = record {
           most = omega (arith, probes, first_bound, second_bound);
           some = λ moves.
-              let some : 0 < b.reading.most_probes =
+              let some : 0 < b.converter.reading.most_probes =
               h.probed (in_games c (subst (λ (f : Comparison). IsTrue (play_moves f.progress.games)) is moves)) in
               omega (arith, probes, some);
           tried = record {
@@ -171,9 +153,9 @@ module _ (q : Profile) (first second sink : Device) (first_now : Option (List �
             cut = y.1;
             passes = h.passes;
             same = sym (ap (λ (f : Comparison). f.progress) is);
-            most_of_first = new_a.reading.most_probes;
-            most_of_second = b.reading.most_probes;
-            first_tried = subst (λ (ts : List Token). MostTried q ts new_a.reading.most_probes) (sym x) end.has_read.tried;
+            most_of_first = new_a.converter.reading.most_probes;
+            most_of_second = b.converter.reading.most_probes;
+            first_tried = subst (λ (ts : List Token). MostTried q ts new_a.converter.reading.most_probes) (sym x) reads.has_read.tried;
             second_tried = h.tried;
             greater = probes;
           };
@@ -203,12 +185,10 @@ module _ (q : Profile) (first second sink : Device) (first_now : Option (List �
   first_unread tokens passes marked counts (ReadFails.too_long u rest consumed place some is_decided) =
       TwoReadingsFail.first_too_long u rest consumed place some (ends_first tokens u passes marked is_decided)
 
-  first_at : (f : Fault) (tokens : List Token) (t : Token) (a c : Option (List ℕ))
-      → (read q tokens).fault ≡ None → HasMarked q tokens so.marks → ComesNext first.before tokens t
-      → TokenFails q (part_after q tokens) None t a c f → (f.reason ≡ WriteFault → ⊥) → TwoReadingsFail q first second sink f
-  first_at f tokens t a c passes marked comes (other reason changed differs told wrote) no_write = absurd (cc)
-  first_at f tokens t a c passes marked comes (unwritten same wrote) no_write = absurd (no_write refl)
-  first_at f tokens t a c passes marked comes (refused reason rejected wrote) no_write =
+  first_at : (tokens : List Token) (t : Token) (reason : Reason) → (read q tokens).fault ≡ None → HasMarked q tokens so.marks
+      → ComesNext first.before tokens t → refusal q (part_after q tokens) t.kind ≡ Some reason
+      → TwoReadingsFail q first second sink (record { at = t.at; reason = reason })
+  first_at tokens t reason passes marked comes rejected =
       let f : Fault = record { at = t.at; reason = reason } in
       let c : Progress = (read q tokens).progress in
       TwoReadingsFail.refused f
@@ -220,21 +200,19 @@ module _ (q : Profile) (first second sink : Device) (first_now : Option (List �
       converted s r (Some f) is
       (ap (λ (ts : List Token). (read q ts).fault) x.1 ∙ ap (λ (r : Read). r.fault) (read-refuses q tokens t x.0 reason passes rejected))))
 
-  pub first_stops : (f : Fault) (new_a : Pass) → (f.reason ≡ ReadFault → FailsOnce first) → (f.reason ≡ WriteFault → ⊥)
-      → ReadsToLast q None first.before first.after so.first_tokens (Err f) new_a None None → TwoReadingsFail q first second sink f
-  first_stops f new_a counts no_write r = by_last r.last
+  pub first_stops : (f : Fault) → (f.reason ≡ ReadFault → FailsOnce first) → FirstFails q first.before first.after so.first_tokens f
+      → TwoReadingsFail q first second sink f
+  first_stops f counts r = by_why f counts r.why
     where
-      passes : (read q r.so.tokens).fault ≡ None
-      passes = r.so.has_given.has_read.passes
+      by_why : (g : Fault) → (g.reason ≡ ReadFault → FailsOnce first) → WhyFirst q first.before first.after r.tokens g
+          → TwoReadingsFail q first second sink g
+      by_why g counts (readings.refused t reason comes rejected) = first_at r.tokens t reason r.passes (r.marked so.marks so.marked) comes rejected
+      by_why g counts (readings.unread h fails) = first_unread r.tokens r.passes (r.marked so.marks so.marked) counts fails
 
-      by_last : AfterStep q first.before first.after None r.so.tokens new_a (Err f) r.mid None → TwoReadingsFail q first second sink f
-      by_last (inl fails) = first_at f r.so.tokens fails.token r.mid None passes (r.so.marked so.marks so.marked) fails.comes fails.fails no_write
-      by_last (inr (fails, wrote)) = first_unread r.so.tokens passes (r.so.marked so.marks so.marked) counts fails
-
-module _ (q : Profile) (first second sink : Device) (first_now second_now mid : Option (List ℕ)) (a b : Pass)
-    (so : BothSoFar q first.before first_now second.before second_now a b sink.before mid) (m : CodeMark) (new_a new_b : Pass) (e : Fault)
-    (reads : ReadsToLast q None first.before first.after so.first_tokens (Ok (GameEnd m)) new_a None None)
-    (writes : ReadsToLast q (Some m) second.before second.after so.second_tokens (Err e) new_b mid sink.after) where
+module _ (q : Profile) (first second sink : Device) (first_now second_now mid : Option (List ℕ)) (a b : Reading)
+    (so : BothSoFar q first.before first_now second.before second_now a b sink.before mid) (m : CodeMark) (new_a : Reading) (f : Fault)
+    (reads : GameRead q first.before first.after so.first_tokens m new_a)
+    (writes : SecondFails q second.before second.after so.second_tokens m f mid sink.after) where
   abbrev mark : Mark
   mark = model_mark m
 
@@ -242,37 +220,34 @@ module _ (q : Profile) (first second sink : Device) (first_now second_now mid : 
   under = with_mark q mark
 
   abbrev tokens : List Token
-  tokens = writes.so.tokens
+  tokens = writes.tokens
 
   abbrev c : Progress
   c = (read q tokens).progress
 
   abbrev first_tokens : List Token
-  first_tokens = tokens_read q None first.before first.after so.first_tokens m new_a None None reads
+  first_tokens = reads.tokens
 
   -- the marks behind this one
   abbrev behind : List Token → List Mark
   behind vs = marks_from q (read q first_tokens).progress vs
 
-  first_given : HasGiven q None first.before first.after new_a first_tokens
-  first_given = (stands q None first.before first.after so.first_tokens m new_a None None reads).has_given
-
   first_decides : Decides first first_tokens
-  first_decides = decides new_a.has_ended new_a.lexer new_a.unused first_given.bytes first_tokens first first_given.consumed first_given.stands
+  first_decides = decides new_a first_tokens first reads.stands.has_given.come
 
   goes : (xs us vs ws : List Token) → xs ≡ first_tokens ++ vs → us ≡ tokens ++ ws
       → compared q xs us ≡ compared_from q (mark ∷ behind vs) c ws
   goes xs us vs ws is also =
       ap (λ (l : List Token). compared q l us) is ∙ ap (compared q (first_tokens ++ vs)) also
       ∙ both_read q first_tokens tokens vs ws (so.marks ++ mark ∷ []) (mark ∷ [])
-      (game_marked q None first.before first.after so.first_tokens m new_a None None reads so.marks so.marked)
-      (writes.so.matched m (so.marks ++ mark ∷ []) refl (matched_mark q so.marks mark so.second_tokens so.matched))
+      (reads.marked so.marks so.marked)
+      (writes.matched (so.marks ++ mark ∷ []) (matched_mark q so.marks mark so.second_tokens so.matched))
 
   -- what is written of this game stands behind the games
   all_written : (text : List ℕ) → Appends writes.mid sink.after text → HasTaken sink (text_of q c.games ++ (torn under c.part ++ text))
   all_written text wrote =
-      subst (λ (games : List Game). HasTaken sink (text_of q games ++ (torn under c.part ++ text))) (sym writes.so.no_game)
-      (Appends-trans sink.before mid sink.after _ _ so.written (Appends-trans mid writes.mid sink.after _ _ writes.so.appended wrote))
+      subst (λ (games : List Game). HasTaken sink (text_of q games ++ (torn under c.part ++ text))) (sym writes.no_game)
+      (Appends-trans sink.before mid sink.after _ _ so.written (Appends-trans mid writes.mid sink.after _ _ writes.wrote wrote))
 
   torn_written : Appends writes.mid sink.after [] → HasTaken sink (text_of q c.games ++ torn under c.part)
   torn_written wrote = subst (λ l. HasTaken sink (text_of q c.games ++ l)) (append-nil (torn under c.part)) (all_written [] wrote)
@@ -313,7 +288,7 @@ module _ (q : Profile) (first second sink : Device) (first_now second_now mid : 
       goes first_tokens (tokens ++ t ∷ []) [] (t ∷ []) none refl ∙ change_test q mark [] c t [] ∙ ap (after_change q mark [] c t []) same in
       let text : written_by q (compared q first_tokens (tokens ++ t ∷ [])) ≡ (games ++ before_it) ++ more =
       ap (written_by q) at_token
-      ∙ written_at_token q mark [] c.games t (next c.part t.kind) writes.so.has_given.takes (not_changed q mark c.part t same).1
+      ∙ written_at_token q mark [] c.games t (next c.part t.kind) so.second_stands.has_given.takes (not_changed q mark c.part t same).1
       ∙ ap (λ (l : List ℕ). games ++ l) (next_is under c.part t.kind) ∙ sym (append_assoc games before_it more) in
       let front : games ++ (before_it ++ take n more) ≡ take (length (games ++ before_it) + n) ((games ++ before_it) ++ more) =
       sym (append_assoc games before_it (take n more)) ∙ sym (take-append-add (games ++ before_it) more n) in
@@ -340,7 +315,7 @@ module _ (q : Profile) (first second sink : Device) (first_now second_now mid : 
       let f : Fault = record { at = t.at; reason = Changed } in
       TwoReadingsFail.refused f
       (both_known first.before second.before (Begins first_tokens) (λ r. (us : List Token) × (tokens_of r ≡ tokens ++ t ∷ us))
-      (λ s r. AreConverted q s r (is_refused f) sink) (given_first q None first.before first.after new_a first_tokens first_given) comes
+      (λ s r. AreConverted q s r (is_refused f) sink) (begins first.before first.after new_a first_tokens reads.stands.has_given.come) comes
       (λ s r x y.
       let is : compared q (tokens_of s) (tokens_of r) ≡ record { progress = c; marks_left = mark ∷ behind x.0; fault = Some f } =
       goes (tokens_of s) (tokens_of r) x.0 (t ∷ y.0) x.1 y.1 ∙ change_test q mark (behind x.0) c t y.0
@@ -349,24 +324,15 @@ module _ (q : Profile) (first second sink : Device) (first_now second_now mid : 
         subst (λ (z : Comparison). HasTaken sink (written_by q z)) (sym is) (torn_written wrote),
       )))
 
-  second_at : {f : Fault} (t : Token) → ComesNext second.before tokens t
-      → TokenFails q c.part (Some m) t writes.mid sink.after f → TwoReadingsFail q first second sink (as_changed f)
-  second_at t comes (refused reason some wrote) =
-      subst (λ r. TwoReadingsFail q first second sink (record { at = t.at; reason = r }))
-      (sym (changes reason (refusals_are_inside q c.part t.kind reason some)))
-      (second_differs t comes (ap (λ (o : Option Reason). is_some o || is_other mark (next c.part t.kind) t) some) wrote)
-  second_at t comes (other reason changed differs told wrote) =
-      subst (λ r. TwoReadingsFail q first second sink (record { at = t.at; reason = r })) (sym changed) (second_differs t comes differs wrote)
-  second_at t comes (unwritten same (n, short, wrote)) =
-      TwoReadingsFail.unwritten t.at
-      (IfSome_then second.before {P = λ r. (us : List Token) × (tokens_of r ≡ tokens ++ t ∷ us)}
-      {Q = λ r. WriteStops q first (tokens_of r) t.at sink} comes
-      (stops_at t same n short wrote))
-
-  pub second_stops : (changed_reason e.reason ≡ ReadFault → FailsOnce second) → TwoReadingsFail q first second sink (as_changed e)
-  second_stops counts = by_last writes.last
+  pub second_stops : (f.reason ≡ ReadFault → FailsOnce second) → TwoReadingsFail q first second sink f
+  second_stops counts = by_why f counts writes.why
     where
-      by_last : AfterStep q second.before second.after (Some m) tokens new_b (Err e) writes.mid sink.after
-          → TwoReadingsFail q first second sink (as_changed e)
-      by_last (inl fails) = second_at fails.token fails.comes fails.fails
-      by_last (inr (fails, wrote)) = second_unread fails counts wrote
+      by_why : (g : Fault) → (g.reason ≡ ReadFault → FailsOnce second) → WhySecond q second.before second.after tokens m writes.mid sink.after g
+          → TwoReadingsFail q first second sink g
+      by_why g counts (readings.differs t comes changed wrote) = second_differs t comes changed wrote
+      by_why g counts (readings.unwritten t comes same (n, short, wrote)) =
+          TwoReadingsFail.unwritten t.at
+          (IfSome_then second.before {P = λ r. (us : List Token) × (tokens_of r ≡ tokens ++ t ∷ us)}
+          {Q = λ r. WriteStops q first (tokens_of r) t.at sink} comes
+          (stops_at t same n short wrote))
+      by_why g counts (readings.unread e fails wrote) = second_unread fails counts wrote

@@ -1,7 +1,6 @@
-use Rattle.pgn_game.proofs.Words.{Fault, ◌-◌, max, refl, ap, ◌∙◌, arith, err_from_is_err_and, device, one_more, checked_profile, Pass}
-use Rattle.pgn_game.proofs.twice.FailuresOfSteps.{first_counts, no_write, second_counts, source_fails}
+use Rattle.pgn_game.proofs.Words.{◌-◌, max, refl, ap, ◌∙◌, arith, err_from_is_err_and, device, one_more, checked_profile}
+use Rattle.pgn_game.proofs.twice.FailuresOfSteps.{first_counts, second_counts, source_fails}
 use Rattle.pgn_game.proofs.twice.ReadingsToConversion.{both_end, both_more, both_none, first_stops, second_stops}
-use Rattle.pgn_game.proofs.ReaderFitsInMemory.{pass_fits_reader}
 use Rattle.pgn_game.proofs.checked.convert_checked.Goals as goal
 
 pub loop-mark-init : goal.loop-mark-init
@@ -25,22 +24,22 @@ returns-in_err-mark-clause-converts g c =
     (first_stops q (device g.Q.Source.left g.Q.Source.failures c.args.first.now c.read_game.new.source)
     (device g.R.Source.left g.R.Source.failures c.args.second.now c.loop-mark.second)
     (device g.W.Sink.taken g.W.Sink.failures c.args.writer.now c.loop-mark.writer) _
-    c.loop-mark.ahead c.loop-mark.behind so.both f c.read_game.new.self
+    c.loop-mark.ahead c.loop-mark.behind so.both f
     (λ is. source_fails f.reason _ _ _ _ c.in_err-mark.ensures.counted is ∙ ap one_more so.first)
-    (no_write f.reason _ _ c.in_err-mark.ensures.counted) (c.in_err-mark.ensures.reads q _ so.both.first_tokens so.both.first_stands))
+    (c.in_err-mark.ensures.reads q _ so.both.first_tokens so.both.first_stands))
 
-pub returns-in_default-clause-converts : goal.returns-in_default-clause-converts
-returns-in_default-clause-converts g c =
+pub returns-clause-converts : goal.returns-clause-converts
+returns-clause-converts g c =
     let q = checked_profile g.row.T (g.row.L - 1) c.args.mode in
     let x = c.loop-mark.invariant.both in
     let reads = rw c.in_default.is at c.in_ok-mark.ensures.reads in
-    let tried = c.most_probes.ensures.value ∙ ap (λ (s : Pass). s.reading.most_probes) c.ahead.view_is in
     both_end q (device g.Q.Source.left g.Q.Source.failures c.args.first.now c.read_game.new.source)
     (device g.R.Source.left g.R.Source.failures c.args.second.now c.loop-mark.second)
     (device g.W.Sink.taken g.W.Sink.failures c.args.writer.now c.loop-mark.writer) _
-    c.loop-mark.ahead c.loop-mark.behind x c.read_game.new.self _ c.totals.result
+    c.loop-mark.ahead c.loop-mark.behind x c.read_game.new.self c.totals.result
     (reads q _ x.first_tokens x.first_stands) c.totals.ensures.games c.totals.ensures.plies
-    (c.totals.ensures.probes ∙ ap (λ n. max n c.loop-mark.behind.reading.most_probes) tried) (omega (arith, tried, c.most_probes.ensures.bound))
+    (c.totals.ensures.probes ∙ ap (λ n. max n c.loop-mark.behind.converter.reading.most_probes) c.most_probes.ensures.value)
+    (omega (arith, c.most_probes.ensures.value, c.most_probes.ensures.bound))
     (omega (arith, c.totals.ensures.probes, c.totals.ensures.bound))
 
 pub loop-mark-preserved : goal.loop-mark-preserved
@@ -49,16 +48,16 @@ loop-mark-preserved g c =
     let so = c.loop-mark.invariant in
     let x = so.both in
     let goes_on = rw c.in-Some.is at c.in_ok-mark.ensures.going in
-    let second = c.in_ok-write_game.ensures.writes q x.told _ x.second_tokens x.second_stands in
     record {
-      first_going = goes_on.going;
-      second_going = second.2;
+      first_going = goes_on.0;
+      second_going = c.in_ok-write_game.ensures.going;
       first = c.in_ok-mark.ensures.counted.0 ∙ so.first;
       second = c.in_ok-write_game.ensures.counted.0 ∙ so.second;
       sink = c.in_ok-write_game.ensures.counted.1 ∙ so.sink;
       both =
-          both_more q _ _ _ _ c.loop-mark.ahead c.loop-mark.behind _ _ x c.in-Some.mark second.0 c.read_game.new.self c.write_game.new.self _ _ _
-          ((rw c.in-Some.is at c.in_ok-mark.ensures.reads) q _ x.first_tokens x.first_stands) second.1;
+          both_more q _ _ _ _ c.loop-mark.ahead c.loop-mark.behind _ _ x c.in-Some.mark c.read_game.new.self c.write_game.new.self _ _ _
+          ((rw c.in-Some.is at c.in_ok-mark.ensures.reads) q _ x.first_tokens x.first_stands)
+          (c.in_ok-write_game.ensures.writes q _ x.second_tokens x.second_stands);
     }
 
 pub returns-in_err-write_game-clause-converts : goal.returns-in_err-write_game-clause-converts
@@ -68,16 +67,14 @@ returns-in_err-write_game-clause-converts g c =
     let x = so.both in
     let reads = rw c.in-Some.is at c.in_ok-mark.ensures.reads in
     let f = c.in_err-write_game.field-0.0 in
-    let second = c.in_err-write_game.ensures.writes q x.told _ x.second_tokens x.second_stands in
     let e = err_from_is_err_and c.from_residual-in_err-write_game.result c.from_residual-in_err-write_game.ensures.1 in
-    rw (e.1, e.2, second.2)
+    rw (e.1, e.2)
     (second_stops q (device g.Q.Source.left g.Q.Source.failures c.args.first.now c.read_game.new.source)
     (device g.R.Source.left g.R.Source.failures c.args.second.now c.write_game.new.source)
     (device g.W.Sink.taken g.W.Sink.failures c.args.writer.now c.write_game.new.out) _ _ _
-    c.loop-mark.ahead c.loop-mark.behind x c.in-Some.mark c.read_game.new.self c.write_game.new.self second.0
-    (reads q _ x.first_tokens x.first_stands) second.1
-    (λ is. source_fails f.reason _ _ _ _ c.in_err-write_game.ensures.counted (ap (λ (x : Fault). x.reason) second.2 ∙ is)
-    ∙ ap one_more so.second))
+    c.loop-mark.ahead c.loop-mark.behind x c.in-Some.mark c.read_game.new.self f
+    (reads q _ x.first_tokens x.first_stands) (c.in_err-write_game.ensures.writes q _ x.second_tokens x.second_stands)
+    (λ is. source_fails f.reason _ _ _ _ c.in_err-write_game.ensures.counted is ∙ ap one_more so.second))
 
 pub returns-in_err-write_game-clause-counted : goal.returns-in_err-write_game-clause-counted
 returns-in_err-write_game-clause-counted g c =
@@ -108,10 +105,10 @@ write_game-requires g c = (c.requires.memory, c.loop-mark.invariant.second_going
 pub loop-mark-smaller : goal.loop-mark-smaller
 loop-mark-smaller g c =
     let goes_on = rw c.in-Some.is at c.in_ok-mark.ensures.going in
-    goes_on.fewer
+    omega (arith, goes_on.1, goes_on.2)
 
-pub returns-in_default-clause-counted : goal.returns-in_default-clause-counted
-returns-in_default-clause-counted g c =
+pub returns-clause-counted : goal.returns-clause-counted
+returns-clause-counted g c =
     let so = c.loop-mark.invariant in
     (c.in_ok-mark.ensures.counted.0 ∙ so.first, so.second, so.sink)
 
@@ -122,9 +119,7 @@ pub new-behind-requires : goal.new-behind-requires
 new-behind-requires g c = (c.requires.memory, c.requires.levels)
 
 pub most_probes-requires : goal.most_probes-requires
-most_probes-requires g c = search pass_fits_reader
+most_probes-requires g c = c.requires.memory
 
 pub totals-requires : goal.totals-requires
-totals-requires g c =
-    let going = c.loop-mark.invariant.second_going in
-    (c.requires.memory, (omega (arith, going.few_plies, going.room), c.most_probes.ensures.bound))
+totals-requires g c = (c.requires.memory, (c.loop-mark.invariant.second_going, c.most_probes.ensures.bound))

@@ -1,4 +1,4 @@
-use Rattle.pgn_game.proofs.Words.{◌≡◌, ◌-◌, checked_profile, BothSoFar, IsGoing, steps_left}
+use Rattle.pgn_game.proofs.Words.{◌≡◌, ◌-◌, checked_profile, ◌^◌, BothSoFar, IsGoing}
 use Rattle.pgn_game.proofs.checked.convert_checked.Given as goal
 
 abbrev pub invariant-loop-mark : goal.invariant-loop-mark
@@ -15,4 +15,4 @@ invariant-loop-mark g l =
     }
 
 abbrev pub decreases-loop-mark : goal.decreases-loop-mark
-decreases-loop-mark g l = steps_left l.ahead
+decreases-loop-mark g l = 2 ^ 64 - l.ahead.converter.games

@@ -1,49 +1,61 @@
 use Rattle.std.specs.Result.{is_ok}
-use Rattle.pgn_game.proofs.Words.{◌≡◌, Bool, true, Result, Fault, IfOk, refl, sym, ap, subst, ◌∙◌, err_from_is_err_and, false≢true}
+use Rattle.pgn_game.proofs.Words.{ap, err_from_is_err_and, false≢true, sym, ◌∙◌}
 use Rattle.pgn_game.proofs.ReaderFitsInMemory.{fits_alike}
 use Rattle.pgn_game.proofs.games.feed_rest.Goals as goal
 
-pub feed-requires : goal.feed-requires
-feed-requires g c = (search fits_alike, c.requires.not_finished)
-
-pub skip-requires : goal.skip-requires
-skip-requires g c = rw (c.in-Game.is, c.unused.ensures) at c.in_ok-feed.ensures.used
+pub feed_to_marker-requires : goal.feed_to_marker-requires
+feed_to_marker-requires g c = (search fits_alike, c.requires.not_finished)
 
 pub returns-in-All : goal.returns-in-All
 returns-in-All g c =
+    let fed = c.in_ok-feed_to_marker.ensures in
     record {
-      feeds = (c.clear.ensures, rw (c.in-All.is, c.unused.ensures) at c.in_ok-feed.ensures.feeds);
-      game = rw (c.in-All.is, c.unused.ensures) at c.in_ok-feed.ensures.count;
-      short = c.in_ok-feed.ensures.short;
-      kept =
-          let games = rw c.in-All.is at c.in_ok-feed.ensures.games in
-          λ same. games.0;
-      not_finished = c.feed.ensures.not_finished;
-      fault = c.in_ok-feed.ensures.fault;
-      counted = c.in_ok-feed.ensures.counted c.requires.no_fault;
+      feeds = (c.clear.ensures, rw (c.in-All.is, c.unused.ensures) at fed.feeds);
+      used =
+          let count = rw (c.in-All.is, c.unused.ensures) at fed.count in
+          λ same. count;
+      ready = tt;
+      short = fed.short;
+      written = fed.written;
+      not_finished = fed.not_finished;
+      fault = fed.fault;
+      games = fed.games;
+      none_just_finished = fed.none_just_finished;
+      probes = fed.probes;
+      counted = fed.counted c.requires.no_fault;
     }
 
-pub returns-in-Game : goal.returns-in-Game
-returns-in-Game g c =
+pub returns-in-Marker : goal.returns-in-Marker
+returns-in-Marker g c =
+    let fed = c.in_ok-feed_to_marker.ensures in
     record {
-      feeds = (c.in-Game.used, c.skip.ensures, rw (c.in-Game.is, c.unused.ensures) at c.in_ok-feed.ensures.feeds);
-      game = rw c.in-Game.is at c.in_ok-feed.ensures.games;
-      short = c.in_ok-feed.ensures.short;
-      kept = λ same. absurd (false≢true (subst (λ (r : Result Bool Fault). IfOk r (λ b. b ≡ true)) same refl));
-      not_finished = c.feed.ensures.not_finished;
-      fault = c.in_ok-feed.ensures.fault;
-      counted = c.in_ok-feed.ensures.counted c.requires.no_fault;
+      feeds = (c.in-Marker.used, c.skip.ensures, rw (c.in-Marker.is, c.unused.ensures) at fed.feeds);
+      used = λ same. absurd (cc);
+      ready = rw c.in-Marker.is at fed.ready;
+      short = fed.short;
+      written = fed.written;
+      not_finished = fed.not_finished;
+      fault = fed.fault;
+      games = fed.games;
+      none_just_finished = fed.none_just_finished;
+      probes = fed.probes;
+      counted = fed.counted c.requires.no_fault;
     }
 
-pub returns-in_err-feed : goal.returns-in_err-feed
-returns-in_err-feed g c =
+pub returns-in_err-feed_to_marker : goal.returns-in_err-feed_to_marker
+returns-in_err-feed_to_marker g c =
     let e = err_from_is_err_and c.from_residual.result c.from_residual.ensures.1 in
+    let fed = c.in_err-feed_to_marker.ensures in
     record {
-      feeds = rw (e.1, e.2) (rw c.unused.ensures at c.in_err-feed.ensures.feeds);
-      game = rw e.1 tt;
+      feeds = rw (e.1, e.2) (rw c.unused.ensures at fed.feeds);
+      used = λ same. absurd (false≢true (ap is_ok (sym e.1 ∙ same)));
+      ready = rw e.1 tt;
       short = rw e.1 tt;
-      kept = λ same. absurd (false≢true (ap is_ok (sym e.1 ∙ same)));
-      not_finished = c.feed.ensures.not_finished;
-      fault = rw (e.1, e.2) c.in_err-feed.ensures.fault;
-      counted = rw (e.1, e.2) (c.in_err-feed.ensures.counted c.requires.no_fault);
+      written = fed.written;
+      not_finished = fed.not_finished;
+      fault = rw (e.1, e.2) fed.fault;
+      games = fed.games;
+      none_just_finished = rw e.1 tt;
+      probes = fed.probes;
+      counted = rw (e.1, e.2) (fed.counted c.requires.no_fault);
     }

@@ -1,4 +1,4 @@
-use Rattle.pgn_game.proofs.Words.{◌-◌, [], arith, refl, sym, ap, subst, no_progress, no_part, ReaderState, Agrees, IsKnown, whole_plies}
+use Rattle.pgn_game.proofs.Words.{◌-◌, [], arith, refl, sym, ap, subst, no_progress, no_part, ReaderState, Agrees, whole_plies}
 use Rattle.pgn_game.proofs.Words.{profile_of, false≢true}
 use Rattle.pgn_game.specs.MostTried.{MostTried, none}
 use Rattle.pgn_game.proofs.ReaderFitsInMemory.{fits_reader}
@@ -11,6 +11,7 @@ returns g c =
       stands =
           let is = c.new.ensures in
           record {
+            known = refl;
             lexer = c.begin_at.ensures.stands;
             has_read = record {
               profile = ap (λ (r : ReaderState). r.profile) is;
@@ -37,4 +38,3 @@ invariant_of-result g c =
     let is = c.new.ensures in
     sound_at_start c.begin_at.result c.new.result (omega (arith, c.begin_at.ensures.count, c.requires.place))
     (ap (λ (r : ReaderState). r.earlier_plies) is) (ap (λ (r : ReaderState). r.text.plies) is)
-    (subst (λ (r : ReaderState). IsKnown r.profile) (sym is) refl)

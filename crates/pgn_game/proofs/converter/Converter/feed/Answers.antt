@@ -1,173 +1,103 @@
-use Rattle.pgn_game.proofs.Words.{◌≡◌, ℕ, ◌+◌, ◌≤◌, ◌-◌, ◌^◌, List, length, take, arith, sym, ap, ◌∙◌, le_refl}
-use Rattle.pgn_game.proofs.Words.{length-take, none-some, err_from_is_err_and, Converter, at_token, Err, same_Some, refl}
+use Rattle.pgn_game.proofs.Words.{arith, ap, le_trans, none-some, same_Some, sym, ◌∙◌, Converter, Err, Standing, err_from_is_err_and, at_token}
 use Rattle.pgn_game.proofs.ReaderFitsInMemory.{fits_alike}
-use Rattle.pgn_game.proofs.tokens.StepsAtEnd.{none_by_fault, not_just_finished, sound_behind_fault}
-use Rattle.pgn_game.proofs.tokens.StepsInPiece.{follows_front, front_all, front_game, front_fault, front_too_long, limit_left, front_used}
+use Rattle.pgn_game.proofs.tokens.PieceToGame.{reaches, fed_all, fed_game, fed_stops, marker_fails}
 use Rattle.pgn_game.proofs.converter.Converter.feed.Goals as goal
 
--- counts of bytes in the front of a piece
-in_piece : (n k : ℕ) (piece : List ℕ) → n ≤ length (take k piece) → n ≤ length piece
-in_piece n k piece within = omega (arith, within, length-take k piece)
+pub feed_to_marker-requires : goal.feed_to_marker-requires
+feed_to_marker-requires g c = (search fits_alike, c.requires.not_finished)
 
-whole_count : (new old k : ℕ) (piece : List ℕ) → new ≡ old + length (take k piece) → length piece ≤ k → new ≡ old + length piece
-whole_count new old k piece count whole = omega (arith, count, whole, length-take k piece)
+pub end_game-requires : goal.end_game-requires
+end_game-requires g c =
+    let fed = c.feed_to_marker.ensures in
+    let reads = c.in_ok-feed_to_marker.ensures in
+    (search fits_alike, (rw c.in-Marker.is at reads.ready, (reads.fault, (fed.not_finished, fed.none_just_finished))))
 
-stays_short : (new old used now held : ℕ) → new ≡ old + used → used ≤ 2 ^ 62 - now
-    → now ≡ held → held ≤ 2 ^ 62 → held ≡ old → new ≤ 2 ^ 62
-stays_short new old used now held count room is within view = omega (arith, count, room, is, within, view)
-
-limit_at : {place old held now : ℕ} → old ≡ place → held ≡ old → now ≡ held → held ≤ 2 ^ 62 → place + (2 ^ 62 - now) ≡ 2 ^ 62
-limit_at is view count within = omega arith
-
-pub returns-in-Some-clause-feeds : goal.returns-in-Some-clause-feeds
-returns-in-Some-clause-feeds g c = λ p u b given stands follows.
-    absurd (none-some _ (sym stands.has_read.no_fault ∙ ap (λ (s : Converter). s.fault) (sym c.self.view_is) ∙ c.in-Some.is))
-
-pub returns-in-Some-clause-games : goal.returns-in-Some-clause-games
-returns-in-Some-clause-games g c = (
-  refl,
-  ap (λ (s : Converter). s.just_finished) (sym c.self.view_is)
-      ∙ none_by_fault c.self.inside.has_finished_game c.self.inside.reader c.self.invariant.no_fault c.in-Some.is,
-)
-
-pub returns-in-Some-clause-again : goal.returns-in-Some-clause-again
-returns-in-Some-clause-again g c = λ f is.
-    (ap Err (same_Some _ _ (sym c.in-Some.is ∙ ap (λ (s : Converter). s.fault) c.self.view_is ∙ is)), refl, refl)
-
-pub returns-in_err-used : goal.returns-in_err-used
-returns-in_err-used g c =
+pub returns-in_err-feed_to_marker : goal.returns-in_err-feed_to_marker
+returns-in_err-feed_to_marker g c =
     let e = err_from_is_err_and c.from_residual.result c.from_residual.ensures.1 in
-    let fed = c.in_err-used.ensures in
-    let feeds = rw c.within_limit-front.ensures at fed.feeds in
+    let fed = c.feed_to_marker.ensures in
+    let stops = c.in_err-feed_to_marker.ensures in
     rw (e.1, e.2) (record {
       used = tt;
       feeds = λ p u b given stands follows.
-          at_token _ (front_fault p u b given c.args.piece.now _ _ _ _ _ follows
-          (feeds p u b given stands (follows_front b c.args.piece.now _ follows)));
+          fed_stops p stands.known u b given _ c.args.piece.now c.feed_to_marker.new.self.reading _
+          (stops.feeds p u b given (reaches stands) follows);
       count = tt;
       short = tt;
       advances = tt;
-      not_finished = c.feed_front.ensures.not_finished;
-      fault = fed.fault;
-      games = fed.games;
-      probes = c.feed_front.ensures.probes;
-      again = λ f is. absurd (none-some f (sym c.in_default.is ∙ ap (λ (s : Converter). s.fault) c.self.view_is ∙ is));
-      counted = λ free. fed.counted;
+      not_finished = fed.not_finished;
+      fault = stops.fault;
+      games = (fed.games, fed.none_just_finished);
+      probes = fed.probes;
+      again = λ f is.
+          let stays = fed.again f is in
+          (ap Err (same_Some _ _ (sym stops.fault ∙ ap (λ (s : Converter). s.fault) stays.1 ∙ is)), stays.1, stays.2);
+      counted = stops.counted;
     })
 
-pub returns-in-Game : goal.returns-in-Game
-returns-in-Game g c =
-    let piece = c.args.piece.now in
-    let fed = c.in_ok-used.ensures in
-    let feeds = rw (c.in-Game.is, c.within_limit-front.ensures) at fed.feeds in
-    let within = rw (c.in-Game.is, c.within_limit-front.ensures) at fed.used in
-    let count = rw c.in-Game.is at fed.count in
-    let used = c.in-Game.used in
-    let room = front_used piece (2 ^ 62 - c.count.result) used within in
+pub returns-in-All : goal.returns-in-All
+returns-in-All g c =
+    let fed = c.feed_to_marker.ensures in
+    let reads = c.in_ok-feed_to_marker.ensures in
+    let feeds = rw c.in-All.is at reads.feeds in
     record {
-      used = in_piece used (2 ^ 62 - c.count.result) piece within;
+      used = rw c.in-All.is at reads.used;
       feeds = λ p u b given stands follows.
-          front_game p u b given piece _ _ _ c.feed_front.new.self _ room
-          (feeds p u b given stands (follows_front b piece _ follows));
-      count = count;
-      short = stays_short c.feed_front.new.self.lexer.count c.args.self.now.lexer.count
-          used c.count.result c.self.inside.lexer.count count room c.count.ensures
-          (c.self.invariant.count c.in_default.is) (ap (λ (s : Converter). s.lexer.count) c.self.view_is);
-      advances = rw c.in-Game.is at fed.advances;
-      not_finished = c.feed_front.ensures.not_finished;
-      fault = fed.fault;
-      games = rw c.in-Game.is at fed.games;
-      probes = c.feed_front.ensures.probes;
-      again = λ f is. absurd (none-some f (sym c.in_default.is ∙ ap (λ (s : Converter). s.fault) c.self.view_is ∙ is));
-      counted = λ free. fed.counted;
+          fed_all p stands.known u b given _ c.args.piece.now c.feed_to_marker.new.self _
+          (feeds p u b given (reaches stands) follows) fed.none_just_finished;
+      count = rw c.in-All.is at reads.count;
+      short = reads.short;
+      advances = tt;
+      not_finished = fed.not_finished;
+      fault = reads.fault;
+      games = (fed.games, fed.none_just_finished);
+      probes = fed.probes;
+      again = λ f is. absurd (none-some f (sym reads.fault ∙ ap (λ (s : Converter). s.fault) (fed.again f is).1 ∙ is));
+      counted = reads.counted;
     }
 
-pub returns-then-front-piece : goal.returns-then-front-piece
-returns-then-front-piece g c =
-    let piece = c.args.piece.now in
-    let fed = c.in_ok-used.ensures in
-    let feeds = rw (c.in-All.is, c.within_limit-front.ensures) at fed.feeds in
-    let more = rw c.within_limit-front.ensures at c.if-front-piece.true in
-    let kept = rw c.in-All.is at fed.games in
-    record {
+pub returns-in_err-end_game-in-Marker : goal.returns-in_err-end_game-in-Marker
+returns-in_err-end_game-in-Marker g c =
+    let e = err_from_is_err_and c.from_residual-in_err-end_game-in-Marker.result c.from_residual-in_err-end_game-in-Marker.ensures.1 in
+    let fed = c.feed_to_marker.ensures in
+    let reads = c.in_ok-feed_to_marker.ensures in
+    let feeds = rw c.in-Marker.is at reads.feeds in
+    let ended = c.in_err-end_game-in-Marker.ensures in
+    rw (e.1, e.2) (record {
       used = tt;
       feeds = λ p u b given stands follows.
-          rw c.too_long.ensures.fault (front_too_long p u b given piece _ _ _ c.feed_front.new.self _ _
-          (limit_at stands.lexer.count (ap (λ (s : Converter). s.lexer.count) c.self.view_is) c.count.ensures
-          (c.self.invariant.count c.in_default.is))
-          (limit_left piece _ more) (ap (λ (s : Converter). s.reading) c.self-2.view_is)
-          (feeds p u b given stands (follows_front b piece _ follows)));
+          at_token _ (marker_fails p stands.known u b given _ c.args.piece.now _ _ _ _
+          (feeds p u b given (reaches stands) follows) c.end_game.new.self _ ended.ends);
       count = tt;
       short = tt;
       advances = tt;
-      not_finished = ap (λ (s : Converter). s.is_finished) c.self-2.view_is ∙ c.feed_front.ensures.not_finished;
-      fault = c.too_long.ensures.kept;
-      games = (
-        ap (λ (s : Converter). s.games) c.self-2.view_is ∙ kept.0,
-        ap (λ (s : Converter). s.just_finished) c.self-2.view_is ∙ kept.1,
-      );
-      probes = omega (
-        arith,
-        ap (λ (s : Converter). s.reading.most_probes) c.self-2.view_is,
-        c.feed_front.ensures.probes,
-      );
-      again = λ f is. absurd (none-some f (sym c.in_default.is ∙ ap (λ (s : Converter). s.fault) c.self.view_is ∙ is));
-      counted = λ free. rw c.too_long.ensures.fault fed.counted;
-    }
+      not_finished = ended.not_finished;
+      fault = ended.fault;
+      games = (ended.games ∙ fed.games, ended.just_finished);
+      probes = le_trans fed.probes ended.probes;
+      again = λ f is. absurd (none-some f (sym reads.fault ∙ ap (λ (s : Converter). s.fault) (fed.again f is).1 ∙ is));
+      counted = λ free. rw (← reads.counted free) ended.counted;
+    })
 
-pub returns-else-front-piece : goal.returns-else-front-piece
-returns-else-front-piece g c =
-    let piece = c.args.piece.now in
-    let fed = c.in_ok-used.ensures in
-    let feeds = rw (c.in-All.is, c.within_limit-front.ensures) at fed.feeds in
-    let more = rw c.within_limit-front.ensures at c.if-front-piece.false in
-    let whole = front_used piece (2 ^ 62 - c.count.result) (length piece) more in
-    let count = rw (c.in-All.is, c.within_limit-front.ensures) at fed.count in
-    let all = whole_count c.feed_front.new.self.lexer.count c.args.self.now.lexer.count (2 ^ 62 - c.count.result) piece count whole in
+pub returns-in_ok-end_game-in-Marker : goal.returns-in_ok-end_game-in-Marker
+returns-in_ok-end_game-in-Marker g c =
+    let fed = c.feed_to_marker.ensures in
+    let reads = c.in_ok-feed_to_marker.ensures in
+    let feeds = rw c.in-Marker.is at reads.feeds in
+    let ended = c.in_ok-end_game-in-Marker.ensures in
     record {
-      used = le_refl _;
+      used = rw c.in-Marker.is at reads.used;
       feeds = λ p u b given stands follows.
-          front_all p u b given piece _ _ _ c.feed_front.new.self whole
-          (feeds p u b given stands (follows_front b piece _ follows));
-      count = all;
-      short = stays_short c.feed_front.new.self.lexer.count c.args.self.now.lexer.count
-          (length piece) c.count.result c.self.inside.lexer.count all whole c.count.ensures
-          (c.self.invariant.count c.in_default.is) (ap (λ (s : Converter). s.lexer.count) c.self.view_is);
-      advances = tt;
-      not_finished = c.feed_front.ensures.not_finished;
-      fault = fed.fault;
-      games = rw c.in-All.is at fed.games;
-      probes = c.feed_front.ensures.probes;
-      again = λ f is. absurd (none-some f (sym c.in_default.is ∙ ap (λ (s : Converter). s.fault) c.self.view_is ∙ is));
-      counted = λ free. fed.counted;
+          fed_game p stands.known u b given _ c.args.piece.now _ _ _ _
+          (feeds p u b given (reaches stands) follows)
+          c.end_game.new.self ended.ends ended.lexer ended.games ended.just_finished ended.fault;
+      count = ap (λ (l : Standing). l.count) ended.lexer ∙ (rw c.in-Marker.is at reads.count);
+      short = omega (arith, ap (λ (l : Standing). l.count) ended.lexer, reads.short);
+      advances = rw ended.lexer (rw c.in-Marker.is at reads.advances);
+      not_finished = ended.not_finished;
+      fault = ended.fault;
+      games = (omega (arith, ended.games, fed.games), omega (arith, c.end_game.ensures.few, fed.games));
+      probes = le_trans fed.probes ended.probes;
+      again = λ f is. absurd (none-some f (sym reads.fault ∙ ap (λ (s : Converter). s.fault) (fed.again f is).1 ∙ is));
+      counted = λ free. ended.counted ∙ reads.counted free;
     }
-
-pub within_limit-front-requires : goal.within_limit-front-requires
-within_limit-front-requires g c = omega (arith, c.count.ensures, c.self.invariant.count c.in_default.is)
-
-pub feed_front-requires : goal.feed_front-requires
-feed_front-requires g c =
-    let front = ap (length {A = ℕ}) c.within_limit-front.ensures in (
-      search fits_alike,
-      (
-        c.requires.not_finished,
-        (
-          ap (λ (s : Converter). s.fault) (sym c.self.view_is) ∙ c.in_default.is,
-          omega (
-            arith,
-            front,
-            length-take (2 ^ 62 - c.count.result) c.args.piece.now,
-            c.count.ensures,
-            c.self.invariant.count c.in_default.is,
-            ap (λ (s : Converter). s.lexer.count) c.self.view_is,
-          ),
-        ),
-      ),
-    )
-
-pub invariant_of-self : goal.invariant_of-self
-invariant_of-self g c =
-    let kept = rw c.in-All.is at c.in_ok-used.ensures.games in
-    let flag = not_just_finished _ _ (ap (λ (s : Converter). s.just_finished) c.self-2.view_is ∙ kept.1) in
-    rw (c.too_long.ensures.kept, flag) (sound_behind_fault c.self-2.inside.lexer c.self-2.inside.reader
-    c.self-2.inside.games c.self-2.inside.is_finished c.too_long.result c.self-2.invariant.known)

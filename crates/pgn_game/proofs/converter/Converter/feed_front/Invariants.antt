@@ -1,4 +1,4 @@
-use Rattle.pgn_game.proofs.Words.{◌≡◌, ◌≤◌, ◌+◌, ◌-◌, ◌*◌, None, false, length, waiting, device, FeedsSoFar}
+use Rattle.pgn_game.proofs.Words.{◌≡◌, ◌≤◌, ◌+◌, ◌-◌, ◌*◌, None, false, length, waiting, device, as_written, FeedsSoFar}
 use Rattle.pgn_game.proofs.converter.Converter.feed_front.Given as goal
 
 abbrev pub invariant-loop-at : goal.invariant-loop-at
@@ -7,6 +7,7 @@ invariant-loop-at g l =
       within : l.at ≤ length l.piece;
       count : l.self.lexer.count ≡ l.fn.self.lexer.count + l.at;
       goes : waiting l.self.lexer ≤ 2 * l.at + waiting l.fn.self.lexer;
+      written : as_written l.self.reading ≡ as_written l.fn.self.reading;
       fault : l.self.fault ≡ None;
       games : l.self.games ≡ l.fn.self.games;
       none_just_finished : l.self.just_finished ≡ None;

@@ -1,154 +1,141 @@
-use Rattle.pgn_game.proofs.Words.{arith, le_refl, le_trans, refl, sym, ap, subst, ◌∙◌, Ok, None, Some, none-some, Converter, Stands}
-use Rattle.pgn_game.proofs.Words.{AfterStepAtEnd, Err, same_Some, false≢true}
-use Rattle.pgn_game.proofs.ReaderFitsInMemory.{fits_reader, fits_alike}
-use Rattle.pgn_game.proofs.tokens.StepsAtEnd.{none_by_fault, sound_at_none, sound_finished, left_of, closed_none, closed_more, closed_game}
-use Rattle.pgn_game.proofs.tokens.StepsAtEnd.{closed_end, closed_fault}
-use Rattle.pgn_game.proofs.tokens.StepsInPiece.{counts_step}
+use Rattle.pgn_game.proofs.Words.{arith, ap, le_refl, le_trans, none-some, refl, same_Some, sym, subst, ◌∙◌, device, Converter, Err, StaysBetween, err_from_is_err_and, false≢true}
+use Rattle.pgn_game.specs.ConverterSteps.{ReadsToEnd}
+use Rattle.pgn_game.proofs.ReaderFitsInMemory.{fits_alike, fits_reader}
+use Rattle.pgn_game.proofs.tokens.StepsAtEnd.{left_of, none_by_fault}
+use Rattle.pgn_game.proofs.tokens.FinishesGames.{ended_none, ended_game, ended_input, failed_input, failed_game, sound_finished}
 use Rattle.pgn_game.proofs.converter.Converter.finish.Goals as goal
 use Rattle.pgn_game.proofs.converter.Converter.finish.Goals.{then-finished_game, else-finished_game}
 
-pub loop-finished_game-init : goal.loop-finished_game-init
-loop-finished_game-init g c =
+pub returns-in-Some : goal.returns-in-Some
+returns-in-Some g c =
+    let kept = ap (λ (s : Converter). s.fault) (sym c.self.view_is) ∙ c.in-Some.is in
     record {
-      fault = c.in_default.is;
-      none_just_finished = refl;
-      not_finished = ap (λ (s : Converter). s.is_finished) c.self.view_is ∙ c.requires.not_finished;
-      probes = omega (arith, ap (λ (s : Converter). s.reading.most_probes) c.self.view_is);
+      ends = λ p u b given stands. absurd (none-some _ (sym stands.has_read.no_fault ∙ kept));
+      finished = c.requires.not_finished;
+      probes = le_refl _;
+      fault = kept;
+      none_just_finished = ap (λ (s : Converter). s.just_finished) (sym c.self.view_is)
+          ∙ none_by_fault c.self.inside.has_finished_game c.self.inside.reader c.self.invariant.no_fault c.in-Some.is;
+      again = λ f is. (ap Err (same_Some _ _ (sym kept ∙ is)), refl, refl);
+      counted = λ none. absurd (none-some _ (sym none ∙ kept));
+    }
+
+pub loop-mark-init : goal.loop-mark-init
+loop-mark-init g c =
+    record {
+      fault = ap (λ (s : Converter). s.fault) (sym c.self.view_is) ∙ c.in_default.is;
+      not_finished = c.requires.not_finished;
+      probes = le_refl _;
       counted = refl;
-      closes = λ p u b given stands. closed_none p _ u b given _ (subst (λ (s : Converter). Stands p s u b given) (sym c.self.view_is) stands);
+      finishes = λ p u b given stands. ended_none p _ u b given _ stands;
     }
 
-pub step_at_end-requires : goal.step_at_end-requires
-step_at_end-requires g c = (
-  search fits_alike,
-  (c.loop-finished_game.invariant.fault, (c.loop-finished_game.invariant.not_finished, c.loop-finished_game.invariant.none_just_finished)),
-)
+pub finish_to_marker-requires : goal.finish_to_marker-requires
+finish_to_marker-requires g c = (search fits_alike, (c.loop-mark.invariant.fault, c.loop-mark.invariant.not_finished))
 
-pub loop-finished_game-smaller-in-Ok-Some-More : goal.loop-finished_game-smaller-in-Ok-Some-More
-loop-finished_game-smaller-in-Ok-Some-More g c =
-    rw (c.in-Ok-Some-More.is ∙ ap Ok (c.in-Ok-Some-More.field-0-is ∙ ap Some c.in-Ok-Some-More.field-0-0-is)) at c.step_at_end.ensures.advances
+pub end_game-requires : goal.end_game-requires
+end_game-requires g c =
+    let met = c.finish_to_marker.ensures in
+    let here = c.in_ok-mark.ensures in
+    (search fits_alike, (rw c.in-Some-2.is at here.ready, (here.fault, (rw c.in-Some-2.is at here.finished, met.none_just_finished))))
 
-pub loop-finished_game-preserved-in-Ok-Some-More : goal.loop-finished_game-preserved-in-Ok-Some-More
-loop-finished_game-preserved-in-Ok-Some-More g c =
-    let is = c.in-Ok-Some-More.is ∙ ap Ok (c.in-Ok-Some-More.field-0-is ∙ ap Some c.in-Ok-Some-More.field-0-0-is) in
-    let counted = rw is at c.step_at_end.ensures.counted in
-    record {
-      fault = rw is at c.step_at_end.ensures.fault;
-      none_just_finished = c.step_at_end.ensures.none_just_finished;
-      not_finished = rw is at c.step_at_end.ensures.finished;
-      probes = le_trans c.loop-finished_game.invariant.probes c.step_at_end.ensures.probes;
-      counted = counted ∙ c.loop-finished_game.invariant.counted;
-      closes = λ p u b given stands.
-          let so = c.loop-finished_game.invariant.closes p u b given stands in
-          closed_more p u given _ _ _ _ _ _ so ((rw is at c.step_at_end.ensures.after) p u _ so.left so.has_read);
-    }
+pub loop-mark-smaller : goal.loop-mark-smaller
+loop-mark-smaller g c =
+    let advances = rw c.in-Some-2.is at c.in_ok-mark.ensures.advances in
+    rw c.in_ok-end_game-in-Some-2.ensures.lexer advances
 
-pub loop-finished_game-smaller : goal.loop-finished_game-smaller
-loop-finished_game-smaller g c = rw (c.in-Ok-Some-Finished.is
-    ∙ ap Ok (c.in-Ok-Some-Finished.field-0-is ∙ ap Some c.in-Ok-Some-Finished.field-0-0-is)) at c.step_at_end.ensures.advances
-
-pub loop-finished_game-preserved : goal.loop-finished_game-preserved
-loop-finished_game-preserved g c =
-    let is = c.in-Ok-Some-Finished.is ∙ ap Ok (c.in-Ok-Some-Finished.field-0-is ∙ ap Some c.in-Ok-Some-Finished.field-0-0-is) in
-    let counted = rw is at c.step_at_end.ensures.counted in
-    record {
-      fault = rw is at c.step_at_end.ensures.fault;
-      none_just_finished = c.step_at_end.ensures.none_just_finished;
-      not_finished = rw is at c.step_at_end.ensures.finished;
-      probes = le_trans c.loop-finished_game.invariant.probes c.step_at_end.ensures.probes;
-      counted = counted ∙ c.loop-finished_game.invariant.counted;
-      closes = λ p u b given stands.
-          let so = c.loop-finished_game.invariant.closes p u b given stands in
-          closed_game p u given _ _ _ _ _ _ so ((rw is at c.step_at_end.ensures.after) p u _ so.left so.has_read);
-    }
-
-pub returns-in-Ok-None : goal.returns-in-Ok-None
-returns-in-Ok-None g c =
-    let is = c.in-Ok-None.is ∙ ap Ok c.in-Ok-None.field-0-is in
-    record {
+pub returns-in_err-mark : goal.returns-in_err-mark
+returns-in_err-mark g c =
+    let e = err_from_is_err_and c.from_residual.result c.from_residual.ensures.1 in
+    let old = c.loop-mark.invariant in
+    let any = c.finish_to_marker.ensures in
+    let met = c.in_err-mark.ensures in
+    rw (e.1, e.2) (record {
       ends = λ p u b given stands.
-          let so = c.loop-finished_game.invariant.closes p u b given stands in
-          let after = rw is at c.step_at_end.ensures.after in
-          let here = subst (λ (s : Converter). AfterStepAtEnd p u so.tokens c.loop-finished_game.self s
-          (Ok None) (g.W.Sink.taken c.loop-finished_game.out) (g.W.Sink.taken c.step_at_end.new.out))
-          (sym c.self-in-loop-finished_game.view_is) (after p u _ so.left so.has_read) in
-          closed_end p u given _ _ c.loop-finished_game.finished_game _ _ _ so c.if-finished_game.self here
-          (λ between. elim c.if-finished_game.branch [
-            | then-finished_game w ↦ w.self-is ∙ w.is_between-self-inside.ensures.1 between ∙ sym w.if-finished_game.true
-            | else-finished_game w ↦ w.self-is
-          ]);
-      finished = ap (λ (s : Converter). s.is_finished) c.self-in-loop-finished_game.view_is ∙ (rw is at c.step_at_end.ensures.finished);
-      probes = omega (
-        arith,
-        ap (λ (s : Converter). s.reading.most_probes) c.self-in-loop-finished_game.view_is,
-        c.step_at_end.ensures.probes,
-        c.loop-finished_game.invariant.probes,
-      );
-      fault = ap (λ (s : Converter). s.fault) c.self-in-loop-finished_game.view_is ∙ (rw is at c.step_at_end.ensures.fault);
-      none_just_finished = tt;
-      again = λ f is. absurd (none-some f (sym (ap (λ (s : Converter). s.fault) (sym c.self.view_is) ∙ c.in_default.is) ∙ is));
-      counted = λ none. (rw is at c.step_at_end.ensures.counted) ∙ c.loop-finished_game.invariant.counted;
-    }
+          let so = old.finishes p u b given stands in
+          failed_input p u given _ _ _ _ so stands.known _ c.args.self.now.lexer c.finish_to_marker.new.self _
+          (left_of p c.args.self.now u b given stands) stands.has_read.passes (met.ends p u _ so.left so.has_read) any.games;
+      finished = met.finished;
+      probes = le_trans old.probes any.probes;
+      fault = met.fault;
+      none_just_finished = any.none_just_finished;
+      again = λ f is. absurd (none-some f (sym c.in_default.is ∙ ap (λ (s : Converter). s.fault) c.self.view_is ∙ is));
+      counted = λ free. rw (← old.counted) met.counted;
+    })
 
-pub returns-in-Err : goal.returns-in-Err
-returns-in-Err g c =
-    record {
+pub returns-in_err-end_game-in-Some-2 : goal.returns-in_err-end_game-in-Some-2
+returns-in_err-end_game-in-Some-2 g c =
+    let e = err_from_is_err_and c.from_residual-in_err-end_game-in-Some-2.result c.from_residual-in_err-end_game-in-Some-2.ensures.1 in
+    let old = c.loop-mark.invariant in
+    let any = c.finish_to_marker.ensures in
+    let met = c.in_ok-mark.ensures in
+    let ended = c.in_err-end_game-in-Some-2.ensures in
+    rw (e.1, e.2) (record {
       ends = λ p u b given stands.
-          let after = rw c.in-Err.is at c.step_at_end.ensures.after in
-          let so = c.loop-finished_game.invariant.closes p u b given stands in
-          closed_fault p u given _ c.step_at_end.new.self _ _ _ _ so c.in-Err.fault c.args.self.now.lexer (left_of p c.args.self.now u b given stands)
-          stands.has_read.passes (after p u _ so.left so.has_read) (rw c.in-Err.is at c.step_at_end.ensures.games);
-      finished = rw c.in-Err.is at c.step_at_end.ensures.finished;
-      probes = le_trans c.loop-finished_game.invariant.probes c.step_at_end.ensures.probes;
-      fault = rw c.in-Err.is at c.step_at_end.ensures.fault;
-      none_just_finished = c.step_at_end.ensures.none_just_finished;
-      again = λ f is. absurd (none-some f (sym (ap (λ (s : Converter). s.fault) (sym c.self.view_is) ∙ c.in_default.is) ∙ is));
-      counted = λ none.
-          let counted = rw c.in-Err.is at c.step_at_end.ensures.counted in
-          counts_step c.in-Err.fault.reason _ _ _ c.loop-finished_game.invariant.counted counted;
-    }
+          let so = old.finishes p u b given stands in
+          let leaves = (rw c.in-Some-2.is at met.ends) p u _ so.left so.has_read in
+          failed_game p u given _ _ _ _ so stands.known _ c.args.self.now.lexer c.in-Some-2.mark c.finish_to_marker.new.self c.end_game.new.self
+          (device g.W.Sink.taken g.W.Sink.failures c.finish_to_marker.new.out c.end_game.new.out)
+          (left_of p c.args.self.now u b given stands) stands.has_read.passes leaves ended.ends ended.games any.games;
+      finished = ended.not_finished;
+      probes = le_trans old.probes (le_trans any.probes ended.probes);
+      fault = ended.fault;
+      none_just_finished = ended.just_finished;
+      again = λ f is. absurd (none-some f (sym c.in_default.is ∙ ap (λ (s : Converter). s.fault) c.self.view_is ∙ is));
+      counted = λ free. rw (← old.counted, ← met.counted) ended.counted;
+    })
 
-pub invariant_of-self : goal.invariant_of-self
-invariant_of-self g c =
-    sound_at_none c.self.inside.lexer c.self.inside.reader c.self.inside.games
-    c.self.inside.has_finished_game c.self.inside.is_finished c.self.inside.fault c.self.invariant
+pub loop-mark-preserved : goal.loop-mark-preserved
+loop-mark-preserved g c =
+    let old = c.loop-mark.invariant in
+    let ended = c.in_ok-end_game-in-Some-2.ensures in
+    record {
+      fault = ended.fault;
+      not_finished = ended.not_finished;
+      probes = le_trans old.probes (le_trans c.finish_to_marker.ensures.probes ended.probes);
+      counted = ended.counted ∙ (c.in_ok-mark.ensures.counted ∙ old.counted);
+      finishes = λ p u b given stands.
+          let so = old.finishes p u b given stands in
+          let leaves = (rw c.in-Some-2.is at c.in_ok-mark.ensures.ends) p u _ so.left so.has_read in
+          ended_game p u given _ _ _ _ so stands.known c.in-Some-2.mark c.finish_to_marker.new.self c.end_game.new.self
+          (device g.W.Sink.taken g.W.Sink.failures c.finish_to_marker.new.out c.end_game.new.out)
+          leaves ended.ends ended.lexer ended.fault ended.games ended.just_finished;
+    }
 
 pub is_between-self-inside-requires : goal.is_between-self-inside-requires
 is_between-self-inside-requires g c = search fits_reader
 
-pub returns-in-Some-clause-ends : goal.returns-in-Some-clause-ends
-returns-in-Some-clause-ends g c = λ p u b given stands.
-    absurd (none-some c.in-Some.fault (sym stands.has_read.no_fault ∙ ap (λ (s : Converter). s.fault) (sym c.self.view_is) ∙ c.in-Some.is))
+pub returns-in-None : goal.returns-in-None
+returns-in-None g c =
+    let old = c.loop-mark.invariant in
+    let any = c.finish_to_marker.ensures in
+    let met = c.in_ok-mark.ensures in
+    let self = c.self-in-None in
+    record {
+      ends = λ p u b given stands.
+          let so = old.finishes p u b given stands in
+          let to = (rw c.in-None.is at met.ends) p u _ so.left so.has_read in
+          let here = subst (λ (s : Converter). ReadsToEnd p u so.tokens s (g.W.Sink.taken c.loop-mark.out) (g.W.Sink.taken c.finish_to_marker.new.out)
+          × StaysBetween c.loop-mark.self s) (sym self.view_is) to in
+          ended_input p u given _ _ _ _ so stands.known _ _ c.if-finished_game.self here.0 here.1
+          (λ between. elim c.if-finished_game.branch [
+            | then-finished_game w ↦ w.self-is ∙ w.is_between-self-inside.ensures.1 between ∙ sym w.if-finished_game.true
+            | else-finished_game w ↦ w.self-is
+          ]);
+      finished = ap (λ (s : Converter). s.is_finished) self.view_is ∙ (rw c.in-None.is at met.finished);
+      probes = omega (arith, ap (λ (s : Converter). s.reading.most_probes) self.view_is, any.probes, old.probes);
+      fault = ap (λ (s : Converter). s.fault) self.view_is ∙ met.fault;
+      none_just_finished = tt;
+      again = λ f is. absurd (none-some f (sym c.in_default.is ∙ ap (λ (s : Converter). s.fault) c.self.view_is ∙ is));
+      counted = λ free. met.counted ∙ old.counted;
+    }
 
-pub returns-in-Some-clause-none_just_finished : goal.returns-in-Some-clause-none_just_finished
-returns-in-Some-clause-none_just_finished g c =
-    ap (λ (s : Converter). s.just_finished) (sym c.self.view_is)
-    ∙ none_by_fault c.self.inside.has_finished_game c.self.inside.reader c.self.invariant.no_fault c.in-Some.is
-
-pub returns-in-Some-clause-again : goal.returns-in-Some-clause-again
-returns-in-Some-clause-again g c = λ f is.
-    (ap Err (same_Some _ _ (sym c.in-Some.is ∙ ap (λ (s : Converter). s.fault) c.self.view_is ∙ is)), refl, refl)
-
-pub invariant_of-self-in-Ok-None : goal.invariant_of-self-in-Ok-None
-invariant_of-self-in-Ok-None g c =
-    let is = c.in-Ok-None.is ∙ ap Ok c.in-Ok-None.field-0-is in
-    let self = c.self-in-loop-finished_game in
+pub invariant_of-self : goal.invariant_of-self
+invariant_of-self g c =
+    let self = c.self-in-None in
     sound_finished self.inside.lexer self.inside.reader self.inside.games self.invariant
     (λ is. elim c.if-finished_game.branch [
       | then-finished_game w ↦ w.is_between-self-inside.ensures.0 (sym w.self-is ∙ is)
       | else-finished_game w ↦ absurd (false≢true (sym w.if-finished_game.false ∙ sym w.self-is ∙ is))
     ])
-    (ap (λ (s : Converter). s.fault) self.view_is ∙ (rw is at c.step_at_end.ensures.fault))
-
-pub returns-in-Some-clause-fault : goal.returns-in-Some-clause-fault
-returns-in-Some-clause-fault g c = ap (λ (s : Converter). s.fault) (sym c.self.view_is) ∙ c.in-Some.is
-
-pub returns-in-Some-clause-finished : goal.returns-in-Some-clause-finished
-returns-in-Some-clause-finished g c = c.requires.not_finished
-
-pub returns-in-Some-clause-counted : goal.returns-in-Some-clause-counted
-returns-in-Some-clause-counted g c =
-    λ none. absurd (none-some c.in-Some.fault (sym none ∙ ap (λ (s : Converter). s.fault) (sym c.self.view_is) ∙ c.in-Some.is))
-
-pub returns-in-Some-clause-probes : goal.returns-in-Some-clause-probes
-returns-in-Some-clause-probes g c = le_refl _
+    (ap (λ (s : Converter). s.fault) self.view_is ∙ c.in_ok-mark.ensures.fault)

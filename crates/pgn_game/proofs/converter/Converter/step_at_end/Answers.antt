@@ -1,48 +1,54 @@
-use Rattle.pgn_game.proofs.Words.{arith, sym, ap, subst, refl, ◌∙◌, Converter, HasRead, game_in_reader_if, HasLeft, games_after}
-use Rattle.pgn_game.proofs.Words.{StepAtEndAdvances, IsKnown}
-use Rattle.pgn_game.proofs.tokens.StepsAtEnd.{sound_behind_fault, closes_sooner, closes, closes_as, closes_fault, left_by, not_just_finished}
-use Rattle.pgn_game.proofs.tokens.StepsAtEnd.{fault_of_closed, games_of_closed, counts_closed, nearer_by, sound_behind}
-use Rattle.pgn_game.proofs.tokens.AcceptedToConverter.{written_known}
+use Rattle.pgn_game.proofs.Words.{Token, Standing, fault_of_step, kind_of, as_written, Keeps, arith, sym, ap, subst, refl, ◌∙◌, ◌≡◌, ◌&&◌, true, false, is_ok, is_end, Converter, HasRead, HasLeft, outcome_at, game_in_reader_if}
+use Rattle.pgn_game.proofs.tokens.StepsAtEnd.{Left, Nearer, closes_end, closes_token, closes_fault, kept, left_by, nearer_by, not_just_finished, counts_token}
+use Rattle.pgn_game.proofs.tokens.StepsAtEnd.{advances_at_end, count_at_end, counts_ok, goes_on_at, no_fault_if_ok, ready_at_end, sound_at_end, sound_behind, sound_behind_fault, sound_if_not_ok}
+use Rattle.pgn_game.proofs.tokens.AcceptedToConverter.{written_same}
 use Rattle.pgn_game.proofs.ReaderFitsInMemory.{fits_reader}
 use Rattle.pgn_game.proofs.converter.Converter.step_at_end.Goals as goal
+use Rattle.pgn_game.proofs.converter.Converter.step_at_end.Goals.{else-is_end-via-then-is_end+else-is_ok, else-is_end-via-else-is_end}
 
-pub returns-in-Token : goal.returns-in-Token
-returns-in-Token g c =
+pub accept_unless_marker-met-requires : goal.accept_unless_marker-met-requires
+accept_unless_marker-met-requires g c =
+    let none = ap (λ (s : Converter). s.fault) c.self.view_is ∙ c.requires.no_fault in (
+      search fits_reader,
+      (omega (arith, c.self.invariant.few_plies none, c.self.invariant.count none), rw c.in-Token.is at c.finish.follows.holds-at-none.lengths),
+    )
+
+pub settle-outcome-requires : goal.settle-outcome-requires
+settle-outcome-requires g c = record { no_fault = ap (λ (s : Converter). s.fault) c.self.view_is ∙ c.requires.no_fault }
+
+pub returns-in-NeedMore : goal.returns-in-NeedMore
+returns-in-NeedMore g c = absurd (rw c.in-NeedMore.is at c.finish.follows.holds-at-none.closes)
+
+pub returns-then-is_ok : goal.returns-then-is_ok
+returns-then-is_ok g c =
+    let flag = not_just_finished _ _ (ap (λ (s : Converter). s.just_finished) c.self.view_is ∙ c.requires.none_just_finished) in
+    let t : Token = record { at = c.in-Token.token.at; kind = kind_of c.in-Token.token.kind } in
+    let is_e : is_end t.kind ≡ true = sym c.is_end-is_end.ensures ∙ c.if-is_end.true in
+    let l = c.finish.follows.lender-at-none in
+    let met = c.accept_unless_marker-met in
+    let r = met.result in
+    let ok : is_ok (outcome_at t.at r) ≡ true = ap is_ok (sym c.settle-outcome.ensures.outcome) ∙ sym c.is_ok.ensures.value ∙ c.if-is_ok.true in
+    let keeps : Keeps c.self.inside.reader met.new.self = kept _ _ _ _ r met.ensures in
+    let near = subst (λ e. Nearer e c.self.inside.lexer l) is_e
+    (nearer_by t.kind c.self.inside.lexer l t (rw c.in-Token.is at c.finish.follows.holds-at-none.closes)) in
     record {
       after = λ p u given left has_read.
           let here = subst (λ (s : Converter). HasRead p s given) (sym c.self.view_is) has_read in
           let left_here = subst (λ (s : Converter). HasLeft s.lexer u given) (sym c.self.view_is) left in
           let left_behind = rw c.in-Token.is at c.finish.follows.holds-at-none.left in
-          let flag = not_just_finished _ _ (ap (λ (s : Converter). s.just_finished) c.self.view_is ∙ c.requires.none_just_finished) in
-          rw (← c.self.view_is)
-          (closes_as p _ u given _ c.finish.follows.lender-at-none c.accept-accepted.new.self c.is_ended-self-inside.result _ _
-          c.accept-accepted.result here c.settle-outcome.ensures.outcome c.settle-outcome.ensures.games c.settle-outcome.ensures.fault
-          (ap (λ b. game_in_reader_if b c.accept-accepted.new.self) flag) c.is_end-is_end.ensures c.none_at_end-closed.ensures
-          (closes p _ u given _ c.finish.follows.lender-at-none c.accept-accepted.new.self
-          c.is_ended-self-inside.result _ _ _ c.accept-accepted.result refl
-          here (left_by u given _ c.finish.follows.lender-at-none _ (left_behind u given left_here))
-          c.accept-accepted.ensures.profile c.accept-accepted.ensures.probes
-          (written_known c.self.inside.reader.profile c.self.invariant.known)
-          (c.accept-accepted.ensures.accepts _ here.agrees) c.accept-accepted.ensures.stays c.accept-accepted.ensures.finished));
-      advances =
-          let gives = rw c.in-Token.is at c.finish.follows.holds-at-none.closes in
-          let near = nearer_by _ c.self.inside.lexer c.finish.follows.lender-at-none _ gives in
-          subst (λ (s : Converter). StepAtEndAdvances s.lexer c.finish.follows.lender-at-none c.none_at_end-closed.result) c.self.view_is
-          (closes_sooner c.self.inside.lexer c.finish.follows.lender-at-none c.accept-accepted.new.self
-          c.in-Token.token.at _ c.accept-accepted.result c.settle-outcome.ensures.outcome
-          c.is_end-is_end.ensures c.none_at_end-closed.ensures near c.accept-accepted.ensures.finished);
-      fault = rw c.none_at_end-closed.ensures (c.settle-outcome.ensures.fault ∙ fault_of_closed c.is_end-is_end.result c.settle-outcome.result);
-      games =
-          c.settle-outcome.ensures.games ∙ ap (λ (s : Converter). games_after c.settle-outcome.result s.games) c.self.view_is
-          ∙ games_of_closed _ c.accept-accepted.new.self c.in-Token.token.at
-          c.accept-accepted.result _ c.settle-outcome.ensures.outcome c.is_end-is_end.ensures
-          c.none_at_end-closed.ensures c.accept-accepted.ensures.finished;
-      probes = omega (arith, ap (λ (s : Converter). s.reading.most_probes) c.self.view_is, c.accept-accepted.ensures.probes);
-      none_just_finished = ap (λ b. game_in_reader_if b c.accept-accepted.new.self)
-          (not_just_finished _ _ (ap (λ (s : Converter). s.just_finished) c.self.view_is ∙ c.requires.none_just_finished));
-      finished = c.is_ended-self-inside.ensures;
-      counted = counts_closed c.in-Token.token.at c.accept-accepted.result c.is_end-is_end.result _
-          c.settle-outcome.ensures.outcome c.none_at_end-closed.ensures c.accept-accepted.ensures.counted;
+          rw (← c.self.view_is, flag, c.settle-outcome.ensures.fault, c.settle-outcome.ensures.outcome)
+          (closes_end p _ u given t l met.new.self _ r is_e ok here
+          (subst (λ e. Left u given e l t) is_e (left_by u given t.kind l t (left_behind u given left_here))) met.ensures);
+      count = ap (λ (l : Standing). l.count) near ∙ ap (λ (s : Converter). s.lexer.count) c.self.view_is;
+      advances = tt;
+      ready = tt;
+      written = written_same c.self.inside.reader met.new.self keeps.profile keeps.told ∙ ap (λ (s : Converter). as_written s.reading) c.self.view_is;
+      fault = c.settle-outcome.ensures.fault ∙ ap fault_of_step c.settle-outcome.ensures.outcome ∙ no_fault_if_ok t.at r ok;
+      games = ap (λ (s : Converter). s.games) c.self.view_is;
+      probes = omega (arith, ap (λ (s : Converter). s.reading.most_probes) c.self.view_is, keeps.probes);
+      none_just_finished = ap (λ b. game_in_reader_if b met.new.self) flag;
+      finished = refl;
+      counted = counts_ok t.at r ok _ (counts_token c.self.inside.reader met.new.self _ t.at r _ met.ensures);
     }
 
 pub returns-in-Fault : goal.returns-in-Fault
@@ -52,55 +58,131 @@ returns-in-Fault g c =
           let here = subst (λ (s : Converter). HasRead p s given) (sym c.self.view_is) has_read in
           let left_here = subst (λ (s : Converter). HasLeft s.lexer u given) (sym c.self.view_is) left in
           let left_behind = rw c.in-Fault.is at c.finish.follows.holds-at-none.left in
-          rw (c.fail.ensures.outcome, c.lexical.ensures)
+          rw (← c.self.view_is, c.fail.ensures.outcome, c.lexical.ensures)
           (closes_fault p _
           (record c.args.self.now { lexer = c.finish.follows.lender-at-none; reading = c.self.inside.reader; fault = c.fail.new.kept })
           u given c.in-Fault.fault _ here (left_behind u given left_here) refl);
+      count = rw c.fail.ensures.outcome tt;
       advances = rw c.fail.ensures.outcome tt;
+      ready = rw c.fail.ensures.outcome tt;
+      written = ap (λ (s : Converter). as_written s.reading) c.self.view_is;
       fault = rw c.fail.ensures.outcome c.fail.ensures.kept;
-      games = rw c.fail.ensures.outcome (ap (λ (s : Converter). s.games) c.self.view_is);
+      games = ap (λ (s : Converter). s.games) c.self.view_is;
       probes = omega (arith, ap (λ (s : Converter). s.reading.most_probes) c.self.view_is);
       none_just_finished = ap (λ (s : Converter). s.just_finished) c.self.view_is ∙ c.requires.none_just_finished;
       finished = rw c.fail.ensures.outcome (ap (λ (s : Converter). s.is_finished) c.self.view_is ∙ c.requires.not_finished);
       counted = rw (c.fail.ensures.outcome, c.lexical.ensures) refl;
     }
 
-pub invariant_of-self-in-Token : goal.invariant_of-self-in-Token
-invariant_of-self-in-Token g c =
+-- not the end, or a token that was not taken
+not_ended : (g : _) (c : goal.Joined-else-is_end g)
+    → (c.is_end-is_end.result && is_ok (outcome_at c.in-Token.token.at c.accept_unless_marker-met.result)) ≡ false
+not_ended g c =
+    let ok : is_ok c.settle-outcome.result ≡ is_ok (outcome_at c.in-Token.token.at c.accept_unless_marker-met.result) =
+    ap is_ok c.settle-outcome.ensures.outcome in
+    elim c.else-is_end.branch [
+      | else-is_end-via-then-is_end+else-is_ok w ↦ rw (w.if-is_end.true, ← ok, ← w.is_ok.ensures.value) w.if-is_ok.false
+      | else-is_end-via-else-is_end w ↦ rw w.if-is_end.false refl
+    ]
+
+now_is : (g : _) (c : goal.Joined-else-is_end g) → c.else-is_end.self ≡ record {
+  lexer = c.finish.follows.lender-at-none;
+  reading = c.accept_unless_marker-met.new.self;
+  games = c.self.inside.games;
+  just_finished = game_in_reader_if c.self.inside.has_finished_game c.accept_unless_marker-met.new.self;
+  is_finished = c.self.inside.is_finished;
+  fault = c.settle-outcome.new.fault;
+}
+now_is g c =
+    elim c.else-is_end.branch [
+      | else-is_end-via-then-is_end+else-is_ok w ↦ w.self-is
+      | else-is_end-via-else-is_end w ↦ w.self-is
+    ]
+
+pub returns-else-is_end : goal.returns-else-is_end
+returns-else-is_end g c =
+    let none = ap (λ (s : Converter). s.fault) c.self.view_is ∙ c.requires.no_fault in
+    let not_over = ap (λ (s : Converter). s.is_finished) c.self.view_is ∙ c.requires.not_finished in
+    let flag = not_just_finished _ _ (ap (λ (s : Converter). s.just_finished) c.self.view_is ∙ c.requires.none_just_finished) in
+    let t : Token = record { at = c.in-Token.token.at; kind = kind_of c.in-Token.token.kind } in
+    let l = c.finish.follows.lender-at-none in
+    let met = c.accept_unless_marker-met in
+    let r = met.result in
+    let e = c.is_end-is_end.result in
+    let now = now_is g c in
+    let keeps : Keeps c.self.inside.reader met.new.self = kept _ _ _ _ r met.ensures in
+    let near = subst (λ e. Nearer e c.self.inside.lexer l) (sym c.is_end-is_end.ensures)
+    (nearer_by t.kind c.self.inside.lexer l t (rw c.in-Token.is at c.finish.follows.holds-at-none.closes)) in
+    record {
+      after = λ p u given left has_read.
+          let here = subst (λ (s : Converter). HasRead p s given) (sym c.self.view_is) has_read in
+          let left_here = subst (λ (s : Converter). HasLeft s.lexer u given) (sym c.self.view_is) left in
+          let left_behind = rw c.in-Token.is at c.finish.follows.holds-at-none.left in
+          rw (← c.self.view_is, now, flag, c.settle-outcome.ensures.fault, c.settle-outcome.ensures.outcome)
+          (closes_token p _ u given t l met.new.self c.self.inside.is_finished _ e r (not_ended g c) here
+          (subst (λ e. Left u given e l t) (sym c.is_end-is_end.ensures) (left_by u given t.kind l t (left_behind u given left_here)))
+          met.ensures);
+      count = rw (← c.self.view_is, now, c.settle-outcome.ensures.outcome) (count_at_end c.self.inside.lexer l t.at e r near);
+      advances = rw (← c.self.view_is, now, c.settle-outcome.ensures.outcome)
+          (advances_at_end c.self.inside.lexer l t.at e r (not_ended g c) near);
+      ready = rw (now, c.settle-outcome.ensures.outcome)
+          (ready_at_end c.self.inside.lexer l c.self.inside.reader met.new.self c.self.inside.games t.at t.kind _ _ _ _ e r
+          (not_ended g c) near met.ensures (c.self.invariant.few none) (c.self.invariant.fewer_plies none not_over));
+      written =
+          ap (λ (s : Converter). as_written s.reading) now ∙ written_same c.self.inside.reader met.new.self keeps.profile keeps.told
+          ∙ ap (λ (s : Converter). as_written s.reading) c.self.view_is;
+      fault = ap (λ (s : Converter). s.fault) now ∙ c.settle-outcome.ensures.fault;
+      games = ap (λ (s : Converter). s.games) now ∙ ap (λ (s : Converter). s.games) c.self.view_is;
+      probes = omega (arith, ap (λ (s : Converter). s.reading.most_probes) c.self.view_is, ap (λ (s : Converter). s.reading.most_probes) now, keeps.probes);
+      none_just_finished = ap (λ (s : Converter). s.just_finished) now ∙ ap (λ b. game_in_reader_if b met.new.self) flag;
+      finished = rw c.settle-outcome.ensures.outcome (ap (λ (s : Converter). s.is_finished) now ∙ not_over ∙ goes_on_at t.at r);
+      counted = rw c.settle-outcome.ensures.outcome
+          (counts_token c.self.inside.reader met.new.self _ t.at r _ met.ensures);
+    }
+
+pub invariant_of-self-else-is_end : goal.invariant_of-self-else-is_end
+invariant_of-self-else-is_end g c =
     let gives = rw c.in-Token.is at c.finish.follows.holds-at-none.closes in
     let none = ap (λ (s : Converter). s.fault) c.self.view_is ∙ c.requires.no_fault in
     let not_over = ap (λ (s : Converter). s.is_finished) c.self.view_is ∙ c.requires.not_finished in
     let flag = not_just_finished _ _ (ap (λ (s : Converter). s.just_finished) c.self.view_is ∙ c.requires.none_just_finished) in
-    rw (c.is_ended-self-inside.ensures, c.none_at_end-closed.ensures, c.settle-outcome.ensures.fault, c.settle-outcome.ensures.games, c.settle-outcome.ensures.outcome, c.is_end-is_end.ensures, flag)
-    (sound_behind c.self.inside.lexer c.finish.follows.lender-at-none c.self.inside.reader
-    c.accept-accepted.new.self c.self.inside.games c.in-Token.token.at _ _ c.accept-accepted.result refl
-    (nearer_by _ c.self.inside.lexer c.finish.follows.lender-at-none _ gives) c.accept-accepted.ensures.finished
-    (c.self.invariant.count none) (c.self.invariant.few none) (c.self.invariant.fewer_plies none not_over) c.accept-accepted.ensures.plies
-    (subst IsKnown (sym c.accept-accepted.ensures.profile) c.self.invariant.known))
-
-pub accept-accepted-requires : goal.accept-accepted-requires
-accept-accepted-requires g c =
-    let none = ap (λ (s : Converter). s.fault) c.self.view_is ∙ c.requires.no_fault in (
-      search fits_reader,
-      (omega (arith, c.self.invariant.few_plies none, c.self.invariant.count none), rw c.in-Token.is at c.finish.follows.holds-at-none.lengths),
-    )
-
-pub settle-outcome-requires-clause-few : goal.settle-outcome-requires-clause-few
-settle-outcome-requires-clause-few g c =
-    let none = ap (λ (s : Converter). s.fault) c.self.view_is ∙ c.requires.no_fault in
-    omega (arith, c.self.invariant.few none, c.self.invariant.count none)
-
-pub settle-outcome-requires-clause-no_fault : goal.settle-outcome-requires-clause-no_fault
-settle-outcome-requires-clause-no_fault g c = ap (λ (s : Converter). s.fault) c.self.view_is ∙ c.requires.no_fault
-
-pub returns-in-NeedMore : goal.returns-in-NeedMore
-returns-in-NeedMore g c = absurd (rw c.in-NeedMore.is at c.finish.follows.holds-at-none.closes)
-
-pub invariant_of-self : goal.invariant_of-self
-invariant_of-self g c = absurd (rw c.in-NeedMore.is at c.finish.follows.holds-at-none.closes)
+    let t : Token = record { at = c.in-Token.token.at; kind = kind_of c.in-Token.token.kind } in
+    let l = c.finish.follows.lender-at-none in
+    let r = c.accept_unless_marker-met.result in
+    let near = subst (λ e. Nearer e c.self.inside.lexer l) (sym c.is_end-is_end.ensures ∙ c.if-is_end.false)
+    (nearer_by t.kind c.self.inside.lexer l t gives) in
+    rw flag
+    (sound_behind c.self.inside.lexer l c.self.inside.reader c.accept_unless_marker-met.new.self c.self.inside.games near
+    (c.self.invariant.count none) (c.self.invariant.few none) (c.self.invariant.fewer_plies none not_over)
+    (kept c.self.inside.reader c.accept_unless_marker-met.new.self t.kind _ r c.accept_unless_marker-met.ensures))
 
 pub invariant_of-self-in-Fault : goal.invariant_of-self-in-Fault
 invariant_of-self-in-Fault g c =
     let flag = not_just_finished _ _ (ap (λ (s : Converter). s.just_finished) c.self.view_is ∙ c.requires.none_just_finished) in
-    rw (c.fail.ensures.kept, flag) (sound_behind_fault c.finish.follows.lender-at-none c.self.inside.reader
-    c.self.inside.games c.self.inside.is_finished c.lexical.result c.self.invariant.known)
+    rw (c.fail.ensures.kept, flag)
+    (sound_behind_fault c.finish.follows.lender-at-none c.self.inside.reader c.self.inside.games c.self.inside.is_finished c.lexical.result)
+
+pub invariant_of-self : goal.invariant_of-self
+invariant_of-self g c = absurd (rw c.in-NeedMore.is at c.finish.follows.holds-at-none.closes)
+
+pub invariant_of-self-then-is_ok : goal.invariant_of-self-then-is_ok
+invariant_of-self-then-is_ok g c =
+    let none = ap (λ (s : Converter). s.fault) c.self.view_is ∙ c.requires.no_fault in
+    let not_over = ap (λ (s : Converter). s.is_finished) c.self.view_is ∙ c.requires.not_finished in
+    let flag = not_just_finished _ _ (ap (λ (s : Converter). s.just_finished) c.self.view_is ∙ c.requires.none_just_finished) in
+    let t : Token = record { at = c.in-Token.token.at; kind = kind_of c.in-Token.token.kind } in
+    let l = c.finish.follows.lender-at-none in
+    let met = c.accept_unless_marker-met in
+    let near = subst (λ e. Nearer e c.self.inside.lexer l) (sym c.is_end-is_end.ensures ∙ c.if-is_end.true)
+    (nearer_by t.kind c.self.inside.lexer l t (rw c.in-Token.is at c.finish.follows.holds-at-none.closes)) in
+    rw flag
+    (sound_at_end c.self.inside.lexer l c.self.inside.reader met.new.self c.self.inside.games near
+    (c.self.invariant.count none) (c.self.invariant.few none) (c.self.invariant.fewer_plies none not_over) (kept _ _ _ _ met.result met.ensures))
+
+pub invariant_of-self-else-is_ok : goal.invariant_of-self-else-is_ok
+invariant_of-self-else-is_ok g c =
+    let flag = not_just_finished _ _ (ap (λ (s : Converter). s.just_finished) c.self.view_is ∙ c.requires.none_just_finished) in
+    let not_ok = ap is_ok (sym c.settle-outcome.ensures.outcome) ∙ sym c.is_ok.ensures.value ∙ c.if-is_ok.false in
+    rw (flag, c.settle-outcome.ensures.fault, c.settle-outcome.ensures.outcome)
+    (sound_if_not_ok c.finish.follows.lender-at-none c.accept_unless_marker-met.new.self c.self.inside.games c.self.inside.is_finished
+    c.in-Token.token.at c.accept_unless_marker-met.result not_ok)

@@ -1,20 +1,17 @@
-use Rattle.pgn_game.proofs.Words.{◌≡◌, ℕ, ◌-◌, ◌<◌, ◌≤◌, List, ◌++◌, length, take, drop, Option, Consumes, arith}
-use Rattle.pgn_game.proofs.Words.{length-take-le, take-append-le, ap, ◌∙◌}
+use Rattle.pgn_game.proofs.Words.{◌≡◌, ℕ, ◌-◌, ◌<◌, ◌≤◌, List, length, take, drop, Option, Consumes, arith, length-take-le}
 use Rattle.std.proofs.lemmas.Grind.{common_steps}
 use Rattle.pgn_game.proofs.read_buffer.ReadBuffer.fill.Goals as goal
 
 -- the bytes that a read gave are those of the buffer
-given : (a b : Option (List ℕ)) (count : ℕ) (front back : List ℕ)
-    → count ≤ length front → (count ≡ 0 → ⊥) → Consumes a b (take count front)
-    → (0 < length (take (count - 0) (drop 0 (front ++ back)))) × Consumes a b (take (count - 0) (drop 0 (front ++ back)))
-given a b count front back within some consumed =
+given : (a b : Option (List ℕ)) (count : ℕ) (bytes : List ℕ)
+    → count ≤ length bytes → (count ≡ 0 → ⊥) → Consumes a b (take count bytes)
+    → (0 < length (take (count - 0) (drop 0 bytes))) × Consumes a b (take (count - 0) (drop 0 bytes))
+given a b count bytes within some consumed =
     let all : count - 0 ≡ count = omega arith in
-    let same : take (count - 0) (drop 0 (front ++ back)) ≡ take count front =
-    ap (λ n. take n (front ++ back)) all ∙ take-append-le count front back within in
-    rw same (omega (arith, length-take-le count front within, some), consumed)
+    rw all (omega (arith, length-take-le count bytes within, some), consumed)
 
 pub returns-in-Ok-clause-fills : goal.returns-in-Ok-clause-fills
-returns-in-Ok-clause-fills g c = given _ _ c.in-Ok.count _ _ c.in-Ok.ensures.bound.0 c.in-Ok.count-test.1 c.in-Ok.ensures.bytes.0
+returns-in-Ok-clause-fills g c = given _ _ c.in-Ok.count _ c.in-Ok.ensures.bound.0 c.in-Ok.count-test.1 c.in-Ok.ensures.bytes.0
 
 pub returns-in-Ok-clause-fits : goal.returns-in-Ok-clause-fits
 returns-in-Ok-clause-fits g c = grind (arith, common_steps)

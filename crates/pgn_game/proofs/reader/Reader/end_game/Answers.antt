@@ -1,4 +1,6 @@
-use Rattle.pgn_game.proofs.Words.{◌≤◌, Option, Bor, option_copied, unwrap_or, Marker, ◌≡◌, ℕ, Bool, true, false, not, bytes_eq, List, length, refl, sym, ap, subst, ◌∙◌, arith, codes, is_some, None, Some, Err, Appends, le-leb, err_from_is_err_and, AppendsFront, one_more, Put, EndGame, text_at, line_at, kind_of, TokenKind, MarkerInVariation, ResultDiffers, value_of, Part, marker_text, depth, TagPairs, levels_of_part, marker_of, result_for, IsOpen, text_refusal, ReaderState}
+use Rattle.pgn_game.proofs.Words.{◌≤◌, Option, Bor, option_copied, unwrap_or, Marker, ◌≡◌, ℕ, Bool, true, false, not, bytes_eq, List, length, refl, sym, ap, subst, ◌∙◌, arith, codes, is_some, None, Some, Result, Ok, Err, OnOk, IsFalse, Appends, le-leb, err_from_is_err_and, AppendsFront, Device, one_more, Put, EndGame, text_at, line_at, Kind, Reason, MarkerInVariation, ResultDiffers, Between, value_of, Part, marker_text, depth, TagPairs, levels_of_part, marker_of, result_for, IsOpen, text_refusal, ReaderState, CountsWrites, Finished, Keeps, PutResult, TakesEntry, is_outside_the_table, unused}
+use Rattle.pgn_game.specs.PutResult.{ended}
+use Rattle.pgn_game.proofs.putting.MarkerToReader.{to_game}
 use Rattle.pgn_game.proofs.ReaderLemmas.{reader_alike, tags_fit, text_fits, no_name, depth_is, marker_inside, marker_differs, marker_free, none_around, test_of, differs, front_of_more, front_after, begins_as, ends_ill, ends_unbegun, ends_well, marker_untried, entry_refused, takes_marker}
 use Rattle.pgn_game.proofs.reader.Reader.end_game.Goals as goal
 
@@ -31,17 +33,56 @@ of_part old marker other t part op =
       ap (λ (t : TagPairs). differs missing (value_of t.held (codes "Result")) text) (sym op.pairs) ∙ t.result,
     )
 
-passes : (old : ReaderState) (marker : Marker) → Tested old marker false → (k : TokenKind)
-    → marker_of (kind_of k) ≡ Some (marker_text marker) → (part : Part) → IsOpen old part
-    → text_refusal old.profile part (kind_of k) ≡ None
+passes : (old : ReaderState) (marker : Marker) → Tested old marker false → (k : Kind)
+    → marker_of k ≡ Some (marker_text marker) → (part : Part) → IsOpen old part
+    → text_refusal old.profile part k ≡ None
 passes old marker t k is part op =
-    let h = of_part old marker false t part op in marker_free old (kind_of k) _ (marker_text marker) part is h.0 refl h.1
+    let h = of_part old marker false t part op in marker_free old k _ (marker_text marker) part is h.0 refl h.1
+
+-- what `end_game` ensures
+abbrev Ensured : ReaderState → Marker → ReaderState → Result Unit Reason → Device → Type 0
+Ensured old marker new r d = record {
+  takes : (k : Kind) → marker_of k ≡ Some (marker_text marker) → TakesEntry old k new (ended r) d;
+  keeps : Keeps old new;
+  between : OnOk r (new.stage ≡ Between);
+  counted : CountsWrites (ended r) d;
+}
+
+refuses : (old : ReaderState) (marker : Marker) (reason : Reason) (o : Option (List ℕ)) (m : ℕ) → IsFalse (is_outside_the_table reason)
+    → ((k : Kind) → marker_of k ≡ Some (marker_text marker)
+    → (part : Part) → IsOpen old part → text_refusal old.profile part k ≡ Some reason)
+    → Ensured old marker old (Err reason) (unused o m)
+refuses old marker reason o m inside why = record {
+  takes = λ k is. entry_refused old k reason o m inside (why k is) (λ part. marker_untried part k (ap is_some is));
+  keeps = record { profile = refl; told = refl; plies = omega arith; probes = omega arith };
+  between = tt;
+  counted = rw inside;
+}
+
+-- the marker of a game at depth 0 whose Result does not differ was put
+module _ (old : ReaderState) (marker : Marker) (new : ReaderState) (d : Device) (t : Tested old marker false)
+    (most : new.most_probes ≡ old.most_probes) where
+  fails : (reason : Reason) → PutResult old (IsOpen old) (to_game marker) new (Err reason) d → Ensured old marker new (Err reason) d
+  fails reason put = record {
+    takes = λ k is. takes_marker old new k marker _ d put tt most is (passes old marker t k is);
+    keeps = put.keeps;
+    between = tt;
+    counted = put.counted;
+  }
+
+  ends : new.stage ≡ Between → PutResult old (IsOpen old) (to_game marker) new (Ok Finished) d → Ensured old marker new (Ok tt) d
+  ends at put = record {
+    takes = λ k is. takes_marker old new k marker _ d put (ap is_some is, at) most is (passes old marker t k is);
+    keeps = put.keeps;
+    between = at;
+    counted = put.counted;
+  }
 
 pub returns-then-depth-gt0 : goal.returns-then-depth-gt0
-returns-then-depth-gt0 g c = λ k is.
+returns-then-depth-gt0 g c =
     let old = c.args.self.now in
-    entry_refused old (kind_of k) MarkerInVariation _ _ refl (λ part op.
-    marker_inside old (kind_of k) (marker_text c.args.marker) part is (le-leb 1 (depth (levels_of_part part))
+    refuses old c.args.marker MarkerInVariation _ _ refl (λ k is part op.
+    marker_inside old k (marker_text c.args.marker) part is (le-leb 1 (depth (levels_of_part part))
     (omega (
       arith,
       c.if-depth-gt0.true,
@@ -49,17 +90,15 @@ returns-then-depth-gt0 g c = λ k is.
       depth_is old part op,
       ap (λ (r : ReaderState). length r.text.levels.around) c.self.view_is,
     ))))
-    (λ part. marker_untried part k (ap is_some is))
 
 pub returns-then-ne : goal.returns-then-ne
-returns-then-ne g c = λ k is.
+returns-then-ne g c =
     let old = c.args.self.now in
     let t =
     tested old _ c.args.marker _ c.value.result _ c.unwrap_or.result c.text.result true c.self.view_is c.depth.ensures.value c.if-depth-gt0.false
     c.value.ensures.value c.text_at-missing.ensures.text c.unwrap_or.ensures c.text.ensures.text (sym c.if-ne.true ∙ c.ne.ensures) in
-    entry_refused old (kind_of k) ResultDiffers _ _ refl (λ part op.
-    let h = of_part old c.args.marker true t part op in marker_differs old (kind_of k) _ (marker_text c.args.marker) part is h.0 refl h.1)
-    (λ part. marker_untried part k (ap is_some is))
+    refuses old c.args.marker ResultDiffers _ _ refl (λ k is part op.
+    let h = of_part old c.args.marker true t part op in marker_differs old k _ (marker_text c.args.marker) part is h.0 refl h.1)
 
 pub begin_movetext-requires : goal.begin_movetext-requires
 begin_movetext-requires g c = (search reader_alike, c.requires)
@@ -76,10 +115,8 @@ returns-in_err-begin_movetext g c =
     let p = err_from_is_err_and c.from_residual.result c.from_residual.ensures.1 in
     let begins = c.in_err-begin_movetext.ensures.begins in
     rw (p.1 ∙ ap Err p.2)
-    (λ k is.
-    takes_marker old _ k c.args.marker _ _
-    (ends_unbegun old _ c.args.marker c.in_err-begin_movetext.field-0.0 _ c.requires begins) tt begins.probes is
-    (passes old c.args.marker t k is))
+    (fails old c.args.marker _ _ t begins.probes _
+    (ends_unbegun old _ c.args.marker c.in_err-begin_movetext.field-0.0 _ c.requires begins))
 
 pub returns-in_err-put : goal.returns-in_err-put
 returns-in_err-put g c =
@@ -92,12 +129,10 @@ returns-in_err-put g c =
     let front = front_of_more (g.W.Sink.taken c.begin_movetext.new.out) (g.W.Sink.taken c.put.new.out) _
     (text_at (line_at c.self-2.inside.line (Put c.text-2.result.now)) EndGame) c.in_err-put.ensures.text in
     rw (p.1 ∙ ap Err p.2)
-    (λ k is.
-    takes_marker old _ k c.args.marker _ _
+    (fails old c.args.marker _ _ t begins.probes _
     (ends_ill old _ _ c.args.marker _ _ _ _ _ _ _
     (record { begins = begins; outside = none_around old.text.levels.around t.none; spells = c.text-2.ensures.text; at = c.requires })
-    front refl c.in_err-put.ensures.counted) tt begins.probes is
-    (passes old c.args.marker t k is))
+    front refl c.in_err-put.ensures.counted))
 
 pub returns-in_err-end_game : goal.returns-in_err-end_game
 returns-in_err-end_game g c =
@@ -113,15 +148,13 @@ returns-in_err-end_game g c =
     let front = front_after (g.W.Sink.taken c.begin_movetext.new.out) (g.W.Sink.taken c.put.new.out)
     (g.W.Sink.taken c.end_game.new.out) _ _ c.in_ok-put.ensures.text last in
     rw (p.1 ∙ ap Err p.2)
-    (λ k is.
-    takes_marker old _ k c.args.marker _ _
+    (fails old c.args.marker _ _ t begins.probes _
     (ends_ill old _ _ c.args.marker _ _ _ _ _ _ _
     (record { begins = begins; outside = none_around old.text.levels.around t.none; spells = c.text-2.ensures.text; at = c.requires }) front refl
-    (c.in_err-end_game.ensures.counted ∙ ap one_more c.in_ok-put.ensures.counted)) tt begins.probes is
-    (passes old c.args.marker t k is))
+    (c.in_err-end_game.ensures.counted ∙ ap one_more c.in_ok-put.ensures.counted)))
 
 pub returns : goal.returns
-returns g c = λ k is.
+returns g c =
     let old = c.args.self.now in
     let t =
     tested old _ c.args.marker _ c.value.result _ c.unwrap_or.result c.text.result false c.self.view_is c.depth.ensures.value c.if-depth-gt0.false
@@ -129,12 +162,11 @@ returns g c = λ k is.
     let begins = begins_as old _ _ _ c.self-2.view_is c.in_ok-begin_movetext.ensures.begins in
     let last = subst (Appends (g.W.Sink.taken c.put.new.out) (g.W.Sink.taken c.end_game.new.out))
     (ap (λ (l : List ℕ). text_at l EndGame) c.in_ok-put.ensures.line) c.in_ok-end_game.ensures.text in
-    takes_marker old _ k c.args.marker _ _
+    ends old c.args.marker _ _ t begins.probes refl
     (ends_well old _ _ c.args.marker _ _ _ _ _ _ _ _
     (record { begins = begins; outside = none_around old.text.levels.around t.none; spells = c.text-2.ensures.text; at = c.requires })
     c.in_ok-put.ensures.text last refl
-    c.in_ok-end_game.ensures.line (c.in_ok-end_game.ensures.counted ∙ c.in_ok-put.ensures.counted)) (ap is_some is, refl) begins.probes is
-    (passes old c.args.marker t k is)
+    c.in_ok-end_game.ensures.line (c.in_ok-end_game.ensures.counted ∙ c.in_ok-put.ensures.counted))
 
 pub depth-requires : goal.depth-requires
 depth-requires g c = search text_fits

@@ -32,7 +32,8 @@ returns-in_err-put g c =
     rw (p.1 ∙ ap Err p.2)
     (record {
       puts = fails_item old _ _ (model_item c.args.item) _ _ _ _ _ _ c.requires.stage begins
-          (record { profile = refl; stage = refl; tags = refl; earlier = refl; probes = omega arith }) c.in_err-put.field-0.0 c.in_err-put.ensures;
+          (record { profile = refl; told = refl; stage = refl; tags = refl; earlier = refl; probes = omega arith })
+          c.in_err-put.field-0.0 c.in_err-put.ensures;
       goes_on = tt;
       probes = begins.probes;
     })
@@ -44,7 +45,7 @@ returns g c =
     let begins = begins_as old _ _ _ c.self.view_is c.in_ok-begin_movetext.ensures.begins in
     record {
       puts = puts_item old _ _ (model_item i) _ _ _ _ _ _ c.requires.stage begins
-          (record { profile = refl; stage = refl; tags = refl; earlier = refl; probes = omega arith })
+          (record { profile = refl; told = refl; stage = refl; tags = refl; earlier = refl; probes = omega arith })
           (λ is. absurd (cc (no_move i))) c.in_ok-put.ensures;
       goes_on = tt;
       probes = begins.probes;

@@ -1,0 +1,15 @@
+use Rattle.pgn_game.proofs.Words.{◌-◌, profile_of}
+use Rattle.pgn_game.proofs.ReaderFitsInMemory.{reading_fits_converter}
+use Rattle.pgn_game.proofs.twice.MarkerToReading.{given_none}
+use Rattle.pgn_game.proofs.checked.Reading.new.Goals as goal
+
+pub new-converter-requires : goal.new-converter-requires
+new-converter-requires g c = (search reading_fits_converter, c.requires)
+
+pub take_marker_for_missing_result-requires : goal.take_marker_for_missing_result-requires
+take_marker_for_missing_result-requires g c = search reading_fits_converter
+
+pub returns-clause-given : goal.returns-clause-given
+returns-clause-given g c = λ left.
+    given_none (profile_of g.row.T (g.row.L - 1) c.args.mode) c.new-converter.result c.take_marker_for_missing_result.new.self c.new.result left
+    c.new-converter.ensures.stands c.take_marker_for_missing_result.ensures c.new.ensures

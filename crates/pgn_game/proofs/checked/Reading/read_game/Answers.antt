@@ -1,0 +1,77 @@
+use Rattle.pgn_game.proofs.Words.{Reading, ap, err_from_is_err_and, refl, subst, sym, ◌∙◌, ◌+◌, ◌<◌, ◌^◌, false, None, []}
+use Rattle.pgn_game.specs.Readings.{IsReadyToEnd, MarkerComes, no_sink}
+use Rattle.pgn_game.proofs.ReaderFitsInMemory.{reading_alike, reading_fits_converter}
+use Rattle.pgn_game.proofs.twice.FailuresOfSteps.{behind_still, no_write, reader_reason}
+use Rattle.pgn_game.proofs.twice.GamesOfReadings.{all_read, first_fails, game_read, marker_refused_first}
+use Rattle.pgn_game.proofs.checked.Reading.read_game.Goals as goal
+
+pub next_marker-requires : goal.next_marker-requires
+next_marker-requires g c = (search reading_alike, c.requires.going)
+
+pub returns-in_err-mark : goal.returns-in_err-mark
+returns-in_err-mark g c =
+    let e = err_from_is_err_and c.from_residual.result c.from_residual.ensures.1 in
+    let f = c.in_err-mark.field-0.0 in
+    record {
+      reads = λ q left_old given stands.
+          rw (e.1, e.2)
+          (first_fails q left_old _ given stands.has_given.has_read.passes c.next_marker.new.self f _ _ (no_write f.reason _ _ c.in_err-mark.ensures.counted)
+          (c.in_err-mark.ensures.reads q left_old given stands.has_given));
+      going = rw e.1 tt;
+      counted = rw (e.1, e.2) c.in_err-mark.ensures.counted;
+    }
+
+pub returns-in_default : goal.returns-in_default
+returns-in_default g c =
+    record {
+      reads = λ q left_old given stands.
+          let reads = rw c.in_default.is at c.in_ok-mark.ensures.reads in
+          all_read q left_old (g.R.Source.left c.next_marker.new.source) given stands.has_given.has_read.passes c.next_marker.new.self _ _ (reads q left_old given stands.has_given);
+      going = tt;
+      counted = c.in_ok-mark.ensures.counted;
+    }
+
+pub end_game-requires : goal.end_game-requires
+end_game-requires g c =
+    let ready = rw c.in-Some.is at c.in_ok-mark.ensures.ready in
+    let here = subst IsReadyToEnd (sym c.self.view_is) ready in
+    (search reading_fits_converter, (here.ready, (here.going.no_fault, (here.going.not_finished, here.none_just_finished))))
+
+pub returns-in_err-end_game : goal.returns-in_err-end_game
+returns-in_err-end_game g c =
+    let e = err_from_is_err_and c.from_residual-in_err-end_game.result c.from_residual-in_err-end_game.ensures.1 in
+    let f = c.in_err-end_game.field-0.0 in
+    let counted = reader_reason f.reason (g.R.Source.failures c.next_marker.new.source) 0 0 c.in_err-end_game.ensures.counted in
+    let new : Reading = record { converter = c.end_game.new.self; unused = []; has_ended = false } in
+    record {
+      reads = λ q left_old given stands.
+          let reads = rw c.in-Some.is at c.in_ok-mark.ensures.reads in
+          let left_new = g.R.Source.left c.next_marker.new.source in
+          let met = subst (λ (r : Reading). MarkerComes q left_old left_new given c.in-Some.mark r None None)
+          (sym c.self.view_is) (reads q left_old given stands.has_given) in
+          rw (e.1, e.2)
+          (marker_refused_first q left_old left_new given c.in-Some.mark _ new None no_sink stands.has_given.takes stands.has_given.has_read.passes met f
+          (no_write f.reason _ _ counted) c.in_err-end_game.ensures.ends);
+      going = rw e.1 tt;
+      counted = rw (e.1, e.2) (behind_still f.reason _ _ _ _ _ _ c.in_ok-mark.ensures.counted.0 refl counted);
+    }
+
+pub returns : goal.returns
+returns g c =
+    let ended = c.in_ok-end_game.ensures in
+    let same = ap (λ (r : Reading). r.converter.games) c.self.view_is ∙ c.next_marker.ensures.games in
+    record {
+      reads = λ q left_old given stands.
+          let reads = rw c.in-Some.is at c.in_ok-mark.ensures.reads in
+          let left_new = g.R.Source.left c.next_marker.new.source in
+          let met = subst (λ (r : Reading). MarkerComes q left_old left_new given c.in-Some.mark r None None)
+          (sym c.self.view_is) (reads q left_old given stands.has_given) in
+          game_read q left_old left_new given c.in-Some.mark _ _ None no_sink stands.has_given.takes stands.has_given.has_read.passes met
+          ended.ends ended.lexer refl refl ended.games ended.just_finished ended.fault;
+      going = (
+        record { not_finished = ended.not_finished; no_fault = ended.fault },
+        ended.games ∙ ap (λ n. n + 1) same,
+        subst (λ n. n < 2 ^ 64) same ended.few,
+      );
+      counted = (c.in_ok-mark.ensures.counted.0, refl);
+    }

@@ -1,0 +1,12 @@
+use Rattle.pgn_game.proofs.Words.{ap, ◌∙◌, Reading}
+use Rattle.pgn_game.proofs.ReaderFitsInMemory.{reading_fits_converter}
+use Rattle.pgn_game.proofs.checked.Reading.totals.Goals as goal
+
+pub games-requires : goal.games-requires
+games-requires g c = search reading_fits_converter
+
+pub whole_plies-requires : goal.whole_plies-requires
+whole_plies-requires g c = (search reading_fits_converter, ap (λ (r : Reading). r.converter.fault) c.self.view_is ∙ c.requires.going.no_fault)
+
+pub most_probes-requires : goal.most_probes-requires
+most_probes-requires g c = search reading_fits_converter

@@ -1,0 +1,20 @@
+use Rattle.pgn_game.proofs.Words.{◌≡◌, ◌+◌, ◌-◌, ◌^◌, ◌≤◌, None, false, length, device, games_of, as_written, ReadsSoFar}
+use Rattle.pgn_game.proofs.games.next_marker.Given as goal
+
+abbrev pub invariant-loop-mark : goal.invariant-loop-mark
+invariant-loop-mark g l =
+    record {
+      not_finished : l.converter.is_finished ≡ false;
+      fault : l.converter.fault ≡ None;
+      games : l.converter.games ≡ l.fn.converter.games;
+      written : as_written l.converter.reading ≡ as_written l.fn.converter.reading;
+      probes : l.fn.converter.reading.most_probes ≤ l.converter.reading.most_probes;
+      source : g.R.Source.failures l.source ≡ g.R.Source.failures l.fn.source;
+      sink : g.W.Sink.failures l.out ≡ g.W.Sink.failures l.fn.out;
+      reads : ReadsSoFar (games_of l.fn.converter l.fn.buffer) (games_of l.converter l.buffer)
+          (device g.R.Source.left g.R.Source.failures l.fn.source l.source)
+          (device g.W.Sink.taken g.W.Sink.failures l.fn.out l.out);
+    }
+
+abbrev pub decreases-loop-mark : goal.decreases-loop-mark
+decreases-loop-mark g l = (2 ^ 62 + 4096) - (l.converter.lexer.count + length l.buffer)

@@ -1,0 +1,68 @@
+-- The end of a text stands behind its last byte.
+use Rattle.pgn_lexer.specs.Spelling.{Found, gives}
+use Rattle.pgn_lexer.specs.TokensOf.{Within, begins, begins_after, begins_class, begins_first, column, onto, at_end, tokens_from, has_mark}
+use Rattle.pgn_game.proofs.Words.{Token, ◌≡◌, ℕ, ◌+◌, Bool, true, false, List, [], ◌∷◌, ◌++◌, length, drop, suc, subst, arith, tokens_of, is_end}
+use Rattle.std.specs.List.{AllByRecursion}
+
+-- nothing that begins at a byte is the end
+abbrev FoundNoEnd : Found → Type 0
+FoundNoEnd (gives k) = is_end k ≡ false
+FoundNoEnd _ = Unit {0}
+
+class_no_end : (at : ℕ) (c : _) (b : ℕ) (bs : List ℕ) → FoundNoEnd (begins_class at c b bs)
+class_no_end at c b bs = grind arith
+
+first_no_end : (at : ℕ) (c : _) (b : ℕ) (bs : List ℕ) → FoundNoEnd (begins_first at c b bs)
+first_no_end at c b bs = grind (arith, class_no_end)
+
+after_no_end : (at : ℕ) (goes : Bool) (c : _) (b : ℕ) (bs : List ℕ) → FoundNoEnd (begins_after goes at c b bs)
+after_no_end at goes c b bs = grind (arith, class_no_end)
+
+begins_no_end : (at : ℕ) (within : Within) (b : ℕ) (bs : List ℕ) → FoundNoEnd (begins at within b bs)
+begins_no_end at within b bs = grind (arith, first_no_end, class_no_end, after_no_end)
+
+-- tokens of which the end, where it is among them, stands at this place
+abbrev EndAt : ℕ → List Token → Type 0
+EndAt n ts = AllByRecursion (λ t. is_end t.kind ≡ true → t.at ≡ n) ts
+
+onto_end_at : (n at : ℕ) (f : Found) (ts : List Token) → FoundNoEnd f → EndAt n ts → EndAt n (onto at f ts)
+onto_end_at n at f ts h1 h2 = grind arith
+
+end_at_end : (at : ℕ) (within : Within) → EndAt (at + 0) (at_end at within)
+end_at_end at within = grind arith
+
+from_end_at : (at : ℕ) (within : Within) (s : List ℕ) → EndAt (at + length s) (tokens_from at within s)
+from_end_at at within [] = end_at_end at within
+from_end_at at within (b ∷ bs) =
+    onto_end_at _ at (begins at within b bs) _ (begins_no_end at within b bs)
+    (rw (sum at (length bs)) (from_end_at (at + 1) _ bs))
+  where
+    sum : (m n : ℕ) → m + suc n ≡ m + 1 + n
+    sum m n = omega arith
+
+from_start : (s : List ℕ) → EndAt (length s) (tokens_from 0 column s)
+from_start s = rw (none (length s)) (from_end_at 0 column s)
+  where
+    none : (n : ℕ) → n ≡ 0 + n
+    none n = omega arith
+
+-- a byte order mark is counted
+text_end_at : (s : List ℕ) → EndAt (length s) (tokens_of s)
+text_end_at (a ∷ b ∷ c ∷ s) =
+    let u = a ∷ b ∷ c ∷ s in
+    elim (has_mark u)
+    as (λ x. EndAt (length u) (elim x [ true ↦ tokens_from 3 column (drop 3 u) | false ↦ tokens_from 0 column u ])) [
+      | true ↦ rw (three (length s)) (from_end_at 3 column s)
+      | false ↦ from_start u
+    ]
+  where
+    three : (n : ℕ) → suc (suc (suc n)) ≡ 3 + n
+    three n = omega arith
+text_end_at s = from_start s
+
+all_behind : (n : ℕ) (given : List Token) (t : Token) → EndAt n (given ++ t ∷ []) → is_end t.kind ≡ true → t.at ≡ n
+all_behind n [] t all is = all.0 is
+all_behind n (x ∷ xs) t all is = all_behind n xs t all.1 is
+
+pub end_place : (u : List ℕ) (given : List Token) (t : Token) → tokens_of u ≡ given ++ t ∷ [] → is_end t.kind ≡ true → t.at ≡ length u
+end_place u given t whole is = all_behind (length u) given t (subst (EndAt (length u)) whole (text_end_at u)) is

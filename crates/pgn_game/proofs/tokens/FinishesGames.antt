@@ -1,0 +1,245 @@
+-- Behind the last piece: up to a marker, to the game that it ends, and to the end.
+use Rattle.pgn_lexer.specs.Tokens as tokens
+use Rattle.pgn_game.proofs.Words.{Token, Kind, Between, Fault, Profile, Part, Game, ◌≡◌, ℕ, ◌+◌, ◌<◌, Bool, true, false, IsTrue, List, [], ◌∷◌, ◌++◌, length, Option, None, Some, Ok, Err, refl, sym, ap, subst, ◌∙◌, arith, append-nil, append_assoc, length-append, Appends-nil, ◌↔◌, Device, tokens_of, Standing, coming, HasLeft, refusal, is_end, next, progress_with, Progress, Read, read, due, written_so_far as written, Gains, ReaderState, IsKnown, as_written, Converter, HasRead, IsLastGame as IsLast, game_in_reader, game_in_reader_if, Finishes, FinishesToFault, SameGames, ReadsMore, EndsGame, StaysBetween, FaultAtEnd, AtEndSoFar, AfterStepAtEnd, part_after, Stands, false≢true, le_refl}
+use Rattle.pgn_game.specs.declared.marker.Mark.{Mark}
+use Rattle.pgn_game.specs.declared.converter.Met.TheVariants.{Token as Other, Marker as AtMarker}
+use Rattle.pgn_game.specs.ConverterSteps.{LeftSoFar, LeavesMarker, ReadsToEnd, FailsAtEnd}
+use Rattle.pgn_game.specs.ConverterCalls.{IsSound}
+use Rattle.pgn_game.proofs.tokens.OneMoreToken.{read-passes, gains_none, gains_more, stops_more, games_still, counts_still, position_still}
+use Rattle.pgn_game.proofs.tokens.NoneBeforeFault.{none_before_fault}
+use Rattle.pgn_game.proofs.tokens.StepsAtEnd.{left_of, let_go, end_at, is_the_end}
+use Rattle.pgn_game.proofs.tokens.MarkerToGame.{reads_none, reads_more, meets_more, not_taken_more, gains_known, fault_not_taken, has_read_marker, game_by_marker, gains_marker, fault_of_marker}
+
+-- ---- up to a marker
+
+-- before the first step
+pub left_none : (p : Profile) (u : List ℕ) (given : List Token) (old seen : Converter) (o : Option (List ℕ))
+    → seen ≡ old → HasLeft old.lexer u given → HasRead p old given
+    → LeftSoFar p u given old (record seen { just_finished = None }) o o
+left_none p u given old seen o is left has_read =
+    record {
+      tokens = given;
+      left = rw is left;
+      reads = reads_none p given _ o (let_go p seen given (rw is has_read));
+      stays = λ between. ap (λ (s : Converter). s.reading) is;
+    }
+
+module _ (p : Profile) (u : List ℕ) (given : List Token) (old now new : Converter) (a c d : Option (List ℕ))
+    (so : LeftSoFar p u given old now a c) (same : as_written new.reading ≡ as_written now.reading) where
+  further : (ts : List Token) → ReadsMore p so.tokens ts new c d → ReadsMore p given ts new a d
+  further ts reads = reads_more p given so.tokens now a c so.reads ts new d reads same
+
+  still_there : StaysBetween now new → StaysBetween old new
+  still_there stays between =
+      let kept = stays between in
+      kept ∙ so.stays (ap (λ (r : ReaderState). r.stage) (sym kept) ∙ between)
+
+  pub left_more : AfterStepAtEnd p u so.tokens now new (Ok (Some Other)) c d → LeftSoFar p u given old new a d
+  left_more (t, left, reads, stays) =
+      record { tokens = so.tokens ++ t ∷ []; left = left; reads = further _ reads; stays = still_there stays }
+
+  pub left_marker : (m : Mark) → AfterStepAtEnd p u so.tokens now new (Ok (Some (AtMarker m))) c d → LeavesMarker p u given m new a d
+  left_marker m (t, left, meets) =
+      record {
+        tokens = so.tokens;
+        token = t;
+        left = left;
+        meets = meets_more p given so.tokens now a c so.reads so.tokens t m new d meets same;
+      }
+
+  pub left_end : AfterStepAtEnd p u so.tokens now new (Ok None) c d → ReadsToEnd p u given new a d × StaysBetween old new
+  left_end (t, ends, stays) = (
+    record {
+      tokens = so.tokens;
+      token = t;
+      ends = record {
+        whole = ends.whole;
+        is_end = ends.is_end;
+        place = ends.place;
+        passes = ends.passes;
+        reads = further so.tokens ends.reads;
+        has_read = ends.has_read;
+        between = ends.between;
+      };
+    },
+    still_there stays,
+  )
+
+  pub left_fault : (f : Fault) → AfterStepAtEnd p u so.tokens now new (Err f) c d → FailsAtEnd p u given f new.reading a d
+  left_fault f (t, rest, cut, fails) =
+      record {
+        tokens = so.tokens;
+        token = t;
+        rest = rest;
+        cut = cut;
+        fails = not_taken_more p given so.tokens now a c so.reads so.tokens t f new.reading d fails same;
+      }
+
+-- ---- games
+
+-- where the end passes, it changes nothing
+end_adds : (p : Profile) (part : Part) (games : List Game) (k : Kind) → is_end k ≡ true → refusal p part k ≡ None
+    → progress_with games (next part k) ≡ record { games = games; part = part }
+end_adds p part games k e none =
+    let k_is = is_the_end k e in
+    let between = end_at p part.stage part.pairs part.name part.items (rw k_is at none) in
+    subst (λ j. progress_with games (next part j) ≡ record { games = games; part = part }) (sym k_is)
+    (subst (λ s. progress_with games (next (record { stage = s; pairs = part.pairs; name = part.name; items = part.items }) tokens.end)
+    ≡ record { games = games; part = record { stage = s; pairs = part.pairs; name = part.name; items = part.items } })
+    (sym between) refl)
+
+end_same : (p : Profile) (ts : List Token) (t : Token) → (read p ts).fault ≡ None → is_end t.kind ≡ true
+    → refusal p (part_after p ts) t.kind ≡ None → (read p (ts ++ t ∷ [])).progress ≡ (read p ts).progress
+end_same p ts t passes e none =
+    ap (λ (r : Read). r.progress) (read-passes p ts t passes none)
+    ∙ end_adds p (read p ts).progress.part (read p ts).progress.games t.kind e none
+
+-- before the first marker
+pub ended_none : (p : Profile) (old : Converter) (u : List ℕ) (b : Option ℕ) (given : List Token) (o : Option (List ℕ))
+    → Stands p old u b given → AtEndSoFar p u given old false o o
+ended_none p old u b given o stands =
+    record {
+      tokens = given;
+      left = left_of p old u b given stands;
+      has_read = stands.has_read;
+      no_fewer = le_refl _;
+      game = (λ is. absurd (false≢true is), λ less. absurd (omega (arith, less)));
+      last = λ is. absurd (false≢true is);
+      gains = gains_none;
+    }
+
+-- behind the end a game counts as just finished only between games
+pub sound_finished : (lexer : Standing) (reading : ReaderState) (games : ℕ) {had has is_finished : Bool} {fault : Option Fault}
+    → IsSound lexer reading games had is_finished fault
+    → (IsTrue has → reading.stage ≡ Between) → fault ≡ None → IsSound lexer reading games has is_finished fault
+sound_finished lexer reading games sound between none =
+    record {
+      count = sound.count;
+      few = sound.few;
+      few_plies = sound.few_plies;
+      fewer_plies = sound.fewer_plies;
+      between = between;
+      no_fault = λ is. none;
+    }
+
+module _ (p : Profile) (u : List ℕ) (given : List Token) (now : Converter) (finished_game : Bool)
+    (a c : Option (List ℕ)) (so : AtEndSoFar p u given now finished_game a c) where
+  same_length : (ts : List Token) → SameGames p so.tokens ts
+      → IsTrue finished_game ↔ (length (read p given).progress.games < length (read p ts).progress.games)
+  same_length ts same = subst (λ gs. IsTrue finished_game ↔ (length (read p given).progress.games < length {A = Game} gs)) (sym same) so.game
+
+  -- a marker ends a game
+  pub ended_game : IsKnown p → (m : Mark) (mid new : Converter) (sink : Device) → LeavesMarker p u so.tokens m mid c sink.before
+      → EndsGame mid.reading m new.reading (Ok tt) sink → new.lexer ≡ mid.lexer → new.fault ≡ None → new.games ≡ mid.games + 1
+      → new.just_finished ≡ Some (game_in_reader new.reading) → AtEndSoFar p u given new true a sink.after
+  ended_game known m mid new sink leaves ends lexer no_fault games just_finished =
+      let meets = leaves.meets in
+      let ts = leaves.tokens ++ leaves.token ∷ [] in
+      let h = has_read_marker p so.tokens leaves.tokens leaves.token m mid c sink meets new.reading ends new.lexer new.is_finished in
+      let one = game_by_marker p so.tokens leaves.tokens leaves.token m mid c sink meets new.reading ends in
+      let count : length (read p ts).progress.games ≡ length (read p so.tokens).progress.games + 1 =
+      ap (length {A = Game}) one.1 ∙ length-append (read p so.tokens).progress.games (one.0 ∷ []) in
+      record {
+        tokens = ts;
+        left = rw lexer leaves.left;
+        has_read = record {
+          profile = h.profile;
+          no_fault = no_fault;
+          passes = h.passes;
+          agrees = h.agrees;
+          games = games ∙ h.games;
+          plies = h.plies;
+          probed = h.probed;
+          tried = h.tried;
+          just_finished = rw just_finished h.just_finished;
+        };
+        no_fewer = omega (arith, count, so.no_fewer);
+        game = (λ is. omega (arith, count, so.no_fewer), λ more. refl);
+        last = λ is between. ((read p so.tokens).progress.games, one.0, one.1, one.2);
+        gains = gains_more so.gains
+            (gains_marker p so.tokens leaves.tokens leaves.token m mid c sink meets new.reading ends known);
+      }
+
+  -- the end is reached
+  pub ended_input : IsKnown p → (new : Converter) (d : Option (List ℕ)) (flag : Bool) → ReadsToEnd p u so.tokens new c d
+      → StaysBetween now new → (new.reading.stage ≡ Between → flag ≡ finished_game)
+      → Finishes p u given (record {
+        lexer = new.lexer;
+        reading = new.reading;
+        games = new.games;
+        just_finished = game_in_reader_if flag new.reading;
+        is_finished = new.is_finished;
+        fault = new.fault;
+      }) finished_game a d
+  ended_input known new d flag to stays flag_is =
+      let ends = to.ends in
+      let ts = to.tokens ++ to.token ∷ [] in
+      let h = ends.has_read in
+      let end_is = end_same p to.tokens to.token ends.reads.has_read.passes ends.is_end ends.passes in
+      let same : SameGames p so.tokens ts = ap (λ (b : Progress). b.games) end_is ∙ ends.reads.no_game in
+      let same_flag = flag_is ends.between in
+      let gains : Gains p so.tokens ts c d = gains_more (gains_known p known so.tokens to.tokens new c d ends.reads)
+      (record { text = []; due_for = ap (written p) end_is ∙ sym (append-nil (due p to.tokens)); appended = Appends-nil d }) in
+      record {
+        has_read = subst (HasRead p _) (sym ends.whole) (record {
+          profile = h.profile;
+          no_fault = h.no_fault;
+          passes = h.passes;
+          agrees = h.agrees;
+          games = h.games;
+          plies = h.plies;
+          probed = h.probed;
+          tried = h.tried;
+          just_finished = hands ts flag (λ is. held_still ts same (subst IsTrue same_flag is) ends.between);
+        });
+        game = rw ends.whole (same_length ts same);
+        just_finished = λ is. (game_in_reader new.reading, ap (λ b. game_in_reader_if b new.reading) (same_flag ∙ is));
+        none_just_finished = λ is. ap (λ b. game_in_reader_if b new.reading) (same_flag ∙ is);
+        gains = rw ends.whole (gains_more so.gains gains);
+      }
+    where
+      held_still : (ts : List Token) → SameGames p so.tokens ts → IsTrue finished_game → new.reading.stage ≡ Between
+          → IsLast (Some (game_in_reader new.reading)) (read p ts).progress.games
+      held_still ts same is between =
+          let kept = stays between in
+          subst (λ gs. IsLast (Some (game_in_reader new.reading)) gs) (sym same)
+          (rw kept (so.last is (rw kept at between)))
+
+      hands : (ts : List Token) (b : Bool) → (IsTrue b → IsLast (Some (game_in_reader new.reading)) (read p ts).progress.games)
+          → IsLast (game_in_reader_if b new.reading) (read p ts).progress.games
+      hands ts true h = h refl
+      hands ts false h = tt
+
+  ended_badly : (f : Fault) (l : Standing) (new : Converter) (d : Option (List ℕ)) → HasLeft l u given → (read p given).fault ≡ None
+      → FaultAtEnd p so.tokens (tokens_of u) f new.reading c d → new.games ≡ now.games → FinishesToFault p u given new f a d
+  ended_badly f l new d left passes to same =
+      let stops = stops_more so.gains to.stops in
+      record {
+        stops = stops;
+        no_game = none_before_fault p u l left passes stops;
+        games = same ∙ so.has_read.games ∙ sym (ap (length {A = Game}) (games_still so.gains to.stops ∙ to.no_game));
+        counts = counts_still so.gains to.stops to.counts;
+        position = to.position ∙ sym (position_still so.gains to.stops);
+      }
+
+  -- a token was not taken
+  pub failed_input : IsKnown p → (f : Fault) (l : Standing) (new : Converter) (d : Option (List ℕ)) → HasLeft l u given
+      → (read p given).fault ≡ None → FailsAtEnd p u so.tokens f new.reading c d → new.games ≡ now.games
+      → FinishesToFault p u given new f a d
+  failed_input known f l new d left passes h same =
+      ended_badly f l new d left passes
+      (subst (λ ts. FaultAtEnd p so.tokens ts f new.reading c d) (sym h.cut)
+      (fault_not_taken p known so.tokens h.tokens h.token h.rest f new.reading c d h.fails)) same
+
+  -- a marker was not taken
+  pub failed_game : IsKnown p → (f : Fault) (l : Standing) (m : Mark) (mid new : Converter) (sink : Device) → HasLeft l u given
+      → (read p given).fault ≡ None → LeavesMarker p u so.tokens m mid c sink.before
+      → EndsGame mid.reading m new.reading (Err f) sink → new.games ≡ mid.games → mid.games ≡ now.games
+      → FinishesToFault p u given new f a sink.after
+  failed_game known f l m mid new sink left passes leaves ends same same_before =
+      let rest = coming mid.lexer [] in
+      let cut : tokens_of u ≡ leaves.tokens ++ leaves.token ∷ rest =
+      leaves.left ∙ append_assoc leaves.tokens (leaves.token ∷ []) rest in
+      ended_badly f l new sink.after left passes
+      (subst (λ ts. FaultAtEnd p so.tokens ts f new.reading c sink.after) (sym cut)
+      (fault_of_marker p so.tokens leaves.tokens leaves.token m mid c sink leaves.meets new.reading known rest f ends)) (same ∙ same_before)

@@ -1,0 +1,171 @@
+-- The tokens up to a marker, and the game that it ends; or the token that was not taken.
+use Rattle.pgn_game.proofs.Words.{Token, Fault, Profile, Missing, counts_as, takes_the_marker, Game, ◌≡◌, ℕ, ◌+◌, Bool, false, List, [], ◌∷◌, ◌++◌, Option, None, Some, Result, Ok, Err, refl, sym, ap, subst, ◌∙◌, Device, Appends-nil, Appends-trans, append-nil, append_assoc, Standing, Finished, IsAccepted, with_missing, counting, ReaderState, IsKnown, as_written, known_text, Gains, finished_game_of, Converter, game_in_reader, HasRead, TakesToken, FaultAtEnd, OneGame, SameGames, ReadsMore, Meets, NotTaken, EndsGame, due_as, ended_by, part_after}
+use Rattle.pgn_game.specs.declared.marker.Mark.{Mark as CodeMark}
+use Rattle.pgn_game.specs.Profile.{known_result}
+use Rattle.pgn_game.proofs.tokens.OneMoreToken.{gains_more, stops_more, games_still, counts_still, position_still}
+use Rattle.pgn_game.proofs.tokens.AcceptedToConverter.{at_fault, gains_token, has_read_game, one_game}
+
+-- readers of the same profile that were told the same write alike
+pub written_same : (old new : ReaderState) → new.profile ≡ old.profile → new.told ≡ old.told → as_written new ≡ as_written old
+written_same old new profile told =
+    ap (λ (q : Profile). counting q (known_text q.missing_result new.told)) profile
+    ∙ ap (λ (o : Option (List ℕ)). counting old.profile (known_text old.profile.missing_result o)) told
+
+-- where a missing Result counts as a text, that is written
+known_is : (missing : Missing) (told : Option (List ℕ)) → missing ≡ counts_as (known_result missing) → counts_as (known_text missing told) ≡ missing
+known_is (counts_as text) told known = refl
+known_is takes_the_marker told known = absurd (cc)
+
+pub written_known : (p : Profile) (r : ReaderState) → IsKnown p → r.profile ≡ p → as_written r ≡ p
+written_known p r known is =
+    ap (λ (q : Profile). counting q (known_text q.missing_result r.told)) is
+    ∙ ap (with_missing p) (known_is p.missing_result r.told known)
+
+-- the reader that has met a marker, and the one that has failed at a token, write as before it
+pub written_at_marker : {p : Profile} {given tokens : List Token} {t : Token} {m : CodeMark} {c : Converter} {a b : Option (List ℕ)}
+    (meets : Meets p given tokens t m c a b) → as_written meets.reader ≡ as_written c.reading
+written_at_marker {c} meets = written_same c.reading meets.reader (sym meets.enters.profile) (sym meets.enters.told)
+
+pub written_at_fault : {p : Profile} {given tokens : List Token} {t : Token} {f : Fault} {new : ReaderState} {a b : Option (List ℕ)}
+    (h : NotTaken p given tokens t f new a b) → as_written h.now.reading ≡ as_written new
+written_at_fault {new} h = written_same new h.now.reading (sym h.profile) (sym h.told)
+
+-- More tokens behind more tokens.
+pub reads_none : (p : Profile) (given : List Token) (now : Converter) (o : Option (List ℕ)) → HasRead p now given → ReadsMore p given given now o o
+reads_none p given now o has_read =
+    record {
+      more = [];
+      extends = sym (append-nil given);
+      has_read = has_read;
+      no_game = refl;
+      gains = record { text = []; due_for = sym (append-nil (due_as (as_written now.reading) p given)); appended = Appends-nil o };
+    }
+
+module _ (p : Profile) (given mid : List Token) (now : Converter) (a b : Option (List ℕ)) (first : ReadsMore p given mid now a b) where
+  pub reads_more : (tokens : List Token) (new : Converter) (c : Option (List ℕ)) → ReadsMore p mid tokens new b c
+      → as_written new.reading ≡ as_written now.reading → ReadsMore p given tokens new a c
+  reads_more tokens new c second same =
+      let w : Profile = as_written new.reading in
+      let before : due_as w p mid ≡ due_as w p given ++ first.gains.text =
+      subst (λ (w : Profile). due_as w p mid ≡ due_as w p given ++ first.gains.text) (sym same) first.gains.due_for in
+      record {
+        more = first.more ++ second.more;
+        extends = second.extends ∙ ap (λ (l : List Token). l ++ second.more) first.extends ∙ append_assoc given first.more second.more;
+        has_read = second.has_read;
+        no_game = second.no_game ∙ first.no_game;
+        gains = record {
+          text = first.gains.text ++ second.gains.text;
+          due_for = second.gains.due_for ∙ ap (λ (l : List ℕ). l ++ second.gains.text) before
+              ∙ append_assoc (due_as w p given) first.gains.text second.gains.text;
+          appended = Appends-trans a b c _ _ first.gains.appended second.gains.appended;
+        };
+      }
+
+  pub meets_more : (tokens : List Token) (t : Token) (m : CodeMark) (new : Converter) (c : Option (List ℕ)) → Meets p mid tokens t m new b c
+      → as_written new.reading ≡ as_written now.reading → Meets p given tokens t m new a c
+  meets_more tokens t m new c meets same =
+      record {
+        reader = meets.reader;
+        reads = reads_more tokens (record new { reading = meets.reader }) c meets.reads (written_at_marker meets ∙ same);
+        is = meets.is;
+        place = meets.place;
+        enters = meets.enters;
+      }
+
+  pub not_taken_more : (tokens : List Token) (t : Token) (f : Fault) (new : ReaderState) (c : Option (List ℕ)) → NotTaken p mid tokens t f new b c
+      → as_written new ≡ as_written now.reading → NotTaken p given tokens t f new a c
+  not_taken_more tokens t f new c h same =
+      record {
+        now = h.now;
+        mid = h.mid;
+        reads = reads_more tokens h.now h.mid h.reads (written_at_fault h ∙ same);
+        place = h.place;
+        no_marker = h.no_marker;
+        stopped = h.stopped;
+        profile = h.profile;
+        told = h.told;
+        probes = h.probes;
+      }
+
+-- What was read and written up to a token.
+module _ (p : Profile) (known : IsKnown p) (given tokens : List Token) where
+  pub gains_known : (now : Converter) (a c : Option (List ℕ)) → ReadsMore p given tokens now a c → Gains p given tokens a c
+  gains_known now a c reads =
+      let w = written_known p now.reading known reads.has_read.profile in
+      record {
+        text = reads.gains.text;
+        due_for = subst (λ (w : Profile). due_as w p tokens ≡ due_as w p given ++ reads.gains.text) w reads.gains.due_for;
+        appended = reads.gains.appended;
+      }
+
+  -- behind what was read before
+  fault_more : (ts : List Token) (f : Fault) (reading : ReaderState) (a c d : Option (List ℕ)) → Gains p given tokens a c
+      → SameGames p given tokens → FaultAtEnd p tokens ts f reading c d → FaultAtEnd p given ts f reading a d
+  fault_more ts f reading a c d first same to =
+      record {
+        stops = stops_more first to.stops;
+        no_game = games_still first to.stops ∙ to.no_game ∙ same;
+        counts = counts_still first to.stops to.counts;
+        position = to.position ∙ sym (position_still first to.stops);
+      }
+
+  -- A token was not taken.
+  pub fault_not_taken : (t : Token) (us : List Token) (f : Fault) (new : ReaderState) (a c : Option (List ℕ))
+      → NotTaken p given tokens t f new a c → FaultAtEnd p given (tokens ++ t ∷ us) f new a c
+  fault_not_taken t us f new a c h =
+      let w = written_known p h.now.reading known h.reads.has_read.profile ∙ sym h.reads.has_read.profile in
+      let at : FaultAtEnd p tokens (tokens ++ t ∷ us) (record { at = t.at; reason = f.reason }) new h.mid c =
+      at_fault p h.now tokens t h.now.lexer new false h.reads.has_read h.profile h.probes w us h.stopped in
+      fault_more (tokens ++ t ∷ us) f new a h.mid c (gains_known h.now a h.mid h.reads) h.reads.no_game
+      (subst (λ n. FaultAtEnd p tokens (tokens ++ t ∷ us) (record { at = n; reason = f.reason }) new h.mid c) (sym h.place) at)
+
+-- The marker was met by the converter c, and is taken, or not.
+module _ (p : Profile) (given tokens : List Token) (t : Token) (m : CodeMark) (c : Converter) (a : Option (List ℕ)) (sink : Device)
+    (meets : Meets p given tokens t m c a sink.before) (new : ReaderState) where
+  abbrev before : Converter
+  before = record c { reading = meets.reader }
+
+  pub takes : (result : Result Unit Fault) → EndsGame c.reading m new result sink
+      → TakesToken meets.reader t.kind new (ended_by result) sink
+  takes result ends = meets.enters.takes new (ended_by result) sink (ends.takes t.kind meets.is)
+
+  pub game_accepted : EndsGame c.reading m new (Ok tt) sink
+      → IsAccepted meets.reader (part_after p tokens) t.kind new Finished sink.before sink.after
+  game_accepted ends = (takes (Ok tt) ends).accepts (part_after p tokens) meets.reads.has_read.agrees
+
+  module _ (ends : EndsGame c.reading m new (Ok tt) sink) where
+    abbrev h : IsAccepted meets.reader (part_after p tokens) t.kind new Finished sink.before sink.after
+    h = game_accepted ends
+
+    pub has_read_marker : (l : Standing) (finished : Bool) → HasRead p
+        (record { lexer = l; reading = new; games = c.games + 1; just_finished = Some (game_in_reader new); is_finished = finished; fault = None })
+        (tokens ++ t ∷ [])
+    has_read_marker l finished =
+        has_read_game p before tokens t l new finished meets.reads.has_read (takes (Ok tt) ends).keeps.profile
+        (takes (Ok tt) ends).keeps.probes h.free h.leads h.plies h.tried
+
+    pub game_by_marker : (g : Game) × OneGame p given (tokens ++ t ∷ []) g × (game_in_reader new ≡ finished_game_of g)
+    game_by_marker =
+        let one = one_game p before tokens t c.lexer new false meets.reads.has_read (takes (Ok tt) ends).keeps.profile
+        (takes (Ok tt) ends).keeps.probes h.free h.leads in
+        (one.0, one.1 ∙ ap (λ gs. gs ++ one.0 ∷ []) meets.reads.no_game, one.2)
+
+    pub gains_marker : IsKnown p → Gains p given (tokens ++ t ∷ []) a sink.after
+    gains_marker known =
+        let w = written_known p meets.reader known meets.reads.has_read.profile ∙ sym meets.reads.has_read.profile in
+        gains_more (gains_known p known given tokens before a sink.before meets.reads)
+        (gains_token p before tokens t c.lexer new false meets.reads.has_read (takes (Ok tt) ends).keeps.profile
+        (takes (Ok tt) ends).keeps.probes w h.free h.appended)
+
+  pub fault_of_marker : IsKnown p → (us : List Token) (f : Fault) → EndsGame c.reading m new (Err f) sink
+      → FaultAtEnd p given (tokens ++ t ∷ us) f new a sink.after
+  fault_of_marker known us f ends =
+      let took = takes (Err f) ends in
+      let w = written_known p meets.reader known meets.reads.has_read.profile ∙ sym meets.reads.has_read.profile in
+      let at : FaultAtEnd p tokens (tokens ++ t ∷ us) (record { at = t.at; reason = f.reason }) new sink.before sink.after =
+      at_fault p before tokens t c.lexer new false meets.reads.has_read took.keeps.profile took.keeps.probes w us
+      (took.accepts (part_after p tokens) meets.reads.has_read.agrees) in
+      fault_more p known given tokens (tokens ++ t ∷ us) f new a sink.before sink.after
+      (gains_known p known given tokens before a sink.before meets.reads) meets.reads.no_game
+      (subst (λ n. FaultAtEnd p tokens (tokens ++ t ∷ us) (record { at = n; reason = f.reason }) new sink.before sink.after)
+      (meets.place ∙ sym ends.place) at)

@@ -1,0 +1,102 @@
+-- A piece that was read up to a marker, and the game that the marker ends, or the fault there.
+use Rattle.pgn_game.specs.declared.marker.Mark.{Mark}
+use Rattle.pgn_game.specs.ConverterSteps.{ReadsPiece, ReadsToMarker, FailsIn}
+use Rattle.pgn_game.proofs.Words.{Fault, Profile, Token, Device, still, ReaderState, Converter, Stands, Reaches, IsKnown, EndsGame, FedAll, FedGame, FedToFault, StopsIn, at_token, too_long, AreNext, IsLastGame, FaultAtEnd, FinishedGame, game_in_reader, read, ◌≡◌, ℕ, ◌+◌, List, [], ◌∷◌, ◌++◌, Option, None, Some, Ok, Err, refl, sym, ap, subst, ◌∙◌}
+use Rattle.pgn_game.proofs.tokens.AcceptedToConverter.{next_in_piece}
+use Rattle.pgn_game.proofs.tokens.MarkerToGame.{gains_known, fault_not_taken, has_read_marker, game_by_marker, gains_marker, fault_of_marker}
+use Rattle.pgn_game.proofs.tokens.StepsInPiece.{lets_go}
+
+pub reaches : {p : Profile} {old : Converter} {u : List ℕ} {b : Option ℕ} {given : List Token}
+    → Stands p old u b given → Reaches p old u b given
+reaches stands = record { lexer = stands.lexer; has_read = stands.has_read }
+
+module _ (p : Profile) (known : IsKnown p) (u : List ℕ) (b : Option ℕ) (given : List Token) (a : Option (List ℕ)) where
+  -- no marker ends in the piece
+  pub fed_all : (piece : List ℕ) (new : Converter) (c : Option (List ℕ))
+      → ReadsPiece p u b given piece new a c → new.just_finished ≡ None → FedAll p u b given piece new a c
+  fed_all piece new c reads none =
+      record {
+        tokens = reads.tokens;
+        stands = record { known = known; lexer = reads.stands; has_read = reads.reads.has_read };
+        decided = reads.decided;
+        empty = reads.empty;
+        no_game = reads.reads.no_game;
+        none_just_finished = none;
+        gains = gains_known p known given reads.tokens new a c reads.reads;
+      }
+
+  -- a token of the piece is not taken
+  fed_fault : {ts : List Token} (piece : List ℕ) (f : Fault) (reading : ReaderState) (c : Option (List ℕ))
+      → AreNext (u ++ piece) (still b piece) ts → FaultAtEnd p given ts f reading a c → FedToFault p u b given piece f reading a c
+  fed_fault {ts} piece f reading c next to =
+      record { fed = record { tokens = ts; next = next; stops = to.stops }; no_game = to.no_game; counts = to.counts; position = to.position }
+
+  pub fed_stops : (piece : List ℕ) {f : Fault} (reading : ReaderState) (c : Option (List ℕ))
+      → StopsIn u piece (λ f. FailsIn p u b given piece f reading a c)
+      (λ front. (now : Converter) × ReadsPiece p u b given front now a c × (reading ≡ now.reading)) f
+      → StopsIn u piece (λ f. FedToFault p u b given piece f reading a c)
+      (λ front. (now : Converter) × FedAll p u b given front now a c × (reading ≡ now.reading)) f
+  fed_stops piece reading c (at_token g fails) =
+      at_token g (fed_fault piece g reading c fails.next
+      (fault_not_taken p known given fails.tokens fails.token [] g reading a c fails.fails))
+  fed_stops piece reading c (too_long front rest cut place more (now, reads, same)) =
+      too_long front rest cut place more (record now { just_finished = None }, held, same)
+    where
+      gone : Reaches p (record now { just_finished = None }) (u ++ front) (still b front) reads.tokens
+      gone = lets_go p now (u ++ front) (still b front) reads.tokens (record { lexer = reads.stands; has_read = reads.reads.has_read })
+
+      held : FedAll p u b given front (record now { just_finished = None }) a c
+      held =
+          record {
+            tokens = reads.tokens;
+            stands = record { known = known; lexer = gone.lexer; has_read = gone.has_read };
+            decided = reads.decided;
+            empty = reads.empty;
+            no_game = reads.reads.no_game;
+            none_just_finished = refl;
+            gains = gains_known p known given reads.tokens now a c reads.reads;
+          }
+
+  -- a marker ends in it, which was met by the converter c
+  module _ (piece : List ℕ) (used : ℕ) (m : Mark) (c : Converter) (sink : Device)
+      (reads : ReadsToMarker p u given piece used m c a sink.before) (new : Converter) where
+    pub fed_game : EndsGame c.reading m new.reading (Ok tt) sink → new.lexer ≡ c.lexer → new.games ≡ c.games + 1
+        → new.just_finished ≡ Some (game_in_reader new.reading) → new.fault ≡ None → FedGame p u given piece used new a sink.after
+    fed_game ends lexer games finished fault =
+        let ts = reads.tokens ++ reads.token ∷ [] in
+        let h = has_read_marker p given reads.tokens reads.token m c a sink reads.meets new.reading ends new.lexer new.is_finished in
+        let one = game_by_marker p given reads.tokens reads.token m c a sink reads.meets new.reading ends in
+        record {
+          tokens = reads.tokens;
+          marker = reads.token;
+          game = one.0;
+          stands = record {
+            known = known;
+            lexer = rw lexer reads.ends.stands;
+            has_read = record {
+              profile = h.profile;
+              no_fault = fault;
+              passes = h.passes;
+              agrees = h.agrees;
+              games = games ∙ h.games;
+              plies = h.plies;
+              probed = h.probed;
+              tried = h.tried;
+              just_finished = subst (λ o. IsLastGame o (read p ts).progress.games) (sym finished) h.just_finished;
+            };
+          };
+          at_limit = reads.at_limit;
+          decided = reads.ends.decided;
+          ends = reads.ends.ends;
+          no_game = reads.meets.reads.no_game;
+          one_game = one.1;
+          just_finished = finished ∙ ap (λ (g : FinishedGame). Some g) one.2;
+          gains = gains_marker p given reads.tokens reads.token m c a sink reads.meets new.reading ends known;
+        }
+
+    -- it is rejected, or a write failed
+    pub marker_fails : (f : Fault) → EndsGame c.reading m new.reading (Err f) sink
+        → FedToFault p u b given piece f new.reading a sink.after
+    marker_fails f ends =
+        fed_fault piece f new.reading sink.after (λ s follows. next_in_piece c.lexer u piece used reads.ends.stands s tt)
+        (fault_of_marker p given reads.tokens reads.token m c a sink reads.meets new.reading known [] f ends)

@@ -1,0 +1,515 @@
+-- One game of each reading: from the tokens up to its marker to the marker that is taken, or to the
+-- token at which reading stops.
+use Rattle.std.proofs.lemmas.List.{append_cancel_left}
+use Rattle.std.proofs.lemmas.Option.{IfSome_then}
+use Rattle.pgn_lexer.specs.Tokens as tokens
+use Rattle.pgn_game.specs.declared.marker.Mark.{Mark as CodeMark}
+use Rattle.pgn_game.proofs.Words.{Kind, Token, Reason, Changed, WriteFault, Fault, Profile, Missing, takes_the_marker, Game, Part, no_part, ◌≡◌, ℕ, ◌+◌, ◌<◌, ◌||◌, ◌&&◌, ◌==◌, not, is_some, bytes_eq, Bool, true, false, List, [], ◌∷◌, ◌++◌, length, take, drop, Option, None, Some, Ok, Err, IfSome, refl, sym, ap, subst, ◌∙◌, append_assoc, append-nil, drop-length, arith, and_parts, not-false, bytes_eq-Decides, Appends-nil, Appends-trans, Appends, Device, TokensRise, tokens_of, coming, Stage, Between, InMovetext, HoldsText, Marker, counting, refusal, is_end, marker_of, torn, gain, text_next, Next, going, whole, next, Read, read, progress_with, FinishedGame, IsLastGame, game_in_reader, ReaderState, as_written, known_text, IsStopped, Converter, HasRead, marker_text, game_of, Mark, is_other, is_changed, HasMarked, HasMatched, Reading, model_mark, changed_reason, OneGame, SameGames, ReadsMore, EndsGame, due_as, part_after, text_of_games as text_of}
+use Rattle.pgn_game.specs.ReaderState as reader_state
+use Rattle.pgn_game.specs.Text.{game_text}
+use Rattle.pgn_game.specs.Readings.{AfterRead, AllRead, ComesNext, EndComes, FirstFails, GameRead, GameWritten, HasCome, HasGiven, MarkerComes, ReadFails, ReadingStops, SecondFails, StandsBetween, StandsIn, at_read, at_token, as_changed}
+use Rattle.pgn_game.specs.Readings as readings
+use Rattle.pgn_game.specs.ConverterSteps.{told_of}
+use Rattle.pgn_game.proofs.tokens.AcceptedToConverter.{follows_first, follows_own}
+use Rattle.pgn_game.proofs.tokens.MarkerToGame.{game_accepted, has_read_marker, takes, written_at_fault, written_at_marker}
+use Rattle.pgn_game.proofs.tokens.NextGrows.{next_is}
+use Rattle.pgn_game.proofs.tokens.OneMoreToken.{read-passes, torn-none}
+use Rattle.pgn_game.proofs.tokens.WholeInput.{known_left}
+use Rattle.pgn_game.proofs.tokens.StepsAtEnd.{end_at, is_the_end}
+use Rattle.pgn_game.proofs.twice.MarkerCounts.{changes, marker_finishes, no_marker_goes, refusals_are_inside, same_game_text}
+use Rattle.pgn_game.proofs.twice.MarksInTurn.{marked_game, marked_more, marked_on, matched_next, matched_on, no_end_before}
+
+-- The end adds nothing, and is no marker.
+end_part : (s : Stage) (ps : List _) (name : List ℕ) (items : List _) → s ≡ Between
+    → next (record { stage = s; pairs = ps; name = name; items = items }) tokens.end
+    ≡ going (record { stage = s; pairs = ps; name = name; items = items })
+end_part s ps name items e =
+    subst (λ s. next (record { stage = s; pairs = ps; name = name; items = items }) tokens.end
+    ≡ going (record { stage = s; pairs = ps; name = name; items = items })) (sym e) refl
+
+end_leads : (q : Profile) (part : Part) (k : Kind) → is_end k ≡ true → refusal q part k ≡ None → next part k ≡ going part
+end_leads q part k is free =
+    let k_is = is_the_end k is in
+    let between = end_at q part.stage part.pairs part.name part.items (subst (λ j. refusal q part j ≡ None) k_is free) in
+    ap (next part) k_is ∙ end_part part.stage part.pairs part.name part.items between
+
+end_gains_nothing : (q w : Profile) (part : Part) (k : Kind) → is_end k ≡ true → refusal q part k ≡ None → gain w part k ≡ []
+end_gains_nothing q w part k is free =
+    ap (λ n. drop (length (torn w part)) (text_next w n)) (end_leads q part k is free) ∙ drop-length (torn w part)
+
+-- The source has given a text that begins with these tokens.
+come_cut : (left_old left_now : Option (List ℕ)) (r : Reading) (ts : List Token) (h : HasCome left_old left_now r ts)
+    → (rest : List Token) × (tokens_of h.bytes ≡ ts ++ rest)
+come_cut left_old left_now r ts h = by_end r.has_ended h.stands
+  where
+    by_end : (e : Bool) → StandsIn e r h.bytes ts left_old → (rest : List Token) × (tokens_of h.bytes ≡ ts ++ rest)
+    by_end false stands = (coming r.converter.lexer r.unused, ap tokens_of stands.bytes ∙ stands.lexer.tokens r.unused (follows_own r.unused))
+    by_end true (left, count, text_is) = (coming r.converter.lexer [], left)
+
+-- ---- the first reading
+
+module _ (q : Profile) (left_old left_new : Option (List ℕ)) (given : List Token) (so : (read q given).fault ≡ None) where
+  -- more tokens bring no mark
+  still_marked : (ts : List Token) (now : Converter) (a c : Option (List ℕ)) → ReadsMore q given ts now a c
+      → (ms : List Mark) → HasMarked q given ms → HasMarked q ts ms
+  still_marked ts now a c reads ms h =
+      subst (λ (ts : List Token). HasMarked q ts ms) (sym reads.extends)
+      (marked_on q given reads.more so (subst (λ (ts : List Token). (read q ts).fault ≡ None) reads.extends reads.has_read.passes)
+      (subst (SameGames q given) reads.extends reads.no_game) ms h)
+
+  pub all_read : (new : Reading) (a c : Option (List ℕ)) → EndComes q left_old given new a c → AllRead q left_old given new
+  all_read new a c h =
+      record {
+        tokens = h.tokens ++ h.token ∷ [];
+        whole = h.whole;
+        has_read = h.has_read;
+        marked = λ ms so.
+            marked_more q h.tokens h.token ms (part_after q h.tokens) h.reads.has_read.passes h.passes
+            (end_leads q (part_after q h.tokens) h.token.kind h.is_end h.passes) (still_marked h.tokens new.converter a c h.reads ms so);
+      }
+
+  -- nothing is written, so it is no write that fails
+  refused_first : (ts : List Token) (t : Token) (f : Fault) (old new : ReaderState) (a c : Option (List ℕ)) → old.profile ≡ q → f.at ≡ t.at
+      → (f.reason ≡ WriteFault → ⊥) → ComesNext left_old ts t → IsStopped old (part_after q ts) t.kind new a c f.reason
+      → readings.WhyFirst q left_old left_new ts f
+  refused_first ts t f old new a c profile place no_write comes stopped = by_stop f.reason refl stopped
+    where
+      by_stop : (r : Reason) → f.reason ≡ r → IsStopped old (part_after q ts) t.kind new a c r → readings.WhyFirst q left_old left_new ts f
+      by_stop r is (reader_state.refused reason some wrote tries here) =
+          subst (readings.WhyFirst q left_old left_new ts)
+          (ap (λ n. record { at = n; reason = r }) (sym place) ∙ ap (λ (x : Reason). record { at = f.at; reason = x }) (sym is))
+          (readings.refused t reason comes
+          (subst (λ (p : Profile). refusal p (part_after q ts) t.kind ≡ Some reason) profile some))
+      by_stop r is (reader_state.unwritten none wrote tries) = absurd (no_write is)
+
+  pub first_fails : (new : Reading) (f : Fault) (a c : Option (List ℕ)) → (f.reason ≡ WriteFault → ⊥)
+      → ReadingStops q left_old left_new given f new a c → FirstFails q left_old left_new given f
+  first_fails new f a c no_write (at_token h) =
+      let n = h.fails in
+      record {
+        tokens = h.tokens;
+        passes = n.reads.has_read.passes;
+        marked = still_marked h.tokens n.now a n.mid n.reads;
+        why = refused_first h.tokens h.token f n.now.reading new.converter.reading n.mid c n.reads.has_read.profile n.place no_write h.comes n.stopped;
+      }
+  first_fails new f a c no_write (at_read h) =
+      record {
+        tokens = h.tokens;
+        passes = h.reads.has_read.passes;
+        marked = still_marked h.tokens h.now a c h.reads;
+        why = readings.unread f h.fails;
+      }
+
+-- ---- the marker
+
+-- What the text of a source begins with.
+pub begins : (left_old left_now : Option (List ℕ)) (r : Reading) (ts : List Token) → HasCome left_old left_now r ts
+    → IfSome left_old (λ s. (rest : List Token) × (tokens_of s ≡ ts ++ rest))
+begins left_old left_now r ts h = by_end r.has_ended h.stands
+  where
+    Begins : List ℕ → Type 0
+    Begins s = (rest : List Token) × (tokens_of s ≡ ts ++ rest)
+
+    by_end : (e : Bool) → StandsIn e r h.bytes ts left_old → IfSome left_old Begins
+    by_end false stands =
+        known_left left_old left_now h.bytes Begins h.consumed
+        (λ rest. (
+          coming r.converter.lexer (r.unused ++ rest),
+          ap tokens_of (ap (λ (l : List ℕ). l ++ rest) stands.bytes ∙ append_assoc stands.used r.unused rest)
+              ∙ stands.lexer.tokens (r.unused ++ rest) (follows_first r.unused rest),
+        ))
+    by_end true (left, count, text_is) =
+        IfSome_then left_old {P = λ s. s ≡ h.bytes} {Q = Begins} text_is (λ s is. (coming r.converter.lexer [], ap tokens_of is ∙ left))
+
+comes_next : (left_old left_now : Option (List ℕ)) (r : Reading) (ts : List Token) (t : Token)
+    → HasCome left_old left_now r (ts ++ t ∷ []) → ComesNext left_old ts t
+comes_next left_old left_now r ts t h =
+    IfSome_then left_old {P = λ s. (rest : List Token) × (tokens_of s ≡ (ts ++ t ∷ []) ++ rest)}
+    {Q = λ s. (rest : List Token) × (tokens_of s ≡ ts ++ t ∷ rest)} (begins left_old left_now r (ts ++ t ∷ []) h)
+    (λ s cut. (cut.0, cut.1 ∙ append_assoc ts (t ∷ []) cut.0))
+
+-- The counts of a converter, and the game just finished, are those of a record that has read them.
+reads_alike : (q : Profile) (ts : List Token) (c : Converter) (n : ℕ) (j : Option FinishedGame)
+    → HasRead q (record { lexer = c.lexer; reading = c.reading; games = n; just_finished = j; is_finished = false; fault = None }) ts
+    → c.games ≡ n → c.just_finished ≡ j → c.fault ≡ None → HasRead q c ts
+reads_alike q ts c n j h games finished fault =
+    record {
+      profile = h.profile;
+      no_fault = fault;
+      passes = h.passes;
+      agrees = h.agrees;
+      games = games ∙ h.games;
+      plies = h.plies;
+      probed = h.probed;
+      tried = h.tried;
+      just_finished = subst (λ o. IsLastGame o (read q ts).progress.games) (sym finished) h.just_finished;
+    }
+
+-- What a reading has come to is not moved by the marker that its converter takes.
+come_still : (left_old left_now : Option (List ℕ)) (r s : Reading) (ts : List Token) → s.converter.lexer ≡ r.converter.lexer
+    → s.unused ≡ r.unused → s.has_ended ≡ r.has_ended → HasCome left_old left_now r ts → HasCome left_old left_now s ts
+come_still left_old left_now r s ts lexer unused ended h =
+    record {
+      bytes = h.bytes;
+      consumed = h.consumed;
+      stands = subst (λ e. StandsIn e s h.bytes ts left_old) (sym ended) (by_end r.has_ended h.stands);
+    }
+  where
+    by_end : (e : Bool) → StandsIn e r h.bytes ts left_old → StandsIn e s h.bytes ts left_old
+    by_end false stands =
+        record {
+          used = stands.used;
+          bytes = stands.bytes ∙ ap (λ (l : List ℕ). stands.used ++ l) (sym unused);
+          lexer = rw (lexer, unused) stands.lexer;
+          at_limit = stands.at_limit;
+          decided = rw unused stands.decided;
+        }
+    by_end true (left, count, text_is) = (rw lexer left, rw lexer count, text_is)
+
+-- The marker that one of the readings has met is taken.
+module _ (q : Profile) (left_old left_new : Option (List ℕ)) (given : List Token) (m : CodeMark) (mid new : Reading) (a : Option (List ℕ)) (sink : Device)
+    (takes_it : q.missing_result ≡ takes_the_marker) (so : (read q given).fault ≡ None)
+    (h : MarkerComes q left_old left_new given m mid a sink.before) where
+  abbrev ts : List Token
+  ts = h.tokens
+
+  abbrev t : Token
+  t = h.token
+
+  abbrev part : Part
+  part = part_after q h.tokens
+
+  abbrev reader : ReaderState
+  reader = h.meets.reader
+
+  profile : reader.profile ≡ q
+  profile = h.meets.reads.has_read.profile
+
+  pub passes : (read q h.tokens).fault ≡ None
+  passes = h.meets.reads.has_read.passes
+
+  pub comes : ComesNext left_old h.tokens h.token
+  comes = comes_next left_old left_new mid ts t h.come
+
+  pub met_marked : (ms : List Mark) → HasMarked q given ms → HasMarked q h.tokens ms
+  met_marked = still_marked q left_old left_new given so ts (record mid.converter { reading = reader }) a sink.before h.meets.reads
+
+  module _ (ends : EndsGame mid.converter.reading m new.converter.reading (Ok tt) sink) where
+    free : refusal q part t.kind ≡ None
+    free =
+        subst (λ (p : Profile). refusal p part t.kind ≡ None) profile
+        (game_accepted q given ts t m mid.converter a sink h.meets new.converter.reading ends).free
+
+    pub game : Game
+    game = game_of part (marker_text m.marker)
+
+    leads : next part t.kind ≡ whole (game_of part (marker_text m.marker))
+    leads = marker_finishes q part t.kind (marker_text m.marker) h.meets.is free
+
+    abbrev more : List Token
+    more = h.tokens ++ h.token ∷ []
+
+    pub one_more : OneGame q given (h.tokens ++ h.token ∷ []) (game_of (part_after q h.tokens) (marker_text m.marker))
+    one_more =
+        ap (λ (r : Read). r.progress.games) (read-passes q ts t passes free)
+        ∙ ap (λ (n : Next). (progress_with (read q ts).progress.games n).games) leads
+        ∙ ap (λ gs. gs ++ game_of part (marker_text m.marker) ∷ []) h.meets.reads.no_game
+
+    between : part_after q more ≡ no_part
+    between =
+        ap (λ (r : Read). r.progress.part) (read-passes q ts t passes free)
+        ∙ ap (λ (n : Next). (progress_with (read q ts).progress.games n).part) leads
+
+    module _ (lexer : new.converter.lexer ≡ mid.converter.lexer) (unused : new.unused ≡ mid.unused) (ended : new.has_ended ≡ mid.has_ended)
+        (games : new.converter.games ≡ mid.converter.games + 1)
+        (finished : new.converter.just_finished ≡ Some (game_in_reader new.converter.reading)) (fault : new.converter.fault ≡ None) where
+      pub stands_behind : StandsBetween q left_old left_new (h.tokens ++ h.token ∷ []) new
+      stands_behind =
+          record {
+            has_given = record {
+              takes = takes_it;
+              come = come_still left_old left_new mid new more lexer unused ended h.come;
+              has_read = reads_alike q more new.converter (mid.converter.games + 1) (Some (game_in_reader new.converter.reading))
+                  (has_read_marker q given ts t m mid.converter a sink h.meets new.converter.reading ends new.converter.lexer false)
+                  games finished fault;
+            };
+            between = between;
+          }
+
+      -- by the first reading
+      pub game_read : GameRead q left_old left_new given m new
+      game_read =
+          record {
+            tokens = more;
+            stands = stands_behind;
+            marked = λ ms marked.
+                subst (λ n. HasMarked q more (ms ++ record { text = marker_text m.marker; at = n } ∷ [])) h.meets.place
+                (marked_game q ts t ms (game_of part (marker_text m.marker)) passes free leads (met_marked ms marked));
+          }
+
+  -- It is rejected: nothing is written of it by the first reading.
+  pub marker_refused_first : (f : Fault) → (f.reason ≡ WriteFault → ⊥) → EndsGame mid.converter.reading m new.converter.reading (Err f) sink
+      → FirstFails q left_old left_new given f
+  marker_refused_first f no_write ends =
+      record {
+        tokens = ts;
+        passes = passes;
+        marked = met_marked;
+        why = refused_first q left_old left_new given so ts t f reader new.converter.reading sink.before sink.after profile
+            (ends.place ∙ sym h.meets.place) no_write comes
+            ((takes q given ts t m mid.converter a sink h.meets new.converter.reading (Err f) ends).accepts part h.meets.reads.has_read.agrees);
+      }
+
+-- ---- the second reading, which was told the mark of the game
+
+-- what it writes by
+told_written : (q : Profile) (r : ReaderState) (marker : List ℕ) → q.missing_result ≡ takes_the_marker → r.profile ≡ q → r.told ≡ Some marker
+    → as_written r ≡ counting q marker
+told_written q r marker takes_it profile told =
+    ap (λ (p : Profile). counting p (known_text p.missing_result r.told)) profile
+    ∙ ap (λ (missing : Missing). counting q (known_text missing r.told)) takes_it
+    ∙ ap (λ (o : Option (List ℕ)). counting q (known_text takes_the_marker o)) told
+
+-- a marker that is told changes nothing else
+text_told : (o : Option (List ℕ)) (r : ReaderState) (here : Part) (stage : Stage) → HoldsText stage r here → HoldsText stage (record r { told = o }) here
+text_told o r here InMovetext h = h
+text_told o r here _ h = h
+
+pub told_reading : (q : Profile) (left_old left : Option (List ℕ)) (r : Reading) (given : List Token) (m : Marker) (d : Converter)
+    → d ≡ told_of m r.converter → HasGiven q left_old left r given
+    → HasGiven q left_old left (record { converter = d; unused = r.unused; has_ended = r.has_ended }) given
+told_reading q left_old left r given m d is h =
+    let read = h.has_read in
+    record {
+      takes = h.takes;
+      come = come_still left_old left r (record { converter = d; unused = r.unused; has_ended = r.has_ended }) given
+          (ap (λ (c : Converter). c.lexer) is) refl refl h.come;
+      has_read = rw is (record {
+        profile = read.profile;
+        no_fault = read.no_fault;
+        passes = read.passes;
+        agrees = record {
+          stage = read.agrees.stage;
+          pairs = read.agrees.pairs;
+          text = text_told (Some (marker_text m)) r.converter.reading (part_after q given) r.converter.reading.stage read.agrees.text;
+        };
+        games = read.games;
+        plies = read.plies;
+        probed = read.probed;
+        tried = read.tried;
+        just_finished = read.just_finished;
+      });
+    }
+
+pub told_by : (q : Profile) (c d : Converter) (m : Marker) → d ≡ told_of m c → q.missing_result ≡ takes_the_marker → c.reading.profile ≡ q
+    → as_written d.reading ≡ counting q (marker_text m)
+told_by q c d m is takes_it profile =
+    ap (λ (c : Converter). as_written c.reading) is
+    ∙ told_written q (record c.reading { told = Some (marker_text m) }) (marker_text m) takes_it profile refl
+
+-- a token that shows a difference, by the marks
+differs_if : (q : Profile) (m : Mark) (part : Part) (t : Token) (b : Bool) → refusal q part t.kind ≡ None
+    → is_other m (next part t.kind) t ≡ b → is_changed q m part t ≡ b
+differs_if q m part t b free is = ap (λ (o : Option Reason). is_some o || is_other m (next part t.kind) t) free ∙ is
+
+differs_refused : (q : Profile) (m : Mark) (part : Part) (t : Token) (reason : Reason) → refusal q part t.kind ≡ Some reason → is_changed q m part t ≡ true
+differs_refused q m part t reason some = ap (λ (o : Option Reason). is_some o || is_other m (next part t.kind) t) some
+
+-- a marker that differs from the mark, whether it is rejected or not
+differs_at_marker : (q : Profile) (m : Mark) (part : Part) (t : Token) (marker : List ℕ) → marker_of t.kind ≡ Some marker
+    → not (bytes_eq marker m.text && (t.at == m.at)) ≡ true → is_changed q m part t ≡ true
+differs_at_marker q m part t marker is other = by_test (refusal q part t.kind) refl
+  where
+    by_test : (o : Option Reason) → refusal q part t.kind ≡ o → is_changed q m part t ≡ true
+    by_test (Some reason) some = differs_refused q m part t reason some
+    by_test None free = differs_if q m part t true free (ap (λ (n : Next). is_other m n t) (marker_finishes q part t.kind marker is free) ∙ other)
+
+module _ (q : Profile) (left_old left_new : Option (List ℕ)) (given : List Token) (told : CodeMark) (rise : TokensRise)
+    (takes_it : q.missing_result ≡ takes_the_marker) (so : (read q given).fault ≡ None) (between : part_after q given ≡ no_part) where
+  abbrev mark : Mark
+  mark = model_mark told
+
+  abbrev w : Profile
+  w = counting q (marker_text told.marker)
+
+  -- what is written of the game behind these tokens
+  written_of : (ts : List Token) (now : Converter) (a c : Option (List ℕ)) → as_written now.reading ≡ w → ReadsMore q given ts now a c
+      → Appends a c (torn w (part_after q ts))
+  written_of ts now a c by reads =
+      let games : List ℕ = text_of q (read q given).progress.games in
+      let same : text_of q (read q ts).progress.games ≡ games = ap (text_of q) reads.no_game in
+      let nothing : torn w (part_after q given) ≡ [] = ap (torn w) between ∙ torn-none w.missing_result w.mode in
+      let due : games ++ torn w (part_after q ts) ≡ games ++ reads.gains.text =
+      ap (λ (l : List ℕ). l ++ torn w (part_after q ts)) (sym same)
+      ∙ subst (λ (w : Profile). due_as w q ts ≡ due_as w q given ++ reads.gains.text) by reads.gains.due_for
+      ∙ ap (λ (l : List ℕ). (games ++ l) ++ reads.gains.text) nothing ∙ ap (λ (l : List ℕ). l ++ reads.gains.text) (append-nil games) in
+      subst (Appends a c) (sym (append_cancel_left games (torn w (part_after q ts)) reads.gains.text due)) reads.gains.appended
+
+  -- tokens behind which another comes show no difference
+  still_matched : (ts : List Token) (now : Converter) (a c : Option (List ℕ)) (reads : ReadsMore q given ts now a c)
+      → (s : List ℕ) (t : Token) (rest : List Token) → tokens_of s ≡ ts ++ t ∷ rest
+      → (ms : List Mark) → HasMatched q ms given (mark ∷ []) → HasMatched q ms ts (mark ∷ [])
+  still_matched ts now a c reads s t rest cut ms h =
+      subst (λ (ts : List Token). HasMatched q ms ts (mark ∷ [])) (sym reads.extends)
+      (matched_on q given reads.more so (subst (λ (ts : List Token). (read q ts).fault ≡ None) reads.extends reads.has_read.passes)
+      (subst (SameGames q given) reads.extends reads.no_game) (no_end_before rise s given reads.more ts t rest cut reads.extends) ms mark h)
+
+  -- it stops behind these tokens
+  fails_behind : (ts : List Token) (now : Converter) (f : Fault) (a c d : Option (List ℕ)) → as_written now.reading ≡ w → ReadsMore q given ts now a c
+      → (s : List ℕ) (t : Token) (rest : List Token) → tokens_of s ≡ ts ++ t ∷ rest
+      → readings.WhySecond q left_old left_new ts told c d f → SecondFails q left_old left_new given told f a d
+  fails_behind ts now f a c d by reads s t rest cut why =
+      record {
+        tokens = ts;
+        passes = reads.has_read.passes;
+        no_game = reads.no_game;
+        matched = still_matched ts now a c reads s t rest cut;
+        mid = c;
+        wrote = written_of ts now a c by reads;
+        why = why;
+      }
+
+  -- a token that is not taken shows a difference, or its text could not be written
+  why_token : (ts : List Token) (t : Token) (f : Fault) (old new : ReaderState) (c d : Option (List ℕ)) → old.profile ≡ q → as_written old ≡ w
+      → f.at ≡ t.at → ComesNext left_old ts t
+      → ((n : ℕ) → refusal q (part_after q ts) t.kind ≡ None → n < length (gain w (part_after q ts) t.kind)
+      → f.reason ≡ WriteFault → is_other mark (next (part_after q ts) t.kind) t ≡ false)
+      → IsStopped old (part_after q ts) t.kind new c d f.reason → readings.WhySecond q left_old left_new ts told c d (as_changed f)
+  why_token ts t f old new c d profile by place comes same stopped = by_stop f.reason refl stopped
+    where
+      part : Part
+      part = part_after q ts
+
+      by_stop : (r : Reason) → f.reason ≡ r → IsStopped old (part_after q ts) t.kind new c d r
+          → readings.WhySecond q left_old left_new ts told c d (as_changed f)
+      by_stop r is (reader_state.refused reason some wrote tries here) =
+          let row = subst (λ (p : Profile). refusal p (part_after q ts) t.kind ≡ Some reason) profile some in
+          let changed : changed_reason f.reason ≡ Changed = ap changed_reason is ∙ changes reason (refusals_are_inside q (part_after q ts) t.kind reason row) in
+          subst (readings.WhySecond q left_old left_new ts told c d)
+          (ap (λ n. record { at = n; reason = Changed }) (sym place) ∙ ap (λ (x : Reason). record { at = f.at; reason = x }) (sym changed))
+          (readings.differs t comes (differs_refused q mark (part_after q ts) t reason row) wrote)
+      by_stop r is (reader_state.unwritten none (n, short, wrote) tries) =
+          let row = subst (λ (p : Profile). refusal p (part_after q ts) t.kind ≡ None) profile none in
+          let less = subst (λ (w : Profile). n < length (gain w (part_after q ts) t.kind)) by short in
+          subst (readings.WhySecond q left_old left_new ts told c d)
+          (ap (λ n. record { at = n; reason = WriteFault }) (sym place) ∙ ap (λ (x : Reason). record { at = f.at; reason = x }) (sym (ap changed_reason is)))
+          (readings.unwritten t comes (differs_if q mark (part_after q ts) t false row (same n row less is))
+          (n, less, subst (λ (w : Profile). Appends c d (take n (gain w (part_after q ts) t.kind))) by wrote))
+
+  -- Reading stops before a marker.
+  pub second_fails : (new : Reading) (f : Fault) (a d : Option (List ℕ)) → as_written new.converter.reading ≡ w
+      → ReadingStops q left_old left_new given f new a d → SecondFails q left_old left_new given told (as_changed f) a d
+  second_fails new f a d by (at_token h) =
+      let n = h.fails in
+      let by_now : as_written n.now.reading ≡ w = written_at_fault n ∙ by in
+      let part : Part = part_after q h.tokens in
+      fails_behind h.tokens n.now (as_changed f) a n.mid d by_now n.reads h.text h.token h.rest h.cut
+      (why_token h.tokens h.token f n.now.reading new.converter.reading n.mid d n.reads.has_read.profile by_now n.place h.comes
+      (λ k free short is. by_end (is_end h.token.kind) refl k free short (n.no_marker is)) n.stopped)
+    where
+      by_end : (e : Bool) → is_end h.token.kind ≡ e → (k : ℕ) → refusal q (part_after q h.tokens) h.token.kind ≡ None
+          → k < length (gain w (part_after q h.tokens) h.token.kind) → marker_of h.token.kind ≡ None
+          → is_other mark (next (part_after q h.tokens) h.token.kind) h.token ≡ false
+      by_end true is k free short none =
+          absurd (omega (arith, short, ap (length {A = ℕ}) (end_gains_nothing q w (part_after q h.tokens) h.token.kind is free)))
+      by_end false is k free short none =
+          ap (λ (n : Next). is_other mark n h.token) (no_marker_goes (part_after q h.tokens) h.token.kind none).1 ∙ is
+  second_fails new f a d by (at_read h) =
+      fails_behind h.tokens h.now (as_changed f) a d d (ap as_written (sym h.same) ∙ by) h.reads h.text h.token h.rest h.cut
+      (readings.unread f h.fails (Appends-nil d))
+
+  -- It has ended before a marker.
+  pub ends_before : (new : Reading) (a d : Option (List ℕ)) → as_written new.converter.reading ≡ w → EndComes q left_old given new a d
+      → SecondFails q left_old left_new given told (record { at = new.converter.lexer.count; reason = Changed }) a d
+  ends_before new a d by h =
+      fails_behind h.tokens new.converter (record { at = new.converter.lexer.count; reason = Changed }) a d d by h.reads h.text h.token [] h.cut
+      (subst (λ n. readings.WhySecond q left_old left_new h.tokens told d d (record { at = n; reason = Changed })) h.place
+      (readings.differs h.token
+      (IfSome_then left_old {P = λ s. tokens_of s ≡ h.tokens ++ h.token ∷ []}
+      {Q = λ s. (ts : List Token) × (tokens_of s ≡ h.tokens ++ h.token ∷ ts)} h.whole (λ s cut. ([], cut)))
+      (differs_if q mark (part_after q h.tokens) h.token true h.passes
+      (ap (λ (n : Next). is_other mark n h.token) (end_leads q (part_after q h.tokens) h.token.kind h.is_end h.passes) ∙ h.is_end))
+      (Appends-nil d)))
+
+  -- The marker that it has met.
+  module _ (m : CodeMark) (mid new : Reading) (a : Option (List ℕ)) (sink : Device) (by : as_written mid.converter.reading ≡ w)
+      (h : MarkerComes q left_old left_new given m mid a sink.before) where
+    by_reader : as_written h.meets.reader ≡ w
+    by_reader = written_at_marker h.meets ∙ by
+
+    text_before : (rest : List Token) × (tokens_of h.come.bytes ≡ h.tokens ++ h.token ∷ rest)
+    text_before =
+        let cut = come_cut left_old left_new mid (h.tokens ++ h.token ∷ []) h.come in
+        (cut.0, cut.1 ∙ append_assoc h.tokens (h.token ∷ []) cut.0)
+
+    -- it is another one
+    pub marker_differs : not (bytes_eq (marker_text m.marker) (marker_text told.marker) && (m.at == told.at)) ≡ true
+        → SecondFails q left_old left_new given told (record { at = m.at; reason = Changed }) a sink.before
+    marker_differs other =
+        fails_behind h.tokens (record mid.converter { reading = h.meets.reader }) (record { at = m.at; reason = Changed }) a sink.before sink.before
+        by_reader h.meets.reads h.come.bytes h.token text_before.0 text_before.1
+        (subst (λ n. readings.WhySecond q left_old left_new h.tokens told sink.before sink.before (record { at = n; reason = Changed })) h.meets.place
+        (readings.differs h.token (comes q left_old left_new given m mid new a sink takes_it so h)
+        (differs_at_marker q mark (part_after q h.tokens) h.token (marker_text m.marker) h.meets.is
+        (subst (λ n. not (bytes_eq (marker_text m.marker) (marker_text told.marker) && (n == told.at)) ≡ true) (sym h.meets.place) other))
+        (Appends-nil sink.before)))
+
+    module _ (same : not (bytes_eq (marker_text m.marker) (marker_text told.marker) && (m.at == told.at)) ≡ false) where
+      same_there : not (bytes_eq (marker_text m.marker) (marker_text told.marker) && (h.token.at == told.at)) ≡ false
+      same_there = subst (λ n. not (bytes_eq (marker_text m.marker) (marker_text told.marker) && (n == told.at)) ≡ false) (sym h.meets.place) same
+
+      -- it is not taken
+      pub marker_refused_second : (f : Fault) → EndsGame mid.converter.reading m new.converter.reading (Err f) sink
+          → SecondFails q left_old left_new given told (as_changed f) a sink.after
+      marker_refused_second f ends =
+          let part : Part = part_after q h.tokens in
+          fails_behind h.tokens (record mid.converter { reading = h.meets.reader }) (as_changed f) a sink.before sink.after
+          by_reader h.meets.reads h.come.bytes h.token text_before.0 text_before.1
+          (why_token h.tokens h.token f h.meets.reader new.converter.reading sink.before sink.after h.meets.reads.has_read.profile by_reader
+          (ends.place ∙ sym h.meets.place) (comes q left_old left_new given m mid new a sink takes_it so h)
+          (λ n free short is. ap (λ (n : Next). is_other mark n h.token) (marker_finishes q part h.token.kind (marker_text m.marker) h.meets.is free)
+          ∙ same_there)
+          ((takes q given h.tokens h.token m mid.converter a sink h.meets new.converter.reading (Err f) ends).accepts part
+          h.meets.reads.has_read.agrees))
+
+      -- it is taken
+      module _ (ends : EndsGame mid.converter.reading m new.converter.reading (Ok tt) sink)
+          (lexer : new.converter.lexer ≡ mid.converter.lexer) (unused : new.unused ≡ mid.unused) (ended : new.has_ended ≡ mid.has_ended)
+          (games : new.converter.games ≡ mid.converter.games + 1)
+          (finished : new.converter.just_finished ≡ Some (game_in_reader new.converter.reading)) (fault : new.converter.fault ≡ None) where
+        abbrev g : Game
+        g = game_of (part_after q h.tokens) (marker_text m.marker)
+
+        row : refusal q (part_after q h.tokens) h.token.kind ≡ None
+        row = free q left_old left_new given m mid new a sink takes_it so h ends
+
+        goes_to : next (part_after q h.tokens) h.token.kind ≡ whole (game_of (part_after q h.tokens) (marker_text m.marker))
+        goes_to = leads q left_old left_new given m mid new a sink takes_it so h ends
+
+        text_is : text_next w (next (part_after q h.tokens) h.token.kind) ≡ game_text q (game_of (part_after q h.tokens) (marker_text m.marker))
+        text_is =
+            let alike = (bytes_eq-Decides (marker_text m.marker) (marker_text told.marker)).0 (and_parts _ _ (not-false _ same)).0 in
+            ap (text_next w) goes_to
+            ∙ ap (λ (text : List ℕ). game_text (counting q text) (game_of (part_after q h.tokens) (marker_text m.marker))) (sym alike)
+            ∙ same_game_text q (game_of (part_after q h.tokens) (marker_text m.marker)) takes_it
+
+        pub game_written : GameWritten q left_old left_new given told new a sink.after
+        game_written =
+            record {
+              tokens = h.tokens ++ h.token ∷ [];
+              stands = stands_behind q left_old left_new given m mid new a sink takes_it so h ends lexer unused ended games finished fault;
+              game = g;
+              one_game = one_more q left_old left_new given m mid new a sink takes_it so h ends;
+              matched = λ ms matched.
+                  matched_next q ms mark h.tokens h.token (whole g) h.meets.reads.has_read.passes
+                  (differs_if q mark (part_after q h.tokens) h.token false row
+                  (ap (λ (n : Next). is_other mark n h.token) goes_to ∙ same_there)) goes_to
+                  (still_matched h.tokens (record mid.converter { reading = h.meets.reader }) a sink.before h.meets.reads h.come.bytes h.token
+                  text_before.0 text_before.1 ms matched);
+              written = subst (Appends a sink.after)
+                  (sym (next_is w (part_after q h.tokens) h.token.kind) ∙ text_is)
+                  (Appends-trans a sink.before sink.after _ _
+                  (written_of h.tokens (record mid.converter { reading = h.meets.reader }) a sink.before by_reader h.meets.reads)
+                  (subst (λ (w : Profile). Appends sink.before sink.after (gain w (part_after q h.tokens) h.token.kind)) by_reader
+                  (game_accepted q given h.tokens h.token m mid.converter a sink h.meets new.converter.reading ends).appended));
+            }

@@ -1,0 +1,212 @@
+-- What one of two readings has read up to a marker: in the bytes of its source, and where that has
+-- ended.
+use Rattle.pgn_lexer.specs.declared.partial_token.Mode.{Mode}
+use Rattle.pgn_game.specs.declared.marker.Mark.{Mark as CodeMark}
+use Rattle.pgn_game.proofs.Words.{Token, InputTooLong, Fault, Profile, ◌≡◌, ℕ, false, true, List, [], ◌∷◌, ◌++◌, length, Option, None, Some, Result, Ok, Err, IfOk, IfSome, OnOk, IsStill, CountsDevices, CountsFault, refl, sym, ap, subst, ◌∙◌, append_assoc, append-nil, Consumes-nil, Consumes-trans, Consumes, Stands, inl, takes_the_marker, with_missing, Device, tokens_of, decided, Standing, coming, HasLeft, Follows, first, Converter, ReadsMore, as_written, StandsWithin, Reading, games_of}
+use Rattle.pgn_game.specs.ConverterCalls.{KeepsFault}
+use Rattle.pgn_game.specs.ConverterSteps.{AfterEndToMarker, EndsToMarker, IsReady, is_end_of_input, taking_marker}
+use Rattle.pgn_game.specs.GamesSteps.{AfterToMarker, CountsReading, StopsBefore, UsesAll}
+use Rattle.pgn_game.specs.GamesSteps as games_steps
+use Rattle.pgn_game.specs.Readings.{AfterMarker, IsReadyToEnd, HasGiven, ReadingStops, ReadFails, at_read, at_token, StandsIn}
+use Rattle.pgn_game.proofs.tokens.LastTokens.{IsLeft, glyph, left_in, none, symbol}
+use Rattle.pgn_game.proofs.tokens.MissingCountsAs.{reads_taking}
+use Rattle.pgn_game.proofs.tokens.MarkerToGame.{meets_more, not_taken_more, reads_more}
+use Rattle.pgn_game.proofs.tokens.WholeInput.{known_left, known_whole}
+use Rattle.pgn_game.proofs.twice.FailuresOfSteps.{behind_still, reader_reason}
+
+-- a lexer has a token left at the end
+some_left : {mode : Mode} {place at : ℕ} {text : List ℕ} (ts : List Token) → IsLeft mode place at text ts → (t : Token) × (us : List Token) × (ts ≡ t ∷ us)
+some_left _ (none [] quiet last) = absurd last
+some_left _ (none (t ∷ us) quiet last) = (t, us, refl)
+some_left _ (glyph n) = (_, _, refl)
+some_left _ (symbol is) = (_, _, refl)
+
+some_coming : (l : Standing) → (t : Token) × (us : List Token) × (coming l [] ≡ t ∷ us)
+some_coming l = some_left (coming l []) (left_in l.held.mode)
+
+follows_none : (xs : List ℕ) → xs ≡ [] → Follows (first xs) []
+follows_none xs is = subst (λ (xs : List ℕ). Follows (first xs) []) (sym is) tt
+
+-- before the first byte
+pub given_none : (p : Profile) (c d : Converter) (unused : List ℕ) (left : Option (List ℕ)) → Stands p c [] None [] → d ≡ taking_marker c → unused ≡ []
+    → HasGiven (with_missing p takes_the_marker) left left (record { converter = d; unused = unused; has_ended = false }) []
+given_none p c d unused left stands is empty =
+    rw (is, empty) (record {
+      takes = refl;
+      come = record {
+        bytes = [];
+        consumed = Consumes-nil left;
+        stands = record { used = []; bytes = refl; lexer = stands.lexer; at_limit = λ h. refl; decided = inl refl };
+      };
+      has_read = reads_taking p c stands.has_read;
+    })
+
+-- where a reading stands, by whether its source has ended
+pub within_source : (q : Profile) (left_old left : Option (List ℕ)) (r : Reading) (given : List Token) (h : HasGiven q left_old left r given)
+    → r.has_ended ≡ false → StandsWithin h.come.bytes (games_of r.converter r.unused) given
+within_source q left_old left r given h is = subst (λ e. StandsIn e r h.come.bytes given left_old) is h.come.stands
+
+pub behind_source : (q : Profile) (left_old left : Option (List ℕ)) (r : Reading) (given : List Token) (h : HasGiven q left_old left r given)
+    → r.has_ended ≡ true
+    → HasLeft r.converter.lexer h.come.bytes given × (r.converter.lexer.count ≡ length h.come.bytes) × IfSome left_old (λ s. s ≡ h.come.bytes)
+behind_source q left_old left r given h is = subst (λ e. StandsIn e r h.come.bytes given left_old) is h.come.stands
+
+-- In the bytes of the source.
+module _ (q : Profile) (left_old left left_new : Option (List ℕ)) (given : List Token) (u : List ℕ) (consumed : Consumes left_old left u) where
+  all : (more : List ℕ) → Consumes left left_new more → Consumes left_old left_new (u ++ more)
+  all more taken = Consumes-trans left_old left left_new u more consumed taken
+
+  stops : (f : Fault) (new : Reading) (a c : Option (List ℕ)) → StopsBefore q u given left left_new new.converter a c f
+      → ReadingStops q left_old left_new given f new a c
+  stops f new a c (games_steps.at_token g more tokens t taken next fails) =
+      at_token (record {
+        tokens = tokens;
+        token = t;
+        comes = known_left left_old left_new (u ++ more) (λ s. (ts : List Token) × (tokens_of s ≡ tokens ++ t ∷ ts)) (all more taken)
+            (λ rest. ((next rest tt).0, (next rest tt).1 ∙ append_assoc tokens (t ∷ []) (next rest tt).0));
+        fails = fails;
+        text = u ++ more;
+        rest = (next [] tt).0;
+        cut = ap tokens_of (sym (append-nil (u ++ more))) ∙ (next [] tt).1 ∙ append_assoc tokens (t ∷ []) (next [] tt).0;
+      })
+  stops f new a c (games_steps.unread more taken reads) =
+      let behind = some_coming reads.now.lexer in
+      at_read (record {
+        tokens = decided (u ++ more);
+        now = reads.now;
+        same = reads.same;
+        fails = ReadFails.unread (u ++ more) (all more taken) refl;
+        reads = reads.reads;
+        text = u ++ more;
+        token = behind.0;
+        rest = behind.1;
+        cut = reads.left ∙ ap (λ (ts : List Token). decided (u ++ more) ++ ts) behind.2;
+      })
+  stops f new a c (games_steps.too_long more front rest taken cut place some reads) =
+      let behind = some_coming reads.now.lexer in
+      at_read (record {
+        tokens = decided front;
+        now = reads.now;
+        same = reads.same;
+        fails = subst (λ n. ReadFails left_old left_new (decided front) (record { at = n; reason = InputTooLong })) place
+            (ReadFails.too_long front rest (subst (Consumes left_old left_new) cut (all more taken)) place some refl);
+        reads = reads.reads;
+        text = front;
+        token = behind.0;
+        rest = behind.1;
+        cut = reads.left ∙ ap (λ (ts : List Token). decided front ++ ts) behind.2;
+      })
+
+  -- a marker was met, or reading stops
+  pub met_in_source : (c : Converter) (unused : List ℕ) (m : CodeMark) (before after : Option (List ℕ))
+      → AfterToMarker q u given left left_new (games_of c unused) (Ok (Some m)) before after
+      → AfterMarker q left_old left_new given (record { converter = c; unused = unused; has_ended = false }) (Ok (Some m)) before after
+  met_in_source c unused m before after h =
+      record {
+        tokens = h.tokens;
+        token = h.token;
+        come = record { bytes = u ++ h.more; consumed = all h.more h.consumed; stands = h.stands };
+        meets = h.meets;
+      }
+
+  pub stops_in_source : (f : Fault) (new : Reading) (before after : Option (List ℕ))
+      → AfterToMarker q u given left left_new (games_of new.converter new.unused) (Err f) before after
+      → AfterMarker q left_old left_new given new (Err f) before after
+  stops_in_source f new before after h = stops f new before after h
+
+-- Where the source has ended: u is the whole text.
+module _ (q : Profile) (left_old left_new : Option (List ℕ)) (given mid : List Token) (u : List ℕ) (now new : Converter) (a b c : Option (List ℕ))
+    (consumed : Consumes left_old left_new u) (whole : IfSome left_old (λ s. s ≡ u)) (reads : ReadsMore q given mid now a b)
+    (left : HasLeft now.lexer u mid) (count : now.lexer.count ≡ length u)
+    (written : as_written new.reading ≡ as_written now.reading) (unused : List ℕ) where
+  abbrev reading : Reading
+  reading = record { converter = new; unused = unused; has_ended = true }
+
+  of_whole : (P : List ℕ → Type 0) → P u → IfSome left_old P
+  of_whole P h = by_some left_old whole
+    where
+      by_some : (o : Option (List ℕ)) → IfSome o (λ s. s ≡ u) → IfSome o P
+      by_some None is = tt
+      by_some (Some s) is = subst P (sym is) h
+
+  pub met_at_end : (r : Result (Option CodeMark) Fault) → OnOk r (new.lexer.count ≡ now.lexer.count) → AfterEndToMarker q u mid now new r b c
+      → AfterMarker q left_old left_new given reading r a c
+  met_at_end (Ok (Some m)) stays h =
+      record {
+        tokens = h.tokens;
+        token = h.token;
+        come = record { bytes = u; consumed = consumed; stands = (h.left, stays ∙ count, whole) };
+        meets = meets_more q given mid now a b reads h.tokens h.token m new c h.meets written;
+      }
+  met_at_end (Ok None) stays (h, between) =
+      record {
+        tokens = h.tokens;
+        token = h.token;
+        whole = of_whole (λ s. tokens_of s ≡ h.tokens ++ h.token ∷ []) h.ends.whole;
+        is_end = h.ends.is_end;
+        place = h.ends.place ∙ sym count ∙ sym stays;
+        passes = h.ends.passes;
+        reads = reads_more q given mid now a b reads h.tokens new c h.ends.reads written;
+        has_read = h.ends.has_read;
+        text = u;
+        cut = h.ends.whole;
+      }
+  met_at_end (Err f) stays h =
+      at_token (record {
+        tokens = h.tokens;
+        token = h.token;
+        comes = of_whole (λ s. (ts : List Token) × (tokens_of s ≡ h.tokens ++ h.token ∷ ts)) (h.rest, h.cut);
+        fails = not_taken_more q given mid now a b reads h.tokens h.token f new.reading c h.fails written;
+        text = u;
+        rest = h.rest;
+        cut = h.cut;
+      })
+
+-- The source has just ended.
+module _ (q : Profile) (left_old left left_new : Option (List ℕ)) (given : List Token) (u : List ℕ) (consumed : Consumes left_old left u)
+    (now : Converter) (unused : List ℕ) (a b : Option (List ℕ)) (uses : UsesAll q u given left left_new (games_of now unused) a b) where
+  pub all_used : (new : Converter) (c : Option (List ℕ)) (sink : Device) (r : Result (Option CodeMark) Fault) → sink.before ≡ b → sink.after ≡ c
+      → EndsToMarker now new r sink → OnOk r (new.lexer.count ≡ now.lexer.count) → as_written new.reading ≡ as_written now.reading
+      → AfterMarker q left_old left_new given (record { converter = new; unused = unused; has_ended = true }) r a c
+  all_used new c sink r from to ends stays written =
+      let so = uses.so_far in
+      let text : List ℕ = u ++ so.more in
+      let taken : Consumes left_old left_new text = Consumes-trans left_old left left_new u so.more consumed so.consumed in
+      let used_up : so.stands.used ≡ text =
+      sym (append-nil so.stands.used) ∙ ap (λ (l : List ℕ). so.stands.used ++ l) (sym uses.none_left) ∙ sym so.stands.bytes in
+      let left_over : HasLeft now.lexer text so.tokens =
+      ap tokens_of (sym used_up ∙ sym (append-nil so.stands.used)) ∙ so.stands.lexer.tokens [] (follows_none unused uses.none_left) in
+      met_at_end q left_old left_new given so.tokens text now new a b c taken
+      (known_whole left_old left_new text (λ s. s ≡ text) taken uses.at_end refl) so.reads left_over
+      (so.stands.lexer.count ∙ ap (length {A = ℕ}) used_up) written unused r stays
+      (subst (λ o. AfterEndToMarker q text so.tokens now new r o c) from
+      (subst (λ o. AfterEndToMarker q text so.tokens now new r sink.before o) to (ends q text so.tokens left_over so.reads.has_read)))
+
+-- ---- what every call keeps
+
+-- a marker that was met behind the source can be taken
+pub ready_behind : (r : Result (Option CodeMark) Fault) (new : Reading) → IfOk r (λ o. IfSome o (λ m. IsReady new.converter))
+    → new.converter.is_finished ≡ is_end_of_input r → KeepsFault new.converter r → new.converter.just_finished ≡ None
+    → IfOk r (λ o. IfSome o (λ m. IsReadyToEnd new))
+ready_behind (Ok (Some m)) new ready finished fault gone =
+    record { ready = ready; going = record { not_finished = finished; no_fault = fault }; none_just_finished = gone }
+ready_behind (Ok None) new ready finished fault gone = tt
+ready_behind (Err f) new ready finished fault gone = tt
+
+-- nothing is read there
+pub counts_behind : {A : Type 0} (r : Result A Fault) (source sink : Device) → IsStill source → CountsFault r sink → CountsReading r source sink
+counts_behind (Ok x) source sink still h = (still, h)
+counts_behind (Err f) source sink still h =
+    behind_still f.reason source.failures source.failures_after source.failures_after sink.failures sink.failures sink.failures_after still refl
+    (reader_reason f.reason source.failures_after sink.failures sink.failures_after h)
+
+-- after what counted nothing
+pub counts_then : {A : Type 0} (r : Result A Fault) (source first second both : Device) → IsStill source → first.failures_after ≡ first.failures
+    → second.failures ≡ first.failures_after → both.failures ≡ first.failures → both.failures_after ≡ second.failures_after
+    → CountsFault r second → CountsReading r source both
+counts_then (Ok x) source first second both still zero joined before after h = (still, after ∙ h ∙ joined ∙ zero ∙ sym before)
+counts_then (Err f) source first second both still zero joined before after h =
+    behind_still f.reason source.failures source.failures_after source.failures_after both.failures second.failures both.failures_after still
+    (joined ∙ zero ∙ sym before)
+    (subst (CountsDevices f.reason source.failures_after source.failures_after second.failures) (sym after)
+    (reader_reason f.reason source.failures_after second.failures second.failures_after h))

@@ -1,0 +1,258 @@
+-- **Bookkeeping**: one of the two readings of an input that is read twice, and what its calls do.
+-- Letters: q is the profile, where a missing Result takes the marker. `given` are the tokens that
+-- the reading has given before a call, `tokens` those when it ends, t is a token, m a mark and ms
+-- are marks, f is a fault, u are bytes. `left_old` and `left_now` are the bytes that the source has
+-- left, at first and now; `before` and `after` those that the sink has taken.
+use Rattle.std.specs.Prelude.{◌≡◌, ℕ, ◌+◌, ◌^◌, ◌<◌, Bool, true, false, List, [], ◌∷◌, ◌++◌, length, Option, None, Some, Result, Ok, Err, IfSome}
+use Rattle.std.specs.Io.KnownBytes.{Appends, Consumes}
+use Rattle.pgn_layout.specs.Device.{AppendsFront, Device}
+use Rattle.pgn_lexer.specs.Tokens.{Token}
+use Rattle.pgn_lexer.specs.TokensOf.{tokens_of}
+use Rattle.pgn_lexer.specs.Decided.{decided}
+use Rattle.pgn_lexer.specs.Stands.{HasLeft}
+use Rattle.pgn_game.specs.declared.marker.Mark.{Mark as CodeMark}
+use Rattle.pgn_game.specs.declared.reason.Reason.{Reason}
+use Rattle.pgn_game.specs.declared.reason.Reason.TheVariants.{ReadFault, WriteFault, InputTooLong, Changed}
+use Rattle.pgn_game.specs.declared.reason.Fault.{Fault}
+use Rattle.pgn_game.specs.Markers.{marker_text}
+use Rattle.pgn_game.specs.Profile.{Profile, takes_the_marker}
+use Rattle.pgn_game.specs.Game.{Game, no_part}
+use Rattle.pgn_game.specs.FaultTable.{refusal, is_end}
+use Rattle.pgn_game.specs.Text.{game_text, text_of, torn}
+use Rattle.pgn_game.specs.Progress.{no_progress, read}
+use Rattle.pgn_game.specs.Due.{gain}
+use Rattle.pgn_game.specs.ConverterCalls.{Converter, HasRead}
+use Rattle.pgn_game.specs.ConverterSteps.{NotTaken, IsReady, Meets, OneGame, ReadsMore, SameGames, part_after}
+use Rattle.pgn_game.specs.GamesCalls.{games_of}
+use Rattle.pgn_game.specs.GamesSteps.{StandsWithin}
+use Rattle.pgn_game.specs.Checked.{Mark, marks, marks_from, is_changed, compared_from, with_mark}
+
+-- the converter, the bytes that were read and not used, and whether the source has ended
+pub record Reading : Type 0 where
+  pub converter : Converter
+  pub unused : List ℕ
+  pub has_ended : Bool
+
+-- a mark as the definitions have it
+abbrev pub model_mark : CodeMark → Mark
+model_mark m = record { text = marker_text m.marker; at = m.at }
+
+-- The source has given the bytes u. The lexer stands in them, or the source has ended, and u is the
+-- whole text.
+abbrev pub StandsIn : Bool → Reading → List ℕ → List Token → Option (List ℕ) → Type 0
+StandsIn false r u given left_old = StandsWithin u (games_of r.converter r.unused) given
+StandsIn true r u given left_old = HasLeft r.converter.lexer u given × (r.converter.lexer.count ≡ length u) × IfSome left_old (λ s. s ≡ u)
+
+-- The reading has come to stand behind these tokens of the source.
+pub record HasCome (left_old left_now : Option (List ℕ)) (r : Reading) (given : List Token) : Type 0 where
+  pub bytes : List ℕ
+  pub consumed : Consumes left_old left_now bytes
+  pub stands : StandsIn r.has_ended r bytes given left_old
+
+-- It has given these tokens, and none is rejected.
+pub record HasGiven (q : Profile) (left_old left_now : Option (List ℕ)) (r : Reading) (given : List Token) : Type 0 where
+  pub takes : q.missing_result ≡ takes_the_marker
+  pub come : HasCome left_old left_now r given
+  pub has_read : HasRead q r.converter given
+
+-- What a reading keeps to before a fault and before its end.
+pub record IsGoing (r : Reading) : Type 0 where
+  pub not_finished : r.converter.is_finished ≡ false
+  pub no_fault : r.converter.fault ≡ None
+
+-- a marker that was met can be taken
+pub record IsReadyToEnd (r : Reading) : Type 0 where
+  pub ready : IsReady r.converter
+  pub going : IsGoing r
+  pub none_just_finished : r.converter.just_finished ≡ None
+
+-- the second reading answers a fault of its own so
+abbrev pub changed_reason : Reason → Reason
+changed_reason ReadFault = ReadFault
+changed_reason WriteFault = WriteFault
+changed_reason _ = Changed
+
+abbrev pub as_changed : Fault → Fault
+as_changed f = record { at = f.at; reason = changed_reason f.reason }
+
+-- a sink that takes nothing, and counts nothing
+abbrev pub no_sink : Device
+no_sink = record { before = None; after = None; failures = 0; failures_after = 0 }
+
+-- the token t comes next in the text
+abbrev pub ComesNext : Option (List ℕ) → List Token → Token → Type 0
+ComesNext left_old given t = IfSome left_old (λ s. (ts : List Token) × (tokens_of s ≡ given ++ t ∷ ts))
+
+-- The source gives no more: a read failed behind the bytes u, or the byte at place 2^62 came.
+pub data ReadFails (left_old left_new : Option (List ℕ)) (given : List Token) : Fault → Type 0 where
+  unread : (u : List ℕ) → Consumes left_old left_new u → given ≡ decided u → ReadFails left_old left_new given (record { at = length u; reason = ReadFault })
+  too_long : (u rest : List ℕ) → Consumes left_old left_new (u ++ rest) → length u ≡ 2 ^ 62 → 0 < length rest → given ≡ decided u
+      → ReadFails left_old left_new given (record { at = length u; reason = InputTooLong })
+
+-- ---- up to a marker
+
+-- A marker was met.
+pub record MarkerComes (q : Profile) (left_old left_new : Option (List ℕ)) (given : List Token) (m : CodeMark) (new : Reading) (before after : Option (List ℕ)) : Type 0 where
+  pub tokens : List Token
+  pub token : Token
+  pub come : HasCome left_old left_new new (tokens ++ token ∷ [])
+  pub meets : Meets q given tokens token m new.converter before after
+
+-- The end of the text was read.
+pub record EndComes (q : Profile) (left_old : Option (List ℕ)) (given : List Token) (new : Reading) (before after : Option (List ℕ)) : Type 0 where
+  pub tokens : List Token
+  pub token : Token
+  pub whole : IfSome left_old (λ s. tokens_of s ≡ tokens ++ token ∷ [])
+  pub is_end : is_end token.kind ≡ true
+  pub place : token.at ≡ new.converter.lexer.count
+  pub passes : refusal q (part_after q tokens) token.kind ≡ None
+  pub reads : ReadsMore q given tokens new.converter before after
+  pub has_read : HasRead q new.converter (tokens ++ token ∷ [])
+  pub text : List ℕ
+  pub cut : tokens_of text ≡ tokens ++ token ∷ []
+
+-- A token was not taken, or the source gives no more: then another token may still come.
+pub record TokenFails (q : Profile) (left_old : Option (List ℕ)) (given : List Token) (f : Fault) (new : Reading) (before after : Option (List ℕ)) : Type 0 where
+  pub tokens : List Token
+  pub token : Token
+  pub comes : ComesNext left_old tokens token
+  pub fails : NotTaken q given tokens token f new.converter.reading before after
+  pub text : List ℕ
+  pub rest : List Token
+  pub cut : tokens_of text ≡ tokens ++ token ∷ rest
+
+pub record SourceFails (q : Profile) (left_old left_new : Option (List ℕ)) (given : List Token) (f : Fault) (new : Reading) (before after : Option (List ℕ)) : Type 0 where
+  pub tokens : List Token
+  pub now : Converter
+  pub same : new.converter.reading ≡ now.reading
+  pub fails : ReadFails left_old left_new tokens f
+  pub reads : ReadsMore q given tokens now before after
+  pub text : List ℕ
+  pub token : Token
+  pub rest : List Token
+  pub cut : tokens_of text ≡ tokens ++ token ∷ rest
+
+pub data ReadingStops (q : Profile) (left_old left_new : Option (List ℕ)) (given : List Token) (f : Fault) (new : Reading) (before after : Option (List ℕ)) : Type 0 where
+  at_token : TokenFails q left_old given f new before after → ReadingStops q left_old left_new given f new before after
+  at_read : SourceFails q left_old left_new given f new before after → ReadingStops q left_old left_new given f new before after
+
+abbrev pub AfterMarker : Profile → Option (List ℕ) → Option (List ℕ) → List Token → Reading → Result (Option CodeMark) Fault → Option (List ℕ) → Option (List ℕ) → Type 0
+AfterMarker q left_old left_new given new (Ok (Some m)) before after = MarkerComes q left_old left_new given m new before after
+AfterMarker q left_old left_new given new (Ok None) before after = EndComes q left_old given new before after
+AfterMarker q left_old left_new given new (Err f) before after = ReadingStops q left_old left_new given f new before after
+
+abbrev pub ReadsUpToMarker : Option (List ℕ) → Option (List ℕ) → Reading → Reading → Result (Option CodeMark) Fault → Option (List ℕ) → Option (List ℕ) → Type 0
+ReadsUpToMarker left_before left_after old new result before after =
+    (q : Profile) (left_old : Option (List ℕ)) (given : List Token)
+    → HasGiven q left_old left_before old given → AfterMarker q left_old left_after given new result before after
+
+-- ---- one game
+
+-- the first tokens of a text, behind which no game is begun
+pub record StandsBetween (q : Profile) (left_old left_now : Option (List ℕ)) (given : List Token) (now : Reading) : Type 0 where
+  pub has_given : HasGiven q left_old left_now now given
+  pub between : part_after q given ≡ no_part
+
+-- these are the marks of the tokens, whatever comes behind them
+abbrev pub HasMarked : Profile → List Token → List Mark → Type 0
+HasMarked q given ms = (ts : List Token) → marks q (given ++ ts) ≡ ms ++ marks_from q (read q given).progress ts
+
+-- The tokens show no difference from the marks ms, of which these are left, whatever comes behind
+-- both.
+abbrev pub HasMatched : Profile → List Mark → List Token → List Mark → Type 0
+HasMatched q ms given left =
+    (ns : List Mark) (ts : List Token) → compared_from q (ms ++ ns) no_progress (given ++ ts) ≡ compared_from q (left ++ ns) (read q given).progress ts
+
+-- The first reading has read a game, with one mark more.
+pub record GameRead (q : Profile) (left_old left_new : Option (List ℕ)) (given : List Token) (m : CodeMark) (new : Reading) : Type 0 where
+  pub tokens : List Token
+  pub stands : StandsBetween q left_old left_new tokens new
+  pub marked : (ms : List Mark) → HasMarked q given ms → HasMarked q tokens (ms ++ model_mark m ∷ [])
+
+-- It has read the whole text, with no mark more.
+pub record AllRead (q : Profile) (left_old : Option (List ℕ)) (given : List Token) (new : Reading) : Type 0 where
+  pub tokens : List Token
+  pub whole : IfSome left_old (λ s. tokens_of s ≡ tokens)
+  pub has_read : HasRead q new.converter tokens
+  pub marked : (ms : List Mark) → HasMarked q given ms → HasMarked q tokens ms
+
+-- Why it stops: the next token is rejected, or the source gives no more.
+pub data WhyFirst (q : Profile) (left_old left_new : Option (List ℕ)) (tokens : List Token) : Fault → Type 0 where
+  refused : (t : Token) (reason : Reason) → ComesNext left_old tokens t → refusal q (part_after q tokens) t.kind ≡ Some reason
+      → WhyFirst q left_old left_new tokens (record { at = t.at; reason = reason })
+  unread : (f : Fault) → ReadFails left_old left_new tokens f → WhyFirst q left_old left_new tokens f
+
+pub record FirstFails (q : Profile) (left_old left_new : Option (List ℕ)) (given : List Token) (f : Fault) : Type 0 where
+  pub tokens : List Token
+  pub passes : (read q tokens).fault ≡ None
+  pub marked : (ms : List Mark) → HasMarked q given ms → HasMarked q tokens ms
+  pub why : WhyFirst q left_old left_new tokens f
+
+abbrev pub AfterRead : Profile → Option (List ℕ) → Option (List ℕ) → List Token → Reading → Result (Option CodeMark) Fault → Type 0
+AfterRead q left_old left_new given new (Ok (Some m)) = GameRead q left_old left_new given m new
+AfterRead q left_old left_new given new (Ok None) = AllRead q left_old given new
+AfterRead q left_old left_new given new (Err f) = FirstFails q left_old left_new given f
+
+abbrev pub ReadsGame : Option (List ℕ) → Option (List ℕ) → Reading → Reading → Result (Option CodeMark) Fault → Type 0
+ReadsGame left_before left_after old new result =
+    (q : Profile) (left_old : Option (List ℕ)) (given : List Token)
+    → StandsBetween q left_old left_before given old → AfterRead q left_old left_after given new result
+
+-- it goes on behind a mark, and a game more is counted
+abbrev pub GoesOn : Reading → Reading → Result (Option CodeMark) Fault → Type 0
+GoesOn old new (Ok (Some m)) = IsGoing new × (new.converter.games ≡ old.converter.games + 1) × (old.converter.games < 2 ^ 64)
+GoesOn old new _ = Unit {0}
+
+-- The second reading has read the game that ends with the mark m, and it is written.
+pub record GameWritten (q : Profile) (left_old left_new : Option (List ℕ)) (given : List Token) (m : CodeMark) (new : Reading) (before after : Option (List ℕ)) : Type 0 where
+  pub tokens : List Token
+  pub stands : StandsBetween q left_old left_new tokens new
+  pub game : Game
+  pub one_game : OneGame q given tokens game
+  pub matched : (ms : List Mark) → HasMatched q ms given (model_mark m ∷ []) → HasMatched q ms tokens []
+  pub written : Appends before after (game_text q game)
+
+-- Why it stops: the next token shows a difference; or its text could not be written; or the source
+-- gives no more.
+pub data WhySecond (q : Profile) (left_old left_new : Option (List ℕ)) (tokens : List Token) (m : CodeMark) (before after : Option (List ℕ)) : Fault → Type 0 where
+  differs : (t : Token) → ComesNext left_old tokens t → is_changed q (model_mark m) (part_after q tokens) t ≡ true → Appends before after []
+      → WhySecond q left_old left_new tokens m before after (record { at = t.at; reason = Changed })
+  unwritten : (t : Token) → ComesNext left_old tokens t → is_changed q (model_mark m) (part_after q tokens) t ≡ false
+      → AppendsFront before after (gain (with_mark q (model_mark m)) (part_after q tokens) t.kind)
+      → WhySecond q left_old left_new tokens m before after (record { at = t.at; reason = WriteFault })
+  unread : (f : Fault) → ReadFails left_old left_new tokens f → Appends before after []
+      → WhySecond q left_old left_new tokens m before after (as_changed f)
+
+-- Before it stops no token shows a difference, and what is due of the game is written, with the
+-- mark's marker for a missing Result.
+pub record SecondFails (q : Profile) (left_old left_new : Option (List ℕ)) (given : List Token) (m : CodeMark) (f : Fault) (before after : Option (List ℕ)) : Type 0 where
+  pub tokens : List Token
+  pub passes : (read q tokens).fault ≡ None
+  pub no_game : SameGames q given tokens
+  pub matched : (ms : List Mark) → HasMatched q ms given (model_mark m ∷ []) → HasMatched q ms tokens (model_mark m ∷ [])
+  pub mid : Option (List ℕ)
+  pub wrote : Appends before mid (torn (with_mark q (model_mark m)) (part_after q tokens))
+  pub why : WhySecond q left_old left_new tokens m mid after f
+
+abbrev pub AfterWrite : Profile → Option (List ℕ) → Option (List ℕ) → List Token → CodeMark → Reading → Result Unit Fault → Option (List ℕ) → Option (List ℕ) → Type 0
+AfterWrite q left_old left_new given m new (Ok done) before after = GameWritten q left_old left_new given m new before after
+AfterWrite q left_old left_new given m new (Err f) before after = SecondFails q left_old left_new given m f before after
+
+abbrev pub WritesGame : Option (List ℕ) → Option (List ℕ) → Reading → CodeMark → Reading → Result Unit Fault → Option (List ℕ) → Option (List ℕ) → Type 0
+WritesGame left_before left_after old m new result before after =
+    (q : Profile) (left_old : Option (List ℕ)) (given : List Token)
+    → StandsBetween q left_old left_before given old → AfterWrite q left_old left_after given m new result before after
+
+-- ---- both readings, game by game
+
+-- What both have given so far, up to a mark of each: the games are the same by their marks, and
+-- those of the second are written.
+pub record BothSoFar (q : Profile) (first_old first_now second_old second_now : Option (List ℕ)) (first second : Reading) (before after : Option (List ℕ)) : Type 0 where
+  pub marks : List Mark
+  pub first_tokens : List Token
+  pub first_stands : StandsBetween q first_old first_now first_tokens first
+  pub marked : HasMarked q first_tokens marks
+  pub second_tokens : List Token
+  pub second_stands : StandsBetween q second_old second_now second_tokens second
+  pub matched : HasMatched q marks second_tokens []
+  pub written : Appends before after (text_of q (read q second_tokens).progress.games)
