@@ -137,6 +137,32 @@ class Words(unittest.TestCase):
             self.assertEqual((ran.returncode, ran.stdout), (2, b""))
             self.assertIn(b"leave out --program", ran.stderr)
 
+    def test_two_builds(self):
+        """Programs that print their words and what they read stand for the builds."""
+        folder = tempfile.mkdtemp()
+        self.addCleanup(shutil.rmtree, folder)
+        for build, prints in (("old", "cat -"), ("new", "cat -"), ("other", "echo other")):
+            os.makedirs("%s/%s/bench" % (folder, build))
+            os.makedirs("%s/%s/crates/jobs/out" % (folder, build))
+            for name, text in (("bench/workloads.txt", "# a\nfirst jobs a SEED <in.txt\nnext jobs b\n"),
+                               ("bench/in.txt", "read\n"),
+                               ("crates/jobs/out/jobs", "#!/bin/sh\necho $*\n%s\n" % prints)):
+                with open("%s/%s/%s" % (folder, build, name), "w", encoding="ascii") as file:
+                    file.write(text)
+            os.chmod("%s/%s/crates/jobs/out/jobs" % (folder, build), 0o755)
+        call = lambda *words: run([ROOT + "/bench/run", *words], cwd=folder)
+        ran = call("old", "new", "7")
+        self.assertEqual((ran.returncode, ran.stderr.split()), (0, [b"a", b"7", b"read", b"b"]))
+        rows = [re.match(r"\| (\w+) \| [0-9.]+ \| [0-9.]+ \| [0-9.]+ \|$", it)
+                for it in ran.stdout.decode().splitlines()[2:]]
+        self.assertEqual([it and it[1] for it in rows], ["first", "next"])
+        for words, said in ((("old", "other"), b"first: the two builds print different results"),
+                            (("old", "none"), b"none"), (("old", "new", "x"), b"usage"),
+                            (("old", "old"), b"the same folder")):
+            ran = call(*words)
+            self.assertEqual(ran.returncode, 1)
+            self.assertIn(said, ran.stderr)
+
     def test_nothing_is_installed(self):
         """Of the tools only apt-get is there, which would fail, and bench/run does not call it."""
         folder = tempfile.mkdtemp()

@@ -1,0 +1,73 @@
+"""Times two builds of the repository on the jobs of workloads.txt, for bench/run OLD NEW [SEED]."""
+import os
+import statistics
+import subprocess
+import sys
+import time
+
+TURNS = 7
+
+
+def stop(said):
+    sys.exit("bench/run: " + said)
+
+
+def workloads(folder):
+    """The name, the crate and the words of each line of workloads.txt that is no comment."""
+    with open(os.path.join(folder, "bench", "workloads.txt"), encoding="ascii") as file:
+        rows = [line.split() for line in file if line.strip() and not line.startswith("#")]
+    return [(row[0], row[1], row[2:]) for row in rows]
+
+
+def program(folder, crate):
+    path = os.path.join(folder, "crates", crate, "out", crate)
+    if not os.access(path, os.X_OK):
+        stop("there is no %s: call rt run in crates/%s there" % (path, crate))
+    return path
+
+
+def timed(folder, crate, words):
+    """What one run prints, and its seconds."""
+    words, source, place = list(words), subprocess.DEVNULL, os.path.join(folder, "bench")
+    if words and words[-1].startswith("<"):
+        source = open(os.path.join(place, words.pop()[1:]), "rb")
+    begun = time.perf_counter()
+    ran = subprocess.run([program(folder, crate), *words], cwd=place, stdin=source,
+                         stdout=subprocess.PIPE, check=False)
+    seconds = time.perf_counter() - begun
+    if source is not subprocess.DEVNULL:
+        source.close()
+    if ran.returncode:
+        stop("%s of %s ended with status %d" % (" ".join(words), folder, ran.returncode))
+    return ran.stdout, seconds
+
+
+def medians(name, crate, words, folders):
+    """The medians of the folders' builds, which take turns and have to print the same."""
+    taken = {it: [] for it in folders}
+    for turn in range(TURNS):
+        printed = set()
+        for folder in folders if turn % 2 == 0 else reversed(folders):
+            text, seconds = timed(folder, crate, words)
+            printed.add(text)
+            taken[folder].append(seconds)
+        if len(printed) != 1:
+            stop("%s: the two builds print different results" % name)
+    return [statistics.median(taken[it]) for it in folders], printed.pop().decode().strip()
+
+
+def main(words):
+    if len(words) not in (2, 3) or not (words[2:] or ["1"])[0].isdigit():
+        sys.exit("usage: bench/run OLD NEW [SEED]\nOLD and NEW are two folders with built checkouts, "
+                 "SEED is a number below 2^32 (default: 1).")
+    folders = [os.path.abspath(it) for it in words[:2]]
+    seed = (words[2:] or ["1"])[0]
+    if folders[0] == folders[1]:
+        stop("OLD and NEW are the same folder")
+    print("| NAME | seconds at the start | seconds now | start over now |")
+    print("|---|---:|---:|---:|")
+    for name, crate, row in workloads(folders[1]):
+        row = [seed if it == "SEED" else it for it in row]
+        (old, new), text = medians(name, crate, row, folders)
+        print("| %s | %.3f | %.3f | %.2f |" % (name, old, new, old / new), flush=True)
+        print("%s" % text, file=sys.stderr)

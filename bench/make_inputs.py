@@ -1,0 +1,114 @@
+#!/usr/bin/env python3
+"""Writes the inputs of bench/workloads.txt beside this script. The same bytes each time.
+
+    bench/make_inputs.py
+
+- games.txt: a line for each game, its result and then its moves in SAN.
+- puzzles.txt: a line for each puzzle, a FEN without its two counts and then 1 to 6 moves. The last
+  one mates, or gives check.
+- queens.txt: the same for positions with nine queens a side.
+
+The player of make_archive.py plays them all.
+"""
+import os
+import random
+import sys
+
+sys.dont_write_bytecode = True
+import make_archive
+from make_archive import Game, Line
+
+HERE = os.path.dirname(os.path.abspath(__file__))
+GAMES, QUEENS = 2000, 100
+
+
+def fen(game):
+    """The FEN of a position, without a half move clock."""
+    ranks = []
+    for rank in range(7, -1, -1):
+        text, empty = "", 0
+        for piece in game.board[8 * rank:8 * rank + 8]:
+            if piece == ".":
+                empty += 1
+                continue
+            text += (str(empty) if empty else "") + piece
+            empty = 0
+        ranks.append(text + (str(empty) if empty else ""))
+    target = make_archive.NAMES[game.target] if game.target is not None else "-"
+    side = "w" if game.white else "b"
+    return "%s %s %s %s" % ("/".join(ranks), side, game.rights or "-", target)
+
+
+def mates(game):
+    """The moves that mate, with their positions."""
+    for move in game.steps():
+        after = game.after(move)
+        if after and after.checked() and not any(after.after(it) for it in after.steps()):
+            yield move, after
+
+
+def puzzle(rng, line, at):
+    """Whether it is a mate, a position some plies before this one, and the moves from there."""
+    game, _, _ = line.moves[at]
+    first = max(0, at - rng.randrange(0, 6))
+    before = [text for _, _, text in line.moves[first:at]]
+    start = line.moves[first][0]
+    for move, after in mates(game):
+        return True, start, before + [game.san(move, after)]
+    text = line.moves[at][2]
+    if text.endswith("+") and rng.random() < 0.05:
+        return False, start, before + [text]
+    return None
+
+
+def queens(rng):
+    """A game that begins with many queens a side."""
+    while True:
+        game = Game()
+        board = ["."] * 64
+        squares = rng.sample(range(64), 20)
+        for square, piece in zip(squares, "Kk" + "Q" * 9 + "q" * 9):
+            board[square] = piece
+        game.board, game.rights = board, ""
+        white_safe = not game.attacked(board.index("k"), True)
+        if white_safe and not game.attacked(board.index("K"), False):
+            break
+    moves = []
+    at = game
+    for _ in range(rng.randrange(4, 12)):
+        move, after = at.choose(rng)
+        if not move:
+            break
+        moves.append(at.san(move, after))
+        at = after
+    return game, moves
+
+
+def puzzles(rng, line):
+    """The puzzles of a game, from its end back to a mate."""
+    for at in range(len(line.moves) - 1, 3, -1):
+        found = puzzle(rng, line, at)
+        if found:
+            is_mate, start, moves = found
+            yield start, moves
+            if is_mate:
+                return
+
+
+def write(name, lines):
+    with open(HERE + "/" + name, "w", encoding="ascii") as out:
+        out.writelines(" ".join(words) + "\n" for words in lines)
+
+
+def main():
+    rng = random.Random(1994)
+    lines = [Line(rng) for _ in range(GAMES)]
+    write("games.txt", ([it.result, *(text for _, _, text in it.moves)] for it in lines))
+    found = [it for line in lines for it in puzzles(rng, line)]
+    write("puzzles.txt", ([fen(start), *moves] for start, moves in found))
+    played = [queens(rng) for _ in range(QUEENS)]
+    write("queens.txt", ([fen(start), *moves] for start, moves in played))
+
+
+if __name__ == "__main__":
+    main()
