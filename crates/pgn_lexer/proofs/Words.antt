@@ -3,7 +3,7 @@ pub use Rattle.std.proofs.Common.{Bool, List, [], add-one, ap, append-nil, appen
 pub use Rattle.std.proofs.Math.Seq.{drop-append_seam, drop-cons}
 pub use Rattle.std.proofs.lemmas.Bool.{and_parts, cases_Bool, cases_lt, eqb-true, false≢true, leb-false, leb-true, lt-ltb, ltb-false, ltb-true}
 pub use Rattle.std.proofs.lemmas.Bool.{not-true, or_cases, or_left, or_right}
-pub use Rattle.std.proofs.lemmas.List.{drop-drop, drop_at, length-replicate, take_all}
+pub use Rattle.std.proofs.lemmas.List.{drop-drop, drop_at, length-replicate, length-set, take_all, take_more_set}
 pub use Rattle.std.proofs.lemmas.List.Sums.{fold-append, take_while-cons}
 pub use Rattle.std.specs.Cmp.Derive.{both_true}
 pub use Rattle.std.specs.List.{AllByRecursion, list_all}

@@ -9,7 +9,6 @@ mod run;
 
 use crate::class::Single;
 use crate::token::{LexFault, LexReason, Token, TokenKind};
-use arrayvec::ArrayVec;
 use std::marker::Model;
 
 /// The most bytes of a symbol, and the most data of a string (PGN 7).
@@ -104,19 +103,22 @@ pub(crate) enum Reached {
 /// The current token: its place, and what was read of it.
 #[derive(Drop)]
 pub(crate) struct PartialToken {
-    buffer: ArrayVec<u8, LONGEST_TEXT>,
+    /// Its text, and behind that what is left of others.
+    buffer: [u8; LONGEST_TEXT],
+    length: usize,
     mode: Mode,
     at: u64,
 }
 
 impl Model for PartialToken {
-    ghost use Rattle.pgn_lexer.specs.PartialToken.{PartialToken, HasRoom};
+    ghost use Rattle.std.specs.Prelude.{take};
+    ghost use Rattle.pgn_lexer.specs.PartialToken.{PartialToken, FitsBuffer};
 
     ghost Value = { PartialToken };
 
-    ghost view = { λ h. record { mode = h.mode; at = h.at; text = h.buffer.items } };
+    ghost view = { λ h. record { mode = h.mode; at = h.at; text = take h.length h.buffer } };
 
-    ghost invariant = { λ h. HasRoom h.mode h.buffer.items };
+    ghost invariant = { λ h. FitsBuffer h.mode h.length h.buffer };
 }
 
 impl PartialToken {
@@ -140,7 +142,8 @@ impl PartialToken {
             Mode::Outside
         };
         PartialToken {
-            buffer: ArrayVec::new(),
+            buffer: [0; LONGEST_TEXT],
+            length: 0,
             mode,
             at: 0,
         }
@@ -166,7 +169,7 @@ impl PartialToken {
         ensures at { result.at ≡ self.now.at }
         ensures kind { kind_of result.kind ≡ kind_in form self.now.text }
     {
-        let text = self.buffer.as_slice();
+        let text = &self.buffer[..self.length];
         let kind = match form {
             TokenForm::Single(Single::LeftBracket) => TokenKind::LeftBracket,
             TokenForm::Single(Single::RightBracket) => TokenKind::RightBracket,

@@ -1,6 +1,6 @@
 //! What one byte does to the current token, mode by mode.
 
-ghost use Rattle.std.specs.Prelude.{◌≡◌, true, false, [], ◌∷◌};
+ghost use Rattle.std.specs.Prelude.{◌≡◌, ◌<◌, true, false, [], ◌∷◌, ◌++◌, length};
 ghost use Rattle.pgn_lexer.specs.ByteResult as byte_result;
 
 use crate::class::{
@@ -8,10 +8,9 @@ use crate::class::{
     is_line_end, is_suffix, string_class_of,
 };
 use crate::partial_token::{
-    LARGEST_GLYPH, LONGEST_WORD, Mode, PartialToken, Step, SuffixRun, TokenForm, glyph_of,
+    LARGEST_GLYPH, LONGEST_TEXT, LONGEST_WORD, Mode, PartialToken, Step, SuffixRun, TokenForm, glyph_of,
 };
 use crate::token::LexReason;
-use arrayvec::ArrayVec;
 
 impl PartialToken {
     ghost use Rattle.pgn_lexer.specs.Spelling as spelling;
@@ -130,10 +129,10 @@ impl PartialToken {
             self.mode = Mode::Outside;
             return Step::EndsBefore(TokenForm::Symbol);
         }
-        if self.buffer.is_full() {
+        if self.length >= LONGEST_TEXT {
             return self.fail(self.at, LexReason::SymbolTooLong);
         }
-        self.buffer.push(byte);
+        self.push(byte);
         Step::Used
     }
 
@@ -205,17 +204,17 @@ impl PartialToken {
             StringClass::LineEnd => self.fail(self.at, LexReason::UnclosedString),
             StringClass::Control => self.fail(place, LexReason::ControlByte),
             StringClass::Backslash => {
-                if self.buffer.is_full() {
+                if self.length >= LONGEST_TEXT {
                     return self.fail(self.at, LexReason::StringTooLong);
                 }
                 self.mode = Mode::AfterBackslash;
                 Step::Used
             }
             StringClass::Plain => {
-                if self.buffer.is_full() {
+                if self.length >= LONGEST_TEXT {
                     return self.fail(self.at, LexReason::StringTooLong);
                 }
-                self.buffer.push(byte);
+                self.push(byte);
                 Step::Used
             }
         }
@@ -228,19 +227,19 @@ impl PartialToken {
     {
         match string_class_of(byte) {
             StringClass::Quote | StringClass::Backslash => {
-                self.buffer.push(byte);
                 self.mode = Mode::Str;
+                self.push(byte);
                 Step::Used
             }
             StringClass::LineEnd => self.fail(self.at, LexReason::UnclosedString),
             StringClass::Control => self.fail(place, LexReason::ControlByte),
             StringClass::Plain => {
-                if self.buffer.remaining_capacity() < 2 {
+                if self.length + 1 >= LONGEST_TEXT {
                     return self.fail(self.at, LexReason::StringTooLong);
                 }
-                self.buffer.push(b'\\');
-                self.buffer.push(byte);
                 self.mode = Mode::Str;
+                self.push(b'\\');
+                self.push(byte);
                 Step::Used
             }
         }
@@ -281,10 +280,10 @@ impl PartialToken {
     {
         match comment_class_of(byte) {
             CommentClass::WordByte => {
-                if self.buffer.len() >= LONGEST_WORD {
+                if self.length >= LONGEST_WORD {
                     return self.fail(self.at, LexReason::WordTooLong);
                 }
-                self.buffer.push(byte);
+                self.push(byte);
                 Step::Used
             }
             _ => {
@@ -318,13 +317,24 @@ impl PartialToken {
         Step::Ends(form)
     }
 
+    /// One byte more of the text.
+    fn push(&mut self, byte: u8)
+        requires room { length self.old.text < 255 }
+        requires more { HasMore self.old.mode (self.old.text ++ byte ∷ []) }
+        ensures { self.new ≡ record { mode = self.old.mode; at = self.old.at;
+            text = self.old.text ++ byte ∷ [] } }
+    {
+        self.buffer[self.length] = byte;
+        self.length += 1;
+    }
+
     pub(crate) fn begin_text(&mut self, mode: Mode, byte: u8) -> Step
         requires { HasMore mode (byte ∷ []) }
         ensures { IsAfterByte (byte_result.set_at mode self.old.at (byte ∷ []) Step.Used) self.new
             result }
     {
-        self.buffer = ArrayVec::new();
-        self.buffer.push(byte);
+        self.buffer[0] = byte;
+        self.length = 1;
         self.mode = mode;
         Step::Used
     }
@@ -333,7 +343,7 @@ impl PartialToken {
         ensures { IsAfterByte (byte_result.set_at Mode.Str self.old.at [] Step.Used) self.new
             result }
     {
-        self.buffer = ArrayVec::new();
+        self.length = 0;
         self.mode = Mode::Str;
         Step::Used
     }

@@ -6,7 +6,7 @@ ghost use Rattle.pgn_lexer.specs.RunResult.{used_after, reached_after};
 use crate::class::{
     Class, CommentClass, StringClass, class_of, comment_class_of, continues_symbol, string_class_of,
 };
-use crate::partial_token::{LONGEST_WORD, Mode, PartialToken, Reached, Step, TokenForm};
+use crate::partial_token::{LONGEST_TEXT, LONGEST_WORD, Mode, PartialToken, Reached, Step, TokenForm};
 
 impl PartialToken {
     ghost use Rattle.pgn_lexer.specs.PartialToken.{IsSound};
@@ -76,17 +76,21 @@ impl PartialToken {
         requires symbol { self.old.mode ≡ Mode.Symbol }
         ensures { RunsOn place piece.now from self.old self.new result.0 result.1 }
     {
-        let end = from + (piece.len() - from).min(self.buffer.remaining_capacity());
+        let mut length = self.length;
+        let end = from + (piece.len() - from).min(LONGEST_TEXT - length);
         let mut used = from;
         while used < end {
             let byte = piece[used];
             if !continues_symbol(byte) {
+                self.length = length;
                 self.mode = Mode::Outside;
                 return (used, Reached::Token(TokenForm::Symbol));
             }
-            self.buffer.push(byte);
+            self.buffer[length] = byte;
+            length += 1;
             used += 1;
         }
+        self.length = length;
         if used < piece.len() {
             return self.run_on(piece, used, place);
         }
@@ -102,20 +106,24 @@ impl PartialToken {
         requires string { self.old.mode ≡ Mode.Str }
         ensures { RunsOn place piece.now from self.old self.new result.0 result.1 }
     {
-        let end = from + (piece.len() - from).min(self.buffer.remaining_capacity());
+        let mut length = self.length;
+        let end = from + (piece.len() - from).min(LONGEST_TEXT - length);
         let mut used = from;
         while used < end {
             let byte = piece[used];
             match string_class_of(byte) {
-                StringClass::Plain => self.buffer.push(byte),
+                StringClass::Plain => self.buffer[length] = byte,
                 StringClass::Quote => {
+                    self.length = length;
                     self.mode = Mode::Outside;
                     return (used + 1, Reached::Token(TokenForm::Str));
                 }
-                _ => return self.run_on(piece, used, place),
+                _ => break,
             }
+            length += 1;
             used += 1;
         }
+        self.length = length;
         if used < piece.len() {
             return self.run_on(piece, used, place);
         }
@@ -160,19 +168,23 @@ impl PartialToken {
         requires word { self.old.mode ≡ Mode.BraceWord }
         ensures { RunsOn place piece.now from self.old self.new result.0 result.1 }
     {
-        let end = from + (piece.len() - from).min(LONGEST_WORD - self.buffer.len());
+        let mut length = self.length;
+        let end = from + (piece.len() - from).min(LONGEST_WORD - length);
         let mut used = from;
         while used < end {
             let byte = piece[used];
             match comment_class_of(byte) {
-                CommentClass::WordByte => self.buffer.push(byte),
+                CommentClass::WordByte => self.buffer[length] = byte,
                 _ => {
+                    self.length = length;
                     self.mode = Mode::Brace;
                     return (used, Reached::Token(TokenForm::Word));
                 }
             }
+            length += 1;
             used += 1;
         }
+        self.length = length;
         if used < piece.len() {
             return self.run_on(piece, used, place);
         }
