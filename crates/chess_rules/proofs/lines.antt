@@ -4,3 +4,4 @@ pub mod ClearWays
 pub mod InView
 pub mod LinesThrough
 pub mod LinesToBetween
+pub mod SeenAlong

@@ -3,6 +3,7 @@ use Rattle.std.proofs.lemmas.Bool.Decides.{nat_tests}
 use Rattle.chess_rules.proofs.positions.RulesOfPosition.{own_king}
 pub mod BoardAfterMove
 pub mod CellsAfterPut
+pub mod CheckStays
 pub mod KindsOfSteps
 pub mod LegalToPosition
 pub mod OneWayToStep

@@ -4,6 +4,7 @@ pub mod FoundLists
 pub mod LegalIsTried
 pub mod OriginsAreCandidates
 pub mod PairCounts
+pub mod PairsFromOrigin
 pub mod PromotionsAlike
 pub mod SearchThatCounts
 pub mod SetsToCandidates

@@ -6,12 +6,14 @@ use Rattle.chess_rules.specs.declared.piece.Kind.TheVariants.{King, Knight, Pawn
 use Rattle.chess_rules.specs.declared.piece.Promotion.TheVariants as promotions
 use Rattle.chess_rules.specs.declared.position.Move.{Move}
 use Rattle.chess_rules.specs.declared.position.Parts.{Parts}
-use Rattle.chess_rules.specs.Square.{Square, squares, is_adjacent, is_jump}
-use Rattle.chess_rules.specs.Board.{at, has_colour}
-use Rattle.chess_rules.specs.Attacks.{is_clear}
+use Rattle.chess_rules.specs.declared.piece.Colour.{Colour}
+use Rattle.chess_rules.specs.Square.{Square, squares, is_adjacent, is_jump, strictly_between}
+use Rattle.chess_rules.specs.Board.{Board, at, cell_of, has_colour}
+use Rattle.chess_rules.specs.Attacks.{attacks, is_attacked, is_clear}
 use Rattle.chess_rules.specs.Step.{own, last_rank}
 use Rattle.chess_rules.specs.Legal.{is_legal}
 use Rattle.chess_rules.specs.Reach.{is_aligned, king_square}
+use Rattle.chess_rules.specs.Words.{has}
 
 -- One pair.
 
@@ -52,6 +54,20 @@ has_untried_move p t = list_any (λ s. is_legal_pair p s t) (filter (is_untried 
 
 unfoldable pub count_untried : Parts → Square → ℕ
 count_untried p t = length (filter (is_untried p t) squares)
+
+-- The targets that may meet an attack on t by pieces of the colour c.
+
+-- one of the attackers is in the set, and all squares between it and t are
+pub record HasAttacker (b : Board) (c : Colour) (t : Square) (set : ℕ) : Type 0 where
+  pub from : Square
+  pub file : from.file < 8
+  pub rank : from.rank < 8
+  pub attacks : (has_colour c (at b from) && attacks b from t) ≡ true
+  pub here : has set (cell_of from) ≡ true
+  pub way : (u : Square) → u.file < 8 → u.rank < 8 → strictly_between from u t ≡ true → has set (cell_of u) ≡ true
+
+abbrev pub MeetsAttack : Board → Colour → Square → ℕ → Type 0
+MeetsAttack b c t set = is_attacked b c t ≡ true → HasAttacker b c t set
 
 -- What a search among `whole` pairs adds to the count: `whole` if no pair is legal, and else at
 -- least 1 and at most `whole`.

@@ -95,6 +95,16 @@ pub record IsOnly (Is : ℕ → ℕ → Type 0) (word only : ℕ) : Type 0 where
   pub here : (i : ℕ) → i < 64 → has only i ≡ true → Is word i
   pub there : (i : ℕ) → Is word i → has only i ≡ true
 
+-- `result` has the places up to the first that `word` has, with this one, or all if `word` has none
+pub record IsUpTo (word result : ℕ) : Type 0 where
+  pub none : (i : ℕ) → i < 64 → has result i ≡ true → (j : ℕ) → j < i → has word j ≡ false
+  pub here : (i : ℕ) → i < 64 → ((j : ℕ) → j < i → has word j ≡ false) → has result i ≡ true
+
+-- `result` has the places from the last that `word` has, with this one, or all if `word` has none
+pub record IsFrom (word result : ℕ) : Type 0 where
+  pub none : (i : ℕ) → i < 64 → has result i ≡ true → (j : ℕ) → i < j → j < 64 → has word j ≡ false
+  pub here : (i : ℕ) → i < 64 → ((j : ℕ) → i < j → j < 64 → has word j ≡ false) → has result i ≡ true
+
 -- the squares of a set, in the order of their places
 unfoldable pub members : ℕ → List Square
 members word = filter (λ s. has word (cell_of s)) squares

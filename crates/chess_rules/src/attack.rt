@@ -3,6 +3,7 @@
 ghost use Rattle.std.specs.Prelude.{◌≡◌, ◌&&◌, is_some};
 ghost use Rattle.chess_rules.specs.Board.{at, cell_of};
 ghost use Rattle.chess_rules.specs.Attacks as spec;
+ghost use Rattle.chess_rules.specs.Pairs as pairs;
 ghost use Rattle.chess_rules.specs.Reach as reach;
 ghost use Rattle.chess_rules.specs.Words.{Places, has};
 
@@ -62,6 +63,32 @@ fn pieces_in_view(board: &Board, target: Square) -> Squares
         | nearest(board, diagonals & !steep, target)
 }
 
+// The squares of this line through the origin that are seen from it: those up to the nearest piece
+// on either side, with this piece.
+fn seen_along(board: &Board, line: Squares, origin: Square) -> Squares
+    requires { reach.IsLine (λ s. has line (cell_of s)) origin }
+    ensures { Places result (λ s. has line (cell_of s) && spec.is_clear board.now s origin) }
+{
+    origin.recall_invariant();
+    let blocking = line & board.occupied();
+    let before = Squares::before(origin);
+    line & ((blocking & !before).up_to_lowest() & (blocking & before).from_highest())
+}
+
+// The squares that are seen from the origin along its rank, its file and its two diagonals.
+pub(crate) fn seen_from(board: &Board, origin: Square) -> Squares
+    ensures { Places result (λ s. reach.is_aligned s origin && spec.is_clear board.now s origin) }
+{
+    origin.recall_invariant();
+    let rank_and_file = rank_and_file(origin);
+    let diagonals = diagonals(origin);
+    let steep = steep(origin);
+    seen_along(board, rank_and_file & steep, origin)
+        | seen_along(board, rank_and_file & !steep, origin)
+        | seen_along(board, diagonals & steep, origin)
+        | seen_along(board, diagonals & !steep, origin)
+}
+
 // Whether the piece, on `from`, attacks `to`.
 pub(crate) fn piece_attacks(board: &Board, piece: Piece, from: Square, to: Square) -> bool
     ensures { result ≡ spec.kind_attacks piece.kind piece.colour board.now from to }
@@ -109,10 +136,12 @@ pub(crate) fn is_attacked(board: &Board, by: Colour, target: Square) -> bool
 
 // The squares of the pieces of the colour that attack the target, and those between the target and
 // the first of these; no square if nothing attacks it.
-//
-// The caller uses this only to choose an order, so it has no contract.
-pub(crate) fn evasion_targets(board: &Board, by: Colour, target: Square) -> Squares {
+pub(crate) fn evasion_targets(board: &Board, by: Colour, target: Square) -> Squares
+    ensures { pairs.MeetsAttack board.now by target result }
+{
     let attackers = clear_among(board, possible_attackers(board, by, target), target);
-    let first = attackers.lowest();
-    first.map_or(attackers, |first| attackers | between(first, target))
+    match attackers.lowest() {
+        None => attackers,
+        Some(first) => attackers | between(first, target),
+    }
 }

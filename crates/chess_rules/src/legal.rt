@@ -5,7 +5,7 @@ ghost use Rattle.chess_rules.specs.Candidate.{pair_count};
 ghost use Rattle.chess_rules.specs.Legal as spec;
 
 use crate::attack::evasion_targets;
-use crate::pairs::{has_king_step, has_other_move_to};
+use crate::pairs::{has_king_step, has_other_move_to, rule_out_moves_to};
 use crate::position::{Move, Position};
 use crate::probes::Probes;
 use crate::step::{is_step_of_kind, kind_of_step};
@@ -107,5 +107,12 @@ pub fn has_legal_move(position: &Position, probes: &mut Probes) -> bool
     // passant can meet it. They are tried too: if no pair is legal, all are counted.
     let first = evasion_targets(position.board(), position.side().other(), position.king());
     let others = !first;
-    has_other_move_to(position, first, probes) || has_other_move_to(position, others, probes)
+    if has_other_move_to(position, first, probes) {
+        return true;
+    }
+    if position.is_checked() && position.target().is_none() {
+        rule_out_moves_to(position, others, probes);
+        return false;
+    }
+    has_other_move_to(position, others, probes)
 }

@@ -1,11 +1,12 @@
 //! Trying all pairs of an origin and a target, until one is legal.
 
-ghost use Rattle.std.specs.Prelude.{◌≡◌, ◌+◌, ◌<◌, ◌^◌, length, sum_by};
+ghost use Rattle.std.specs.Prelude.{IsTrue, ◌≡◌, ◌+◌, ◌<◌, ◌^◌, length, sum_by};
 ghost use Rattle.std.specs.List.{list_any};
+ghost use Rattle.chess_rules.specs.Board.{at, has_colour};
 ghost use Rattle.chess_rules.specs.Pairs as spec;
 ghost use Rattle.chess_rules.specs.Words.{Places, members};
 
-use crate::attack::clear_among;
+use crate::attack::{clear_among, seen_from};
 use crate::geometry::{adjacent, aligned, knights_to};
 use crate::legal::try_pair;
 use crate::piece::{Kind, Promotion};
@@ -86,6 +87,39 @@ pub(crate) fn has_other_move_to(position: &Position, targets: Squares, probes: &
         }
     }
     false
+}
+
+// Tries the pairs for these targets, other than those that `has_king_step` tries.
+//
+// The king is in check, and no move to one of the targets can meet it: none of them is legal. So
+// all pairs of an origin are tried together, and each counts.
+pub(crate) fn rule_out_moves_to(position: &Position, targets: Squares, probes: &mut Probes)
+    requires { probes.old + sum_by (spec.count_untried position.now) (members targets) < 2 ^ 32 }
+    ensures { probes.new
+        ≡ probes.old + sum_by (spec.count_untried position.now) (members targets) }
+{
+    let mut left = position.board().of_colour(position.side());
+    while let Some(origin) = left.take_lowest() {
+        probes.add((targets & untried_from(position, origin)).count());
+    }
+}
+
+// The targets for which the pair with the origin is still to be tried: see `untried`.
+fn untried_from(position: &Position, origin: Square) -> Squares
+    requires { IsTrue (has_colour position.now.side (at position.now.board origin)) }
+    ensures { Places result (λ t. spec.is_untried position.now t origin) }
+{
+    position.recall_invariant();
+    origin.recall_invariant();
+    let board = position.board();
+    if board.of_kind(Kind::Knight).has(origin) {
+        return knights_to(origin);
+    }
+    let seen = seen_from(board, origin);
+    if origin.is(position.king()) {
+        return seen & !king_targets(position);
+    }
+    seen
 }
 
 // The origins still to be tried for the target: the side's knights a jump away, and its other

@@ -42,4 +42,12 @@ impl Probes {
     {
         self.count += 1;
     }
+
+    // Counts so many more pairs.
+    pub(crate) fn add(&mut self, pairs: u32)
+        requires { self.old + pairs < 2 ^ 32 }
+        ensures { self.new ≡ self.old + pairs }
+    {
+        self.count += pairs;
+    }
 }

@@ -1,11 +1,11 @@
 //! Sets of squares.
 
-ghost use Rattle.std.specs.Prelude.{◌≡◌, ◌<◌, ◌^◌, ◌&&◌, ◌||◌, nat_lt, not};
+ghost use Rattle.std.specs.Prelude.{◌≡◌, ◌<◌, ◌^◌, ◌&&◌, ◌||◌, length, nat_lt, not};
 ghost use Rattle.chess_rules.specs.Board.{cell_of};
 ghost use Rattle.chess_rules.specs.Candidate.{lone};
 ghost use Rattle.chess_rules.specs.Reach.{square_at};
 ghost use Rattle.chess_rules.specs.Words as spec;
-ghost use Rattle.chess_rules.specs.Words.{Bits, FirstOf, IsHighest, IsLowest, IsOnly, Places, Sets, Takes};
+ghost use Rattle.chess_rules.specs.Words.{Bits, FirstOf, IsFrom, IsHighest, IsLowest, IsOnly, IsUpTo, Places, Sets, Takes};
 
 use crate::square::Square;
 use std::marker::Model;
@@ -117,6 +117,13 @@ impl Squares {
         }
     }
 
+    // How many squares the set has.
+    pub(crate) fn count(self) -> u32
+        ensures { result ≡ length (spec.members self) }
+    {
+        self.bits.count_ones()
+    }
+
     // The first square, if the set has one.
     pub(crate) fn lowest(self) -> Option<Square>
         ensures { FirstOf result self }
@@ -154,6 +161,26 @@ impl Squares {
         }
         let last = Square::nth(63 - self.bits.leading_zeros() as usize);
         Squares::of_bits(bit_of(last))
+    }
+
+    // The squares up to the first of the set, with this one; all squares if the set is empty.
+    pub(crate) fn up_to_lowest(self) -> Squares
+        ensures { IsUpTo self result }
+    {
+        match self.lowest() {
+            None => Squares::of_bits(u64::MAX),
+            Some(first) => Squares::of_bits(bit_of(first) | (bit_of(first) - 1)),
+        }
+    }
+
+    // The squares from the last of the set on, with this one; all squares if the set is empty.
+    pub(crate) fn from_highest(self) -> Squares
+        ensures { IsFrom self result }
+    {
+        if self.bits == 0 {
+            return Squares::of_bits(u64::MAX);
+        }
+        !Squares::before(Square::nth(63 - self.bits.leading_zeros() as usize))
     }
 
     // Removes and returns the first square, if there is one. Repeated, it returns all in order.

@@ -8,13 +8,13 @@ use Rattle.chess_rules.proofs.trying.FoundLists.{kept_either, kept_more}
 use Rattle.chess_rules.proofs.lines.AttackToReach.{clear_if, is_in_view, is_open, not_empty}
 use Rattle.chess_rules.proofs.lines.LinesThrough.{file_line, rank_line, rising_line, falling_line, inside_means, inside_up, inside_down}
 
-strict : (m n : ℕ) → m ≤ n → (m ≡ n → ⊥) → m < n
+pub strict : (m n : ℕ) → m ≤ n → (m ≡ n → ⊥) → m < n
 strict m n a g = grind (arith, g)
 
 -- One line through t.
 module _ (b : Board) (t : Square) (line : Square → Bool) (on : IsLine line t) where
   -- a piece between blocks the way
-  blocked : (i j : ℕ) → i < 64 → j < 64 → line (square_at i) ≡ true → line (square_at j) ≡ true
+  pub blocked : (i j : ℕ) → i < 64 → j < 64 → line (square_at i) ≡ true → line (square_at j) ≡ true
       → is_some (at b (square_at i)) ≡ true → is_clear b (square_at j) t ≡ true → inside j i (cell_of t) ≡ true → ⊥
   blocked i j low high there from full clear between =
       let apart : strictly_between (square_at j) (square_at i) t ≡ true =
@@ -26,7 +26,7 @@ module _ (b : Board) (t : Square) (line : Square → Bool) (on : IsLine line t) 
       false≢true (sym (not_empty b (square_at i) full) ∙ empty)
 
   -- no piece between leaves it clear
-  clear_when : (j : ℕ) → j < 64 → line (square_at j) ≡ true
+  pub clear_when : (j : ℕ) → j < 64 → line (square_at j) ≡ true
       → ((u : Square) → u.file < 8 → u.rank < 8 → line u ≡ true → inside j (cell_of u) (cell_of t) ≡ true → is_empty b u ≡ true)
       → is_clear b (square_at j) t ≡ true
   clear_when j low from h =
@@ -36,7 +36,7 @@ module _ (b : Board) (t : Square) (line : Square → Bool) (on : IsLine line t) 
       h u f r (first_true (line u) _ both)
       (ap (λ m. inside m (cell_of u) (cell_of t)) (sym (cell_of-square_at j)) ∙ second_true (line u) _ both))
 
-  not_there : (i : ℕ) → i < 64 → line (square_at i) ≡ true → t.file < 8 → i ≢ cell_of t
+  pub not_there : (i : ℕ) → i < 64 → line (square_at i) ≡ true → t.file < 8 → i ≢ cell_of t
   not_there i low here file e = grind arith
 
 -- The nearest pieces on a line, as sets: of those from t on the lowest, of those below the highest.

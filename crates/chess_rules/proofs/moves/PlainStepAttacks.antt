@@ -34,7 +34,7 @@ between_aligned s u t h =
 
 -- A piece that attacks on one board attacks on another where the way is clear too.
 
-cell_still : (cell : Option Piece) (a b : Board) (s t : Square) → (is_clear a s t ≡ true → is_clear b s t ≡ true)
+pub cell_still : (cell : Option Piece) (a b : Board) (s t : Square) → (is_clear a s t ≡ true → is_clear b s t ≡ true)
     → cell_attacks cell a s t ≡ true → cell_attacks cell b s t ≡ true
 cell_still cell a b s t clear h = grind arith
 
@@ -123,7 +123,7 @@ plain_board p m b plain h = ap (λ k. board_of k p m) (sym plain) ∙ (step_of_k
 arriving_own : (c : Colour) (q : Option Promotion) (cell : Option Piece) → has_colour c cell ≡ true → has_colour c (promoted c q cell) ≡ true
 arriving_own c q cell h = grind arith
 
-not_other : (c : Colour) (cell : Option Piece) → has_colour c cell ≡ true → has_colour (other c) cell ≡ false
+pub not_other : (c : Colour) (cell : Option Piece) → has_colour c cell ≡ true → has_colour (other c) cell ≡ false
 not_other c cell h = grind arith
 
 -- the king that stays is safe, if it was not attacked and sees no square that is left

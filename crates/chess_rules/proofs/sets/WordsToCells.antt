@@ -113,7 +113,7 @@ unfolding word
 word_fits test [] = omega arith
 word_fits test (x ∷ xs) = (let rest : word test xs < 2 ^ length xs = word_fits test xs in grind (arith, pow-suc))
 
-same_bit : (m n i : ℕ) → has m i ≡ has n i → bit_at m i ≡ bit_at n i
+pub same_bit : (m n i : ℕ) → has m i ≡ has n i → bit_at m i ≡ bit_at n i
 unfolding has
 same_bit m n i h = grind (arith, bit_at-lt)
 

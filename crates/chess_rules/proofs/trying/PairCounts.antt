@@ -47,7 +47,7 @@ sum_five f g h i j xs =
     let d : sum_by (λ x. f x + g x) xs ≡ sum_by f xs + sum_by g xs = sum_both f g xs in
     omega arith
 
-adjacent_back : (s t : Square) → is_adjacent s t ≡ is_adjacent t s
+pub adjacent_back : (s t : Square) → is_adjacent s t ≡ is_adjacent t s
 adjacent_back s t = grind arith
 
 -- The king is the one candidate of its kind where it stands side by side with the target.
@@ -95,11 +95,11 @@ of_target p t = sum_by (λ k. length (candidates p k t)) kinds
 
 -- For one target, piece by piece: it is still to be tried, or it is a king whose step was tried.
 
-abbrev bit : Bool → ℕ
+abbrev pub bit : Bool → ℕ
 bit true = 1
 bit false = 0
 
-length_by_bits : {X : Type 0} (f : X → Bool) (xs : List X) → length (filter f xs) ≡ sum_by (λ x. bit (f x)) xs
+pub length_by_bits : {X : Type 0} (f : X → Bool) (xs : List X) → length (filter f xs) ≡ sum_by (λ x. bit (f x)) xs
 length_by_bits f [] = refl
 length_by_bits {X = X} f (x ∷ xs) =
     one_more (f x) (filter f xs) ∙ (ap (λ n. bit (f x) + n) (length_by_bits f xs) ∙ sym (sum_by-cons (λ y. bit (f y)) x xs))
@@ -107,7 +107,7 @@ length_by_bits {X = X} f (x ∷ xs) =
     one_more : (v : Bool) (ys : List X) → length (cond v (x ∷ ys) ys) ≡ bit v + length ys
     one_more v ys = grind arith
 
-sum_none : {X : Type 0} (xs : List X) → sum_by (λ x. 0) xs ≡ 0
+pub sum_none : {X : Type 0} (xs : List X) → sum_by (λ x. 0) xs ≡ 0
 sum_none [] = refl
 sum_none (x ∷ xs) = sum_by-cons (λ y. 0) x xs ∙ ap (λ n. 0 + n) (sum_none xs)
 

@@ -74,3 +74,14 @@ module _ (test : Square → Bool) (cost : Square → ℕ) (whole : List Square) 
     counts_exactly false old now (sum_by cost whole) (λ found. cc)
         (let e : sum_by cost (members left) ≡ 0 = ap (sum_by cost) none.none in omega (arith, w.counted, e)),
   )
+
+-- The same, where the members are only counted.
+
+module _ (cost : Square → ℕ) (whole : List Square) where
+  -- each member so far was counted, and these are left
+  pub record CountsLeft (left old now : ℕ) : Type 0 where
+    pub counted : now + sum_by cost (members left) ≡ old + sum_by cost whole
+
+  pub next_counts : (left rest old now : ℕ) (s : Square) → members left ≡ s ∷ members rest → CountsLeft left old now
+      → now + (cost s + sum_by cost (members rest)) ≡ old + sum_by cost whole
+  next_counts left rest old now s next w = omega (arith, w.counted, ap (sum_by cost) next, sum_by-cons cost s (members rest))

@@ -1,5 +1,5 @@
 -- The sets whose members are tried have the pairs of the definitions.
-use Rattle.chess_rules.proofs.Words.{Colour, King, Knight, Parts, Square, squares, is_adjacent, Board, at, cell_of, has_colour, own, is_clear, is_aligned, king_square, Bits, has, members, Places, is_king_step, is_untried_aligned, ◌≡◌, ℕ, ◌+◌, ◌<◌, Bool, true, not, cond, ◌&&◌, ◌||◌, List, [], ◌∷◌, refl, sym, ◌∙◌, ap, arith, filter, list_any, sum_by, sum_by-cons, nat_tests}
+use Rattle.chess_rules.proofs.Words.{Colour, King, Knight, Parts, Square, squares, is_adjacent, Board, at, cell_of, has_colour, own, is_clear, is_aligned, king_square, Bits, has, members, Places, is_king_step, is_untried, is_untried_aligned, count_untried, ◌≡◌, ℕ, ◌+◌, ◌<◌, Bool, true, not, cond, ◌&&◌, ◌||◌, List, [], ◌∷◌, length, refl, sym, ◌∙◌, ap, arith, filter, list_any, sum_by, sum_by-cons, nat_tests}
 use Rattle.chess_rules.proofs.sets.SetsToSquares.{members_are}
 use Rattle.chess_rules.proofs.positions.OneKing.{cell_of-square_at}
 
@@ -75,3 +75,12 @@ pub sum_both_sets : (cost : Square → ℕ) (w r : ℕ) → Bits r (λ i. not (h
     → sum_by cost (members w) + sum_by cost (members r) ≡ sum_by cost squares
 unfolding members
 sum_both_sets cost w r rest = grind (arith, others, sum_parts)
+
+-- How many pairs are tried for a target.
+
+pub untried_are : (p : Parts) (t : Square) (w : ℕ) → Places w (is_untried p t) → members w ≡ filter (is_untried p t) squares
+untried_are p t w h = members_are w (is_untried p t) h.of
+
+pub untried_counted : (p : Parts) (t : Square) (w : ℕ) → Places w (is_untried p t) → length (members w) ≡ count_untried p t
+unfolding count_untried
+untried_counted p t w h = ap length (untried_are p t w h)

@@ -1,6 +1,7 @@
-use Rattle.chess_rules.proofs.Words.{Parts, pair_count, has_legal_move, count_king_steps, count_untried, has_king_step, has_untried_move, is_position}
-use Rattle.chess_rules.proofs.Words.{Bits, has, members, ◌≡◌, ℕ, ◌+◌, true, not, ◌||◌, sym, ◌∙◌, ap, arith, list_any, sum_by}
+use Rattle.chess_rules.proofs.Words.{Square, Parts, Option, None, is_some, is_check, other, pair_count, has_legal_move, count_king_steps, count_untried, has_king_step, has_untried_move, is_position}
+use Rattle.chess_rules.proofs.Words.{Bits, has, members, ◌≡◌, ℕ, ◌+◌, true, false, not, ◌||◌, sym, ◌∙◌, ap, arith, list_any, sum_by}
 use Rattle.chess_rules.proofs.positions.RulesOfPosition.{sound_from_position}
+use Rattle.chess_rules.proofs.moves.CheckStays.{check_met, none_elsewhere}
 use Rattle.chess_rules.proofs.trying.PairCounts.{pair_count_parts, pair_count_most}
 use Rattle.chess_rules.proofs.trying.LegalIsTried.{legal_move_found}
 use Rattle.chess_rules.proofs.trying.SetsToPairs.{any_both, sum_both_sets}
@@ -19,6 +20,9 @@ searches p w r position rest =
           ∙ ap (λ n. count_king_steps p + n) (sym (sum_both_sets (count_untried p) w r rest));
     }
 
+none_there : (o : Option Square) → is_some o ≡ false → o ≡ None
+none_there o h = grind arith
+
 pub has_king_step-requires : goal.has_king_step-requires
 has_king_step-requires c = grind (arith, pair_count_parts, sound_from_position, pair_count_most)
 
@@ -33,8 +37,20 @@ has_other_move_to-requires c =
     let s = searches c.args.position.now c.evasion_targets-first.result c.not-others.result c.recall_invariant.ensures c.not-others.ensures in
     omega (arith, s.count, pair_count_most c.args.position.now, c.requires, c.has_king_step.ensures.count.all c.if-has_king_step.false)
 
-pub has_other_move_to-requires-else-has_other_move_to : goal.has_other_move_to-requires-else-has_other_move_to
-has_other_move_to-requires-else-has_other_move_to c =
+pub rule_out_moves_to-requires : goal.rule_out_moves_to-requires
+rule_out_moves_to-requires c =
+    let s = searches c.args.position.now c.evasion_targets-first.result c.not-others.result c.recall_invariant.ensures c.not-others.ensures in
+    omega (
+      arith,
+      s.count,
+      pair_count_most c.args.position.now,
+      c.requires,
+      c.has_king_step.ensures.count.all c.if-has_king_step.false,
+      c.has_other_move_to.ensures.count.all c.if-has_other_move_to.false,
+    )
+
+pub has_other_move_to-requires-2 : goal.has_other_move_to-requires-2
+has_other_move_to-requires-2 c =
     let s = searches c.args.position.now c.evasion_targets-first.result c.not-others.result c.recall_invariant.ensures c.not-others.ensures in
     omega (
       arith,
@@ -63,24 +79,69 @@ returns-then-has_other_move_to-clause-most c =
       c.has_other_move_to.ensures.count.most,
     )
 
-pub returns-else-has_other_move_to-clause-found : goal.returns-else-has_other_move_to-clause-found
-returns-else-has_other_move_to-clause-found c =
-    let s = searches c.args.position.now c.evasion_targets-first.result c.not-others.result c.recall_invariant.ensures c.not-others.ensures in
+pub returns-then-is_none-clause-found : goal.returns-then-is_none-clause-found
+returns-then-is_none-clause-found c =
+    let p = c.args.position.now in
+    let s = searches p c.evasion_targets-first.result c.not-others.result c.recall_invariant.ensures c.not-others.ensures in
+    let check : is_check p ≡ true = sym c.is_checked.ensures ∙ c.if-is_checked.true in
+    let no_target : p.target ≡ None = sym c.target.ensures ∙ none_there c.target.result (c.is_none.ensures ∙ ap not c.if-is_none.true) in
+    let none = none_elsewhere p c.evasion_targets-first.result c.recall_invariant.ensures check no_target
+    (check_met p c.board.result.now c.other.result c.king.result c.evasion_targets-first.result c.recall_invariant.ensures check
+    c.board.ensures (c.other.ensures ∙ ap other c.side.ensures) c.king.ensures c.evasion_targets-first.ensures)
+    c.not-others.result c.not-others.ensures in
     let found = s.found in
     grind arith
 
-pub returns-else-has_other_move_to-clause-most : goal.returns-else-has_other_move_to-clause-most
-returns-else-has_other_move_to-clause-most c =
+pub returns-then-is_none-clause-most : goal.returns-then-is_none-clause-most
+returns-then-is_none-clause-most c =
     let s = searches c.args.position.now c.evasion_targets-first.result c.not-others.result c.recall_invariant.ensures c.not-others.ensures in
-    omega (arith, s.count, pair_count_most c.args.position.now, c.requires, c.has_king_step.ensures.count.all c.if-has_king_step.false, c.has_other_move_to.ensures.count.all c.if-has_other_move_to.false, c.has_other_move_to-else-has_other_move_to.ensures.count.most)
+    omega (
+      arith,
+      s.count,
+      pair_count_most c.args.position.now,
+      c.requires,
+      c.has_king_step.ensures.count.all c.if-has_king_step.false,
+      c.has_other_move_to.ensures.count.all c.if-has_other_move_to.false,
+      c.rule_out_moves_to.ensures,
+    )
 
-pub returns-else-has_other_move_to-clause-all : goal.returns-else-has_other_move_to-clause-all
-returns-else-has_other_move_to-clause-all c none =
+pub returns-then-is_none-clause-all : goal.returns-then-is_none-clause-all
+returns-then-is_none-clause-all c none =
     let s = searches c.args.position.now c.evasion_targets-first.result c.not-others.result c.recall_invariant.ensures c.not-others.ensures in
     omega (
       arith,
       s.count,
       c.has_king_step.ensures.count.all c.if-has_king_step.false,
       c.has_other_move_to.ensures.count.all c.if-has_other_move_to.false,
-      c.has_other_move_to-else-has_other_move_to.ensures.count.all none,
+      c.rule_out_moves_to.ensures,
+    )
+
+pub returns-clause-found : goal.returns-clause-found
+returns-clause-found c =
+    let s = searches c.args.position.now c.evasion_targets-first.result c.not-others.result c.recall_invariant.ensures c.not-others.ensures in
+    let found = s.found in
+    grind arith
+
+pub returns-clause-most : goal.returns-clause-most
+returns-clause-most c =
+    let s = searches c.args.position.now c.evasion_targets-first.result c.not-others.result c.recall_invariant.ensures c.not-others.ensures in
+    omega (
+      arith,
+      s.count,
+      pair_count_most c.args.position.now,
+      c.requires,
+      c.has_king_step.ensures.count.all c.if-has_king_step.false,
+      c.has_other_move_to.ensures.count.all c.if-has_other_move_to.false,
+      c.has_other_move_to-2.ensures.count.most,
+    )
+
+pub returns-clause-all : goal.returns-clause-all
+returns-clause-all c none =
+    let s = searches c.args.position.now c.evasion_targets-first.result c.not-others.result c.recall_invariant.ensures c.not-others.ensures in
+    omega (
+      arith,
+      s.count,
+      c.has_king_step.ensures.count.all c.if-has_king_step.false,
+      c.has_other_move_to.ensures.count.all c.if-has_other_move_to.false,
+      c.has_other_move_to-2.ensures.count.all none,
     )

@@ -1,32 +1,25 @@
-use Rattle.chess_rules.proofs.Words.{Parts, Square, squares, Counts, has_untried_move, count_untried, is_untried, is_legal_pair, Places, members}
-use Rattle.chess_rules.proofs.Words.{◌≡◌, ℕ, Bool, ◌+◌, ◌<◌, ◌^◌, length, sym, ◌∙◌, ap, subst, arith, filter, list_any}
+use Rattle.chess_rules.proofs.Words.{Parts, Square, Counts, has_untried_move, count_untried, is_untried, is_legal_pair, Places, members}
+use Rattle.chess_rules.proofs.Words.{◌≡◌, ℕ, Bool, ◌+◌, ◌<◌, ◌^◌, length, sym, ◌∙◌, ap, subst, arith, list_any}
 use Rattle.chess_rules.specs.Pairs as spec
-use Rattle.chess_rules.proofs.sets.SetsToSquares.{members_are}
+use Rattle.chess_rules.proofs.trying.SetsToPairs.{untried_are, untried_counted}
 use Rattle.chess_rules.proofs.trying.SearchThatCounts.{target_fits, fewer_targets, target_hit, no_target}
 use Rattle.chess_rules.proofs.pairs.has_other_move_to.Goals as goal
 
 -- the origins of one target
 module _ (p : Parts) (t : Square) (w : ℕ) (origins : Places w (is_untried p t)) where
-  these : members w ≡ filter (is_untried p t) squares
-  these = members_are w (is_untried p t) origins.of
-
   found : (r : Bool) → r ≡ list_any (λ s. is_legal_pair p s t) (members w) → r ≡ has_untried_move p t
   unfolding has_untried_move
-  found r h = h ∙ ap (list_any (λ s. is_legal_pair p s t)) these
-
-  many : length (members w) ≡ count_untried p t
-  unfolding count_untried
-  many = ap length these
+  found r h = h ∙ ap (list_any (λ s. is_legal_pair p s t)) (untried_are p t w origins)
 
   counted : (r : Bool) (old new : ℕ) → Counts r old new (length (members w)) → Counts r old new (count_untried p t)
-  counted r old new h = subst (Counts r old new) many h
+  counted r old new h = subst (Counts r old new) (untried_counted p t w origins) h
 
 pub loop-target-init : goal.loop-target-init
 loop-target-init c = grind arith
 
 pub has_move_from-requires : goal.has_move_from-requires
 has_move_from-requires c =
-    subst (λ n. c.loop-target.probes + n < 2 ^ 32) (sym (many c.args.position.now c.in-Some.target c.untried.result c.untried.ensures))
+    subst (λ n. c.loop-target.probes + n < 2 ^ 32) (sym (untried_counted c.args.position.now c.in-Some.target c.untried.result c.untried.ensures))
     (target_fits (has_untried_move c.args.position.now) (count_untried c.args.position.now)
     (members c.args.targets) c.loop-target.left c.take_lowest.new.self c.args.probes.now c.loop-target.probes c.in-Some.target
     c.in-Some.ensures.next c.loop-target.invariant (2 ^ 32) c.requires)

@@ -1,0 +1,52 @@
+use Rattle.chess_rules.proofs.Words.{Colour, Board, Square, cell_of, square_at, is_clear, is_attacked, strictly_between, may_attack, has, Places, Bits, HasNone, IsFirst, ◌≡◌, ℕ, ◌<◌, true, ◌&&◌, ◌||◌, sym, ◌∙◌, ap, arith, or_left, or_right, false≢true}
+use Rattle.chess_rules.specs.Pairs.{HasAttacker}
+use Rattle.chess_rules.proofs.positions.OneKing.{cell_of-square_at}
+use Rattle.chess_rules.proofs.sets.AllSquares.{Passes, some_square}
+use Rattle.chess_rules.proofs.sets.SetsToSquares.{at_square}
+use Rattle.chess_rules.proofs.lines.AttackToReach.{attacked_is, attacker_is}
+use Rattle.chess_rules.proofs.attack.evasion_targets.Goals as goal
+
+module _ (b : Board) (c : Colour) (t : Square) (possible attackers : ℕ) (may : Places possible (may_attack b c t))
+    (clear : Places attackers (λ s. has possible (cell_of s) && is_clear b s t)) where
+  attackers_are : Places attackers (λ s. may_attack b c t s && is_clear b s t)
+  attackers_are = record {
+    of = λ i low. clear.of i low ∙ ap (λ x. x && is_clear b (square_at i) t) (ap (has possible) (cell_of-square_at i) ∙ may.of i low);
+  }
+
+  none_there : HasNone attackers → is_attacked b c t ≡ true → ⊥
+  none_there none h = by_square (some_square (λ s. may_attack b c t s && is_clear b s t) (sym (attacked_is b c t) ∙ h))
+    where
+      low : (s : Square) → s.file < 8 → s.rank < 8 → cell_of s < 64
+      low s file rank = omega arith
+
+      by_square : Passes (λ s. may_attack b c t s && is_clear b s t) → ⊥
+      by_square w =
+          false≢true (sym (none.of (cell_of w.on) (low w.on w.file w.rank))
+          ∙ (at_square attackers (λ s. may_attack b c t s && is_clear b s t) w.on attackers_are w.file w.rank ∙ w.holds))
+
+  first_there : (first : Square) (way all : ℕ) → IsFirst attackers first → Places way (λ u. strictly_between first u t)
+      → Bits all (λ i. has attackers i || has way i) → HasAttacker b c t all
+  first_there first way all is between both = record {
+    from = first;
+    file = is.file;
+    rank = is.rank;
+    attacks = attacker_is b c first t
+        ∙ (sym (at_square attackers (λ s. may_attack b c t s && is_clear b s t) first attackers_are is.file is.rank) ∙ is.place.here);
+    here = both.of (cell_of first) is.place.inside ∙ or_left _ _ is.place.here;
+    way = λ u file rank h. both.of (cell_of u) (low u file rank)
+        ∙ or_right _ _ (at_square way (λ v. strictly_between first v t) u between file rank ∙ h);
+  }
+    where
+      low : (s : Square) → s.file < 8 → s.rank < 8 → cell_of s < 64
+      low s file rank = omega arith
+
+pub returns-in-None : goal.returns-in-None
+returns-in-None c h = absurd
+    (none_there c.args.board.now c.args.by c.args.target c.possible_attackers.result c.clear_among-attackers.result
+    c.possible_attackers.ensures c.clear_among-attackers.ensures c.in-None.ensures h)
+
+pub returns-in-Some : goal.returns-in-Some
+returns-in-Some c h =
+    first_there c.args.board.now c.args.by c.args.target c.possible_attackers.result c.clear_among-attackers.result
+    c.possible_attackers.ensures c.clear_among-attackers.ensures c.in-Some.first c.between.result c.bitor.result
+    c.in-Some.ensures c.between.ensures c.bitor.ensures

@@ -1,0 +1,155 @@
+-- The squares that are seen from a square: on each line through it, those up to the nearest pieces.
+use Rattle.chess_rules.proofs.Words.{Square, squares, gap, same_square, inside, on_diagonal, between_on_rank, between_on_file, between_on_diagonal, strictly_between, Board, at, cell_of, is_empty, is_clear, is_aligned, IsLine, square_at, Bits, has, IsFrom, IsUpTo, Places, ◌≡◌, ◌≢◌, ℕ, ◌+◌, ◌<◌, ◌≤◌, Bool, true, false, not, ◌&&◌, ◌||◌, ◌⊎◌, inl, inr, List, refl, sym, ◌∙◌, ap, ap₂, arith, is_some, nat_lt, list_all, not-true, and_from, nat_tests}
+use Rattle.chess_rules.proofs.sets.AllSquares.{first_true, second_true, same_tests, equal_from, equal_tests}
+use Rattle.chess_rules.proofs.positions.OneKing.{cell_of-square_at}
+use Rattle.chess_rules.proofs.lines.InView.{strict, blocked, clear_when, not_there, on_falling, on_file, on_rank, on_rising, four_lines}
+use Rattle.chess_rules.proofs.lines.LinesThrough.{inside_means, inside_up, inside_down}
+
+-- One line through t, of which `up` has the pieces from t on and `down` those before it.
+module _ (b : Board) (t : Square) (line occupied up down high low : ℕ) (tf : t.file < 8) (tr : t.rank < 8)
+    (on : IsLine (λ s. has line (cell_of s)) t) (pieces : Places occupied (λ s. is_some (at b s)))
+    (after : (i : ℕ) → i < 64 → has up i ≡ ((has line i && has occupied i) && not (nat_lt i (cell_of t))))
+    (before : (i : ℕ) → i < 64 → has down i ≡ ((has line i && has occupied i) && nat_lt i (cell_of t)))
+    (up_to : IsUpTo up high) (from : IsFrom down low) where
+  on_line : (i : ℕ) → i < 64 → has line i ≡ true → has line (cell_of (square_at i)) ≡ true
+  on_line i h e = grind arith
+
+  -- a square of the line with no piece that counts is empty
+  empty_there : (u : Square) (side : Bool) → u.file < 8 → u.rank < 8 → has line (cell_of u) ≡ true
+      → side ≡ true → ((has line (cell_of u) && has occupied (cell_of u)) && side) ≡ false → is_empty b u ≡ true
+  empty_there u side f r here is none = grind arith
+
+  test_below : (i n : ℕ) → nat_lt i n ≡ true → i < n
+  test_below i n h = grind arith
+
+  test_above : (i n : ℕ) → nat_lt i n ≡ false → n ≤ i
+  test_above i n h = grind arith
+
+  below_test : (i n : ℕ) → i < n → nat_lt i n ≡ true
+  below_test i n h = grind arith
+
+  above_test : (i n : ℕ) → n ≤ i → not (nat_lt i n) ≡ true
+  above_test i n h = grind arith
+
+  seen_clear : (i : ℕ) → i < 64 → has line i ≡ true → has high i ≡ true → has low i ≡ true → is_clear b (square_at i) t ≡ true
+  seen_clear i h here up_to_i from_i =
+      clear_when b t (λ s. has line (cell_of s)) on i h (on_line i h here) (λ u f r on_u between. empty_between u f r on_u (inside_means _ _ _ between))
+    where
+      empty_between : (u : Square) → u.file < 8 → u.rank < 8 → has line (cell_of u) ≡ true
+          → ((i < cell_of u) × (cell_of u < cell_of t)) ⊎ ((cell_of t < cell_of u) × (cell_of u < i)) → is_empty b u ≡ true
+      empty_between u f r on_u (inl x) =
+          empty_there u (nat_lt (cell_of u) (cell_of t)) f r on_u (below_test (cell_of u) (cell_of t) x.1)
+          (sym (before (cell_of u) (omega arith)) ∙ from.none i h from_i (cell_of u) x.0 (omega arith))
+      empty_between u f r on_u (inr x) =
+          empty_there u (not (nat_lt (cell_of u) (cell_of t))) f r on_u (above_test (cell_of u) (cell_of t) (omega (arith, x.0)))
+          (sym (after (cell_of u) (omega arith)) ∙ up_to.none i h up_to_i (cell_of u) x.1)
+
+  module _ (i : ℕ) (h : i < 64) (here : has line i ≡ true) (clear : is_clear b (square_at i) t ≡ true) where
+    -- no other piece of the line is between
+    none_between : (k : ℕ) → k < 64 → inside i k (cell_of t) ≡ true → (has line k && has occupied k) ≡ true → ⊥
+    none_between k low_k between both =
+        blocked b t (λ s. has line (cell_of s)) on k i low_k h (on_line k low_k (first_true (has line k) _ both)) (on_line i h here)
+        (sym (pieces.of k low_k) ∙ second_true (has line k) _ both) clear between
+
+    clear_up : has high i ≡ true
+    clear_up = up_to.here i h (λ k less. by_bit k less (has up k) refl)
+      where
+        by_bit : (k : ℕ) → k < i → (x : Bool) → has up k ≡ x → has up k ≡ false
+        by_bit k less false g = g
+        by_bit k less true g =
+            let low_k : k < 64 = omega arith in
+            let all : ((has line k && has occupied k) && not (nat_lt k (cell_of t))) ≡ true = sym (after k low_k) ∙ g in
+            let both : (has line k && has occupied k) ≡ true = first_true _ (not (nat_lt k (cell_of t))) all in
+            let past : cell_of t ≤ k = test_above k (cell_of t) (not-true _ (second_true (has line k && has occupied k) _ all)) in
+            let other : k ≢ cell_of t =
+            not_there b t (λ s. has line (cell_of s)) on k low_k (on_line k low_k (first_true (has line k) _ both)) tf in
+            absurd (none_between k low_k (inside_down i k (cell_of t) (strict (cell_of t) k past (λ s. other (sym s))) less) both)
+
+    clear_down : has low i ≡ true
+    clear_down = from.here i h (λ k more low_k. by_bit k more low_k (has down k) refl)
+      where
+        by_bit : (k : ℕ) → i < k → k < 64 → (x : Bool) → has down k ≡ x → has down k ≡ false
+        by_bit k more low_k false g = g
+        by_bit k more low_k true g =
+            let all : ((has line k && has occupied k) && nat_lt k (cell_of t)) ≡ true = sym (before k low_k) ∙ g in
+            let both : (has line k && has occupied k) ≡ true = first_true _ (nat_lt k (cell_of t)) all in
+            absurd (none_between k low_k
+            (inside_up i k (cell_of t) more (test_below k (cell_of t) (second_true (has line k && has occupied k) _ all))) both)
+
+  pub seen_places : (seen : ℕ) → ((i : ℕ) → i < 64 → has seen i ≡ (has line i && (has high i && has low i)))
+      → Places seen (λ s. has line (cell_of s) && is_clear b s t)
+  seen_places seen all = record {
+    of = λ i h. all i h ∙ (in_turn (has line i) _ (is_clear b (square_at i) t)
+        (λ here. same_tests _ _
+        (λ e. seen_clear i h here (first_true (has high i) _ e) (second_true (has high i) _ e))
+        (λ clear. and_from _ _ (clear_up i h here clear) (clear_down i h here clear)))
+        ∙ ap (λ x. x && is_clear b (square_at i) t) (ap (has line) (sym (cell_of-square_at i))));
+  }
+    where
+      in_turn : (x y z : Bool) → (x ≡ true → y ≡ z) → (x && y) ≡ (x && z)
+      in_turn x y z e = grind (arith, e)
+
+-- The way back is the same.
+
+rank_back : (s u t : Square) → between_on_rank s u t ≡ between_on_rank t u s
+rank_back s u t = grind (arith, nat_tests)
+
+file_back : (s u t : Square) → between_on_file s u t ≡ between_on_file t u s
+file_back s u t = grind (arith, nat_tests)
+
+inside_back : (a x b : ℕ) → inside a x b ≡ inside b x a
+inside_back a x b = grind arith
+
+diagonal_back : (s t : Square) → on_diagonal s t ≡ on_diagonal t s
+diagonal_back s t = grind arith
+
+-- what is inside divides a gap
+gap_rest : (a x b : ℕ) → inside a x b ≡ true → (gap a x + gap b x ≡ gap a b) × (b ≢ x)
+gap_rest a x b h = grind (arith, nat_tests)
+
+apart_by : (s u : Square) → s.file ≢ u.file → not (same_square s u) ≡ true
+apart_by s u differ = grind (arith, nat_tests)
+
+rest_of_diagonal : (s u t : Square) → on_diagonal s t ≡ true → on_diagonal s u ≡ true
+    → inside s.file u.file t.file ≡ true → inside s.rank u.rank t.rank ≡ true → on_diagonal t u ≡ true
+rest_of_diagonal s u t whole part files ranks =
+    let wide = gap_rest s.file u.file t.file files in
+    let high = gap_rest s.rank u.rank t.rank ranks in
+    let a : gap s.file t.file ≡ gap s.rank t.rank = equal_from _ _ (first_true _ (not (same_square s t)) whole) in
+    let b : gap s.file u.file ≡ gap s.rank u.rank = equal_from _ _ (first_true _ (not (same_square s u)) part) in
+    and_from _ _ (equal_tests (gap t.file u.file) (gap t.rank u.rank) (omega (arith, wide.0, high.0, a, b))) (apart_by t u wide.1)
+
+diagonal_there : (s u t : Square) → between_on_diagonal s u t ≡ true → between_on_diagonal t u s ≡ true
+diagonal_there s u t h =
+    let lines : (on_diagonal s t && on_diagonal s u) ≡ true = first_true _ (inside s.file u.file t.file && inside s.rank u.rank t.rank) h in
+    let both : (inside s.file u.file t.file && inside s.rank u.rank t.rank) ≡ true = second_true (on_diagonal s t && on_diagonal s u) _ h in
+    let whole : on_diagonal s t ≡ true = first_true (on_diagonal s t) _ lines in
+    let files : inside s.file u.file t.file ≡ true = first_true (inside s.file u.file t.file) _ both in
+    let ranks : inside s.rank u.rank t.rank ≡ true = second_true (inside s.file u.file t.file) _ both in
+    and_from _ _ (and_from _ _ (diagonal_back t s ∙ whole) (rest_of_diagonal s u t whole (second_true (on_diagonal s t) _ lines) files ranks))
+    (and_from _ _ (inside_back t.file u.file s.file ∙ files) (inside_back t.rank u.rank s.rank ∙ ranks))
+
+between_back : (s u t : Square) → strictly_between s u t ≡ strictly_between t u s
+between_back s u t =
+    ap₂ (λ x y. x || y) (rank_back s u t)
+    (ap₂ (λ x y. x || y) (file_back s u t) (same_tests _ _ (diagonal_there s u t) (diagonal_there t u s)))
+
+all_same : (f g : Square → Bool) (xs : List Square) → ((s : Square) → f s ≡ g s) → list_all f xs ≡ list_all g xs
+all_same f g xs h = grind arith
+
+pub clear_back : (b : Board) (s t : Square) → is_clear b s t ≡ is_clear b t s
+clear_back b s t =
+    all_same (λ u. not (strictly_between s u t) || is_empty b u) (λ u. not (strictly_between t u s) || is_empty b u) squares
+    (λ u. ap (λ x. not x || is_empty b u) (between_back s u t))
+
+pub aligned_back : (s t : Square) → is_aligned s t ≡ is_aligned t s
+aligned_back s t = grind arith
+
+-- Four lines together.
+pub seen_by_lines : (b : Board) (t : Square) (v w x y k l m n two three four : ℕ) → Bits two (λ i. has k i || has l i)
+    → Bits three (λ i. has two i || has m i) → Bits four (λ i. has three i || has n i) → t.file < 8 → t.rank < 8
+    → Places v (on_file t) → Places w (on_rank t) → Places x (on_rising t) → Places y (on_falling t)
+    → Places k (λ s. has v (cell_of s) && is_clear b s t) → Places l (λ s. has w (cell_of s) && is_clear b s t)
+    → Places m (λ s. has x (cell_of s) && is_clear b s t) → Places n (λ s. has y (cell_of s) && is_clear b s t)
+    → Places four (λ s. is_aligned s t && is_clear b s t)
+seen_by_lines b t v w x y k l m n two three four joins more all tf tr pv pw px py pk pl pm pn = grind (arith, four_lines)

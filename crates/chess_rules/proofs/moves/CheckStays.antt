@@ -1,0 +1,212 @@
+-- In check, a move to no square that meets the attack is not legal.
+use Rattle.chess_rules.proofs.Words.{Colour, King, Knight, Pawn, Piece, Move, Parts, Square, same_square, strictly_between, is_adjacent, squares, Board, at, cell_of, put, is_empty, other, has_colour, attacks, cell_attacks, is_attacked, is_clear, king_attacked, is_position, is_piece_step, is_target, promotion_fits, own, on_board, short_right, short_wing, long_right, long_wing, Wing, castles, carried, is_legal, is_check, king_square, has, members, is_king_step, is_untried, one_move, is_legal_pair, has_untried_move, Bits, ◌≡◌, ◌≢◌, ℕ, Bool, true, false, not, ◌&&◌, ◌||◌, inl, inr, refl, sym, ◌∙◌, ap, ap₂, subst, arith, length, Option, None, is_none, list_any, false≢true, and_from, false_from_ne_true, not-true}
+use Rattle.chess_rules.specs.Pairs.{HasAttacker, MeetsAttack}
+use Rattle.chess_rules.specs.Step.{is_king_move, is_unattacked, stand_ready}
+use Rattle.chess_rules.proofs.sets.AllSquares.{first_true, second_true, each_square, Passes, some_square, any_square, not_true}
+use Rattle.chess_rules.proofs.lines.AttackToReach.{clear_if, squares_same}
+use Rattle.chess_rules.proofs.positions.OneKing.{StandsAt, king_stands, king_only_there, king_attacked_there}
+use Rattle.chess_rules.proofs.moves.CellsAfterPut.{OnBoard, at_put, length-put}
+use Rattle.chess_rules.proofs.positions.RulesOfPosition.{Sound, sound_from_position}
+use Rattle.chess_rules.proofs.moves.BoardAfterMove.{arriving}
+use Rattle.chess_rules.proofs.moves.StepsKeepBoard.{other-other, attacks_as, one_kind, pawn_is_no_king, Castles, castles_means}
+use Rattle.chess_rules.proofs.moves.OneWayToStep.{en_passant_stands, pawn_of_step}
+use Rattle.chess_rules.proofs.moves.LegalToPosition.{Legal, on_board_means, board_stays, king_moves, king_waits, king_seen, way_of}
+use Rattle.chess_rules.proofs.moves.PlainStepAttacks.{cell_still, not_other}
+use Rattle.chess_rules.proofs.positions.OneKing.{cell_of-square_at}
+use Rattle.chess_rules.proofs.sets.SetsToSquares.{any_member}
+use Rattle.chess_rules.proofs.trying.FoundLists.{list_any-filter}
+use Rattle.chess_rules.proofs.trying.PromotionsAlike.{legal_after}
+
+-- An attacker that is not taken, on a way that stays clear, attacks still.
+module _ (b : Board) (from to k : Square) (cell : Option Piece) (c : Colour)
+    (long : length b ≡ 64) (on_from : OnBoard from) (on_to : OnBoard to) (mine : has_colour c (at b from) ≡ false) where
+  left_long : length (put b from None) ≡ 64
+  left_long = length-put b from None ∙ long
+
+  pub still_attacked : (s : Square) → OnBoard s → (has_colour c (at b s) && attacks b s k) ≡ true
+      → s ≢ to → (strictly_between s to k ≡ true → ⊥) → is_attacked (put (put b from None) to cell) c k ≡ true
+  still_attacked s on h apart aside =
+      any_square (λ u. has_colour c (at (put (put b from None) to cell) u) && attacks (put (put b from None) to cell) u k) s on.file on.rank
+      (subst (λ (o : Option Piece). (has_colour c o && cell_attacks o (put (put b from None) to cell) s k) ≡ true) (sym stays)
+      (and_from _ _ theirs (cell_still (at b s) b (put (put b from None) to cell) s k clear_then (second_true (has_colour c (at b s)) _ h))))
+    where
+      theirs : has_colour c (at b s) ≡ true
+      theirs = first_true (has_colour c (at b s)) _ h
+
+      stays : at (put (put b from None) to cell) s ≡ at b s
+      stays = elim (at_put (put b from None) to s cell left_long on_to on) [
+        | inl here ↦ absurd (apart here.0)
+        | inr there ↦ elim (at_put b from s None long on_from on) [
+          | inl gone ↦ absurd (false≢true (sym mine ∙ subst (λ (u : Square). has_colour c (at b u) ≡ true) gone.0 theirs))
+          | inr stayed ↦ there.1 ∙ stayed.1
+        ]
+      ]
+
+      empty_then : (u : Square) → OnBoard u → strictly_between s u k ≡ true → is_empty b u ≡ true
+          → is_empty (put (put b from None) to cell) u ≡ true
+      empty_then u on_u between empty = elim (at_put (put b from None) to u cell left_long on_to on_u) [
+        | inl here ↦ absurd (aside (subst (λ (v : Square). strictly_between s v k ≡ true) here.0 between))
+        | inr there ↦ elim (at_put b from u None long on_from on_u) [
+          | inl gone ↦ ap is_none (there.1 ∙ gone.1)
+          | inr stayed ↦ ap is_none (there.1 ∙ stayed.1) ∙ empty
+        ]
+      ]
+
+      clear_then : is_clear b s k ≡ true → is_clear (put (put b from None) to cell) s k ≡ true
+      clear_then clear =
+          clear_if (put (put b from None) to cell) s k (λ u file rank between.
+          empty_then u (record { file = file; rank = rank }) between
+          (not_true (strictly_between s u k) _ between
+          (each_square (λ v. not (strictly_between s v k) || is_empty b v) u clear file rank)))
+
+adjacent_back : (s t : Square) → is_adjacent s t ≡ is_adjacent t s
+adjacent_back s t = grind arith
+
+king_is_no_knight : King ≡ Knight → ⊥
+king_is_no_knight e = cc
+
+-- the attack on the king is met by the set
+pub check_met : (p : Parts) (b : Board) (c : Colour) (k : Square) (set : ℕ) → is_position p ≡ true → is_check p ≡ true → b ≡ p.board
+    → c ≡ other p.side → k ≡ king_square p.side p.board → MeetsAttack b c k set
+    → HasAttacker p.board (other p.side) (king_square p.side p.board) set
+check_met p b c k set position check same_board same_colour same_king h =
+    let sound : Sound p = sound_from_position p position in
+    let on_board : MeetsAttack p.board c k set = subst (λ (a : Board). MeetsAttack a c k set) same_board h in
+    let by_colour : MeetsAttack p.board (other p.side) k set = subst (λ (d : Colour). MeetsAttack p.board d k set) same_colour on_board in
+    subst (λ (s : Square). MeetsAttack p.board (other p.side) s set) same_king by_colour
+    (sym (king_attacked_there p.side p.board sound.long (sound.kings_of p.side)) ∙ check)
+
+-- A position in check, with no en passant target, and the targets that may meet the check.
+module _ (p : Parts) (set : ℕ) (position : is_position p ≡ true) (check : is_check p ≡ true) (no_target : p.target ≡ None)
+    (meets : HasAttacker p.board (other p.side) (king_square p.side p.board) set) where
+  abbrev king : Square
+  king = king_square p.side p.board
+
+  sound : Sound p
+  sound = sound_from_position p position
+
+  stands : StandsAt p.side p.board king
+  stands = king_stands p.side p.board sound.long (sound.kings_of p.side)
+
+  attacked : is_attacked p.board (other p.side) king ≡ true
+  attacked = sym (king_attacked_there p.side p.board sound.long (sound.kings_of p.side)) ∙ check
+
+  module _ (m : Move) (q : Parts) (l : Legal p m q) where
+    on_from : OnBoard m.from
+    on_from = on_board_means m.from (first_true (on_board m.from) _ l.on)
+
+    on_to : OnBoard m.to
+    on_to = on_board_means m.to (second_true (on_board m.from) _ l.on)
+
+    mine : has_colour p.side (at p.board m.from) ≡ true
+    mine = (board_stays p m l.board sound l.on l.stepped).own
+
+    -- a piece other than the king goes elsewhere, and the king is attacked still
+    other_goes : has set (cell_of m.to) ≡ false → carried p m ≡ l.board → same_square m.from king ≡ false → ⊥
+    other_goes out is apart =
+        false≢true (sym l.safe ∙ (ap (king_attacked l.board) (other-other p.side) ∙ (king_seen p m l.board p.side position l.on l.stepped
+        ∙ (ap₂ (λ b s. is_attacked b (other p.side) s) (sym is) (sym waits) ∙ still))))
+      where
+        waits : king ≡ king_square p.side l.board
+        waits = sym (king_waits m king apart) ∙ king_moves p m l.board p.side position l.on l.stepped
+
+        still : is_attacked (carried p m) (other p.side) king ≡ true
+        still =
+            still_attacked p.board m.from m.to king (arriving p m) (other p.side) sound.long on_from on_to
+            (not_other p.side (at p.board m.from) mine) meets.from (record { file = meets.file; rank = meets.rank }) meets.attacks
+            (λ e. false≢true (sym out ∙ subst (λ (s : Square). has set (cell_of s) ≡ true) e meets.here))
+            (λ between. false≢true (sym out ∙ meets.way m.to on_to.file on_to.rank between))
+
+    king_there : same_square m.from king ≡ true → own p King m.from ≡ true
+    king_there same = subst (λ (s : Square). own p King s ≡ true) (sym (squares_same m.from king same)) stands.king
+
+    -- the king's step was tried
+    king_goes : same_square m.from king ≡ true → is_piece_step p m ≡ true → is_untried p m.to m.from ≡ true → ⊥
+    king_goes same h left = left_out (own p Knight m.from) _ _ (is_king_step p m.to) (own p King m.from) _ no_knight step (king_there same) left
+      where
+        goes : (attacks p.board m.from m.to && not (has_colour p.side (at p.board m.to))) ≡ true
+        goes = second_true ((has_colour p.side (at p.board m.from) && not (own p Pawn m.from)) && is_none m.promotion) _ h
+
+        beside : is_adjacent m.from m.to ≡ true
+        beside = attacks_as p.side King (at p.board m.from) p.board m.from m.to (king_there same) (first_true (attacks p.board m.from m.to) _ goes)
+
+        step : is_king_step p m.to ≡ true
+        step = and_from _ _ (adjacent_back m.to king
+            ∙ subst (λ (s : Square). is_adjacent s m.to ≡ true) (squares_same m.from king same) beside)
+            (second_true (attacks p.board m.from m.to) _ goes)
+
+        no_knight : own p Knight m.from ≡ false
+        no_knight = false_from_ne_true (own p Knight m.from)
+            (λ knight. king_is_no_knight (one_kind p.side p.side King Knight (at p.board m.from) (king_there same) knight))
+
+        left_out : (v w x y z clear : Bool) → v ≡ false → y ≡ true → z ≡ true → ((v && w) || ((x && not (y && z)) && clear)) ≡ true → ⊥
+        left_out v w x y z clear n s k h = grind arith
+
+    no_castling : (right : Bool) (wing : Wing) → castles p m right wing ≡ true → ⊥
+    no_castling right wing h = by_parts (castles_means p m right wing h)
+      where
+        free : is_unattacked p 4 ≡ true
+        free = first_true (is_unattacked p 4) _ (second_true (stand_ready p wing.rook) _
+            (second_true ((right && is_none m.promotion) && is_king_move p m wing.end) _ h))
+
+        by_parts : Castles p m wing → ⊥
+        by_parts w =
+            let at_home : m.from ≡ king = king_only_there p.side p.board m.from king sound.long (sound.kings_of p.side)
+            (record { file = on_from.file; rank = on_from.rank; king = w.king }) stands in
+            false≢true (sym (ap not (subst (λ (s : Square). is_attacked p.board (other p.side) s ≡ true) (sym at_home ∙ w.from) attacked)) ∙ free)
+
+    elsewhere : has set (cell_of m.to) ≡ false → is_untried p m.to m.from ≡ true → ⊥
+    elsewhere out left =
+        elim (way_of p m l.board l.stepped) [
+          | inl piece ↦ by_king (same_square m.from king) refl piece.1 (λ same. king_goes same piece.0 left)
+          | inr more ↦ elim more [
+            | inl pawn ↦ by_king (same_square m.from king) refl pawn.1 (λ same. pawn_is_no_king
+                (one_kind p.side p.side King Pawn (at p.board m.from) (king_there same) (pawn_of_step p m pawn.0)))
+            | inr more ↦ elim more [
+              | inl passing ↦ no_passing (first_true (is_target p.target m.to) _ (second_true (own p Pawn m.from && promotion_fits p m) _
+                  (en_passant_stands p m passing.0)))
+              | inr more ↦ elim more [
+                | inl short ↦ no_castling (short_right p.side p.rights) short_wing short.0
+                | inr long ↦ no_castling (long_right p.side p.rights) long_wing long.0
+              ]
+            ]
+          ]
+        ]
+      where
+        no_passing : is_target p.target m.to ≡ true → ⊥
+        no_passing h = false≢true (sym (ap (λ o. is_target o m.to) no_target) ∙ h)
+
+        by_king : (x : Bool) → same_square m.from king ≡ x → carried p m ≡ l.board → (same_square m.from king ≡ true → ⊥) → ⊥
+        by_king true same is tried = tried same
+        by_king false apart is tried = other_goes out is apart
+
+  not_legal : (m : Move) → has set (cell_of m.to) ≡ false → is_untried p m.to m.from ≡ true → is_legal p m ≡ false
+  not_legal m out left = false_from_ne_true (is_legal p m) (λ h. let (q, l) = legal_after p m h in elsewhere m q l out left)
+
+  not_legal_pair : (t s : Square) → has set (cell_of t) ≡ false → is_untried p t s ≡ true → is_legal_pair p s t ≡ false
+  unfolding is_legal_pair
+  not_legal_pair t s out left = not_legal (one_move p s t) out left
+
+  none_to : (t : Square) → has set (cell_of t) ≡ false → has_untried_move p t ≡ false
+  unfolding has_untried_move
+  none_to t out =
+      list_any-filter (λ s. is_legal_pair p s t) (is_untried p t) squares
+      ∙ false_from_ne_true _ (λ h. by_origin (some_square (λ s. is_untried p t s && is_legal_pair p s t) h))
+    where
+      by_origin : Passes (λ s. is_untried p t s && is_legal_pair p s t) → ⊥
+      by_origin w =
+          false≢true (sym (not_legal_pair t w.on out (first_true (is_untried p t w.on) _ w.holds))
+          ∙ second_true (is_untried p t w.on) _ w.holds)
+
+  -- no pair is legal for any other target
+  pub none_elsewhere : (rest : ℕ) → Bits rest (λ i. not (has set i)) → list_any (has_untried_move p) (members rest) ≡ false
+  none_elsewhere rest others =
+      sym (any_member rest (λ s. not (has set (cell_of s))) (has_untried_move p) (record {
+        of = λ i low. others.of i low ∙ ap (λ j. not (has set j)) (sym (cell_of-square_at i));
+      }))
+      ∙ false_from_ne_true _ (λ h. by_target (some_square (λ t. not (has set (cell_of t)) && has_untried_move p t) h))
+    where
+      by_target : Passes (λ t. not (has set (cell_of t)) && has_untried_move p t) → ⊥
+      by_target w =
+          false≢true (sym (none_to w.on (not-true (has set (cell_of w.on)) (first_true (not (has set (cell_of w.on))) _ w.holds)))
+          ∙ second_true (not (has set (cell_of w.on))) _ w.holds)

@@ -1,0 +1,39 @@
+use Rattle.chess_rules.proofs.Words.{◌≡◌, length, members, sum_by, ap, arith}
+use Rattle.chess_rules.proofs.trying.PairsFromOrigin.{count_from, counted_by_origins, origin_counts, origin_mine, origins_begin, origins_go_on, targets_counted}
+use Rattle.chess_rules.proofs.trying.SetsToPairs.{colour_places}
+use Rattle.chess_rules.proofs.pairs.rule_out_moves_to.Goals as goal
+
+pub loop-origin-init : goal.loop-origin-init
+loop-origin-init c =
+    origins_begin c.args.position.now c.args.targets c.of_colour-left.result c.args.probes.now
+    (colour_places c.args.position.now c.side.result c.board.result.now c.of_colour-left.result c.side.ensures c.board.ensures
+    c.of_colour-left.ensures)
+
+pub untried_from-requires : goal.untried_from-requires
+untried_from-requires c =
+    origin_mine c.args.position.now c.args.targets c.loop-origin.left c.take_lowest.new.self c.args.probes.now c.loop-origin.probes
+    c.in-Some.origin c.in-Some.ensures c.loop-origin.invariant
+
+pub add-requires : goal.add-requires
+add-requires c =
+    let counted = origin_counts c.args.position.now c.args.targets c.loop-origin.left c.take_lowest.new.self c.args.probes.now
+    c.loop-origin.probes c.in-Some.origin c.in-Some.ensures c.loop-origin.invariant in
+    let many = targets_counted c.args.position.now c.args.targets c.untried_from.result c.bitand.result c.in-Some.origin
+    c.bitand.ensures c.untried_from.ensures in
+    omega (arith, counted, many, c.count.ensures, c.requires, counted_by_origins c.args.position.now c.args.targets)
+
+pub loop-origin-smaller : goal.loop-origin-smaller
+loop-origin-smaller c = omega (arith, ap length c.in-Some.ensures.next)
+
+pub loop-origin-preserved : goal.loop-origin-preserved
+loop-origin-preserved c =
+    let many = targets_counted c.args.position.now c.args.targets c.untried_from.result c.bitand.result c.in-Some.origin
+    c.bitand.ensures c.untried_from.ensures in
+    origins_go_on c.args.position.now c.args.targets c.loop-origin.left c.take_lowest.new.self c.args.probes.now c.loop-origin.probes
+    c.in-Some.origin c.in-Some.ensures c.loop-origin.invariant c.add.new.self (omega (arith, many, c.count.ensures, c.add.ensures))
+
+pub returns : goal.returns
+returns c =
+    let none : sum_by (count_from c.args.position.now c.args.targets) (members c.loop-origin.left) ≡ 0 =
+    ap (sum_by (count_from c.args.position.now c.args.targets)) c.in_default.ensures.none in
+    omega (arith, c.loop-origin.invariant.counts.counted, none, counted_by_origins c.args.position.now c.args.targets)
