@@ -10,7 +10,7 @@ use Rattle.chess_rules.specs.declared.piece.Piece.{Piece}
 use Rattle.chess_rules.specs.declared.board.Board.TheInside.{Inside}
 use Rattle.chess_rules.specs.Square.{Square, squares}
 use Rattle.chess_rules.specs.Board.{cell_of, has_colour, some_piece}
-use Rattle.chess_rules.specs.Reach.{has_kind, is_near, square_at}
+use Rattle.chess_rules.specs.Reach.{has_kind, is_near, may_attack, square_at}
 
 -- bit i of the word is set: as a set, the word has place i
 unfoldable pub has : ℕ → ℕ → Bool
@@ -108,6 +108,11 @@ pub record IsFrom (word result : ℕ) : Type 0 where
 -- the squares of a set, in the order of their places
 unfoldable pub members : ℕ → List Square
 members word = filter (λ s. has word (cell_of s)) squares
+
+-- the set has the pieces of one colour that would attack t, were all squares between empty
+pub record ArePossible (b : List (Option Piece)) (t : Square) (set : ℕ) : Type 0 where
+  pub by : Colour
+  pub places : Places set (may_attack b by t)
 
 -- some square is in the set
 unfoldable pub has_any : ℕ → Bool

@@ -1,17 +1,16 @@
 //! Which squares are attacked on a board.
 
 ghost use Rattle.std.specs.Prelude.{◌≡◌, ◌&&◌, is_some};
+ghost use Rattle.std.specs.List.{list_any};
 ghost use Rattle.chess_rules.specs.Board.{at, cell_of};
 ghost use Rattle.chess_rules.specs.Attacks as spec;
 ghost use Rattle.chess_rules.specs.Pairs as pairs;
 ghost use Rattle.chess_rules.specs.Reach as reach;
-ghost use Rattle.chess_rules.specs.Words.{Places, has};
+ghost use Rattle.chess_rules.specs.Words.{ArePossible, Places, has, members};
 
 use crate::board::Board;
-use crate::geometry::{
-    adjacent, between, diagonals, knights_to, pawns_to, rank_and_file, reaches, steep,
-};
-use crate::piece::{Colour, Kind, Piece};
+use crate::geometry::{adjacent, between, diagonals, knights_to, pawns_to, rank_and_file, steep};
+use crate::piece::{Colour, Kind};
 use crate::square::Square;
 use crate::squares::Squares;
 
@@ -89,14 +88,6 @@ pub(crate) fn seen_from(board: &Board, origin: Square) -> Squares
         | seen_along(board, diagonals & !steep, origin)
 }
 
-// Whether the piece, on `from`, attacks `to`.
-pub(crate) fn piece_attacks(board: &Board, piece: Piece, from: Square, to: Square) -> bool
-    ensures { result ≡ spec.kind_attacks piece.kind piece.colour board.now from to }
-{
-    let is_near = matches!(piece.kind, Kind::King | Kind::Knight | Kind::Pawn);
-    reaches(piece, from, to) && (is_near || is_clear(board, from, to))
-}
-
 // The rooks, bishops and queens of the colour that would attack the target if all squares between
 // were empty.
 pub(crate) fn sliders(board: &Board, by: Colour, target: Square) -> Squares
@@ -108,7 +99,8 @@ pub(crate) fn sliders(board: &Board, by: Colour, target: Square) -> Squares
 }
 
 // All pieces of the colour that would attack the target if all squares between were empty.
-fn possible_attackers(board: &Board, by: Colour, target: Square) -> Squares
+#[inline(always)]
+pub(crate) fn possible_attackers(board: &Board, by: Colour, target: Square) -> Squares
     ensures { Places result (reach.may_attack board.now by target) }
 {
     let near = knights_to(target) & board.of_kind(Kind::Knight)
@@ -124,14 +116,31 @@ fn possible_attackers(board: &Board, by: Colour, target: Square) -> Squares
 pub(crate) fn is_attacked(board: &Board, by: Colour, target: Square) -> bool
     ensures { result ≡ spec.is_attacked board.now by target }
 {
-    let possible = possible_attackers(board, by, target);
+    is_attacked_by(board, possible_attackers(board, by, target), target)
+}
+
+// Whether one of the `possible_attackers` of the target attacks it.
+#[inline(always)]
+pub(crate) fn is_attacked_by(board: &Board, possible: Squares, target: Square) -> bool
+    requires { ArePossible board.now target possible }
+    ensures { result ≡ list_any (λ s. spec.is_clear board.now s target) (members possible) }
+{
     if possible.is_empty() {
         return false;
     }
     match possible.only() {
         Some(attacker) => is_clear(board, attacker, target),
-        None => !(possible & (pieces_in_view(board, target) | knights_to(target))).is_empty(),
+        None => is_any_in_view(board, possible, target),
     }
+}
+
+// The same for several of them.
+#[inline(never)]
+fn is_any_in_view(board: &Board, possible: Squares, target: Square) -> bool
+    requires { ArePossible board.now target possible }
+    ensures { result ≡ list_any (λ s. spec.is_clear board.now s target) (members possible) }
+{
+    !(possible & (pieces_in_view(board, target) | knights_to(target))).is_empty()
 }
 
 // The squares of the pieces of the colour that attack the target, and those between the target and

@@ -6,7 +6,7 @@ ghost use Rattle.chess_rules.specs.Square as square;
 ghost use Rattle.chess_rules.specs.Words.{Places};
 ghost use Rattle.chess_rules.specs.declared.piece.Kind.TheVariants.{Pawn};
 
-use crate::piece::{Colour, Kind, Piece};
+use crate::piece::Colour;
 use crate::square::Square;
 use crate::squares::Squares;
 use crate::tables::{
@@ -70,21 +70,6 @@ pub(crate) fn pawns_to(by: Colour, target: Square) -> Squares
         Colour::White => Squares::of_bits(WHITE_PAWNS[target.index()]),
         Colour::Black => Squares::of_bits(BLACK_PAWNS[target.index()]),
     }
-}
-
-// Whether the piece, on `from`, attacks `to` if all squares between are empty.
-pub(crate) fn reaches(piece: Piece, from: Square, to: Square) -> bool
-    ensures { result ≡ reach.reaches piece.kind piece.colour from to }
-{
-    let origins = match piece.kind {
-        Kind::King => adjacent(to),
-        Kind::Queen => aligned(to),
-        Kind::Rook => rank_and_file(to),
-        Kind::Bishop => diagonals(to),
-        Kind::Knight => knights_to(to),
-        Kind::Pawn => pawns_to(piece.colour, to),
-    };
-    origins.has(from)
 }
 
 // The squares strictly between the two; none if they are not on one rank, file or diagonal.

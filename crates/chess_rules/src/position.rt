@@ -9,9 +9,9 @@ ghost use Rattle.chess_rules.specs.StepKinds.{IsKindOfStep};
 ghost use Rattle.chess_rules.specs.Legal.{legal, is_legal, is_check};
 ghost use Rattle.chess_rules.specs.Reach.{king_square as king_square_of};
 
-use crate::attack::{is_attacked, sliders};
+use crate::attack::{is_attacked, is_attacked_by, possible_attackers, sliders};
 use crate::board::Board;
-use crate::geometry::{is_aligned, reaches};
+use crate::geometry::is_aligned;
 use crate::piece::{Colour, Kind, Piece, Promotion};
 use crate::square::Square;
 use crate::squares::Squares;
@@ -229,13 +229,14 @@ impl Position {
         ensures { result ≡ king_attacked board.now (other self.now.side) }
     {
         let king = self.other_king;
+        let possible = possible_attackers(board, self.side, king);
         if matches!(step_kind, StepKind::Plain)
             && !is_aligned(mv.from, king)
-            && !matches!(board.at(mv.to), Some(piece) if reaches(piece, mv.to, king))
+            && !possible.has(mv.to)
         {
             return false;
         }
-        is_attacked(board, self.side, king)
+        is_attacked_by(board, possible, king)
     }
 
     // Whether the king of the side to move is safe after its step.

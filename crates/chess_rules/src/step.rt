@@ -5,7 +5,7 @@ ghost use Rattle.chess_rules.specs.Step as spec;
 ghost use Rattle.chess_rules.specs.StepKinds as step_kinds;
 ghost use Rattle.chess_rules.specs.declared.piece.Kind.TheVariants.{Pawn};
 
-use crate::attack::{is_attacked, is_clear, piece_attacks};
+use crate::attack::{is_attacked, is_clear, possible_attackers};
 use crate::board::Board;
 use crate::geometry::pawns_to;
 use crate::piece::{Colour, Kind, Piece, Promotion};
@@ -191,13 +191,12 @@ fn is_plain_step(position: &Position, mv: &Move) -> bool
     if board.has_colour(mv.to, side) {
         return false;
     }
-    match board.at(mv.from) {
-        Some(piece) if piece.colour == side => match piece.kind {
-            Kind::Pawn => is_pawn_step(position, mv),
-            _ => mv.promotion.is_none() && piece_attacks(board, piece, mv.from, mv.to),
-        },
-        _ => false,
+    if board.has_piece(mv.from, side, Kind::Pawn) {
+        return is_pawn_step(position, mv);
     }
+    mv.promotion.is_none()
+        && possible_attackers(board, side, mv.to).has(mv.from)
+        && is_clear(board, mv.from, mv.to)
 }
 
 /// Returns whether the move is a step (pseudo-legal move). (FIDE Laws 3.1 to 3.8)

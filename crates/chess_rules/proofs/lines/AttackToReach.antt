@@ -126,9 +126,6 @@ cell_attack_is (Some x) b s t = attack_is x.kind x.colour b s t
 pub reached : (cell : Option Piece) (s t : Square) → (is_aligned s t || is_jump s t) ≡ false → reaches_from cell s t ≡ false
 reached cell s t out = grind (arith, nat_tests)
 
-pub no_attack : (b : Board) (s t : Square) → reaches_from (at b s) s t ≡ false → attacks b s t ≡ false
-no_attack b s t h = cell_attack_is (at b s) b s t ∙ ap (λ x. x && is_clear b s t) h
-
 pub attacker_is : (b : Board) (c : Colour) (s t : Square) → (has_colour c (at b s) && attacks b s t) ≡ (may_attack b c t s && is_clear b s t)
 attacker_is b c s t = ap (λ x. has_colour c (at b s) && x) (cell_attack_is (at b s) b s t)
     ∙ in_turn (has_colour c (at b s)) (reaches_from (at b s) s t) (is_clear b s t)

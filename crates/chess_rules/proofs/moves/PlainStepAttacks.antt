@@ -1,7 +1,7 @@
 -- A plain step gives an attack only by the piece that moves, or along the line that it leaves.
-use Rattle.chess_rules.proofs.Words.{Colour, Piece, Promotion, Move, Parts, Square, on_board, same_square, between_on_rank, between_on_file, between_on_diagonal, strictly_between, squares, Board, at, put, is_empty, other, has_colour, attacks, cell_attacks, is_attacked, is_clear, king_attacked, is_position, is_on_board, promoted, carried, board_after, after, legal, if_safe, is_legal, is_check, is_aligned, is_near, king_square, reaches_from, slides, Plain, step_kind, ◌≡◌, ◌≢◌, Bool, true, false, not, ◌&&◌, ◌||◌, ◌⊎◌, inl, inr, refl, sym, ◌∙◌, ap, ap₂, subst, arith, length, Option, None, Some, is_none, is_some, option_map, if◌then◌else◌, list_any, false≢true, or_cases, and_from, false_from_ne_true, nat_tests}
+use Rattle.chess_rules.proofs.Words.{Colour, Piece, Promotion, Move, Parts, Square, on_board, same_square, between_on_rank, between_on_file, between_on_diagonal, strictly_between, squares, Board, at, put, is_empty, other, has_colour, attacks, cell_attacks, is_attacked, is_clear, king_attacked, is_position, is_on_board, promoted, carried, board_after, after, legal, if_safe, is_legal, is_check, is_aligned, is_near, king_square, may_attack, reaches_from, slides, Plain, step_kind, ◌≡◌, ◌≢◌, Bool, true, false, not, ◌&&◌, ◌||◌, ◌⊎◌, inl, inr, refl, sym, ◌∙◌, ap, ap₂, subst, arith, length, Option, None, Some, is_none, is_some, option_map, if◌then◌else◌, list_any, false≢true, or_cases, and_from, false_from_ne_true, nat_tests}
 use Rattle.chess_rules.proofs.sets.AllSquares.{first_true, second_true, each_square, all_squares, Passes, some_square, any_square, not_true, implied}
-use Rattle.chess_rules.proofs.lines.AttackToReach.{no_attack, none_or_all}
+use Rattle.chess_rules.proofs.lines.AttackToReach.{attacker_is, none_or_all}
 use Rattle.chess_rules.proofs.positions.OneKing.{StandsAt, king_stands, king_attacked_there}
 use Rattle.chess_rules.proofs.moves.CellsAfterPut.{OnBoard, at_put, at_put_here, length-put}
 use Rattle.chess_rules.proofs.positions.RulesOfPosition.{Sound, sound_from_position}
@@ -175,7 +175,7 @@ check_is_seen p m b k position on h is =
 pub no_check_when_plain : (p : Parts) (m : Move) (b : Board) (k : Square) → is_position p ≡ true
     → is_on_board m ≡ true → board_after p m ≡ Some b → step_kind p m ≡ Plain
     → k ≡ king_square (other p.side) p.board → is_aligned m.from k ≡ false
-    → reaches_from (at b m.to) m.to k ≡ false → king_attacked b (other p.side) ≡ false
+    → may_attack b p.side k m.to ≡ false → king_attacked b (other p.side) ≡ false
 no_check_when_plain p m b k position on h plain is unseen harmless =
     check_is_seen p m b k position on h is ∙ (ap (λ a. is_attacked a p.side k) (sym (plain_board p m b plain h)) ∙ quiet)
   where
@@ -195,17 +195,27 @@ no_check_when_plain p m b k position on h plain is unseen harmless =
     arrives : has_colour p.side (arriving p m) ≡ true
     arrives = arriving_own p.side m.promotion (at p.board m.from) (board_stays p m b sound on h).own
 
-    no : (x : Bool) → (x && false) ≡ false
-    no x = grind arith
+    on_from : OnBoard m.from
+    on_from = on_board_means m.from (first_true (on_board m.from) _ on)
+
+    on_to : OnBoard m.to
+    on_to = on_board_means m.to (second_true (on_board m.from) _ on)
+
+    on_k : OnBoard k
+    on_k = record { file = stands_k.file; rank = stands_k.rank }
+
+    -- the piece that arrives
+    no_attacker : (has_colour p.side (arriving p m) && attacks (carried p m) m.to k) ≡ false
+    no_attacker =
+        ap (λ o. has_colour p.side o && attacks (carried p m) m.to k)
+        (sym (arrived p.board m.from m.to k (arriving p m) p.side sound.long on_from on_to on_k))
+        ∙ (ap (λ a. has_colour p.side (at a m.to) && attacks a m.to k) (plain_board p m b plain h)
+        ∙ (attacker_is b p.side m.to k ∙ ap (λ x. x && is_clear b m.to k) harmless))
 
     quiet : is_attacked (carried p m) p.side k ≡ false
     quiet =
-        calm p.board m.from m.to k (arriving p m) p.side sound.long
-        (on_board_means m.from (first_true (on_board m.from) _ on)) (on_board_means m.to (second_true (on_board m.from) _ on))
-        (record { file = stands_k.file; rank = stands_k.rank })
-        (none_or_all p.side (arriving p m) arrives) (inl unseen)
-        (ap (λ x. has_colour p.side (arriving p m) && x) (ap (λ a. attacks a m.to k) (plain_board p m b plain h) ∙ no_attack b m.to k harmless)
-        ∙ no (has_colour p.side (arriving p m))) before
+        calm p.board m.from m.to k (arriving p m) p.side sound.long on_from on_to on_k
+        (none_or_all p.side (arriving p m) arrives) (inl unseen) no_attacker before
 
 -- a move that is no step is not legal, and a legal one is a step
 by_step : (on : Bool) (p : Parts) (m : Move) (o : Option Board) → is_some o ≡ false

@@ -1,0 +1,28 @@
+use Rattle.chess_rules.proofs.Words.{Square, is_clear, may_attack, has_any, members, Places, ◌≡◌, ℕ, true, not, ◌&&◌, Bool}
+use Rattle.chess_rules.proofs.Words.{List, [], ◌∷◌, sym, ◌∙◌, ap, arith, list_any}
+use Rattle.chess_rules.proofs.sets.SetsToSquares.{any_member, full_when, lone_means, none_of_set}
+use Rattle.chess_rules.proofs.attack.is_attacked_by.Goals as goal
+
+-- of an empty set all pass
+none_passes : (w : ℕ) (p q : Square → Bool) → Places w p → not (has_any w) ≡ true → Places w (λ s. p s && q s)
+none_passes w p q h none = grind (arith, none_of_set)
+
+one_passes : (test : Square → Bool) (xs : List Square) (s : Square) → xs ≡ s ∷ [] → list_any test xs ≡ test s
+one_passes test xs s one = grind arith
+
+pub returns-then-is_empty : goal.returns-then-is_empty
+returns-then-is_empty c =
+    let b = c.args.board.now in
+    let t = c.args.target in
+    let by = c.requires.by in
+    let w = c.args.possible in
+    sym (sym (any_member w (may_attack b by t) (λ s. is_clear b s t) c.requires.places)
+    ∙ (sym (full_when w (λ s. may_attack b by t s && is_clear b s t) c.is_empty.result
+    (none_passes w (may_attack b by t) (λ s. is_clear b s t) c.requires.places (sym c.is_empty.ensures ∙ c.if-is_empty.true)) c.is_empty.ensures)
+    ∙ ap not c.if-is_empty.true))
+
+pub returns-in-Some : goal.returns-in-Some
+returns-in-Some c =
+    c.is_clear.ensures
+    ∙ sym (one_passes (λ s. is_clear c.args.board.now s c.args.target) (members c.args.possible) c.in-Some.attacker
+    (lone_means (members c.args.possible) c.in-Some.attacker (sym c.in-Some.ensures)))
