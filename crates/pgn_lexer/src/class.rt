@@ -2,6 +2,7 @@
 
 ghost use Rattle.std.specs.Prelude.{◌≡◌};
 ghost use Rattle.pgn_lexer.specs.Bytes as bytes;
+ghost use Rattle.pgn_lexer.specs.Lexes as lexes;
 ghost use Rattle.pgn_lexer.specs.Spelling as spelling;
 
 use crate::token::LexReason;
@@ -234,6 +235,13 @@ pub(crate) fn is_suffix(byte: u8) -> bool
     ensures { result ≡ bytes.is_suffix byte }
 {
     byte == b'!' || byte == b'?'
+}
+
+/// Whether a backslash before the byte escapes it.
+pub(crate) fn is_escaped(byte: u8) -> bool
+    ensures { result ≡ lexes.is_escaped byte }
+{
+    byte == b'"' || byte == b'\\'
 }
 
 pub(crate) fn is_line_end(byte: u8) -> bool

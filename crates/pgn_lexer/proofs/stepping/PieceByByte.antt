@@ -1,5 +1,5 @@
 -- A run over a piece, byte by byte.
-use Rattle.pgn_lexer.proofs.Words.{◌≡◌, ℕ, suc, ◌+◌, ◌*◌, ◌<◌, ◌≤◌, inl, inr, List, [], ◌∷◌, ◌++◌, length, get_or, take, drop, refl, sym, ap, ◌∙◌, add-one, arith, ◌⊎◌, true, false, Some, take_all, drop-cons, LexFault, Mode, LexReason, Class, CommentClass, StringClass, LineStart, Outside, Symbol, Str, Brace, BraceWord, Failed, continues_symbol, class, comment_class, string_class, TokenForm, Step, Used, Ends, EndsBefore, Fault, PartialToken, tokens_to_come, token_of, IsSound, HasNotFailed, pending, fault_met, fault_in_mode, begin, begin_line, string, fails, into, after_byte, IsAfterByte, IsOutside, Ran, RunsOn, StoodAt, RunGives, RunsToToken, RunsToFault, used_after, reached_after, Reached, common_steps}
+use Rattle.pgn_lexer.proofs.Words.{◌≡◌, ℕ, suc, ◌+◌, ◌*◌, ◌<◌, ◌≤◌, inl, inr, List, [], ◌∷◌, ◌++◌, length, get_or, take, drop, refl, sym, ap, ◌∙◌, add-one, arith, ◌⊎◌, true, false, Some, take_all, drop-cons, LexFault, Mode, LexReason, Class, CommentClass, StringClass, LineStart, Outside, Symbol, Str, AfterBackslash, Brace, BraceWord, Failed, continues_symbol, is_escaped, class, comment_class, string_class, TokenForm, Step, Used, Ends, EndsBefore, Fault, PartialToken, tokens_to_come, token_of, IsSound, HasNotFailed, pending, fault_met, fault_in_mode, begin, begin_line, string, fails, into, after_byte, IsAfterByte, IsOutside, Ran, RunsOn, StoodAt, RunGives, RunsToToken, RunsToFault, used_after, reached_after, Reached, common_steps}
 use Rattle.pgn_lexer.specs.ByteResult.{brace, word, symbol}
 use Rattle.pgn_lexer.proofs.stepping.StepGives.{StepGives, front_of}
 use Rattle.pgn_lexer.proofs.stepping.ByteGives.{step_gives}
@@ -157,6 +157,19 @@ taken_string place b h c e same = grind arith
 pub takes_plain : (place b : ℕ) (h new : PartialToken) → h.mode ≡ Str → string_class b ≡ StringClass.Plain → length h.text < 255
     → new ≡ record { mode = h.mode; at = h.at; text = h.text ++ b ∷ [] } → IsAfterByte (after_byte place h b) new Used
 takes_plain place b h new e same room grows = rw (taken_string _ b h _ e same) (grind arith)
+
+pub takes_backslash : (place b : ℕ) (h new : PartialToken) → h.mode ≡ Str → string_class b ≡ StringClass.Backslash → length h.text < 255
+    → new ≡ record { mode = AfterBackslash; at = h.at; text = h.text } → IsAfterByte (after_byte place h b) new Used
+takes_backslash place b h new e same room goes = rw (taken_string _ b h _ e same) (grind arith)
+
+escaped_class : (b : ℕ) → is_escaped b ≡ true → (string_class b ≡ StringClass.Quote) ⊎ (string_class b ≡ StringClass.Backslash)
+escaped_class b e = grind arith
+
+-- a quote or a backslash, after a backslash
+pub takes_escaped : (place b : ℕ) (h new : PartialToken) → h.mode ≡ AfterBackslash → is_escaped b ≡ true
+    → new ≡ record { mode = Str; at = h.at; text = h.text ++ b ∷ [] } → IsAfterByte (after_byte place h b) new Used
+unfolding after_byte
+takes_escaped place b h new e escaped grows = grind (arith, escaped_class)
 
 pub takes_quote : (place b : ℕ) (h new : PartialToken) → h.mode ≡ Str → string_class b ≡ StringClass.Quote
     → new ≡ record { mode = Outside; at = h.at; text = h.text } → IsAfterByte (after_byte place h b) new (Ends TokenForm.Str)

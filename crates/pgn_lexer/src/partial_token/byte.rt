@@ -8,7 +8,8 @@ use crate::class::{
     is_line_end, is_suffix, string_class_of,
 };
 use crate::partial_token::{
-    LARGEST_GLYPH, LONGEST_TEXT, LONGEST_WORD, Mode, PartialToken, Step, SuffixRun, TokenForm, glyph_of,
+    LARGEST_GLYPH, LONGEST_TEXT, LONGEST_WORD, Mode, PartialToken, Step, SuffixRun, TokenForm,
+    glyph_of,
 };
 use crate::token::LexReason;
 
@@ -321,8 +322,11 @@ impl PartialToken {
     fn push(&mut self, byte: u8)
         requires room { length self.old.text < 255 }
         requires more { HasMore self.old.mode (self.old.text ++ byte ∷ []) }
-        ensures { self.new ≡ record { mode = self.old.mode; at = self.old.at;
-            text = self.old.text ++ byte ∷ [] } }
+        ensures { self.new ≡ record {
+          mode = self.old.mode;
+          at = self.old.at;
+          text = self.old.text ++ byte ∷ [];
+        } }
     {
         self.buffer[self.length] = byte;
         self.length += 1;

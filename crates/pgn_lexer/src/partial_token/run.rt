@@ -4,9 +4,12 @@ ghost use Rattle.std.specs.Prelude.{◌≡◌, ℕ, ◌+◌, ◌<◌, ◌≤◌,
 ghost use Rattle.pgn_lexer.specs.RunResult.{used_after, reached_after};
 
 use crate::class::{
-    Class, CommentClass, StringClass, class_of, comment_class_of, continues_symbol, string_class_of,
+    Class, CommentClass, StringClass, class_of, comment_class_of, continues_symbol, is_escaped,
+    string_class_of,
 };
-use crate::partial_token::{LONGEST_TEXT, LONGEST_WORD, Mode, PartialToken, Reached, Step, TokenForm};
+use crate::partial_token::{
+    LONGEST_TEXT, LONGEST_WORD, Mode, PartialToken, Reached, Step, TokenForm,
+};
 
 impl PartialToken {
     ghost use Rattle.pgn_lexer.specs.PartialToken.{IsSound};
@@ -97,8 +100,8 @@ impl PartialToken {
         (used, Reached::End)
     }
 
-    /// Reads on in a string. The bytes that the buffer has room for are put into it with no test of
-    /// its length.
+    /// Reads on in a string that begins in the piece, up to the first escape. The bytes that the
+    /// buffer has room for are put into it with no test of its length.
     #[inline(always)]
     fn run_string(&mut self, piece: &[u8], from: usize, place: u64) -> (usize, Reached)
         requires room { place + length piece.now ≤ 2 ^ 62 }
@@ -201,8 +204,56 @@ impl PartialToken {
         requires within { from ≤ length piece.now }
         ensures { RunsOn place piece.now from self.old self.new result.0 result.1 }
     {
-        let (used, reached) = self.run_byte_by_byte(piece, from, place);
+        let (used, reached) = self.run_rest(piece, from, place);
         (used, reached)
+    }
+
+    /// Reads on with the loop of the mode. What is inlined above calls this alone, so it is not
+    /// inlined.
+    #[inline(never)]
+    fn run_rest(&mut self, piece: &[u8], from: usize, place: u64) -> (usize, Reached)
+        requires room { place + length piece.now ≤ 2 ^ 62 }
+        requires within { from ≤ length piece.now }
+        ensures { RunsOn place piece.now from self.old self.new result.0 result.1 }
+    {
+        match self.mode {
+            Mode::Str => self.run_escapes(piece, from, place),
+            _ => self.run_byte_by_byte(piece, from, place),
+        }
+    }
+
+    /// Reads on in a string that has escapes, or that began in an earlier piece. An escape is read
+    /// here if both its bytes are in the piece.
+    #[inline(always)]
+    fn run_escapes(&mut self, piece: &[u8], from: usize, place: u64) -> (usize, Reached)
+        requires room { place + length piece.now ≤ 2 ^ 62 }
+        requires within { from ≤ length piece.now }
+        requires string { self.old.mode ≡ Mode.Str }
+        ensures { RunsOn place piece.now from self.old self.new result.0 result.1 }
+    {
+        let mut length = self.length;
+        let end = from + (piece.len() - from).min(LONGEST_TEXT - length);
+        let mut used = from;
+        while used < end {
+            let mut byte = piece[used];
+            if !matches!(string_class_of(byte), StringClass::Plain) {
+                if byte == b'"' {
+                    self.length = length;
+                    self.mode = Mode::Outside;
+                    return (used + 1, Reached::Token(TokenForm::Str));
+                }
+                if byte != b'\\' || used + 1 >= end || !is_escaped(piece[used + 1]) {
+                    break;
+                }
+                used += 1;
+                byte = piece[used];
+            }
+            self.buffer[length] = byte;
+            length += 1;
+            used += 1;
+        }
+        self.length = length;
+        self.run_byte_by_byte(piece, used, place)
     }
 
     /// The loop for every mode. Few tokens need it, so it is not inlined.
