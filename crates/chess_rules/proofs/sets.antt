@@ -6,3 +6,4 @@ pub mod SetsToSquares
 pub mod TablesOfSquares
 pub mod UpToPlaces
 pub mod WordsToCells
+pub mod RanksToWords

@@ -9,7 +9,7 @@ use Rattle.chess_rules.specs.declared.piece.Kind.TheVariants.{King, Queen, Rook,
 use Rattle.chess_rules.specs.declared.piece.Piece.{Piece}
 use Rattle.chess_rules.specs.declared.board.Board.TheInside.{Inside}
 use Rattle.chess_rules.specs.Square.{Square, squares}
-use Rattle.chess_rules.specs.Board.{cell_of, has_colour, some_piece}
+use Rattle.chess_rules.specs.Board.{cell_of, has_colour, kind_number, same_colour, some_piece}
 use Rattle.chess_rules.specs.Reach.{has_kind, is_near, may_attack, square_at}
 
 -- bit i of the word is set: as a set, the word has place i
@@ -59,6 +59,23 @@ word test (x ∷ xs) = (if test x then 1 else 0) + 2 * word test xs
 
 abbrev pub words : List (Option Piece) → Inside
 words b = record { straight = word straight_of b; diagonal = word diagonal_of b; near = word is_near b; black = word (has_colour Black) b }
+
+-- A rank in four lanes of eight bits.
+
+-- the lanes with this content on file a alone
+abbrev pub lanes_of : Option Piece → ℕ
+lanes_of cell =
+    (if straight_of cell then 1 else 0) + 256 * (if diagonal_of cell then 1 else 0)
+    + 65536 * (if is_near cell then 1 else 0) + 16777216 * (if has_colour Black cell then 1 else 0)
+
+-- the lanes of eight cells or fewer, from file a on
+unfoldable pub lanes : List (Option Piece) → ℕ
+lanes b = word straight_of b + 256 * word diagonal_of b + 65536 * word is_near b + 16777216 * word (has_colour Black) b
+
+-- the row of a content in the table of lanes
+abbrev pub number_of : Option Piece → ℕ
+number_of None = 12
+number_of (Some x) = (if same_colour x.colour Black then 6 else 0) + kind_number x.kind
 
 -- the words are those of the cells: no square is in all of the first three, or in `black` alone
 abbrev pub AreWords : Inside → Type 0

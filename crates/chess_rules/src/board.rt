@@ -1,6 +1,6 @@
 //! The board: the piece on each of the 64 squares, in four sets of squares.
 
-ghost use Rattle.std.specs.Prelude.{◌≡◌, if◌then◌else◌, is_some, length};
+ghost use Rattle.std.specs.Prelude.{◌≡◌, ◌<◌, ◌*◌, if◌then◌else◌, is_some, length, take, drop};
 ghost use Rattle.chess_rules.specs.Board as spec;
 ghost use Rattle.chess_rules.specs.Position.{initial_board, one_king};
 ghost use Rattle.chess_rules.specs.Reach as reach;
@@ -197,11 +197,84 @@ impl Board {
     pub(crate) fn of(contents: &[Option<Piece>; 64]) -> Board
         ensures { result ≡ contents.now }
     {
-        // The loop writes every square, so any board will do to begin with.
-        let mut board = Board::initial();
-        for (i, content) in contents.iter().enumerate() {
-            board.put(Square::nth(i), *content);
+        let mut straight = 0u64;
+        let mut diagonal = 0u64;
+        let mut near = 0u64;
+        let mut black = 0u64;
+        // The ranks above are read already.
+        for above in 0..8 {
+            let lanes = lanes_of_rank(contents, 7 - above);
+            straight = u64::from(lanes % 256) + 256 * straight;
+            diagonal = u64::from(lanes / 256 % 256) + 256 * diagonal;
+            near = u64::from(lanes / 65_536 % 256) + 256 * near;
+            black = u64::from(lanes / 16_777_216) + 256 * black;
         }
-        board
+        Board {
+            straight: Squares::of_bits(straight),
+            diagonal: Squares::of_bits(diagonal),
+            near: Squares::of_bits(near),
+            black: Squares::of_bits(black),
+        }
+    }
+}
+
+// The sets of a rank in four lanes of eight bits, one for each file. From the lowest lane on these
+// are `straight`, `diagonal`, `near` and `black`.
+fn lanes_of_rank(contents: &[Option<Piece>; 64], rank: usize) -> u32
+    requires { rank < 8 }
+    ensures { result ≡ words.lanes (take 8 (drop (8 * rank) contents.now)) }
+{
+    let mut lanes = 0u32;
+    // The files to the right are read already.
+    for right in 0..8 {
+        lanes = lanes_of(contents[8 * rank + 7 - right]) + 2 * lanes;
+    }
+    lanes
+}
+
+// For each number of a content: the lanes of a rank with this content on file a alone.
+static LANES: [u32; 13] = [
+    0x0001_0100,
+    0x0000_0101,
+    0x0000_0001,
+    0x0000_0100,
+    0x0001_0001,
+    0x0001_0000,
+    0x0101_0100,
+    0x0100_0101,
+    0x0100_0001,
+    0x0100_0100,
+    0x0101_0001,
+    0x0101_0000,
+    0x0000_0000,
+];
+
+// The lanes of a rank with this content on file a alone.
+//
+// They come from a table. A branch for each square would mostly be mispredicted.
+fn lanes_of(content: Option<Piece>) -> u32
+    ensures { result ≡ words.lanes_of content }
+{
+    LANES[number_of(content)]
+}
+
+// The number of a content: 0 to 5 for a white piece, 6 to 11 for a black one, 12 for none.
+fn number_of(content: Option<Piece>) -> usize
+    ensures { result ≡ words.number_of content }
+{
+    let Some(piece) = content else {
+        return 12;
+    };
+    let kind = match piece.kind {
+        Kind::King => 0,
+        Kind::Queen => 1,
+        Kind::Rook => 2,
+        Kind::Bishop => 3,
+        Kind::Knight => 4,
+        Kind::Pawn => 5,
+    };
+    match piece.colour {
+        Colour::White => kind,
+        Colour::Black => 6 + kind,
     }
 }

@@ -58,7 +58,7 @@ pub use Rattle.chess_text.specs.MoveOfForm.{moves_to_try, only, piece_move_fits,
 unfoldable pub use Rattle.chess_text.specs.MoveOfForm.{agreeing}
 pub use Rattle.chess_text.specs.Placement.{cells_at, cells_of, is_item, is_placement, is_rank, is_run, is_slash, placement_of, placement_text}
 pub use Rattle.chess_text.specs.Placement.{rank_text, ranks, row, run_text}
-pub use Rattle.chess_text.specs.Ranks.{ranks_before}
+pub use Rattle.chess_text.specs.Items.{item}
 pub use Rattle.chess_text.specs.San.{MarkPairs, capture_if, capture_text, castling_text, disambiguated_text, disambiguation, disambiguation_by, disambiguation_pairs, from_square, has_rivals, is_capture, is_rival, kind_pairs, kind_text, king_text, mark, mark_after, on_file, on_rank, pawn_capture, piece_text, promotion_text, rivals, san, unmarked}
 pub use Rattle.chess_text.specs.WrittenMove.{IsMoveSymbol, WrittenMoveIsRead, WrittenMoveIsSymbol, begins_with_letter, is_letter, is_marker}
 pub use Rattle.chess_text.specs.WrittenMove.{is_move_byte}

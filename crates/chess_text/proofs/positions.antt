@@ -7,4 +7,5 @@ pub mod FieldsOfText
 pub mod ReadingToSpelling
 pub mod SixFieldsJoined
 pub mod SpellingToReading
+pub mod TableOfItems
 pub mod TextToBoard

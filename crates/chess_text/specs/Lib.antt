@@ -1,7 +1,7 @@
 -- **Bookkeeping**: the list of this crate's files of definitions.
 pub mod Letter
 pub mod Placement
-pub mod Ranks
+pub mod Items
 pub mod Field
 pub mod Fen
 pub mod Form

@@ -57,10 +57,11 @@ pub fn read_fen(text: &[u8]) -> Result<Position, FenFault>
 fn read_parts(text: &[u8]) -> Result<Parts, FenFault>
     ensures { result ≡ parts_read text.now }
 {
-    let Some(board) = read_placement(first_field(text)) else {
+    let mut board = [None; 64];
+    let Some(end) = read_placement(text, &mut board) else {
         return Err(FenFault { field: 1 });
     };
-    let text = other_fields(text);
+    let text = text_behind(text, end);
     let Some(side) = read_side(first_field(text)) else {
         return Err(FenFault { field: 2 });
     };
@@ -100,7 +101,15 @@ fn first_field(text: &[u8]) -> &[u8]
 fn other_fields(text: &[u8]) -> &[u8]
     ensures { result.now ≡ after_first is_space text.now }
 {
-    let end = field_length(text);
+    text_behind(text, field_length(text))
+}
+
+// The same, where it is known that the first space is there, or that the text ends there.
+fn text_behind(text: &[u8], end: usize) -> &[u8]
+    requires value { end ≡ position_or_len is_space text.now }
+    requires within { end ≤ length text.now }
+    ensures { result.now ≡ after_first is_space text.now }
+{
     if end == text.len() {
         &[]
     } else {

@@ -29,25 +29,3 @@ pub(crate) fn piece_letter(piece: Piece) -> u8
         Colour::Black => letter(piece.kind) + 32,
     }
 }
-
-// The piece whose letter it is. (PGN 16.1.3.1)
-pub(crate) fn piece_of(byte: u8) -> Option<Piece>
-    ensures { result ≡ spec.piece_of byte }
-{
-    let (colour, kind) = match byte {
-        b'K' => (Colour::White, Kind::King),
-        b'Q' => (Colour::White, Kind::Queen),
-        b'R' => (Colour::White, Kind::Rook),
-        b'B' => (Colour::White, Kind::Bishop),
-        b'N' => (Colour::White, Kind::Knight),
-        b'P' => (Colour::White, Kind::Pawn),
-        b'k' => (Colour::Black, Kind::King),
-        b'q' => (Colour::Black, Kind::Queen),
-        b'r' => (Colour::Black, Kind::Rook),
-        b'b' => (Colour::Black, Kind::Bishop),
-        b'n' => (Colour::Black, Kind::Knight),
-        b'p' => (Colour::Black, Kind::Pawn),
-        _ => return None,
-    };
-    Some(Piece { colour, kind })
-}

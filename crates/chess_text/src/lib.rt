@@ -7,6 +7,7 @@ mod fen;
 mod field;
 mod form;
 mod form_origins;
+mod item;
 pub mod laws;
 mod letter;
 mod placement;

@@ -1,86 +1,49 @@
 //! The board as the first field of a FEN. (PGN 16.1.3.1)
 
-ghost use Rattle.std.specs.Prelude.{◌≡◌, ◌<◌, ◌≤◌, ◌+◌, ◌-◌, ◌++◌, ◌∷◌, [], ◌&&◌, nat_le, drop, length, if◌then◌else◌, Some, None};
-ghost use Rattle.chess_text.specs.Placement.{ranks, is_rank, cells_of, cells_at, is_item, placement_of, placement_text, rank_text, run_text, row};
-ghost use Rattle.std.specs.Bool.{OnTrue};
+ghost use Rattle.std.specs.Prelude.{◌≡◌, ◌<◌, ◌≤◌, ◌+◌, ◌-◌, ◌++◌, ◌∷◌, [], IfSome, is_some, replicate, length, if◌then◌else◌, Some, None};
+ghost use Rattle.std.specs.List.{before_first, position_or_len};
+ghost use Rattle.chess_text.specs.Fen.{is_space};
+ghost use Rattle.chess_text.specs.Placement.{placement_of, placement_text, rank_text, run_text, row};
 ghost use Rattle.chess_rules.specs.Board.{Board, at};
 ghost use Rattle.chess_rules.specs.Square.{square};
-ghost use Rattle.chess_text.specs.Placement as spec;
-ghost use Rattle.chess_text.specs.Ranks.{ranks_before};
 
-use crate::letter::{piece_letter, piece_of};
+use crate::item::item_of;
+use crate::letter::piece_letter;
 use arrayvec::ArrayVec;
 use chess_rules::{Piece, Position, Square};
 
-const EMPTY_RANK: [Option<Piece>; 8] = [None; 8];
-
-// Reads the content of each square, from a1, b1 to h8.
-pub(crate) fn read_placement(text: &[u8]) -> Option<[Option<Piece>; 64]>
-    ensures { result ≡ placement_of text.now }
+// Reads the content of each square, from a1, b1 to h8, onto an empty board. The text begins with the
+// first field of a FEN, which ends at the first space. Returns where it ends.
+pub(crate) fn read_placement(text: &[u8], board: &mut [Option<Piece>; 64]) -> Option<usize>
+    requires empty { board.old ≡ replicate 64 None }
+    ensures board { placement_of (before_first is_space text.now)
+        ≡ (if is_some result then Some board.new else None) }
+    ensures end { IfSome result (λ n. n ≡ position_or_len is_space text.now) }
+    ensures within { IfSome result (λ n. n ≤ length text.now) }
 {
-    let mut cells: ArrayVec<Option<Piece>, 64> = ArrayVec::new();
-    // One more than the bytes that are left; 0 if no rank is left.
-    let mut left = text.len() + 1;
-    while left > 0 {
-        let text_left = &text[..left - 1];
-        let start = last_rank_start(text_left);
-        let Some(rank) = read_rank(&text_left[start..]) else {
-            return None;
-        };
-        if cells.try_extend_from_slice(&rank).is_err() {
-            return None;
-        }
-        left = start;
-    }
-    cells.into_inner().ok()
-}
-
-// Where the last rank of the text begins.
-fn last_rank_start(text: &[u8]) -> usize
-    ensures within { result ≤ length text.now }
-    ensures cut { ranks text.now ≡ ranks_before result text.now ++ drop result text.now ∷ [] }
-{
-    let mut start = text.len();
-    while start > 0 && text[start - 1] != b'/' {
-        start -= 1;
-    }
-    start
-}
-
-// Reads the content of the squares of a rank, from file a on.
-fn read_rank(text: &[u8]) -> Option<[Option<Piece>; 8]>
-    ensures { result ≡ (if is_rank text.now then Some (cells_of text.now) else None) }
-{
-    let mut cells = ArrayVec::new();
-    for &byte in text {
-        if !push_item(&mut cells, byte) {
+    // The index of file a of the rank, and how many of its squares are read.
+    let mut rank = 56usize;
+    let mut file = 0usize;
+    for (i, &byte) in text.iter().enumerate() {
+        let item = item_of(byte);
+        let width = item.width as usize;
+        if file + width <= 8 {
+            board[rank + file] = item.content;
+            file += width;
+        } else if byte == b'/' && file == 8 && rank > 0 {
+            rank -= 8;
+            file = 0;
+        } else if byte == b' ' && file == 8 && rank == 0 {
+            return Some(i);
+        } else {
             return None;
         }
     }
-    cells.into_inner().ok()
-}
-
-// Adds the squares that the byte means, if it means any and the rank has as many left.
-fn push_item(cells: &mut ArrayVec<Option<Piece>, 8>, byte: u8) -> bool
-    ensures fits { result
-        ≡ (is_item byte && nat_le (length cells.old.items + length (cells_at byte)) 8) }
-    ensures added { OnTrue result (cells.new.items ≡ cells.old.items ++ cells_at byte) }
-{
-    if is_run(byte) {
-        let run = &EMPTY_RANK[..(byte - b'0') as usize];
-        return cells.try_extend_from_slice(run).is_ok();
+    if file == 8 && rank == 0 {
+        Some(text.len())
+    } else {
+        None
     }
-    match piece_of(byte) {
-        None => false,
-        Some(piece) => cells.try_push(Some(piece)).is_ok(),
-    }
-}
-
-// Whether the byte is the digit of a run of empty squares.
-fn is_run(byte: u8) -> bool
-    ensures { result ≡ spec.is_run byte }
-{
-    matches!(byte, b'1'..=b'8')
 }
 
 // Adds the canonical text of the board to an empty text.

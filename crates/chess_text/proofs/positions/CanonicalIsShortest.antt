@@ -1,13 +1,18 @@
 -- No text of a position is shorter than the canonical one.
 use Rattle.std.proofs.Math.Seq.{take-append_seam}
-use Rattle.chess_text.proofs.Words.{◌≡◌, ℕ, zero, suc, ◌+◌, ◌≤◌, ◌==◌, true, List, [], ◌∷◌, ◌++◌, length, reverse, map, replicate, refl, sym, ◌∙◌, ap, arith, length-append, None, decimal, flat_map, list_all, join_with_byte, and_parts, nat_tests, is_digit, length-decimal-le, append_cancel_left, reverse-append, reverse-reverse, length-reverse, map-append, list_all-append, digits_value_short, Parts, lines, Board, is_item, is_rank, cells_of, run_text, rank_text, row, placement_text, side_text, rights_text, target_text, SpellsBoard, SpellsNumber, Fen, fen_text}
+use Rattle.chess_text.proofs.Words.{◌≡◌, ℕ, zero, suc, ◌+◌, ◌≤◌, ◌==◌, true, List, [], ◌∷◌, ◌++◌, length, reverse, map, replicate, refl, sym, ◌∙◌, ap, arith, length-append, None, decimal, flat_map, list_all, join_with_byte, and_parts, nat_tests, is_digit, length-decimal-le, append_cancel_left, reverse-append, reverse-reverse, length-reverse, map-append, list_all-append, digits_value_short, Parts, lines, Board, is_item, is_rank, is_run, cells_at, cells_of, ◌-◌, run_text, rank_text, row, placement_text, side_text, rights_text, target_text, SpellsBoard, SpellsNumber, Fen, fen_text}
 use Rattle.chess_text.proofs.positions.BoardToText.{run_is_short}
-use Rattle.chess_text.proofs.positions.TextToBoard.{eight_cells, cells_at-run}
 use Rattle.chess_text.proofs.positions.FieldsOfText.{first_of_two, second_of_two}
 use Rattle.chess_text.proofs.positions.ReadingToSpelling.{some_digit}
 use Rattle.chess_text.proofs.positions.CanonicalSpells.{board_rows, numerals, long_board}
 
 -- A rank.
+
+cells_at-run : (c : ℕ) → is_run c ≡ true → cells_at c ≡ replicate (c - 48) None
+cells_at-run c h = rw h refl
+
+eight_cells : (s : List ℕ) → is_rank s ≡ true → length (cells_of s) ≡ 8
+eight_cells s h = let e = (and_parts (list_all is_item s) _ h).1 in grind (arith, nat_tests)
 
 -- empty squares lengthen the run
 run_on : (k n : ℕ) (cells : Board) → rank_text n (replicate k None ++ cells) ≡ rank_text (n + k) cells

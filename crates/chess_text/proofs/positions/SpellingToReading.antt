@@ -1,7 +1,6 @@
 -- A text that spells a position is read as that position.
-use Rattle.chess_text.proofs.Words.{◌≡◌, ℕ, ◌+◌, ◌-◌, ◌<◌, ◌==◌, nat_le, Bool, true, false, not, ◌&&◌, List, [], ◌∷◌, length, refl, sym, ◌∙◌, ap, ap₂, arith, Option, None, Some, Ok, list_all, join_with_byte, false≢true, false_from_ne_true, and_parts, is_target, eqb-true, nat_tests, list_all-append, slice_split-cons_no, Colour, Rights, Parts, Square, square, Board, target_fits, ranks, is_slash, is_item, is_rank, is_placement, placement_of, side_text, side_of, rights_text, rights_of, target_text, target_of, is_digit, number_of, SpellsBoard, SpellsNumber, Fen, is_space, parts_or_fault, read, not-true}
+use Rattle.chess_text.proofs.Words.{◌≡◌, ℕ, ◌+◌, ◌-◌, ◌<◌, ◌==◌, nat_le, Bool, true, false, not, ◌&&◌, List, [], ◌∷◌, length, refl, sym, ◌∙◌, ap, ap₂, arith, Option, None, Some, Ok, list_all, join_with_byte, false≢true, false_from_ne_true, and_parts, is_target, eqb-true, nat_tests, list_all-append, onto_first, ◌++◌, slice_split, slice_split-cons_no, slice_split-cons_yes, length-slice_split, Colour, Rights, Parts, Square, square, Board, target_fits, ranks, is_slash, is_item, is_rank, is_placement, placement_of, side_text, side_of, rights_text, rights_of, target_text, target_of, is_digit, number_of, SpellsBoard, SpellsNumber, Fen, is_space, parts_or_fault, read, not-true}
 use Rattle.chess_text.proofs.positions.CanonicalSpells.{last_rules}
-use Rattle.chess_text.proofs.positions.TextToBoard.{slice_split-around}
 use Rattle.chess_text.proofs.positions.FieldsOfText.{lacks, first_of_two, six_fields}
 
 -- a byte that passes is not one that does not
@@ -28,6 +27,19 @@ joined_lacks (s ∷ []) g = first_of_two _ true g
 joined_lacks (s ∷ t ∷ ss) g =
     let both = and_parts (lacks is_space s) (list_all (lacks is_space) (t ∷ ss)) g in
     cc (list_all-append (λ c. not (is_space c)) s (47 ∷ join_with_byte 47 (t ∷ ss)), both.0, joined_lacks (t ∷ ss) both.1)
+
+-- What stands between the slashes of a text.
+
+onto_first-append : {X : Type 0} (x : X) (a b : List (List X)) → 0 < length a → onto_first x (a ++ b) ≡ onto_first x a ++ b
+onto_first-append x [] b h = absurd (omega arith)
+onto_first-append x (part ∷ a) b h = refl
+
+-- a text that is cut at one place more
+slice_split-around : {X : Type 0} (p : X → Bool) (xs : List X) (y : X) (ys : List X) → p y ≡ true
+    → slice_split p (xs ++ y ∷ ys) ≡ slice_split p xs ++ slice_split p ys
+slice_split-around p [] y ys h = slice_split-cons_yes p y ys h
+slice_split-around p (x ∷ xs) y ys h =
+    grind (arith, slice_split-cons_yes, slice_split-cons_no, length-slice_split, onto_first-append, slice_split-around p xs y ys h)
 
 one_part : (s : List ℕ) → lacks is_slash s ≡ true → ranks s ≡ s ∷ []
 one_part [] h = refl

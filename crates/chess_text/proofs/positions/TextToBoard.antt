@@ -1,154 +1,414 @@
--- The board that a text spells, rank by rank from its last one.
-use mathlib.Core.Bool.{and-true, and-false}
-use Rattle.chess_text.proofs.Words.{◌≡◌, ℕ, zero, suc, ◌+◌, ◌-◌, ◌*◌, ◌<◌, ◌≤◌, ◌==◌, Bool, true, false, ◌&&◌, List, [], ◌∷◌, ◌++◌, length, take, drop, reverse, inl, inr, refl, sym, ◌∙◌, ap, arith, append_assoc, length-append, None, Some, Result, Ok, Err, is_ok, is_err, flat_map, if◌then◌else◌, list_all, nat_tests, OnOk, false≢true, and_parts, and_left, and_right, false_from_ne_true, cond_some, cases_lt, take-take, length-take, take_rest, reverse-append, list_all-append, Board, ranks, is_item, is_rank, is_placement, cells_of, placement_of, ranks_before, get_or, drop-cons, slice_split, onto_first, take-append-drop, slice_split-cons_yes, slice_split-cons_no, length-slice_split, is_slash, nat_le, replicate, Option, take-replicate, list_all_at, length-flat_map-take, Piece, is_run, cells_at}
-use Rattle.std.specs.Bool.{OnTrue}
+-- The board that a text spells, rank by rank from its first one.
+use Rattle.std.proofs.Math.Seq.{set-append_seam}
+use Rattle.std.proofs.lemmas.List.{replicate-append-replicate, length-replicate}
+use Rattle.chess_text.specs.Letter.{piece_of}
+use Rattle.chess_text.specs.Placement.{one_cell}
+use Rattle.chess_text.proofs.Words.{◌≡◌, ℕ, zero, suc, ◌+◌, ◌-◌, ◌*◌, ◌<◌, ◌≤◌, ◌==◌, Bool, true, false, ◌&&◌, ◌||◌, List, [], ◌∷◌, ◌++◌, length, take, drop, set, reverse, reverse-append, inl, inr, refl, sym, ◌∙◌, ap, ap₂, subst, arith, append-nil, append_assoc, length-append, None, Some, flat_map, flat_map-append, if◌then◌else◌, list_all, nat_tests, nat_le, nat_lt, false≢true, false_from_ne_true, Board, Piece, Option, ranks, is_item, is_rank, cells_of, placement_of, get_or, drop-cons, drop_all, cases_lt, onto_first, slice_split-cons_no, length-slice_split, is_slash, is_space, is_some, before_first, position_or_len, replicate, is_run, cells_at, item}
 
-pub on_true_from_ok : {T E P Q : Type 0} (r : Result T E) (b : Bool) → b ≡ is_ok r → OnOk r P → (P → Q) → OnTrue b Q
-on_true_from_ok (Ok x) b e p f = rw e (f p)
-on_true_from_ok (Err x) b e p f = rw e tt
+-- The reading, byte by byte: `row` has the squares of the rank so far, `done` those of the ranks
+-- above.
 
--- What the bytes of a rank stand for.
+abbrev finish : Board → Board → Option Board
+finish row done = if (length row == 8) && (length done == 56) then Some (row ++ done) else None
 
-low : (c : ℕ) → is_run c ≡ true → c - 48 ≤ 8
-low c h = grind (arith, nat_tests)
+pub read_on : Board → Board → List ℕ → Option Board
+read_on row done [] = finish row done
+read_on row done (c ∷ s) =
+    if nat_le (length row + (item c).width) 8 then read_on (row ++ cells_at c) done s
+    else if is_slash c then (if (length row == 8) && nat_lt (length done) 56 then read_on [] (row ++ done) s else None)
+    else if is_space c then finish row done
+    else None
 
-pub cells_at-run : (c : ℕ) → is_run c ≡ true → cells_at c ≡ replicate (c - 48) None
-cells_at-run c h = rw h refl
+-- What a byte means.
 
--- as many cells of an empty rank as the digit says
-pub run_cells : (c : ℕ) → is_run c ≡ true
-    → take {A = Option Piece} (c - 48) (None ∷ None ∷ None ∷ None ∷ None ∷ None ∷ None ∷ None ∷ []) ≡ cells_at c
-run_cells c h = take-replicate _ 8 None (low c h) ∙ sym (cells_at-run c h)
+pub record Means (c : ℕ) : Type 0 where
+  pub cells : cells_at c ≡ (item c).content ∷ replicate ((item c).width - 1) None
+  pub width : (item c).width ≡ length (cells_at c)
 
--- a byte that is no item, or goes past the eighth square, stands in no rank
-pub no_rank : (s : List ℕ) (i : ℕ) → i < length s
-    → (is_item (get_or s i 0) && nat_le (length (cells_of (take i s)) + length (cells_at (get_or s i 0))) 8) ≡ false → is_rank s ≡ false
-no_rank s i h test =
-    let fails = list_all_at is_item s i 0 h in
-    let long = length-flat_map-take cells_at s i 0 h in
-    grind (arith, nat_tests)
+run_none : (c : ℕ) → is_run c ≡ true → piece_of c ≡ None
+run_none c h = grind (arith, nat_tests)
 
-pub no_cells : (s : List ℕ) → is_rank s ≡ false → None ≡ (if is_rank s then Some (cells_of s) else None)
-no_cells s h = rw h refl
+run_some : (c : ℕ) → is_run c ≡ true → 0 < c - 48
+run_some c h = grind (arith, nat_tests)
 
--- What stands between the slashes of a text.
+replicate_first : (w : ℕ) → 0 < w → replicate {A = Option Piece} w None ≡ None ∷ replicate (w - 1) None
+replicate_first zero some = absurd (omega arith)
+replicate_first (suc n) some = (let same : suc n - 1 ≡ n = omega arith in ap (λ k. None ∷ replicate k None) (sym same))
 
-onto_first-append : {X : Type 0} (x : X) (a b : List (List X)) → 0 < length a → onto_first x (a ++ b) ≡ onto_first x a ++ b
-onto_first-append x [] b h = absurd (omega arith)
-onto_first-append x (part ∷ a) b h = refl
+-- the squares of a run of that width, or else of the content
+abbrev cells_if : Bool → ℕ → Option Piece → Board
+cells_if run w o = if run then replicate w None else one_cell o
 
--- a text that is cut at one place more
-pub slice_split-around : {X : Type 0} (p : X → Bool) (xs : List X) (y : X) (ys : List X) → p y ≡ true
-    → slice_split p (xs ++ y ∷ ys) ≡ slice_split p xs ++ slice_split p ys
-slice_split-around p [] y ys h = slice_split-cons_yes p y ys h
-slice_split-around p (x ∷ xs) y ys h =
-    grind (arith, slice_split-cons_yes, slice_split-cons_no, length-slice_split, onto_first-append, slice_split-around p xs y ys h)
+abbrev width_if : Bool → ℕ → Option Piece → ℕ
+width_if run w o = if run then w else if is_some o then 1 else 9
 
--- the ranks of a text, where its last one begins at the byte n
-pub ranks_cut : (n : ℕ) (s : List ℕ) → 0 < n → n ≤ length s → get_or s (n - 1) 0 ≡ 47 → ranks (drop n s) ≡ drop n s ∷ []
-    → ranks s ≡ ranks_before n s ++ drop n s ∷ []
-ranks_cut zero s above within h one = absurd (omega arith)
-ranks_cut (suc m) s above within h one =
-    cc (
-      take-append-drop m s,
-      drop-cons s m 0 (omega arith),
-      slice_split-around is_slash (take m s) (get_or s m 0) (drop (suc m) s)
-          (let before : suc m - 1 ≡ m = omega arith in let e : get_or s m 0 ≡ 47 = ap (λ k. get_or s k 0) (sym before) ∙ h in rw e refl),
-    )
+means_if : (run : Bool) (w : ℕ) (o : Option Piece) → (run || is_some o) ≡ true → (run ≡ true → o ≡ None) → (run ≡ true → 0 < w)
+    → (cells_if run w o ≡ o ∷ replicate (width_if run w o - 1) None) × (width_if run w o ≡ length (cells_if run w o))
+means_if true w o h none some =
+    (replicate_first w (some refl) ∙ ap (λ x. x ∷ replicate (w - 1) None) (sym (none refl)), sym (length-replicate w None))
+means_if false w None h none some = absurd (false≢true h)
+means_if false w (Some x) h none some = (refl, refl)
 
--- the cells are those of the ranks that were read; those before are left
-pub record ReadSoFar (text : List ℕ) (left : ℕ) (cells : Board) : Type 0 where
-  pub within : left ≤ length text + 1
-  pub read : cells ++ flat_map cells_of (reverse (ranks_before left text)) ≡ flat_map cells_of (reverse (ranks text))
-  pub passed : list_all is_rank (ranks_before left text) ≡ list_all is_rank (ranks text)
-  pub count : length cells + 8 * length (ranks_before left text) ≡ 8 * length (ranks text)
+pub means : (c : ℕ) → is_item c ≡ true → Means c
+means c h =
+    let (cells, width) = means_if (is_run c) (c - 48) (piece_of c) h (run_none c) (run_some c) in
+    record { cells = cells; width = width }
 
--- one rank less is left
-pub ranks_left : (text : List ℕ) (left start : ℕ) → 0 < left → start ≤ length (take (left - 1) text)
-    → ranks (take (left - 1) text) ≡ ranks_before start (take (left - 1) text) ++ drop start (take (left - 1) text) ∷ []
-    → ranks_before left text ≡ ranks_before start text ++ drop start (take (left - 1) text) ∷ []
-ranks_left text zero start above within cut = absurd (omega arith)
-ranks_left text (suc n) start above within cut =
-    let same : suc n - 1 ≡ n = omega arith in
-    cc (earlier start within)
+no_width : (run : Bool) (w : ℕ) (o : Option Piece) → (run || is_some o) ≡ false → width_if run w o ≡ 9
+no_width run w o h = grind arith
+
+no_item : (c : ℕ) → is_item c ≡ false → (item c).width ≡ 9
+no_item c h = no_width (is_run c) (c - 48) (piece_of c) h
+
+too_wide : (c n : ℕ) → is_item c ≡ false → nat_le (n + (item c).width) 8 ≡ false
+too_wide c n h = (let w = no_item c h in grind (arith, nat_tests))
+
+space_is : (c : ℕ) → is_space c ≡ true → c ≡ 32
+space_is c h = grind arith
+
+slash_is : (c : ℕ) → is_slash c ≡ true → c ≡ 47
+slash_is c h = grind arith
+
+no_space : (c : ℕ) → is_space c ≡ true → (is_item c ≡ false) × (is_slash c ≡ false)
+no_space c h = subst (λ (d : ℕ). (is_item d ≡ false) × (is_slash d ≡ false)) (sym (space_is c h)) (refl, refl)
+
+item_no_space : (c : ℕ) → is_item c ≡ true → is_space c ≡ false
+item_no_space c h = false_from_ne_true (is_space c) (λ e. false≢true (sym (no_space c e).0 ∙ h))
+
+no_slash : (c : ℕ) → is_slash c ≡ true → is_item c ≡ false
+no_slash c h = subst (λ (d : ℕ). is_item d ≡ false) (sym (slash_is c h)) refl
+
+-- The same by the texts of the ranks.
+
+abbrev fit : Board → Board → List ℕ → List (List ℕ) → Bool
+fit row done rank below =
+    (list_all is_item rank && (length row + length (cells_of rank) == 8)) && (list_all is_rank below && (length done + 8 * suc (length below) == 64))
+
+abbrev joined : Board → Board → List (List ℕ) → Option Board
+joined row done [] = None
+joined row done (rank ∷ below) =
+    if fit row done rank below then Some (flat_map cells_of (reverse below) ++ ((row ++ cells_of rank) ++ done)) else None
+
+before-yes : (c : ℕ) (s : List ℕ) → is_space c ≡ true → before_first is_space (c ∷ s) ≡ []
+before-yes c s h = rw h refl
+
+before-no : (c : ℕ) (s : List ℕ) → is_space c ≡ false → before_first is_space (c ∷ s) ≡ c ∷ before_first is_space s
+before-no c s h =
+    let next : position_or_len is_space (c ∷ s) ≡ suc (position_or_len is_space s) = rw h (omega arith) in
+    ap (λ n. take n (c ∷ s)) next
+
+if_same : {X : Type 0} (a b : Bool) (v w : X) → a ≡ b → v ≡ w → (if a then Some v else None) ≡ (if b then Some w else None)
+if_same a b v w e f = ap₂ (λ x y. if x then Some y else None) e f
+
+at_end : (row done : Board) → finish row done ≡ joined row done ([] ∷ [])
+at_end row done =
+    if_same _ _ _ _ (tests (length row) (length done)) (ap (λ b. b ++ done) (sym (append-nil row)))
   where
-    earlier : (k : ℕ) → k ≤ length (take (suc n - 1) text) → ranks_before k (take (suc n - 1) text) ≡ ranks_before k text
-    earlier zero low = refl
-    earlier (suc k) low = cc (take-take k (suc n - 1) text (omega (arith, length-take (suc n - 1) text)))
+    tests : (m n : ℕ) → ((m == 8) && (n == 56)) ≡ ((true && (m + 0 == 8)) && (true && (n + 8 * 1 == 64)))
+    tests m n = grind (arith, nat_tests)
 
-list_all-last : (before : List (List ℕ)) (last : List ℕ)
-    → list_all is_rank (before ++ last ∷ []) ≡ (list_all is_rank before && is_rank last)
-list_all-last before last = cc (list_all-append is_rank before _, and-true _)
+-- the first rank of the text is the last one of the board
+first_last : (rank : List ℕ) (below : List (List ℕ)) → flat_map cells_of (reverse (rank ∷ below)) ≡ flat_map cells_of (reverse below) ++ cells_of rank
+first_last rank below =
+    ap (flat_map cells_of) (reverse-append (rank ∷ []) below) ∙ flat_map-append cells_of (reverse below) (rank ∷ [])
+    ∙ ap (λ b. flat_map cells_of (reverse below) ++ b) (append-nil (cells_of rank))
 
-cells-last : (before : List (List ℕ)) (last : List ℕ)
-    → flat_map cells_of (reverse (before ++ last ∷ [])) ≡ cells_of last ++ flat_map cells_of (reverse before)
-cells-last before last = cc (reverse-append before _)
+nested : {X : Type 0} (a b : Bool) (v : X) → (if a then (if b then Some v else None) else None) ≡ (if a && b then Some v else None)
+nested true b v = refl
+nested false b v = refl
 
-pub eight_cells : (s : List ℕ) → is_rank s ≡ true → length (cells_of s) ≡ 8
-eight_cells s h = let e = (and_parts (list_all is_item s) _ h).1 in grind (arith, nat_tests)
+-- a slash
+with_slash : (row done : Board) (texts : List (List ℕ)) → 0 < length texts
+    → (if (length row == 8) && nat_lt (length done) 56 then joined [] (row ++ done) texts else None) ≡ joined row done ([] ∷ texts)
+with_slash row done [] some = absurd (omega arith)
+with_slash row done (rank ∷ below) some =
+    both (length row) (length done) (length (row ++ done)) (length (cells_of rank)) (length below) (list_all is_item rank) (list_all is_rank below) _ _
+    (length-append row done) cells
+  where
+    cells : flat_map cells_of (reverse below) ++ (cells_of rank ++ (row ++ done))
+        ≡ flat_map cells_of (reverse (rank ∷ below)) ++ ((row ++ []) ++ done)
+    cells =
+        ap (λ b. flat_map cells_of (reverse below) ++ (cells_of rank ++ (b ++ done))) (sym (append-nil row))
+        ∙ sym (append_assoc (flat_map cells_of (reverse below)) (cells_of rank) ((row ++ []) ++ done))
+        ∙ ap (λ b. b ++ ((row ++ []) ++ done)) (sym (first_last rank below))
 
-nothing : (s : List ℕ) → is_placement s ≡ false → None ≡ placement_of s
-nothing s h = rw h refl
+    tests : (m n mn k l : ℕ) (items good : Bool) → mn ≡ m + n
+        → (((m == 8) && nat_lt n 56) && ((items && (0 + k == 8)) && (good && (mn + 8 * suc l == 64))))
+        ≡ ((true && (m + 0 == 8)) && (((items && (k == 8)) && good) && (n + 8 * suc (suc l) == 64)))
+    tests m n mn k l items good e = grind (arith, nat_tests)
 
-not_eight : (n m : ℕ) → 64 < m → m ≤ 8 * n → (n == 8) ≡ false
-not_eight n m h g = grind (arith, nat_tests)
+    both : (m n mn k l : ℕ) (items good : Bool) (v w : Board) → mn ≡ m + n → v ≡ w
+        → (if (m == 8) && nat_lt n 56 then (if (items && (0 + k == 8)) && (good && (mn + 8 * suc l == 64)) then Some v else None) else None)
+        ≡ (if (true && (m + 0 == 8)) && (((items && (k == 8)) && good) && (n + 8 * suc (suc l) == 64)) then Some w else None)
+    both m n mn k l items good v w e f = nested _ _ v ∙ if_same _ _ v w (tests m n mn k l items good e) f
 
--- where the last of the ranks that are left begins
-module _ (text : List ℕ) (left start : ℕ) (cells : Board) (last : List ℕ) (so_far : ReadSoFar text left cells)
-    (split : ranks_before left text ≡ ranks_before start text ++ last ∷ []) where
-  -- what is left when it is read
-  pub goes_on : start ≤ length text + 1 → is_rank last ≡ true → ReadSoFar text start (cells ++ cells_of last)
-  goes_on low good =
+-- a digit or a letter
+with_item : (row done : Board) (c : ℕ) (texts : List (List ℕ)) → 0 < length texts → is_item c ≡ true
+    → (if nat_le (length row + (item c).width) 8 then joined (row ++ cells_at c) done texts else None) ≡ joined row done (onto_first c texts)
+with_item row done c [] some good = absurd (omega arith)
+with_item row done c (rank ∷ below) some good =
+    let means_c = means c good in
+    nested (nat_le (length row + (item c).width) 8) (fit (row ++ cells_at c) done rank below) _
+    ∙ if_same _ _ _ _
+    (tests (length row) (item c).width (length (row ++ cells_at c)) (length (cells_of rank)) (length (cells_at c ++ cells_of rank))
+    (is_item c) (list_all is_item rank) (list_all is_rank below && (length done + 8 * suc (length below) == 64)) good
+    (omega (arith, length-append row (cells_at c), means_c.width)) (omega (arith, length-append (cells_at c) (cells_of rank), means_c.width)))
+    (ap (λ b. flat_map cells_of (reverse below) ++ (b ++ done)) (append_assoc row (cells_at c) (cells_of rank)))
+  where
+    tests : (m w mw k wk : ℕ) (first items rest : Bool) → first ≡ true → mw ≡ m + w → wk ≡ w + k
+        → (nat_le (m + w) 8 && ((items && (mw + k == 8)) && rest)) ≡ (((first && items) && (m + wk == 8)) && rest)
+    tests m w mw k wk first items rest h e f = grind (arith, nat_tests)
+
+-- any other byte
+with_other : (row done : Board) (c : ℕ) (texts : List (List ℕ)) → 0 < length texts → is_item c ≡ false
+    → None ≡ joined row done (onto_first c texts)
+with_other row done c [] some bad = absurd (omega arith)
+with_other row done c (rank ∷ below) some bad = rw bad refl
+
+some_rank : (s : List ℕ) → 0 < length (ranks s)
+some_rank s = omega (arith, length-slice_split is_slash s)
+
+read_byte : (row done : Board) (c : ℕ) (s : List ℕ) → ((r d : Board) → read_on r d s ≡ joined r d (ranks (before_first is_space s)))
+    → (x y z : Bool) → is_space c ≡ x → is_slash c ≡ y → is_item c ≡ z
+    → read_on row done (c ∷ s) ≡ joined row done (ranks (before_first is_space (c ∷ s)))
+unfolding read_on
+read_byte row done c s later true y z e f g =
+    let (no_item, no_slash) = no_space c e in
+    rw (before-yes c s e, too_wide c (length row) no_item, no_slash, e) (at_end row done)
+read_byte row done c s later false true z e f g =
+    rw (before-no c s e, too_wide c (length row) (no_slash c f), f, later [] (row ++ done))
+    (with_slash row done (ranks (before_first is_space s)) (some_rank (before_first is_space s)))
+read_byte row done c s later false false true e f g =
+    let step : read_on row done (c ∷ s) ≡ (if nat_le (length row + (item c).width) 8 then read_on (row ++ cells_at c) done s else None) = rw (f, e) refl in
+    step ∙ ap (λ o. if nat_le (length row + (item c).width) 8 then o else None) (later (row ++ cells_at c) done)
+    ∙ with_item row done c (ranks (before_first is_space s)) (some_rank (before_first is_space s)) g
+    ∙ sym (ap (λ t. joined row done (ranks t)) (before-no c s e) ∙ ap (joined row done) (slice_split-cons_no is_slash c (before_first is_space s) f))
+read_byte row done c s later false false false e f g =
+    rw (before-no c s e, too_wide c (length row) g, f, e)
+    (with_other row done c (ranks (before_first is_space s)) (some_rank (before_first is_space s)) g)
+
+read_is : (row done : Board) (s : List ℕ) → read_on row done s ≡ joined row done (ranks (before_first is_space s))
+unfolding read_on
+read_is row done [] = at_end row done
+read_is row done (c ∷ s) = read_byte row done c s (λ r d. read_is r d s) (is_space c) (is_slash c) (is_item c) refl refl refl
+
+pub placement_is : (s : List ℕ) → read_on [] [] s ≡ placement_of (before_first is_space s)
+placement_is s = read_is [] [] s ∙ of_texts (ranks (before_first is_space s)) (some_rank (before_first is_space s))
+  where
+    tests : (k l : ℕ) (items good : Bool)
+        → ((items && (0 + k == 8)) && (good && (0 + 8 * suc l == 64))) ≡ ((suc l == 8) && ((items && (k == 8)) && good))
+    tests k l items good = grind (arith, nat_tests)
+
+    of_texts : (texts : List (List ℕ)) → 0 < length texts
+        → joined [] [] texts ≡ (if (length texts == 8) && list_all is_rank texts then Some (flat_map cells_of (reverse texts)) else None)
+    of_texts [] some = absurd (omega arith)
+    of_texts (rank ∷ below) some =
+        if_same _ _ _ _ (tests (length (cells_of rank)) (length below) (list_all is_item rank) (list_all is_rank below))
+        (ap (λ b. flat_map cells_of (reverse below) ++ b) (append-nil (cells_of rank)) ∙ sym (first_last rank below))
+
+-- One byte.
+
+on_item : (row done : Board) (c : ℕ) (s : List ℕ) → length row + (item c).width ≤ 8
+    → read_on row done (c ∷ s) ≡ read_on (row ++ cells_at c) done s
+unfolding read_on
+on_item row done c s h = let fits : nat_le (length row + (item c).width) 8 ≡ true = grind (arith, nat_tests) in rw fits refl
+
+on_slash : (row done : Board) (c : ℕ) (s : List ℕ) → is_slash c ≡ true → length row ≡ 8 → length done < 56
+    → read_on row done (c ∷ s) ≡ read_on [] (row ++ done) s
+unfolding read_on
+on_slash row done c s h full more =
+    let all : (length row == 8) && nat_lt (length done) 56 ≡ true = grind (arith, nat_tests) in
+    rw (too_wide c (length row) (no_slash c h), h, all) refl
+
+on_space : (row done : Board) (c : ℕ) (s : List ℕ) → is_space c ≡ true → read_on row done (c ∷ s) ≡ finish row done
+unfolding read_on
+on_space row done c s h = let (bad, apart) = no_space c h in rw (too_wide c (length row) bad, apart, h) refl
+
+on_other : (row done : Board) (c : ℕ) (s : List ℕ) → 8 < length row + (item c).width
+    → (is_slash c && ((length row == 8) && nat_lt (length done) 56)) ≡ false
+    → (is_space c && ((length row == 8) && (length done == 56))) ≡ false → read_on row done (c ∷ s) ≡ None
+unfolding read_on
+on_other row done c s wide h g =
+    let no : nat_le (length row + (item c).width) 8 ≡ false = grind (arith, nat_tests) in
+    rw no (none (is_slash c) ((length row == 8) && nat_lt (length done) 56) (is_space c) ((length row == 8) && (length done == 56)) _ _ h g)
+  where
+    none : (x a y b : Bool) (v w : Option Board) → (x && a) ≡ false → (y && b) ≡ false
+        → (if x then (if a then v else None) else if y then (if b then w else None) else None) ≡ None
+    none x a y b v w h g = grind arith
+
+-- The reading in the code.
+
+-- The board has the squares that are read; the others are empty. `above` is how many ranks are left
+-- below.
+pub record ReadSoFar (text : List ℕ) (i : ℕ) (board : Board) (rank file : ℕ) : Type 0 where
+  pub row : Board
+  pub done : Board
+  pub below : ℕ
+  pub cells : board ≡ replicate rank None ++ (row ++ (replicate (8 - file) None ++ done))
+  pub long : length row ≡ file
+  pub narrow : file ≤ 8
+  pub left : length done + rank ≡ 56
+  pub whole : rank ≡ 8 * below
+  pub rest : read_on row done (drop i text) ≡ read_on [] [] text
+  pub no_space : (k : ℕ) → k < i → is_space (get_or text k 0) ≡ false
+
+pub nothing_read : (text : List ℕ) (board : Board) → board ≡ replicate 64 None → ReadSoFar text 0 board 56 0
+nothing_read text board h =
+    record {
+      row = [];
+      done = [];
+      below = 7;
+      cells = h;
+      long = refl;
+      narrow = omega arith;
+      left = refl;
+      whole = refl;
+      rest = refl;
+      no_space = λ k low. absurd (omega arith);
+    }
+
+-- the end of the field
+finished : (text : List ℕ) (i : ℕ) (board : Board) (rank file : ℕ) (so_far : ReadSoFar text i board rank file)
+    → finish so_far.row so_far.done ≡ read_on [] [] text
+    → placement_of (before_first is_space text) ≡ (if (file == 8) && (rank == 0) then Some board else None)
+finished text i board rank file so_far h =
+    sym (placement_is text) ∙ sym h ∙ by_count ((file == 8) && (rank == 0)) refl
+  where
+    tests : (m n : ℕ) → m ≡ file → n + rank ≡ 56 → ((m == 8) && (n == 56)) ≡ ((file == 8) && (rank == 0))
+    tests m n e f = grind (arith, nat_tests)
+
+    full : (file == 8) && (rank == 0) ≡ true → (file ≡ 8) × (rank ≡ 0)
+    full e = grind arith
+
+    all_read : file ≡ 8 → rank ≡ 0 → board ≡ so_far.row ++ so_far.done
+    all_read e f =
+        let none : 8 - file ≡ 0 = omega (arith, e) in
+        so_far.cells ∙ ap₂ (λ m n. replicate m None ++ (so_far.row ++ (replicate n None ++ so_far.done))) f none
+
+    by_count : (x : Bool) → ((file == 8) && (rank == 0)) ≡ x
+        → finish so_far.row so_far.done ≡ (if (file == 8) && (rank == 0) then Some board else None)
+    by_count true e =
+        let (eight, zero_rank) = full e in
+        if_same _ _ _ _ (tests _ _ so_far.long so_far.left) (sym (all_read eight zero_rank))
+    by_count false e =
+        let same = tests _ _ so_far.long so_far.left in
+        rw (same, e) refl
+
+-- an item is put on the first square that is left
+put_item : (before row rest : Board) (n k : ℕ) (x : Option Piece) → k ≡ length (before ++ row)
+    → set (before ++ (row ++ ((None ∷ replicate n None) ++ rest))) k x ≡ before ++ ((row ++ (x ∷ replicate n None)) ++ rest)
+put_item before row rest n k x h =
+    ap₂ (λ b j. set b j x) (sym (append_assoc before row ((None ∷ replicate n None) ++ rest))) h
+    ∙ set-append_seam (before ++ row) None (replicate n None ++ rest) x
+    ∙ append_assoc before row (x ∷ (replicate n None ++ rest))
+    ∙ ap (λ b. before ++ b) (sym (append_assoc row (x ∷ replicate n None) rest))
+
+empty_squares : (n w : ℕ) → 0 < w → w ≤ n → replicate {A = Option Piece} n None ≡ (None ∷ replicate (w - 1) None) ++ replicate (n - w) None
+empty_squares n w some fits =
+    let sum : n ≡ w + (n - w) = omega arith in
+    ap (λ k. replicate k None) sum ∙ sym (replicate-append-replicate w (n - w) None)
+    ∙ ap (λ b. b ++ replicate (n - w) None) (replicate_first w some)
+
+-- the next byte
+module _ (text : List ℕ) (i : ℕ) (board : Board) (rank file : ℕ) (so_far : ReadSoFar text i board rank file) (low : i < length text) where
+  abbrev pub byte : ℕ
+  byte = get_or text i 0
+
+  -- what is read from this byte on
+  here : read_on so_far.row so_far.done (byte ∷ drop (suc i) text) ≡ read_on [] [] text
+  here = ap (read_on so_far.row so_far.done) (sym (drop-cons text i 0 low)) ∙ so_far.rest
+
+  next : i + 1 ≡ suc i
+  next = omega arith
+
+  no_space_here : is_space byte ≡ false → (k : ℕ) → k < i + 1 → is_space (get_or text k 0) ≡ false
+  no_space_here h k less = elim (cases_lt k i) [ inl before ↦ so_far.no_space k before | inr after ↦ (let same : k ≡ i = omega arith in ap (λ n. is_space (get_or text n 0)) same ∙ h) ]
+
+  is_item_here : file + (item byte).width ≤ 8 → is_item byte ≡ true
+  is_item_here fits = by_item (is_item byte) refl
+    where
+      by_item : (x : Bool) → is_item byte ≡ x → x ≡ true
+      by_item true e = refl
+      by_item false e = absurd (omega (arith, no_item byte e))
+
+  -- a digit or a letter
+  pub item_read : file + (item byte).width ≤ 8 → ReadSoFar text (i + 1) (set board (rank + file) (item byte).content) rank (file + (item byte).width)
+  item_read fits =
+      let good = is_item_here fits in
+      let means_byte = means byte good in
+      let some : 0 < (item byte).width = omega (arith, means_byte.width, ap length means_byte.cells) in
+      let room : (item byte).width ≤ 8 - file = omega (arith, fits, so_far.narrow) in
+      let left_over : 8 - file - (item byte).width ≡ 8 - (file + (item byte).width) = omega arith in
       record {
-        within = low;
-        read = cc (
-          append_assoc cells (cells_of last) (flat_map cells_of (reverse (ranks_before start text))),
-          cells-last (ranks_before start text) last,
-        );
-        passed = cc (list_all-last (ranks_before start text) last, and-true (list_all is_rank (ranks_before start text)));
-        count = omega (
-          arith,
-          length-append cells (cells_of last),
-          eight_cells last good,
-          ap length split,
-          length-append (ranks_before start text) (last ∷ []),
-        );
+        row = so_far.row ++ cells_at byte;
+        done = so_far.done;
+        below = so_far.below;
+        cells =
+            ap (λ b. set b (rank + file) (item byte).content)
+            (so_far.cells ∙ ap (λ b. replicate rank None ++ (so_far.row ++ b)) (ap (λ b. b ++ so_far.done) (empty_squares (8 - file) (item byte).width some room)
+            ∙ append_assoc (None ∷ replicate ((item byte).width - 1) None) (replicate (8 - file - (item byte).width) None) so_far.done))
+            ∙ put_item (replicate rank None) so_far.row (replicate (8 - file - (item byte).width) None ++ so_far.done) ((item byte).width - 1) (rank + file) (item byte).content
+            (omega (arith, length-append (replicate {A = Option Piece} rank None) so_far.row, length-replicate {A = Option Piece} rank None, so_far.long))
+            ∙ ap₂ (λ b k. replicate rank None ++ ((so_far.row ++ b) ++ (replicate k None ++ so_far.done))) (sym means_byte.cells) left_over;
+        long = omega (arith, length-append so_far.row (cells_at byte), so_far.long, means_byte.width);
+        narrow = fits;
+        left = so_far.left;
+        whole = so_far.whole;
+        rest =
+            ap (λ k. read_on (so_far.row ++ cells_at byte) so_far.done (drop k text)) next
+            ∙ sym (on_item so_far.row so_far.done byte (drop (suc i) text) (omega (arith, fits, so_far.long))) ∙ here;
+        no_space = no_space_here (item_no_space byte good);
       }
 
-  -- a rank that is none
-  pub no_placement : is_rank last ≡ false → None ≡ placement_of text
-  no_placement bad =
-      let none : list_all is_rank (ranks text) ≡ false =
-      cc (list_all-last (ranks_before start text) last, and-false (list_all is_rank (ranks_before start text))) in
-      nothing text (and_right (length (ranks text) == 8) _ none)
+  -- a slash after eight squares
+  pub slash_read : byte ≡ 47 → file ≡ 8 → 0 < rank → ReadSoFar text (i + 1) board (rank - 8) 0
+  slash_read h full more =
+      let slash : is_slash byte ≡ true = ap is_slash h in
+      let nine : rank ≡ (rank - 8) + 8 = omega (arith, so_far.whole, more) in
+      record {
+        row = [];
+        done = so_far.row ++ so_far.done;
+        below = so_far.below - 1;
+        cells =
+            so_far.cells
+            ∙ ap₂ (λ m n. replicate m None ++ (so_far.row ++ (replicate (8 - n) None ++ so_far.done))) nine full
+            ∙ ap (λ b. b ++ (so_far.row ++ so_far.done)) (sym (replicate-append-replicate (rank - 8) 8 None))
+            ∙ append_assoc (replicate (rank - 8) None) (replicate 8 None) (so_far.row ++ so_far.done);
+        long = refl;
+        narrow = omega arith;
+        left = omega (arith, length-append so_far.row so_far.done, so_far.long, so_far.left, full, nine);
+        whole = omega (arith, so_far.whole, more);
+        rest =
+            ap (λ k. read_on [] (so_far.row ++ so_far.done) (drop k text)) next
+            ∙ sym (on_slash so_far.row so_far.done byte (drop (suc i) text) slash (so_far.long ∙ full) (omega (arith, so_far.left, more))) ∙ here;
+        no_space = no_space_here (ap is_space h);
+      }
 
-  -- a rank more than eight
-  pub too_many_ranks : 64 < length cells + 8 → None ≡ placement_of text
-  too_many_ranks full =
-      let more : length cells + 8 ≤ 8 * length (ranks text) =
-      omega (arith, ap length split, length-append (ranks_before start text) (last ∷ [])) in
-      nothing text (and_left (length (ranks text) == 8) _ (not_eight _ _ full more))
+  -- a space
+  pub space_read : byte ≡ 32 → placement_of (before_first is_space text) ≡ (if (file == 8) && (rank == 0) then Some board else None)
+  space_read h =
+      finished text i board rank file so_far (sym (on_space so_far.row so_far.done byte (drop (suc i) text) (ap is_space h)) ∙ here)
 
--- what `read_rank` answers of the last rank, where the bytes from i on are handed to it
-pub rank_missing : (s : List ℕ) (i : ℕ)
-    → None ≡ (if is_rank (take (length s - i) (drop i s)) then Some (cells_of (take (length s - i) (drop i s))) else None)
-    → is_rank (drop i s) ≡ false
-rank_missing s i h = let g = rw (take_rest s i) at h in false_from_ne_true _ (λ e. cc)
+  -- any other byte
+  pub other_read : 8 < file + (item byte).width → ((byte == 47) && ((file == 8) && nat_lt 0 rank)) ≡ false
+      → ((byte == 32) && ((file == 8) && (rank == 0))) ≡ false → placement_of (before_first is_space text) ≡ None
+  other_read wide no_slash no_space =
+      sym (placement_is text) ∙ sym here
+      ∙ on_other so_far.row so_far.done byte (drop (suc i) text) (omega (arith, wide, so_far.long))
+      (slash_tests byte (length so_far.row) (length so_far.done) so_far.long so_far.left no_slash)
+      (space_tests byte (length so_far.row) (length so_far.done) so_far.long so_far.left no_space)
+    where
+      slash_tests : (c m n : ℕ) → m ≡ file → n + rank ≡ 56 → ((c == 47) && ((file == 8) && nat_lt 0 rank)) ≡ false
+          → (is_slash c && ((m == 8) && nat_lt n 56)) ≡ false
+      slash_tests c m n e f h = grind (arith, nat_tests)
 
-pub record RankRead (s : List ℕ) (b : Board) : Type 0 where
-  pub good : is_rank s ≡ true
-  pub cells : b ≡ cells_of s
+      space_tests : (c m n : ℕ) → m ≡ file → n + rank ≡ 56 → ((c == 32) && ((file == 8) && (rank == 0))) ≡ false
+          → (is_space c && ((m == 8) && (n == 56))) ≡ false
+      space_tests c m n e f h = grind (arith, nat_tests)
 
-pub rank_there : (s : List ℕ) (i : ℕ) (b : Board)
-    → Some b ≡ (if is_rank (take (length s - i) (drop i s)) then Some (cells_of (take (length s - i) (drop i s))) else None)
-    → RankRead (drop i s) b
-rank_there s i b h = let (good, cells) = cond_some _ _ b (sym (rw (take_rest s i) at h)) in record { good = good; cells = sym cells }
-
--- a call that fails where n is too much
-pub beyond : {T E : Type 0} (r : Result T E) (b : Bool) (n m : ℕ) → b ≡ is_err r → b ≡ true → (n ≤ m → is_ok r ≡ true) → m < n
-beyond (Ok x) b n m e h fits = absurd (false≢true (sym e ∙ h))
-beyond (Err x) b n m e h fits = elim (cases_lt m n) [ inl low ↦ low | inr high ↦ absurd (false≢true (fits high)) ]
-
-pub when_no_err : {T E P : Type 0} (r : Result T E) (b : Bool) → b ≡ is_err r → b ≡ false → OnOk r P → P
-when_no_err (Ok x) b e h p = p
-when_no_err (Err x) b e h p = absurd (false≢true (sym h ∙ e))
+-- the end of the text
+pub end_read : (text : List ℕ) (i : ℕ) (board : Board) (rank file : ℕ) → ReadSoFar text i board rank file → length text ≤ i
+    → placement_of (before_first is_space text) ≡ (if (file == 8) && (rank == 0) then Some board else None)
+unfolding read_on
+end_read text i board rank file so_far end =
+    finished text i board rank file so_far (ap (read_on so_far.row so_far.done) (sym (drop_all i text end)) ∙ so_far.rest)

@@ -1,0 +1,6 @@
+use Rattle.std.proofs.Common.{refl}
+use Rattle.chess_text.specs.Items.{item}
+use Rattle.chess_text.proofs.item.item_of.Goals as goal
+
+pub returns : goal.returns
+returns c = Rattle.chess_text.proofs.positions.TableOfItems.table_at item _ _ _ refl c.ranges.byte.fits
