@@ -1,10 +1,10 @@
 -- Escapes of a value, byte after byte.
 use Rattle.std.proofs.lemmas.Grind.{common_steps}
-use Rattle.std.proofs.Common.{◌≡◌, ℕ, ◌+◌, ◌<◌, ◌≤◌, List, [], ◌∷◌, ◌++◌, length, take, drop, get_or, ap, sym}
+use Rattle.std.proofs.Common.{◌≡◌, ℕ, ◌+◌, ◌<◌, ◌≤◌, Bool, true, false, if◌then◌else◌, List, [], ◌∷◌, ◌++◌, length, take, drop, get_or, ap, sym}
 use Rattle.std.proofs.Common.{◌∙◌, add-one, append_assoc, append-nil, length-append, arith, refl}
 use Rattle.std.proofs.Math.Seq.{take-suc}
 use Rattle.std.proofs.lemmas.List.{take-append-drop}
-use Rattle.pgn_layout.specs.TagLine.{escape_of, escaped}
+use Rattle.pgn_layout.specs.TagLine.{needs_escape, escape_of, escaped}
 
 escaped-append : (xs ys : List ℕ) → escaped (xs ++ ys) ≡ escaped xs ++ escaped ys
 escaped-append [] ys = refl
@@ -35,3 +35,15 @@ pub line_fits : (front value line : List ℕ) (i : ℕ) → i < length value →
     → length line + length (escape_of (get_or value i 0)) ≤ length front + length (escaped value)
 line_fits front value line i h e =
     omega (arith, ap length e, length-append {A = ℕ}, length_escaped-take value i h, length_escaped-front value (i + 1))
+
+-- no byte has a text of more than two
+two_at_most : (e : Bool) (b : ℕ) → length (if e then 92 ∷ b ∷ [] else b ∷ []) ≤ 2
+two_at_most true b = omega arith
+two_at_most false b = omega arith
+
+-- so escapes make a value at most twice as long
+pub length_escaped-le : (value : List ℕ) → length (escaped value) ≤ length value + length value
+length_escaped-le [] = omega arith
+length_escaped-le (b ∷ bs) =
+    let rest = length_escaped-le bs in
+    omega (arith, two_at_most (needs_escape b) b, length-append (escape_of b) (escaped bs))

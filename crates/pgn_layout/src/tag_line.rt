@@ -23,6 +23,10 @@ pub fn fits_tag_line(name: &[u8], value: &[u8]) -> bool
         return false;
     }
     let mut room = NAME_AND_VALUE_LENGTH - name.len();
+    // No byte counts as more than two, so most values fit without a look at theirs.
+    if value.len() <= room / 2 {
+        return true;
+    }
     for &byte in value {
         let length = written_length(byte);
         if room < length {

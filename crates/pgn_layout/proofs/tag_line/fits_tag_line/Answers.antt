@@ -1,6 +1,12 @@
-use Rattle.std.proofs.Common.{◌+◌, arith}
-use Rattle.pgn_layout.proofs.EscapedBytes.{length_escaped-take, length_escaped-front}
+use Rattle.std.proofs.Common.{◌+◌, arith, refl}
+use Rattle.pgn_layout.proofs.EscapedBytes.{length_escaped-take, length_escaped-front, length_escaped-le}
 use Rattle.pgn_layout.proofs.tag_line.fits_tag_line.Goals as goal
+
+pub returns-then-value-room : goal.returns-then-value-room
+returns-then-value-room c = (
+  λ h. omega (arith, length_escaped-le c.args.value.now, c.if-name-gt-NAME_AND_VALUE_LENGTH.false, c.if-value-room.true),
+  λ fits. refl,
+)
 
 pub returns-then-room-length : goal.returns-then-room-length
 returns-then-room-length c = (
