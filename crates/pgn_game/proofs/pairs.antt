@@ -5,4 +5,5 @@ pub mod NameOrder
 pub mod PairsToFirstPosition
 pub mod SectionByLines
 pub mod SortedPairs
+pub mod StoredPlaces
 pub mod ValuesByName

@@ -1,43 +1,67 @@
 -- **Bookkeeping**: how tag pairs are stored.
--- Those that are complete come first, in order. The one whose value is still to come is last.
--- Behind these may be pairs of earlier games, which no contract sees.
-use Rattle.std.specs.Prelude.{ℕ, ◌+◌, ◌≤◌, ◌<◌, IsTrue, Bool, true, false, List, [], ◌∷◌, length, drop, Option, None, Some}
+-- They lie as they were read. The order of their names is kept beside them. The one whose value is
+-- still to come lies behind those that are complete. Behind these may be pairs of earlier games,
+-- which no contract sees.
+use Rattle.std.specs.Prelude.{ℕ, ◌+◌, ◌≤◌, ◌<◌, ◌≡◌, IsTrue, Bool, true, false, List, [], ◌∷◌, length, drop, map, slice_index_or, Option, None, Some}
+use Rattle.std.specs.List.{AllByRecursion}
 use Rattle.pgn_layout.specs.TagLine.{escaped}
-use Rattle.pgn_game.specs.Pairs.{Pair, comes_before}
+use Rattle.pgn_game.specs.Pairs.{Pair, comes_before, has_pair}
 
 -- what a contract sees: the pairs that are whole, and the name whose value is still to come
 pub record TagPairs : Type 0 where
   pub held : List Pair
   pub pending_name : Option (List ℕ)
 
--- the name of the last pair
-abbrev pub last_name : List Pair → Option (List ℕ)
-last_name [] = None
-last_name (p ∷ []) = Some p.name
-last_name (p ∷ q ∷ ps) = last_name (q ∷ ps)
+-- the pair that is stored at a place, or an empty one
+abbrev pub pair_at : List Pair → ℕ → Pair
+pair_at ps i = slice_index_or ps i (record { name = []; value = [] })
 
--- all but the last
-abbrev pub but_last : List Pair → List Pair
-but_last [] = []
-but_last (p ∷ []) = []
-but_last (p ∷ q ∷ ps) = p ∷ but_last (q ∷ ps)
+-- the pairs that are stored at these places
+abbrev pub placed : List Pair → List ℕ → List Pair
+placed ps order = map (pair_at ps) order
 
--- with a flag whether the last one has only begun
-abbrev pub pairs_seen : List Pair → Bool → TagPairs
-pairs_seen ps true = record { held = but_last ps; pending_name = last_name ps }
-pairs_seen ps false = record { held = ps; pending_name = None }
+-- with the pair behind them, if it has begun
+abbrev pub pairs_seen : List Pair → Pair → Bool → TagPairs
+pairs_seen held p true = record { held = held; pending_name = Some p.name }
+pairs_seen held p false = record { held = held; pending_name = None }
 
 -- the index that a name has in the order of names: how many pairs come before it
 abbrev pub index_of : List ℕ → List Pair → ℕ
 index_of name [] = 0
 index_of name (p ∷ ps) = elim (comes_before name p.name) [ true ↦ 0 | false ↦ 1 + index_of name ps ]
 
--- How the pairs are stored: at most so many. The first `count` belong to the game, and there is one
--- of these if a name has no value yet.
-pub record FitsPairStore (most : ℕ) (ps : List Pair) (count : ℕ) (has_pending_name : Bool) : Type 0 where
+-- pairs whose names come after this one
+abbrev pub AllAfter : List ℕ → List Pair → Type 0
+AllAfter name qs = AllByRecursion (λ q. comes_before name q.name ≡ true) qs
+
+-- pairs in the order of their names, no name twice
+abbrev pub InOrder : List Pair → Type 0
+InOrder [] = Unit {0}
+InOrder (q ∷ qs) = AllAfter q.name qs × InOrder qs
+
+-- places that are below this one
+abbrev pub AllBelow : ℕ → List ℕ → Type 0
+AllBelow n order = AllByRecursion (λ i. i < n) order
+
+-- the places of pairs, in the order of their names
+pub record AreInOrder (ps : List Pair) (order : List ℕ) : Type 0 where
+  pub within : AllBelow (length ps) order
+  pub in_order : InOrder (placed ps order)
+
+-- a pair that has begun: it is stored, and is new at its place among the others
+pub record HasBegun (ps : List Pair) (order : List ℕ) (place : ℕ) : Type 0 where
+  pub within : length order < length ps
+  pub new : has_pair (placed ps order) (pair_at ps (length order)).name ≡ false
+  pub index : place ≡ index_of (pair_at ps (length order)).name (placed ps order)
+
+-- How the pairs are stored: at most so many. The first belong to the game, one for each place in
+-- the order.
+pub record FitsPairStore (most : ℕ) (ps : List Pair) (order : List ℕ) (place : ℕ) (has_pending_name : Bool) : Type 0 where
   pub room : length ps ≤ most
-  pub within : count ≤ length ps
-  pub some : IsTrue has_pending_name → 0 < count
+  pub within : length order ≤ length ps
+  pub first : AllBelow (length order) order
+  pub in_order : InOrder (placed ps order)
+  pub begun : IsTrue has_pending_name → HasBegun ps order place
 
 -- the bytes of one pair, its name first: the name's length, and both fit on their line
 pub record FitsOnLine (name_length : ℕ) (text : List ℕ) : Type 0 where

@@ -18,6 +18,7 @@ mod marker;
 mod mode;
 mod movetext;
 mod number;
+mod ordered;
 mod pair;
 mod read_buffer;
 mod reader;

@@ -125,7 +125,7 @@ impl<const T: usize, const L: usize> Reader<T, L> {
             ≡ value_of (exported self.now.profile.mode
             (known_result self.now.profile.missing_result) self.now.tags.held) name.now }
     {
-        exported_value(self.mode, self.missing_result, self.tags.pairs(), name)
+        exported_value(self.mode, self.missing_result, &self.tags.pairs(), name)
     }
 
     /// Returns the number of moves outside variations that the game has so far, or had.
@@ -271,16 +271,16 @@ impl<const T: usize, const L: usize> Reader<T, L> {
         if !is_tag_name(name) {
             return Err(Reason::BadTagName);
         }
-        if self.tags.value(name).is_some() {
+        let Some(place) = self.tags.place_of_new(name) else {
             return Err(Reason::DuplicateTag);
-        }
+        };
         if name.len() > NAME_OR_VALUE_LENGTH {
             return Err(Reason::TagLineTooLong);
         }
         if is_reduced_fen(self.mode, name) {
             return Err(Reason::ReducedFen);
         }
-        self.tags.begin(name);
+        self.tags.begin(name, place);
         self.stage = Stage::AfterName;
         Ok(())
     }
@@ -606,7 +606,7 @@ impl<const T: usize, const L: usize> Reader<T, L> {
         write_section(
             self.mode,
             self.known_missing_result(),
-            self.tags.pairs(),
+            &self.tags.pairs(),
             out,
         )?;
         self.stage = Stage::InMovetext;

@@ -11,8 +11,8 @@ ghost use Rattle.pgn_game.specs.TagSection.{roster, in_roster, exported, other_p
 
 use crate::marker::{Marker, MissingResult};
 use crate::mode::Mode;
+use crate::ordered::{OrderedPairs, index_of, value_in};
 use crate::pair::TagPair;
-use crate::tags::{index_of, value_in};
 use pgn_layout::{Sink, WriteFault, end_tags, write_tag};
 
 /// The name of the pair that says whether a game begins from a FEN (PGN 9.7.1).
@@ -33,7 +33,7 @@ const FROM_FEN: &[u8] = b"1";
 pub fn write_section<W: Sink>(
     mode: Mode,
     missing_result: MissingResult,
-    pairs: &[TagPair],
+    pairs: &OrderedPairs<'_>,
     out: &mut W,
 ) -> Result<(), WriteFault>
     ensures { WritesText (device W.taken W.failures out.old out.new) result
@@ -53,7 +53,7 @@ pub fn write_section<W: Sink>(
 pub fn exported_value<'a>(
     mode: Mode,
     missing_result: MissingResult,
-    pairs: &'a [TagPair],
+    pairs: &OrderedPairs<'a>,
     name: &[u8],
 ) -> Option<&'a [u8]>
     ensures { option_copied result
@@ -70,7 +70,7 @@ pub fn exported_value<'a>(
 }
 
 // The value of a name, with SetUp 1 if there is a FEN (PGN 9.7.1).
-fn value_with_set_up<'a>(pairs: &'a [TagPair], name: &[u8]) -> Option<&'a [u8]>
+fn value_with_set_up<'a>(pairs: &OrderedPairs<'a>, name: &[u8]) -> Option<&'a [u8]>
     ensures value { option_copied result ≡ value_of (with_set_up pairs.now) name.now }
 {
     if name == SET_UP && has_fen(pairs) {
@@ -97,7 +97,7 @@ fn unknown_value(missing_result: MissingResult, name: &[u8]) -> Option<&'static 
 // Writes the pairs of the roster.
 fn write_roster<W: Sink>(
     missing_result: MissingResult,
-    pairs: &[TagPair],
+    pairs: &OrderedPairs<'_>,
     out: &mut W,
 ) -> Result<(), WriteFault>
     ensures { WritesText (device W.taken W.failures out.old out.new) result
@@ -112,7 +112,7 @@ fn write_roster<W: Sink>(
 }
 
 // The value of a name, or else this one.
-fn value_or<'a>(pairs: &'a [TagPair], name: &[u8], unknown: &'a [u8]) -> &'a [u8]
+fn value_or<'a>(pairs: &OrderedPairs<'a>, name: &[u8], unknown: &'static [u8]) -> &'a [u8]
     requires fits { length name.now + length (escaped unknown.now) ≤ 249 }
     ensures value { result.now ≡ unwrap_or (value_of pairs.now name.now) unknown.now }
     ensures fits { length name.now + length (escaped result.now) ≤ 249 }
@@ -124,7 +124,7 @@ fn value_or<'a>(pairs: &'a [TagPair], name: &[u8], unknown: &'a [u8]) -> &'a [u8
 }
 
 // Writes the pairs outside the roster, SetUp 1 among them if there is a FEN (PGN 9.7.1).
-fn write_others<W: Sink>(pairs: &[TagPair], out: &mut W) -> Result<(), WriteFault>
+fn write_others<W: Sink>(pairs: &OrderedPairs<'_>, out: &mut W) -> Result<(), WriteFault>
     ensures { WritesText (device W.taken W.failures out.old out.new) result
         (tag_lines (other_pairs (with_set_up pairs.now))) }
 {
@@ -132,25 +132,29 @@ fn write_others<W: Sink>(pairs: &[TagPair], out: &mut W) -> Result<(), WriteFaul
         return write_pairs(pairs, false, out);
     }
     let (before, after) = pairs.split_at(index_of(pairs, SET_UP));
-    write_pairs(before, true, out)?;
+    write_pairs(&before, true, out)?;
     write_tag(SET_UP, FROM_FEN, out)?;
-    write_pairs(after, true, out)
+    write_pairs(&after, true, out)
 }
 
 // Whether there is a FEN.
-fn has_fen(pairs: &[TagPair]) -> bool
+fn has_fen(pairs: &OrderedPairs<'_>) -> bool
     ensures { result ≡ has_pair pairs.now (codes "FEN") }
 {
     value_in(pairs, b"FEN").is_some()
 }
 
 // Writes those of the pairs that are outside the roster, and no second SetUp beside a FEN.
-fn write_pairs<W: Sink>(pairs: &[TagPair], has_fen: bool, out: &mut W) -> Result<(), WriteFault>
+fn write_pairs<W: Sink>(
+    pairs: &OrderedPairs<'_>,
+    has_fen: bool,
+    out: &mut W,
+) -> Result<(), WriteFault>
     ensures { WritesText (device W.taken W.failures out.old out.new) result
         (text_by (other_line has_fen) pairs.now) }
 {
-    for pair in pairs {
-        write_other(pair, has_fen, out)?;
+    for index in 0..pairs.len() {
+        write_other(pairs.at(index), has_fen, out)?;
     }
     Ok(())
 }

@@ -1,35 +1,40 @@
 //! The tag pairs of one game, in the order of their names.
-ghost use Rattle.std.specs.Prelude.{◌≡◌, ◌+◌, ◌<◌, ◌≤◌, ◌↔◌, [], ◌∷◌, ◌++◌, List, IsTrue, IfSome, IsSome, IsSomeAnd, Some, None, insert, length, take};
+ghost use Rattle.std.specs.Prelude.{◌≡◌, ◌+◌, ◌<◌, ◌≤◌, ◌↔◌, [], IsTrue, IfSome, IsSome, IsSomeAnd, Some, None, false, is_none, length};
 ghost use Rattle.pgn_layout.specs.TagLine.{escaped};
-ghost use Rattle.pgn_game.specs.Pairs.{Pair, value_of, comes_before, insert_pair};
-ghost use Rattle.pgn_game.specs.StoredPairs as spec;
-ghost use Rattle.pgn_game.specs.StoredPairs.{last_name, but_last};
+ghost use Rattle.pgn_game.specs.Pairs.{value_of, has_pair, insert_pair};
+ghost use Rattle.pgn_game.specs.StoredPairs.{index_of as index_in};
 ghost use Rattle.std.specs.Option.{option_copied};
 
+use crate::ordered::{OrderedPairs, index_of, value_in};
 use crate::pair::TagPair;
 use arrayvec::ArrayVec;
 use std::marker::Model;
 
-/// The tag pairs of one game, at most `T`. A name that has no value yet is the last of them.
+/// The tag pairs of one game, at most `T`. One more has a name and no value yet, if there is room.
 #[derive(Drop)]
 pub struct TagPairs<const T: usize> {
-    // The first `count` are those of the game. Those behind them are of earlier games, and are
-    // written over.
-    pairs: ArrayVec<TagPair, T>,
-    count: usize,
+    // As they were read. Those behind the pairs of the game are of earlier games, and are written
+    // over.
+    stored: ArrayVec<TagPair, T>,
+    // Where the pairs of the game are stored, in the order of their names. So a new one moves no
+    // other pair.
+    order: ArrayVec<usize, T>,
+    // How many pairs come before the name that has no value yet, which is stored behind them.
+    place: usize,
     has_pending_name: bool,
 }
 
 impl<const T: usize> Model for TagPairs<T> {
-    ghost use Rattle.std.specs.Prelude.{take};
+    ghost use Rattle.std.specs.Prelude.{length};
     ghost use Rattle.pgn_game.specs.StoredPairs.{TagPairs as Seen};
-    ghost use Rattle.pgn_game.specs.StoredPairs.{pairs_seen, FitsPairStore};
+    ghost use Rattle.pgn_game.specs.StoredPairs.{pairs_seen, placed, pair_at, FitsPairStore};
 
     ghost Value = { Seen };
 
-    ghost view = { λ t. pairs_seen (take t.count t.pairs.items) t.has_pending_name };
+    ghost view = { λ t. pairs_seen (placed t.stored.items t.order.items)
+        (pair_at t.stored.items (length t.order.items)) t.has_pending_name };
 
-    ghost invariant = { λ t. FitsPairStore T t.pairs.items t.count t.has_pending_name };
+    ghost invariant = { λ t. FitsPairStore T t.stored.items t.order.items t.place t.has_pending_name };
 }
 
 impl<const T: usize> TagPairs<T> {
@@ -38,8 +43,9 @@ impl<const T: usize> TagPairs<T> {
         ensures { result ≡ record { held = []; pending_name = None } }
     {
         TagPairs {
-            pairs: ArrayVec::new(),
-            count: 0,
+            stored: ArrayVec::new(),
+            order: ArrayVec::new(),
+            place: 0,
             has_pending_name: false,
         }
     }
@@ -50,7 +56,7 @@ impl<const T: usize> TagPairs<T> {
         ensures full { IsTrue result ↔ (length self.now.held ≡ T) }
         ensures room { length self.now.held ≤ T }
     {
-        self.count == T
+        self.order.len() == T
     }
 
     /// Returns the value of a name, if it has one.
@@ -59,30 +65,42 @@ impl<const T: usize> TagPairs<T> {
         ensures value { option_copied result ≡ value_of self.now.held name.now }
         ensures fits { IfSome result (λ value. length name.now + length (escaped value.now) ≤ 249) }
     {
-        value_in(self.pairs(), name)
+        value_in(&self.pairs(), name)
     }
 
     /// Returns the pairs, in the order of their names.
-    pub fn pairs(&self) -> &[TagPair]
+    pub fn pairs(&self) -> OrderedPairs<'_>
         requires { self.now.pending_name ≡ None }
-        ensures { result.now ≡ self.now.held }
+        ensures { result ≡ self.now.held }
     {
-        &self.pairs.as_slice()[..self.count]
+        OrderedPairs::new(self.stored.as_slice(), self.order.as_slice())
     }
 
-    /// Adds a name that has no value yet.
-    pub fn begin(&mut self, name: &[u8])
+    /// Returns how many pairs come before a name, or nothing if one has it.
+    pub fn place_of_new(&self, name: &[u8]) -> Option<usize>
+        requires { self.now.pending_name ≡ None }
+        ensures new { is_none result ≡ has_pair self.now.held name.now }
+        ensures place { IfSome result (λ place. place ≡ index_in name.now self.now.held) }
+    {
+        place_of_new(&self.pairs(), name)
+    }
+
+    /// Adds a name that has no value yet, and that so many pairs come before.
+    pub fn begin(&mut self, name: &[u8], place: usize)
         requires whole { self.old.pending_name ≡ None }
         requires room { length self.old.held < T }
         requires fits { length name.now ≤ 249 }
+        requires new { has_pair self.old.held name.now ≡ false }
+        requires place { place ≡ index_in name.now self.old.held }
         ensures { self.new ≡ record { held = self.old.held; pending_name = Some name.now } }
     {
-        if self.count == self.pairs.len() {
-            self.pairs.push(TagPair::default());
+        let count = self.order.len();
+        if count == self.stored.len() {
+            self.stored.push(TagPair::default());
         }
-        let pairs = self.pairs.as_mut_slice();
-        pairs[self.count].set_name(name);
-        self.count += 1;
+        let stored = self.stored.as_mut_slice();
+        stored[count].set_name(name);
+        self.place = place;
         self.has_pending_name = true;
     }
 
@@ -91,7 +109,7 @@ impl<const T: usize> TagPairs<T> {
         requires { IsSome self.now.pending_name }
         ensures { self.now.pending_name ≡ Some result.now }
     {
-        self.pairs.as_slice()[self.count - 1].name()
+        self.stored.as_slice()[self.order.len()].name()
     }
 
     /// Adds the value of the name that has none yet.
@@ -104,7 +122,10 @@ impl<const T: usize> TagPairs<T> {
               pending_name = None;
             }) }
     {
-        complete_last_of(self.pairs.as_mut_slice(), self.count, value);
+        let count = self.order.len();
+        let stored = self.stored.as_mut_slice();
+        stored[count].set_value(value);
+        self.order.insert(self.place, count);
         self.has_pending_name = false;
     }
 
@@ -112,78 +133,22 @@ impl<const T: usize> TagPairs<T> {
     pub fn clear(&mut self)
         ensures { self.new ≡ record { held = []; pending_name = None } }
     {
-        self.count = 0;
+        self.order.clear();
         self.has_pending_name = false;
     }
 }
 
-/// Returns the value of a name among pairs, if it has one.
-pub fn value_in<'a>(pairs: &'a [TagPair], name: &[u8]) -> Option<&'a [u8]>
-    ensures value { option_copied result ≡ value_of pairs.now name.now }
-    ensures fits { IfSome result (λ value. length name.now + length (escaped value.now) ≤ 249) }
+// Returns how many pairs come before a name, or nothing if one has it.
+fn place_of_new(pairs: &OrderedPairs<'_>, name: &[u8]) -> Option<usize>
+    ensures new { is_none result ≡ has_pair pairs.now name.now }
+    ensures place { IfSome result (λ place. place ≡ index_in name.now pairs.now) }
 {
-    for pair in pairs {
-        if pair.name() == name {
-            return Some(pair.value());
-        }
+    let place = index_of(pairs, name);
+    if place == 0 {
+        return Some(place);
     }
-    None
-}
-
-/// Returns how many pairs come before a name in their order.
-pub fn index_of(pairs: &[TagPair], name: &[u8]) -> usize
-    ensures index { result ≡ spec.index_of name.now pairs.now }
-    ensures within { result ≤ length pairs.now }
-{
-    for (i, pair) in pairs.iter().enumerate() {
-        if is_before(name, pair.name()) {
-            return i;
-        }
+    if pairs.at(place - 1).name() == name {
+        return None;
     }
-    pairs.len()
-}
-
-// Gives pair `count - 1` its value, and moves it to its place among the first `count` pairs.
-fn complete_last_of(pairs: &mut [TagPair], count: usize, value: &[u8])
-    requires within { count ≤ length pairs.old }
-    requires fits { IsSomeAnd (last_name (take count pairs.old))
-        (λ name. length name + length (escaped value.now) ≤ 249) }
-    ensures len { length pairs.new ≡ length pairs.old }
-    ensures pairs { IfSome (last_name (take count pairs.old)) (λ name. take count pairs.new
-        ≡ insert_pair (record { name = name; value = value.now })
-        (but_last (take count pairs.old))) }
-{
-    complete_last(&mut pairs[..count], value);
-}
-
-// Gives the last pair its value, and moves it to its place among the others.
-fn complete_last(pairs: &mut [TagPair], value: &[u8])
-    requires { IsSomeAnd (last_name pairs.old)
-        (λ name. length name + length (escaped value.now) ≤ 249) }
-    ensures len { length pairs.new ≡ length pairs.old }
-    ensures pairs { IfSome (last_name pairs.old) (λ name. pairs.new
-        ≡ insert_pair (record { name = name; value = value.now }) (but_last pairs.old)) }
-{
-    if let Some((last, front)) = pairs.split_last_mut() {
-        last.set_value(value);
-        let index = index_of(front, last.name());
-        move_last(pairs, index);
-    }
-}
-
-// Moves the last pair to this index, and the pairs from there on up.
-fn move_last(pairs: &mut [TagPair], index: usize)
-    requires { index < length pairs.old }
-    ensures len { length pairs.new ≡ length pairs.old }
-    ensures pairs { (front : List Pair) (last : Pair) → pairs.old ≡ front ++ last ∷ []
-        → pairs.new ≡ insert front index last }
-{
-    pairs[index..].rotate_right(1);
-}
-
-// Whether a name comes before another in the order of ASCII.
-fn is_before(name: &[u8], other: &[u8]) -> bool
-    ensures { result ≡ comes_before name.now other.now }
-{
-    name < other
+    Some(place)
 }

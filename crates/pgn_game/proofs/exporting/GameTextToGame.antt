@@ -1,13 +1,12 @@
 -- The text of a game that sound tokens spelled: it spells the game with its defaults filled in, and
 -- that game has the same text.
-use Rattle.pgn_game.proofs.Words.{◌≡◌, ℕ, ◌≤◌, true, List, [], length, refl, sym, subst, arith, Option, None, Some, codes, not, unwrap_or, IsTrue, Ok, AllByRecursion, list_all, is_position, ReadingIsSpelling, starts_symbol, continues_symbol, begins_with, IsSymbol, IsData, Parts, Mode, Full, Reduced, Game, Pair, value_of, Profile, Missing, first_position, position_of, is_result, result_for, exported_pairs, TagSectionFits, start_of, KeepsTags, IsPair, by_name, IsResult, roster, roster_pairs, exported, Marker, WhiteWins, marker_text, rules}
+use Rattle.pgn_game.proofs.Words.{InOrder, ◌≡◌, ℕ, ◌≤◌, true, List, [], length, refl, sym, subst, arith, Option, None, Some, codes, not, unwrap_or, IsTrue, Ok, AllByRecursion, list_all, is_position, ReadingIsSpelling, starts_symbol, continues_symbol, begins_with, IsSymbol, IsData, Parts, Mode, Full, Reduced, Game, Pair, value_of, Profile, Missing, first_position, position_of, is_result, result_for, exported_pairs, TagSectionFits, start_of, KeepsTags, IsPair, by_name, IsResult, roster, roster_pairs, exported, Marker, WhiteWins, marker_text, rules}
 use Rattle.chess_rules.specs.Square.{squares}
 use Rattle.pgn_lexer.specs.Lexes.{is_barred}
 use Rattle.pgn_game.proofs.MarkerTexts.{result_marker}
 use Rattle.pgn_game.proofs.reading.PairsInTurn.{all-all}
 use Rattle.pgn_game.proofs.pairs.ExportedValues.{set_up, on_roster, all-exported}
 use Rattle.pgn_game.proofs.exporting.PairsExportedAgain.{keeps_exported, by_name_values, by_name_order}
-use Rattle.pgn_game.proofs.pairs.NameOrder.{InOrder}
 use Rattle.pgn_game.proofs.pairs.ValuesByName.{found}
 use Rattle.pgn_game.proofs.exporting.PiecesToTokens.{IsSoundPair}
 use Rattle.pgn_game.proofs.exporting.SpelledToSound.{SoundGame, marker_is_result}

@@ -1,5 +1,5 @@
 -- The order of names is a strict order of all names; and pairs in this order.
-use Rattle.pgn_game.proofs.Words.{◌≡◌, ℕ, ◌<◌, ◌⊎◌, inl, inr, Bool, true, false, cond, List, [], ◌∷◌, refl, sym, ap, ◌∙◌, arith, None, Some, le-ltb, lt-ltb, eq-eqb, ◌||◌, ◌&&◌, ◌==◌, nat_lt, bytes_eq, filter, is_some, AllByRecursion, All-weaker, all_kept_by, none-some, same_Some, false≢true, or_cases, and_parts, ltb-true, eqb-true, cases_order, Pair, value_of, has_pair, comes_before, insert_pair, AreDistinct, rules}
+use Rattle.pgn_game.proofs.Words.{◌≡◌, ℕ, ◌<◌, ◌⊎◌, inl, inr, Bool, true, false, cond, List, [], ◌∷◌, refl, sym, ap, ◌∙◌, arith, None, Some, le-ltb, lt-ltb, eq-eqb, ◌||◌, ◌&&◌, ◌==◌, nat_lt, bytes_eq, filter, is_some, All-weaker, all_kept_by, none-some, same_Some, false≢true, or_cases, and_parts, ltb-true, eqb-true, cases_order, Pair, value_of, has_pair, comes_before, insert_pair, AreDistinct, AllAfter, InOrder, rules}
 use Rattle.pgn_game.proofs.pairs.ValuesByName.{bytes_eq-true, bytes_eq-refl, value_of-cons, not_among, all-insert}
 
 -- Names, byte after byte.
@@ -23,7 +23,7 @@ never_itself (x ∷ xs) e =
       | inr h ↦ never_itself xs h.1
     ]
 
-before-trans : (a b c : List ℕ) → comes_before a b ≡ true → comes_before b c ≡ true → comes_before a c ≡ true
+pub before-trans : (a b c : List ℕ) → comes_before a b ≡ true → comes_before b c ≡ true → comes_before a c ≡ true
 before-trans a [] c e f = absurd (false≢true e)
 before-trans a (y ∷ ys) [] e f = absurd (false≢true f)
 before-trans [] (y ∷ ys) (z ∷ zs) e f = refl
@@ -55,15 +55,7 @@ comparable (x ∷ xs) (y ∷ ys) =
       | inr (inr h) ↦ inr (inr (by_byte y x _ h))
     ]
 
--- Pairs in the order of their names, no name twice.
-abbrev AllAfter : List ℕ → List Pair → Type 0
-AllAfter name qs = AllByRecursion (λ q. comes_before name q.name ≡ true) qs
-
-abbrev pub InOrder : List Pair → Type 0
-InOrder [] = Unit {0}
-InOrder (q ∷ qs) = AllAfter q.name qs × InOrder qs
-
-further_after : (name next : List ℕ) (qs : List Pair) → comes_before name next ≡ true → AllAfter next qs → AllAfter name qs
+pub further_after : (name next : List ℕ) (qs : List Pair) → comes_before name next ≡ true → AllAfter next qs → AllAfter name qs
 further_after name next qs e h =
     All-weaker _ _
     (λ q f. before-trans name next _ e f) qs h
@@ -94,6 +86,9 @@ other_name name next h1 b h2 = search (rules, bytes_eq-true, never_itself)
 absent : (name : List ℕ) (qs : List Pair) → AllAfter name qs → value_of qs name ≡ None
 absent name [] h = refl
 absent name (q ∷ qs) h = cc (value_of-cons q qs name, other_name name q.name h.0 (bytes_eq q.name name) refl, absent name qs h.1)
+
+pub absent-pair : (name : List ℕ) (qs : List Pair) → AllAfter name qs → has_pair qs name ≡ false
+absent-pair name qs h = ap is_some (absent name qs h)
 
 pub distinct_in_order : (ps : List Pair) → InOrder ps → AreDistinct ps
 distinct_in_order [] h = tt

@@ -1,8 +1,11 @@
 -- The order of names, and places in it.
-use Rattle.pgn_game.proofs.Words.{◌≡◌, ℕ, suc, ◌+◌, ◌-◌, ◌<◌, ◌≤◌, Bool, true, false, List, [], ◌∷◌, ◌++◌, length, refl, sym, ap, ◌∙◌, arith, Option, None, Some, insert, IsTrue, IsSome, IfSome, IsSomeAnd, take, set, get_or, refill, take-append_seam, take-suc, length-take-le, length-set, take_more_set, take-append-le, nat_tests, Pair, comes_before, insert_pair, TagPairs, FitsPairStore, index_of, last_name, but_last, pairs_seen, rules, length-append}
+use Rattle.pgn_game.proofs.Words.{◌≡◌, ℕ, suc, zero, ◌+◌, ◌<◌, ◌≤◌, Bool, true, false, List, [], ◌∷◌, length, refl, sym, ap, ◌∙◌, arith, Some, insert, take, drop, get_or, bytes_eq, false≢true, AllByRecursion, subst, Pair, has_pair, comes_before, insert_pair, AllAfter, InOrder, index_of, nat_tests}
 use Rattle.std.specs.Ordering.{nat_cmp, is_lt, is_some_and}
 use Rattle.std.specs.Cmp.Lexicographic.{slice_partial_cmp}
 use Rattle.std.proofs.lemmas.Cmp.{same_from_slice_cmp_tested}
+use Rattle.std.proofs.Math.Bool.{or-false}
+use Rattle.pgn_game.proofs.pairs.NameOrder.{before-trans, further_after, absent-pair}
+use Rattle.pgn_game.proofs.pairs.ValuesByName.{bytes_eq-true, has-cons}
 
 pub is_comes_before : (xs ys : List ℕ) (r : Bool)
     → r ≡ is_some_and is_lt (slice_partial_cmp (λ x y. Some (nat_cmp x y)) xs ys) → r ≡ comes_before xs ys
@@ -21,95 +24,107 @@ insert-place p (q ∷ qs) =
           rw next (ap (λ l. q ∷ l) (insert-place p qs))
     ]
 
-pub last_name-snoc : (ps : List Pair) (p : Pair) → last_name (ps ++ p ∷ []) ≡ Some p.name
-last_name-snoc [] p = refl
-last_name-snoc (q ∷ []) p = refl
-last_name-snoc (q ∷ r ∷ ps) p = last_name-snoc (r ∷ ps) p
+-- what holds of all elements holds of each, and of the first and the last of them
+all_at : {A : Type 0} (P : A → Type 0) (xs : List A) (k : ℕ) {x : A} → AllByRecursion P xs → k < length xs → x ≡ get_or xs k x → P x
+all_at P [] k h l e = absurd (omega arith)
+all_at P (y ∷ ys) zero h l e = rw e h.0
+all_at P (y ∷ ys) (suc k) h l e = all_at P ys k h.1 (omega arith) e
 
-but_last-snoc : (ps : List Pair) (p : Pair) → but_last (ps ++ p ∷ []) ≡ ps
-but_last-snoc [] p = refl
-but_last-snoc (q ∷ []) p = refl
-but_last-snoc (q ∷ r ∷ ps) p = rw (but_last-snoc (r ∷ ps) p)
+pub all-take : {A : Type 0} (P : A → Type 0) (xs : List A) (k : ℕ) → AllByRecursion P xs → AllByRecursion P (take k xs)
+all-take P xs zero h = tt
+all-take P [] (suc k) h = tt
+all-take P (x ∷ xs) (suc k) h = (h.0, all-take P xs k h.1)
 
-abbrev seen : List Pair → Option (List ℕ) → TagPairs
-seen held begun = record { held = held; pending_name = begun }
+pub all-drop : {A : Type 0} (P : A → Type 0) (xs : List A) (k : ℕ) → AllByRecursion P xs → AllByRecursion P (drop k xs)
+all-drop P xs zero h = h
+all-drop P [] (suc k) h = tt
+all-drop P (x ∷ xs) (suc k) h = all-drop P xs k h.1
 
-pub pairs_seen-snoc : {ps : List Pair} (p : Pair) → pairs_seen (ps ++ p ∷ []) true ≡ seen ps (Some p.name)
-pairs_seen-snoc p = grind (arith, last_name-snoc, but_last-snoc)
+pub order-take : (ps : List Pair) (k : ℕ) → InOrder ps → InOrder (take k ps)
+order-take ps zero h = tt
+order-take [] (suc k) h = tt
+order-take (p ∷ ps) (suc k) h = (all-take (λ q. comes_before p.name q.name ≡ true) ps k h.0, order-take ps k h.1)
 
-some_last : (p : Pair) (ps : List Pair) → last_name (p ∷ ps) ≡ None → ⊥
-some_last p [] e = cc
-some_last p (q ∷ ps) e = some_last q ps e
+pub order-drop : (ps : List Pair) (k : ℕ) → InOrder ps → InOrder (drop k ps)
+order-drop ps zero h = h
+order-drop [] (suc k) h = tt
+order-drop (p ∷ ps) (suc k) h = order-drop ps k h.1
 
-pub whole-held : (ps : List Pair) (b : Bool) {t : TagPairs} → pairs_seen ps b ≡ t
-    → t.pending_name ≡ None → (IsTrue b → 0 < length ps) → ps ≡ t.held
-whole-held ps false e none some = ap (λ s. s.held) e
-whole-held [] true e none some = absurd (omega (arith, some refl))
-whole-held (p ∷ ps) true e none some = absurd (some_last p ps (ap (λ s. s.pending_name) e ∙ none))
+-- The index of a name, by one pair among those in order.
+abbrev index_if : Bool → ℕ → ℕ
+index_if b n = elim b [ true ↦ 0 | false ↦ 1 + n ]
 
--- where no pair has begun, the first pairs stored are all that are held
-pub first-held : {most : ℕ} {ps : List Pair} {n : ℕ} {b : Bool} {t : TagPairs} → FitsPairStore most ps n b
-    → pairs_seen (take n ps) b ≡ t → t.pending_name ≡ None → take n ps ≡ t.held
-first-held fits e none = grind (arith, length-take-le, whole-held)
+pub index_of-le : (name : List ℕ) (ps : List Pair) → index_of name ps ≤ length ps
+index_of-le name [] = omega arith
+index_of-le name (q ∷ qs) =
+    let rest = index_of-le name qs in
+    elim (comes_before name q.name) as (λ b. index_if b (index_of name qs) ≤ length (q ∷ qs)) [ true ↦ omega arith | false ↦ omega arith ]
 
-pub held-count : {most : ℕ} {ps : List Pair} {n : ℕ} {b : Bool} {t : TagPairs} → FitsPairStore most ps n b
-    → pairs_seen (take n ps) b ≡ t → t.pending_name ≡ None → length t.held ≡ n
-held-count {ps} {n} fits e none = ap (length {A = Pair}) (sym (first-held fits e none)) ∙ length-take-le n ps fits.within
+-- it is at most that of a pair with a later name
+pub index-before : (name : List ℕ) (ps : List Pair) (k : ℕ) {p : Pair} → k < length ps → p ≡ get_or ps k p
+    → comes_before name p.name ≡ true → index_of name ps ≤ k
+index-before name [] k l e later = absurd (omega arith)
+index-before name (q ∷ qs) zero l e later =
+    let here : comes_before name q.name ≡ true = ap (λ (r : Pair). comes_before name r.name) (sym e) ∙ later in
+    rw (here, index_of) (omega arith)
+index-before name (q ∷ qs) (suc k) l e later =
+    let rest = index-before name qs k (omega arith) e later in
+    elim (comes_before name q.name) as (λ b. index_if b (index_of name qs) ≤ suc k) [ true ↦ omega arith | false ↦ omega arith ]
 
-pub named-last : (ps : List Pair) (b : Bool) {t : TagPairs} (P : List ℕ → Type 0)
-    → pairs_seen ps b ≡ t → IsSomeAnd t.pending_name P → IsSomeAnd (last_name ps) P
-named-last ps b P e h = search rules
+-- and above that of a pair with no later name
+pub index-behind : (name : List ℕ) (ps : List Pair) (k : ℕ) {p : Pair} → InOrder ps → k < length ps → p ≡ get_or ps k p
+    → comes_before name p.name ≡ false → k < index_of name ps
+index-behind name [] k h l e early = absurd (omega arith)
+index-behind name (q ∷ qs) zero h l e early =
+    let here : comes_before name q.name ≡ false = ap (λ (r : Pair). comes_before name r.name) (sym e) ∙ early in
+    rw (here, index_of) (omega arith)
+index-behind name (q ∷ qs) (suc k) {p} h l e early =
+    by_test (index-behind name qs k h.1 (omega arith) e early) _ refl
+  where
+    by_test : k < index_of name qs → (b : Bool) → comes_before name q.name ≡ b → suc k < index_if b (index_of name qs)
+    by_test rest true first =
+        absurd (false≢true (sym early
+        ∙ before-trans name q.name p.name first (all_at (λ r. comes_before q.name r.name ≡ true) qs k h.0 (omega arith) e)))
+    by_test rest false later = omega arith
 
--- the last pair gets its value and goes to its place
-pub finished-last : (front : List Pair) (p : Pair) (value : List ℕ) {ps : List Pair} (more : List Pair) → ps ≡ front ++ p ∷ []
-    → more ≡ insert_pair (record { name = p.name; value = value }) front
-    → IfSome (last_name ps) (λ name. more ≡ insert_pair (record { name = name; value = value }) (but_last ps))
-finished-last front p value more e h = grind (arith, last_name-snoc, but_last-snoc)
+-- a name that comes before all has index 0
+index-first : (name : List ℕ) (qs : List Pair) → AllAfter name qs → index_of name qs ≡ 0
+index-first name [] h = refl
+index-first name (q ∷ qs) h = cc (h.0)
 
-if_some-seen : (o : Option (List ℕ)) (more held : List Pair) (value : List ℕ)
-    → IfSome o (λ name. more ≡ insert_pair (record { name = name; value = value }) held)
-    → IfSome o (λ name. seen more None ≡ seen (insert_pair (record { name = name; value = value }) held) None)
-if_some-seen (Some name) more held value h = rw h
-if_some-seen None more held value h = tt
+-- no pair has a name of index 0
+pub new-first : (name : List ℕ) (ps : List Pair) → InOrder ps → index_of name ps ≡ 0 → has_pair ps name ≡ false
+new-first name [] h e = refl
+new-first name (q ∷ qs) h e = by_test _ refl e
+  where
+    by_test : (b : Bool) → comes_before name q.name ≡ b → index_if b (index_of name qs) ≡ 0 → has_pair (q ∷ qs) name ≡ false
+    by_test true first is = absent-pair name (q ∷ qs) (first, further_after name q.name qs first h.0)
+    by_test false later is = absurd (omega arith)
 
--- its value comes, and it goes to its place
-pub completed : (ps : List Pair) (b : Bool) {t : TagPairs} (value : List ℕ) (more : List Pair) → pairs_seen ps b ≡ t
-    → IfSome (last_name ps) (λ name. more ≡ insert_pair (record { name = name; value = value }) (but_last ps))
-    → IfSome t.pending_name (λ name. seen more None ≡ seen (insert_pair (record { name = name; value = value }) t.held) None)
-completed ps b value more e h = grind (arith, if_some-seen)
+-- a name that some pair has is not that of a pair before all of them
+other-name : (name : List ℕ) (q : Pair) (qs : List Pair) (k : ℕ) (b : Bool) → AllAfter q.name qs → index_of name qs ≡ suc k
+    → bytes_eq q.name name ≡ b → b ≡ false
+other-name name q qs k false h is e = refl
+other-name name q qs k true h is e =
+    let first : index_of name qs ≡ 0 = index-first name qs (subst (λ n. AllAfter n qs) (bytes_eq-true _ _ e) h) in
+    absurd (omega arith)
 
--- the name that has begun is that of the last of the first pairs
-pub begun-last : {most : ℕ} {ps : List Pair} {n : ℕ} (b : Bool) {t : TagPairs} {p : Pair}
-    → FitsPairStore most ps n b → pairs_seen (take n ps) b ≡ t
-    → p ≡ get_or ps (n - 1) p → IsSome t.pending_name → t.pending_name ≡ Some p.name
-begun-last {ps} {n} true {p} fits e at begun =
-    let more : n ≡ suc (n - 1) = omega (arith, fits.some refl) in
-    let split : take n ps ≡ take (n - 1) ps ++ p ∷ [] = cc (more, take-suc ps (n - 1) p (omega (arith, fits.some refl, fits.within)), at) in
-    rw (← e) (ap last_name split ∙ last_name-snoc (take (n - 1) ps) p)
-begun-last {ps} {n} false fits e at begun = cc
-
--- a slice that is as long takes the place of all items
-pub refill-all : (items : List Pair) {new : List Pair} → length new ≡ length items → refill (length items) items new ≡ new
-refill-all items same = grind (arith, take-append_seam)
-
--- of pairs that are stored, the first are those held, and there is a place behind them
-pub record HasPlace (most : ℕ) (ps : List Pair) (n : ℕ) (held : List Pair) : Type 0 where
-  pub same : take n ps ≡ held
-  pub place : n < length ps
-  pub room : length ps ≤ most
-
-pub place-of-old : {most : ℕ} {ps : List Pair} {n : ℕ} {held : List Pair}
-    → length ps ≤ most → take n ps ≡ held → n < length ps → HasPlace most ps n held
-place-of-old room same place = record { same = same; place = place; room = room }
-
-pub place-of-new : {most : ℕ} (ps more : List Pair) {n : ℕ} {held : List Pair} (p : Pair)
-    → more ≡ ps ++ p ∷ [] → take n ps ≡ held → n ≡ length ps → n < most → HasPlace most more n held
-place-of-new ps more p is same all room = search (rules, take-append-le, length-append)
-
-pub put-in-place : {most : ℕ} {ps : List Pair} {n : ℕ} {held : List Pair} (p : Pair) → HasPlace most ps n held
-    → take (n + 1) (refill (length ps) ps (set ps n p)) ≡ held ++ p ∷ []
-put-in-place p has = grind (arith, length-set, take_more_set, refill-all)
-
-pub stays-in-place : {most : ℕ} {ps : List Pair} {n : ℕ} {held : List Pair} (p : Pair) → HasPlace most ps n held
-    → FitsPairStore most (refill (length ps) ps (set ps n p)) (n + 1) true
-stays-in-place p has = search (rules, length-set, refill-all)
+-- the last pair before the index of a name has this name, or none has it
+pub new-behind : (name : List ℕ) (ps : List Pair) (k : ℕ) {p : Pair} → InOrder ps → index_of name ps ≡ suc k → p ≡ get_or ps k p
+    → has_pair ps name ≡ bytes_eq p.name name
+new-behind name [] k h is e = absurd (omega arith)
+new-behind name (q ∷ qs) zero {p} h is e = by_test _ refl is
+  where
+    by_test : (b : Bool) → comes_before name q.name ≡ b → index_if b (index_of name qs) ≡ 1 → has_pair (q ∷ qs) name ≡ bytes_eq p.name name
+    by_test true first is = absurd (omega arith)
+    by_test false later is =
+        let none : has_pair qs name ≡ false = new-first name qs h.1 (omega arith) in
+        cc (has-cons q qs name, none, or-false (bytes_eq q.name name), e)
+new-behind name (q ∷ qs) (suc k) {p} h is e = by_test (λ at. new-behind name qs k h.1 at e) _ refl is
+  where
+    by_test : (index_of name qs ≡ suc k → has_pair qs name ≡ bytes_eq p.name name) → (b : Bool) → comes_before name q.name ≡ b
+        → index_if b (index_of name qs) ≡ suc (suc k) → has_pair (q ∷ qs) name ≡ bytes_eq p.name name
+    by_test rest true first is = absurd (omega arith)
+    by_test rest false later is =
+        let at : index_of name qs ≡ suc k = omega arith in
+        cc (has-cons q qs name, rest at, other-name name q qs k (bytes_eq q.name name) h.0 at refl)

@@ -13,8 +13,8 @@ both_sides held pairs before after n is place front back some = grind (arith, ot
 pub returns-then-not-has_fen : goal.returns-then-not-has_fen
 returns-then-not-has_fen g c = search (rules, others_without_fen)
 
-pub split_at-requires : goal.split_at-requires
-split_at-requires g c = c.index_of.ensures.within
+pub split_at-before-requires : goal.split_at-before-requires
+split_at-before-requires g c = c.index_of.ensures.within
 
 pub returns-in_err-write_pairs : goal.returns-in_err-write_pairs
 returns-in_err-write_pairs g c =
@@ -22,7 +22,7 @@ returns-in_err-write_pairs g c =
     let first = c.in_err-write_pairs.ensures in
     rw (err_from_is_err_and c.from_residual.result c.from_residual.ensures.1).1
     (record {
-      written = rw (← both_sides c.args.pairs.now _ _ _ _ refl c.index_of.ensures.index c.split_at.ensures.front c.split_at.ensures.back some)
+      written = rw (← both_sides c.args.pairs.now _ _ _ _ refl c.index_of.ensures.index c.split_at-before.ensures.front c.split_at-before.ensures.back some)
           (front_of_more _ _ _ _ (front_of_more _ _ _ _ first.written));
       counted = first.counted;
     })
@@ -33,7 +33,7 @@ returns-in_err-write_tag g c =
     let first = c.in_ok-write_pairs.ensures in
     rw (err_from_is_err_and c.from_residual-in_err-write_tag.result c.from_residual-in_err-write_tag.ensures.1).1
     (record {
-      written = rw (← both_sides c.args.pairs.now _ _ _ _ refl c.index_of.ensures.index c.split_at.ensures.front c.split_at.ensures.back some)
+      written = rw (← both_sides c.args.pairs.now _ _ _ _ refl c.index_of.ensures.index c.split_at-before.ensures.front c.split_at-before.ensures.back some)
           (front_of_more _ _ _ _ (front_after _ _ _ _ _ first.written c.in_err-write_tag.ensures.text));
       counted = c.in_err-write_tag.ensures.counted ∙ ap one_more first.counted;
     })
@@ -45,7 +45,7 @@ returns g c =
     let set_up = c.in_ok-write_tag.ensures in
     let others = c.write_pairs-3.ensures in
     record {
-      written = rw (← both_sides c.args.pairs.now _ _ _ _ refl c.index_of.ensures.index c.split_at.ensures.front c.split_at.ensures.back some)
+      written = rw (← both_sides c.args.pairs.now _ _ _ _ refl c.index_of.ensures.index c.split_at-before.ensures.front c.split_at-before.ensures.back some)
           (Writes-append _ _ _ _ _ _ (Appends-trans _ _ _ _ _ first.written set_up.text) others.written);
       counted = counts_behind _ _ _ _ (set_up.counted ∙ first.counted) others.counted;
     }

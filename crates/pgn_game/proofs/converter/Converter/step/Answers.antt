@@ -1,4 +1,4 @@
-use Rattle.pgn_game.proofs.Words.{◌+◌, ◌*◌, ◌<◌, ◌≤◌, ◌^◌, length, kind_of, waiting, arith, sym, ap, subst, refl, ◌∙◌, first, as_written, game_in_reader_if, Converter, Reaches, Keeps}
+use Rattle.pgn_game.proofs.Words.{◌+◌, ◌*◌, ◌<◌, ◌≤◌, ◌^◌, length, waiting, arith, sym, ap, subst, refl, ◌∙◌, first, as_written, game_in_reader_if, Converter, Reaches, Keeps}
 use Rattle.pgn_game.proofs.tokens.StepsAtEnd.{advances_token, counts_token, kept, not_just_finished, ready_in_piece, sound_behind_fault, sound_in_piece}
 use Rattle.pgn_game.proofs.tokens.SoundAtStart.{few_waiting}
 use Rattle.pgn_game.proofs.ReaderFitsInMemory.{fits_reader}

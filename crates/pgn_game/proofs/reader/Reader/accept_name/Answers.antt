@@ -1,7 +1,7 @@
-use Rattle.pgn_game.proofs.Words.{◌≡◌, ℕ, Bool, List, Option, Bor, is_some, option_copied, value_of, has_pair, Part, Agrees, ◌&&◌, false, not, bytes_eq, codes, length, true, Some, refl, sym, ap, subst, ◌∙◌, kind_of, TokenKind, Mode, ExpectedName, BadTagName, DuplicateTag, TagLineTooLong, ReducedFen, Stage, AfterLeftBracket, AfterName, TagPairs, next, refusal, is_reduced, ReaderState, AreSound}
+use Rattle.pgn_game.proofs.Words.{◌≡◌, ℕ, List, Bor, has_pair, Part, Agrees, ◌&&◌, not, bytes_eq, codes, length, Some, refl, sym, ap, subst, ◌∙◌, kind_of, TokenKind, Mode, ExpectedName, BadTagName, DuplicateTag, TagLineTooLong, ReducedFen, Stage, AfterLeftBracket, AfterName, TagPairs, next, refusal, is_reduced, ReaderState, AreSound}
 use Rattle.std.proofs.lemmas.Bool.{lt-ltb, le-ltb}
 use Rattle.pgn_lexer.specs.declared.token.TokenKind.TheVariants.{Symbol}
-use Rattle.pgn_game.proofs.ReaderLemmas.{name_rows, hit, pass, expected_name, name_refusal, name_next, part_stage, held_at, has_pair_found, puts_name}
+use Rattle.pgn_game.proofs.ReaderLemmas.{name_rows, hit, pass, expected_name, name_refusal, name_next, part_stage, held_at, puts_name}
 use Rattle.pgn_game.proofs.ReaderLemmas.{to_name, adds_same, comment_in_pair, refused_in_pair, step_in_pair, tags_fit}
 use Rattle.pgn_game.proofs.reader.Reader.accept_name.Goals as goal
 
@@ -12,12 +12,11 @@ rows : (old : ReaderState) (k : TokenKind) (name : Bor (List ℕ))
 rows old k name at is part agrees =
     ap (λ (k : TokenKind). refusal old.profile part (kind_of k)) is ∙ name_refusal old.profile part name.now (part_stage old part _ agrees at)
 
-found : (old state : ReaderState) (name : List ℕ) (value : Option (Bor (List ℕ))) (b : Bool) → state ≡ old → old.stage ≡ AfterLeftBracket
-    → option_copied value ≡ value_of state.tags.held name → b ≡ is_some value
-    → (part : Part) → Agrees old part → has_pair part.pairs name ≡ b
-found old state name value b v at copied is part agrees =
-    has_pair_found state.tags.held part.pairs name value b
-    (ap (λ (r : ReaderState). r.tags.held) v ∙ ap (λ (t : TagPairs). t.held) (held_at old part _ agrees at)) copied is
+-- a pair has it that the reader holds if one of the part does
+in_part : (old state : ReaderState) (name : List ℕ) → state ≡ old → old.stage ≡ AfterLeftBracket
+    → (part : Part) → Agrees old part → has_pair part.pairs name ≡ has_pair state.tags.held name
+in_part old state name v at part agrees =
+    ap (λ (t : TagPairs). has_pair t.held name) (sym (held_at old part _ agrees at)) ∙ ap (λ (r : ReaderState). has_pair r.tags.held name) (sym v)
 
 pub returns-then-is_comment : goal.returns-then-is_comment
 returns-then-is_comment g c =
@@ -38,14 +37,14 @@ returns-then-not-is_tag_name g c =
     rows old _ _ c.requires.stage c.in-Symbol.is part agrees
     ∙ hit _ _ _ (ap not (sym c.is_tag_name.ensures ∙ c.if-not-is_tag_name.true)))
 
-pub returns-then-is_some : goal.returns-then-is_some
-returns-then-is_some g c =
+pub returns-in_default-place_of_new : goal.returns-in_default-place_of_new
+returns-in_default-place_of_new g c =
     let old = c.args.self.now in
     let v = c.self.view_is in
     refused_in_pair old _ (kind_of c.args.kind) AfterLeftBracket c.requires.stage (λ q. refl) DuplicateTag refl refl (λ part agrees.
     rows old _ _ c.requires.stage c.in-Symbol.is part agrees
     ∙ pass _ _ _ (ap not (sym c.is_tag_name.ensures ∙ c.if-not-is_tag_name.false))
-    ∙ hit _ _ _ (found old _ _ _ true v c.requires.stage c.value.ensures.value (sym c.if-is_some.true ∙ c.is_some.ensures) part agrees))
+    ∙ hit _ _ _ (in_part old _ _ v c.requires.stage part agrees ∙ sym c.in_default-place_of_new.ensures.new))
 
 pub returns-then-name-gt-NAME_OR_VALUE_LENGTH : goal.returns-then-name-gt-NAME_OR_VALUE_LENGTH
 returns-then-name-gt-NAME_OR_VALUE_LENGTH g c =
@@ -54,7 +53,7 @@ returns-then-name-gt-NAME_OR_VALUE_LENGTH g c =
     refused_in_pair old _ (kind_of c.args.kind) AfterLeftBracket c.requires.stage (λ q. refl) TagLineTooLong refl refl (λ part agrees.
     rows old _ _ c.requires.stage c.in-Symbol.is part agrees
     ∙ pass _ _ _ (ap not (sym c.is_tag_name.ensures ∙ c.if-not-is_tag_name.false))
-    ∙ pass _ _ _ (found old _ _ _ false v c.requires.stage c.value.ensures.value (sym c.if-is_some.false ∙ c.is_some.ensures) part agrees)
+    ∙ pass _ _ _ (in_part old _ _ v c.requires.stage part agrees ∙ sym c.in-Some.ensures.new)
     ∙ hit _ _ _ (lt-ltb 249 (length c.in-Symbol.name.now) c.if-name-gt-NAME_OR_VALUE_LENGTH.true))
 
 pub returns-then-is_reduced_fen : goal.returns-then-is_reduced_fen
@@ -64,7 +63,7 @@ returns-then-is_reduced_fen g c =
     refused_in_pair old _ (kind_of c.args.kind) AfterLeftBracket c.requires.stage (λ q. refl) ReducedFen refl refl (λ part agrees.
     rows old _ _ c.requires.stage c.in-Symbol.is part agrees
     ∙ pass _ _ _ (ap not (sym c.is_tag_name.ensures ∙ c.if-not-is_tag_name.false))
-    ∙ pass _ _ _ (found old _ _ _ false v c.requires.stage c.value.ensures.value (sym c.if-is_some.false ∙ c.is_some.ensures) part agrees)
+    ∙ pass _ _ _ (in_part old _ _ v c.requires.stage part agrees ∙ sym c.in-Some.ensures.new)
     ∙ pass _ _ _ (le-ltb 249 (length c.in-Symbol.name.now) c.if-name-gt-NAME_OR_VALUE_LENGTH.false)
     ∙ hit _ _ _ (ap (λ (m : Mode). is_reduced m && bytes_eq c.in-Symbol.name.now (codes "FEN")) (sym (ap (λ (r : ReaderState). r.profile.mode) v))
     ∙ sym c.is_reduced_fen.ensures ∙ c.if-is_reduced_fen.true))
@@ -75,7 +74,7 @@ begin-requires g c =
     let v = c.self.view_is in
     let sound =
     subst (λ (s : Stage). AreSound g.row.T s c.self.inside.tags) (ap (λ (r : ReaderState). r.stage) v ∙ c.requires.stage) c.self.invariant.0 in
-    (search tags_fit, (sound.0, (sound.1, c.if-name-gt-NAME_OR_VALUE_LENGTH.false)))
+    (search tags_fit, (sound.0, (sound.1, (c.if-name-gt-NAME_OR_VALUE_LENGTH.false, (sym c.in-Some.ensures.new, c.in-Some.ensures.place)))))
 
 pub returns : goal.returns
 returns g c =
@@ -83,8 +82,7 @@ returns g c =
     let v = c.self.view_is in
     let name = c.in-Symbol.name.now in
     let held = c.begin.new.self in
-    let fresh = has_pair_found c.self.inside.tags.held old.tags.held name c.value.result false
-    (ap (λ (r : ReaderState). r.tags.held) v) c.value.ensures.value (sym c.if-is_some.false ∙ c.is_some.ensures) in
+    let fresh = ap (λ (r : ReaderState). has_pair r.tags.held name) (sym v) ∙ sym c.in-Some.ensures.new in
     step_in_pair old _ (kind_of c.args.kind) AfterLeftBracket c.requires.stage (λ q. refl) (to_name name)
     (λ o m. puts_name old _ name held o m c.requires.stage fresh
     (c.begin.ensures ∙ ap (λ (r : ReaderState). record r.tags { pending_name = Some name }) v)
@@ -93,7 +91,7 @@ returns g c =
     (λ part. adds_same old.profile part (record { stage = AfterName; pairs = part.pairs; name = name; items = part.items }) refl) (λ part agrees. (
       rows old _ _ c.requires.stage c.in-Symbol.is part agrees
           ∙ pass _ _ _ (ap not (sym c.is_tag_name.ensures ∙ c.if-not-is_tag_name.false))
-          ∙ pass _ _ _ (found old _ _ _ false v c.requires.stage c.value.ensures.value (sym c.if-is_some.false ∙ c.is_some.ensures) part agrees)
+          ∙ pass _ _ _ (in_part old _ _ v c.requires.stage part agrees ∙ sym c.in-Some.ensures.new)
           ∙ pass _ _ _ (le-ltb 249 (length c.in-Symbol.name.now) c.if-name-gt-NAME_OR_VALUE_LENGTH.false)
           ∙ pass _ _ _ (ap (λ (m : Mode). is_reduced m && bytes_eq c.in-Symbol.name.now (codes "FEN"))
           (sym (ap (λ (r : ReaderState). r.profile.mode) v)) ∙ sym c.is_reduced_fen.ensures ∙ c.if-is_reduced_fen.false),

@@ -62,7 +62,7 @@ returns-in_err-write_section g c =
     let at = after_tags old.stage c.requires.stage (λ e. false≢true (sym c.if-is_in_movetext.false ∙ c.is_in_movetext.ensures.1 e)) in
     rw p.1
     (record {
-      begins = fails old _ c.pairs.result.now _ _ c.self.view_is at c.pairs.ensures c.known_missing_result.ensures _ c.in_err-write_section.ensures;
+      begins = fails old _ c.pairs.result _ _ c.self.view_is at c.pairs.ensures c.known_missing_result.ensures _ c.in_err-write_section.ensures;
     })
 
 pub returns : goal.returns
@@ -70,5 +70,5 @@ returns g c =
     let old = c.args.self.now in
     let at = after_tags old.stage c.requires.stage (λ e. false≢true (sym c.if-is_in_movetext.false ∙ c.is_in_movetext.ensures.1 e)) in
     record {
-      begins = begins old _ c.pairs.result.now _ _ c.self.view_is at c.pairs.ensures c.known_missing_result.ensures c.in_ok-write_section.ensures;
+      begins = begins old _ c.pairs.result _ _ c.self.view_is at c.pairs.ensures c.known_missing_result.ensures c.in_ok-write_section.ensures;
     }

@@ -1,40 +1,49 @@
-use Rattle.pgn_game.proofs.Words.{[], arith, rules}
-use Rattle.pgn_game.proofs.pairs.SortedPairs.{first-held, held-count, pairs_seen-snoc, HasPlace, place-of-new, place-of-old, put-in-place}
-use Rattle.pgn_game.proofs.pairs.SortedPairs.{stays-in-place}
+use Rattle.pgn_game.proofs.Words.{[], arith, rules, ◌≡◌, subst, length, InOrder}
+use Rattle.pgn_game.proofs.pairs.StoredPlaces.{stored-held, held-count, HasPlace, place-of-new, place-of-old, begun-seen, begun-stored}
 use Rattle.pgn_game.proofs.tags.TagPairs.begin.Goals as goal
-use Rattle.pgn_game.proofs.tags.TagPairs.begin.Goals.{then-self-len, else-self-len}
+use Rattle.pgn_game.proofs.tags.TagPairs.begin.Goals.{then-count-len, else-count-len}
 
 pub push-requires : goal.push-requires
 push-requires g c =
-    let count = held-count c.self.invariant c.self.view_is c.requires.whole in
-    (search rules, omega (arith, c.requires.room, count))
+    let count = held-count c.self.inside.stored.items c.self.inside.order.items _ c.self.view_is c.requires.whole in
+    (search rules, omega (arith, c.requires.room, count, c.len-count.ensures.value, c.len.ensures.value))
 
 pub returns : goal.returns
 returns g c =
-    let same = first-held c.self.invariant c.self.view_is c.requires.whole in
-    let count = held-count c.self.invariant c.self.view_is c.requires.whole in
-    let has : HasPlace g.row.T c.if-self-len.self-inside.pairs.items c.if-self-len.self-inside.count c.args.self.now.held =
-    elim c.if-self-len.branch [
-      | then-self-len w ↦
-          rw w.self-inside-is (place-of-new c.self.inside.pairs.items w.push.new.self.items w.default.result w.push.ensures.items same
-          (omega arith) (omega (arith, count, c.requires.room)))
-      | else-self-len w ↦
-          rw w.self-inside-is (place-of-old c.self.invariant.room same (omega (arith, c.self.invariant.within)))
+    let same = stored-held c.self.inside.stored.items c.self.inside.order.items _ c.self.view_is c.requires.whole in
+    let count = held-count c.self.inside.stored.items c.self.inside.order.items _ c.self.view_is c.requires.whole in
+    let has : HasPlace g.row.T c.if-count-len.self-inside.stored.items c.if-count-len.self-inside.order.items c.args.self.now.held =
+    elim c.if-count-len.branch [
+      | then-count-len w ↦
+          rw w.self-inside-is (place-of-new c.self.inside.stored.items w.push.new.self.items w.default.result w.push.ensures.items same
+          c.self.invariant.first (omega arith) (omega (arith, count, c.requires.room)))
+      | else-count-len w ↦
+          rw w.self-inside-is (place-of-old same c.self.invariant.first (omega (arith, c.self.invariant.within)) c.self.invariant.room)
     ] in
-    rw (c.as_mut_slice-pairs.ensures.value, put-in-place c.set_name.new.self has, c.set_name.ensures)
-    (pairs_seen-snoc (record { name = c.args.name.now; value = [] }))
+    let at : c.len-count.result ≡ length c.if-count-len.self-inside.order.items =
+    elim c.if-count-len.branch [
+      | then-count-len w ↦ rw w.self-inside-is c.len-count.ensures.value
+      | else-count-len w ↦ rw w.self-inside-is c.len-count.ensures.value
+    ] in
+    rw (c.as_mut_slice-stored.ensures.value, c.set_name.ensures) (begun-seen (record { name = c.args.name.now; value = [] }) has at)
 
 pub invariant_of-self : goal.invariant_of-self
 invariant_of-self g c =
-    let same = first-held c.self.invariant c.self.view_is c.requires.whole in
-    let count = held-count c.self.invariant c.self.view_is c.requires.whole in
-    let has : HasPlace g.row.T c.if-self-len.self-inside.pairs.items c.if-self-len.self-inside.count c.args.self.now.held =
-    elim c.if-self-len.branch [
-      | then-self-len w ↦
-          rw w.self-inside-is (place-of-new c.self.inside.pairs.items w.push.new.self.items w.default.result w.push.ensures.items same
-          (omega arith) (omega (arith, count, c.requires.room)))
-      | else-self-len w ↦
-          rw w.self-inside-is (place-of-old c.self.invariant.room same (omega (arith, c.self.invariant.within)))
+    let same = stored-held c.self.inside.stored.items c.self.inside.order.items _ c.self.view_is c.requires.whole in
+    let count = held-count c.self.inside.stored.items c.self.inside.order.items _ c.self.view_is c.requires.whole in
+    let has : HasPlace g.row.T c.if-count-len.self-inside.stored.items c.if-count-len.self-inside.order.items c.args.self.now.held =
+    elim c.if-count-len.branch [
+      | then-count-len w ↦
+          rw w.self-inside-is (place-of-new c.self.inside.stored.items w.push.new.self.items w.default.result w.push.ensures.items same
+          c.self.invariant.first (omega arith) (omega (arith, count, c.requires.room)))
+      | else-count-len w ↦
+          rw w.self-inside-is (place-of-old same c.self.invariant.first (omega (arith, c.self.invariant.within)) c.self.invariant.room)
     ] in
-    rw c.as_mut_slice-pairs.ensures.value
-    (stays-in-place c.set_name.new.self has)
+    let at : c.len-count.result ≡ length c.if-count-len.self-inside.order.items =
+    elim c.if-count-len.branch [
+      | then-count-len w ↦ rw w.self-inside-is c.len-count.ensures.value
+      | else-count-len w ↦ rw w.self-inside-is c.len-count.ensures.value
+    ] in
+    rw (c.as_mut_slice-stored.ensures.value, c.set_name.ensures)
+    (begun-stored (record { name = c.args.name.now; value = [] }) c.args.place has at (subst InOrder same c.self.invariant.in_order)
+    c.requires.new c.requires.place)

@@ -1,0 +1,229 @@
+-- Pairs that are stored in another order.
+use Rattle.pgn_game.proofs.Words.{◌≡◌, IfSome, IsSomeAnd, length-map, length-set, refill, take-append_seam, subst, insert_pair, IsSome, ℕ, suc, zero, ◌+◌, ◌<◌, ◌≤◌, Bool, true, false, List, [], ◌∷◌, ◌++◌, length, refl, sym, ap, ◌∙◌, arith, Option, None, Some, insert, take, drop, get_or, set, map-append, Pair, has_pair, TagPairs, AllBelow, AreInOrder, FitsPairStore, InOrder, index_of, pair_at, placed, pairs_seen}
+use Rattle.std.proofs.lemmas.List.{get_or-set_other, get_or-set_same, get_or_append_left, get_or_read, length_push, take-map, drop-map}
+use Rattle.std.proofs.lemmas.List.Edits.{length-insert}
+use Rattle.pgn_game.proofs.pairs.NameOrder.{order-insert}
+use Rattle.pgn_game.proofs.pairs.SortedPairs.{index_of-le, insert-place, all-take, all-drop, order-take, order-drop}
+
+abbrev empty : Pair
+empty = record { name = []; value = [] }
+
+-- a pair written over another changes none of those at other places
+pub placed-set : (ps : List Pair) (n : ℕ) (p : Pair) (order : List ℕ) → AllBelow n order → placed (set ps n p) order ≡ placed ps order
+placed-set ps n p [] h = refl
+placed-set ps n p (i ∷ is) h =
+    cc (get_or-set_other ps n i p empty (λ e. absurd (omega (arith, e, h.0))), placed-set ps n p is h.1)
+
+-- nor does one more behind them
+pub placed-push : (ps : List Pair) (p : Pair) (order : List ℕ) → AllBelow (length ps) order → placed (ps ++ p ∷ []) order ≡ placed ps order
+placed-push ps p [] h = refl
+placed-push ps p (i ∷ is) h = cc (get_or_append_left ps (p ∷ []) empty i h.0, placed-push ps p is h.1)
+
+pub placed-insert : (ps : List Pair) (order : List ℕ) (k i : ℕ)
+    → placed ps (insert order k i) ≡ insert (placed ps order) k (pair_at ps i)
+placed-insert ps order k i =
+    cc (map-append (pair_at ps) (take k order) (i ∷ drop k order), take-map (pair_at ps) k order, drop-map (pair_at ps) k order)
+
+-- places
+pub below-insert : {n : ℕ} (order : List ℕ) (k i : ℕ) → AllBelow n order → i < n → AllBelow n (insert order k i)
+below-insert order zero i h l = (l, h)
+below-insert [] (suc k) i h l = (l, tt)
+below-insert (j ∷ js) (suc k) i h l = (h.0, below-insert js k i h.1 l)
+
+pub below-more : {n m : ℕ} (order : List ℕ) → AllBelow n order → n ≤ m → AllBelow m order
+below-more [] h l = tt
+below-more (i ∷ is) h l = (omega (arith, h.0), below-more is h.1 l)
+
+pub below_at : {n : ℕ} (order : List ℕ) (k x : ℕ) → AllBelow n order → k < length order → x ≡ get_or order k x → x < n
+below_at [] k x h l e = absurd (omega arith)
+below_at (i ∷ is) zero x h l e = rw e h.0
+below_at (i ∷ is) (suc k) x h l e = below_at is k x h.1 (omega arith) e
+
+-- a part of pairs in order is in order
+pub in_order-take : (ps : List Pair) (order : List ℕ) (k : ℕ) → AreInOrder ps order → AreInOrder ps (take k order)
+in_order-take ps order k h = record {
+  within = all-take (λ i. i < length ps) order k h.within;
+  in_order = rw (← take-map (pair_at ps) k order) (order-take (placed ps order) k h.in_order);
+}
+
+pub in_order-drop : (ps : List Pair) (order : List ℕ) (k : ℕ) → AreInOrder ps order → AreInOrder ps (drop k order)
+in_order-drop ps order k h = record {
+  within = all-drop (λ i. i < length ps) order k h.within;
+  in_order = rw (← drop-map (pair_at ps) k order) (order-drop (placed ps order) k h.in_order);
+}
+
+-- What is seen where no pair has begun, and where one has.
+abbrev seen : List Pair → Option (List ℕ) → TagPairs
+seen held begun = record { held = held; pending_name = begun }
+
+abbrev seen_of : List Pair → List ℕ → Bool → TagPairs
+seen_of ps order b = pairs_seen (placed ps order) (pair_at ps (length order)) b
+
+all-held : (held : List Pair) (p : Pair) (b : Bool) {t : TagPairs} → pairs_seen held p b ≡ t → t.pending_name ≡ None → held ≡ t.held
+all-held held p false e none = ap (λ (s : TagPairs). s.held) e
+all-held held p true e none = absurd (cc)
+
+pub stored-held : (ps : List Pair) (order : List ℕ) (b : Bool) {t : TagPairs} → seen_of ps order b ≡ t → t.pending_name ≡ None
+    → placed ps order ≡ t.held
+stored-held ps order b e none = all-held (placed ps order) (pair_at ps (length order)) b e none
+
+pub held-count : (ps : List Pair) (order : List ℕ) (b : Bool) {t : TagPairs} → seen_of ps order b ≡ t
+    → t.pending_name ≡ None → length t.held ≡ length order
+held-count ps order b e none = ap (length {A = Pair}) (sym (stored-held ps order b e none)) ∙ length-map order (pair_at ps)
+
+abbrev IsBegun : List Pair → Pair → Bool → TagPairs → Type 0
+IsBegun held p b t = (b ≡ true) × (t ≡ seen held (Some p.name))
+
+by_flag : (held : List Pair) (p : Pair) (b : Bool) {t : TagPairs} → pairs_seen held p b ≡ t → IsSome t.pending_name → IsBegun held p b t
+by_flag held p true e some = (refl, sym e)
+by_flag held p false e some = absurd (cc)
+
+pub stored-begun : (ps : List Pair) (order : List ℕ) (b : Bool) {t : TagPairs} → seen_of ps order b ≡ t → IsSome t.pending_name
+    → IsBegun (placed ps order) (pair_at ps (length order)) b t
+stored-begun ps order b e some = by_flag (placed ps order) (pair_at ps (length order)) b e some
+
+pub stored-in-order : {most : ℕ} {ps : List Pair} {order : List ℕ} {place : ℕ} {b : Bool} → FitsPairStore most ps order place b
+    → AreInOrder ps order
+stored-in-order {order} fits = record { within = below-more order fits.first fits.within; in_order = fits.in_order }
+
+-- a slice that is as long takes the place of all items
+written : (ps : List Pair) (n : ℕ) (p : Pair) → refill (length ps) ps (set ps n p) ≡ set ps n p
+written ps n p = let same = length-set ps n p in grind (arith, take-append_seam)
+
+-- Of pairs that are stored, those in the order are held, and there is a place behind them.
+pub record HasPlace (most : ℕ) (ps : List Pair) (order : List ℕ) (held : List Pair) : Type 0 where
+  pub same : placed ps order ≡ held
+  pub first : AllBelow (length order) order
+  pub place : length order < length ps
+  pub room : length ps ≤ most
+
+pub place-of-old : {most : ℕ} {ps : List Pair} {order : List ℕ} {held : List Pair} → placed ps order ≡ held
+    → AllBelow (length order) order → length order < length ps → length ps ≤ most → HasPlace most ps order held
+place-of-old same first place room = record { same = same; first = first; place = place; room = room }
+
+pub place-of-new : {most : ℕ} (ps more : List Pair) {order : List ℕ} {held : List Pair} (p : Pair) → more ≡ ps ++ p ∷ []
+    → placed ps order ≡ held → AllBelow (length order) order → length order ≡ length ps → length ps < most
+    → HasPlace most more order held
+place-of-new ps more {order} p is same first all room =
+    let long : length more ≡ length ps + 1 = ap (length {A = Pair}) is ∙ length_push ps p in record {
+      same = rw is (placed-push ps p order (subst (λ n. AllBelow n order) all first) ∙ same);
+      first = first;
+      place = omega arith;
+      room = omega arith;
+    }
+
+-- a pair is written there
+pub begun-seen : {most : ℕ} {ps : List Pair} {order : List ℕ} {held : List Pair} {n : ℕ} (p : Pair)
+    → HasPlace most ps order held → n ≡ length order
+    → seen (placed (refill (length ps) ps (set ps n p)) order) (Some (pair_at (refill (length ps) ps (set ps n p)) (length order)).name)
+    ≡ seen held (Some p.name)
+begun-seen {ps} {order} {n} p has at =
+    let below : AllBelow n order = subst (λ m. AllBelow m order) (sym at) has.first in
+    let here : pair_at (set ps n p) (length order) ≡ p = ap (pair_at (set ps n p)) (sym at) ∙ get_or-set_same ps n p empty (omega (arith, has.place)) in
+    cc (written ps n p, placed-set ps n p order below, has.same, here)
+
+pub begun-stored : {most : ℕ} {ps : List Pair} {order : List ℕ} {held : List Pair} {n : ℕ} (p : Pair) (place : ℕ)
+    → HasPlace most ps order held → n ≡ length order → InOrder held → has_pair held p.name ≡ false → place ≡ index_of p.name held
+    → FitsPairStore most (refill (length ps) ps (set ps n p)) order place true
+begun-stored {most} {ps} {order} {n} p place has at sorted new index =
+    let below : AllBelow n order = subst (λ m. AllBelow m order) (sym at) has.first in
+    let here : pair_at (set ps n p) (length order) ≡ p = ap (pair_at (set ps n p)) (sym at) ∙ get_or-set_same ps n p empty (omega (arith, has.place)) in
+    let same = placed-set ps n p order below ∙ has.same in
+    let long = length-set ps n p in
+    rw (written ps n p)
+    (record {
+      room = omega (arith, has.room);
+      within = omega (arith, has.place);
+      first = has.first;
+      in_order = subst InOrder (sym same) sorted;
+      begun = λ _. record {
+        within = omega (arith, has.place);
+        new = rw (same, here) new;
+        index = rw (same, here) index;
+      };
+    })
+
+-- Its value comes, and its place goes into the order.
+is_at : (ps : List Pair) (n k : ℕ) (p : Pair) → n ≡ k → k < length ps → p ≡ get_or ps n p → p ≡ pair_at ps k
+is_at ps n k p at within is = get_or_read ps n p (omega arith) is empty ∙ ap (pair_at ps) at
+
+pub room-for-value : {most : ℕ} (ps : List Pair) (order : List ℕ) (place : ℕ) (b : Bool) {t : TagPairs} (n : ℕ) (p : Pair) (more : ℕ)
+    → FitsPairStore most ps order place b → seen_of ps order b ≡ t
+    → IsSomeAnd t.pending_name (λ name. length name + more ≤ 249) → IsSome t.pending_name
+    → n ≡ length order → p ≡ get_or ps n p → length p.name + more ≤ 249
+room-for-value ps order place b n p more fits view h some at is =
+    let begun = stored-begun ps order b view some in
+    let same = is_at ps n (length order) p at (fits.begun begun.0).within is in
+    rw same (rw begun.1 at h)
+
+pub begun-name : {most : ℕ} (ps : List Pair) (order : List ℕ) (place : ℕ) (b : Bool) {t : TagPairs} (n : ℕ) (p : Pair)
+    → FitsPairStore most ps order place b → seen_of ps order b ≡ t → IsSome t.pending_name → n ≡ length order → p ≡ get_or ps n p
+    → t.pending_name ≡ Some p.name
+begun-name ps order place b n p fits view some at is =
+    let begun = stored-begun ps order b view some in
+    let same = is_at ps n (length order) p at (fits.begun begun.0).within is in
+    ap (λ (s : TagPairs). s.pending_name) begun.1 ∙ ap (λ (q : Pair). Some q.name) (sym same)
+
+pub place-within : {most : ℕ} (ps : List Pair) (order : List ℕ) (place : ℕ) (b : Bool) {t : TagPairs}
+    → FitsPairStore most ps order place b → seen_of ps order b ≡ t → IsSome t.pending_name
+    → (place ≤ length order) × (length order < most)
+place-within ps order place b fits view some =
+    let begun = fits.begun (stored-begun ps order b view some).0 in
+    let low = index_of-le (pair_at ps (length order)).name (placed ps order) in
+    (omega (arith, low, begun.index, length-map order (pair_at ps)), omega (arith, begun.within, fits.room))
+
+-- the pairs with the new one at its place
+record IsPut (ps : List Pair) (order : List ℕ) (place n : ℕ) (q : Pair) : Type 0 where
+  within : length order < length ps
+  before : place ≤ length order
+  name : q.name ≡ (pair_at ps (length order)).name
+  pairs : placed (set ps n q) (insert order place n) ≡ insert_pair q (placed ps order)
+  new : has_pair (placed ps order) q.name ≡ false
+
+is-put : {most : ℕ} (ps : List Pair) (order : List ℕ) (place : ℕ) (b : Bool) {t : TagPairs} (n : ℕ) (p q : Pair)
+    → FitsPairStore most ps order place b → seen_of ps order b ≡ t → IsSome t.pending_name
+    → n ≡ length order → p ≡ get_or ps n p → q.name ≡ p.name → IsPut ps order place n q
+is-put ps order place b n p q fits view some at is named =
+    let begun = fits.begun (stored-begun ps order b view some).0 in
+    let name : q.name ≡ (pair_at ps (length order)).name = named ∙ ap (λ (r : Pair). r.name) (is_at ps n (length order) p at begun.within is) in
+    let below : AllBelow n order = subst (λ m. AllBelow m order) (sym at) fits.first in
+    let here : pair_at (set ps n q) n ≡ q = get_or-set_same ps n q empty (omega (arith, begun.within)) in
+    let index : place ≡ index_of q.name (placed ps order) = begun.index ∙ ap (λ m. index_of m (placed ps order)) (sym name) in record {
+      within = begun.within;
+      before = (place-within ps order place b fits view some).0;
+      name = name;
+      pairs = placed-insert (set ps n q) order place n ∙ ap (λ l. insert l place (pair_at (set ps n q) n)) (placed-set ps n q order below)
+          ∙ ap (insert (placed ps order) place) here ∙ ap (λ k. insert (placed ps order) k q) index ∙ insert-place q (placed ps order);
+      new = ap (has_pair (placed ps order)) name ∙ begun.new;
+    }
+
+abbrev named : List ℕ → List ℕ → Pair
+named name value = record { name = name; value = value }
+
+pub completed-seen : {most : ℕ} (ps : List Pair) (order more : List ℕ) (place : ℕ) (b : Bool) {t : TagPairs} (n : ℕ) (p q : Pair) (value : List ℕ)
+    → FitsPairStore most ps order place b → seen_of ps order b ≡ t → IsSome t.pending_name
+    → n ≡ length order → p ≡ get_or ps n p → q ≡ named p.name value → more ≡ insert order place n
+    → IfSome t.pending_name (λ name. seen (placed (refill (length ps) ps (set ps n q)) more) None ≡ seen (insert_pair (named name value) t.held) None)
+completed-seen ps order more place b n p q value fits view some at is new is_more =
+    let begun = stored-begun ps order b view some in
+    let put = is-put ps order place b n p q fits view some at is (ap (λ (r : Pair). r.name) new) in
+    let all : q ≡ named (pair_at ps (length order)).name value =
+    new ∙ ap (λ name. named name value) (ap (λ (r : Pair). r.name) (sym new) ∙ put.name) in
+    rw begun.1 (cc (written ps n q, is_more, put.pairs, all))
+
+pub completed-stored : {most : ℕ} (ps : List Pair) (order more : List ℕ) (place : ℕ) (b : Bool) {t : TagPairs} (n : ℕ) (p q : Pair) (value : List ℕ)
+    → FitsPairStore most ps order place b → seen_of ps order b ≡ t → IsSome t.pending_name
+    → n ≡ length order → p ≡ get_or ps n p → q ≡ named p.name value → more ≡ insert order place n
+    → FitsPairStore most (refill (length ps) ps (set ps n q)) more place false
+completed-stored ps order more place b n p q value fits view some at is new is_more =
+    let put = is-put ps order place b n p q fits view some at is (ap (λ (r : Pair). r.name) new) in
+    let long = length-set ps n q in
+    let count : length more ≡ length order + 1 = ap (length {A = ℕ}) is_more ∙ length-insert order place n put.before in
+    rw (written ps n q)
+    (record {
+      room = omega (arith, fits.room);
+      within = omega (arith, put.within);
+      first = rw (count, is_more) (below-insert order place n (below-more order fits.first (omega arith)) (omega arith));
+      in_order = rw (is_more, put.pairs) (order-insert q (placed ps order) put.new fits.in_order);
+      begun = λ e. absurd (cc);
+    })

@@ -1,0 +1,113 @@
+//! Tag pairs in the order of their names, which need not be stored so.
+ghost use Rattle.std.specs.Prelude.{◌≡◌, ◌+◌, ◌<◌, ◌≤◌, IfSome, drop, length, slice_index_or, take};
+ghost use Rattle.std.specs.Option.{option_copied};
+ghost use Rattle.pgn_layout.specs.TagLine.{escaped};
+ghost use Rattle.pgn_game.specs.Pairs.{comes_before, value_of};
+ghost use Rattle.pgn_game.specs.StoredPairs as spec;
+ghost use Rattle.pgn_game.specs.StoredPairs.{AreInOrder, InOrder, placed};
+
+use crate::pair::TagPair;
+use std::marker::Model;
+
+/// The tag pairs of one game, in the order of their names. No two have the same name.
+#[derive(Drop)]
+pub struct OrderedPairs<'a> {
+    stored: &'a [TagPair],
+    // Where each pair is stored.
+    order: &'a [usize],
+}
+
+impl<'a> Model for OrderedPairs<'a> {
+    ghost use Rattle.std.specs.Prelude.{List};
+    ghost use Rattle.pgn_game.specs.Pairs.{Pair};
+    ghost use Rattle.pgn_game.specs.StoredPairs.{AreInOrder, placed};
+
+    ghost Value = { List Pair };
+
+    ghost view = { λ p. placed p.stored.now p.order.now };
+
+    ghost invariant = { λ p. AreInOrder p.stored.now p.order.now };
+}
+
+impl<'a> OrderedPairs<'a> {
+    /// Returns the pairs that are stored at these places.
+    #[inline(always)]
+    pub fn new(stored: &'a [TagPair], order: &'a [usize]) -> Self
+        requires { AreInOrder stored.now order.now }
+        ensures { result ≡ placed stored.now order.now }
+    {
+        OrderedPairs { stored, order }
+    }
+
+    /// Returns how many pairs there are.
+    #[inline(always)]
+    pub fn len(&self) -> usize
+        ensures length { result ≡ length self.now }
+        ensures order { InOrder self.now }
+    {
+        self.order.len()
+    }
+
+    /// Returns the pair that has this many before it.
+    #[inline(always)]
+    pub fn at(&self, index: usize) -> &'a TagPair
+        requires { index < length self.now }
+        ensures { result.now ≡ slice_index_or self.now index result.now }
+    {
+        let order = self.order;
+        &self.stored[order[index]]
+    }
+
+    /// Returns the first so many pairs, and those behind them.
+    pub fn split_at(&self, index: usize) -> (OrderedPairs<'a>, OrderedPairs<'a>)
+        requires { index ≤ length self.now }
+        ensures front { result.0 ≡ take index self.now }
+        ensures back { result.1 ≡ drop index self.now }
+    {
+        let (front, back) = self.order.split_at(index);
+        (
+            OrderedPairs::new(self.stored, front),
+            OrderedPairs::new(self.stored, back),
+        )
+    }
+}
+
+/// Returns the value of a name among pairs, if it has one.
+pub fn value_in<'a>(pairs: &OrderedPairs<'a>, name: &[u8]) -> Option<&'a [u8]>
+    ensures value { option_copied result ≡ value_of pairs.now name.now }
+    ensures fits { IfSome result (λ value. length name.now + length (escaped value.now) ≤ 249) }
+{
+    for index in 0..pairs.len() {
+        let pair = pairs.at(index);
+        if pair.name() == name {
+            return Some(pair.value());
+        }
+    }
+    None
+}
+
+/// Returns how many pairs come before a name in their order, or have it.
+pub fn index_of(pairs: &OrderedPairs<'_>, name: &[u8]) -> usize
+    ensures index { result ≡ spec.index_of name.now pairs.now }
+    ensures within { result ≤ length pairs.now }
+    ensures order { InOrder pairs.now }
+{
+    let mut low = 0;
+    let mut high = pairs.len();
+    while low < high {
+        let middle = low + (high - low) / 2;
+        if is_before(name, pairs.at(middle).name()) {
+            high = middle;
+        } else {
+            low = middle + 1;
+        }
+    }
+    low
+}
+
+// Whether a name comes before another in the order of ASCII.
+fn is_before(name: &[u8], other: &[u8]) -> bool
+    ensures { result ≡ comes_before name.now other.now }
+{
+    name < other
+}
