@@ -259,12 +259,16 @@ fn lanes_of(content: Option<Piece>) -> u32
 }
 
 // The number of a content: 0 to 5 for a white piece, 6 to 11 for a black one, 12 for none.
+//
+// It is a sum, so that the compiler makes no branch of it.
 fn number_of(content: Option<Piece>) -> usize
     ensures { result ≡ words.number_of content }
 {
-    let Some(piece) = content else {
-        return 12;
-    };
+    // The number of this piece is 0, so no content is 12.
+    let piece = content.unwrap_or(Piece {
+        colour: Colour::White,
+        kind: Kind::King,
+    });
     let kind = match piece.kind {
         Kind::King => 0,
         Kind::Queen => 1,
@@ -273,8 +277,9 @@ fn number_of(content: Option<Piece>) -> usize
         Kind::Knight => 4,
         Kind::Pawn => 5,
     };
-    match piece.colour {
-        Colour::White => kind,
-        Colour::Black => 6 + kind,
-    }
+    let colour = match piece.colour {
+        Colour::White => 0,
+        Colour::Black => 6,
+    };
+    12 * usize::from(content.is_none()) + colour + kind
 }

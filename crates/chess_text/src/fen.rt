@@ -1,6 +1,6 @@
 //! Positions as text: Forsyth-Edwards notation. (PGN 16.1)
 
-ghost use Rattle.std.specs.Prelude.{◌≡◌, ◌≤◌, ◌+◌, ◌++◌, ◌∷◌, [], length, decimal};
+ghost use Rattle.std.specs.Prelude.{◌≡◌, ◌≤◌, ◌+◌, ◌++◌, ◌∷◌, [], Err, IfErr, None, Ok, OnOk, length, decimal, replicate};
 ghost use Rattle.std.specs.List.{before_first, after_first, position_or_len};
 ghost use Rattle.chess_text.specs.Fen.{is_space, read, parts_read, fen_text};
 
@@ -9,7 +9,7 @@ use crate::field::{
 };
 use crate::placement::{push_board, read_placement};
 use arrayvec::ArrayVec;
-use chess_rules::{Parts, Position};
+use chess_rules::{Colour, Parts, Position, Rights};
 use itoa::Buffer;
 
 /// Why a text spells no position.
@@ -46,19 +46,36 @@ pub struct FenFault {
 pub fn read_fen(text: &[u8]) -> Result<Position, FenFault>
     ensures { result ≡ read text.now }
 {
-    let parts = read_parts(text)?;
+    let mut parts = Parts {
+        board: [None; 64],
+        side: Colour::White,
+        rights: Rights {
+            white_short: false,
+            white_long: false,
+            black_short: false,
+            black_long: false,
+        },
+        target: None,
+        half: 0,
+        full: 0,
+    };
+    read_parts(text, &mut parts)?;
     match Position::build(&parts) {
         Ok(position) => Ok(position),
         Err(_) => Err(FenFault { field: 7 }),
     }
 }
 
-// The six parts that the six fields spell.
-fn read_parts(text: &[u8]) -> Result<Parts, FenFault>
-    ensures { result ≡ parts_read text.now }
+// Reads the six parts that the six fields spell, onto an empty board.
+//
+// They are stored where the caller has them, so nobody copies the board.
+fn read_parts(text: &[u8], parts: &mut Parts) -> Result<(), FenFault>
+    requires { parts.old.board ≡ replicate 64 None }
+    ensures read { OnOk result (parts_read text.now ≡ Ok parts.new) }
+    ensures long { OnOk result (length parts.new.board ≡ 64) }
+    ensures fault { IfErr result (λ f. parts_read text.now ≡ Err f) }
 {
-    let mut board = [None; 64];
-    let Some(end) = read_placement(text, &mut board) else {
+    let Some(end) = read_placement(text, &mut parts.board) else {
         return Err(FenFault { field: 1 });
     };
     let text = text_behind(text, end);
@@ -80,14 +97,12 @@ fn read_parts(text: &[u8]) -> Result<Parts, FenFault>
     let Some(full) = read_number(other_fields(text)) else {
         return Err(FenFault { field: 6 });
     };
-    Ok(Parts {
-        board,
-        side,
-        rights,
-        target,
-        half,
-        full,
-    })
+    parts.side = side;
+    parts.rights = rights;
+    parts.target = target;
+    parts.half = half;
+    parts.full = full;
+    Ok(())
 }
 
 // The text before the first space.

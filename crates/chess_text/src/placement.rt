@@ -20,6 +20,7 @@ pub(crate) fn read_placement(text: &[u8], board: &mut [Option<Piece>; 64]) -> Op
         ≡ (if is_some result then Some board.new else None) }
     ensures end { IfSome result (λ n. n ≡ position_or_len is_space text.now) }
     ensures within { IfSome result (λ n. n ≤ length text.now) }
+    ensures long { IfSome result (λ _. length board.new ≡ 64) }
 {
     // The index of file a of the rank, and how many of its squares are read.
     let mut rank = 56usize;

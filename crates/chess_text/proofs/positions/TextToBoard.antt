@@ -267,6 +267,22 @@ nothing_read text board h =
       no_space = λ k low. absurd (omega arith);
     }
 
+pub board_long : (text : List ℕ) (i : ℕ) (board : Board) (rank file : ℕ) → ReadSoFar text i board rank file → length board ≡ 64
+board_long text i board rank file so_far =
+    let rest = replicate {A = Option Piece} (8 - file) None ++ so_far.done in
+    omega (
+      arith,
+      ap length so_far.cells,
+      length-append (replicate {A = Option Piece} rank None) (so_far.row ++ rest),
+      length-append so_far.row rest,
+      length-append (replicate {A = Option Piece} (8 - file) None) so_far.done,
+      length-replicate {A = Option Piece} rank None,
+      length-replicate {A = Option Piece} (8 - file) None,
+      so_far.long,
+      so_far.narrow,
+      so_far.left,
+    )
+
 -- the end of the field
 finished : (text : List ℕ) (i : ℕ) (board : Board) (rank file : ℕ) (so_far : ReadSoFar text i board rank file)
     → finish so_far.row so_far.done ≡ read_on [] [] text

@@ -19,10 +19,10 @@ a_fault p f o h = grind arith
 
 pub returns-in-Ok : goal.returns-in-Ok
 returns-in-Ok c =
-    let p = c.in_ok-parts.parts in
-    no_fault p _ _ c.in-Ok.ensures ∙ sym (of_fault p (position_fault p) (omega arith)) ∙ ap if_position c.in_ok-parts.ensures
+    let p = c.read_parts.new.parts in
+    no_fault p _ _ c.in-Ok.ensures ∙ sym (of_fault p (position_fault p) c.in_ok-read_parts.ensures.long) ∙ ap if_position (sym c.in_ok-read_parts.ensures.read)
 
 pub returns-in-Err : goal.returns-in-Err
 returns-in-Err c =
-    let p = c.in_ok-parts.parts in
-    a_fault p c.in-Err.field-0 _ c.in-Err.ensures ∙ sym (of_fault p (position_fault p) (omega arith)) ∙ ap if_position c.in_ok-parts.ensures
+    let p = c.read_parts.new.parts in
+    a_fault p c.in-Err.field-0 _ c.in-Err.ensures ∙ sym (of_fault p (position_fault p) c.in_ok-read_parts.ensures.long) ∙ ap if_position (sym c.in_ok-read_parts.ensures.read)

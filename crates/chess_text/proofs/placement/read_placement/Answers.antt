@@ -1,6 +1,6 @@
 use Rattle.chess_text.proofs.Words.{◌≡◌, ℕ, ◌<◌, ◌≤◌, ◌+◌, ◌==◌, false, ◌&&◌, List, length, set, subst, sym, ap, arith, Board, is_space, position_or_len_is, nat_tests, nat_lt, Some, None, Option, if◌then◌else◌, item, get_or, ◌⊎◌}
 use Rattle.chess_text.specs.declared.item.Item.{Item}
-use Rattle.chess_text.proofs.positions.TextToBoard.{ReadSoFar, nothing_read, item_read, slash_read, space_read, other_read, end_read}
+use Rattle.chess_text.proofs.positions.TextToBoard.{ReadSoFar, board_long, nothing_read, item_read, slash_read, space_read, other_read, end_read}
 use Rattle.chess_text.proofs.placement.read_placement.Goals as goal
 use Rattle.chess_text.proofs.placement.read_placement.Goals.{then-file-width-le8, else-file-width-le8+then-byte-eq47+then-file-eq8+then-rank-gt0}
 
@@ -81,3 +81,11 @@ returns-else-file-eq8-3-clause-board c =
     part _ so_far.board so_far.rank so_far.file
     (end_read c.args.text.now so_far.i so_far.board so_far.rank so_far.file so_far.invariant (omega arith))
     c.else-file-eq8-3.either
+
+pub returns-then-rank-eq0-clause-long : goal.returns-then-rank-eq0-clause-long
+returns-then-rank-eq0-clause-long c =
+    board_long c.args.text.now c.loop-i.i c.loop-i.board c.loop-i.rank c.loop-i.file c.loop-i.invariant
+
+pub returns-then-rank-eq0-2-clause-long : goal.returns-then-rank-eq0-2-clause-long
+returns-then-rank-eq0-2-clause-long c =
+    board_long c.args.text.now c.loop-i.i c.loop-i.board c.loop-i.rank c.loop-i.file c.loop-i.invariant
