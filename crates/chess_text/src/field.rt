@@ -34,6 +34,15 @@ pub(crate) fn side_letter(side: Colour) -> u8
 pub(crate) fn read_rights(text: &[u8]) -> Option<Rights>
     ensures { result ≡ spec.rights_of text.now }
 {
+    // The most common text needs no look for letters.
+    if text == b"-".as_slice() {
+        return Some(Rights {
+            white_short: false,
+            white_long: false,
+            black_short: false,
+            black_long: false,
+        });
+    }
     let rights = Rights {
         white_short: text.contains(&b'K'),
         white_long: text.contains(&b'Q'),
