@@ -12,8 +12,8 @@ use crate::letter::piece_letter;
 use arrayvec::ArrayVec;
 use chess_rules::{Piece, Position, Square};
 
-// Reads the content of each square, from a1, b1 to h8, onto an empty board. The text begins with the
-// first field of a FEN, which ends at the first space. Returns where it ends.
+// Reads the content of each square, from a1, b1 to h8, onto an empty board. The text begins with
+// the first field of a FEN, which ends at the first space. Returns where it ends.
 pub(crate) fn read_placement(text: &[u8], board: &mut [Option<Piece>; 64]) -> Option<usize>
     requires empty { board.old ≡ replicate 64 None }
     ensures board { placement_of (before_first is_space text.now)
