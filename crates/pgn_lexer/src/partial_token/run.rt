@@ -253,7 +253,10 @@ impl PartialToken {
             used += 1;
         }
         self.length = length;
-        self.run_byte_by_byte(piece, used, place)
+        if used < piece.len() {
+            return self.run_byte_by_byte(piece, used, place);
+        }
+        (used, Reached::End)
     }
 
     /// The loop for every mode. Few tokens need it, so it is not inlined.

@@ -1,5 +1,5 @@
 use Rattle.pgn_lexer.proofs.Words.{◌≡◌, ◌<◌, length, take, refl, sym, ap, ◌∙◌, false≢true, arith, take_more_set, length-set, length-take-le, string_class, StringClass, AfterBackslash}
-use Rattle.pgn_lexer.proofs.stepping.PieceByByte.{ran_uses, ran_ends, takes_plain, takes_quote, takes_backslash, takes_escaped}
+use Rattle.pgn_lexer.proofs.stepping.PieceByByte.{ran_all, ran_uses, ran_ends, takes_plain, takes_quote, takes_backslash, takes_escaped}
 use Rattle.pgn_lexer.proofs.partial_token.PartialToken.run_escapes.Goals.{in-Plain, in_default, then-not-matches+else-byte-eq34+else-byte-ne92+else-used-end+else-not-is_escaped, else-not-matches}
 use Rattle.pgn_lexer.proofs.partial_token.PartialToken.run_escapes.Goals as goal
 
@@ -48,5 +48,8 @@ loop-used-preserved c =
           })
     ]
 
+pub returns-then-used-piece : goal.returns-then-used-piece
+returns-then-used-piece c = λ old ran. c.run_byte_by_byte.ensures old (c.loop-used.invariant.ran old ran)
+
 pub returns : goal.returns
-returns c = λ old ran. c.run_byte_by_byte.ensures old (c.loop-used.invariant.ran old ran)
+returns c = ran_all _ _ _ _ _ _ (omega arith) c.loop-used.invariant.ran
