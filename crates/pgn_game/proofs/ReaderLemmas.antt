@@ -10,7 +10,7 @@ pub use Rattle.pgn_game.proofs.putting.PairStepToReader.{completed, puts_left_br
 pub use Rattle.pgn_game.proofs.putting.PairStepToReader.{to_value}
 pub use Rattle.pgn_game.proofs.putting.WritesInTurn.{front_after, front_of_more}
 pub use Rattle.pgn_game.proofs.reading.MovetextTokens.{number_no_score}
-pub use Rattle.pgn_game.proofs.refusals.ReaderToPart.{begun_name, entry_after_tags, entry_in_movetext, has_pair_found, held_at, lacks_of, no_name}
+pub use Rattle.pgn_game.proofs.refusals.ReaderToPart.{begun_name, entry_after_tags, entry_in_movetext, held_at, lacks_of, no_name}
 pub use Rattle.pgn_game.proofs.refusals.ReaderToPart.{part_stage}
 pub use Rattle.pgn_game.proofs.refusals.RefusalsByStage.{close_next, close_refusal, end_after_tags, expected_bracket, expected_name, expected_value, hit, name_next, name_refusal, name_rows, open_next, open_refusal, pass, refuses_set_up, textual, value_next, value_refusal, value_rows}
 pub use Rattle.pgn_game.proofs.refusals.RefusalsInMovetext.{depth_is, differs, holds_is, marker_differs, marker_free, marker_inside, none_around}

@@ -34,7 +34,8 @@ impl<const T: usize> Model for TagPairs<T> {
     ghost view = { λ t. pairs_seen (placed t.stored.items t.order.items)
         (pair_at t.stored.items (length t.order.items)) t.has_pending_name };
 
-    ghost invariant = { λ t. FitsPairStore T t.stored.items t.order.items t.place t.has_pending_name };
+    ghost invariant = { λ t. FitsPairStore T t.stored.items t.order.items t.place
+        t.has_pending_name };
 }
 
 impl<const T: usize> TagPairs<T> {

@@ -34,11 +34,6 @@ pub below-more : {n m : ℕ} (order : List ℕ) → AllBelow n order → n ≤ m
 below-more [] h l = tt
 below-more (i ∷ is) h l = (omega (arith, h.0), below-more is h.1 l)
 
-pub below_at : {n : ℕ} (order : List ℕ) (k x : ℕ) → AllBelow n order → k < length order → x ≡ get_or order k x → x < n
-below_at [] k x h l e = absurd (omega arith)
-below_at (i ∷ is) zero x h l e = rw e h.0
-below_at (i ∷ is) (suc k) x h l e = below_at is k x h.1 (omega arith) e
-
 -- a part of pairs in order is in order
 pub in_order-take : (ps : List Pair) (order : List ℕ) (k : ℕ) → AreInOrder ps order → AreInOrder ps (take k order)
 in_order-take ps order k h = record {

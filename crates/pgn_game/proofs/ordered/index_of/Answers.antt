@@ -27,8 +27,11 @@ pub loop-low-preserved : goal.loop-low-preserved
 loop-low-preserved c =
     let within = c.loop-low.invariant.2 in
     let test = c.loop-low-test.true in (
-      omega (arith, index-behind c.args.name.now c.args.pairs.now _ c.len-high.ensures.order (omega (arith, within, test)) c.at.ensures
-          (told c.args.name.now c.name.ensures.name c.is_before.ensures c.if-is_before.false)),
+      omega (
+        arith,
+        index-behind c.args.name.now c.args.pairs.now _ c.len-high.ensures.order (omega (arith, within, test)) c.at.ensures
+            (told c.args.name.now c.name.ensures.name c.is_before.ensures c.if-is_before.false),
+      ),
       c.loop-low.invariant.1,
       within,
     )
