@@ -1,4 +1,5 @@
--- **Bookkeeping**: which pairs of an origin and a target the code tries, target by target.
+-- **Bookkeeping**: which pairs of an origin and a target the code tries, mostly target by target,
+-- and which targets may meet an attack.
 -- No rule of play rests on it. Letters: p is a position, s an origin, t a target.
 use Rattle.std.specs.Prelude.{◌≡◌, ◌<◌, ◌≤◌, ℕ, ◌+◌, Bool, true, false, ◌&&◌, ◌||◌, not, None, Some, filter, length, ◌==◌, if◌then◌else◌}
 use Rattle.std.specs.List.{list_any}

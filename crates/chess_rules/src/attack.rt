@@ -71,7 +71,7 @@ fn seen_along(board: &Board, line: Squares, origin: Square) -> Squares
     origin.recall_invariant();
     let blocking = line & board.occupied();
     let before = Squares::before(origin);
-    line & ((blocking & !before).up_to_lowest() & (blocking & before).from_highest())
+    line & ((blocking & !before).up_to_lowest() & (blocking & before).highest_onward())
 }
 
 // The squares that are seen from the origin along its rank, its file and its two diagonals.

@@ -1,6 +1,6 @@
 //! Trying all pairs of an origin and a target, until one is legal.
 
-ghost use Rattle.std.specs.Prelude.{IsTrue, ◌≡◌, ◌+◌, ◌<◌, ◌^◌, length, sum_by};
+ghost use Rattle.std.specs.Prelude.{IsTrue, ◌≡◌, ◌+◌, ◌<◌, ◌^◌, false, length, sum_by};
 ghost use Rattle.std.specs.List.{list_any};
 ghost use Rattle.chess_rules.specs.Board.{at, has_colour};
 ghost use Rattle.chess_rules.specs.Pairs as spec;
@@ -91,10 +91,12 @@ pub(crate) fn has_other_move_to(position: &Position, targets: Squares, probes: &
 
 // Tries the pairs for these targets, other than those that `has_king_step` tries.
 //
-// The king is in check, and no move to one of the targets can meet it: none of them is legal. So
-// all pairs of an origin are tried together, and each counts.
+// None of them is legal: the king is in check, and no such move to one of the targets can meet it.
+// So all pairs of an origin are tried together, and each counts.
 pub(crate) fn rule_out_moves_to(position: &Position, targets: Squares, probes: &mut Probes)
-    requires { probes.old + sum_by (spec.count_untried position.now) (members targets) < 2 ^ 32 }
+    requires none { list_any (spec.has_untried_move position.now) (members targets) ≡ false }
+    requires room { probes.old + sum_by (spec.count_untried position.now) (members targets)
+        < 2 ^ 32 }
     ensures { probes.new
         ≡ probes.old + sum_by (spec.count_untried position.now) (members targets) }
 {

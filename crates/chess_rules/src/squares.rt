@@ -174,7 +174,7 @@ impl Squares {
     }
 
     // The squares from the last of the set on, with this one; all squares if the set is empty.
-    pub(crate) fn from_highest(self) -> Squares
+    pub(crate) fn highest_onward(self) -> Squares
         ensures { IsFrom self result }
     {
         if self.bits == 0 {

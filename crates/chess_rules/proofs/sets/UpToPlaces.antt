@@ -37,8 +37,8 @@ not_before i n h less = grind arith
 at_or_after : (i n : ℕ) → (i < n → ⊥) → not (nat_lt i n) ≡ true
 at_or_after i n h = grind arith
 
-pub from_highest : (w n r : ℕ) → IsHighest w n → ((i : ℕ) → i < 64 → has r i ≡ not (nat_lt i n)) → IsFrom w r
-from_highest w n r highest is = record {
+pub highest_onward : (w n r : ℕ) → IsHighest w n → ((i : ℕ) → i < 64 → has r i ≡ not (nat_lt i n)) → IsFrom w r
+highest_onward w n r highest is = record {
   none = λ i low h j after high.
       let first : (i < n → ⊥) = not_before i n (sym (is i low) ∙ h) in
       highest.none j (after_both i j after first) high;

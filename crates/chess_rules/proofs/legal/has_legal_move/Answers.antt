@@ -37,8 +37,18 @@ has_other_move_to-requires c =
     let s = searches c.args.position.now c.evasion_targets-first.result c.not-others.result c.recall_invariant.ensures c.not-others.ensures in
     omega (arith, s.count, pair_count_most c.args.position.now, c.requires, c.has_king_step.ensures.count.all c.if-has_king_step.false)
 
-pub rule_out_moves_to-requires : goal.rule_out_moves_to-requires
-rule_out_moves_to-requires c =
+pub rule_out_moves_to-requires-clause-none : goal.rule_out_moves_to-requires-clause-none
+rule_out_moves_to-requires-clause-none c =
+    let p = c.args.position.now in
+    let check : is_check p ≡ true = sym c.is_checked.ensures ∙ c.if-is_checked.true in
+    let no_target : p.target ≡ None = sym c.target.ensures ∙ none_there c.target.result (c.is_none.ensures ∙ ap not c.if-is_none.true) in
+    none_elsewhere p c.evasion_targets-first.result c.recall_invariant.ensures check no_target
+    (check_met p c.board.result.now c.other.result c.king.result c.evasion_targets-first.result c.recall_invariant.ensures check
+    c.board.ensures (c.other.ensures ∙ ap other c.side.ensures) c.king.ensures c.evasion_targets-first.ensures)
+    c.not-others.result c.not-others.ensures
+
+pub rule_out_moves_to-requires-clause-room : goal.rule_out_moves_to-requires-clause-room
+rule_out_moves_to-requires-clause-room c =
     let s = searches c.args.position.now c.evasion_targets-first.result c.not-others.result c.recall_invariant.ensures c.not-others.ensures in
     omega (
       arith,

@@ -20,7 +20,7 @@ add-requires c =
     c.loop-origin.probes c.in-Some.origin c.in-Some.ensures c.loop-origin.invariant in
     let many = targets_counted c.args.position.now c.args.targets c.untried_from.result c.bitand.result c.in-Some.origin
     c.bitand.ensures c.untried_from.ensures in
-    omega (arith, counted, many, c.count.ensures, c.requires, counted_by_origins c.args.position.now c.args.targets)
+    omega (arith, counted, many, c.count.ensures, c.requires.room, counted_by_origins c.args.position.now c.args.targets)
 
 pub loop-origin-smaller : goal.loop-origin-smaller
 loop-origin-smaller c = omega (arith, ap length c.in-Some.ensures.next)

@@ -1,8 +1,8 @@
 use Rattle.chess_rules.proofs.Words.{cell_of, IsFrom, IsHighest, ◌≡◌, ◌-◌, ◌<◌, ◌^◌, not, sym, ◌∙◌, ap, subst, w64, arith, leading_zeros, nat_lt}
 use Rattle.chess_rules.proofs.positions.OneKing.{cell_of-square_at}
 use Rattle.chess_rules.proofs.sets.LowestAndHighest.{highest_place}
-use Rattle.chess_rules.proofs.sets.UpToPlaces.{from_all, from_highest}
-use Rattle.chess_rules.proofs.squares.Squares.from_highest.Goals as goal
+use Rattle.chess_rules.proofs.sets.UpToPlaces.{from_all, highest_onward}
+use Rattle.chess_rules.proofs.squares.Squares.highest_onward.Goals as goal
 
 pub returns-then-self-eq0 : goal.returns-then-self-eq0
 returns-then-self-eq0 c =
@@ -14,7 +14,7 @@ returns c =
     let fits : c.self.inside.bits < 2 ^ 64 = grind arith in
     let place : cell_of c.nth.result ≡ 63 - leading_zeros w64 c.self.inside.bits =
     ap cell_of c.nth.ensures ∙ cell_of-square_at (63 - leading_zeros w64 c.self.inside.bits) in
-    from_highest c.args.self (cell_of c.nth.result) c.not.result
+    highest_onward c.args.self (cell_of c.nth.result) c.not.result
     (subst (λ n. IsHighest n (cell_of c.nth.result)) c.self.view_is
     (subst (IsHighest c.self.inside.bits) (sym place) (highest_place c.self.inside.bits some fits)))
     (λ i low. c.not.ensures.of i low
