@@ -100,7 +100,7 @@ static ITEMS: [Item; 256] = [
 
 // What the byte means.
 //
-// A table tells it. A branch for each byte would mostly be mispredicted.
+// It comes from a table. A branch for each byte would mostly be mispredicted.
 pub(crate) fn item_of(byte: u8) -> Item
     ensures { result ≡ spec.item byte }
 {

@@ -1,4 +1,4 @@
-//! The tag pairs of one game, in the order of their names.
+//! The tag pairs of one game, and the order of their names.
 ghost use Rattle.std.specs.Prelude.{◌≡◌, ◌+◌, ◌<◌, ◌≤◌, ◌↔◌, [], IsTrue, IfSome, IsSome, IsSomeAnd, Some, None, false, is_none, length};
 ghost use Rattle.pgn_layout.specs.TagLine.{escaped};
 ghost use Rattle.pgn_game.specs.Pairs.{value_of, has_pair, insert_pair};

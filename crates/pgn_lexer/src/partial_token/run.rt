@@ -223,7 +223,7 @@ impl PartialToken {
     }
 
     /// Reads on in a string that has escapes, or that began in an earlier piece. An escape is read
-    /// here if both its bytes are in the piece.
+    /// here if both its bytes are in the piece, and the buffer has room for as many.
     #[inline(always)]
     fn run_escapes(&mut self, piece: &[u8], from: usize, place: u64) -> (usize, Reached)
         requires room { place + length piece.now ≤ 2 ^ 62 }
