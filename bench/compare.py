@@ -5,7 +5,7 @@ import subprocess
 import sys
 import time
 
-TURNS = 7
+TURNS = 15
 
 
 def stop(said):
