@@ -7,3 +7,4 @@ pub mod TablesOfSquares
 pub mod UpToPlaces
 pub mod WordsToCells
 pub mod RanksToWords
+pub mod RankToNumbers

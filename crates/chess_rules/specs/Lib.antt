@@ -12,3 +12,4 @@ pub mod Reach
 pub mod StepKinds
 pub mod StoredPosition
 pub mod Pairs
+pub mod RankNumbers

@@ -3,6 +3,7 @@
 ghost use Rattle.std.specs.Prelude.{◌≡◌, ◌<◌, ◌*◌, if◌then◌else◌, is_some, length, take, drop};
 ghost use Rattle.chess_rules.specs.Board as spec;
 ghost use Rattle.chess_rules.specs.Position.{initial_board, one_king};
+ghost use Rattle.chess_rules.specs.RankNumbers as numbers;
 ghost use Rattle.chess_rules.specs.Reach as reach;
 ghost use Rattle.chess_rules.specs.Words as words;
 ghost use Rattle.chess_rules.specs.declared.piece.Colour.TheVariants.{Black};
@@ -10,6 +11,7 @@ ghost use Rattle.chess_rules.specs.declared.piece.Colour.TheVariants.{Black};
 use crate::piece::{Colour, Kind, Piece};
 use crate::square::Square;
 use crate::squares::Squares;
+use crate::tables::{BYTES_OF_BITS, BYTES_OF_RUNS};
 use std::marker::Model;
 
 // Three sets tell the kinds of pieces apart. A rook is in `straight`, a bishop in `diagonal`, a
@@ -130,6 +132,22 @@ impl Board {
         Some(Piece { colour, kind })
     }
 
+    // What is on the squares of a rank, a number in each byte, from file a on.
+    //
+    // The numbers come from tables. A branch for each square would mostly be mispredicted.
+    #[inline(always)]
+    pub(crate) fn rank_numbers(&self, rank: u8) -> u64
+        requires { rank < 8 }
+        ensures { result ≡ numbers.rank_numbers self.now rank }
+    {
+        let straight = bytes_of_bits(self.straight.bits_on_rank(rank));
+        let diagonal = bytes_of_bits(self.diagonal.bits_on_rank(rank));
+        let near = bytes_of_bits(self.near.bits_on_rank(rank));
+        let black = bytes_of_bits(self.black.bits_on_rank(rank));
+        let runs = bytes_of_runs(self.occupied().bits_on_rank(rank));
+        straight + 2 * diagonal + 4 * near + 8 * black + runs
+    }
+
     pub(crate) fn is_empty(&self, square: Square) -> bool
         ensures { result ≡ spec.is_empty self.now square }
     {
@@ -216,6 +234,22 @@ impl Board {
             black: Squares::of_bits(black),
         }
     }
+}
+
+// Eight bits, a byte for each.
+fn bytes_of_bits(bits: usize) -> u64
+    requires { bits < 256 }
+    ensures { result ≡ numbers.bytes_of_bits 8 bits }
+{
+    BYTES_OF_BITS[bits]
+}
+
+// The numbers of the bits that are not set, a byte for each of eight bits.
+fn bytes_of_runs(bits: usize) -> u64
+    requires { bits < 256 }
+    ensures { result ≡ numbers.bytes_of_runs 8 0 bits }
+{
+    BYTES_OF_RUNS[bits]
 }
 
 // The sets of a rank in four lanes of eight bits, one for each file. From the lowest lane on these

@@ -4,6 +4,7 @@ ghost use Rattle.std.specs.Prelude.{◌≡◌, ◌<◌, ◌≤◌, IfSome, IsTru
 ghost use Rattle.chess_rules.specs.Board.{at, is_empty, other};
 ghost use Rattle.chess_rules.specs.Attacks.{king_attacked};
 ghost use Rattle.chess_rules.specs.Position as spec;
+ghost use Rattle.chess_rules.specs.RankNumbers.{rank_numbers};
 ghost use Rattle.chess_rules.specs.Step as step;
 ghost use Rattle.chess_rules.specs.StepKinds.{IsKindOfStep};
 ghost use Rattle.chess_rules.specs.Legal.{legal, is_legal, is_check};
@@ -332,6 +333,19 @@ impl Position {
         ensures { result ≡ at self.now.board square }
     {
         self.board.at(square)
+    }
+
+    /// Returns what is on the squares of a rank, from 0 (1) to 7 (8), a number in each byte.
+    ///
+    /// The lowest byte is that of file a. A rook has 1, a bishop 2, a queen 3, a pawn 4, a knight
+    /// 5, and a king 6. A black piece has 8 more. An empty square has 15 and how many empty squares
+    /// in a row end with it. So a rank is written as text without a branch for each square.
+    #[inline(always)]
+    pub fn rank_numbers(&self, rank: u8) -> u64
+        requires { rank < 8 }
+        ensures { result ≡ rank_numbers self.now.board rank }
+    {
+        self.board.rank_numbers(rank)
     }
 
     /// Returns whether no piece is on the square. In a loop over squares it is quicker than `at`.

@@ -1,6 +1,6 @@
 //! Sets of squares.
 
-ghost use Rattle.std.specs.Prelude.{◌≡◌, ◌<◌, ◌^◌, ◌&&◌, ◌||◌, length, nat_lt, not};
+ghost use Rattle.std.specs.Prelude.{◌≡◌, ◌<◌, ℕ, ◌+◌, ◌*◌, ◌^◌, ◌&&◌, ◌||◌, length, nat_lt, not};
 ghost use Rattle.chess_rules.specs.Board.{cell_of};
 ghost use Rattle.chess_rules.specs.Candidate.{lone};
 ghost use Rattle.chess_rules.specs.Reach.{square_at};
@@ -97,6 +97,15 @@ impl Squares {
         ensures { result ≡ spec.has self (cell_of square) }
     {
         self.bits >> (8 * square.rank()) >> square.file() & 1 == 1
+    }
+
+    // The squares of a rank that the set has: bit 0 for file a, to bit 7 for file h.
+    pub(crate) fn bits_on_rank(self, rank: u8) -> usize
+        requires { rank < 8 }
+        ensures bits { (i : ℕ) → i < 8 → spec.has result i ≡ spec.has self (8 * rank + i) }
+        ensures below { result < 256 }
+    {
+        (self.bits >> (8 * rank) & 255) as usize
     }
 
     // Whether the set has no square.

@@ -220,6 +220,14 @@ fn tells_the_first_position(rt: HostRuntime) {
 }
 
 #[test]
+fn numbers_the_squares_of_a_rank(rt: HostRuntime) {
+    let position = Position::initial();
+    assert_eq!(rt; position.rank_numbers(0), 0x0105_0206_0302_0501);
+    assert_eq!(rt; position.rank_numbers(3), 0x1716_1514_1312_1110);
+    assert_eq!(rt; position.rank_numbers(6), 0x0c0c_0c0c_0c0c_0c0c);
+}
+
+#[test]
 fn builds_what_it_is_told(rt: HostRuntime) -> Result<(), Fail> {
     let parts = Parts {
         side: Colour::Black,
