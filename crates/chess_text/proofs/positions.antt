@@ -9,3 +9,4 @@ pub mod SixFieldsJoined
 pub mod SpellingToReading
 pub mod TableOfItems
 pub mod TextToBoard
+pub mod NumbersToText

@@ -3,7 +3,7 @@
 ghost use Rattle.std.specs.Prelude.{◌≡◌, ◌≤◌};
 ghost use Rattle.chess_text.specs.Letter as spec;
 
-use chess_rules::{Colour, Kind, Piece};
+use chess_rules::Kind;
 
 // The capital letter of a kind. (PGN 8.2.3.2)
 pub(crate) fn letter(kind: Kind) -> u8
@@ -17,15 +17,5 @@ pub(crate) fn letter(kind: Kind) -> u8
         Kind::Bishop => b'B',
         Kind::Knight => b'N',
         Kind::Pawn => b'P',
-    }
-}
-
-// The capital letter for White, the small one for Black. (PGN 16.1.3.1)
-pub(crate) fn piece_letter(piece: Piece) -> u8
-    ensures { result ≡ spec.piece_letter piece }
-{
-    match piece.colour {
-        Colour::White => letter(piece.kind),
-        Colour::Black => letter(piece.kind) + 32,
     }
 }

@@ -1,16 +1,16 @@
 //! The board as the first field of a FEN. (PGN 16.1.3.1)
 
-ghost use Rattle.std.specs.Prelude.{◌≡◌, ◌<◌, ◌≤◌, ◌+◌, ◌-◌, ◌++◌, ◌∷◌, [], IfSome, is_some, replicate, length, if◌then◌else◌, Some, None};
+ghost use Rattle.std.specs.Prelude.{ℕ, ◌≡◌, ◌<◌, ◌≤◌, ◌+◌, ◌++◌, [], take, IfSome, is_some, replicate, length, if◌then◌else◌, Some, None};
 ghost use Rattle.std.specs.List.{before_first, position_or_len};
 ghost use Rattle.chess_text.specs.Fen.{is_space};
-ghost use Rattle.chess_text.specs.Placement.{placement_of, placement_text, rank_text, run_text, row};
-ghost use Rattle.chess_rules.specs.Board.{Board, at};
-ghost use Rattle.chess_rules.specs.Square.{square};
+ghost use Rattle.chess_text.specs.Letter as spec;
+ghost use Rattle.chess_text.specs.Placement.{placement_of, placement_text, rank_text, row};
+ghost use Rattle.chess_rules.specs.RankNumbers.{number_of_piece};
+ghost use Rattle.chess_rules.specs.declared.piece.Piece.{Piece};
 
 use crate::item::item_of;
-use crate::letter::piece_letter;
 use arrayvec::ArrayVec;
-use chess_rules::{Piece, Position, Square};
+use chess_rules::{Piece, Position};
 
 // Reads the content of each square, from a1, b1 to h8, onto an empty board. The text begins with
 // the first field of a FEN, which ends at the first space. Returns where it ends.
@@ -53,70 +53,55 @@ pub(crate) fn push_board(text: &mut ArrayVec<u8, 93>, position: &Position)
     ensures text { text.new.items ≡ placement_text position.now.board }
     ensures short { length text.new.items ≤ 71 }
 {
-    push_rank(text, position, 7);
+    let mut board = [0u8; 72];
+    let mut end = write_rank(&mut board, 0, position, 7);
     for below in 0..7 {
-        text.push(b'/');
-        push_rank(text, position, 6 - below);
+        board[end] = b'/';
+        end = write_rank(&mut board, end + 1, position, 6 - below);
     }
+    let _ = text.try_extend_from_slice(&board[..end]);
 }
 
-// Adds the canonical text of a rank.
+// Writes the canonical text of a rank, from this place on. Returns where it ends.
+//
+// No branch depends on what is on the squares, since it would mostly be mispredicted. Each square
+// writes a byte. That of an empty one is the digit of the run so far, and stands where the digit of
+// the shorter run was.
 //
 // It is inlined, so that the compiler unrolls its loop, and reads the board once for all ranks.
 #[inline(always)]
-fn push_rank(text: &mut ArrayVec<u8, 93>, position: &Position, rank: u8)
+fn write_rank(text: &mut [u8; 72], start: usize, position: &Position, rank: u8) -> usize
     requires rank { rank < 8 }
-    requires room { length text.old.items + 8 ≤ 93 }
-    ensures { text.new.items ≡ text.old.items ++ rank_text 0 (row position.now.board rank) }
+    requires room { start + 8 ≤ 72 }
+    ensures text { take result text.new
+        ≡ take start text.old ++ rank_text 0 (row position.now.board rank) }
+    ensures short { result ≤ start + 8 }
+    ensures long { length text.new ≡ 72 }
 {
-    let mut written = 0u8;
-    for file in 0..8 {
-        written = push_square(text, written, file, cell(position, file, rank));
+    let mut numbers = position.rank_numbers(rank);
+    let mut end = start;
+    for _ in 0u8..8 {
+        let number = (numbers % 256) as usize;
+        numbers /= 256;
+        // From the second square of a run on, no byte is added.
+        end += usize::from(number <= 16);
+        text[end - 1] = byte_of_number(number);
     }
-    push_run(text, 8 - written);
+    end
 }
 
-// Adds a square of a rank, of which so many squares are written. Those between are empty. Returns
-// how many are written now.
-fn push_square(text: &mut ArrayVec<u8, 93>, written: u8, file: u8, content: Option<Piece>) -> u8
-    requires file { file < 8 }
-    requires before { written ≤ file }
-    requires room { length text.old.items + file < 93 + written }
-    ensures text { (cells : Board) → text.new.items ++ rank_text (file + 1 - result) cells
-        ≡ text.old.items ++ rank_text (file - written) (content ∷ cells) }
-    ensures before { result ≤ file + 1 }
-    ensures room { length text.new.items + written ≤ length text.old.items + result }
-{
-    match content {
-        None => written,
-        Some(piece) => {
-            push_run(text, file - written);
-            text.push(piece_letter(piece));
-            file + 1
-        }
-    }
-}
+// The byte for each number of a square, as `Position::rank_numbers` has it. No square has 0, 7, 8
+// or 15.
+static BYTES_OF_NUMBERS: [u8; 24] = [
+    b'-', b'R', b'B', b'Q', b'P', b'N', b'K', b'-', b'-', b'r', b'b', b'q', b'p', b'n', b'k', b'-',
+    b'1', b'2', b'3', b'4', b'5', b'6', b'7', b'8',
+];
 
-// Adds the digit of a run of empty squares.
-fn push_run(text: &mut ArrayVec<u8, 93>, run: u8)
-    requires run { run ≤ 8 }
-    requires room { length text.old.items + run ≤ 93 }
-    ensures { text.new.items ≡ text.old.items ++ run_text run }
+// The letter of a piece, or the digit of the run of empty squares that ends there.
+fn byte_of_number(number: usize) -> u8
+    requires { number < 24 }
+    ensures piece { (x : Piece) → number ≡ number_of_piece x → result ≡ spec.piece_letter x }
+    ensures run { (n : ℕ) → n < 8 → number ≡ 16 + n → result ≡ 49 + n }
 {
-    if run > 0 {
-        text.push(b'0' + run);
-    }
-}
-
-// The content of the square. Most squares are empty, and `is_empty` is quicker than `at`.
-fn cell(position: &Position, file: u8, rank: u8) -> Option<Piece>
-    requires file { file < 8 }
-    requires rank { rank < 8 }
-    ensures { result ≡ at position.now.board (square file rank) }
-{
-    let square = Square::new(file, rank)?;
-    if position.is_empty(square) {
-        return None;
-    }
-    position.at(square)
+    BYTES_OF_NUMBERS[number]
 }
