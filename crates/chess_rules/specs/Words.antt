@@ -1,6 +1,6 @@
 -- **Bookkeeping**: the four words of 64 bits in which the code stores a board.
 -- Place i of a word is its bit i, that of the square with index i. No rule of play rests on it.
-use Rattle.std.specs.Prelude.{◌≡◌, ◌<◌, ℕ, ◌+◌, ◌*◌, ◌^◌, Bool, true, false, ◌||◌, List, [], ◌∷◌, filter, map, Option, None, Some, ◌==◌, if◌then◌else◌}
+use Rattle.std.specs.Prelude.{◌≡◌, ◌<◌, ℕ, ◌+◌, ◌*◌, ◌^◌, Bool, true, false, ◌||◌, List, [], ◌∷◌, filter, map, Option, None, Some, length, ◌==◌, if◌then◌else◌}
 use Rattle.std.specs.Int.{bit_at}
 use Rattle.std.specs.List.{list_any, range_with_len}
 use Rattle.chess_rules.specs.declared.piece.Colour.{Colour}
@@ -71,6 +71,12 @@ lanes_of cell =
 -- the lanes of eight cells or fewer, from file a on
 unfoldable pub lanes : List (Option Piece) → ℕ
 lanes b = word straight_of b + 256 * word diagonal_of b + 65536 * word is_near b + 16777216 * word (has_colour Black) b
+
+-- the lanes of some eight cells
+pub record AreLanes (n : ℕ) : Type 0 where
+  pub row : List (Option Piece)
+  pub eight : length row ≡ 8
+  pub value : n ≡ lanes row
 
 -- the row of a content in the table of lanes
 abbrev pub number_of : Option Piece → ℕ

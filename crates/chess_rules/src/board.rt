@@ -1,6 +1,6 @@
 //! The board: the piece on each of the 64 squares, in four sets of squares.
 
-ghost use Rattle.std.specs.Prelude.{◌≡◌, ◌<◌, ◌*◌, if◌then◌else◌, is_some, length, take, drop};
+ghost use Rattle.std.specs.Prelude.{◌≡◌, ◌<◌, ◌*◌, ◌++◌, if◌then◌else◌, is_some, length, replicate, take, drop, None};
 ghost use Rattle.chess_rules.specs.Board as spec;
 ghost use Rattle.chess_rules.specs.Position.{initial_board, one_king};
 ghost use Rattle.chess_rules.specs.RankNumbers as numbers;
@@ -14,11 +14,36 @@ use crate::squares::Squares;
 use crate::tables::{BYTES_OF_BITS, BYTES_OF_RUNS};
 use std::marker::Model;
 
+/// A board: the content of each of the 64 squares.
+///
+/// It is built rank by rank, from rank 8 on, and need not be the board of a position.
+///
+/// # Examples
+///
+/// ```
+/// use chess_rules::{Board, Colour, Kind, Piece, Position, PositionFault, Rights};
+///
+/// // A white king on e8, a black one on e7, and no other piece.
+/// let mut board = Board::empty();
+/// board.push_rank(0x0010_1000);
+/// board.push_rank(0x1010_1000);
+/// for _ in 0..6 {
+///     board.push_rank(0);
+/// }
+/// let rights = Rights {
+///     white_short: false,
+///     white_long: false,
+///     black_short: false,
+///     black_long: false,
+/// };
+/// let position = Position::build_on(&board, Colour::White, rights, None, 0, 1);
+/// assert_eq!(position.err(), Some(PositionFault::KingCapturable));
+/// ```
 // Three sets tell the kinds of pieces apart. A rook is in `straight`, a bishop in `diagonal`, a
 // queen in both. Pieces that do not slide are in `near`: a pawn there alone, a knight in `straight`
 // too, a king in `diagonal` too. `black` has the black pieces. No set has an empty square.
 #[derive(Clone, Copy)]
-pub(crate) struct Board {
+pub struct Board {
     straight: Squares,
     diagonal: Squares,
     near: Squares,
@@ -211,28 +236,57 @@ impl Board {
         }
     }
 
+    /// Returns the board with no piece.
+    pub fn empty() -> Board
+        ensures { result ≡ replicate 64 None }
+    {
+        let none = Squares::of_bits(0);
+        Board {
+            straight: none,
+            diagonal: none,
+            near: none,
+            black: none,
+        }
+    }
+
+    /// Puts eight squares on rank 1. What was on a rank goes to the rank above, and what was on rank
+    /// 8 is dropped.
+    ///
+    /// `lanes` has a bit for each of them in four lanes of eight bits. From the lowest bit of a lane
+    /// on they are for files a to h. The lowest lane has rooks, queens and knights, the next one
+    /// bishops, queens and kings, the third one pawns, knights and kings, and the highest one the
+    /// black pieces.
+    #[inline(always)]
+    pub fn push_rank(&mut self, lanes: u32)
+        requires { words.AreLanes lanes }
+        ensures { (row : spec.Board) → length row ≡ 8 → lanes ≡ words.lanes row
+            → self.new ≡ row ++ take 56 self.old }
+    {
+        *self = Board {
+            straight: self.straight.with_rank_below(u64::from(lanes % 256)),
+            diagonal: self.diagonal.with_rank_below(u64::from(lanes / 256 % 256)),
+            near: self.near.with_rank_below(u64::from(lanes / 65_536 % 256)),
+            black: self.black.with_rank_below(u64::from(lanes / 16_777_216)),
+        };
+    }
+
+    // By this call the caller's proof knows how many squares there are. It has no effect.
+    pub(crate) fn recall_length(&self)
+        ensures { length self.now ≡ 64 }
+    {
+        let _ = &self.straight;
+    }
+
     // The board with these contents, from a1, b1 to h8.
     pub(crate) fn of(contents: &[Option<Piece>; 64]) -> Board
         ensures { result ≡ contents.now }
     {
-        let mut straight = 0u64;
-        let mut diagonal = 0u64;
-        let mut near = 0u64;
-        let mut black = 0u64;
+        let mut board = Board::empty();
         // The ranks above are read already.
         for above in 0..8 {
-            let lanes = lanes_of_rank(contents, 7 - above);
-            straight = u64::from(lanes % 256) + 256 * straight;
-            diagonal = u64::from(lanes / 256 % 256) + 256 * diagonal;
-            near = u64::from(lanes / 65_536 % 256) + 256 * near;
-            black = u64::from(lanes / 16_777_216) + 256 * black;
+            board.push_rank(lanes_of_rank(contents, 7 - above));
         }
-        Board {
-            straight: Squares::of_bits(straight),
-            diagonal: Squares::of_bits(diagonal),
-            near: Squares::of_bits(near),
-            black: Squares::of_bits(black),
-        }
+        board
     }
 }
 

@@ -20,6 +20,7 @@ mod tables;
 #[cfg(test)]
 mod tests;
 
+pub use board::Board;
 pub use candidates::{may_have_two_origins, only_origin, origins};
 pub use legal::{has_legal_move, in_check, position_after, try_pair};
 pub use piece::{Colour, Kind, Piece, Promotion};

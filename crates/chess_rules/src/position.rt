@@ -1,6 +1,6 @@
 //! Moves and positions.
 
-ghost use Rattle.std.specs.Prelude.{◌≡◌, ◌<◌, ◌≤◌, IfSome, IsTrue, Some, is_some};
+ghost use Rattle.std.specs.Prelude.{◌≡◌, ◌<◌, ◌≤◌, IfSome, IsTrue, Some, is_some, length};
 ghost use Rattle.chess_rules.specs.Board.{at, is_empty, other};
 ghost use Rattle.chess_rules.specs.Attacks.{king_attacked};
 ghost use Rattle.chess_rules.specs.Position as spec;
@@ -162,33 +162,61 @@ impl Position {
     pub fn build(parts: &Parts) -> Result<Position, PositionFault>
         ensures { result ≡ spec.built parts.now }
     {
-        let board = Board::of(&parts.board);
-        let kings = (board.king(parts.side), board.king(parts.side.other()));
+        Position::build_on(
+            Board::of(&parts.board),
+            parts.side,
+            parts.rights,
+            parts.target,
+            parts.half,
+            parts.full,
+        )
+    }
+
+    /// Returns the position with this board and the other five parts, as `build` does.
+    ///
+    /// # Errors
+    ///
+    /// The first rule that the parts break, in the order of `PositionFault`.
+    pub fn build_on(
+        board: Board,
+        side: Colour,
+        rights: Rights,
+        target: Option<Square>,
+        half: u32,
+        full: u32,
+    ) -> Result<Position, PositionFault>
+        ensures value { result ≡ spec.built (record { board = board; side = side; rights = rights;
+            target = target; half = half; full = full }) }
+        ensures long { length board ≡ 64 }
+    {
+        board.recall_length();
+        let kings = (board.king(side), board.king(side.other()));
         let (Some(king), Some(other_king)) = kings else {
             return Err(PositionFault::Kings);
         };
         if has_pawn_on_edge(&board) {
             return Err(PositionFault::PawnOnEdge);
         }
-        if is_attacked(&board, parts.side, other_king) {
+        if is_attacked(&board, side, other_king) {
             return Err(PositionFault::KingCapturable);
         }
-        if !target_fits(parts.side, parts.target) {
+        if !target_fits(side, &target) {
             return Err(PositionFault::TargetRank);
         }
-        if parts.half > 99_999 || parts.full > 99_999 {
+        if half > 99_999 || full > 99_999 {
             return Err(PositionFault::NumberRange);
         }
+        let checked = is_attacked(&board, side.other(), king);
         Ok(Position {
             board,
-            side: parts.side,
-            rights: parts.rights,
-            target: parts.target,
-            half: parts.half,
-            full: parts.full,
+            side,
+            rights,
+            target,
+            half,
+            full,
             king,
             other_king,
-            checked: is_attacked(&board, parts.side.other(), king),
+            checked,
         })
     }
 
@@ -402,12 +430,15 @@ fn has_pawn_on_edge(board: &Board) -> bool
 }
 
 // Whether the target, if there is one, is on the rank that double steps of the other side cross.
-fn target_fits(side: Colour, target: Option<Square>) -> bool
-    ensures { result ≡ spec.target_fits side target }
+fn target_fits(side: Colour, target: &Option<Square>) -> bool
+    ensures { result ≡ spec.target_fits side target.now }
 {
-    match target {
+    match *target {
         None => true,
-        Some(square) => square.rank() == rank_from(side, 5),
+        Some(square) => {
+            square.recall_invariant();
+            square.rank() == rank_from(side, 5)
+        }
     }
 }
 

@@ -1,6 +1,6 @@
 //! Sets of squares.
 
-ghost use Rattle.std.specs.Prelude.{◌≡◌, ◌<◌, ℕ, ◌+◌, ◌*◌, ◌^◌, ◌&&◌, ◌||◌, length, nat_lt, not};
+ghost use Rattle.std.specs.Prelude.{◌≡◌, ◌<◌, ℕ, ◌+◌, ◌*◌, ◌%◌, ◌^◌, ◌&&◌, ◌||◌, length, nat_lt, not};
 ghost use Rattle.chess_rules.specs.Board.{cell_of};
 ghost use Rattle.chess_rules.specs.Candidate.{lone};
 ghost use Rattle.chess_rules.specs.Reach.{square_at};
@@ -124,6 +124,15 @@ impl Squares {
         } else {
             Squares::of_bits(self.bits & !bit_of(square))
         }
+    }
+
+    // The squares of the set, each a rank higher, and these of rank 1. Those on rank 8 are dropped.
+    #[inline(always)]
+    pub(crate) fn with_rank_below(self, rank: u64) -> Squares
+        requires { rank < 256 }
+        ensures { result ≡ rank + 256 * (self % 2 ^ 56) }
+    {
+        Squares::of_bits(rank + 256 * (self.bits % 72_057_594_037_927_936))
     }
 
     // How many squares the set has.

@@ -1,13 +1,13 @@
 -- The words of a board, made of the lanes of its ranks.
-use Rattle.std.proofs.Common.{drop}
+use Rattle.std.proofs.Common.{drop, replicate}
 use Rattle.std.proofs.Math.Pow.{pow_mono}
-use Rattle.std.proofs.Math.ListN.{drop_of_length-le}
 use Rattle.std.proofs.Math.Seq.{drop-cons}
-use Rattle.std.proofs.lemmas.List.{drop-drop, length-drop, length-take-le, take-append-drop}
-use Rattle.chess_rules.proofs.Words.{Black, Board, Piece, cells, cell_in, coded, diagonal_of, has, has_colour, is_near, straight_of, word, ◌≡◌, ℕ, suc, ◌+◌, ◌-◌, ◌*◌, ◌/◌, ◌%◌, ◌^◌, ◌<◌, ◌≤◌, Bool, List, [], ◌∷◌, ◌++◌, get_or, take, length, pow-suc, refl, sym, ◌∙◌, ap, ap₂, arith, Option, None, if◌then◌else◌}
+use Rattle.std.proofs.lemmas.List.{drop-drop, length-drop, length-replicate, length-take-le, replicate-append-replicate, take-append-drop, take_at}
+use Rattle.chess_rules.proofs.Words.{AreWords, Black, Board, Piece, cells, cell_in, coded, diagonal_of, has, has_colour, is_near, straight_of, word, ◌≡◌, ℕ, suc, ◌+◌, ◌*◌, ◌/◌, ◌%◌, ◌^◌, ◌<◌, ◌≤◌, Bool, List, [], ◌∷◌, ◌++◌, get_or, take, length, pow-suc, refl, sym, ◌∙◌, ap, ap₂, append_assoc, arith, length-append, subst, Option, None, if◌then◌else◌}
 use Rattle.chess_rules.specs.Words.{lanes_of, words}
 unfoldable use Rattle.chess_rules.specs.Words.{lanes}
-use Rattle.chess_rules.proofs.sets.WordsToCells.{has_word, same_cells, word_fits}
+use Rattle.chess_rules.proofs.sets.WordsToCells.{has_word, long_there, same_cells, word_fits}
+use Rattle.chess_rules.specs.declared.board.Board.TheInside.{Inside}
 
 -- The lanes of a rank.
 
@@ -71,62 +71,6 @@ word-append test (x ∷ xs) ys =
     longer : (first a whole b p q : ℕ) → whole ≡ a + p * b → q ≡ p * 2 → first + 2 * whole ≡ first + 2 * a + q * b
     longer first a whole b p q h power = grind arith
 
--- the word of the ranks that are read
-pub record Word (test : Option Piece → Bool) (b : Board) (above n : ℕ) : Type 0 where
-  pub value : n ≡ word test (drop (64 - 8 * above) b)
-  pub fits : n < 2 ^ 64
-
--- what is read after one rank more
-module _ (b : Board) (above lanes_read : ℕ) (long : length b ≡ 64) (low : above < 8)
-    (there : lanes_read ≡ lanes (take 8 (drop (8 * (7 - above)) b))) where
-  abbrev i : ℕ
-  i = 8 * (7 - above)
-
-  abbrev rank : Board
-  rank = take 8 (drop i b)
-
-  behind : i + 8 ≡ 64 - 8 * above
-  behind = omega arith
-
-  eight : length rank ≡ 8
-  eight = length-take-le 8 (drop i b) (omega (arith, length-drop i b))
-
-  sets : Lanes lanes_read rank
-  sets = lanes_apart lanes_read rank (omega (arith, eight)) there
-
-  with_rank : (test : Option Piece → Bool) (read lane : ℕ) → read ≡ word test (drop (64 - 8 * above) b)
-      → lane ≡ word test rank → Word test b (above + 1) (lane + 256 * read)
-  with_rank test read lane so_far next =
-      let here : i ≡ 64 - 8 * (above + 1) = omega arith in
-      let whole : word test (drop i b) ≡ word test rank + 2 ^ length rank * word test (drop 8 (drop i b)) =
-      ap (word test) (sym (take-append-drop 8 (drop i b))) ∙ word-append test rank (drop 8 (drop i b)) in
-      let rest : word test (drop 8 (drop i b)) ≡ read = ap (word test) (drop-drop 8 i b ∙ ap (λ k. drop k b) behind) ∙ sym so_far in
-      let power : 2 ^ length rank ≡ 256 = ap (λ k. 2 ^ k) eight in
-      let value : lane + 256 * read ≡ word test (drop i b) = omega (arith, next, whole ∙ ap₂ (λ k n. word test rank + k * n) power rest) in
-      let short : length (drop i b) ≤ 64 = omega (arith, length-drop i b) in
-      let most : 2 ^ length (drop i b) ≤ 2 ^ 64 = pow_mono short in
-      record { value = value ∙ ap (λ k. word test (drop k b)) here; fits = omega (arith, value, word_fits test (drop i b), most) }
-
-  pub with_straight : (read lane : ℕ) → read ≡ word straight_of (drop (64 - 8 * above) b) → lane ≡ lanes_read % 256
-      → Word straight_of b (above + 1) (lane + 256 * read)
-  with_straight read lane so_far e = with_rank straight_of read lane so_far (e ∙ sets.straight)
-
-  pub with_diagonal : (read lane : ℕ) → read ≡ word diagonal_of (drop (64 - 8 * above) b) → lane ≡ lanes_read / 256 % 256
-      → Word diagonal_of b (above + 1) (lane + 256 * read)
-  with_diagonal read lane so_far e = with_rank diagonal_of read lane so_far (e ∙ sets.diagonal)
-
-  pub with_near : (read lane : ℕ) → read ≡ word is_near (drop (64 - 8 * above) b) → lane ≡ lanes_read / 65536 % 256
-      → Word is_near b (above + 1) (lane + 256 * read)
-  with_near read lane so_far e = with_rank is_near read lane so_far (e ∙ sets.near)
-
-  pub with_black : (read lane : ℕ) → read ≡ word (has_colour Black) (drop (64 - 8 * above) b) → lane ≡ lanes_read / 16777216
-      → Word (has_colour Black) b (above + 1) (lane + 256 * read)
-  with_black read lane so_far e = with_rank (has_colour Black) read lane so_far (e ∙ sets.black)
-
-pub nothing_read : (test : Option Piece → Bool) (b : Board) → length b ≡ 64 → 0 ≡ word test (drop 64 b)
-unfolding word
-nothing_read test b long = sym (ap (word test) (let short : length b ≤ 64 = omega arith in drop_of_length-le b short))
-
 -- The cells of the words of a board.
 
 cell_of_words : (b : Board) (i : ℕ) → i < length b → cell_in (words b) i ≡ get_or b i None
@@ -140,3 +84,65 @@ cell_of_words b i low =
 
 pub cells_again : (b : Board) → length b ≡ 64 → cells (words b) ≡ b
 cells_again b long = same_cells (words b) b long (λ i low. cell_of_words b i (omega arith))
+
+-- A rank that is put below the others.
+
+module _ (old new : Inside) (lanes_read : ℕ) (row : Board) (eight : length row ≡ 8) (there : lanes_read ≡ lanes row) (are_words : AreWords old)
+    (straight : new.straight ≡ lanes_read % 256 + 256 * (old.straight % 2 ^ 56))
+    (diagonal : new.diagonal ≡ lanes_read / 256 % 256 + 256 * (old.diagonal % 2 ^ 56))
+    (near : new.near ≡ lanes_read / 65536 % 256 + 256 * (old.near % 2 ^ 56))
+    (black : new.black ≡ lanes_read / 16777216 + 256 * (old.black % 2 ^ 56)) where
+  abbrev pub pushed : Board
+  pushed = row ++ take 56 (cells old)
+
+  long : length pushed ≡ 64
+  long = omega (arith, length-append row (take 56 (cells old)), eight, length-take-le 56 (cells old) (omega (arith, long_there old (cells old) refl)))
+
+  sets : Lanes lanes_read row
+  sets = lanes_apart lanes_read row (omega (arith, eight)) there
+
+  with_rank : (test : Option Piece → Bool) (read lane word_new : ℕ) → word test (cells old) ≡ read → lane ≡ word test row
+      → word_new ≡ lane + 256 * (read % 2 ^ 56) → word test pushed ≡ word_new
+  with_rank test read lane word_new before here after =
+      let fifty_six : length (take 56 (cells old)) ≡ 56 = length-take-le 56 (cells old) (omega (arith, long_there old (cells old) refl)) in
+      let whole : read ≡ word test (take 56 (cells old)) + 2 ^ 56 * word test (drop 56 (cells old)) =
+      sym before ∙ ap (word test) (sym (take-append-drop 56 (cells old))) ∙ word-append test (take 56 (cells old)) (drop 56 (cells old))
+      ∙ ap (λ k. word test (take 56 (cells old)) + 2 ^ k * word test (drop 56 (cells old))) fifty_six in
+      let low : word test (take 56 (cells old)) < 2 ^ 56 = omega (arith, word_fits test (take 56 (cells old)), ap (λ k. 2 ^ k) fifty_six) in
+      let rest : read % 2 ^ 56 ≡ word test (take 56 (cells old)) = omega (arith, whole, low) in
+      word-append test row (take 56 (cells old)) ∙ ap (λ k. word test row + 2 ^ k * word test (take 56 (cells old))) eight
+      ∙ omega (arith, rest, here, after)
+
+  words_pushed : words pushed ≡ new
+  words_pushed =
+      ap₂ (λ x y. record { straight = x; diagonal = y; near = word is_near pushed; black = word (has_colour Black) pushed })
+      (with_rank straight_of old.straight _ new.straight (ap (λ (w : Inside). w.straight) are_words) sets.straight straight)
+      (with_rank diagonal_of old.diagonal _ new.diagonal (ap (λ (w : Inside). w.diagonal) are_words) sets.diagonal diagonal)
+      ∙ ap₂ (λ x y. record { straight = new.straight; diagonal = new.diagonal; near = x; black = y })
+      (with_rank is_near old.near _ new.near (ap (λ (w : Inside). w.near) are_words) sets.near near)
+      (with_rank (has_colour Black) old.black _ new.black (ap (λ (w : Inside). w.black) are_words) sets.black black)
+
+  pub are_words_pushed : AreWords new
+  are_words_pushed = subst AreWords words_pushed (ap words (cells_again pushed long))
+
+  pub cells_pushed : (before : Board) → cells old ≡ before → cells new ≡ row ++ take 56 before
+  cells_pushed before is = ap cells (sym words_pushed) ∙ cells_again pushed long ∙ ap (λ b. row ++ take 56 b) is
+
+-- The board of which the ranks above are read, and one rank more.
+
+pub next_rank : (b : Board) (k : ℕ) → length b ≡ 64 → k + 8 ≤ 64
+    → take 8 (drop k b) ++ take 56 (drop (k + 8) b ++ replicate (k + 8) None) ≡ drop k b ++ replicate k None
+next_rank b k long low =
+    ap (λ c. take 8 (drop k b) ++ c) kept ∙ sym (append_assoc (take 8 (drop k b)) (drop (k + 8) b) (replicate k None))
+    ∙ ap (λ c. c ++ replicate k None) (ap (λ c. take 8 (drop k b) ++ c) (sym (drop-drop 8 k b)) ∙ take-append-drop 8 (drop k b))
+  where
+    split : drop (k + 8) b ++ replicate (k + 8) None ≡ (drop (k + 8) b ++ replicate k None) ++ replicate 8 None
+    split =
+        ap (λ c. drop (k + 8) b ++ c) (sym (replicate-append-replicate k 8 None))
+        ∙ sym (append_assoc (drop (k + 8) b) (replicate k None) (replicate 8 None))
+
+    size : length (drop (k + 8) b ++ replicate {A = Option Piece} k None) ≡ 56
+    size = omega (arith, length-append (drop (k + 8) b) (replicate {A = Option Piece} k None), length-drop (k + 8) b, length-replicate {A = Option Piece} k None)
+
+    kept : take 56 (drop (k + 8) b ++ replicate (k + 8) None) ≡ drop (k + 8) b ++ replicate k None
+    kept = ap (take 56) split ∙ take_at (drop (k + 8) b ++ replicate k None) (replicate 8 None) 56 size
