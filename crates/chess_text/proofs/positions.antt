@@ -9,4 +9,5 @@ pub mod SixFieldsJoined
 pub mod SpellingToReading
 pub mod TableOfItems
 pub mod TextToBoard
+pub mod LanesOfItems
 pub mod NumbersToText

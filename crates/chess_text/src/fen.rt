@@ -1,15 +1,16 @@
 //! Positions as text: Forsyth-Edwards notation. (PGN 16.1)
 
-ghost use Rattle.std.specs.Prelude.{◌≡◌, ◌≤◌, ◌+◌, ◌++◌, ◌∷◌, [], Err, IfErr, None, Ok, OnOk, length, decimal, replicate};
+ghost use Rattle.std.specs.Prelude.{◌≡◌, ◌≤◌, ◌+◌, ◌++◌, ◌∷◌, [], Some, length, decimal};
 ghost use Rattle.std.specs.List.{before_first, after_first, position_or_len};
-ghost use Rattle.chess_text.specs.Fen.{is_space, read, parts_read, fen_text};
+ghost use Rattle.chess_text.specs.Fen.{is_space, field, rest, read, if_position, parts_or_fault, fen_text};
+ghost use Rattle.chess_text.specs.Field.{side_of, rights_of, target_of, number_of};
 
 use crate::field::{
     push_target, read_number, read_rights, read_side, read_target, rights_text, side_letter,
 };
 use crate::placement::{push_board, read_placement};
 use arrayvec::ArrayVec;
-use chess_rules::{Colour, Parts, Position, Rights};
+use chess_rules::{Board, Position};
 use itoa::Buffer;
 
 /// Why a text spells no position.
@@ -46,39 +47,19 @@ pub struct FenFault {
 pub fn read_fen(text: &[u8]) -> Result<Position, FenFault>
     ensures { result ≡ read text.now }
 {
-    let mut parts = Parts {
-        board: [None; 64],
-        side: Colour::White,
-        rights: Rights {
-            white_short: false,
-            white_long: false,
-            black_short: false,
-            black_long: false,
-        },
-        target: None,
-        half: 0,
-        full: 0,
-    };
-    read_parts(text, &mut parts)?;
-    match Position::build(&parts) {
-        Ok(position) => Ok(position),
-        Err(_) => Err(FenFault { field: 7 }),
-    }
-}
-
-// Reads the six parts that the six fields spell, onto an empty board.
-//
-// They are stored where the caller has them, so nobody copies the board.
-fn read_parts(text: &[u8], parts: &mut Parts) -> Result<(), FenFault>
-    requires { parts.old.board ≡ replicate 64 None }
-    ensures read { OnOk result (parts_read text.now ≡ Ok parts.new) }
-    ensures long { OnOk result (length parts.new.board ≡ 64) }
-    ensures fault { IfErr result (λ f. parts_read text.now ≡ Err f) }
-{
-    let Some(end) = read_placement(text, &mut parts.board) else {
+    let mut board = Board::empty();
+    let Some(end) = read_placement(text, &mut board) else {
         return Err(FenFault { field: 1 });
     };
-    let text = text_behind(text, end);
+    read_on_board(board, text_behind(text, end))
+}
+
+// Reads the five fields behind the first one, which spells the board.
+fn read_on_board(board: Board, text: &[u8]) -> Result<Position, FenFault>
+    ensures { result ≡ if_position (parts_or_fault (Some board) (side_of (field 1 text.now))
+        (rights_of (field 2 text.now)) (target_of (field 3 text.now)) (number_of (field 4 text.now))
+        (number_of (rest 4 text.now))) }
+{
     let Some(side) = read_side(first_field(text)) else {
         return Err(FenFault { field: 2 });
     };
@@ -97,12 +78,10 @@ fn read_parts(text: &[u8], parts: &mut Parts) -> Result<(), FenFault>
     let Some(full) = read_number(other_fields(text)) else {
         return Err(FenFault { field: 6 });
     };
-    parts.side = side;
-    parts.rights = rights;
-    parts.target = target;
-    parts.half = half;
-    parts.full = full;
-    Ok(())
+    match Position::build_on(board, side, rights, target, half, full) {
+        Ok(position) => Ok(position),
+        Err(_) => Err(FenFault { field: 7 }),
+    }
 }
 
 // The text before the first space.

@@ -3,13 +3,11 @@
 ghost use Rattle.std.specs.Prelude.{◌≡◌};
 ghost use Rattle.chess_text.specs.Items as spec;
 
-use chess_rules::{Colour, Kind, Piece};
-
-// What a byte means: the content of the first square, and how many squares there are. Those behind
-// the first are empty.
+// What a byte means: what is on the first square, and how many squares there are. Those behind the
+// first are empty. The first has its bits in four lanes, as `Board::push_rank` has those of file a.
 #[derive(Clone, Copy)]
 pub(crate) struct Item {
-    pub(crate) content: Option<Piece>,
+    pub(crate) lanes: u32,
     pub(crate) width: u8,
 }
 
@@ -17,7 +15,7 @@ pub(crate) struct Item {
 macro_rules! run {
     ($width:literal) => {
         Item {
-            content: None,
+            lanes: 0,
             width: $width,
         }
     };
@@ -25,12 +23,9 @@ macro_rules! run {
 
 // The letter of a piece.
 macro_rules! piece {
-    ($colour:ident, $kind:ident) => {
+    ($lanes:literal) => {
         Item {
-            content: Some(Piece {
-                colour: Colour::$colour,
-                kind: Kind::$kind,
-            }),
+            lanes: $lanes,
             width: 1,
         }
     };
@@ -54,29 +49,29 @@ const RU7: Item = run!(7);
 
 const RU8: Item = run!(8);
 
-const WKI: Item = piece!(White, King);
+const WKI: Item = piece!(0x0001_0100);
 
-const WQU: Item = piece!(White, Queen);
+const WQU: Item = piece!(0x0000_0101);
 
-const WRO: Item = piece!(White, Rook);
+const WRO: Item = piece!(0x0000_0001);
 
-const WBI: Item = piece!(White, Bishop);
+const WBI: Item = piece!(0x0000_0100);
 
-const WKN: Item = piece!(White, Knight);
+const WKN: Item = piece!(0x0001_0001);
 
-const WPA: Item = piece!(White, Pawn);
+const WPA: Item = piece!(0x0001_0000);
 
-const BKI: Item = piece!(Black, King);
+const BKI: Item = piece!(0x0101_0100);
 
-const BQU: Item = piece!(Black, Queen);
+const BQU: Item = piece!(0x0100_0101);
 
-const BRO: Item = piece!(Black, Rook);
+const BRO: Item = piece!(0x0100_0001);
 
-const BBI: Item = piece!(Black, Bishop);
+const BBI: Item = piece!(0x0100_0100);
 
-const BKN: Item = piece!(Black, Knight);
+const BKN: Item = piece!(0x0101_0001);
 
-const BPA: Item = piece!(Black, Pawn);
+const BPA: Item = piece!(0x0101_0000);
 
 const BAD: Item = run!(9);
 

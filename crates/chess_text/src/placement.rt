@@ -10,37 +10,40 @@ ghost use Rattle.chess_rules.specs.declared.piece.Piece.{Piece};
 
 use crate::item::item_of;
 use arrayvec::ArrayVec;
-use chess_rules::{Piece, Position};
+use chess_rules::{Board, Position};
 
-// Reads the content of each square, from a1, b1 to h8, onto an empty board. The text begins with
-// the first field of a FEN, which ends at the first space. Returns where it ends.
-pub(crate) fn read_placement(text: &[u8], board: &mut [Option<Piece>; 64]) -> Option<usize>
+// Reads the content of each square onto an empty board. The text begins with the first field of a
+// FEN, which ends at the first space. Returns where it ends.
+pub(crate) fn read_placement(text: &[u8], board: &mut Board) -> Option<usize>
     requires empty { board.old ≡ replicate 64 None }
     ensures board { placement_of (before_first is_space text.now)
         ≡ (if is_some result then Some board.new else None) }
     ensures end { IfSome result (λ n. n ≡ position_or_len is_space text.now) }
     ensures within { IfSome result (λ n. n ≤ length text.now) }
-    ensures long { IfSome result (λ _. length board.new ≡ 64) }
 {
-    // The index of file a of the rank, and how many of its squares are read.
-    let mut rank = 56usize;
-    let mut file = 0usize;
+    // How many ranks are left below, how many squares of the rank are read, and what is on them.
+    let mut below = 7u8;
+    let mut file = 0u8;
+    let mut lanes = 0u32;
     for (i, &byte) in text.iter().enumerate() {
         let item = item_of(byte);
-        let width = item.width as usize;
-        if file + width <= 8 {
-            board[rank + file] = item.content;
-            file += width;
-        } else if byte == b'/' && file == 8 && rank > 0 {
-            rank -= 8;
+        if file + item.width <= 8 {
+            lanes += item.lanes << file;
+            file += item.width;
+        } else if byte == b'/' && file == 8 && below > 0 {
+            board.push_rank(lanes);
+            below -= 1;
             file = 0;
-        } else if byte == b' ' && file == 8 && rank == 0 {
+            lanes = 0;
+        } else if byte == b' ' && file == 8 && below == 0 {
+            board.push_rank(lanes);
             return Some(i);
         } else {
             return None;
         }
     }
-    if file == 8 && rank == 0 {
+    if file == 8 && below == 0 {
+        board.push_rank(lanes);
         Some(text.len())
     } else {
         None

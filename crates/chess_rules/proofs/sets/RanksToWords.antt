@@ -128,21 +128,20 @@ module _ (old new : Inside) (lanes_read : ℕ) (row : Board) (eight : length row
   pub cells_pushed : (before : Board) → cells old ≡ before → cells new ≡ row ++ take 56 before
   cells_pushed before is = ap cells (sym words_pushed) ∙ cells_again pushed long ∙ ap (λ b. row ++ take 56 b) is
 
--- The board of which the ranks above are read, and one rank more.
+-- Every rank goes up by one, where the lowest rank is empty.
+pub ranks_above : (b : Board) (k : ℕ) → length b + k ≡ 56 → take 56 (b ++ replicate (k + 8) None) ≡ b ++ replicate k None
+ranks_above b k long = ap (take 56) split ∙ take_at (b ++ replicate k None) (replicate 8 None) 56 size
+  where
+    split : b ++ replicate (k + 8) None ≡ (b ++ replicate k None) ++ replicate 8 None
+    split = ap (λ c. b ++ c) (sym (replicate-append-replicate k 8 None)) ∙ sym (append_assoc b (replicate k None) (replicate 8 None))
 
+    size : length (b ++ replicate {A = Option Piece} k None) ≡ 56
+    size = omega (arith, length-append b (replicate {A = Option Piece} k None), length-replicate {A = Option Piece} k None)
+
+-- the board of which the ranks above are read, and one rank more
 pub next_rank : (b : Board) (k : ℕ) → length b ≡ 64 → k + 8 ≤ 64
     → take 8 (drop k b) ++ take 56 (drop (k + 8) b ++ replicate (k + 8) None) ≡ drop k b ++ replicate k None
 next_rank b k long low =
-    ap (λ c. take 8 (drop k b) ++ c) kept ∙ sym (append_assoc (take 8 (drop k b)) (drop (k + 8) b) (replicate k None))
+    ap (λ c. take 8 (drop k b) ++ c) (ranks_above (drop (k + 8) b) k (omega (arith, length-drop (k + 8) b)))
+    ∙ sym (append_assoc (take 8 (drop k b)) (drop (k + 8) b) (replicate k None))
     ∙ ap (λ c. c ++ replicate k None) (ap (λ c. take 8 (drop k b) ++ c) (sym (drop-drop 8 k b)) ∙ take-append-drop 8 (drop k b))
-  where
-    split : drop (k + 8) b ++ replicate (k + 8) None ≡ (drop (k + 8) b ++ replicate k None) ++ replicate 8 None
-    split =
-        ap (λ c. drop (k + 8) b ++ c) (sym (replicate-append-replicate k 8 None))
-        ∙ sym (append_assoc (drop (k + 8) b) (replicate k None) (replicate 8 None))
-
-    size : length (drop (k + 8) b ++ replicate {A = Option Piece} k None) ≡ 56
-    size = omega (arith, length-append (drop (k + 8) b) (replicate {A = Option Piece} k None), length-drop (k + 8) b, length-replicate {A = Option Piece} k None)
-
-    kept : take 56 (drop (k + 8) b ++ replicate (k + 8) None) ≡ drop (k + 8) b ++ replicate k None
-    kept = ap (take 56) split ∙ take_at (drop (k + 8) b ++ replicate k None) (replicate 8 None) 56 size

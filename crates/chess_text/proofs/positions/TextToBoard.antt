@@ -1,9 +1,11 @@
 -- The board that a text spells, rank by rank from its first one.
-use Rattle.std.proofs.Math.Seq.{set-append_seam}
-use Rattle.std.proofs.lemmas.List.{replicate-append-replicate, length-replicate}
+use Rattle.std.proofs.Common.{◌%◌}
+use Rattle.std.proofs.lemmas.List.{length-replicate}
+unfoldable use Rattle.chess_rules.specs.Words.{lanes}
+use Rattle.chess_text.proofs.positions.LanesOfItems.{lanes_fit, lanes_nil, lanes_with_item, ranks_above}
 use Rattle.chess_text.specs.Letter.{piece_of}
 use Rattle.chess_text.specs.Placement.{one_cell}
-use Rattle.chess_text.proofs.Words.{◌≡◌, ℕ, zero, suc, ◌+◌, ◌-◌, ◌*◌, ◌<◌, ◌≤◌, ◌==◌, Bool, true, false, ◌&&◌, ◌||◌, List, [], ◌∷◌, ◌++◌, length, take, drop, set, reverse, reverse-append, inl, inr, refl, sym, ◌∙◌, ap, ap₂, subst, arith, append-nil, append_assoc, length-append, None, Some, flat_map, flat_map-append, if◌then◌else◌, list_all, nat_tests, nat_le, nat_lt, false≢true, false_from_ne_true, Board, Piece, Option, ranks, is_item, is_rank, cells_of, placement_of, get_or, drop-cons, drop_all, cases_lt, onto_first, slice_split-cons_no, length-slice_split, is_slash, is_space, is_some, before_first, position_or_len, replicate, is_run, cells_at, item}
+use Rattle.chess_text.proofs.Words.{◌^◌, ◌≡◌, ℕ, zero, suc, ◌+◌, ◌-◌, ◌*◌, ◌<◌, ◌≤◌, ◌==◌, Bool, true, false, ◌&&◌, ◌||◌, List, [], ◌∷◌, ◌++◌, length, take, drop, reverse, reverse-append, inl, inr, refl, sym, ◌∙◌, ap, ap₂, subst, arith, append-nil, append_assoc, length-append, None, Some, flat_map, flat_map-append, if◌then◌else◌, list_all, nat_tests, nat_le, nat_lt, false≢true, false_from_ne_true, Board, Piece, Option, ranks, is_item, is_rank, cells_of, placement_of, get_or, drop-cons, drop_all, cases_lt, onto_first, slice_split-cons_no, length-slice_split, is_slash, is_space, is_some, before_first, position_or_len, replicate, is_run, cells_at, item}
 
 -- The reading, byte by byte: `row` has the squares of the rank so far, `done` those of the ranks
 -- above.
@@ -22,7 +24,7 @@ read_on row done (c ∷ s) =
 -- What a byte means.
 
 pub record Means (c : ℕ) : Type 0 where
-  pub cells : cells_at c ≡ (item c).content ∷ replicate ((item c).width - 1) None
+  pub cells : cells_at c ≡ piece_of c ∷ replicate ((item c).width - 1) None
   pub width : (item c).width ≡ length (cells_at c)
 
 run_none : (c : ℕ) → is_run c ≡ true → piece_of c ≡ None
@@ -238,95 +240,69 @@ on_other row done c s wide h g =
 
 -- The reading in the code.
 
--- The board has the squares that are read; the others are empty. `above` is how many ranks are left
--- below.
-pub record ReadSoFar (text : List ℕ) (i : ℕ) (board : Board) (rank file : ℕ) : Type 0 where
+-- The board has the squares of the ranks above, moved up; those below are empty. `lanes_read` has
+-- the squares of the rank so far. `below` is how many ranks are left.
+pub record ReadSoFar (text : List ℕ) (i : ℕ) (board : Board) (below file lanes_read : ℕ) : Type 0 where
   pub row : Board
   pub done : Board
-  pub below : ℕ
-  pub cells : board ≡ replicate rank None ++ (row ++ (replicate (8 - file) None ++ done))
+  pub cells : board ≡ done ++ replicate (8 * below + 8) None
+  pub value : lanes_read ≡ lanes row
   pub long : length row ≡ file
   pub narrow : file ≤ 8
-  pub left : length done + rank ≡ 56
-  pub whole : rank ≡ 8 * below
+  pub left : length done + 8 * below ≡ 56
   pub rest : read_on row done (drop i text) ≡ read_on [] [] text
   pub no_space : (k : ℕ) → k < i → is_space (get_or text k 0) ≡ false
 
-pub nothing_read : (text : List ℕ) (board : Board) → board ≡ replicate 64 None → ReadSoFar text 0 board 56 0
+pub nothing_read : (text : List ℕ) (board : Board) → board ≡ replicate 64 None → ReadSoFar text 0 board 7 0 0
 nothing_read text board h =
     record {
       row = [];
       done = [];
-      below = 7;
       cells = h;
+      value = sym lanes_nil;
       long = refl;
       narrow = omega arith;
       left = refl;
-      whole = refl;
       rest = refl;
       no_space = λ k low. absurd (omega arith);
     }
 
-pub board_long : (text : List ℕ) (i : ℕ) (board : Board) (rank file : ℕ) → ReadSoFar text i board rank file → length board ≡ 64
-board_long text i board rank file so_far =
-    let rest = replicate {A = Option Piece} (8 - file) None ++ so_far.done in
-    omega (
-      arith,
-      ap length so_far.cells,
-      length-append (replicate {A = Option Piece} rank None) (so_far.row ++ rest),
-      length-append so_far.row rest,
-      length-append (replicate {A = Option Piece} (8 - file) None) so_far.done,
-      length-replicate {A = Option Piece} rank None,
-      length-replicate {A = Option Piece} (8 - file) None,
-      so_far.long,
-      so_far.narrow,
-      so_far.left,
-    )
+-- the board with the rank that is read
+pub rank_read : (text : List ℕ) (i : ℕ) (board new : Board) (below file lanes_read : ℕ) (so_far : ReadSoFar text i board below file lanes_read)
+    → new ≡ so_far.row ++ take 56 board → new ≡ so_far.row ++ (so_far.done ++ replicate (8 * below) None)
+rank_read text i board new below file lanes_read so_far h =
+    h ∙ ap (λ b. so_far.row ++ take 56 b) so_far.cells ∙ ap (λ b. so_far.row ++ b) (ranks_above so_far.done (8 * below) so_far.left)
 
 -- the end of the field
-finished : (text : List ℕ) (i : ℕ) (board : Board) (rank file : ℕ) (so_far : ReadSoFar text i board rank file)
-    → finish so_far.row so_far.done ≡ read_on [] [] text
-    → placement_of (before_first is_space text) ≡ (if (file == 8) && (rank == 0) then Some board else None)
-finished text i board rank file so_far h =
-    sym (placement_is text) ∙ sym h ∙ by_count ((file == 8) && (rank == 0)) refl
+finished : (text : List ℕ) (i : ℕ) (board new : Board) (below file lanes_read : ℕ) (so_far : ReadSoFar text i board below file lanes_read)
+    → finish so_far.row so_far.done ≡ read_on [] [] text → (file ≡ 8 → new ≡ so_far.row ++ take 56 board)
+    → placement_of (before_first is_space text) ≡ (if (file == 8) && (below == 0) then Some new else None)
+finished text i board new below file lanes_read so_far h pushed =
+    sym (placement_is text) ∙ sym h ∙ by_count ((file == 8) && (below == 0)) refl
   where
-    tests : (m n : ℕ) → m ≡ file → n + rank ≡ 56 → ((m == 8) && (n == 56)) ≡ ((file == 8) && (rank == 0))
+    tests : (m n : ℕ) → m ≡ file → n + 8 * below ≡ 56 → ((m == 8) && (n == 56)) ≡ ((file == 8) && (below == 0))
     tests m n e f = grind (arith, nat_tests)
 
-    full : (file == 8) && (rank == 0) ≡ true → (file ≡ 8) × (rank ≡ 0)
+    full : (file == 8) && (below == 0) ≡ true → (file ≡ 8) × (below ≡ 0)
     full e = grind arith
 
-    all_read : file ≡ 8 → rank ≡ 0 → board ≡ so_far.row ++ so_far.done
+    all_read : file ≡ 8 → below ≡ 0 → new ≡ so_far.row ++ so_far.done
     all_read e f =
-        let none : 8 - file ≡ 0 = omega (arith, e) in
-        so_far.cells ∙ ap₂ (λ m n. replicate m None ++ (so_far.row ++ (replicate n None ++ so_far.done))) f none
+        rank_read text i board new below file lanes_read so_far (pushed e)
+        ∙ ap (λ n. so_far.row ++ (so_far.done ++ replicate (8 * n) None)) f
+        ∙ ap (λ b. so_far.row ++ b) (append-nil so_far.done)
 
-    by_count : (x : Bool) → ((file == 8) && (rank == 0)) ≡ x
-        → finish so_far.row so_far.done ≡ (if (file == 8) && (rank == 0) then Some board else None)
+    by_count : (x : Bool) → ((file == 8) && (below == 0)) ≡ x
+        → finish so_far.row so_far.done ≡ (if (file == 8) && (below == 0) then Some new else None)
     by_count true e =
-        let (eight, zero_rank) = full e in
-        if_same _ _ _ _ (tests _ _ so_far.long so_far.left) (sym (all_read eight zero_rank))
+        let (eight, none_below) = full e in
+        if_same _ _ _ _ (tests _ _ so_far.long so_far.left) (sym (all_read eight none_below))
     by_count false e =
         let same = tests _ _ so_far.long so_far.left in
         rw (same, e) refl
 
--- an item is put on the first square that is left
-put_item : (before row rest : Board) (n k : ℕ) (x : Option Piece) → k ≡ length (before ++ row)
-    → set (before ++ (row ++ ((None ∷ replicate n None) ++ rest))) k x ≡ before ++ ((row ++ (x ∷ replicate n None)) ++ rest)
-put_item before row rest n k x h =
-    ap₂ (λ b j. set b j x) (sym (append_assoc before row ((None ∷ replicate n None) ++ rest))) h
-    ∙ set-append_seam (before ++ row) None (replicate n None ++ rest) x
-    ∙ append_assoc before row (x ∷ (replicate n None ++ rest))
-    ∙ ap (λ b. before ++ b) (sym (append_assoc row (x ∷ replicate n None) rest))
-
-empty_squares : (n w : ℕ) → 0 < w → w ≤ n → replicate {A = Option Piece} n None ≡ (None ∷ replicate (w - 1) None) ++ replicate (n - w) None
-empty_squares n w some fits =
-    let sum : n ≡ w + (n - w) = omega arith in
-    ap (λ k. replicate k None) sum ∙ sym (replicate-append-replicate w (n - w) None)
-    ∙ ap (λ b. b ++ replicate (n - w) None) (replicate_first w some)
-
 -- the next byte
-module _ (text : List ℕ) (i : ℕ) (board : Board) (rank file : ℕ) (so_far : ReadSoFar text i board rank file) (low : i < length text) where
+module _ (text : List ℕ) (i : ℕ) (board : Board) (below file lanes_read : ℕ) (so_far : ReadSoFar text i board below file lanes_read) (low : i < length text) where
   abbrev pub byte : ℕ
   byte = get_or text i 0
 
@@ -347,53 +323,59 @@ module _ (text : List ℕ) (i : ℕ) (board : Board) (rank file : ℕ) (so_far :
       by_item true e = refl
       by_item false e = absurd (omega (arith, no_item byte e))
 
+  -- the lanes with a digit or a letter
+  lanes_after : file + (item byte).width ≤ 8 → lanes_read + (item byte).lanes * 2 ^ file ≡ lanes (so_far.row ++ cells_at byte)
+  lanes_after fits =
+      ap₂ (λ n k. n + (item byte).lanes * 2 ^ k) so_far.value (sym so_far.long)
+      ∙ sym (ap (λ b. lanes (so_far.row ++ b)) (means byte (is_item_here fits)).cells
+      ∙ lanes_with_item so_far.row (piece_of byte) ((item byte).width - 1))
+
+  long_after : file + (item byte).width ≤ 8 → length (so_far.row ++ cells_at byte) ≡ file + (item byte).width
+  long_after fits = omega (arith, length-append so_far.row (cells_at byte), so_far.long, (means byte (is_item_here fits)).width)
+
+  lanes_fit_after : file + (item byte).width ≤ 8 → lanes_read + (item byte).lanes * 2 ^ file < 2 ^ 32
+  lanes_fit_after fits = omega (arith, lanes_after fits, lanes_fit (so_far.row ++ cells_at byte) (omega (arith, long_after fits)))
+
+  shifted : file + (item byte).width ≤ 8 → ((item byte).lanes * 2 ^ file) % 2 ^ 32 ≡ (item byte).lanes * 2 ^ file
+  shifted fits = omega (arith, lanes_fit_after fits)
+
+  pub item_fits : file + (item byte).width ≤ 8 → lanes_read + ((item byte).lanes * 2 ^ file) % 2 ^ 32 < 2 ^ 32
+  item_fits fits = omega (arith, shifted fits, lanes_fit_after fits)
+
   -- a digit or a letter
-  pub item_read : file + (item byte).width ≤ 8 → ReadSoFar text (i + 1) (set board (rank + file) (item byte).content) rank (file + (item byte).width)
+  pub item_read : file + (item byte).width ≤ 8
+      → ReadSoFar text (i + 1) board below (file + (item byte).width) (lanes_read + ((item byte).lanes * 2 ^ file) % 2 ^ 32)
   item_read fits =
-      let good = is_item_here fits in
-      let means_byte = means byte good in
-      let some : 0 < (item byte).width = omega (arith, means_byte.width, ap length means_byte.cells) in
-      let room : (item byte).width ≤ 8 - file = omega (arith, fits, so_far.narrow) in
-      let left_over : 8 - file - (item byte).width ≡ 8 - (file + (item byte).width) = omega arith in
       record {
         row = so_far.row ++ cells_at byte;
         done = so_far.done;
-        below = so_far.below;
-        cells =
-            ap (λ b. set b (rank + file) (item byte).content)
-            (so_far.cells ∙ ap (λ b. replicate rank None ++ (so_far.row ++ b)) (ap (λ b. b ++ so_far.done) (empty_squares (8 - file) (item byte).width some room)
-            ∙ append_assoc (None ∷ replicate ((item byte).width - 1) None) (replicate (8 - file - (item byte).width) None) so_far.done))
-            ∙ put_item (replicate rank None) so_far.row (replicate (8 - file - (item byte).width) None ++ so_far.done) ((item byte).width - 1) (rank + file) (item byte).content
-            (omega (arith, length-append (replicate {A = Option Piece} rank None) so_far.row, length-replicate {A = Option Piece} rank None, so_far.long))
-            ∙ ap₂ (λ b k. replicate rank None ++ ((so_far.row ++ b) ++ (replicate k None ++ so_far.done))) (sym means_byte.cells) left_over;
-        long = omega (arith, length-append so_far.row (cells_at byte), so_far.long, means_byte.width);
+        cells = so_far.cells;
+        value = ap (λ n. lanes_read + n) (shifted fits) ∙ lanes_after fits;
+        long = long_after fits;
         narrow = fits;
         left = so_far.left;
-        whole = so_far.whole;
         rest =
             ap (λ k. read_on (so_far.row ++ cells_at byte) so_far.done (drop k text)) next
             ∙ sym (on_item so_far.row so_far.done byte (drop (suc i) text) (omega (arith, fits, so_far.long))) ∙ here;
-        no_space = no_space_here (item_no_space byte good);
+        no_space = no_space_here (item_no_space byte (is_item_here fits));
       }
 
   -- a slash after eight squares
-  pub slash_read : byte ≡ 47 → file ≡ 8 → 0 < rank → ReadSoFar text (i + 1) board (rank - 8) 0
-  slash_read h full more =
+  pub slash_read : (new : Board) → byte ≡ 47 → file ≡ 8 → 0 < below → new ≡ so_far.row ++ take 56 board → ReadSoFar text (i + 1) new (below - 1) 0 0
+  slash_read new h full more pushed =
       let slash : is_slash byte ≡ true = ap is_slash h in
-      let nine : rank ≡ (rank - 8) + 8 = omega (arith, so_far.whole, more) in
+      let one_more : 8 * below ≡ 8 * (below - 1) + 8 = omega (arith, more) in
       record {
         row = [];
         done = so_far.row ++ so_far.done;
-        below = so_far.below - 1;
         cells =
-            so_far.cells
-            ∙ ap₂ (λ m n. replicate m None ++ (so_far.row ++ (replicate (8 - n) None ++ so_far.done))) nine full
-            ∙ ap (λ b. b ++ (so_far.row ++ so_far.done)) (sym (replicate-append-replicate (rank - 8) 8 None))
-            ∙ append_assoc (replicate (rank - 8) None) (replicate 8 None) (so_far.row ++ so_far.done);
+            rank_read text i board new below file lanes_read so_far pushed
+            ∙ sym (append_assoc so_far.row so_far.done (replicate (8 * below) None))
+            ∙ ap (λ n. (so_far.row ++ so_far.done) ++ replicate n None) one_more;
+        value = sym lanes_nil;
         long = refl;
         narrow = omega arith;
-        left = omega (arith, length-append so_far.row so_far.done, so_far.long, so_far.left, full, nine);
-        whole = omega (arith, so_far.whole, more);
+        left = omega (arith, length-append so_far.row so_far.done, so_far.long, so_far.left, full, one_more);
         rest =
             ap (λ k. read_on [] (so_far.row ++ so_far.done) (drop k text)) next
             ∙ sym (on_slash so_far.row so_far.done byte (drop (suc i) text) slash (so_far.long ∙ full) (omega (arith, so_far.left, more))) ∙ here;
@@ -401,30 +383,32 @@ module _ (text : List ℕ) (i : ℕ) (board : Board) (rank file : ℕ) (so_far :
       }
 
   -- a space
-  pub space_read : byte ≡ 32 → placement_of (before_first is_space text) ≡ (if (file == 8) && (rank == 0) then Some board else None)
-  space_read h =
-      finished text i board rank file so_far (sym (on_space so_far.row so_far.done byte (drop (suc i) text) (ap is_space h)) ∙ here)
+  pub space_read : (new : Board) → byte ≡ 32 → (file ≡ 8 → new ≡ so_far.row ++ take 56 board)
+      → placement_of (before_first is_space text) ≡ (if (file == 8) && (below == 0) then Some new else None)
+  space_read new h pushed =
+      finished text i board new below file lanes_read so_far (sym (on_space so_far.row so_far.done byte (drop (suc i) text) (ap is_space h)) ∙ here) pushed
 
   -- any other byte
-  pub other_read : 8 < file + (item byte).width → ((byte == 47) && ((file == 8) && nat_lt 0 rank)) ≡ false
-      → ((byte == 32) && ((file == 8) && (rank == 0))) ≡ false → placement_of (before_first is_space text) ≡ None
+  pub other_read : 8 < file + (item byte).width → ((byte == 47) && ((file == 8) && nat_lt 0 below)) ≡ false
+      → ((byte == 32) && ((file == 8) && (below == 0))) ≡ false → placement_of (before_first is_space text) ≡ None
   other_read wide no_slash no_space =
       sym (placement_is text) ∙ sym here
       ∙ on_other so_far.row so_far.done byte (drop (suc i) text) (omega (arith, wide, so_far.long))
       (slash_tests byte (length so_far.row) (length so_far.done) so_far.long so_far.left no_slash)
       (space_tests byte (length so_far.row) (length so_far.done) so_far.long so_far.left no_space)
     where
-      slash_tests : (c m n : ℕ) → m ≡ file → n + rank ≡ 56 → ((c == 47) && ((file == 8) && nat_lt 0 rank)) ≡ false
+      slash_tests : (c m n : ℕ) → m ≡ file → n + 8 * below ≡ 56 → ((c == 47) && ((file == 8) && nat_lt 0 below)) ≡ false
           → (is_slash c && ((m == 8) && nat_lt n 56)) ≡ false
       slash_tests c m n e f h = grind (arith, nat_tests)
 
-      space_tests : (c m n : ℕ) → m ≡ file → n + rank ≡ 56 → ((c == 32) && ((file == 8) && (rank == 0))) ≡ false
+      space_tests : (c m n : ℕ) → m ≡ file → n + 8 * below ≡ 56 → ((c == 32) && ((file == 8) && (below == 0))) ≡ false
           → (is_space c && ((m == 8) && (n == 56))) ≡ false
       space_tests c m n e f h = grind (arith, nat_tests)
 
 -- the end of the text
-pub end_read : (text : List ℕ) (i : ℕ) (board : Board) (rank file : ℕ) → ReadSoFar text i board rank file → length text ≤ i
-    → placement_of (before_first is_space text) ≡ (if (file == 8) && (rank == 0) then Some board else None)
+pub end_read : (text : List ℕ) (i : ℕ) (board new : Board) (below file lanes_read : ℕ) (so_far : ReadSoFar text i board below file lanes_read) → length text ≤ i
+    → (file ≡ 8 → new ≡ so_far.row ++ take 56 board)
+    → placement_of (before_first is_space text) ≡ (if (file == 8) && (below == 0) then Some new else None)
 unfolding read_on
-end_read text i board rank file so_far end =
-    finished text i board rank file so_far (ap (read_on so_far.row so_far.done) (sym (drop_all i text end)) ∙ so_far.rest)
+end_read text i board new below file lanes_read so_far end pushed =
+    finished text i board new below file lanes_read so_far (ap (read_on so_far.row so_far.done) (sym (drop_all i text end)) ∙ so_far.rest) pushed
