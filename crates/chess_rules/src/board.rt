@@ -36,7 +36,7 @@ use std::marker::Model;
 ///     black_short: false,
 ///     black_long: false,
 /// };
-/// let position = Position::build_on(&board, Colour::White, rights, None, 0, 1);
+/// let position = Position::build_on(board, Colour::White, rights, None, 0, 1);
 /// assert_eq!(position.err(), Some(PositionFault::KingCapturable));
 /// ```
 // Three sets tell the kinds of pieces apart. A rook is in `straight`, a bishop in `diagonal`, a
@@ -249,13 +249,11 @@ impl Board {
         }
     }
 
-    /// Puts eight squares on rank 1. What was on a rank goes to the rank above, and what was on rank
-    /// 8 is dropped.
+    /// Puts a rank below the others, as rank 1. Each other goes up by one, and rank 8 is dropped.
     ///
-    /// `lanes` has a bit for each of them in four lanes of eight bits. From the lowest bit of a lane
-    /// on they are for files a to h. The lowest lane has rooks, queens and knights, the next one
-    /// bishops, queens and kings, the third one pawns, knights and kings, and the highest one the
-    /// black pieces.
+    /// The word has four lanes of eight bits. In each lane the lowest bit is for file a, and the
+    /// highest one for file h. The lowest lane has rooks, queens and knights, the next one bishops,
+    /// queens and kings, the third one pawns, knights and kings, and the highest one black pieces.
     #[inline(always)]
     pub fn push_rank(&mut self, lanes: u32)
         requires { words.AreLanes lanes }

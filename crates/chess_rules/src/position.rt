@@ -185,8 +185,14 @@ impl Position {
         half: u32,
         full: u32,
     ) -> Result<Position, PositionFault>
-        ensures value { result ≡ spec.built (record { board = board; side = side; rights = rights;
-            target = target; half = half; full = full }) }
+        ensures value { result ≡ spec.built (record {
+          board = board;
+          side = side;
+          rights = rights;
+          target = target;
+          half = half;
+          full = full;
+        }) }
         ensures long { length board ≡ 64 }
     {
         board.recall_length();

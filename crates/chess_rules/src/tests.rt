@@ -3,6 +3,7 @@
 
 mod candidates;
 
+use crate::board::Board;
 use crate::legal::{in_check, try_pair};
 use crate::piece::{Colour, Kind, Piece, Promotion};
 use crate::position::{Move, Parts, Position, PositionFault, Rights};
@@ -225,6 +226,21 @@ fn numbers_the_squares_of_a_rank(rt: HostRuntime) {
     assert_eq!(rt; position.rank_numbers(0), 0x0105_0206_0302_0501);
     assert_eq!(rt; position.rank_numbers(3), 0x1716_1514_1312_1110);
     assert_eq!(rt; position.rank_numbers(6), 0x0c0c_0c0c_0c0c_0c0c);
+}
+
+#[test]
+fn builds_on_ranks(rt: HostRuntime) -> Result<(), Fail> {
+    let mut board = Board::empty();
+    board.push_rank(0xff52_3ccb);
+    board.push_rank(0xffff_0000);
+    for _ in 0..4 {
+        board.push_rank(0);
+    }
+    board.push_rank(0x00ff_0000);
+    board.push_rank(0x0052_3ccb);
+    let position = Position::build_on(board, Colour::White, EVERY_RIGHT, None, 0, 1)?;
+    assert_eq!(rt; told(&position), told(&Position::initial()));
+    Ok(())
 }
 
 #[test]

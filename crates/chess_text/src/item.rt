@@ -3,8 +3,8 @@
 ghost use Rattle.std.specs.Prelude.{◌≡◌};
 ghost use Rattle.chess_text.specs.Items as spec;
 
-// What a byte means: what is on the first square, and how many squares there are. Those behind the
-// first are empty. The first has its bits in four lanes, as `Board::push_rank` has those of file a.
+// What a byte means: the first square, and how many squares there are. Those behind the first are
+// empty. The word for the first one is that of a rank with it on file a alone (`Board::push_rank`).
 #[derive(Clone, Copy)]
 pub(crate) struct Item {
     pub(crate) lanes: u32,
