@@ -15,6 +15,7 @@ pub mod NextGrows
 pub mod NoneBeforeFault
 pub mod OneMoreToken
 pub mod PairsTriedForToken
+pub mod PastNumbers
 pub mod PieceToGame
 pub mod PutToAnswer
 pub mod SoundAtStart

@@ -140,7 +140,7 @@ AfterStep p u given piece new used (Ok (Some (AtMarker m))) before after =
 AfterStep p u given piece new used (Err f) before after =
     (t : Token) × AreNext (u ++ piece) None (given ++ t ∷ []) × NotTaken p given given t f new.reading before after
 
--- What `step` does to a converter.
+-- What `step_any` does to a converter.
 abbrev pub Steps : Converter → List ℕ → Converter → ℕ → Result (Option Met) Fault → Device → Type 0
 Steps old piece new used outcome sink =
     (p : Profile) (u : List ℕ) (given : List Token) → Reaches p old u (first piece) given
@@ -292,6 +292,39 @@ FeedsSoFar old piece at now sink =
     (p : Profile) (u : List ℕ) (b : Option ℕ) (given : List Token)
     → Reaches p old u b given → Follows b piece
     → SoFar p u b given piece at now sink.before sink.after
+
+-- ---- past numbers and periods, and what a step results in then
+
+-- What was read of the piece, of which so many bytes were used, or the token that was not taken.
+abbrev pub AfterNumbers : Profile → List ℕ → List Token → List ℕ → Converter → ℕ → Result Unit Fault
+    → Option (List ℕ) → Option (List ℕ) → Type 0
+AfterNumbers p u given piece new used (Ok done) before after =
+    SoFar p u (first piece) given piece used new before after
+AfterNumbers p u given piece new used (Err f) before after =
+    FailsIn p u (first piece) given piece f new.reading before after
+
+-- What `step_past_numbers` does to a converter.
+abbrev pub PassesNumbers : Converter → List ℕ → Converter → ℕ → Result Unit Fault → Device → Type 0
+PassesNumbers old piece new used outcome sink =
+    (p : Profile) (u : List ℕ) (given : List Token) → Reaches p old u (first piece) given
+    → AfterNumbers p u given piece new used outcome sink.before sink.after
+
+-- What a step in a piece results in that may take more tokens than one.
+abbrev pub AfterSteps : Profile → List ℕ → List Token → List ℕ → Converter → ℕ
+    → Result (Option Met) Fault → Option (List ℕ) → Option (List ℕ) → Type 0
+AfterSteps p u given piece new used (Ok (Some Other)) before after =
+    (so : SoFar p u (first piece) given piece used new before after)
+    × IsDecided (u ++ take used piece) (drop used piece) so.tokens
+AfterSteps p u given piece new used (Err f) before after =
+    FailsIn p u (first piece) given piece f new.reading before after
+AfterSteps p u given piece new used outcome before after =
+    AfterStep p u given piece new used outcome before after
+
+-- What `step` does to a converter.
+abbrev pub TakesSteps : Converter → List ℕ → Converter → ℕ → Result (Option Met) Fault → Device → Type 0
+TakesSteps old piece new used outcome sink =
+    (p : Profile) (u : List ℕ) (given : List Token) → Reaches p old u (first piece) given
+    → AfterSteps p u given piece new used outcome sink.before sink.after
 
 -- ---- the marker
 

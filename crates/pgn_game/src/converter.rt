@@ -1,11 +1,13 @@
 //! Converts games in pieces of any length.
-ghost use Rattle.std.specs.Prelude.{◌≡◌, ◌+◌, ◌-◌, ◌≤◌, ◌<◌, ◌^◌, [], false};
+ghost use Rattle.std.specs.Prelude.{◌≡◌, ◌+◌, ◌-◌, ◌*◌, ◌≤◌, ◌<◌, ◌^◌, [], false};
 ghost use Rattle.std.specs.Prelude.{None, Some, Err, is_ok, IfOk, IfSome, OnOk, OnErr, length, take};
 ghost use Rattle.std.specs.Option.{option_copied};
 ghost use Rattle.pgn_layout.specs.Device.{device};
+ghost use Rattle.pgn_lexer.specs.Standing.{waiting};
 ghost use Rattle.pgn_lexer.specs.WhiteSpace.{white_space};
 ghost use Rattle.pgn_game.specs.declared.reason.Reason.TheVariants.{InputTooLong, Lexical, ReadFault};
 ghost use Rattle.pgn_game.specs.ConverterSteps.{FeedsFront, FeedsToMarker, Steps, StepsAtEnd};
+ghost use Rattle.pgn_game.specs.ConverterSteps.{PassesNumbers, TakesSteps};
 ghost use Rattle.pgn_game.specs.ConverterSteps.{StepAdvances, StepAtEndAdvances, AdvancesTo};
 ghost use Rattle.pgn_game.specs.ConverterSteps.{AdvancesAtEnd, EndsGame, EndsToMarker, IsReady};
 ghost use Rattle.pgn_game.specs.ConverterSteps.{IsReadyAfter, IsReadyAt, fault_of_step, game_ended, games_ended};
@@ -31,6 +33,9 @@ use std::marker::Model;
 
 /// The most bytes of an input, and so the first place that no byte may have.
 pub const MAX_INPUT_LENGTH: u64 = 1 << 62;
+
+/// The shortest piece in which whole tokens are looked for first.
+const SHORTEST_PIECE: usize = 16;
 
 /// What `Converter::feed` did with a piece.
 #[derive(Clone, Copy, Debug, PartialEq, Eq)]
@@ -579,9 +584,166 @@ impl<const T: usize, const L: usize> Converter<T, L> {
         Ok(Reached::All)
     }
 
-    /// Takes the next token of the piece, unless it is a marker.
+    /// Takes tokens of the piece, none of which is a marker.
     #[inline(always)]
     fn step<W: Sink>(&mut self, piece: &[u8], out: &mut W) -> Step
+        requires no_fault { self.old.fault ≡ None }
+        requires short { self.old.lexer.count + length piece.now ≤ 2 ^ 62 }
+        requires some { 0 < length piece.now }
+        requires none_just_finished { self.old.just_finished ≡ None }
+        requires not_finished { self.old.is_finished ≡ false }
+        ensures used { result.used ≤ length piece.now }
+        ensures after { TakesSteps self.old piece.now self.new result.used result.outcome
+            (device W.taken W.failures out.old out.new) }
+        ensures count { self.new.lexer.count ≡ self.old.lexer.count + result.used }
+        ensures advances { StepAdvances self.old.lexer piece.now self.new.lexer result.used
+            result.outcome }
+        ensures ready { IsReadyAfter self.new result.outcome }
+        ensures written { as_written self.new.reading ≡ as_written self.old.reading }
+        ensures fault { self.new.fault ≡ fault_of_step result.outcome }
+        ensures games { self.new.games ≡ self.old.games }
+        ensures probes { self.old.reading.most_probes ≤ self.new.reading.most_probes }
+        ensures none_just_finished { self.new.just_finished ≡ None }
+        ensures not_finished { self.new.is_finished ≡ false }
+        ensures counted { CountsFault result.outcome
+            (device W.taken W.failures out.old out.new) }
+    {
+        let (used, outcome) = self.steps_past_numbers(piece, out);
+        if used == 0 {
+            return self.step_any(piece, out);
+        }
+        match outcome {
+            Ok(()) => Step {
+                used,
+                outcome: Ok(Some(Met::Token)),
+            },
+            Err(fault) => Step {
+                used,
+                outcome: Err(fault),
+            },
+        }
+    }
+
+    /// In movetext, takes one token after another as `step_past_numbers` does, until it takes none.
+    /// A short piece is left: it seldom has a whole token and the byte behind it.
+    #[inline(always)]
+    fn steps_past_numbers<W: Sink>(
+        &mut self,
+        piece: &[u8],
+        out: &mut W,
+    ) -> (usize, Result<(), Fault>)
+        requires no_fault { self.old.fault ≡ None }
+        requires short { self.old.lexer.count + length piece.now ≤ 2 ^ 62 }
+        requires none_just_finished { self.old.just_finished ≡ None }
+        requires not_finished { self.old.is_finished ≡ false }
+        ensures used { result.0 ≤ length piece.now }
+        ensures nothing { result.0 ≡ 0 → (self.new ≡ self.old) × (out.new ≡ out.old) }
+        ensures after { PassesNumbers self.old piece.now self.new result.0 result.1
+            (device W.taken W.failures out.old out.new) }
+        ensures count { self.new.lexer.count ≡ self.old.lexer.count + result.0 }
+        ensures advances { 0 < result.0
+            → waiting self.new.lexer < 2 * result.0 + waiting self.old.lexer }
+        ensures written { as_written self.new.reading ≡ as_written self.old.reading }
+        ensures fault { KeepsFault self.new result.1 }
+        ensures games { self.new.games ≡ self.old.games }
+        ensures probes { self.old.reading.most_probes ≤ self.new.reading.most_probes }
+        ensures none_just_finished { self.new.just_finished ≡ None }
+        ensures not_finished { self.new.is_finished ≡ false }
+        ensures counted { CountsFault result.1 (device W.taken W.failures out.old out.new) }
+    {
+        if piece.len() < SHORTEST_PIECE || !self.reader.is_in_movetext() {
+            return (0, Ok(()));
+        }
+        self.run_past_numbers(piece, out)
+    }
+
+    /// The loop of `steps_past_numbers`. It is not inlined, so that it has the registers to itself.
+    #[inline(never)]
+    fn run_past_numbers<W: Sink>(&mut self, piece: &[u8], out: &mut W) -> (usize, Result<(), Fault>)
+        requires no_fault { self.old.fault ≡ None }
+        requires short { self.old.lexer.count + length piece.now ≤ 2 ^ 62 }
+        requires none_just_finished { self.old.just_finished ≡ None }
+        requires not_finished { self.old.is_finished ≡ false }
+        ensures used { result.0 ≤ length piece.now }
+        ensures nothing { result.0 ≡ 0 → (self.new ≡ self.old) × (out.new ≡ out.old) }
+        ensures after { PassesNumbers self.old piece.now self.new result.0 result.1
+            (device W.taken W.failures out.old out.new) }
+        ensures count { self.new.lexer.count ≡ self.old.lexer.count + result.0 }
+        ensures advances { 0 < result.0
+            → waiting self.new.lexer < 2 * result.0 + waiting self.old.lexer }
+        ensures written { as_written self.new.reading ≡ as_written self.old.reading }
+        ensures fault { KeepsFault self.new result.1 }
+        ensures games { self.new.games ≡ self.old.games }
+        ensures probes { self.old.reading.most_probes ≤ self.new.reading.most_probes }
+        ensures none_just_finished { self.new.just_finished ≡ None }
+        ensures not_finished { self.new.is_finished ≡ false }
+        ensures counted { CountsFault result.1 (device W.taken W.failures out.old out.new) }
+    {
+        let mut end = 0;
+        while end < piece.len() {
+            let (used, outcome) = self.step_past_numbers(&piece[end..], out);
+            if used == 0 {
+                return (end, Ok(()));
+            }
+            end += used;
+            match outcome {
+                Ok(()) => {}
+                Err(fault) => return (end, Err(fault)),
+            }
+        }
+        (end, Ok(()))
+    }
+
+    /// In movetext, passes move numbers and periods, which add nothing, and takes the token behind
+    /// them, where `Lexer::next_past_numbers` gives it. If no byte was used, nothing has changed.
+    #[inline(always)]
+    fn step_past_numbers<W: Sink>(
+        &mut self,
+        piece: &[u8],
+        out: &mut W,
+    ) -> (usize, Result<(), Fault>)
+        requires no_fault { self.old.fault ≡ None }
+        requires short { self.old.lexer.count + length piece.now ≤ 2 ^ 62 }
+        requires none_just_finished { self.old.just_finished ≡ None }
+        requires not_finished { self.old.is_finished ≡ false }
+        ensures used { result.0 ≤ length piece.now }
+        ensures nothing { result.0 ≡ 0 → (self.new ≡ self.old) × (out.new ≡ out.old) }
+        ensures after { PassesNumbers self.old piece.now self.new result.0 result.1
+            (device W.taken W.failures out.old out.new) }
+        ensures count { self.new.lexer.count ≡ self.old.lexer.count + result.0 }
+        ensures advances { 0 < result.0
+            → waiting self.new.lexer < 2 * result.0 + waiting self.old.lexer }
+        ensures written { as_written self.new.reading ≡ as_written self.old.reading }
+        ensures fault { KeepsFault self.new result.1 }
+        ensures games { self.new.games ≡ self.old.games }
+        ensures probes { self.old.reading.most_probes ≤ self.new.reading.most_probes }
+        ensures none_just_finished { self.new.just_finished ≡ None }
+        ensures not_finished { self.new.is_finished ≡ false }
+        ensures counted { CountsFault result.1 (device W.taken W.failures out.old out.new) }
+    {
+        if !self.reader.is_in_movetext() {
+            return (0, Ok(()));
+        }
+        let (used, token) = self.lexer.next_past_numbers(piece);
+        let Some(token) = token else {
+            return (used, Ok(()));
+        };
+        match self.reader.accept_past_numbers(token.kind, out) {
+            Ok(()) => (used, Ok(())),
+            Err(reason) => {
+                let fault = Fault {
+                    at: token.at,
+                    reason,
+                };
+                self.fault = Some(fault);
+                (used, Err(fault))
+            }
+        }
+    }
+
+    /// Takes the next token of the piece, unless it is a marker.
+    #[inline(always)]
+    fn step_any<W: Sink>(&mut self, piece: &[u8], out: &mut W) -> Step
         requires no_fault { self.old.fault ≡ None }
         requires short { self.old.lexer.count + length piece.now ≤ 2 ^ 62 }
         requires some { 0 < length piece.now }

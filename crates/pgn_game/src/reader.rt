@@ -3,6 +3,7 @@ ghost use Rattle.std.specs.Prelude.{◌≡◌, ◌+◌, ◌-◌, ◌≤◌, ◌<
 ghost use Rattle.std.specs.Prelude.{None, OnOk, Some, option_map, IsTrue, ◌↔◌, bytes_eq, codes, max};
 ghost use Rattle.std.specs.Option.{option_copied};
 ghost use Rattle.pgn_layout.specs.Device.{device};
+ghost use Rattle.pgn_lexer.specs.PastNumbers.{is_given};
 ghost use Rattle.pgn_lexer.specs.Tokens.{HasLength, Kind, left_paren, right_paren, symbol};
 ghost use Rattle.pgn_lexer.specs.Scanned.{kind_of};
 ghost use Rattle.pgn_game.specs.Pairs.{value_of};
@@ -18,7 +19,7 @@ ghost use Rattle.pgn_game.specs.TokenInMovetext.{ItemFits, is_frequent, may_have
 ghost use Rattle.pgn_game.specs.TokenInMovetext.{fen_position as position_in_fen};
 ghost use Rattle.pgn_game.specs.PutResult.{BeginsText, CountsMove, Finds, Keeps, MeetsEntry};
 ghost use Rattle.pgn_game.specs.PutResult.{PutsItems, TakesEntry, TakesOutside, TakesUnlessMarker};
-ghost use Rattle.pgn_game.specs.PutResult.{TakesUnwritten, at_game_start, continued, ended};
+ghost use Rattle.pgn_game.specs.PutResult.{TakesToken, TakesUnwritten, at_game_start, continued, ended};
 ghost use Rattle.pgn_game.specs.FaultTable as spec;
 ghost use Rattle.pgn_game.specs.FaultTable.{is_reduced, marker_of};
 
@@ -209,6 +210,38 @@ impl<const T: usize, const L: usize> Reader<T, L> {
                 Ok(None)
             }
             None => self.accept_entry(kind, out),
+        }
+    }
+
+    /// Takes a token that `Lexer::next_past_numbers` gave, once movetext has begun. None of these
+    /// is a marker.
+    ///
+    /// # Errors
+    ///
+    /// Those of `accept_unless_marker`.
+    #[inline(always)]
+    pub fn accept_past_numbers<W: Sink>(
+        &mut self,
+        kind: TokenKind<'_>,
+        out: &mut W,
+    ) -> Result<(), Reason>
+        requires few { self.old.earlier_plies + self.old.text.plies < 2 ^ 64 - 1 }
+        requires stage { self.old.stage ≡ InMovetext }
+        requires token { HasLength (kind_of kind) }
+        requires given { IsTrue (is_given (kind_of kind)) }
+        ensures takes { TakesToken self.old (kind_of kind.entry) self.new (continued result)
+            (device W.taken W.failures out.old out.new) }
+        ensures no_marker { marker_of (kind_of kind.entry) ≡ None }
+    {
+        match kind {
+            TokenKind::Symbol(text) => self.accept_move(text, out),
+            TokenKind::Word(word) => self.put(Annotation::Word(word), out),
+            TokenKind::CommentOpen => self.put(Annotation::CommentOpen, out),
+            TokenKind::CommentClose => self.put(Annotation::CommentClose, out),
+            TokenKind::LeftParen => self.open_variation(out),
+            TokenKind::RightParen => self.close_variation(out),
+            // Never: these are all that are given.
+            _ => Ok(()),
         }
     }
 
@@ -585,9 +618,9 @@ impl<const T: usize, const L: usize> Reader<T, L> {
         Ok(())
     }
 
-    // Whether movetext has begun.
+    /// Whether movetext has begun.
     #[inline(always)]
-    fn is_in_movetext(&self) -> bool
+    pub fn is_in_movetext(&self) -> bool
         ensures { IsTrue result ↔ (self.now.stage ≡ InMovetext) }
     {
         self.stage == Stage::InMovetext

@@ -10,3 +10,4 @@ pub mod PieceByByte
 pub mod RunOfBytes
 pub mod StandsAfterCalls
 pub mod StepGives
+pub mod WholeRuns

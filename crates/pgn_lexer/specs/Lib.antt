@@ -2,9 +2,11 @@
 pub mod Bytes
 pub mod Decided
 pub mod PartialToken
+pub mod PastNumbers
 pub mod Laws
 pub mod Lexes
 pub mod RunResult
+pub mod Runs
 pub mod Scanned
 pub mod Sound
 pub mod Spelling

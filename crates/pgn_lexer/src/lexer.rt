@@ -47,6 +47,7 @@ impl Model for Lexer {
 
 impl Lexer {
     ghost use Rattle.pgn_lexer.specs.WhiteSpace.{white_space};
+    ghost use Rattle.pgn_lexer.specs.PastNumbers.{ReadsPastNumbers};
     ghost use Rattle.pgn_lexer.specs.Scanned.{scanned};
     ghost use Rattle.pgn_lexer.specs.Standing.{fault_of};
     ghost use Rattle.pgn_lexer.specs.Stands.{StandsAfter, Scans, Finishes, Leaves};
@@ -120,6 +121,46 @@ impl Lexer {
                 outcome: Outcome::Fault(self.partial.fault_met()),
             },
         }
+    }
+
+    /// Reads the piece past numbers and periods, up to the end of a token, and returns that token.
+    ///
+    /// This is quicker than `next`, but gives fewer tokens. Symbols of digits alone, periods and
+    /// the white space around them are passed: no call gives them. The token is a symbol that
+    /// begins with a letter, a parenthesis or a `{`, or, in a comment in braces, a word or the `}`.
+    /// It lies in the piece as a whole, and so does the byte behind a symbol or a word. Its text is
+    /// borrowed from the piece.
+    ///
+    /// The first number is how many bytes were used. `None` says that anything else comes behind
+    /// these, which `next` then reads. `count` and the length of the piece must be together at most
+    /// 2^62.
+    ///
+    /// # Examples
+    ///
+    /// ```
+    /// use pgn_lexer::{Lexer, TokenKind};
+    ///
+    /// let text = b"12. e4 (1-0)";
+    /// let mut lexer = Lexer::begin_at(100, false);
+    /// let (used, token) = lexer.next_past_numbers(text);
+    /// assert_eq!(used, 6);
+    /// assert_eq!(token.unwrap().at, 104);
+    /// assert_eq!(token.unwrap().kind, TokenKind::Symbol(b"e4"));
+    /// let (used, token) = lexer.next_past_numbers(&text[6..]);
+    /// assert_eq!(used, 2);
+    /// assert_eq!(token.unwrap().kind, TokenKind::LeftParen);
+    /// // A result is no number.
+    /// assert_eq!(lexer.next_past_numbers(&text[8..]), (0, None));
+    /// ```
+    #[inline(always)]
+    pub fn next_past_numbers<'a>(&mut self, piece: &'a [u8]) -> (usize, Option<Token<'a>>)
+        requires { self.old.count + length piece.now ≤ 2 ^ 62 }
+        ensures used { result.0 ≤ length piece.now }
+        ensures reads { ReadsPastNumbers self.old piece.now self.new result.0 result.1 }
+    {
+        let read = self.partial.run_past_numbers(piece, self.count);
+        self.count += read.0 as u64;
+        read
     }
 
     /// Ends the text: returns the tokens that are left, one a call, and then `End` at every call.

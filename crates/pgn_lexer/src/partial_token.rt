@@ -5,6 +5,7 @@ ghost use Rattle.pgn_lexer.specs.ByteResult as byte_result;
 
 mod byte;
 mod end;
+mod past_numbers;
 mod run;
 
 use crate::class::Single;

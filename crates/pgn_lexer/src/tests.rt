@@ -1,4 +1,4 @@
-//! Each text is read whole, byte by byte, and in two pieces at every cut.
+//! Each text is read whole, byte by byte, and in two pieces at every cut. So it is past numbers.
 use crate::{LexFault, LexReason, Lexer, Outcome, Token, TokenKind};
 use TokenKind::{
     Asterisk, CommentClose, CommentOpen, End, Glyph, LeftBracket, LeftParen, Period, RightBracket,
@@ -15,11 +15,66 @@ fn refused(at: u64, reason: LexReason) -> Outcome<'static> {
     Outcome::Fault(LexFault { at, reason })
 }
 
+/// How outcomes are asked for: all by `next`, or by `next_past_numbers` where that gives a token.
+#[derive(Clone, Copy, PartialEq, Eq)]
+enum Way {
+    Each,
+    PastNumbers,
+}
+
+/// How many of the outcomes are seen where the numbers and periods between the places were passed.
+fn passed(outcomes: &[Outcome<'_>], seen: usize, begin: u64, end: u64) -> Option<usize> {
+    let mut seen = seen;
+    for _ in 0..LONGEST {
+        let is_passed = match outcomes.get(seen) {
+            Some(Outcome::Token(token)) => {
+                begin <= token.at
+                    && token.at < end
+                    && match token.kind {
+                        Period => true,
+                        Symbol(text) => text.iter().all(|byte| byte.is_ascii_digit()),
+                        _ => false,
+                    }
+            }
+            _ => false,
+        };
+        if !is_passed {
+            return Some(seen);
+        }
+        seen = seen.checked_add(1)?;
+    }
+    None
+}
+
 /// Hands in the piece. Gives how many of the outcomes came so far, or None where another came.
-fn feed(lexer: &mut Lexer, piece: &[u8], outcomes: &[Outcome<'_>], seen: usize) -> Option<usize> {
+fn feed(
+    way: Way,
+    lexer: &mut Lexer,
+    piece: &[u8],
+    outcomes: &[Outcome<'_>],
+    seen: usize,
+) -> Option<usize> {
     let mut from = 0;
     let mut seen = seen;
     for _ in 0..LONGEST {
+        let rest = piece.get(from..)?;
+        if lexer.count() > LONGEST as u64 || rest.len() > LONGEST {
+            return None;
+        }
+        if way == Way::PastNumbers {
+            let begin = lexer.count();
+            let (used, token) = lexer.next_past_numbers(rest);
+            from = from.checked_add(used)?;
+            let end = token.map_or(lexer.count(), |token| token.at);
+            seen = passed(outcomes, seen, begin, end)?;
+            if let Some(token) = token {
+                if *outcomes.get(seen)? != Outcome::Token(token) {
+                    return None;
+                }
+                seen = seen.checked_add(1)?;
+                continue;
+            }
+        }
         let rest = piece.get(from..)?;
         if lexer.count() > LONGEST as u64 || rest.len() > LONGEST {
             return None;
@@ -64,31 +119,36 @@ fn finishes(lexer: &mut Lexer, outcomes: &[Outcome<'_>], seen: usize) -> Option<
 }
 
 /// Whether the text, cut at the place, gives the outcomes. An empty piece stands at the cut.
-fn holds_cut(text: &[u8], outcomes: &[Outcome<'_>], cut: usize) -> Option<bool> {
+fn holds_cut(way: Way, text: &[u8], outcomes: &[Outcome<'_>], cut: usize) -> Option<bool> {
     let mut lexer = Lexer::new();
-    let seen = feed(&mut lexer, text.get(..cut)?, outcomes, 0)?;
-    let seen = feed(&mut lexer, &[], outcomes, seen)?;
-    let seen = feed(&mut lexer, text.get(cut..)?, outcomes, seen)?;
+    let seen = feed(way, &mut lexer, text.get(..cut)?, outcomes, 0)?;
+    let seen = feed(way, &mut lexer, &[], outcomes, seen)?;
+    let seen = feed(way, &mut lexer, text.get(cut..)?, outcomes, seen)?;
     finishes(&mut lexer, outcomes, seen)
 }
 
 /// Whether the text, byte by byte, gives the outcomes.
-fn holds_bytes(text: &[u8], outcomes: &[Outcome<'_>]) -> Option<bool> {
+fn holds_bytes(way: Way, text: &[u8], outcomes: &[Outcome<'_>]) -> Option<bool> {
     let mut lexer = Lexer::new();
     let mut seen = 0;
     for byte in text {
-        seen = feed(&mut lexer, &[*byte], outcomes, seen)?;
+        seen = feed(way, &mut lexer, &[*byte], outcomes, seen)?;
     }
     finishes(&mut lexer, outcomes, seen)
 }
 
 fn holds(text: &[u8], outcomes: &[Outcome<'_>]) -> bool {
-    for cut in 0..=text.len() {
-        if holds_cut(text, outcomes, cut) != Some(true) {
+    for way in [Way::Each, Way::PastNumbers] {
+        for cut in 0..=text.len() {
+            if holds_cut(way, text, outcomes, cut) != Some(true) {
+                return false;
+            }
+        }
+        if holds_bytes(way, text, outcomes) != Some(true) {
             return false;
         }
     }
-    holds_bytes(text, outcomes) == Some(true)
+    true
 }
 
 /// Whether a lexer that begins at the place of the text gives the outcomes, byte by byte and whole.
@@ -97,13 +157,13 @@ fn begins(text: &[u8], place: usize, in_first_column: bool, outcomes: &[Outcome<
         return false;
     };
     let mut whole = Lexer::begin_at(place as u64, in_first_column);
-    let Some(seen) = feed(&mut whole, rest, outcomes, 0) else {
+    let Some(seen) = feed(Way::Each, &mut whole, rest, outcomes, 0) else {
         return false;
     };
     let mut lexer = Lexer::begin_at(place as u64, in_first_column);
     let mut count = 0;
     for byte in rest {
-        let Some(more) = feed(&mut lexer, &[*byte], outcomes, count) else {
+        let Some(more) = feed(Way::Each, &mut lexer, &[*byte], outcomes, count) else {
             return false;
         };
         count = more;

@@ -234,7 +234,7 @@ next_in_piece l u piece used stands s follows =
     (coming l (rest ++ s), ap tokens_of whole ∙ stands.tokens (rest ++ s) (follows_first rest s))
 
 -- the lexer stands behind the token, which ends in the piece
-ends_within : {p : Profile} {old : Converter} {u : List ℕ} {given : List Token} {piece : List ℕ} {used : ℕ} {t : Token} {l : Standing}
+pub ends_within : {p : Profile} {old : Converter} {u : List ℕ} {given : List Token} {piece : List ℕ} {used : ℕ} {t : Token} {l : Standing}
     → Reaches p old u (first piece) given → AfterScan u (first piece) given piece l used (token t) → EndsAt t.kind t.at l.count
     → l.count ≡ old.lexer.count + used → EndsWithin u given piece used t l
 ends_within {t} reaches scan ends count =

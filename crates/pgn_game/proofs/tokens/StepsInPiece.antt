@@ -2,8 +2,9 @@
 use Rattle.std.proofs.Common.{length-take-le, take_all}
 use Rattle.pgn_game.specs.declared.marker.Mark.{Mark}
 use Rattle.pgn_game.specs.declared.converter.Met.TheVariants.{Token as Other, Marker as AtMarker}
-use Rattle.pgn_game.specs.ConverterSteps.{ReadsPiece, ReadsToMarker, FailsIn}
-use Rattle.pgn_game.proofs.Words.{Reason, InputTooLong, Fault, Profile, take-append-drop, take-take, drop-take, drop-drop, Token, tokens_of, decided, Follows, IsDecided, first, still, Standing, StandsAfter, ReaderState, as_written, Converter, Stands, Reaches, EndsWithin, StopsIn, too_long, CountsReason, ◌≡◌, ℕ, ◌+◌, ◌-◌, ◌<◌, ◌≤◌, ◌^◌, zero, suc, List, [], ◌∷◌, ◌++◌, length, take, drop, Option, None, Some, refl, sym, ap, subst, ◌∙◌, append_assoc, append-nil, length-append, length-drop, length-take, le_refl, drop_of_length-le, inl, inr, arith, Ok, Err, take-add, AfterStep, next_at, SoFar, EndsAt}
+use Rattle.pgn_game.specs.declared.converter.Met.{Met}
+use Rattle.pgn_game.specs.ConverterSteps.{AfterSteps, ReadsPiece, ReadsToMarker, FailsIn}
+use Rattle.pgn_game.proofs.Words.{Reason, InputTooLong, Fault, Profile, take-append-drop, take-take, drop-take, drop-drop, Token, tokens_of, decided, Follows, IsDecided, first, still, Standing, StandsAfter, ReaderState, as_written, Converter, Stands, Reaches, EndsWithin, StopsIn, too_long, CountsReason, ◌≡◌, ℕ, ◌+◌, ◌-◌, ◌<◌, ◌≤◌, ◌^◌, zero, suc, List, [], ◌∷◌, ◌++◌, length, take, drop, Option, None, Some, refl, sym, ap, subst, ◌∙◌, append_assoc, append-nil, length-append, length-drop, length-take, le_refl, drop_of_length-le, inl, inr, arith, Result, Ok, Err, take-add, AfterStep, next_at, SoFar, EndsAt}
 use Rattle.pgn_game.proofs.tokens.MarkerToGame.{reads_none, reads_more, meets_more, not_taken_more}
 use Rattle.pgn_game.proofs.tokens.AcceptedToConverter.{still_none}
 
@@ -122,6 +123,35 @@ module _ (p : Profile) (u : List ℕ) (b : Option ℕ) (given : List Token) (pie
         reads = reads_more p given so.tokens now a c so.reads _ new d reads written;
       }
 
+  -- more was read of the rest
+  pub so_far_on : (used : ℕ) (more : SoFar p (u ++ take at piece) (first (drop at piece)) so.tokens (drop at piece) used new c d)
+      → IsDecided ((u ++ take at piece) ++ take used (drop at piece)) (drop used (drop at piece)) more.tokens
+      → SoFar p u b given piece (at + used) new a d
+  so_far_on used more is_decided =
+      let rest : 0 < length (drop at piece) = omega (arith, within, length-drop at piece) in
+      let known : next_at (first (drop at piece)) (drop at piece) used ≡ next_at b piece (at + used) =
+      next_within (first (drop at piece)) (drop at piece) used rest ∙ ap first (drop-drop used at piece) ∙ sym (next_within b piece (at + used) some) in
+      record {
+        tokens = more.tokens;
+        stands = subst (λ k. StandsAfter new.lexer (u ++ take (at + used) piece) k more.tokens) known
+            (rw (further u piece at used) at more.stands);
+        decided = λ h. subst (λ xs. IsDecided (u ++ take (at + used) piece) xs more.tokens) (drop-drop used at piece)
+            (rw (further u piece at used) at is_decided);
+        empty = λ none. absurd (omega (arith, none, within));
+        reads = reads_more p given so.tokens now a c so.reads more.tokens new d more.reads written;
+      }
+
+  pub fails_on : (f : Fault) → FailsIn p (u ++ take at piece) (first (drop at piece)) so.tokens (drop at piece) f new.reading c d
+      → FailsIn p u b given piece f new.reading a d
+  fails_on f to =
+      let rest : 0 < length (drop at piece) = omega (arith, within, length-drop at piece) in
+      record {
+        tokens = to.tokens;
+        token = to.token;
+        next = rw (still_none b piece some) (rw (whole_piece u piece at) at (rw (still_none (first (drop at piece)) (drop at piece) rest) at to.next));
+        fails = not_taken_more p given so.tokens now a c so.reads to.tokens to.token f new.reading d to.fails written;
+      }
+
   pub reads_all : (used : ℕ) → AfterStep p (u ++ take at piece) so.tokens (drop at piece) new used (Ok None) c d
       → ReadsPiece p u b given piece new a d
   reads_all used (all, stands, is_decided, reads) =
@@ -159,6 +189,25 @@ module _ (p : Profile) (u : List ℕ) (b : Option ℕ) (given : List Token) (pie
         fails = not_taken_more p given so.tokens now a c so.reads so.tokens t f new.reading d fails written;
       }
 
+-- one token is at most one more
+pub one_of_steps : (p : Profile) (u : List ℕ) (given : List Token) (piece : List ℕ) (new : Converter) (used : ℕ)
+    (outcome : Result (Option Met) Fault) (a c : Option (List ℕ)) → 0 < length piece → AfterStep p u given piece new used outcome a c
+    → AfterSteps p u given piece new used outcome a c
+one_of_steps p u given piece new used (Ok None) a c some after = after
+one_of_steps p u given piece new used (Ok (Some (AtMarker m))) a c some after = after
+one_of_steps p u given piece new used (Ok (Some Other)) a c some (t, ends, reads) = (
+  record {
+    tokens = given ++ t ∷ [];
+    stands = rw (next_within (first piece) piece used some) ends.stands;
+    decided = λ h. ends.decided;
+    empty = λ none. absurd (omega (arith, none, some));
+    reads = reads;
+  },
+  ends.decided,
+)
+one_of_steps p u given piece new used (Err f) a c some (t, next, fails) =
+    record { tokens = given; token = t; next = rw (still_none (first piece) piece some) next; fails = fails }
+
 -- ---- a front of the piece
 
 pub follows_front : (b : Option ℕ) (piece : List ℕ) (n : ℕ) → Follows b piece → Follows b (take n piece)
@@ -168,7 +217,7 @@ follows_front (Some c) (x ∷ xs) zero h = tt
 follows_front (Some c) (x ∷ xs) (suc n) h = h
 
 -- a lexer that stands before any byte stands before this one
-before_any : {l : Standing} {u : List ℕ} {b : Option ℕ} {given : List Token}
+pub before_any : {l : Standing} {u : List ℕ} {b : Option ℕ} {given : List Token}
     → StandsAfter l u None given → StandsAfter l u b given
 before_any stands = record { count = stands.count; before = stands.before; tokens = λ s k. stands.tokens s tt }
 

@@ -198,7 +198,7 @@ module _ (count : ℕ) (old new : PartialToken) (piece : List ℕ) (used : ℕ) 
             no_sooner_run _ e.runs e.stood,
           )
 
-    scans_token : Scans ahead piece behind used (token t)
+    pub scans_token : Scans ahead piece behind used (token t)
     scans_token =
         record {
           count = refl;

@@ -3,7 +3,7 @@ use Rattle.pgn_game.proofs.Words.{◌≡◌, ℕ, ◌+◌, ◌-◌, ◌^◌, len
 use Rattle.pgn_game.proofs.Words.{length-drop, le_refl, Ok, None, Some, take_rest, waiting, Converter, Reaches, ◌≤◌}
 use Rattle.pgn_game.proofs.ReaderFitsInMemory.{fits_alike}
 use Rattle.pgn_game.proofs.tokens.StepsAtEnd.{sound_at_none}
-use Rattle.pgn_game.proofs.tokens.StepsInPiece.{lets_go, so_far_none, reads_behind, stands_here, so_far_more, reads_all, reads_to_marker, fails_in, counts_step}
+use Rattle.pgn_game.proofs.tokens.StepsInPiece.{lets_go, so_far_none, reads_behind, stands_here, so_far_on, reads_all, reads_to_marker, fails_on, counts_step}
 use Rattle.pgn_game.proofs.converter.Converter.feed_front.Goals as goal
 
 pub loop-at-init : goal.loop-at-init
@@ -104,8 +104,8 @@ loop-at-preserved g c =
       counted = counted ∙ so.counted;
       feeds = λ p u b given reaches follows.
           let here = so.feeds p u b given reaches follows in
-          so_far_more p u b given c.args.piece.now c.loop-at.at _ _ _ _ here c.loop-at-test.true _ step.written _
-          (after p _ _ (stands_here p u b given c.args.piece.now c.loop-at.at _ _ _ here c.loop-at-test.true));
+          let more = after p _ _ (stands_here p u b given c.args.piece.now c.loop-at.at _ _ _ here c.loop-at-test.true) in
+          so_far_on p u b given c.args.piece.now c.loop-at.at _ _ _ _ here c.loop-at-test.true _ step.written _ more.0 more.1;
     }
 
 pub returns-in-Ok-Some-Marker : goal.returns-in-Ok-Some-Marker
@@ -149,8 +149,8 @@ returns-in-Err g c =
       used = tt;
       feeds = λ p u b given reaches follows.
           let here = so.feeds p u b given reaches follows in
-          fails_in p u b given c.args.piece.now c.loop-at.at _ _ _ _ here c.loop-at-test.true
-          c.step-step.new.self step.written c.step-step.result.used c.in-Err.fault
+          fails_on p u b given c.args.piece.now c.loop-at.at _ _ _ _ here c.loop-at-test.true
+          c.step-step.new.self step.written c.in-Err.fault
           (after p _ _ (stands_here p u b given c.args.piece.now c.loop-at.at _ _ _ here c.loop-at-test.true));
       count = tt;
       advances = tt;
