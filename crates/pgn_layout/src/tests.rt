@@ -160,6 +160,17 @@ fn tells_which_pairs_fit(rt: HostRuntime) {
 }
 
 #[test]
+fn escapes_each_quote_and_backslash(rt: HostRuntime) -> Result<(), Fail> {
+    let mut out = Outlet::new(Vec::new(rt.alloc()));
+    assert!(rt; write_tag(b"A", b"\\\"\"ab\\\\c\"d\"", &mut out).is_ok());
+    assert!(rt; write_tag(b"B", b"\"", &mut out).is_ok());
+    assert!(rt; write_tag(b"C", b"d\\", &mut out).is_ok());
+    let lines = b"[A \"\\\\\\\"\\\"ab\\\\\\\\c\\\"d\\\"\"]\n[B \"\\\"\"]\n[C \"d\\\\\"]\n";
+    assert!(rt; out.into_inner().as_slice() == lines.as_slice());
+    Ok(())
+}
+
+#[test]
 fn drops_a_line(rt: HostRuntime) -> Result<(), Fail> {
     let mut out = Outlet::new(Vec::new(rt.alloc()));
     let mut layout = Layout::new();
