@@ -1,4 +1,4 @@
-//! The condition of `Lexer::next`. Written for Cargo.
+//! The condition of `Lexer::next` and `next_past_numbers`. Written for Cargo.
 
 use super::Lexer;
 use crate::Outcome;
@@ -22,4 +22,11 @@ fn the_last_byte_of_2_to_62_is_read() {
     let mut lexer = lexer_at((1 << 62) - 3);
     assert_eq!(lexer.next(b"Nf3").outcome, Outcome::NeedMore);
     assert_eq!(lexer.count(), 1 << 62);
+}
+
+#[test]
+#[should_panic(expected = "a text has at most 2^62 bytes")]
+#[cfg(debug_assertions)]
+fn a_byte_after_2_to_62_is_refused_past_numbers() {
+    lexer_at((1 << 62) - 3).next_past_numbers(b"Nf3 ");
 }

@@ -1,4 +1,4 @@
--- **Bookkeeping**: what is on the squares of a rank, as a word with a byte for each square.
+-- **Definition**: what is on the squares of a rank, as a word with a byte for each square.
 use Rattle.std.specs.Prelude.{ℕ, zero, suc, ◌+◌, ◌*◌, ◌/◌, ◌%◌, List, [], ◌∷◌, map, None, Some, ◌==◌, if◌then◌else◌}
 use Rattle.chess_rules.specs.declared.piece.Colour.TheVariants.{Black}
 use Rattle.chess_rules.specs.declared.piece.Kind.{Kind}

@@ -55,16 +55,16 @@ pub enum Reached {
     Marker(usize, Mark),
 }
 
-/// A token that was met.
+/// What was met in a step.
 #[derive(Clone, Copy)]
 enum Met {
-    /// It is no marker, and was taken.
+    /// Tokens that are no markers, and were taken, or white space.
     Token,
-    /// It is a marker, which was not taken yet.
+    /// A marker, which was not taken yet.
     Marker(Mark),
 }
 
-/// One step in a piece: how many of its bytes were used, and the token that was met. The outcome is
+/// One step in a piece: how many of its bytes were used, and what was met. The outcome is
 /// `Ok(None)` if no token ends in the rest of the piece.
 #[derive(Clone, Copy)]
 struct Step {
@@ -584,7 +584,7 @@ impl<const T: usize, const L: usize> Converter<T, L> {
         Ok(Reached::All)
     }
 
-    /// Takes tokens of the piece, none of which is a marker.
+    /// Takes the next tokens of the piece, up to a marker, which is not taken.
     #[inline(always)]
     fn step<W: Sink>(&mut self, piece: &[u8], out: &mut W) -> Step
         requires no_fault { self.old.fault ≡ None }
@@ -625,7 +625,7 @@ impl<const T: usize, const L: usize> Converter<T, L> {
     }
 
     /// In movetext, takes one token after another as `step_past_numbers` does, until it takes none.
-    /// A short piece is left: it seldom has a whole token and the byte behind it.
+    /// A short piece is left: most of its tokens go on behind it, and would be looked at twice.
     #[inline(always)]
     fn steps_past_numbers<W: Sink>(
         &mut self,

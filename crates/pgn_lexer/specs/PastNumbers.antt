@@ -1,9 +1,9 @@
 -- **Definition**: what a call does that passes numbers and periods, up to the end of a token.
 -- Letters: l is a lexer, t a token, m and n are numbers of bytes.
-use Rattle.std.specs.Prelude.{◌≡◌, ℕ, ◌+◌, ◌<◌, Bool, true, false, IsTrue, List, [], ◌∷◌, length, take, drop, Option, None, Some}
+use Rattle.std.specs.Prelude.{◌≡◌, ℕ, ◌+◌, ◌<◌, Bool, true, false, IsTrue, List, [], ◌∷◌, length, get_or, take, drop, Option, None, Some}
 use Rattle.std.specs.List.{list_all}
 use Rattle.pgn_lexer.specs.declared.token.Token.{Token as TokenGiven}
-use Rattle.pgn_lexer.specs.Bytes.{is_digit, is_letter}
+use Rattle.pgn_lexer.specs.Bytes.{is_digit, is_letter, is_space}
 use Rattle.pgn_lexer.specs.Scanned.{kind_of, more, token}
 use Rattle.pgn_lexer.specs.Standing.{Standing, waiting}
 use Rattle.pgn_lexer.specs.Stands.{Scans}
@@ -34,8 +34,8 @@ is_given _ = false
 -- byte of white space, behind which no token waits, or the bytes up to the end of one token.
 pub data Passes (old : Standing) (piece : List ℕ) : Standing → ℕ → Type 0 where
   none : Passes old piece old 0
-  over_space : (l new : Standing) (m : ℕ) → Passes old piece l m → m < length piece → Scans l (take 1 (drop m piece)) new 1 more
-      → waiting new ≡ 0 → Passes old piece new (m + 1)
+  over_space : (l new : Standing) (m : ℕ) → Passes old piece l m → m < length piece → IsTrue (is_space (get_or piece m 0))
+      → Scans l (take 1 (drop m piece)) new 1 more → waiting new ≡ 0 → Passes old piece new (m + 1)
   over_token : (l new : Standing) (m n : ℕ) (t : Token) → Passes old piece l m → m < length piece → 0 < n → Scans l (drop m piece) new n (token t)
       → IsTrue (is_passed t.kind) → Passes old piece new (m + n)
 

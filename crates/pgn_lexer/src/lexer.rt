@@ -131,8 +131,8 @@ impl Lexer {
     /// It lies in the piece as a whole, and so does the byte behind a symbol or a word. Its text is
     /// borrowed from the piece.
     ///
-    /// The first number is how many bytes were used. `None` says that anything else comes behind
-    /// these, which `next` then reads. `count` and the length of the piece must be together at most
+    /// The first number is how many bytes were used. With `None` the piece ends there, or what
+    /// comes is left to `next`. `count` and the length of the piece must be together at most
     /// 2^62.
     ///
     /// # Examples

@@ -1,4 +1,5 @@
-//! Each text is read whole, byte by byte, and in two pieces at every cut. So it is past numbers.
+//! Each text is read whole, byte by byte, and in two pieces at every cut. All this is done twice:
+//! by `next` alone, and by `next_past_numbers` where that gives a token.
 use crate::{LexFault, LexReason, Lexer, Outcome, Token, TokenKind};
 use TokenKind::{
     Asterisk, CommentClose, CommentOpen, End, Glyph, LeftBracket, LeftParen, Period, RightBracket,

@@ -14,12 +14,12 @@ use Rattle.pgn_game.proofs.tokens.StepsInPiece.{before_any, fails_in, follows_fr
 
 pub passes_count : {old : Standing} {piece : List ℕ} {new : Standing} {n : ℕ} → Passes old piece new n → new.count ≡ old.count + n
 passes_count none = omega arith
-passes_count (over_space l new m passes within scans waits) = let before = passes_count passes in omega (arith, before, scans.count)
+passes_count (over_space l new m passes within is_white scans waits) = let before = passes_count passes in omega (arith, before, scans.count)
 passes_count (over_token l new m n t passes within some scans passed) = let before = passes_count passes in omega (arith, before, scans.count)
 
 pub passes_few : {old : Standing} {piece : List ℕ} {new : Standing} {n : ℕ} → Passes old piece new n → waiting new ≤ 2 * n + waiting old
 passes_few none = omega arith
-passes_few (over_space l new m passes within scans waits) = omega (arith, waits)
+passes_few (over_space l new m passes within is_white scans waits) = omega (arith, waits)
 passes_few (over_token l new m n t passes within some scans passed) =
     let before = passes_few passes in
     let sooner = scans.advances in
@@ -27,7 +27,7 @@ passes_few (over_token l new m n t passes within some scans passed) =
 
 pub passes_sooner : {old : Standing} {piece : List ℕ} {new : Standing} {n : ℕ} → Passes old piece new n → 0 < n → waiting new < 2 * n + waiting old
 passes_sooner none h = absurd (omega arith)
-passes_sooner (over_space l new m passes within scans waits) h = omega (arith, waits)
+passes_sooner (over_space l new m passes within is_white scans waits) h = omega (arith, waits)
 passes_sooner (over_token l new m n t passes within some scans passed) h =
     let before = passes_few passes in
     let sooner = scans.advances in
@@ -36,7 +36,7 @@ passes_sooner (over_token l new m n t passes within some scans passed) h =
 -- where no byte was used, nothing has changed
 pub passes_nothing : {old : Standing} {piece : List ℕ} {new : Standing} {n : ℕ} → Passes old piece new n → n ≡ 0 → new ≡ old
 passes_nothing none h = refl
-passes_nothing (over_space l new m passes within scans waits) h = absurd (omega arith)
+passes_nothing (over_space l new m passes within is_white scans waits) h = absurd (omega arith)
 passes_nothing (over_token l new m n t passes within some scans passed) h = absurd (omega arith)
 
 -- ---- what the reader does with them
@@ -91,7 +91,7 @@ module _ (p : Profile) (old : Converter) (u : List ℕ) (given : List Token) (pi
   so_far_past none =
       so_far_none p (now old.lexer) u (first piece) given piece o
       (record { lexer = reaches.lexer; has_read = read_at p old given old.lexer old.is_finished reaches.has_read }) (follows_own piece)
-  so_far_past (over_space l new m passes within scans waits) =
+  so_far_past (over_space l new m passes within is_white scans waits) =
       let rest = drop m piece in
       let so = so_far_past passes in
       let here = stands_here p u (first piece) given piece m (now l) o o so within in

@@ -7,7 +7,7 @@ use Rattle.pgn_lexer.specs.PartialToken.{tokens_to_come_in}
 use Rattle.pgn_lexer.specs.Scanned.{token as token_scanned}
 use Rattle.std.specs.Prelude.{IsTrue}
 use Rattle.std.specs.List.{list_all}
-use Rattle.pgn_lexer.proofs.Words.{◌≡◌, Bool, ℕ, zero, suc, ◌+◌, ◌<◌, ◌≤◌, ◌⊎◌, inl, inr, List, [], ◌∷◌, ◌++◌, length, get_or, take, drop, refl, sym, ap, subst, ◌∙◌, add-one, arith, true, false, take_all, length-take-le, Mode, Class, LineEnd, Space, SymbolStart, OpenBrace, Alone, LineStart, Outside, Symbol, Brace, BraceWord, is_digit, is_letter, is_line_end, class, comment_class, symbol, left_paren, right_paren, comment_open, comment_close, word, Token, TokenForm, Ends, PartialToken, tokens_to_come, token_of, IsSound, HasNotFailed, pending, begin, begin_line, IsOutside, Ran, RunsOut, RunsToToken, Standing, standing_at, Scans, Passes, none, over_space, over_token, ReadsBehind, is_passed, is_given, begins_with_letter, IsSymbolIn, IsNumberIn, IsWordIn}
+use Rattle.pgn_lexer.proofs.Words.{◌≡◌, Bool, ℕ, zero, suc, ◌+◌, ◌<◌, ◌≤◌, ◌⊎◌, inl, inr, List, [], ◌∷◌, ◌++◌, length, get_or, take, drop, refl, sym, ap, subst, ◌∙◌, add-one, arith, true, false, take_all, length-take-le, Mode, Class, LineEnd, Space, SymbolStart, OpenBrace, Alone, LineStart, Outside, Symbol, Brace, BraceWord, is_digit, is_letter, is_line_end, is_space, class, comment_class, symbol, left_paren, right_paren, comment_open, comment_close, word, Token, TokenForm, Ends, PartialToken, tokens_to_come, token_of, IsSound, HasNotFailed, pending, begin, begin_line, IsOutside, Ran, RunsOut, RunsToToken, Standing, standing_at, Scans, Passes, none, over_space, over_token, ReadsBehind, is_passed, is_given, begins_with_letter, IsSymbolIn, IsNumberIn, IsWordIn}
 use Rattle.pgn_lexer.proofs.stepping.PieceByByte.{ran_none, ran_uses, ran_ends, ran_ends_before, takes_outside, takes_symbol_byte, takes_symbol_end, takes_brace, takes_gap, takes_word_byte, takes_word_end}
 use Rattle.pgn_lexer.proofs.stepping.StandsAfterCalls.{scans_nothing, scans_token}
 
@@ -222,6 +222,12 @@ first_letter zero xs h some is = absurd (omega arith)
 first_letter (suc n) [] h some is = absurd (omega arith)
 first_letter (suc n) (x ∷ xs) h some is = is
 
+pub white_line_end : (b : ℕ) → is_line_end b ≡ true → is_space b ≡ true
+white_line_end b is = grind arith
+
+white_in_comment : (b : ℕ) → (comment_class b ≡ comment_classes.LineEnd) ⊎ (comment_class b ≡ comment_classes.Space) → is_space b ≡ true
+white_in_comment b is = grind arith
+
 pub class_line_end : (b : ℕ) → is_letter b ≡ false → is_digit b ≡ false → is_line_end b ≡ true → class b ≡ LineEnd
 class_line_end b h1 h2 h3 = grind arith
 
@@ -286,19 +292,19 @@ module _ (before : Standing) (place : ℕ) (h : PartialToken) (piece : List ℕ)
   one_here : get_or one 0 0 ≡ get_or piece m 0
   one_here = get_or-take 1 rest 0 0 (omega arith) ∙ here
 
-  space : (mode : Mode) → IsBetween mode → RunsOut (place + m) h one (into_mode h mode) 1 → Passes before piece (standing_at (place + (m + 1)) (into_mode h mode)) (m + 1)
-  space mode between out =
+  space : (mode : Mode) → IsBetween mode → is_space (get_or piece m 0) ≡ true → RunsOut (place + m) h one (into_mode h mode) 1 → Passes before piece (standing_at (place + (m + 1)) (into_mode h mode)) (m + 1)
+  space mode between is_white out =
       subst (λ k. Passes before piece (standing_at k (into_mode h mode)) (m + 1)) (further 1)
-      (over_space _ _ m passes within (scans_nothing _ _ _ one 1 out) (none_pending mode between h.at h.text))
+      (over_space _ _ m passes within is_white (scans_nothing _ _ _ one 1 out) (none_pending mode between h.at h.text))
 
   module _ (outside : IsOutside h.mode) where
     sound : IsSound (place + m) h
     sound = sound_outside (place + m) h outside room
 
     pub passes_space : (c : Class) (mode : Mode) → class (get_or piece m 0) ≡ c → (c ≡ LineEnd) × (mode ≡ LineStart) ⊎ (c ≡ Space) × (mode ≡ Outside)
-        → IsBetween mode → Passes before piece (standing_at (place + (m + 1)) (into_mode h mode)) (m + 1)
-    passes_space c mode is to between =
-        space mode between (out_alike (place + m) h one 1 mode between _ h.at _ h.text room (sym one_long) (omega arith)
+        → IsBetween mode → is_space (get_or piece m 0) ≡ true → Passes before piece (standing_at (place + (m + 1)) (into_mode h mode)) (m + 1)
+    passes_space c mode is to between is_white =
+        space mode between is_white (out_alike (place + m) h one 1 mode between _ h.at _ h.text room (sym one_long) (omega arith)
         (ran_space (place + m) h one sound outside c mode (omega (arith, one_long)) (ap class one_here ∙ is) to))
 
     pub passes_period : get_or piece m 0 ≡ 46 → Passes before piece (standing_at (place + (m + 1)) (into_mode h Outside)) (m + 1)
@@ -341,7 +347,7 @@ module _ (before : Standing) (place : ℕ) (h : PartialToken) (piece : List ℕ)
     pub passes_gap : (comment_class (get_or piece m 0) ≡ comment_classes.LineEnd) ⊎ (comment_class (get_or piece m 0) ≡ comment_classes.Space)
         → Passes before piece (standing_at (place + (m + 1)) (into_mode h Brace)) (m + 1)
     passes_gap is =
-        space Brace tt (out_alike (place + m) h one 1 Brace tt _ h.at _ h.text room (sym one_long) (omega arith)
+        space Brace tt (white_in_comment (get_or piece m 0) is) (out_alike (place + m) h one 1 Brace tt _ h.at _ h.text room (sym one_long) (omega arith)
         (ran_gap (place + m) h one sound_there in_brace (omega (arith, one_long)) (rw (sym one_here) at is)))
 
     pub reads_word : (n : ℕ) → IsWordIn rest n

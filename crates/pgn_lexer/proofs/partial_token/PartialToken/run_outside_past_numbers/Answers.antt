@@ -1,6 +1,6 @@
 use Rattle.pgn_lexer.proofs.Words.{◌+◌, ◌-◌, ◌≡◌, ◌≤◌, refl, inl, inr, sym, subst, ◌∙◌, arith, length, get_or, take, length-take-le, LineEnd, Space, LineStart, Outside, IsOutside, PartialToken}
 use Rattle.std.proofs.lemmas.List.{length-drop, take_rest}
-use Rattle.pgn_lexer.proofs.stepping.WholeRuns.{class_line_end, passes_none, passes_space, passes_period, passes_number, reads_symbol, reads_open, reads_left_paren, reads_right_paren}
+use Rattle.pgn_lexer.proofs.stepping.WholeRuns.{class_line_end, white_line_end, passes_none, passes_space, passes_period, passes_number, reads_symbol, reads_open, reads_left_paren, reads_right_paren}
 use Rattle.pgn_lexer.proofs.partial_token.PartialToken.run_outside_past_numbers.Goals as goal
 
 pub loop-used-init : goal.loop-used-init
@@ -32,7 +32,7 @@ loop-used-preserved-then-byte-eq46 c =
       room = here.room;
       outside = tt;
       passes = elim c.if-byte-eq46.either [
-        | inl is ↦ passes_space _ _ _ _ _ here.passes c.loop-used-test.true long here.outside Space Outside (rw is refl) (inr (refl, refl)) tt
+        | inl is ↦ passes_space _ _ _ _ _ here.passes c.loop-used-test.true long here.outside Space Outside (rw is refl) (inr (refl, refl)) tt (rw is refl)
         | inr is ↦ passes_period _ _ _ _ _ here.passes c.loop-used-test.true long here.outside is.1
       ];
     }
@@ -85,5 +85,5 @@ loop-used-preserved c =
       passes = passes_space _ _ _ _ _ here.passes c.loop-used-test.true long here.outside LineEnd LineStart
           (class_line_end (get_or c.args.piece.now c.loop-used.used 0) (sym c.is_letter.ensures ∙ c.if-is_letter.false) (sym c.is_digit.ensures ∙ c.if-is_digit.false)
           (sym c.is_line_end.ensures ∙ c.if-is_line_end.true))
-          (inl (refl, refl)) tt;
+          (inl (refl, refl)) tt (white_line_end (get_or c.args.piece.now c.loop-used.used 0) (sym c.is_line_end.ensures ∙ c.if-is_line_end.true));
     }
