@@ -1,6 +1,6 @@
 //! What Rust's users expect of the types. **Not proved**: written for Cargo.
 
-use crate::{Colour, Kind, Piece, Position, PositionFault, Probes, Square};
+use crate::{Board, Colour, Kind, Piece, Position, PositionFault, Probes, Square};
 use std::error::Error;
 use std::fmt::{self, Debug, Display, Formatter, Write};
 
@@ -22,7 +22,7 @@ impl Debug for Position {
     /// Writes the ranks from the eighth to the first, as `r...k..r`, and the other parts.
     fn fmt(&self, out: &mut Formatter<'_>) -> fmt::Result {
         out.debug_struct("Position")
-            .field("board", &Ranks(self))
+            .field("board", self.board())
             .field("side", &self.side())
             .field("rights", &self.rights())
             .field("target", &self.target())
@@ -32,14 +32,13 @@ impl Debug for Position {
     }
 }
 
-struct Ranks<'a>(&'a Position);
-
-impl Debug for Ranks<'_> {
+impl Debug for Board {
+    /// Writes the ranks from the eighth to the first, as `r...k..r`.
     fn fmt(&self, out: &mut Formatter<'_>) -> fmt::Result {
         for rank in (0..8).rev() {
             let squares = (0..8).filter_map(|file| Square::new(file, rank));
             for square in squares {
-                out.write_char(self.0.at(square).map_or('.', letter))?;
+                out.write_char(self.at(square).map_or('.', letter))?;
             }
             out.write_str(if rank == 0 { "" } else { "/" })?;
         }

@@ -254,6 +254,7 @@ impl Board {
     /// The word has four lanes of eight bits. In each lane the lowest bit is for file a, and the
     /// highest one for file h. The lowest lane has rooks, queens and knights, the next one bishops,
     /// queens and kings, the third one pawns, knights and kings, and the highest one black pieces.
+    /// So no bit may be set in the three lower lanes at once, or in the highest one alone.
     #[inline(always)]
     pub fn push_rank(&mut self, lanes: u32)
         requires { words.AreLanes lanes }

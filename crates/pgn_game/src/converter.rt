@@ -584,7 +584,7 @@ impl<const T: usize, const L: usize> Converter<T, L> {
         Ok(Reached::All)
     }
 
-    /// Takes the next tokens of the piece, up to a marker, which is not taken.
+    /// Takes one token of the piece or more. A marker is met, and not taken.
     #[inline(always)]
     fn step<W: Sink>(&mut self, piece: &[u8], out: &mut W) -> Step
         requires no_fault { self.old.fault ≡ None }
