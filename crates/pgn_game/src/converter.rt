@@ -1,10 +1,12 @@
 //! Converts games in pieces of any length.
 ghost use Rattle.std.specs.Prelude.{◌≡◌, ◌+◌, ◌-◌, ◌*◌, ◌≤◌, ◌<◌, ◌^◌, [], false};
-ghost use Rattle.std.specs.Prelude.{None, Some, Err, is_ok, IfOk, IfSome, OnOk, OnErr, length, take};
+ghost use Rattle.std.specs.Prelude.{None, Some, Ok, Err, is_ok, IfOk, IfSome, OnOk, OnErr, length, take};
 ghost use Rattle.std.specs.Option.{option_copied};
 ghost use Rattle.pgn_layout.specs.Device.{device};
 ghost use Rattle.pgn_lexer.specs.Standing.{waiting};
 ghost use Rattle.pgn_lexer.specs.WhiteSpace.{white_space};
+ghost use Rattle.pgn_game.specs.declared.converter.Fed.TheVariants as fed;
+ghost use Rattle.pgn_game.specs.declared.converter.Reached.TheVariants as reached;
 ghost use Rattle.pgn_game.specs.declared.reason.Reason.TheVariants.{InputTooLong, Lexical, ReadFault};
 ghost use Rattle.pgn_game.specs.ConverterSteps.{FeedsFront, FeedsToMarker, Steps, StepsAtEnd};
 ghost use Rattle.pgn_game.specs.ConverterSteps.{PassesNumbers, TakesSteps};
@@ -227,8 +229,11 @@ impl<const T: usize, const L: usize> Converter<T, L> {
         ensures used { IfOk result (λ fed. used_of fed piece.now ≤ length piece.now) }
         ensures feeds { Feeds self.old piece.now self.new result
             (device W.taken W.failures out.old out.new) }
+        ensures empty { piece.now ≡ [] → self.old.fault ≡ None → result ≡ Ok fed.All }
         ensures count { IfOk result (λ fed.
             self.new.lexer.count ≡ self.old.lexer.count + used_of fed piece.now) }
+        ensures grows { self.old.lexer.count ≤ self.new.lexer.count }
+        ensures within { self.new.lexer.count ≤ self.old.lexer.count + length piece.now }
         ensures short { OnOk result (self.new.lexer.count ≤ 2 ^ 62) }
         ensures advances { IfOk result (λ fed. Advances self.old.lexer self.new.lexer fed) }
         ensures not_finished { self.new.is_finished ≡ false }
@@ -262,8 +267,11 @@ impl<const T: usize, const L: usize> Converter<T, L> {
         ensures used { IfOk result (λ reached. used_to reached piece.now ≤ length piece.now) }
         ensures feeds { FeedsToMarker self.old piece.now self.new result
             (device W.taken W.failures out.old out.new) }
+        ensures empty { piece.now ≡ [] → self.old.fault ≡ None → result ≡ Ok reached.All }
         ensures count { IfOk result (λ reached.
             self.new.lexer.count ≡ self.old.lexer.count + used_to reached piece.now) }
+        ensures grows { self.old.lexer.count ≤ self.new.lexer.count }
+        ensures within { self.new.lexer.count ≤ self.old.lexer.count + length piece.now }
         ensures short { OnOk result (self.new.lexer.count ≤ 2 ^ 62) }
         ensures advances { IfOk result (λ reached.
             AdvancesTo self.old.lexer self.new.lexer reached) }
@@ -365,6 +373,7 @@ impl<const T: usize, const L: usize> Converter<T, L> {
         requires not_finished { self.old.is_finished ≡ false }
         ensures ends { Ends self.old self.new result (device W.taken W.failures out.old out.new) }
         ensures finished { self.new.is_finished ≡ is_ok result }
+        ensures count { self.new.lexer.count ≡ self.old.lexer.count }
         ensures probes { self.old.reading.most_probes ≤ self.new.reading.most_probes }
         ensures fault { KeepsFault self.new result }
         ensures none_just_finished { OnErr result (self.new.just_finished ≡ None) }
@@ -402,8 +411,7 @@ impl<const T: usize, const L: usize> Converter<T, L> {
         requires not_finished { self.old.is_finished ≡ false }
         ensures ends { EndsToMarker self.old self.new result
             (device W.taken W.failures out.old out.new) }
-        ensures count { IfOk result (λ marker.
-            self.new.lexer.count ≡ self.old.lexer.count) }
+        ensures count { self.new.lexer.count ≡ self.old.lexer.count }
         ensures advances { IfOk result (λ marker.
             AdvancesAtEnd self.old.lexer self.new.lexer marker) }
         ensures ready { IfOk result (λ marker. IfSome marker (λ mark. IsReady self.new)) }
@@ -528,6 +536,9 @@ impl<const T: usize, const L: usize> Converter<T, L> {
     }
 
     /// Returns the place of the next byte: where it began, and how many bytes were used since.
+    ///
+    /// `feed` raises it by the bytes that it used. On an error these are at most the whole piece.
+    /// `finish` leaves it as it is, also on an error.
     pub fn count(&self) -> u64
         ensures { result ≡ self.now.lexer.count }
     {
@@ -556,8 +567,11 @@ impl<const T: usize, const L: usize> Converter<T, L> {
         ensures used { IfOk result (λ reached. used_to reached piece.now ≤ length piece.now) }
         ensures feeds { FeedsFront self.old piece.now self.new result
             (device W.taken W.failures out.old out.new) }
+        ensures empty { piece.now ≡ [] → result ≡ Ok reached.All }
         ensures count { IfOk result (λ reached.
             self.new.lexer.count ≡ self.old.lexer.count + used_to reached piece.now) }
+        ensures grows { self.old.lexer.count ≤ self.new.lexer.count }
+        ensures within { self.new.lexer.count ≤ self.old.lexer.count + length piece.now }
         ensures advances { IfOk result (λ reached.
             AdvancesTo self.old.lexer self.new.lexer reached) }
         ensures ready { IfOk result (IsReadyAt self.new) }
@@ -795,7 +809,7 @@ impl<const T: usize, const L: usize> Converter<T, L> {
         requires none_just_finished { self.old.just_finished ≡ None }
         ensures after { StepsAtEnd self.old self.new result
             (device W.taken W.failures out.old out.new) }
-        ensures count { IfOk result (λ met. self.new.lexer.count ≡ self.old.lexer.count) }
+        ensures count { self.new.lexer.count ≡ self.old.lexer.count }
         ensures advances { StepAtEndAdvances self.old.lexer self.new.lexer result }
         ensures ready { IsReadyAfter self.new result }
         ensures written { as_written self.new.reading ≡ as_written self.old.reading }

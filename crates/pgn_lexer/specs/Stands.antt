@@ -95,7 +95,7 @@ pub record Scans (old : Standing) (piece : List ℕ) (new : Standing) (used : �
 -- the error.
 abbrev pub FinishGivesToken : Kind → Standing → Standing → Token → Type 0
 FinishGivesToken end old new t = (coming old [] ≡ t ∷ []) × (new ≡ old)
-FinishGivesToken _ old new t = (coming old [] ≡ t ∷ coming new []) × (waiting new < waiting old) × (new.count ≡ old.count)
+FinishGivesToken _ old new t = (coming old [] ≡ t ∷ coming new []) × (waiting new < waiting old)
 
 abbrev pub FinishGives : Standing → Standing → Scanned → Type 0
 FinishGives old new more = ⊥
@@ -116,7 +116,9 @@ AfterClose u given new more = ⊥
 AfterClose u given new (token t) = IsNext u given t.kind new t
 AfterClose u given new (fault f) = tokens_of u ≡ given ++ refusal f ∷ []
 
+-- What a call of `finish` does. It uses no byte.
 pub record Finishes (old new : Standing) (seen : Scanned) : Type 0 where
+  pub count : new.count ≡ old.count
   pub closes : FinishGives old new seen
   pub lengths : HasLengthIn seen
   pub left : (u : List ℕ) (given : List Token) → HasLeft old u given → AfterClose u given new seen

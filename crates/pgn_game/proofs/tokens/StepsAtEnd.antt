@@ -22,9 +22,9 @@ abbrev pub Nearer : Bool → Standing → Standing → Type 0
 Nearer true old new = new ≡ old
 Nearer false old new = (waiting new < waiting old) × (new.count ≡ old.count)
 
-pub nearer_by : (k : Kind) (old new : Standing) (t : Token) → FinishGivesToken k old new t → Nearer (is_end k) old new
-nearer_by tokens.end old new t h = h.1
-nearer_by _ old new t h = (h.1, h.2)
+pub nearer_by : (k : Kind) (old new : Standing) (t : Token) → new.count ≡ old.count → FinishGivesToken k old new t → Nearer (is_end k) old new
+nearer_by tokens.end old new t same h = h.1
+nearer_by _ old new t same h = (h.1, same)
 
 pub marker_or_end : (k : Kind) → IsTrue (is_some (marker_of k)) → is_end k ≡ false
 marker_or_end tokens.end h = absurd (cc)
@@ -195,15 +195,6 @@ advances_at_end old new at true (Ok (Some marker)) not_ok near = absurd (false�
 advances_at_end old new at false (Ok None) not_ok near = near.0
 advances_at_end old new at false (Ok (Some marker)) not_ok near = near.0
 advances_at_end old new at e (Err why) not_ok near = tt
-
--- behind the last piece no byte is counted more
-pub count_at_end : (old new : Standing) (at : ℕ) (e : Bool) (r : Result (Option Marker) Reason)
-    → Nearer e old new → IfOk (outcome_at at r) (λ met. new.count ≡ old.count)
-count_at_end old new at true (Ok None) near = ap (λ (l : Standing). l.count) near
-count_at_end old new at false (Ok None) near = near.1
-count_at_end old new at true (Ok (Some marker)) near = ap (λ (l : Standing). l.count) near
-count_at_end old new at false (Ok (Some marker)) near = near.1
-count_at_end old new at e (Err why) near = tt
 
 -- an answer of the reader that is no fault keeps none, and counts none; none passes the end
 pub no_fault_if_ok : (at : ℕ) (r : Result (Option Marker) Reason) → IsTrue (is_ok (outcome_at at r)) → fault_of_step (outcome_at at r) ≡ None

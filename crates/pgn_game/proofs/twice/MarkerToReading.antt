@@ -129,7 +129,7 @@ module _ (q : Profile) (left_old left_new : Option (List ℕ)) (given mid : List
       by_some None is = tt
       by_some (Some s) is = subst P (sym is) h
 
-  pub met_at_end : (r : Result (Option CodeMark) Fault) → OnOk r (new.lexer.count ≡ now.lexer.count) → AfterEndToMarker q u mid now new r b c
+  pub met_at_end : (r : Result (Option CodeMark) Fault) → new.lexer.count ≡ now.lexer.count → AfterEndToMarker q u mid now new r b c
       → AfterMarker q left_old left_new given reading r a c
   met_at_end (Ok (Some m)) stays h =
       record {
@@ -166,7 +166,7 @@ module _ (q : Profile) (left_old left_new : Option (List ℕ)) (given mid : List
 module _ (q : Profile) (left_old left left_new : Option (List ℕ)) (given : List Token) (u : List ℕ) (consumed : Consumes left_old left u)
     (now : Converter) (unused : List ℕ) (a b : Option (List ℕ)) (uses : UsesAll q u given left left_new (games_of now unused) a b) where
   pub all_used : (new : Converter) (c : Option (List ℕ)) (sink : Device) (r : Result (Option CodeMark) Fault) → sink.before ≡ b → sink.after ≡ c
-      → EndsToMarker now new r sink → OnOk r (new.lexer.count ≡ now.lexer.count) → as_written new.reading ≡ as_written now.reading
+      → EndsToMarker now new r sink → new.lexer.count ≡ now.lexer.count → as_written new.reading ≡ as_written now.reading
       → AfterMarker q left_old left_new given (record { converter = new; unused = unused; has_ended = true }) r a c
   all_used new c sink r from to ends stays written =
       let so = uses.so_far in

@@ -1,7 +1,17 @@
-use Rattle.pgn_game.proofs.Words.{arith, ap, le_trans, none-some, same_Some, sym, ◌∙◌, Converter, Err, Standing, err_from_is_err_and, at_token}
+use Rattle.pgn_game.specs.declared.marker.Mark.{Mark}
+use Rattle.pgn_game.specs.declared.converter.Reached.{Reached}
+use Rattle.pgn_game.specs.declared.converter.Reached.TheVariants.{All, Marker as ToMarker}
+use Rattle.pgn_game.proofs.Words.{Fault, ◌≡◌, ℕ, Result, Ok, arith, ap, le_trans, none-some, refl, same_Some, sym, ◌∙◌, Converter, Err, Standing, err_from_is_err_and, at_token}
 use Rattle.pgn_game.proofs.ReaderFitsInMemory.{fits_alike}
 use Rattle.pgn_game.proofs.tokens.PieceToGame.{reaches, fed_all, fed_game, fed_stops, marker_fails}
 use Rattle.pgn_game.proofs.converter.Converter.feed.Goals as goal
+
+-- an empty piece has no error and no marker
+no_error : (f : Fault) → ◌≡◌ {A = Result Reached Fault} (Err f) (Ok All) → ⊥
+no_error f e = cc
+
+no_marker : (used : ℕ) (m : Mark) → ◌≡◌ {A = Result Reached Fault} (Ok (ToMarker used m)) (Ok All) → ⊥
+no_marker used m e = cc
 
 pub feed_to_marker-requires : goal.feed_to_marker-requires
 feed_to_marker-requires g c = (search fits_alike, c.requires.not_finished)
@@ -22,7 +32,10 @@ returns-in_err-feed_to_marker g c =
       feeds = λ p u b given stands follows.
           fed_stops p stands.known u b given _ c.args.piece.now c.feed_to_marker.new.self.reading _
           (stops.feeds p u b given (reaches stands) follows);
+      empty = λ is none. absurd (no_error _ (stops.empty is none));
       count = tt;
+      grows = fed.grows;
+      within = fed.within;
       short = tt;
       advances = tt;
       not_finished = fed.not_finished;
@@ -45,7 +58,10 @@ returns-in-All g c =
       feeds = λ p u b given stands follows.
           fed_all p stands.known u b given _ c.args.piece.now c.feed_to_marker.new.self _
           (feeds p u b given (reaches stands) follows) fed.none_just_finished;
+      empty = λ is none. refl;
       count = rw c.in-All.is at reads.count;
+      grows = fed.grows;
+      within = fed.within;
       short = reads.short;
       advances = tt;
       not_finished = fed.not_finished;
@@ -68,7 +84,10 @@ returns-in_err-end_game-in-Marker g c =
       feeds = λ p u b given stands follows.
           at_token _ (marker_fails p stands.known u b given _ c.args.piece.now _ _ _ _
           (feeds p u b given (reaches stands) follows) c.end_game.new.self _ ended.ends);
+      empty = λ is none. absurd (no_marker _ _ (rw c.in-Marker.is at (reads.empty is none)));
       count = tt;
+      grows = rw c.end_game.ensures.lexer fed.grows;
+      within = rw c.end_game.ensures.lexer fed.within;
       short = tt;
       advances = tt;
       not_finished = ended.not_finished;
@@ -91,6 +110,9 @@ returns-in_ok-end_game-in-Marker g c =
           fed_game p stands.known u b given _ c.args.piece.now _ _ _ _
           (feeds p u b given (reaches stands) follows)
           c.end_game.new.self ended.ends ended.lexer ended.games ended.just_finished ended.fault;
+      empty = λ is none. absurd (no_marker _ _ (rw c.in-Marker.is at (reads.empty is none)));
+      grows = rw ended.lexer fed.grows;
+      within = rw ended.lexer fed.within;
       count = ap (λ (l : Standing). l.count) ended.lexer ∙ (rw c.in-Marker.is at reads.count);
       short = omega (arith, ap (λ (l : Standing). l.count) ended.lexer, reads.short);
       advances = rw ended.lexer (rw c.in-Marker.is at reads.advances);

@@ -1,10 +1,13 @@
 use Rattle.pgn_game.specs.declared.converter.Met.TheVariants.{Token as Other, Marker as AtMarker}
-use Rattle.pgn_game.proofs.Words.{◌≡◌, ℕ, ◌+◌, ◌-◌, ◌^◌, length, take, drop, arith, refl, sym, ap, subst, ◌∙◌, as_written}
+use Rattle.pgn_game.proofs.Words.{◌≡◌, ℕ, ◌+◌, ◌-◌, ◌^◌, ◌<◌, List, [], length, take, drop, arith, refl, sym, ap, subst, ◌∙◌, as_written}
 use Rattle.pgn_game.proofs.Words.{length-drop, le_refl, Ok, None, Some, take_rest, waiting, Converter, Reaches, ◌≤◌}
 use Rattle.pgn_game.proofs.ReaderFitsInMemory.{fits_alike}
 use Rattle.pgn_game.proofs.tokens.StepsAtEnd.{sound_at_none}
 use Rattle.pgn_game.proofs.tokens.StepsInPiece.{lets_go, so_far_none, reads_behind, stands_here, so_far_on, reads_all, reads_to_marker, fails_on, counts_step}
 use Rattle.pgn_game.proofs.converter.Converter.feed_front.Goals as goal
+
+none_before : (piece : List ℕ) (at : ℕ) → piece ≡ [] → at < length piece → ⊥
+none_before piece at is before = omega (arith, rw is at before)
 
 pub loop-at-init : goal.loop-at-init
 loop-at-init g c =
@@ -51,13 +54,17 @@ returns-in-Ok-None g c =
     let after = rw (is, take_rest) at step.after in
     let advances = rw (is, take_rest) at step.advances in
     let counted = rw is at step.counted in
+    let used = rw take_rest at step.used in
     record {
       used = le_refl _;
       feeds = λ p u b given reaches follows.
           let here = so.feeds p u b given reaches follows in
           reads_all p u b given c.args.piece.now c.loop-at.at _ _ _ _ here c.loop-at-test.true _ step.written _
           (after p _ _ (stands_here p u b given c.args.piece.now c.loop-at.at _ _ _ here c.loop-at-test.true));
+      empty = λ is. refl;
       count = omega (arith, advances, step.count, so.count, length-drop c.loop-at.at c.args.piece.now, c.loop-at-test.true);
+      grows = omega (arith, step.count, so.count);
+      within = omega (arith, used, step.count, so.count, length-drop c.loop-at.at c.args.piece.now, c.loop-at-test.true);
       advances = tt;
       ready = tt;
       written = step.written ∙ so.written;
@@ -127,7 +134,10 @@ returns-in-Ok-Some-Marker g c =
           reads_to_marker p u b given c.args.piece.now c.loop-at.at _ _ _ _ here c.loop-at-test.true _ step.written _ _
           (subst (λ n. n + length c.args.piece.now ≤ 2 ^ 62) reaches.lexer.count c.requires.short)
           (after p _ _ (stands_here p u b given c.args.piece.now c.loop-at.at _ _ _ here c.loop-at-test.true));
+      empty = λ is. absurd (none_before c.args.piece.now c.loop-at.at is c.loop-at-test.true);
       count = omega (arith, step.count, so.count);
+      grows = omega (arith, step.count, so.count);
+      within = omega (arith, used, step.count, so.count, length-drop c.loop-at.at c.args.piece.now, c.loop-at-test.true);
       advances = omega (arith, advances, so.goes);
       ready = rw is at step.ready;
       written = step.written ∙ so.written;
@@ -145,6 +155,7 @@ returns-in-Err g c =
     let step = c.step-step.ensures in
     let after = rw (c.in-Err.is, take_rest) at step.after in
     let counted = rw c.in-Err.is at step.counted in
+    let used = rw take_rest at step.used in
     record {
       used = tt;
       feeds = λ p u b given reaches follows.
@@ -152,7 +163,10 @@ returns-in-Err g c =
           fails_on p u b given c.args.piece.now c.loop-at.at _ _ _ _ here c.loop-at-test.true
           c.step-step.new.self step.written c.in-Err.fault
           (after p _ _ (stands_here p u b given c.args.piece.now c.loop-at.at _ _ _ here c.loop-at-test.true));
+      empty = λ is. absurd (none_before c.args.piece.now c.loop-at.at is c.loop-at-test.true);
       count = tt;
+      grows = omega (arith, step.count, so.count);
+      within = omega (arith, used, step.count, so.count, length-drop c.loop-at.at c.args.piece.now, c.loop-at-test.true);
       advances = tt;
       ready = tt;
       written = step.written ∙ so.written;
@@ -172,7 +186,10 @@ returns g c =
       feeds = λ p u b given reaches follows.
           reads_behind p u b given c.args.piece.now c.loop-at.at _ _ _ (so.feeds p u b given reaches follows)
           (omega (arith, so.within, c.loop-at-test.false));
+      empty = λ is. refl;
       count = omega (arith, so.count, so.within, c.loop-at-test.false);
+      grows = omega (arith, so.count);
+      within = omega (arith, so.count, so.within);
       advances = tt;
       ready = tt;
       written = so.written;

@@ -1,9 +1,14 @@
-use Rattle.pgn_game.proofs.Words.{◌≡◌, ℕ, ◌+◌, ◌≤◌, ◌-◌, ◌^◌, List, length, take, arith, sym, ap, ◌∙◌, le_refl}
+use Rattle.std.proofs.Math.Seq.{take-nil}
+use Rattle.pgn_game.proofs.Words.{◌≡◌, ℕ, ◌+◌, ◌≤◌, ◌-◌, ◌^◌, List, [], length, take, arith, sym, ap, ◌∙◌, le_refl}
 use Rattle.pgn_game.proofs.Words.{length-take, none-some, err_from_is_err_and, Converter, as_written, at_token, Err, same_Some, refl}
 use Rattle.pgn_game.proofs.ReaderFitsInMemory.{fits_alike}
 use Rattle.pgn_game.proofs.tokens.StepsAtEnd.{none_by_fault, not_just_finished, sound_behind_fault}
 use Rattle.pgn_game.proofs.tokens.StepsInPiece.{follows_front, front_all, front_marker, front_fault, front_too_long, limit_left, front_used}
 use Rattle.pgn_game.proofs.converter.Converter.feed_to_marker.Goals as goal
+
+-- an empty piece has an empty front
+no_front : (k : ℕ) (piece front : List ℕ) → front ≡ take k piece → piece ≡ [] → front ≡ []
+no_front k piece front is none = is ∙ (ap (take k) none ∙ take-nil k)
 
 -- counts of bytes in the front of a piece
 in_piece : (n k : ℕ) (piece : List ℕ) → n ≤ length (take k piece) → n ≤ length piece
@@ -15,6 +20,9 @@ whole_count new old k piece count whole = omega (arith, count, whole, length-tak
 stays_short : (new old used now held : ℕ) → new ≡ old + used → used ≤ 2 ^ 62 - now
     → now ≡ held → held ≤ 2 ^ 62 → held ≡ old → new ≤ 2 ^ 62
 stays_short new old used now held count room is within view = omega (arith, count, room, is, within, view)
+
+within_front : (new old k : ℕ) (piece front : List ℕ) → front ≡ take k piece → new ≤ old + length front → new ≤ old + length piece
+within_front new old k piece front is within = omega (arith, within, ap (length {A = ℕ}) is, length-take k piece)
 
 limit_at : {place old held now : ℕ} → old ≡ place → held ≡ old → now ≡ held → held ≤ 2 ^ 62 → place + (2 ^ 62 - now) ≡ 2 ^ 62
 limit_at is view count within = omega arith
@@ -42,7 +50,10 @@ returns-in_err-used g c =
       feeds = λ p u b given reaches follows.
           at_token _ (front_fault p u b given c.args.piece.now _ _ _ _ _ follows
           (feeds p u b given reaches (follows_front b c.args.piece.now _ follows)));
+      empty = λ is free. fed.empty (no_front _ _ _ c.within_limit-front.ensures is);
       count = tt;
+      grows = c.feed_front.ensures.grows;
+      within = within_front _ _ (2 ^ 62 - c.count.result) c.args.piece.now _ c.within_limit-front.ensures c.feed_front.ensures.within;
       short = tt;
       advances = tt;
       ready = tt;
@@ -70,7 +81,10 @@ returns-in-Marker g c =
       feeds = λ p u b given reaches follows.
           front_marker p u b given piece _ _ _ c.feed_front.new.self _ _ room
           (feeds p u b given reaches (follows_front b piece _ follows));
+      empty = λ is free. rw c.in-Marker.is at (fed.empty (no_front _ _ _ c.within_limit-front.ensures is));
       count = count;
+      grows = c.feed_front.ensures.grows;
+      within = within_front _ _ (2 ^ 62 - c.count.result) c.args.piece.now _ c.within_limit-front.ensures c.feed_front.ensures.within;
       short = stays_short c.feed_front.new.self.lexer.count c.args.self.now.lexer.count
           used c.count.result c.self.inside.lexer.count count room c.count.ensures
           (c.self.invariant.count c.in_default.is) (ap (λ (s : Converter). s.lexer.count) c.self.view_is);
@@ -100,7 +114,14 @@ returns-then-front-piece g c =
           (c.self.invariant.count c.in_default.is))
           (limit_left piece _ more) (ap (λ (s : Converter). s.reading) c.self-2.view_is)
           (feeds p u b given reaches (follows_front b piece _ follows)));
+      empty = λ is free. absurd (omega (arith, more, ap (length {A = ℕ}) is));
       count = tt;
+      grows = omega (arith, ap (λ (s : Converter). s.lexer.count) c.self-2.view_is, c.feed_front.ensures.grows);
+      within = omega (
+        arith,
+        ap (λ (s : Converter). s.lexer.count) c.self-2.view_is,
+        within_front _ _ (2 ^ 62 - c.count.result) c.args.piece.now _ c.within_limit-front.ensures c.feed_front.ensures.within,
+      );
       short = tt;
       advances = tt;
       ready = tt;
@@ -132,7 +153,10 @@ returns-else-front-piece g c =
       feeds = λ p u b given reaches follows.
           front_all p u b given piece _ _ _ c.feed_front.new.self whole
           (feeds p u b given reaches (follows_front b piece _ follows));
+      empty = λ is free. refl;
       count = all;
+      grows = c.feed_front.ensures.grows;
+      within = within_front _ _ (2 ^ 62 - c.count.result) c.args.piece.now _ c.within_limit-front.ensures c.feed_front.ensures.within;
       short = stays_short c.feed_front.new.self.lexer.count c.args.self.now.lexer.count
           (length piece) c.count.result c.self.inside.lexer.count all whole c.count.ensures
           (c.self.invariant.count c.in_default.is) (ap (λ (s : Converter). s.lexer.count) c.self.view_is);

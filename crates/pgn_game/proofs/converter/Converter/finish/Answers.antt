@@ -1,4 +1,4 @@
-use Rattle.pgn_game.proofs.Words.{arith, ap, le_refl, le_trans, none-some, refl, same_Some, sym, subst, ◌∙◌, device, Converter, Err, StaysBetween, err_from_is_err_and, false≢true}
+use Rattle.pgn_game.proofs.Words.{arith, ap, le_refl, le_trans, none-some, refl, same_Some, sym, subst, ◌∙◌, device, Converter, Err, Standing, StaysBetween, err_from_is_err_and, false≢true}
 use Rattle.pgn_game.specs.ConverterSteps.{ReadsToEnd}
 use Rattle.pgn_game.proofs.ReaderFitsInMemory.{fits_alike, fits_reader}
 use Rattle.pgn_game.proofs.tokens.StepsAtEnd.{left_of, none_by_fault}
@@ -12,6 +12,7 @@ returns-in-Some g c =
     record {
       ends = λ p u b given stands. absurd (none-some _ (sym stands.has_read.no_fault ∙ kept));
       finished = c.requires.not_finished;
+      count = refl;
       probes = le_refl _;
       fault = kept;
       none_just_finished = ap (λ (s : Converter). s.just_finished) (sym c.self.view_is)
@@ -25,6 +26,7 @@ loop-mark-init g c =
     record {
       fault = ap (λ (s : Converter). s.fault) (sym c.self.view_is) ∙ c.in_default.is;
       not_finished = c.requires.not_finished;
+      count = refl;
       probes = le_refl _;
       counted = refl;
       finishes = λ p u b given stands. ended_none p _ u b given _ stands;
@@ -56,6 +58,7 @@ returns-in_err-mark g c =
           failed_input p u given _ _ _ _ so stands.known _ c.args.self.now.lexer c.finish_to_marker.new.self _
           (left_of p c.args.self.now u b given stands) stands.has_read.passes (met.ends p u _ so.left so.has_read) any.games;
       finished = met.finished;
+      count = any.count ∙ old.count;
       probes = le_trans old.probes any.probes;
       fault = met.fault;
       none_just_finished = any.none_just_finished;
@@ -78,6 +81,7 @@ returns-in_err-end_game-in-Some-2 g c =
           (device g.W.Sink.taken g.W.Sink.failures c.finish_to_marker.new.out c.end_game.new.out)
           (left_of p c.args.self.now u b given stands) stands.has_read.passes leaves ended.ends ended.games any.games;
       finished = ended.not_finished;
+      count = ap (λ (l : Standing). l.count) c.end_game.ensures.lexer ∙ any.count ∙ old.count;
       probes = le_trans old.probes (le_trans any.probes ended.probes);
       fault = ended.fault;
       none_just_finished = ended.just_finished;
@@ -92,6 +96,7 @@ loop-mark-preserved g c =
     record {
       fault = ended.fault;
       not_finished = ended.not_finished;
+      count = ap (λ (l : Standing). l.count) ended.lexer ∙ c.finish_to_marker.ensures.count ∙ old.count;
       probes = le_trans old.probes (le_trans c.finish_to_marker.ensures.probes ended.probes);
       counted = ended.counted ∙ (c.in_ok-mark.ensures.counted ∙ old.counted);
       finishes = λ p u b given stands.
@@ -123,6 +128,7 @@ returns-in-None g c =
             | else-finished_game w ↦ w.self-is
           ]);
       finished = ap (λ (s : Converter). s.is_finished) self.view_is ∙ (rw c.in-None.is at met.finished);
+      count = ap (λ (s : Converter). s.lexer.count) self.view_is ∙ any.count ∙ old.count;
       probes = omega (arith, ap (λ (s : Converter). s.reading.most_probes) self.view_is, any.probes, old.probes);
       fault = ap (λ (s : Converter). s.fault) self.view_is ∙ met.fault;
       none_just_finished = tt;

@@ -29,7 +29,7 @@ returns-in_err-step_at_end g c =
       ends = λ p u given left has_read.
           let so = old.ends p u given left has_read in
           left_fault p u given _ _ c.step_at_end.new.self _ _ _ so any.written _ (step.after p u _ so.left so.reads.has_read);
-      count = tt;
+      count = any.count ∙ old.count;
       advances = tt;
       ready = tt;
       written = any.written ∙ old.written;
@@ -67,7 +67,7 @@ loop-mark-preserved g c =
       games = step.games ∙ old.games;
       written = step.written ∙ old.written;
       probes = le_trans old.probes step.probes;
-      count = step.count ∙ old.count;
+      count = c.step_at_end.ensures.count ∙ old.count;
       nearer = omega (arith, nearer, old.nearer);
       counted = step.counted ∙ old.counted;
       ends = λ p u given left has_read.
@@ -85,7 +85,7 @@ returns-in-Some-Marker g c =
       ends = λ p u given left has_read.
           let so = old.ends p u given left has_read in
           left_marker p u given _ _ c.step_at_end.new.self _ _ _ so step.written _ ((rw is at step.after) p u _ so.left so.reads.has_read);
-      count = step.count ∙ old.count;
+      count = c.step_at_end.ensures.count ∙ old.count;
       advances = omega (arith, nearer, old.nearer);
       ready = rw is at step.ready;
       written = step.written ∙ old.written;
@@ -106,7 +106,7 @@ returns-in-None g c =
           let so = old.ends p u given left has_read in
           left_end p u given _ _ c.step_at_end.new.self _ _ _ so step.written
           ((rw c.in-None.is at step.after) p u _ so.left so.reads.has_read);
-      count = step.count ∙ old.count;
+      count = c.step_at_end.ensures.count ∙ old.count;
       advances = tt;
       ready = tt;
       written = step.written ∙ old.written;

@@ -1,6 +1,6 @@
 use Rattle.pgn_game.proofs.Words.{Token, Standing, fault_of_step, kind_of, as_written, Keeps, arith, sym, ap, subst, refl, ◌∙◌, ◌≡◌, ◌&&◌, true, false, is_ok, is_end, Converter, HasRead, HasLeft, outcome_at, game_in_reader_if}
 use Rattle.pgn_game.proofs.tokens.StepsAtEnd.{Left, Nearer, closes_end, closes_token, closes_fault, kept, left_by, nearer_by, not_just_finished, counts_token}
-use Rattle.pgn_game.proofs.tokens.StepsAtEnd.{advances_at_end, count_at_end, counts_ok, goes_on_at, no_fault_if_ok, ready_at_end, sound_at_end, sound_behind, sound_behind_fault, sound_if_not_ok}
+use Rattle.pgn_game.proofs.tokens.StepsAtEnd.{advances_at_end, counts_ok, goes_on_at, no_fault_if_ok, ready_at_end, sound_at_end, sound_behind, sound_behind_fault, sound_if_not_ok}
 use Rattle.pgn_game.proofs.tokens.AcceptedToConverter.{written_same}
 use Rattle.pgn_game.proofs.ReaderFitsInMemory.{fits_reader}
 use Rattle.pgn_game.proofs.converter.Converter.step_at_end.Goals as goal
@@ -30,7 +30,7 @@ returns-then-is_ok g c =
     let ok : is_ok (outcome_at t.at r) ≡ true = ap is_ok (sym c.settle-outcome.ensures.outcome) ∙ sym c.is_ok.ensures.value ∙ c.if-is_ok.true in
     let keeps : Keeps c.self.inside.reader met.new.self = kept _ _ _ _ r met.ensures in
     let near = subst (λ e. Nearer e c.self.inside.lexer l) is_e
-    (nearer_by t.kind c.self.inside.lexer l t (rw c.in-Token.is at c.finish.follows.holds-at-none.closes)) in
+    (nearer_by t.kind c.self.inside.lexer l t c.finish.follows.holds-at-none.count (rw c.in-Token.is at c.finish.follows.holds-at-none.closes)) in
     record {
       after = λ p u given left has_read.
           let here = subst (λ (s : Converter). HasRead p s given) (sym c.self.view_is) has_read in
@@ -39,7 +39,7 @@ returns-then-is_ok g c =
           rw (← c.self.view_is, flag, c.settle-outcome.ensures.fault, c.settle-outcome.ensures.outcome)
           (closes_end p _ u given t l met.new.self _ r is_e ok here
           (subst (λ e. Left u given e l t) is_e (left_by u given t.kind l t (left_behind u given left_here))) met.ensures);
-      count = ap (λ (l : Standing). l.count) near ∙ ap (λ (s : Converter). s.lexer.count) c.self.view_is;
+      count = c.finish.follows.holds-at-none.count ∙ ap (λ (s : Converter). s.lexer.count) c.self.view_is;
       advances = tt;
       ready = tt;
       written = written_same c.self.inside.reader met.new.self keeps.profile keeps.told ∙ ap (λ (s : Converter). as_written s.reading) c.self.view_is;
@@ -62,7 +62,7 @@ returns-in-Fault g c =
           (closes_fault p _
           (record c.args.self.now { lexer = c.finish.follows.lender-at-none; reading = c.self.inside.reader; fault = c.fail.new.kept })
           u given c.in-Fault.fault _ here (left_behind u given left_here) refl);
-      count = rw c.fail.ensures.outcome tt;
+      count = c.finish.follows.holds-at-none.count ∙ ap (λ (s : Converter). s.lexer.count) c.self.view_is;
       advances = rw c.fail.ensures.outcome tt;
       ready = rw c.fail.ensures.outcome tt;
       written = ap (λ (s : Converter). as_written s.reading) c.self.view_is;
@@ -112,7 +112,7 @@ returns-else-is_end g c =
     let now = now_is g c in
     let keeps : Keeps c.self.inside.reader met.new.self = kept _ _ _ _ r met.ensures in
     let near = subst (λ e. Nearer e c.self.inside.lexer l) (sym c.is_end-is_end.ensures)
-    (nearer_by t.kind c.self.inside.lexer l t (rw c.in-Token.is at c.finish.follows.holds-at-none.closes)) in
+    (nearer_by t.kind c.self.inside.lexer l t c.finish.follows.holds-at-none.count (rw c.in-Token.is at c.finish.follows.holds-at-none.closes)) in
     record {
       after = λ p u given left has_read.
           let here = subst (λ (s : Converter). HasRead p s given) (sym c.self.view_is) has_read in
@@ -122,7 +122,7 @@ returns-else-is_end g c =
           (closes_token p _ u given t l met.new.self c.self.inside.is_finished _ e r (not_ended g c) here
           (subst (λ e. Left u given e l t) (sym c.is_end-is_end.ensures) (left_by u given t.kind l t (left_behind u given left_here)))
           met.ensures);
-      count = rw (← c.self.view_is, now, c.settle-outcome.ensures.outcome) (count_at_end c.self.inside.lexer l t.at e r near);
+      count = ap (λ (s : Converter). s.lexer.count) now ∙ c.finish.follows.holds-at-none.count ∙ ap (λ (s : Converter). s.lexer.count) c.self.view_is;
       advances = rw (← c.self.view_is, now, c.settle-outcome.ensures.outcome)
           (advances_at_end c.self.inside.lexer l t.at e r (not_ended g c) near);
       ready = rw (now, c.settle-outcome.ensures.outcome)
@@ -150,7 +150,7 @@ invariant_of-self-else-is_end g c =
     let l = c.finish.follows.lender-at-none in
     let r = c.accept_unless_marker-met.result in
     let near = subst (λ e. Nearer e c.self.inside.lexer l) (sym c.is_end-is_end.ensures ∙ c.if-is_end.false)
-    (nearer_by t.kind c.self.inside.lexer l t gives) in
+    (nearer_by t.kind c.self.inside.lexer l t c.finish.follows.holds-at-none.count gives) in
     rw flag
     (sound_behind c.self.inside.lexer l c.self.inside.reader c.accept_unless_marker-met.new.self c.self.inside.games near
     (c.self.invariant.count none) (c.self.invariant.few none) (c.self.invariant.fewer_plies none not_over)
@@ -174,7 +174,7 @@ invariant_of-self-then-is_ok g c =
     let l = c.finish.follows.lender-at-none in
     let met = c.accept_unless_marker-met in
     let near = subst (λ e. Nearer e c.self.inside.lexer l) (sym c.is_end-is_end.ensures ∙ c.if-is_end.true)
-    (nearer_by t.kind c.self.inside.lexer l t (rw c.in-Token.is at c.finish.follows.holds-at-none.closes)) in
+    (nearer_by t.kind c.self.inside.lexer l t c.finish.follows.holds-at-none.count (rw c.in-Token.is at c.finish.follows.holds-at-none.closes)) in
     rw flag
     (sound_at_end c.self.inside.lexer l c.self.inside.reader met.new.self c.self.inside.games near
     (c.self.invariant.count none) (c.self.invariant.few none) (c.self.invariant.fewer_plies none not_over) (kept _ _ _ _ met.result met.ensures))
