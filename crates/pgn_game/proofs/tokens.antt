@@ -1,6 +1,7 @@
 -- One token and many: from what the reader returns to whole inputs.
 pub mod AcceptedToConverter
 pub mod BytesToMarker
+pub mod BytesWithinLimit
 pub mod EndOfText
 pub mod FinishesGames
 pub mod GamesInPiece

@@ -2,7 +2,7 @@
 -- Letters: p is the profile, s the text of `first`, r the text of `second`, t the totals, f a
 -- fault. u are the bytes that a source has given so far, ts and us the tokens of `first` and of
 -- `second`. `first`, `second` and `sink` are the devices, before the call and after it.
-use Rattle.std.specs.Prelude.{◌≡◌, ℕ, ◌^◌, ◌<◌, ◌≤◌, ◌⊎◌, max, IsTrue, List, [], ◌∷◌, ◌++◌, length, take, None, Result, Ok, Err, IfSome}
+use Rattle.std.specs.Prelude.{◌≡◌, ℕ, ◌^◌, ◌<◌, ◌≤◌, ◌⊎◌, max, IsTrue, List, [], ◌∷◌, ◌++◌, length, take, None, Some, Result, Ok, Err, IfSome}
 use Rattle.std.specs.Io.KnownBytes.{Appends, Consumes}
 use Rattle.pgn_layout.specs.Device.{Device, FailsOnce, IsStill}
 use Rattle.pgn_lexer.specs.Tokens.{Token}
@@ -15,9 +15,9 @@ use Rattle.pgn_game.specs.declared.conversion.Totals.{Totals}
 use Rattle.pgn_game.specs.Profile.{Profile}
 use Rattle.pgn_game.specs.Progress.{read, Verdict, refused as is_refused}
 use Rattle.pgn_game.specs.Conversion.{verdict_in}
-use Rattle.pgn_game.specs.ConverterCalls.{play_moves}
+use Rattle.pgn_game.specs.ConverterCalls.{AreShown, play_moves}
 use Rattle.pgn_game.specs.MostTried.{MostTried}
-use Rattle.pgn_game.specs.Checked.{Mark, compared, written_by, checked_verdict, checked_output}
+use Rattle.pgn_game.specs.Checked.{Mark, compared, written_by, earlier_fault, checked_verdict, checked_output}
 
 -- the tokens begin with ts
 abbrev pub IsTokenPrefix : List Token → List Token → Type 0
@@ -50,6 +50,15 @@ pub record ProbesBoth (p : Profile) (s r : List ℕ) (n : ℕ) : Type 0 where
   pub most : n ≤ 1040
   pub some : IsTrue (play_moves (compared p (tokens_of s) (tokens_of r)).progress.games) → 0 < n
   pub tried : MostOfBoth p (tokens_of s) (tokens_of r) n
+
+-- The fault f is that of both texts, as the bytes of each before place 2^62 show: it comes of the
+-- tokens ts of `first` and us of `second`, which these bytes show.
+pub record AreRefused (p : Profile) (s r : List ℕ) (f : Fault) : Type 0 where
+  pub ts : List Token
+  pub us : List Token
+  pub first_shown : AreShown s ts
+  pub second_shown : AreShown r us
+  pub fault : earlier_fault (compared p ts us).fault (read p ts).fault ≡ Some f
 
 -- both were converted, with these numbers
 pub record AreTotalled (p : Profile) (s r : List ℕ) (t : Totals) (sink : Device) : Type 0 where
@@ -100,11 +109,12 @@ pub record WriteStops (p : Profile) (first : Device) (us : List Token) (at : ℕ
   pub short : count < length (written_by p (compared p tokens (front ++ token ∷ [])))
   pub appended : HasTaken sink (take count (written_by p (compared p tokens (front ++ token ∷ []))))
 
--- How a conversion fails: by the texts' own verdict, a fault of `first` or the first difference;
--- because a read of either failed, or a write; or since the byte at place 2^62 came. In `second`
--- that is a difference, since `first` has finished this game before its own place 2^62.
+-- How a conversion fails: by the texts' own verdict, a fault of `first` or the first difference,
+-- which the bytes before place 2^62 show; because a read of either failed, or a write; or since the
+-- byte at place 2^62 came. In `second` that is a difference, since `first` has finished this game
+-- before its own place 2^62.
 pub data TwoReadingsFail (p : Profile) (first second sink : Device) : Fault → Type 0 where
-  refused : (f : Fault) → IfSome first.before (λ s. IfSome second.before (λ r. AreConverted p s r (is_refused f) sink))
+  refused : (f : Fault) → IfSome first.before (λ s. IfSome second.before (λ r. AreRefused p s r f × AreConverted p s r (is_refused f) sink))
       → TwoReadingsFail p first second sink f
   first_unread : (u : List ℕ) → Consumes first.before first.after u → FailsOnce first → FirstStops p u second sink
       → TwoReadingsFail p first second sink (record { at = length u; reason = ReadFault })

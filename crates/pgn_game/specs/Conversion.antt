@@ -16,7 +16,7 @@ use Rattle.pgn_game.specs.Profile.{Profile}
 use Rattle.pgn_game.specs.Progress.{read, due, output, Verdict, refused as is_refused, totals, verdict}
 use Rattle.pgn_game.specs.Due.{Gains}
 use Rattle.pgn_game.specs.MostTried.{MostTried}
-use Rattle.pgn_game.specs.ConverterCalls.{Converter, play_moves, Stands, StopsWriting, Stops}
+use Rattle.pgn_game.specs.ConverterCalls.{Converter, IsRefused, play_moves, Stands, StopsWriting, Stops}
 
 -- the verdict that has these numbers
 abbrev pub verdict_in : Totals → Verdict
@@ -44,10 +44,10 @@ pub record ReadsNoMore (p : Profile) (u : List ℕ) (before after : Option (List
   pub passes : (read p (decided u)).fault ≡ None
   pub appended : Appends before after (due p (decided u))
 
--- How a conversion of a slice fails: by the text's own fault, or because a write failed; or since
--- the slice is too long.
+-- How a conversion of a slice fails: by the text's own fault, which its bytes before place 2^62 show;
+-- because a write failed; or since the slice is too long.
 pub data FailsOn (p : Profile) (text : List ℕ) (before after : Option (List ℕ)) : Fault → Type 0 where
-  refused : (f : Fault) → IsConverted p text (is_refused f) before after → FailsOn p text before after f
+  refused : (f : Fault) → IsRefused p text f → IsConverted p text (is_refused f) before after → FailsOn p text before after f
   unwritten : (at : ℕ) → StopsWriting p [] (tokens_of text) at before after → FailsOn p text before after (record { at = at; reason = WriteFault })
   too_long : (u rest : List ℕ) → text ≡ u ++ rest → length u ≡ 2 ^ 62 → 0 < length rest → ReadsNoMore p u before after
       → FailsOn p text before after (record { at = length u; reason = InputTooLong })
@@ -60,10 +60,11 @@ AfterSlice p text (Err f) before after = FailsOn p text before after f
 abbrev pub ConvertsSlice : Profile → List ℕ → Result Totals Fault → Device → Type 0
 ConvertsSlice p text result sink = AfterSlice p text result sink.before sink.after
 
--- How a conversion fails: by the input's own fault; because a read failed behind the bytes u;
--- because a write failed when the bytes u were read; or since the byte at place 2^62 came.
+-- How a conversion fails: by the input's own fault, which its bytes before place 2^62 show; because
+-- a read failed behind the bytes u; because a write failed when the bytes u were read; or since the
+-- byte at place 2^62 came.
 pub data Fails (p : Profile) (left_old left_new : Option (List ℕ)) (before after : Option (List ℕ)) : Fault → Type 0 where
-  refused : (f : Fault) → IfSome left_old (λ s. IsConverted p s (is_refused f) before after) → Fails p left_old left_new before after f
+  refused : (f : Fault) → IfSome left_old (λ s. IsRefused p s f × IsConverted p s (is_refused f) before after) → Fails p left_old left_new before after f
   unread : (u : List ℕ) → Consumes left_old left_new u → ReadsNoMore p u before after → Fails p left_old left_new before after (record { at = length u; reason = ReadFault })
   unwritten : (u : List ℕ) (at : ℕ) → Consumes left_old left_new u → StopsWriting p [] (tokens_of u) at before after
       → Fails p left_old left_new before after (record { at = at; reason = WriteFault })

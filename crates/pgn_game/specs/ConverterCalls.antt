@@ -155,8 +155,24 @@ pub data Stops (p : Profile) (given tokens : List Token) (before after : Option 
   unwritten : (at : ℕ) → StopsWriting p given tokens at before after → Stops p given tokens before after (record { at = at; reason = WriteFault })
 
 -- the tokens of every text that goes on from here begin with these
-abbrev pub AreNext : List ℕ → Option ℕ → List Token → Type 0
-AreNext u b tokens = (s : List ℕ) → Follows b s → (rest : List Token) × (tokens_of (u ++ s) ≡ tokens ++ rest)
+abbrev pub AreNext : List ℕ → List Token → Type 0
+AreNext u tokens = (s : List ℕ) → (rest : List Token) × (tokens_of (u ++ s) ≡ tokens ++ rest)
+
+-- The bytes of a text before place 2^62. No byte behind them decides a token.
+abbrev pub within_limit : List ℕ → List ℕ
+within_limit s = take (2 ^ 62) s
+
+-- The text s begins with these tokens, and its bytes before place 2^62 show it: they decide these
+-- tokens, or they are the whole text.
+pub data AreShown (s : List ℕ) (tokens : List Token) : Type 0 where
+  so_far : AreNext (within_limit s) tokens → AreShown s tokens
+  at_end : length s ≤ 2 ^ 62 → (rest : List Token) → tokens_of s ≡ tokens ++ rest → AreShown s tokens
+
+-- The text s is rejected with the fault f, as its bytes before place 2^62 show.
+pub record IsRefused (p : Profile) (s : List ℕ) (f : Fault) : Type 0 where
+  pub tokens : List Token
+  pub shown : AreShown s tokens
+  pub fault : (read p tokens).fault ≡ Some f
 
 -- The whole piece was used: all tokens that are decided then were read, none finished a game, and
 -- what they gain was written.
@@ -185,10 +201,10 @@ pub record FedGame (p : Profile) (u : List ℕ) (given : List Token) (piece : Li
   pub just_finished : new.just_finished ≡ Some (finished_game_of game)
   pub gains : Gains p given (tokens ++ marker ∷ []) before after
 
--- a token that is known by now is rejected, or a write failed
-pub record FedFault (p : Profile) (u : List ℕ) (b : Option ℕ) (given : List Token) (piece : List ℕ) (f : Fault) (before after : Option (List ℕ)) : Type 0 where
+-- a token that these bytes decide is rejected, or a write failed
+pub record FedFault (p : Profile) (bytes : List ℕ) (given : List Token) (f : Fault) (before after : Option (List ℕ)) : Type 0 where
   pub tokens : List Token
-  pub next : AreNext (u ++ piece) (still b piece) tokens
+  pub next : AreNext bytes tokens
   pub stops : Stops p given tokens before after f
 
 -- the games that were whole before reading stopped
@@ -220,18 +236,18 @@ pub record ProbesAtStop {p : Profile} {given tokens : List Token} {before after 
   pub probed : IsTrue (has_played_move (progress_before stops)) → 0 < most
 
 -- Before it no game was finished, and the reader holds the position in which a move was rejected.
-pub record FedToFault (p : Profile) (u : List ℕ) (b : Option ℕ) (given : List Token) (piece : List ℕ) (f : Fault) (reading : ReaderState) (before after : Option (List ℕ)) : Type 0 where
-  pub fed : FedFault p u b given piece f before after
+pub record FedToFault (p : Profile) (bytes : List ℕ) (given : List Token) (f : Fault) (reading : ReaderState) (before after : Option (List ℕ)) : Type 0 where
+  pub fed : FedFault p bytes given f before after
   pub no_game : games_before fed.stops ≡ (read p given).progress.games
   pub counts : ProbesAtStop fed.stops reading.most_probes
   pub position : reported_position reading f.reason ≡ position_at_stop fed.stops
 
--- How reading stops in a piece that follows the bytes u: at one of its tokens; or because the byte
--- at place 2^62 is in it, and then `Before` says what was read and written of the bytes before that
--- place.
-pub data StopsIn (u piece : List ℕ) (AtToken : Fault → Type 0) (Before : List ℕ → Type 0) :
+-- How reading stops in a piece that follows the bytes u: at a token, and then `AtToken` says of the
+-- bytes before place 2^62 how they decide it; or because the byte at that place is in the piece,
+-- and then `Before` says what was read and written of the bytes before it.
+pub data StopsIn (u piece : List ℕ) (AtToken : List ℕ → Fault → Type 0) (Before : List ℕ → Type 0) :
     Fault → Type 0 where
-  at_token : (f : Fault) → AtToken f → StopsIn u piece AtToken Before f
+  at_token : (f : Fault) → AtToken (within_limit (u ++ piece)) f → StopsIn u piece AtToken Before f
   too_long : (front rest : List ℕ) → piece ≡ front ++ rest → length (u ++ front) ≡ 2 ^ 62
       → 0 < length rest → Before front
       → StopsIn u piece AtToken Before (record { at = 2 ^ 62; reason = InputTooLong })
@@ -243,7 +259,7 @@ AfterFeed p u b given piece new (Ok (GameEnd used)) before after =
     FedGame p u given piece used new before after
 AfterFeed p u b given piece new (Err f) before after =
     StopsIn u piece
-    (λ fault. FedToFault p u b given piece fault new.reading before after)
+    (λ bytes fault. FedToFault p bytes given fault new.reading before after)
     (λ front. (now : Converter) × FedAll p u b given front now before after
     × (new.reading ≡ now.reading)) f
 
@@ -282,7 +298,7 @@ abbrev pub AfterFeedAll : Profile → List ℕ → List Token → List ℕ → C
     → Result Unit Fault → Option (List ℕ) → Option (List ℕ) → Type 0
 AfterFeedAll p u given piece new (Ok done) before after = FedWhole p u given piece new before after
 AfterFeedAll p u given piece new (Err f) before after =
-    StopsIn u piece (λ fault. FedFault p u None given piece fault before after)
+    StopsIn u piece (λ bytes fault. FedFault p bytes given fault before after)
     (λ front. ReadsUpTo p given (u ++ front) before after) f
 
 -- What `feed_all` does to a converter that has read all that the bytes u decide.

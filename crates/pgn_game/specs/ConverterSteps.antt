@@ -32,7 +32,7 @@ use Rattle.pgn_game.specs.Due.{Gains}
 use Rattle.pgn_game.specs.ReaderState.{Accepted, Finished, ReaderState, IsStopped, as_written}
 use Rattle.pgn_game.specs.TokenInMovetext.{may_have_movetext}
 use Rattle.pgn_game.specs.PutResult.{EntersMovetext, TakesEntry}
-use Rattle.pgn_game.specs.ConverterCalls.{Converter, FinishedGame, game_in_reader, IsLast, HasRead, Stands, Stops, StopsIn, AreNext, games_before, position_at_stop, reported_position, ProbesAtStop}
+use Rattle.pgn_game.specs.ConverterCalls.{Converter, FinishedGame, game_in_reader, IsLast, HasRead, Stands, Stops, StopsIn, AreNext, within_limit, games_before, position_at_stop, reported_position, ProbesAtStop}
 
 -- ---- what was read and written
 
@@ -138,7 +138,7 @@ AfterStep p u given piece new used (Ok (Some Other)) before after =
 AfterStep p u given piece new used (Ok (Some (AtMarker m))) before after =
     (t : Token) × EndsWithin u given piece used t new.lexer × Meets p given given t m new before after
 AfterStep p u given piece new used (Err f) before after =
-    (t : Token) × AreNext (u ++ piece) None (given ++ t ∷ []) × NotTaken p given given t f new.reading before after
+    (t : Token) × AreNext (u ++ piece) (given ++ t ∷ []) × NotTaken p given given t f new.reading before after
 
 -- What `step_any` does to a converter.
 abbrev pub Steps : Converter → List ℕ → Converter → ℕ → Result (Option Met) Fault → Device → Type 0
@@ -224,20 +224,22 @@ pub record ReadsPiece (p : Profile) (u : List ℕ) (b : Option ℕ) (given : Lis
   pub empty : length piece ≡ 0 → tokens ≡ given
   pub reads : ReadsMore p given tokens new before after
 
--- The used bytes end with a marker. A byte at place 2^62 is never looked at.
+-- The used bytes end with a marker. A byte at place 2^62 is never looked at: those before it decide
+-- the marker.
 pub record ReadsToMarker (p : Profile) (u : List ℕ) (given : List Token) (piece : List ℕ) (used : ℕ) (m : Mark) (new : Converter) (before after : Option (List ℕ)) : Type 0 where
   pub tokens : List Token
   pub token : Token
   pub ends : EndsWithin u tokens piece used token new.lexer
   pub at_limit : length (u ++ take used piece) ≡ 2 ^ 62
       → tokens ++ token ∷ [] ≡ decided (u ++ take used piece)
+  pub next : AreNext (within_limit (u ++ piece)) (tokens ++ token ∷ [])
   pub meets : Meets p given tokens token m new before after
 
--- A token that is known by now was not taken.
-pub record FailsIn (p : Profile) (u : List ℕ) (b : Option ℕ) (given : List Token) (piece : List ℕ) (f : Fault) (new : ReaderState) (before after : Option (List ℕ)) : Type 0 where
+-- A token that these bytes decide was not taken.
+pub record FailsIn (p : Profile) (bytes : List ℕ) (given : List Token) (f : Fault) (new : ReaderState) (before after : Option (List ℕ)) : Type 0 where
   pub tokens : List Token
   pub token : Token
-  pub next : AreNext (u ++ piece) (still b piece) (tokens ++ token ∷ [])
+  pub next : AreNext bytes (tokens ++ token ∷ [])
   pub fails : NotTaken p given tokens token f new before after
 
 -- the result of a piece that ends before place 2^62
@@ -247,7 +249,7 @@ AfterFront p u b given piece new (Ok All) before after = ReadsPiece p u b given 
 AfterFront p u b given piece new (Ok (ToMarker used m)) before after =
     ReadsToMarker p u given piece used m new before after
 AfterFront p u b given piece new (Err f) before after =
-    FailsIn p u b given piece f new.reading before after
+    FailsIn p (u ++ piece) given f new.reading before after
 
 abbrev pub FeedsFront : Converter → List ℕ → Converter → Result Reached Fault → Device → Type 0
 FeedsFront old piece new result sink =
@@ -263,7 +265,7 @@ AfterFeedToMarker p u b given piece new (Ok (ToMarker used m)) before after =
     ReadsToMarker p u given piece used m new before after
 AfterFeedToMarker p u b given piece new (Err f) before after =
     StopsIn u piece
-    (λ fault. FailsIn p u b given piece fault new.reading before after)
+    (λ bytes fault. FailsIn p bytes given fault new.reading before after)
     (λ front. (now : Converter) × ReadsPiece p u b given front now before after
     × (new.reading ≡ now.reading)) f
 
@@ -301,7 +303,7 @@ abbrev pub AfterNumbers : Profile → List ℕ → List Token → List ℕ → C
 AfterNumbers p u given piece new used (Ok done) before after =
     SoFar p u (first piece) given piece used new before after
 AfterNumbers p u given piece new used (Err f) before after =
-    FailsIn p u (first piece) given piece f new.reading before after
+    FailsIn p (u ++ piece) given f new.reading before after
 
 -- What `step_past_numbers` does to a converter.
 abbrev pub PassesNumbers : Converter → List ℕ → Converter → ℕ → Result Unit Fault → Device → Type 0
@@ -316,7 +318,7 @@ AfterSteps p u given piece new used (Ok (Some Other)) before after =
     (so : SoFar p u (first piece) given piece used new before after)
     × IsDecided (u ++ take used piece) (drop used piece) so.tokens
 AfterSteps p u given piece new used (Err f) before after =
-    FailsIn p u (first piece) given piece f new.reading before after
+    FailsIn p (u ++ piece) given f new.reading before after
 AfterSteps p u given piece new used outcome before after =
     AfterStep p u given piece new used outcome before after
 

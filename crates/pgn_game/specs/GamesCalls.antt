@@ -18,7 +18,7 @@ use Rattle.pgn_game.specs.Game.{Game}
 use Rattle.pgn_game.specs.Text.{text_of}
 use Rattle.pgn_game.specs.Progress.{read, due}
 use Rattle.pgn_game.specs.Due.{Gains}
-use Rattle.pgn_game.specs.ConverterCalls.{Converter, finished_game_of, HasRead, Stands, AreNext, Stops, games_before, ProbesAtStop, ReadsUpTo}
+use Rattle.pgn_game.specs.ConverterCalls.{Converter, finished_game_of, HasRead, Stands, AreNext, within_limit, Stops, games_before, ProbesAtStop, ReadsUpTo}
 use Rattle.pgn_game.specs.Conversion.{CountsDevices}
 
 -- ---- what was read so far
@@ -88,10 +88,10 @@ pub record NoGame (p : Profile) (u : List ℕ) (given : List Token) (left_old le
   pub none_just_finished : new.converter.just_finished ≡ None
   pub gains : Gains p given (tokens_of (u ++ more)) before after
 
--- A token that the bytes so far decide is rejected, or a write failed. No game was finished before.
-pub record StopsAtToken (p : Profile) (u : List ℕ) (given : List Token) (most : ℕ) (f : Fault) (before after : Option (List ℕ)) : Type 0 where
+-- A token that these bytes decide is rejected, or a write failed. No game was finished before.
+pub record StopsAtToken (p : Profile) (bytes : List ℕ) (given : List Token) (most : ℕ) (f : Fault) (before after : Option (List ℕ)) : Type 0 where
   pub tokens : List Token
-  pub next : AreNext u None tokens
+  pub next : AreNext bytes tokens
   pub stops : Stops p given tokens before after f
   pub no_game : games_before stops ≡ (read p given).progress.games
   pub counts : ProbesAtStop stops most
@@ -108,12 +108,13 @@ pub record ReadsNoGame (p : Profile) (given : List Token) (u : List ℕ) (before
   pub reads : ReadsUpTo p given u before after
   pub no_game : (read p reads.tokens).progress.games ≡ (read p given).progress.games
 
--- How a call stops: at a token; at the end of the text; because a read failed; or since the byte at
--- place 2^62 came.
+-- How a call stops: at a token that the bytes before place 2^62 decide; at the end of the text, which
+-- has no byte there; because a read failed; or since the byte at place 2^62 came.
 pub data NextStops (p : Profile) (u : List ℕ) (given : List Token) (left_old left_new : Option (List ℕ)) (most : ℕ) (before after : Option (List ℕ)) : Fault → Type 0 where
-  at_token : (f : Fault) (more : List ℕ) → Consumes left_old left_new more → StopsAtToken p (u ++ more) given most f before after
+  at_token : (f : Fault) (more : List ℕ) → Consumes left_old left_new more → StopsAtToken p (within_limit (u ++ more)) given most f before after
       → NextStops p u given left_old left_new most before after f
-  at_end : (f : Fault) (more : List ℕ) → Consumes left_old left_new more → IsAtEnd left_new → StopsAtEnd p (u ++ more) given most f before after
+  at_end : (f : Fault) (more : List ℕ) → Consumes left_old left_new more → IsAtEnd left_new → length (u ++ more) ≤ 2 ^ 62
+      → StopsAtEnd p (u ++ more) given most f before after
       → NextStops p u given left_old left_new most before after f
   unread : (more : List ℕ) → Consumes left_old left_new more → ReadsNoGame p given (u ++ more) before after
       → NextStops p u given left_old left_new most before after (record { at = length (u ++ more); reason = ReadFault })

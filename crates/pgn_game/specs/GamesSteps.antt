@@ -13,7 +13,7 @@ use Rattle.pgn_game.specs.declared.source.ReadFailed.{ReadFailed}
 use Rattle.pgn_game.specs.declared.marker.Mark.{Mark}
 use Rattle.pgn_game.specs.declared.converter.Reached.TheVariants.{All, Marker as ToMarker}
 use Rattle.pgn_game.specs.Profile.{Profile}
-use Rattle.pgn_game.specs.ConverterCalls.{Converter, AreNext, HasRead}
+use Rattle.pgn_game.specs.ConverterCalls.{Converter, AreNext, within_limit, HasRead}
 use Rattle.pgn_game.specs.Conversion.{CountsDevices}
 use Rattle.pgn_game.specs.ConverterSteps.{NotTaken, FeedsToMarker, Meets, ReadsMore}
 use Rattle.pgn_game.specs.GamesCalls.{Games}
@@ -53,13 +53,14 @@ pub record MoreSoFar (p : Profile) (u : List ℕ) (given : List Token) (left_old
   pub stands : StandsWithin (u ++ more) now tokens
   pub reads : ReadsMore p given tokens now.converter before after
 
--- A marker was met.
+-- A marker was met. The bytes before place 2^62 decide it.
 pub record MeetsNext (p : Profile) (u : List ℕ) (given : List Token) (left_old left_new : Option (List ℕ)) (m : Mark) (new : Games) (before after : Option (List ℕ)) : Type 0 where
   pub more : List ℕ
   pub consumed : Consumes left_old left_new more
   pub tokens : List Token
   pub token : Token
   pub stands : StandsWithin (u ++ more) new (tokens ++ token ∷ [])
+  pub next : AreNext (within_limit (u ++ more)) (tokens ++ token ∷ [])
   pub meets : Meets p given tokens token m new.converter before after
 
 -- The source has ended, and its bytes are used.
@@ -75,10 +76,10 @@ pub record ReadsAllOf (p : Profile) (given : List Token) (u : List ℕ) (new : C
   pub left : HasLeft now.lexer u (decided u)
   pub reads : ReadsMore p given (decided u) now before after
 
--- How reading stops before a marker: at a token that the bytes so far decide; because a read
--- failed; or since the byte at place 2^62 came.
+-- How reading stops before a marker: at a token that the bytes before place 2^62 decide; because a
+-- read failed; or since the byte at that place came.
 pub data StopsBefore (p : Profile) (u : List ℕ) (given : List Token) (left_old left_new : Option (List ℕ)) (new : Converter) (before after : Option (List ℕ)) : Fault → Type 0 where
-  at_token : (f : Fault) (more : List ℕ) (tokens : List Token) (t : Token) → Consumes left_old left_new more → AreNext (u ++ more) None (tokens ++ t ∷ [])
+  at_token : (f : Fault) (more : List ℕ) (tokens : List Token) (t : Token) → Consumes left_old left_new more → AreNext (within_limit (u ++ more)) (tokens ++ t ∷ [])
       → NotTaken p given tokens t f new.reading before after
       → StopsBefore p u given left_old left_new new before after f
   unread : (more : List ℕ) → Consumes left_old left_new more → ReadsAllOf p given (u ++ more) new before after

@@ -3,7 +3,7 @@
 -- the reading has given before a call, `tokens` those when it ends, t is a token, m a mark and ms
 -- are marks, f is a fault, u are bytes. `left_old` and `left_now` are the bytes that the source has
 -- left, at first and now; `before` and `after` those that the sink has taken.
-use Rattle.std.specs.Prelude.{◌≡◌, ℕ, ◌+◌, ◌^◌, ◌<◌, Bool, true, false, List, [], ◌∷◌, ◌++◌, length, Option, None, Some, Result, Ok, Err, IfSome}
+use Rattle.std.specs.Prelude.{◌≡◌, ℕ, ◌+◌, ◌^◌, ◌<◌, ◌≤◌, Bool, true, false, List, [], ◌∷◌, ◌++◌, length, Option, None, Some, Result, Ok, Err, IfSome}
 use Rattle.std.specs.Io.KnownBytes.{Appends, Consumes}
 use Rattle.pgn_layout.specs.Device.{AppendsFront, Device}
 use Rattle.pgn_lexer.specs.Tokens.{Token}
@@ -21,7 +21,7 @@ use Rattle.pgn_game.specs.FaultTable.{refusal, is_end}
 use Rattle.pgn_game.specs.Text.{game_text, text_of, torn}
 use Rattle.pgn_game.specs.Progress.{no_progress, read}
 use Rattle.pgn_game.specs.Due.{gain}
-use Rattle.pgn_game.specs.ConverterCalls.{Converter, HasRead}
+use Rattle.pgn_game.specs.ConverterCalls.{Converter, AreShown, HasRead}
 use Rattle.pgn_game.specs.ConverterSteps.{NotTaken, IsReady, Meets, OneGame, ReadsMore, SameGames, part_after}
 use Rattle.pgn_game.specs.GamesCalls.{games_of}
 use Rattle.pgn_game.specs.GamesSteps.{StandsWithin}
@@ -41,13 +41,15 @@ model_mark m = record { text = marker_text m.marker; at = m.at }
 -- whole text.
 abbrev pub StandsIn : Bool → Reading → List ℕ → List Token → Option (List ℕ) → Type 0
 StandsIn false r u given left_old = StandsWithin u (games_of r.converter r.unused) given
-StandsIn true r u given left_old = HasLeft r.converter.lexer u given × (r.converter.lexer.count ≡ length u) × IfSome left_old (λ s. s ≡ u)
+StandsIn true r u given left_old = HasLeft r.converter.lexer u given × (r.converter.lexer.count ≡ length u) × (length u ≤ 2 ^ 62) × IfSome left_old (λ s. s ≡ u)
 
--- The reading has come to stand behind these tokens of the source.
+-- The reading has come to stand behind these tokens of the source. The bytes before place 2^62 show
+-- them.
 pub record HasCome (left_old left_now : Option (List ℕ)) (r : Reading) (given : List Token) : Type 0 where
   pub bytes : List ℕ
   pub consumed : Consumes left_old left_now bytes
   pub stands : StandsIn r.has_ended r bytes given left_old
+  pub shown : IfSome left_old (λ s. AreShown s given)
 
 -- It has given these tokens, and none is rejected.
 pub record HasGiven (q : Profile) (left_old left_now : Option (List ℕ)) (r : Reading) (given : List Token) : Type 0 where
@@ -79,9 +81,9 @@ as_changed f = record { at = f.at; reason = changed_reason f.reason }
 abbrev pub no_sink : Device
 no_sink = record { before = None; after = None; failures = 0; failures_after = 0 }
 
--- the token t comes next in the text
+-- the token t comes next in the text, as its bytes before place 2^62 show
 abbrev pub ComesNext : Option (List ℕ) → List Token → Token → Type 0
-ComesNext left_old given t = IfSome left_old (λ s. (ts : List Token) × (tokens_of s ≡ given ++ t ∷ ts))
+ComesNext left_old given t = IfSome left_old (λ s. AreShown s (given ++ t ∷ []))
 
 -- The source gives no more: a read failed behind the bytes u, or the byte at place 2^62 came.
 pub data ReadFails (left_old left_new : Option (List ℕ)) (given : List Token) : Fault → Type 0 where
@@ -98,11 +100,11 @@ pub record MarkerComes (q : Profile) (left_old left_new : Option (List ℕ)) (gi
   pub come : HasCome left_old left_new new (tokens ++ token ∷ [])
   pub meets : Meets q given tokens token m new.converter before after
 
--- The end of the text was read.
+-- The end of the text was read, which has no byte at place 2^62.
 pub record EndComes (q : Profile) (left_old : Option (List ℕ)) (given : List Token) (new : Reading) (before after : Option (List ℕ)) : Type 0 where
   pub tokens : List Token
   pub token : Token
-  pub whole : IfSome left_old (λ s. tokens_of s ≡ tokens ++ token ∷ [])
+  pub whole : IfSome left_old (λ s. (length s ≤ 2 ^ 62) × (tokens_of s ≡ tokens ++ token ∷ []))
   pub is_end : is_end token.kind ≡ true
   pub place : token.at ≡ new.converter.lexer.count
   pub passes : refusal q (part_after q tokens) token.kind ≡ None

@@ -226,8 +226,8 @@ module _ (p : Profile) (old : Converter) (given : List Token) (t : Token) (l : S
 
 -- a text that goes on behind the bytes used goes on behind the piece
 pub next_in_piece : (l : Standing) (u piece : List ℕ) (used : ℕ) {given : List Token}
-    → StandsAfter l (u ++ take used piece) (first (drop used piece)) given → AreNext (u ++ piece) None given
-next_in_piece l u piece used stands s follows =
+    → StandsAfter l (u ++ take used piece) (first (drop used piece)) given → AreNext (u ++ piece) given
+next_in_piece l u piece used stands s =
     let rest = drop used piece in
     let whole : (u ++ piece) ++ s ≡ (u ++ take used piece) ++ (rest ++ s) =
     cc (take-append-drop used piece, append_assoc u (take used piece) rest, append_assoc (u ++ take used piece) rest s) in
@@ -384,9 +384,9 @@ pub took_fault : (p : Profile) (old : Converter) (u : List ℕ) (given : List To
     → new.reading ≡ old.reading → AfterStep p u given piece new used (Err (record { at = f.at; reason = Lexical f.reason })) o o
 took_fault p old u given piece used f l new o some reaches scan same = (
   refusal_token f,
-  λ s follows. (
+  λ s. (
     [],
-    scan.0 s (subst (λ b. Follows b s) (sym (still_none (first piece) piece some)) follows) ∙ sym (append-nil (given ++ refusal_token f ∷ [])),
+    scan.0 s (subst (λ b. Follows b s) (sym (still_none (first piece) piece some)) tt) ∙ sym (append-nil (given ++ refusal_token f ∷ [])),
   ),
   not_taken_lexical p old given f new.reading o reaches.has_read same,
 )

@@ -72,6 +72,7 @@ module _ (p : Profile) (u : List ℕ) (given : List Token) (left_old left : Opti
             at_limit = reads.at_limit;
             decided = reads.ends.decided;
           };
+          next = rw so.stands.bytes reads.next;
           meets = meets_more p given so.tokens now.converter a c so.reads reads.tokens reads.token m new d reads.meets written;
         }
 
@@ -96,11 +97,11 @@ module _ (p : Profile) (u : List ℕ) (given : List Token) (left_old left : Opti
 
     -- a token was rejected, a write failed, or the input is too long
     pub rest_stops : (f : Fault) → StopsIn so.stands.used now.unused
-        (λ fault. FailsIn p so.stands.used (first now.unused) so.tokens now.unused fault new.reading c d)
+        (λ bytes fault. FailsIn p bytes so.tokens fault new.reading c d)
         (λ front. (n : Converter) × ReadsPiece p so.stands.used (first now.unused) so.tokens front n c d × (new.reading ≡ n.reading)) f
         → StopsBefore p u given left_old left new a d f
     rest_stops f (at_token h to) =
-        games_steps.at_token h so.more to.tokens to.token so.consumed (rw so.stands.bytes (rw (behind_first now.unused) at to.next))
+        games_steps.at_token h so.more to.tokens to.token so.consumed (rw so.stands.bytes to.next)
         (not_taken_more p given so.tokens now.converter a c so.reads to.tokens to.token h new.reading d to.fails written)
     rest_stops f (too_long front rest cut place some (n, reads, same)) =
         let full : front ≡ [] → so.tokens ≡ decided so.stands.used =

@@ -1,8 +1,7 @@
 -- Games in turn in a piece.
 use Rattle.std.proofs.Common.{take_all}
-use Rattle.pgn_game.proofs.Words.{Token, Fault, Profile, take-append-drop, drop-drop, decided, first, still, Converter, Stands, FedAll, FedGame, FedToFault, FedFault, FedWhole, ReadsUpTo, StopsIn, at_token, too_long, AllSoFar, ◌≡◌, ℕ, ◌+◌, ◌^◌, ◌≤◌, List, [], ◌∷◌, ◌++◌, length, take, drop, Option, None, refl, sym, ap, ◌∙◌, append-nil, append_assoc, length-drop, arith, inl}
+use Rattle.pgn_game.proofs.Words.{Token, Fault, Profile, take-append-drop, drop-drop, decided, first, still, Converter, Stands, FedAll, FedGame, FedToFault, FedFault, FedWhole, ReadsUpTo, StopsIn, within_limit, at_token, too_long, AllSoFar, ◌≡◌, ℕ, ◌+◌, ◌^◌, ◌≤◌, List, [], ◌∷◌, ◌++◌, length, take, drop, Option, None, refl, sym, ap, ◌∙◌, append-nil, append_assoc, length-drop, arith, inl}
 use Rattle.pgn_game.proofs.tokens.OneMoreToken.{gains_none, gains_more, stops_more}
-use Rattle.pgn_game.proofs.tokens.AcceptedToConverter.{still_none-none}
 use Rattle.pgn_game.proofs.tokens.StepsInPiece.{further, whole_piece, decided_at_end, stands_before_any}
 
 pub all_none : (p : Profile) (old : Converter) (u : List ℕ) (given : List Token) (piece : List ℕ) (o : Option (List ℕ))
@@ -51,12 +50,12 @@ module _ (p : Profile) (u : List ℕ) (given : List Token) (piece : List ℕ) (a
           fed.empty (ap (length {A = ℕ}) e) ∙ decided_at_end (u ++ piece) so.tokens (rw e at known)
       which (x ∷ xs) e = fed.decided (rw e (omega arith)) ∙ ap decided (whole_piece u piece at)
 
-  all_fault : {f : Fault} → FedFault p (u ++ take at piece) (first (drop at piece)) so.tokens (drop at piece) f c d
-      → FedFault p u None given piece f a d
+  all_fault : {f : Fault} → FedFault p (within_limit ((u ++ take at piece) ++ drop at piece)) so.tokens f c d
+      → FedFault p (within_limit (u ++ piece)) given f a d
   all_fault fed =
       record {
         tokens = fed.tokens;
-        next = rw (behind_first (drop at piece) ∙ sym (still_none-none piece)) at (rw (whole_piece u piece at) at fed.next);
+        next = rw (whole_piece u piece at) at fed.next;
         stops = stops_more so.gains fed.stops;
       }
 
@@ -80,9 +79,9 @@ module _ (p : Profile) (u : List ℕ) (given : List Token) (piece : List ℕ) (a
       which (x ∷ xs) e = fed.decided (rw e (omega arith)) ∙ ap decided text
 
   pub all_stops : (new : Converter) (f : Fault) → StopsIn (u ++ take at piece) (drop at piece)
-      (λ fault. FedToFault p (u ++ take at piece) (first (drop at piece)) so.tokens (drop at piece) fault new.reading c d)
+      (λ bytes fault. FedToFault p bytes so.tokens fault new.reading c d)
       (λ front. (n : Converter) × FedAll p (u ++ take at piece) (first (drop at piece)) so.tokens front n c d × (new.reading ≡ n.reading)) f
-      → StopsIn u piece (λ fault. FedFault p u None given piece fault a d) (λ front. ReadsUpTo p given (u ++ front) a d) f
+      → StopsIn u piece (λ bytes fault. FedFault p bytes given fault a d) (λ front. ReadsUpTo p given (u ++ front) a d) f
   all_stops new f (at_token h to) = at_token h (all_fault to.fed)
   all_stops new f (too_long front rest cut end some (n, fed, same)) =
       too_long (take at piece ++ front) rest

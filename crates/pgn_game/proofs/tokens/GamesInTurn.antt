@@ -74,14 +74,6 @@ begins p u given left now (within on) not_finished = (
 )
 begins p u given left now (at_end all) not_finished = absurd (cc (all.finished))
 
--- the tokens given are those of every text that goes on with the bytes
-next_within : (u : List ℕ) (now : Games) (ts : List Token) → StandsWithin u now ts → AreNext u None ts
-next_within u now ts stands s follows = (
-  coming now.converter.lexer (now.unused ++ s),
-  ap (λ l. tokens_of (l ++ s)) stands.bytes ∙ ap tokens_of (append_assoc stands.used now.unused s)
-      ∙ stands.lexer.tokens (now.unused ++ s) (follows_first now.unused s),
-)
-
 -- ---- up to a marker
 
 module _ (p : Profile) (known : IsKnown p) (u : List ℕ) (given : List Token) (left_old left : Option (List ℕ)) (a : Option (List ℕ)) where
@@ -132,7 +124,7 @@ module _ (p : Profile) (known : IsKnown p) (u : List ℕ) (given : List Token) (
         let to = fault_of_marker p given met.tokens met.token m mid.converter a sink met.meets new.reading known [] f ends in
         games_calls.at_token f met.more met.consumed (record {
           tokens = ts;
-          next = next_within (u ++ met.more) mid ts met.stands;
+          next = met.next;
           stops = to.stops;
           no_game = to.no_game;
           counts = to.counts;
@@ -182,6 +174,9 @@ module _ (p : Profile) (known : IsKnown p) (u : List ℕ) (given : List Token) (
   gained : Gains p given so.tokens a c
   gained = gains_known p known given so.tokens now.converter a c so.reads
 
+  short : now.converter.lexer.count ≤ 2 ^ 62 → length (u ++ so.more) ≤ 2 ^ 62
+  short few = omega (arith, so.stands.lexer.count, few, ap (length {A = ℕ}) all_used)
+
   module _ (new : Converter) (d : Option (List ℕ)) where
     left_over : tokens_of so.stands.used ≡ so.tokens ++ coming now.converter.lexer []
     left_over = ap tokens_of (sym (append-nil so.stands.used)) ∙ so.stands.lexer.tokens [] (follows_none (first now.unused))
@@ -203,7 +198,7 @@ module _ (p : Profile) (known : IsKnown p) (u : List ℕ) (given : List Token) (
         read_all =
             record {
               at_end = uses.at_end;
-              short = omega (arith, so.stands.lexer.count, few, ap (length {A = ℕ}) all_used);
+              short = short few;
               whole = refl;
               none_begun = rw (← reads, text) at
                   (left_none_begun p (read p so.tokens).progress now.converter.lexer (rw reads at fed.has_read.passes));
@@ -255,9 +250,9 @@ module _ (p : Profile) (known : IsKnown p) (u : List ℕ) (given : List Token) (
         by_game true is (inr (passes, (g, more))) = one g more is
 
     ended_at_fault : (f : Fault) → FinishesToFault p so.stands.used so.tokens new f c d
-        → NextStops p u given left_old left new.reading.most_probes a d f
-    ended_at_fault f fed =
-        games_calls.at_end f so.more so.consumed uses.at_end (rw all_used (record {
+        → length (u ++ so.more) ≤ 2 ^ 62 → NextStops p u given left_old left new.reading.most_probes a d f
+    ended_at_fault f fed short =
+        games_calls.at_end f so.more so.consumed uses.at_end short (rw all_used (record {
           stops = stops_more gained fed.stops;
           no_game = games_still gained fed.stops ∙ fed.no_game ∙ so.reads.no_game;
           counts = counts_still gained fed.stops fed.counts;
@@ -266,4 +261,4 @@ module _ (p : Profile) (known : IsKnown p) (u : List ℕ) (given : List Token) (
     pub finished : (r : Result Bool Fault) → AfterFinish p so.stands.used so.tokens new r c d
         → new.is_finished ≡ is_ok r → now.converter.lexer.count ≤ 2 ^ 62 → AfterNext p u given left_old left (games_of new now.unused) r a d
     finished (Ok is_game) fed ends few = ended fed ends few
-    finished (Err f) fed ends few = ended_at_fault f fed
+    finished (Err f) fed ends few = ended_at_fault f fed (short few)

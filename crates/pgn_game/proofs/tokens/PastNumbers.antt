@@ -141,7 +141,7 @@ module _ (p : Profile) (old : Converter) (u : List ℕ) (given : List Token) (pi
 
     -- or it was not
     pub fails_behind : (reason : Reason) → TakesToken old.reading t.kind r (Err reason) sink → marker_of t.kind ≡ None
-        → FailsIn p u (first piece) given piece (record { at = t.at; reason = reason }) r o after
+        → FailsIn p (u ++ piece) given (record { at = t.at; reason = reason }) r o after
     fails_behind reason takes no_marker =
         let rest = drop behind.passed piece in
         let so = so_far_past behind.passes in

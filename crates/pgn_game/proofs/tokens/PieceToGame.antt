@@ -1,8 +1,7 @@
 -- A piece that was read up to a marker, and the game that the marker ends, or the fault there.
 use Rattle.pgn_game.specs.declared.marker.Mark.{Mark}
 use Rattle.pgn_game.specs.ConverterSteps.{ReadsPiece, ReadsToMarker, FailsIn}
-use Rattle.pgn_game.proofs.Words.{Fault, Profile, Token, Device, still, ReaderState, Converter, Stands, Reaches, IsKnown, EndsGame, FedAll, FedGame, FedToFault, StopsIn, at_token, too_long, AreNext, IsLastGame, FaultAtEnd, FinishedGame, game_in_reader, read, ◌≡◌, ℕ, ◌+◌, List, [], ◌∷◌, ◌++◌, Option, None, Some, Ok, Err, refl, sym, ap, subst, ◌∙◌}
-use Rattle.pgn_game.proofs.tokens.AcceptedToConverter.{next_in_piece}
+use Rattle.pgn_game.proofs.Words.{Fault, Profile, Token, Device, still, ReaderState, Converter, Stands, Reaches, IsKnown, EndsGame, FedAll, FedGame, FedToFault, StopsIn, at_token, too_long, AreNext, within_limit, IsLastGame, FaultAtEnd, FinishedGame, game_in_reader, read, ◌≡◌, ℕ, ◌+◌, List, [], ◌∷◌, ◌++◌, Option, None, Some, Ok, Err, refl, sym, ap, subst, ◌∙◌}
 use Rattle.pgn_game.proofs.tokens.MarkerToGame.{gains_known, fault_not_taken, has_read_marker, game_by_marker, gains_marker, fault_of_marker}
 use Rattle.pgn_game.proofs.tokens.StepsInPiece.{lets_go}
 
@@ -26,18 +25,18 @@ module _ (p : Profile) (known : IsKnown p) (u : List ℕ) (b : Option ℕ) (give
       }
 
   -- a token of the piece is not taken
-  fed_fault : {ts : List Token} (piece : List ℕ) (f : Fault) (reading : ReaderState) (c : Option (List ℕ))
-      → AreNext (u ++ piece) (still b piece) ts → FaultAtEnd p given ts f reading a c → FedToFault p u b given piece f reading a c
-  fed_fault {ts} piece f reading c next to =
+  fed_fault : {ts : List Token} (bytes : List ℕ) (f : Fault) (reading : ReaderState) (c : Option (List ℕ))
+      → AreNext bytes ts → FaultAtEnd p given ts f reading a c → FedToFault p bytes given f reading a c
+  fed_fault {ts} bytes f reading c next to =
       record { fed = record { tokens = ts; next = next; stops = to.stops }; no_game = to.no_game; counts = to.counts; position = to.position }
 
   pub fed_stops : (piece : List ℕ) {f : Fault} (reading : ReaderState) (c : Option (List ℕ))
-      → StopsIn u piece (λ f. FailsIn p u b given piece f reading a c)
+      → StopsIn u piece (λ bytes f. FailsIn p bytes given f reading a c)
       (λ front. (now : Converter) × ReadsPiece p u b given front now a c × (reading ≡ now.reading)) f
-      → StopsIn u piece (λ f. FedToFault p u b given piece f reading a c)
+      → StopsIn u piece (λ bytes f. FedToFault p bytes given f reading a c)
       (λ front. (now : Converter) × FedAll p u b given front now a c × (reading ≡ now.reading)) f
   fed_stops piece reading c (at_token g fails) =
-      at_token g (fed_fault piece g reading c fails.next
+      at_token g (fed_fault (within_limit (u ++ piece)) g reading c fails.next
       (fault_not_taken p known given fails.tokens fails.token [] g reading a c fails.fails))
   fed_stops piece reading c (too_long front rest cut place more (now, reads, same)) =
       too_long front rest cut place more (record now { just_finished = None }, held, same)
@@ -96,7 +95,7 @@ module _ (p : Profile) (known : IsKnown p) (u : List ℕ) (b : Option ℕ) (give
 
     -- it is rejected, or a write failed
     pub marker_fails : (f : Fault) → EndsGame c.reading m new.reading (Err f) sink
-        → FedToFault p u b given piece f new.reading a sink.after
+        → FedToFault p (within_limit (u ++ piece)) given f new.reading a sink.after
     marker_fails f ends =
-        fed_fault piece f new.reading sink.after (λ s follows. next_in_piece c.lexer u piece used reads.ends.stands s tt)
+        fed_fault (within_limit (u ++ piece)) f new.reading sink.after reads.next
         (fault_of_marker p given reads.tokens reads.token m c a sink reads.meets new.reading known [] f ends)

@@ -4,9 +4,10 @@ use Rattle.pgn_game.specs.declared.marker.Mark.{Mark}
 use Rattle.pgn_game.specs.declared.converter.Met.TheVariants.{Token as Other, Marker as AtMarker}
 use Rattle.pgn_game.specs.declared.converter.Met.{Met}
 use Rattle.pgn_game.specs.ConverterSteps.{AfterSteps, ReadsPiece, ReadsToMarker, FailsIn}
-use Rattle.pgn_game.proofs.Words.{Reason, InputTooLong, Fault, Profile, take-append-drop, take-take, drop-take, drop-drop, Token, tokens_of, decided, Follows, IsDecided, first, still, Standing, StandsAfter, ReaderState, as_written, Converter, Stands, Reaches, EndsWithin, StopsIn, too_long, CountsReason, ◌≡◌, ℕ, ◌+◌, ◌-◌, ◌<◌, ◌≤◌, ◌^◌, zero, suc, List, [], ◌∷◌, ◌++◌, length, take, drop, Option, None, Some, refl, sym, ap, subst, ◌∙◌, append_assoc, append-nil, length-append, length-drop, length-take, le_refl, drop_of_length-le, inl, inr, arith, Result, Ok, Err, take-add, AfterStep, next_at, SoFar, EndsAt}
+use Rattle.pgn_game.proofs.Words.{Reason, InputTooLong, Fault, Profile, take-append-drop, take-take, drop-take, drop-drop, Token, tokens_of, decided, Follows, IsDecided, first, still, Standing, StandsAfter, ReaderState, as_written, Converter, Stands, Reaches, EndsWithin, StopsIn, within_limit, too_long, CountsReason, ◌≡◌, ℕ, ◌+◌, ◌-◌, ◌<◌, ◌≤◌, ◌^◌, zero, suc, List, [], ◌∷◌, ◌++◌, length, take, drop, Option, None, Some, refl, sym, ap, subst, ◌∙◌, append_assoc, append-nil, length-append, length-drop, length-take, le_refl, drop_of_length-le, inl, inr, arith, Result, Ok, Err, take-add, AfterStep, next_at, SoFar, EndsAt}
 use Rattle.pgn_game.proofs.tokens.MarkerToGame.{reads_none, reads_more, meets_more, not_taken_more}
-use Rattle.pgn_game.proofs.tokens.AcceptedToConverter.{still_none}
+use Rattle.pgn_game.proofs.tokens.AcceptedToConverter.{next_in_piece, still_none}
+use Rattle.pgn_game.proofs.tokens.BytesWithinLimit.{all_within, front_within}
 
 pub lets_go : (p : Profile) (old : Converter) (u : List ℕ) (b : Option ℕ) (given : List Token)
     → Reaches p old u b given → Reaches p (record old { just_finished = None }) u b given
@@ -141,14 +142,13 @@ module _ (p : Profile) (u : List ℕ) (b : Option ℕ) (given : List Token) (pie
         reads = reads_more p given so.tokens now a c so.reads more.tokens new d more.reads written;
       }
 
-  pub fails_on : (f : Fault) → FailsIn p (u ++ take at piece) (first (drop at piece)) so.tokens (drop at piece) f new.reading c d
-      → FailsIn p u b given piece f new.reading a d
+  pub fails_on : (f : Fault) → FailsIn p ((u ++ take at piece) ++ drop at piece) so.tokens f new.reading c d
+      → FailsIn p (u ++ piece) given f new.reading a d
   fails_on f to =
-      let rest : 0 < length (drop at piece) = omega (arith, within, length-drop at piece) in
       record {
         tokens = to.tokens;
         token = to.token;
-        next = rw (still_none b piece some) (rw (whole_piece u piece at) at (rw (still_none (first (drop at piece)) (drop at piece) rest) at to.next));
+        next = rw (whole_piece u piece at) at to.next;
         fails = not_taken_more p given so.tokens now a c so.reads to.tokens to.token f new.reading d to.fails written;
       }
 
@@ -176,16 +176,18 @@ module _ (p : Profile) (u : List ℕ) (b : Option ℕ) (given : List Token) (pie
             λ h. decided_at_end (u ++ take (at + used) piece) _ (subst (λ xs. IsDecided (u ++ take (at + used) piece) xs (so.tokens ++ t ∷ []))
             (drop_of_length-le piece (omega (arith, h, short, length-append u (take (at + used) piece), length-take (at + used) piece)))
             there.decided);
+        next = rw (all_within (u ++ piece) (omega (arith, short, length-append u piece)))
+            (next_in_piece new.lexer u piece (at + used) there.stands);
         meets = meets_more p given so.tokens now a c so.reads so.tokens t m new d meets written;
       }
 
   pub fails_in : (used : ℕ) (f : Fault) → AfterStep p (u ++ take at piece) so.tokens (drop at piece) new used (Err f) c d
-      → FailsIn p u b given piece f new.reading a d
+      → FailsIn p (u ++ piece) given f new.reading a d
   fails_in used f (t, next, fails) =
       record {
         tokens = so.tokens;
         token = t;
-        next = rw (still_none b piece some) (rw (whole_piece u piece at) at next);
+        next = rw (whole_piece u piece at) at next;
         fails = not_taken_more p given so.tokens now a c so.reads so.tokens t f new.reading d fails written;
       }
 
@@ -206,7 +208,7 @@ one_of_steps p u given piece new used (Ok (Some Other)) a c some (t, ends, reads
   ends.decided,
 )
 one_of_steps p u given piece new used (Err f) a c some (t, next, fails) =
-    record { tokens = given; token = t; next = rw (still_none (first piece) piece some) next; fails = fails }
+    record { tokens = given; token = t; next = next; fails = fails }
 
 -- ---- a front of the piece
 
@@ -248,10 +250,14 @@ module _ (p : Profile) (u : List ℕ) (b : Option ℕ) (given : List Token) (pie
   pub front_all : (now : Converter) → length piece ≤ n → ReadsPiece p u b given (take n piece) now a c → ReadsPiece p u b given piece now a c
   front_all now end reads = subst (λ xs. ReadsPiece p u b given xs now a c) (take_all n piece end) reads
 
+  -- it is all before place 2^62
+  front_whole : length u + n ≡ 2 ^ 62 → within_limit (u ++ take n piece) ≡ u ++ take n piece
+  front_whole place = all_within (u ++ take n piece) (omega (arith, place, length-append u (take n piece), length-take n piece))
+
   -- a marker ends in it
-  pub front_marker : (new : Converter) (used : ℕ) (m : Mark) → used ≤ n
+  pub front_marker : (new : Converter) (used : ℕ) (m : Mark) → used ≤ n → length u + n ≡ 2 ^ 62
       → ReadsToMarker p u given (take n piece) used m new a c → ReadsToMarker p u given piece used m new a c
-  front_marker new used m within reads =
+  front_marker new used m within place reads =
       let same : take used (take n piece) ≡ take used piece = take-take used n piece within in
       let more : n ≡ used + (n - used) = omega (arith, within) in
       let rest : drop used (take n piece) ≡ take (n - used) (drop used piece) =
@@ -267,34 +273,17 @@ module _ (p : Profile) (u : List ℕ) (b : Option ℕ) (given : List Token) (pie
           ends = ends.ends;
         };
         at_limit = λ h. reads.at_limit (ap (λ xs. length (u ++ xs)) same ∙ h) ∙ ap (λ xs. decided (u ++ xs)) same;
+        next = rw (front_within u piece n place) (rw (front_whole place) at reads.next);
         meets = reads.meets;
       }
 
   -- a token of it is not taken
-  pub front_fault : (f : Fault) (reading : ReaderState) → Follows b piece
-      → FailsIn p u b given (take n piece) f reading a c → FailsIn p u b given piece f reading a c
-  front_fault f reading begins to =
-      record {
-        tokens = to.tokens;
-        token = to.token;
-        next = λ s follows.
-            let whole : (u ++ piece) ++ s ≡ (u ++ take n piece) ++ (drop n piece ++ s) =
-            cc (take-append-drop n piece, append_assoc u (take n piece) (drop n piece), append_assoc (u ++ take n piece) (drop n piece) s) in
-            let begun = to.next (drop n piece ++ s) (goes_on piece n s begins follows) in
-            (begun.0, ap tokens_of whole ∙ begun.1);
-        fails = to.fails;
-      }
-    where
-      goes_on : (xs : List ℕ) (n : ℕ) (s : List ℕ) → Follows b xs
-          → Follows (still b xs) s → Follows (still b (take n xs)) (drop n xs ++ s)
-      goes_on [] n s begins follows =
-          subst (λ ys. Follows (still b ys) (drop n [] ++ s)) (sym (take_all n [] (omega arith)))
-          (subst (λ ys. Follows b (ys ++ s)) (sym (drop_of_length-le [] (omega arith))) follows)
-      goes_on (x ∷ xs) zero s begins follows = follows_from b x xs (x ∷ xs ++ s) begins refl
-      goes_on (x ∷ xs) (suc n) s begins follows = tt
+  pub front_fault : (f : Fault) (reading : ReaderState) → length u + n ≡ 2 ^ 62
+      → FailsIn p (u ++ take n piece) given f reading a c → FailsIn p (within_limit (u ++ piece)) given f reading a c
+  front_fault f reading place to = rw (front_within u piece n place) to
 
   -- the piece goes on past place 2^62
-  pub front_too_long : (now : Converter) (reading : ReaderState) (AtToken : Fault → Type 0) → length u + n ≡ 2 ^ 62
+  pub front_too_long : (now : Converter) (reading : ReaderState) (AtToken : List ℕ → Fault → Type 0) → length u + n ≡ 2 ^ 62
       → n < length piece → reading ≡ now.reading → ReadsPiece p u b given (take n piece) now a c
       → StopsIn u piece AtToken (λ front. (c' : Converter) × ReadsPiece p u b given front c' a c × (reading ≡ c'.reading))
       (record { at = 2 ^ 62; reason = InputTooLong })

@@ -4,7 +4,9 @@ use Rattle.pgn_game.proofs.Words.{Token, InputTooLong, Fault, Profile, ◌≡◌
 use Rattle.pgn_game.specs.GamesCalls as games_calls
 use Rattle.pgn_game.specs.Conversion as conversion
 use Rattle.pgn_game.proofs.tokens.OneMoreToken.{torn-none, gains_none, gains_more, stops_more, stops_from}
-use Rattle.pgn_game.proofs.tokens.AcceptedToConverter.{in_games, still_none-none}
+use Rattle.pgn_game.specs.ConverterCalls.{AreShown, IsRefused, so_far, at_end}
+use Rattle.pgn_game.proofs.tokens.AcceptedToConverter.{in_games}
+use Rattle.pgn_game.proofs.tokens.BytesWithinLimit.{next_begins, shown_begins, shown_on}
 
 pub verdict_passes : (r : Read) → r.fault ≡ None
     → verdict_of r ≡ totals (record { games = length r.progress.games; plies = sum (map plies_of r.progress.games) })
@@ -64,6 +66,17 @@ refused_text {p} s {tokens} more cut fault gains =
       rw same (appended gains),
     )
 
+-- and that its bytes before place 2^62 show it
+refused_by : {p : Profile} (s : List ℕ) {tokens : List Token} {f : Fault} {a c : Option (List ℕ)}
+    → AreShown s tokens → (read p tokens).fault ≡ Some f → Gains p [] tokens a c → IsRefused p s f × IsConverted p s (is_refused f) a c
+refused_by s {tokens} shown fault gains =
+    let here = shown_begins s tokens shown in
+    (record { tokens = tokens; shown = shown; fault = fault }, refused_text s here.0 here.1 fault gains)
+
+refused_at_end : {p : Profile} (s : List ℕ) {f : Fault} {a c : Option (List ℕ)} → length s ≤ 2 ^ 62
+    → (read p (tokens_of s)).fault ≡ Some f → Gains p [] (tokens_of s) a c → IsRefused p s f × IsConverted p s (is_refused f) a c
+refused_at_end s short fault gains = refused_by s (at_end short [] (sym (append-nil (tokens_of s)))) fault gains
+
 further_writing : {p : Profile} {given tokens : List Token} (more : List Token) {at : ℕ} {a c : Option (List ℕ)}
     → StopsWriting p given tokens at a c → StopsWriting p given (tokens ++ more) at a c
 further_writing more w = search (rules, append_assoc, appended)
@@ -108,18 +121,17 @@ module _ (p : Profile) (left_old left left_new : Option (List ℕ)) (now : Games
     where
       by_stops : {h : Fault} → Stops p [] to.tokens a d h → Fails p left_old left_new a d h
       by_stops (refused h fault gains) =
-          conversion.refused h (known_left left_old left_new (so.bytes ++ more) (λ s. IsConverted p s (is_refused h) a d) (all more consumed)
-          (λ rest. refused_text ((so.bytes ++ more) ++ rest) (to.next rest tt).0 (to.next rest tt).1 fault gains))
+          conversion.refused h (known_left left_old left_new (so.bytes ++ more) (λ s. IsRefused p s h × IsConverted p s (is_refused h) a d)
+          (all more consumed) (λ rest. refused_by ((so.bytes ++ more) ++ rest) (shown_on (so.bytes ++ more) rest to.tokens to.next) fault gains))
       by_stops (unwritten at writing) =
-          let here = to.next [] tt in
-          let cut : tokens_of (so.bytes ++ more) ≡ to.tokens ++ here.0 = ap tokens_of (sym (append-nil (so.bytes ++ more))) ∙ here.1 in
-          conversion.unwritten (so.bytes ++ more) at (all more consumed) (rw cut (further_writing here.0 writing))
-  games_stop (games_calls.at_end g more consumed end to) = by_stops (stops_more so.gains to.stops)
+          let here = next_begins (so.bytes ++ more) to.tokens to.next in
+          conversion.unwritten (so.bytes ++ more) at (all more consumed) (rw here.1 (further_writing here.0 writing))
+  games_stop (games_calls.at_end g more consumed end short to) = by_stops (stops_more so.gains to.stops)
     where
       by_stops : {h : Fault} → Stops p [] (tokens_of (so.bytes ++ more)) a d h → Fails p left_old left_new a d h
       by_stops (refused h fault gains) =
-          conversion.refused h (known_whole left_old left_new (so.bytes ++ more) (λ s. IsConverted p s (is_refused h) a d) (all more consumed) end
-          (refused_text (so.bytes ++ more) [] (sym (append-nil (tokens_of (so.bytes ++ more)))) fault gains))
+          conversion.refused h (known_whole left_old left_new (so.bytes ++ more) (λ s. IsRefused p s h × IsConverted p s (is_refused h) a d)
+          (all more consumed) end (refused_at_end (so.bytes ++ more) short fault gains))
       by_stops (unwritten at writing) = conversion.unwritten (so.bytes ++ more) at (all more consumed) writing
   games_stop (games_calls.unread more consumed none) =
       conversion.unread (so.bytes ++ more) (all more consumed)
@@ -131,28 +143,28 @@ module _ (p : Profile) (left_old left left_new : Option (List ℕ)) (now : Games
 
 -- a slice, fed from the start on
 pub slice_stops : (p : Profile) {f : Fault} {text : List ℕ} (a c : Option (List ℕ))
-    → StopsIn [] text (λ fault. FedFault p [] None [] text fault a c) (λ front. ReadsUpTo p [] front a c) f → FailsOn p text a c f
+    → StopsIn [] text (λ bytes fault. FedFault p bytes [] fault a c) (λ front. ReadsUpTo p [] front a c) f → FailsOn p text a c f
 slice_stops p {text} a c (at_token g fed) = by_stops fed.stops
   where
-    goes : (s : List ℕ) → (rest : List Token) × (tokens_of (text ++ s) ≡ fed.tokens ++ rest)
-    goes s = fed.next s (rw (still_none-none text) tt)
-
-    here : (rest : List Token) × (tokens_of text ≡ fed.tokens ++ rest)
-    here = ((goes []).0, ap tokens_of (sym (append-nil text)) ∙ (goes []).1)
-
     by_stops : {h : Fault} → Stops p [] fed.tokens a c h → FailsOn p text a c h
-    by_stops (refused h fault gains) = conversion.FailsOn.refused h (refused_text text here.0 here.1 fault gains)
-    by_stops (unwritten at writing) = conversion.FailsOn.unwritten at (rw here.1 (further_writing here.0 writing))
+    by_stops (refused h fault gains) =
+        let refuses = refused_by text (so_far fed.next) fault gains in
+        conversion.FailsOn.refused h refuses.0 refuses.1
+    by_stops (unwritten at writing) =
+        let here = next_begins text fed.tokens fed.next in
+        conversion.FailsOn.unwritten at (rw here.1 (further_writing here.0 writing))
 slice_stops p {text} a c (too_long front rest cut place some before) =
     subst (λ n. FailsOn p text a c (record { at = n; reason = InputTooLong })) place
     (conversion.FailsOn.too_long front rest cut place some (no_more before.decided before.passes before.gains))
 
 pub slice_ends : {p : Profile} {text : List ℕ} {now : Converter} {a c : Option (List ℕ)} (d : Option (List ℕ))
-    (r : Result Totals Fault) (fed : FedWhole p [] [] text now a c) → AfterEnd p text fed.tokens r c d → AfterSlice p text r a d
-slice_ends d (Ok t) fed (is_verdict, probes, gains) =
+    (r : Result Totals Fault) (fed : FedWhole p [] [] text now a c) → length text ≤ 2 ^ 62 → AfterEnd p text fed.tokens r c d → AfterSlice p text r a d
+slice_ends d (Ok t) fed short (is_verdict, probes, gains) =
     record { converted = (is_verdict, appended (gains_more fed.gains gains)); probes = probes }
-slice_ends {p} {text} {a} d (Err f) fed stops = by_stops (stops_more fed.gains stops)
+slice_ends {p} {text} {a} d (Err f) fed short stops = by_stops (stops_more fed.gains stops)
   where
     by_stops : {h : Fault} → Stops p [] (tokens_of text) a d h → FailsOn p text a d h
-    by_stops (refused h fault gains) = conversion.FailsOn.refused h (refused_text text [] (sym (append-nil (tokens_of text))) fault gains)
+    by_stops (refused h fault gains) =
+        let refuses = refused_at_end text short fault gains in
+        conversion.FailsOn.refused h refuses.0 refuses.1
     by_stops (unwritten at writing) = conversion.FailsOn.unwritten at writing

@@ -4,17 +4,18 @@ use Rattle.std.proofs.lemmas.List.{append_cancel_left}
 use Rattle.std.proofs.lemmas.Option.{IfSome_then}
 use Rattle.pgn_lexer.specs.Tokens as tokens
 use Rattle.pgn_game.specs.declared.marker.Mark.{Mark as CodeMark}
-use Rattle.pgn_game.proofs.Words.{Kind, Token, Reason, Changed, WriteFault, Fault, Profile, Missing, takes_the_marker, Game, Part, no_part, ◌≡◌, ℕ, ◌+◌, ◌<◌, ◌||◌, ◌&&◌, ◌==◌, not, is_some, bytes_eq, Bool, true, false, List, [], ◌∷◌, ◌++◌, length, take, drop, Option, None, Some, Ok, Err, IfSome, refl, sym, ap, subst, ◌∙◌, append_assoc, append-nil, drop-length, arith, and_parts, not-false, bytes_eq-Decides, Appends-nil, Appends-trans, Appends, Device, TokensRise, tokens_of, coming, Stage, Between, InMovetext, HoldsText, Marker, counting, refusal, is_end, marker_of, torn, gain, text_next, Next, going, whole, next, Read, read, progress_with, FinishedGame, IsLastGame, game_in_reader, ReaderState, as_written, known_text, IsStopped, Converter, HasRead, marker_text, game_of, Mark, is_other, is_changed, HasMarked, HasMatched, Reading, model_mark, changed_reason, OneGame, SameGames, ReadsMore, EndsGame, due_as, part_after, text_of_games as text_of}
+use Rattle.pgn_game.proofs.Words.{Kind, Token, Reason, Changed, WriteFault, Fault, Profile, Missing, takes_the_marker, Game, Part, no_part, ◌≡◌, ℕ, ◌+◌, ◌^◌, ◌<◌, ◌≤◌, ◌||◌, ◌&&◌, ◌==◌, not, is_some, bytes_eq, Bool, true, false, List, [], ◌∷◌, ◌++◌, length, take, drop, Option, None, Some, Ok, Err, IfSome, refl, sym, ap, subst, ◌∙◌, append_assoc, append-nil, drop-length, arith, and_parts, not-false, bytes_eq-Decides, Appends-nil, Appends-trans, Appends, Device, TokensRise, tokens_of, coming, Stage, Between, InMovetext, HoldsText, Marker, counting, refusal, is_end, marker_of, torn, gain, text_next, Next, going, whole, next, Read, read, progress_with, FinishedGame, IsLastGame, game_in_reader, ReaderState, as_written, known_text, IsStopped, Converter, HasRead, marker_text, game_of, Mark, is_other, is_changed, HasMarked, HasMatched, Reading, model_mark, changed_reason, OneGame, SameGames, ReadsMore, EndsGame, due_as, part_after, text_of_games as text_of}
 use Rattle.pgn_game.specs.ReaderState as reader_state
 use Rattle.pgn_game.specs.Text.{game_text}
 use Rattle.pgn_game.specs.Readings.{AfterRead, AllRead, ComesNext, EndComes, FirstFails, GameRead, GameWritten, HasCome, HasGiven, MarkerComes, ReadFails, ReadingStops, SecondFails, StandsBetween, StandsIn, at_read, at_token, as_changed}
 use Rattle.pgn_game.specs.Readings as readings
 use Rattle.pgn_game.specs.ConverterSteps.{told_of}
-use Rattle.pgn_game.proofs.tokens.AcceptedToConverter.{follows_first, follows_own}
+use Rattle.pgn_game.specs.ConverterCalls.{AreShown, at_end}
+use Rattle.pgn_game.proofs.tokens.AcceptedToConverter.{follows_own}
+use Rattle.pgn_game.proofs.tokens.BytesWithinLimit.{shown_begins}
 use Rattle.pgn_game.proofs.tokens.MarkerToGame.{game_accepted, has_read_marker, takes, written_at_fault, written_at_marker}
 use Rattle.pgn_game.proofs.tokens.NextGrows.{next_is}
 use Rattle.pgn_game.proofs.tokens.OneMoreToken.{read-passes, torn-none}
-use Rattle.pgn_game.proofs.tokens.WholeInput.{known_left}
 use Rattle.pgn_game.proofs.tokens.StepsAtEnd.{end_at, is_the_end}
 use Rattle.pgn_game.proofs.twice.MarkerCounts.{changes, marker_finishes, no_marker_goes, refusals_are_inside, same_game_text}
 use Rattle.pgn_game.proofs.twice.MarksInTurn.{marked_game, marked_more, marked_on, matched_next, matched_on, no_end_before}
@@ -44,7 +45,7 @@ come_cut left_old left_now r ts h = by_end r.has_ended h.stands
   where
     by_end : (e : Bool) → StandsIn e r h.bytes ts left_old → (rest : List Token) × (tokens_of h.bytes ≡ ts ++ rest)
     by_end false stands = (coming r.converter.lexer r.unused, ap tokens_of stands.bytes ∙ stands.lexer.tokens r.unused (follows_own r.unused))
-    by_end true (left, count, text_is) = (coming r.converter.lexer [], left)
+    by_end true (left, count, short, text_is) = (coming r.converter.lexer [], left)
 
 -- ---- the first reading
 
@@ -61,7 +62,8 @@ module _ (q : Profile) (left_old left_new : Option (List ℕ)) (given : List Tok
   all_read new a c h =
       record {
         tokens = h.tokens ++ h.token ∷ [];
-        whole = h.whole;
+        whole = IfSome_then left_old {P = λ s. (length s ≤ 2 ^ 62) × (tokens_of s ≡ h.tokens ++ h.token ∷ [])}
+            {Q = λ s. tokens_of s ≡ h.tokens ++ h.token ∷ []} h.whole (λ s whole. whole.1);
         has_read = h.has_read;
         marked = λ ms so.
             marked_more q h.tokens h.token ms (part_after q h.tokens) h.reads.has_read.passes h.passes
@@ -105,28 +107,9 @@ module _ (q : Profile) (left_old left_new : Option (List ℕ)) (given : List Tok
 -- What the text of a source begins with.
 pub begins : (left_old left_now : Option (List ℕ)) (r : Reading) (ts : List Token) → HasCome left_old left_now r ts
     → IfSome left_old (λ s. (rest : List Token) × (tokens_of s ≡ ts ++ rest))
-begins left_old left_now r ts h = by_end r.has_ended h.stands
-  where
-    Begins : List ℕ → Type 0
-    Begins s = (rest : List Token) × (tokens_of s ≡ ts ++ rest)
-
-    by_end : (e : Bool) → StandsIn e r h.bytes ts left_old → IfSome left_old Begins
-    by_end false stands =
-        known_left left_old left_now h.bytes Begins h.consumed
-        (λ rest. (
-          coming r.converter.lexer (r.unused ++ rest),
-          ap tokens_of (ap (λ (l : List ℕ). l ++ rest) stands.bytes ∙ append_assoc stands.used r.unused rest)
-              ∙ stands.lexer.tokens (r.unused ++ rest) (follows_first r.unused rest),
-        ))
-    by_end true (left, count, text_is) =
-        IfSome_then left_old {P = λ s. s ≡ h.bytes} {Q = Begins} text_is (λ s is. (coming r.converter.lexer [], ap tokens_of is ∙ left))
-
-comes_next : (left_old left_now : Option (List ℕ)) (r : Reading) (ts : List Token) (t : Token)
-    → HasCome left_old left_now r (ts ++ t ∷ []) → ComesNext left_old ts t
-comes_next left_old left_now r ts t h =
-    IfSome_then left_old {P = λ s. (rest : List Token) × (tokens_of s ≡ (ts ++ t ∷ []) ++ rest)}
-    {Q = λ s. (rest : List Token) × (tokens_of s ≡ ts ++ t ∷ rest)} (begins left_old left_now r (ts ++ t ∷ []) h)
-    (λ s cut. (cut.0, cut.1 ∙ append_assoc ts (t ∷ []) cut.0))
+begins left_old left_now r ts h =
+    IfSome_then left_old {P = λ s. AreShown s ts} {Q = λ s. (rest : List Token) × (tokens_of s ≡ ts ++ rest)}
+    h.shown (λ s shown. shown_begins s ts shown)
 
 -- The counts of a converter, and the game just finished, are those of a record that has read them.
 reads_alike : (q : Profile) (ts : List Token) (c : Converter) (n : ℕ) (j : Option FinishedGame)
@@ -153,6 +136,7 @@ come_still left_old left_now r s ts lexer unused ended h =
       bytes = h.bytes;
       consumed = h.consumed;
       stands = subst (λ e. StandsIn e s h.bytes ts left_old) (sym ended) (by_end r.has_ended h.stands);
+      shown = h.shown;
     }
   where
     by_end : (e : Bool) → StandsIn e r h.bytes ts left_old → StandsIn e s h.bytes ts left_old
@@ -164,7 +148,7 @@ come_still left_old left_now r s ts lexer unused ended h =
           at_limit = stands.at_limit;
           decided = rw unused stands.decided;
         }
-    by_end true (left, count, text_is) = (rw lexer left, rw lexer count, text_is)
+    by_end true (left, count, short, text_is) = (rw lexer left, rw lexer count, short, text_is)
 
 -- The marker that one of the readings has met is taken.
 module _ (q : Profile) (left_old left_new : Option (List ℕ)) (given : List Token) (m : CodeMark) (mid new : Reading) (a : Option (List ℕ)) (sink : Device)
@@ -189,7 +173,7 @@ module _ (q : Profile) (left_old left_new : Option (List ℕ)) (given : List Tok
   passes = h.meets.reads.has_read.passes
 
   pub comes : ComesNext left_old h.tokens h.token
-  comes = comes_next left_old left_new mid ts t h.come
+  comes = h.come.shown
 
   pub met_marked : (ms : List Mark) → HasMarked q given ms → HasMarked q h.tokens ms
   met_marked = still_marked q left_old left_new given so ts (record mid.converter { reading = reader }) a sink.before h.meets.reads
@@ -425,8 +409,9 @@ module _ (q : Profile) (left_old left_new : Option (List ℕ)) (given : List Tok
       fails_behind h.tokens new.converter (record { at = new.converter.lexer.count; reason = Changed }) a d d by h.reads h.text h.token [] h.cut
       (subst (λ n. readings.WhySecond q left_old left_new h.tokens told d d (record { at = n; reason = Changed })) h.place
       (readings.differs h.token
-      (IfSome_then left_old {P = λ s. tokens_of s ≡ h.tokens ++ h.token ∷ []}
-      {Q = λ s. (ts : List Token) × (tokens_of s ≡ h.tokens ++ h.token ∷ ts)} h.whole (λ s cut. ([], cut)))
+      (IfSome_then left_old {P = λ s. (length s ≤ 2 ^ 62) × (tokens_of s ≡ h.tokens ++ h.token ∷ [])}
+      {Q = λ s. AreShown s (h.tokens ++ h.token ∷ [])} h.whole
+      (λ s whole. at_end whole.0 [] (whole.1 ∙ sym (append-nil (h.tokens ++ h.token ∷ [])))))
       (differs_if q mark (part_after q h.tokens) h.token true h.passes
       (ap (λ (n : Next). is_other mark n h.token) (end_leads q (part_after q h.tokens) h.token.kind h.is_end h.passes) ∙ h.is_end))
       (Appends-nil d)))

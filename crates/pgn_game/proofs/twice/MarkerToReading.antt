@@ -2,12 +2,13 @@
 -- ended.
 use Rattle.pgn_lexer.specs.declared.partial_token.Mode.{Mode}
 use Rattle.pgn_game.specs.declared.marker.Mark.{Mark as CodeMark}
-use Rattle.pgn_game.proofs.Words.{Token, InputTooLong, Fault, Profile, ◌≡◌, ℕ, false, true, List, [], ◌∷◌, ◌++◌, length, Option, None, Some, Result, Ok, Err, IfOk, IfSome, OnOk, IsStill, CountsDevices, CountsFault, refl, sym, ap, subst, ◌∙◌, append_assoc, append-nil, Consumes-nil, Consumes-trans, Consumes, Stands, inl, takes_the_marker, with_missing, Device, tokens_of, decided, Standing, coming, HasLeft, Follows, first, Converter, ReadsMore, as_written, StandsWithin, Reading, games_of}
-use Rattle.pgn_game.specs.ConverterCalls.{KeepsFault}
+use Rattle.pgn_game.proofs.Words.{Token, InputTooLong, Fault, Profile, ◌≡◌, ℕ, ◌^◌, ◌≤◌, arith, false, true, List, [], ◌∷◌, ◌++◌, length, Option, None, Some, Result, Ok, Err, IfOk, IfSome, OnOk, IsStill, CountsDevices, CountsFault, refl, sym, ap, subst, ◌∙◌, append_assoc, append-nil, Consumes-nil, Consumes-trans, Consumes, Stands, inl, takes_the_marker, with_missing, Device, tokens_of, decided, Standing, coming, HasLeft, Follows, first, Converter, ReadsMore, as_written, StandsWithin, Reading, games_of}
+use Rattle.pgn_game.specs.ConverterCalls.{AreShown, KeepsFault, at_end}
 use Rattle.pgn_game.specs.ConverterSteps.{AfterEndToMarker, EndsToMarker, IsReady, is_end_of_input, taking_marker}
 use Rattle.pgn_game.specs.GamesSteps.{AfterToMarker, CountsReading, StopsBefore, UsesAll}
 use Rattle.pgn_game.specs.GamesSteps as games_steps
 use Rattle.pgn_game.specs.Readings.{AfterMarker, IsReadyToEnd, HasGiven, ReadingStops, ReadFails, at_read, at_token, StandsIn}
+use Rattle.pgn_game.proofs.tokens.BytesWithinLimit.{next_begins, shown_none, shown_on}
 use Rattle.pgn_game.proofs.tokens.LastTokens.{IsLeft, glyph, left_in, none, symbol}
 use Rattle.pgn_game.proofs.tokens.MissingCountsAs.{reads_taking}
 use Rattle.pgn_game.proofs.tokens.MarkerToGame.{meets_more, not_taken_more, reads_more}
@@ -27,6 +28,11 @@ some_coming l = some_left (coming l []) (left_in l.held.mode)
 follows_none : (xs : List ℕ) → xs ≡ [] → Follows (first xs) []
 follows_none xs is = subst (λ (xs : List ℕ). Follows (first xs) []) (sym is) tt
 
+-- nothing at all is shown by any text
+all_shown_none : (o : Option (List ℕ)) → IfSome o (λ s. AreShown s [])
+all_shown_none None = tt
+all_shown_none (Some s) = shown_none s
+
 -- before the first byte
 pub given_none : (p : Profile) (c d : Converter) (unused : List ℕ) (left : Option (List ℕ)) → Stands p c [] None [] → d ≡ taking_marker c → unused ≡ []
     → HasGiven (with_missing p takes_the_marker) left left (record { converter = d; unused = unused; has_ended = false }) []
@@ -37,6 +43,7 @@ given_none p c d unused left stands is empty =
         bytes = [];
         consumed = Consumes-nil left;
         stands = record { used = []; bytes = refl; lexer = stands.lexer; at_limit = λ h. refl; decided = inl refl };
+        shown = all_shown_none left;
       };
       has_read = reads_taking p c stands.has_read;
     })
@@ -48,7 +55,8 @@ within_source q left_old left r given h is = subst (λ e. StandsIn e r h.come.by
 
 pub behind_source : (q : Profile) (left_old left : Option (List ℕ)) (r : Reading) (given : List Token) (h : HasGiven q left_old left r given)
     → r.has_ended ≡ true
-    → HasLeft r.converter.lexer h.come.bytes given × (r.converter.lexer.count ≡ length h.come.bytes) × IfSome left_old (λ s. s ≡ h.come.bytes)
+    → HasLeft r.converter.lexer h.come.bytes given × (r.converter.lexer.count ≡ length h.come.bytes) × (length h.come.bytes ≤ 2 ^ 62)
+    × IfSome left_old (λ s. s ≡ h.come.bytes)
 behind_source q left_old left r given h is = subst (λ e. StandsIn e r h.come.bytes given left_old) is h.come.stands
 
 -- In the bytes of the source.
@@ -62,12 +70,13 @@ module _ (q : Profile) (left_old left left_new : Option (List ℕ)) (given : Lis
       at_token (record {
         tokens = tokens;
         token = t;
-        comes = known_left left_old left_new (u ++ more) (λ s. (ts : List Token) × (tokens_of s ≡ tokens ++ t ∷ ts)) (all more taken)
-            (λ rest. ((next rest tt).0, (next rest tt).1 ∙ append_assoc tokens (t ∷ []) (next rest tt).0));
+        comes = known_left left_old left_new (u ++ more) (λ s. AreShown s (tokens ++ t ∷ [])) (all more taken)
+            (λ rest. shown_on (u ++ more) rest (tokens ++ t ∷ []) next);
         fails = fails;
         text = u ++ more;
-        rest = (next [] tt).0;
-        cut = ap tokens_of (sym (append-nil (u ++ more))) ∙ (next [] tt).1 ∙ append_assoc tokens (t ∷ []) (next [] tt).0;
+        rest = (next_begins (u ++ more) (tokens ++ t ∷ []) next).0;
+        cut = (next_begins (u ++ more) (tokens ++ t ∷ []) next).1
+            ∙ append_assoc tokens (t ∷ []) (next_begins (u ++ more) (tokens ++ t ∷ []) next).0;
       })
   stops f new a c (games_steps.unread more taken reads) =
       let behind = some_coming reads.now.lexer in
@@ -105,7 +114,13 @@ module _ (q : Profile) (left_old left left_new : Option (List ℕ)) (given : Lis
       record {
         tokens = h.tokens;
         token = h.token;
-        come = record { bytes = u ++ h.more; consumed = all h.more h.consumed; stands = h.stands };
+        come = record {
+          bytes = u ++ h.more;
+          consumed = all h.more h.consumed;
+          stands = h.stands;
+          shown = known_left left_old left_new (u ++ h.more) (λ s. AreShown s (h.tokens ++ h.token ∷ [])) (all h.more h.consumed)
+              (λ rest. shown_on (u ++ h.more) rest (h.tokens ++ h.token ∷ []) h.next);
+        };
         meets = h.meets;
       }
 
@@ -117,7 +132,7 @@ module _ (q : Profile) (left_old left left_new : Option (List ℕ)) (given : Lis
 -- Where the source has ended: u is the whole text.
 module _ (q : Profile) (left_old left_new : Option (List ℕ)) (given mid : List Token) (u : List ℕ) (now new : Converter) (a b c : Option (List ℕ))
     (consumed : Consumes left_old left_new u) (whole : IfSome left_old (λ s. s ≡ u)) (reads : ReadsMore q given mid now a b)
-    (left : HasLeft now.lexer u mid) (count : now.lexer.count ≡ length u)
+    (left : HasLeft now.lexer u mid) (count : now.lexer.count ≡ length u) (short : length u ≤ 2 ^ 62)
     (written : as_written new.reading ≡ as_written now.reading) (unused : List ℕ) where
   abbrev reading : Reading
   reading = record { converter = new; unused = unused; has_ended = true }
@@ -135,14 +150,19 @@ module _ (q : Profile) (left_old left_new : Option (List ℕ)) (given mid : List
       record {
         tokens = h.tokens;
         token = h.token;
-        come = record { bytes = u; consumed = consumed; stands = (h.left, stays ∙ count, whole) };
+        come = record {
+          bytes = u;
+          consumed = consumed;
+          stands = (h.left, stays ∙ count, short, whole);
+          shown = of_whole (λ s. AreShown s (h.tokens ++ h.token ∷ [])) (at_end short (coming new.lexer []) h.left);
+        };
         meets = meets_more q given mid now a b reads h.tokens h.token m new c h.meets written;
       }
   met_at_end (Ok None) stays (h, between) =
       record {
         tokens = h.tokens;
         token = h.token;
-        whole = of_whole (λ s. tokens_of s ≡ h.tokens ++ h.token ∷ []) h.ends.whole;
+        whole = of_whole (λ s. (length s ≤ 2 ^ 62) × (tokens_of s ≡ h.tokens ++ h.token ∷ [])) (short, h.ends.whole);
         is_end = h.ends.is_end;
         place = h.ends.place ∙ sym count ∙ sym stays;
         passes = h.ends.passes;
@@ -155,7 +175,8 @@ module _ (q : Profile) (left_old left_new : Option (List ℕ)) (given mid : List
       at_token (record {
         tokens = h.tokens;
         token = h.token;
-        comes = of_whole (λ s. (ts : List Token) × (tokens_of s ≡ h.tokens ++ h.token ∷ ts)) (h.rest, h.cut);
+        comes = of_whole (λ s. AreShown s (h.tokens ++ h.token ∷ []))
+            (at_end short h.rest (h.cut ∙ sym (append_assoc h.tokens (h.token ∷ []) h.rest)));
         fails = not_taken_more q given mid now a b reads h.tokens h.token f new.reading c h.fails written;
         text = u;
         rest = h.rest;
@@ -166,9 +187,9 @@ module _ (q : Profile) (left_old left_new : Option (List ℕ)) (given mid : List
 module _ (q : Profile) (left_old left left_new : Option (List ℕ)) (given : List Token) (u : List ℕ) (consumed : Consumes left_old left u)
     (now : Converter) (unused : List ℕ) (a b : Option (List ℕ)) (uses : UsesAll q u given left left_new (games_of now unused) a b) where
   pub all_used : (new : Converter) (c : Option (List ℕ)) (sink : Device) (r : Result (Option CodeMark) Fault) → sink.before ≡ b → sink.after ≡ c
-      → EndsToMarker now new r sink → new.lexer.count ≡ now.lexer.count → as_written new.reading ≡ as_written now.reading
+      → EndsToMarker now new r sink → new.lexer.count ≡ now.lexer.count → now.lexer.count ≤ 2 ^ 62 → as_written new.reading ≡ as_written now.reading
       → AfterMarker q left_old left_new given (record { converter = new; unused = unused; has_ended = true }) r a c
-  all_used new c sink r from to ends stays written =
+  all_used new c sink r from to ends stays few written =
       let so = uses.so_far in
       let text : List ℕ = u ++ so.more in
       let taken : Consumes left_old left_new text = Consumes-trans left_old left left_new u so.more consumed so.consumed in
@@ -178,7 +199,8 @@ module _ (q : Profile) (left_old left left_new : Option (List ℕ)) (given : Lis
       ap tokens_of (sym used_up ∙ sym (append-nil so.stands.used)) ∙ so.stands.lexer.tokens [] (follows_none unused uses.none_left) in
       met_at_end q left_old left_new given so.tokens text now new a b c taken
       (known_whole left_old left_new text (λ s. s ≡ text) taken uses.at_end refl) so.reads left_over
-      (so.stands.lexer.count ∙ ap (length {A = ℕ}) used_up) written unused r stays
+      (so.stands.lexer.count ∙ ap (length {A = ℕ}) used_up)
+      (omega (arith, few, so.stands.lexer.count, ap (length {A = ℕ}) used_up)) written unused r stays
       (subst (λ o. AfterEndToMarker q text so.tokens now new r o c) from
       (subst (λ o. AfterEndToMarker q text so.tokens now new r sink.before o) to (ends q text so.tokens left_over so.reads.has_read)))
 

@@ -6,14 +6,16 @@ use Rattle.pgn_game.specs.declared.marker.Mark.{Mark as CodeMark}
 use Rattle.pgn_game.specs.Text.{game_text, text_of, torn}
 use Rattle.pgn_game.specs.Progress.{Next, going, whole, next, Progress, progress_with, progress_after, Read, read, refused as is_refused, totals}
 use Rattle.pgn_game.specs.Progress.{verdict_of}
-use Rattle.pgn_game.specs.CheckedConversion.{AreConverted, AreTotalled, IsTokenPrefix, Decides, HasTaken, MatchesAllMarks, FirstStops, SecondStops}
+use Rattle.pgn_game.specs.CheckedConversion.{AreConverted, AreRefused, AreTotalled, IsTokenPrefix, Decides, HasTaken, MatchesAllMarks, FirstStops, SecondStops}
 use Rattle.pgn_game.specs.CheckedConversion.{WriteStops, TwoReadingsFail, TwoReadingsConvert}
 use Rattle.pgn_game.specs.Readings.{AllRead, ComesNext, FirstFails, GameRead, GameWritten, HasCome, HasGiven, ReadFails, SecondFails, StandsIn, WhyFirst, WhySecond, as_changed}
 use Rattle.pgn_game.specs.Readings as readings
 use Rattle.pgn_game.proofs.EqualReadings.{after_marks, marks_test, after_change, change_test, no_mark}
 use Rattle.pgn_game.proofs.tokens.NextGrows.{next_is}
 use Rattle.pgn_game.proofs.tokens.OneMoreToken.{read-refuses, text_of-snoc}
+use Rattle.pgn_game.specs.ConverterCalls.{AreShown}
 use Rattle.pgn_game.proofs.tokens.AcceptedToConverter.{follows_first, in_games}
+use Rattle.pgn_game.proofs.tokens.BytesWithinLimit.{shown_begins}
 use Rattle.pgn_game.proofs.twice.GamesOfReadings.{begins}
 use Rattle.pgn_game.proofs.twice.MarksInTurn.{matched_mark, not_changed, both_read}
 
@@ -39,7 +41,7 @@ decides r given d h = by_end r.has_ended h.stands
           ap tokens_of (ap (λ (l : List ℕ). l ++ rest) stands.bytes ∙ append_assoc stands.used r.unused rest)
               ∙ stands.lexer.tokens (r.unused ++ rest) (follows_first r.unused rest),
         ))
-    by_end true (left, count, text_is) = Decides.at_end h.bytes h.consumed text_is (coming r.converter.lexer [], left)
+    by_end true (left, count, short, text_is) = Decides.at_end h.bytes h.consumed text_is (coming r.converter.lexer [], left)
 
 pub both_none : (q : Profile) (first second : Option (List ℕ)) (a b : Reading) (o : Option (List ℕ))
     → HasGiven q first first a [] → HasGiven q second second b [] → BothSoFar q first first second second a b o o
@@ -191,14 +193,29 @@ module _ (q : Profile) (first second sink : Device) (first_now : Option (List �
   first_at tokens t reason passes marked comes rejected =
       let f : Fault = record { at = t.at; reason = reason } in
       let c : Progress = (read q tokens).progress in
+      let none : (ts : List Token) → marks_from q c (t ∷ ts) ≡ [] = λ ts. marks_test q c t ts ∙ ap (after_marks q c t ts) rejected in
+      let fault : (ts : List Token) → (read q (tokens ++ t ∷ ts)).fault ≡ Some f =
+      λ ts. ap (λ (r : Read). r.fault) (read-refuses q tokens t ts reason passes rejected) in
+      let at_it : compared q (tokens ++ t ∷ []) so.second_tokens ≡ at_mark =
+      last_mark (tokens ++ t ∷ []) so.second_tokens tokens (t ∷ []) [] refl (sym (append-nil so.second_tokens)) marked (none []) in
       TwoReadingsFail.refused f
-      (both_known first.before second.before (λ s. (ts : List Token) × (tokens_of s ≡ tokens ++ t ∷ ts))
-      (Begins so.second_tokens) (λ s r. AreConverted q s r (is_refused f) sink) comes second_begins
-      (λ s r x y.
-      let none : marks_from q c (t ∷ x.0) ≡ [] = marks_test q c t x.0 ∙ ap (after_marks q c t x.0) rejected in
-      let is = last_mark (tokens_of s) (tokens_of r) tokens (t ∷ x.0) y.0 x.1 y.1 marked none in
-      converted s r (Some f) is
-      (ap (λ (ts : List Token). (read q ts).fault) x.1 ∙ ap (λ (r : Read). r.fault) (read-refuses q tokens t x.0 reason passes rejected))))
+      (both_known first.before second.before (λ s. AreShown s (tokens ++ t ∷ []))
+      (λ r. AreShown r so.second_tokens) (λ s r. AreRefused q s r f × AreConverted q s r (is_refused f) sink)
+      comes so.second_stands.has_given.come.shown
+      (λ s r first_shown second_shown.
+      let x = shown_begins s (tokens ++ t ∷ []) first_shown in
+      let y = shown_begins r so.second_tokens second_shown in
+      let cut : tokens_of s ≡ tokens ++ t ∷ x.0 = x.1 ∙ append_assoc tokens (t ∷ []) x.0 in (
+        record {
+          ts = tokens ++ t ∷ [];
+          us = so.second_tokens;
+          first_shown = first_shown;
+          second_shown = second_shown;
+          fault = ap (λ (z : Comparison). earlier_fault z.fault (read q (tokens ++ t ∷ [])).fault) at_it ∙ fault [];
+        },
+        converted s r (Some f) (last_mark (tokens_of s) (tokens_of r) tokens (t ∷ x.0) y.0 cut y.1 marked (none x.0))
+            (ap (λ (ts : List Token). (read q ts).fault) cut ∙ fault x.0),
+      )))
 
   pub first_stops : (f : Fault) → (f.reason ≡ ReadFault → FailsOnce first) → FirstFails q first.before first.after so.first_tokens f
       → TwoReadingsFail q first second sink f
@@ -313,15 +330,28 @@ module _ (q : Profile) (first second sink : Device) (first_now second_now mid : 
       → TwoReadingsFail q first second sink (record { at = t.at; reason = Changed })
   second_differs t comes changed wrote =
       let f : Fault = record { at = t.at; reason = Changed } in
+      let is : (xs us vs ws : List Token) → xs ≡ first_tokens ++ vs → us ≡ tokens ++ t ∷ ws
+          → compared q xs us ≡ record { progress = c; marks_left = mark ∷ behind vs; fault = Some f } =
+      λ xs us vs ws first_cut second_cut. goes xs us vs (t ∷ ws) first_cut second_cut ∙ change_test q mark (behind vs) c t ws
+      ∙ ap (after_change q mark (behind vs) c t ws) changed in
       TwoReadingsFail.refused f
-      (both_known first.before second.before (Begins first_tokens) (λ r. (us : List Token) × (tokens_of r ≡ tokens ++ t ∷ us))
-      (λ s r. AreConverted q s r (is_refused f) sink) (begins first.before first.after new_a first_tokens reads.stands.has_given.come) comes
-      (λ s r x y.
-      let is : compared q (tokens_of s) (tokens_of r) ≡ record { progress = c; marks_left = mark ∷ behind x.0; fault = Some f } =
-      goes (tokens_of s) (tokens_of r) x.0 (t ∷ y.0) x.1 y.1 ∙ change_test q mark (behind x.0) c t y.0
-      ∙ ap (after_change q mark (behind x.0) c t y.0) changed in (
-        ap (λ (z : Comparison). verdict_of (record { progress = z.progress; fault = earlier_fault z.fault (read q (tokens_of s)).fault })) is,
-        subst (λ (z : Comparison). HasTaken sink (written_by q z)) (sym is) (torn_written wrote),
+      (both_known first.before second.before (λ s. AreShown s first_tokens) (λ r. AreShown r (tokens ++ t ∷ []))
+      (λ s r. AreRefused q s r f × AreConverted q s r (is_refused f) sink) reads.stands.has_given.come.shown comes
+      (λ s r first_shown second_shown.
+      let x = shown_begins s first_tokens first_shown in
+      let y = shown_begins r (tokens ++ t ∷ []) second_shown in
+      let all = is (tokens_of s) (tokens_of r) x.0 y.0 x.1 (y.1 ∙ append_assoc tokens (t ∷ []) y.0) in (
+        record {
+          ts = first_tokens;
+          us = tokens ++ t ∷ [];
+          first_shown = first_shown;
+          second_shown = second_shown;
+          fault = ap (λ (z : Comparison). earlier_fault z.fault (read q first_tokens).fault)
+              (is first_tokens (tokens ++ t ∷ []) [] [] (sym (append-nil first_tokens)) refl);
+        }, (
+          ap (λ (z : Comparison). verdict_of (record { progress = z.progress; fault = earlier_fault z.fault (read q (tokens_of s)).fault })) all,
+          subst (λ (z : Comparison). HasTaken sink (written_by q z)) (sym all) (torn_written wrote),
+        ),
       )))
 
   pub second_stops : (f.reason ≡ ReadFault → FailsOnce second) → TwoReadingsFail q first second sink f
@@ -332,7 +362,9 @@ module _ (q : Profile) (first second sink : Device) (first_now second_now mid : 
       by_why g counts (readings.differs t comes changed wrote) = second_differs t comes changed wrote
       by_why g counts (readings.unwritten t comes same (n, short, wrote)) =
           TwoReadingsFail.unwritten t.at
-          (IfSome_then second.before {P = λ r. (us : List Token) × (tokens_of r ≡ tokens ++ t ∷ us)}
+          (IfSome_then second.before {P = λ r. AreShown r (tokens ++ t ∷ [])}
           {Q = λ r. WriteStops q first (tokens_of r) t.at sink} comes
-          (stops_at t same n short wrote))
+          (λ r shown.
+          let y = shown_begins r (tokens ++ t ∷ []) shown in
+          stops_at t same n short wrote r (y.0, y.1 ∙ append_assoc tokens (t ∷ []) y.0)))
       by_why g counts (readings.unread e fails wrote) = second_unread fails counts wrote

@@ -1,5 +1,5 @@
 use Rattle.pgn_game.proofs.Words.{refl, err_from_is_err_and, Reason, ReadFault, Changed, WriteFault, Fault, Device, Result, Ok, Err, ◌≡◌, sym}
-use Rattle.pgn_game.proofs.Words.{◌∙◌, CountsReason, CountsFault, Totals}
+use Rattle.pgn_game.proofs.Words.{◌∙◌, arith, CountsReason, CountsFault, Totals}
 use Rattle.pgn_game.specs.Conversion.{CountsSink, CountsWriting}
 use Rattle.pgn_game.proofs.tokens.WholeInput.{slice_stops, slice_ends}
 use Rattle.pgn_game.proofs.conversion.convert_slice.Goals as goal
@@ -24,7 +24,7 @@ returns-in_err-feed_all-clause-converts g c =
 pub returns-clause-converts : goal.returns-clause-converts
 returns-clause-converts g c =
     let fed = c.in_ok-feed_all.ensures.feeds _ _ _ c.new-converter.ensures.stands refl in
-    slice_ends _ c.end.result fed (c.end.ensures.ends _ _ _ fed.stands)
+    slice_ends _ c.end.result fed (omega (arith, fed.stands.lexer.count, c.in_ok-feed_all.ensures.short)) (c.end.ensures.ends _ _ _ fed.stands)
 
 pub new-converter-requires : goal.new-converter-requires
 new-converter-requires g c = (c.requires.memory, c.requires.levels)

@@ -35,8 +35,8 @@ returns-then-self g c =
           let h = subst (λ (r : Reading). HasGiven q left_old (g.R.Source.left c.args.source.now) r given) (sym c.self.view_is) has in
           let behind = behind_source q left_old _ _ given h c.if-self.true in
           rw c.if-self.true
-          (met_at_end q left_old _ given given h.come.bytes _ c.finish_to_marker.new.self _ _ _ h.come.consumed behind.2
-          (reads_none q given _ (g.W.Sink.taken c.args.out.now) h.has_read) behind.0 behind.1 ends.written _ c.finish_to_marker.result ends.count
+          (met_at_end q left_old _ given given h.come.bytes _ c.finish_to_marker.new.self _ _ _ h.come.consumed behind.3
+          (reads_none q given _ (g.W.Sink.taken c.args.out.now) h.has_read) behind.0 behind.1 behind.2 ends.written _ c.finish_to_marker.result ends.count
           (ends.ends q h.come.bytes given behind.0 h.has_read));
       ready = ready_behind c.finish_to_marker.result new ends.ready ends.finished ends.fault ends.none_just_finished;
       games = ends.games ∙ ap (λ (r : Reading). r.converter.games) c.self.view_is;
@@ -96,7 +96,7 @@ returns g c =
           all_used q left_old _ _ given h.come.bytes h.come.consumed c.next_marker.new.converter c.next_marker.new.buffer _ _
           (reads q h.come.bytes given (within_source q left_old _ _ given h c.if-self.false) h.has_read)
           c.finish_to_marker-2.new.self _ (device g.W.Sink.taken g.W.Sink.failures c.next_marker.new.out c.finish_to_marker-2.new.out)
-          c.finish_to_marker-2.result refl refl ends.ends ends.count ends.written;
+          c.finish_to_marker-2.result refl refl ends.ends ends.count c.in_ok-mark.ensures.short ends.written;
       ready = ready_behind c.finish_to_marker-2.result new ends.ready ends.finished ends.fault ends.none_just_finished;
       games = ends.games ∙ read.games ∙ ap (λ (r : Reading). r.converter.games) c.self.view_is;
       written = ends.written ∙ read.written ∙ ap (λ (r : Reading). as_written r.converter.reading) c.self.view_is;

@@ -48,7 +48,9 @@ returns-in_err-used g c =
     rw (e.1, e.2) (record {
       used = tt;
       feeds = λ p u b given reaches follows.
-          at_token _ (front_fault p u b given c.args.piece.now _ _ _ _ _ follows
+          at_token _ (front_fault p u b given c.args.piece.now _ _ _ _ _
+          (limit_at reaches.lexer.count (ap (λ (s : Converter). s.lexer.count) c.self.view_is) c.count.ensures
+          (c.self.invariant.count c.in_default.is))
           (feeds p u b given reaches (follows_front b c.args.piece.now _ follows)));
       empty = λ is free. fed.empty (no_front _ _ _ c.within_limit-front.ensures is);
       count = tt;
@@ -80,6 +82,8 @@ returns-in-Marker g c =
       used = in_piece used (2 ^ 62 - c.count.result) piece within;
       feeds = λ p u b given reaches follows.
           front_marker p u b given piece _ _ _ c.feed_front.new.self _ _ room
+          (limit_at reaches.lexer.count (ap (λ (s : Converter). s.lexer.count) c.self.view_is) c.count.ensures
+          (c.self.invariant.count c.in_default.is))
           (feeds p u b given reaches (follows_front b piece _ follows));
       empty = λ is free. rw c.in-Marker.is at (fed.empty (no_front _ _ _ c.within_limit-front.ensures is));
       count = count;
