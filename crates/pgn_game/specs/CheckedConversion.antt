@@ -116,11 +116,11 @@ pub record WriteStops (p : Profile) (first : Device) (us : List Token) (at : ℕ
 pub data TwoReadingsFail (p : Profile) (first second sink : Device) : Fault → Type 0 where
   refused : (f : Fault) → IfSome first.before (λ s. IfSome second.before (λ r. AreRefused p s r f × AreConverted p s r (is_refused f) sink))
       → TwoReadingsFail p first second sink f
-  first_unread : (u : List ℕ) → Consumes first.before first.after u → FailsOnce first → FirstStops p u second sink
+  first_unread : (u : List ℕ) → Consumes first.before first.after u → length u ≤ 2 ^ 62 → FailsOnce first → FirstStops p u second sink
       → TwoReadingsFail p first second sink (record { at = length u; reason = ReadFault })
   first_too_long : (u rest : List ℕ) → Consumes first.before first.after (u ++ rest) → length u ≡ 2 ^ 62 → 0 < length rest → FirstStops p u second sink
       → TwoReadingsFail p first second sink (record { at = length u; reason = InputTooLong })
-  second_unread : (u : List ℕ) → Consumes second.before second.after u → FailsOnce second → SecondStops p first u sink
+  second_unread : (u : List ℕ) → Consumes second.before second.after u → length u ≤ 2 ^ 62 → FailsOnce second → SecondStops p first u sink
       → TwoReadingsFail p first second sink (record { at = length u; reason = ReadFault })
   second_too_long : (u rest : List ℕ) → Consumes second.before second.after (u ++ rest) → length u ≡ 2 ^ 62 → 0 < length rest → SecondStops p first u sink
       → TwoReadingsFail p first second sink (record { at = length u; reason = Changed })

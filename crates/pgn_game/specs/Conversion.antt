@@ -65,7 +65,8 @@ ConvertsSlice p text result sink = AfterSlice p text result sink.before sink.aft
 -- byte at place 2^62 came.
 pub data Fails (p : Profile) (left_old left_new : Option (List ℕ)) (before after : Option (List ℕ)) : Fault → Type 0 where
   refused : (f : Fault) → IfSome left_old (λ s. IsRefused p s f × IsConverted p s (is_refused f) before after) → Fails p left_old left_new before after f
-  unread : (u : List ℕ) → Consumes left_old left_new u → ReadsNoMore p u before after → Fails p left_old left_new before after (record { at = length u; reason = ReadFault })
+  unread : (u : List ℕ) → Consumes left_old left_new u → length u ≤ 2 ^ 62 → ReadsNoMore p u before after
+      → Fails p left_old left_new before after (record { at = length u; reason = ReadFault })
   unwritten : (u : List ℕ) (at : ℕ) → Consumes left_old left_new u → StopsWriting p [] (tokens_of u) at before after
       → Fails p left_old left_new before after (record { at = at; reason = WriteFault })
   too_long : (u rest : List ℕ) → Consumes left_old left_new (u ++ rest) → length u ≡ 2 ^ 62 → 0 < length rest → ReadsNoMore p u before after

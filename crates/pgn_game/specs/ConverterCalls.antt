@@ -162,10 +162,10 @@ AreNext u tokens = (s : List ℕ) → (rest : List Token) × (tokens_of (u ++ s)
 abbrev pub within_limit : List ℕ → List ℕ
 within_limit s = take (2 ^ 62) s
 
--- The text s begins with these tokens, and its bytes before place 2^62 show it: they decide these
--- tokens, or they are the whole text.
+-- The text s begins with these tokens, and its bytes before place 2^62 show it: some of them, from
+-- the first on, decide these tokens, or they are the whole text.
 pub data AreShown (s : List ℕ) (tokens : List Token) : Type 0 where
-  so_far : AreNext (within_limit s) tokens → AreShown s tokens
+  so_far : (front rest : List ℕ) → s ≡ front ++ rest → length front ≤ 2 ^ 62 → AreNext front tokens → AreShown s tokens
   at_end : length s ≤ 2 ^ 62 → (rest : List Token) → tokens_of s ≡ tokens ++ rest → AreShown s tokens
 
 -- The text s is rejected with the fault f, as its bytes before place 2^62 show.

@@ -116,7 +116,7 @@ pub data NextStops (p : Profile) (u : List ℕ) (given : List Token) (left_old l
   at_end : (f : Fault) (more : List ℕ) → Consumes left_old left_new more → IsAtEnd left_new → length (u ++ more) ≤ 2 ^ 62
       → StopsAtEnd p (u ++ more) given most f before after
       → NextStops p u given left_old left_new most before after f
-  unread : (more : List ℕ) → Consumes left_old left_new more → ReadsNoGame p given (u ++ more) before after
+  unread : (more : List ℕ) → Consumes left_old left_new more → length (u ++ more) ≤ 2 ^ 62 → ReadsNoGame p given (u ++ more) before after
       → NextStops p u given left_old left_new most before after (record { at = length (u ++ more); reason = ReadFault })
   too_long : (more front rest : List ℕ) → Consumes left_old left_new more → u ++ more ≡ front ++ rest → length front ≡ 2 ^ 62 → 0 < length rest
       → ReadsNoGame p given front before after

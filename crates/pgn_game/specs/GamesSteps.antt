@@ -1,7 +1,7 @@
 -- **Bookkeeping**: the parts of a call of `Games::next`: what is stored on the way, and what is
 -- read up to a marker.
 -- Letters: as in `GamesCalls` and `ConverterSteps`.
-use Rattle.std.specs.Prelude.{◌≡◌, ℕ, ◌^◌, ◌<◌, Bool, true, false, List, [], ◌∷◌, ◌++◌, length, drop, Option, None, Some, Result, Ok, Err}
+use Rattle.std.specs.Prelude.{◌≡◌, ℕ, ◌^◌, ◌<◌, ◌≤◌, Bool, true, false, List, [], ◌∷◌, ◌++◌, length, drop, Option, None, Some, Result, Ok, Err}
 use Rattle.std.specs.Io.KnownBytes.{Consumes, IsAtEnd, Keeps}
 use Rattle.pgn_layout.specs.Device.{Device, IsStill}
 use Rattle.pgn_lexer.specs.Tokens.{Token}
@@ -82,7 +82,7 @@ pub data StopsBefore (p : Profile) (u : List ℕ) (given : List Token) (left_old
   at_token : (f : Fault) (more : List ℕ) (tokens : List Token) (t : Token) → Consumes left_old left_new more → AreNext (within_limit (u ++ more)) (tokens ++ t ∷ [])
       → NotTaken p given tokens t f new.reading before after
       → StopsBefore p u given left_old left_new new before after f
-  unread : (more : List ℕ) → Consumes left_old left_new more → ReadsAllOf p given (u ++ more) new before after
+  unread : (more : List ℕ) → Consumes left_old left_new more → length (u ++ more) ≤ 2 ^ 62 → ReadsAllOf p given (u ++ more) new before after
       → StopsBefore p u given left_old left_new new before after (record { at = length (u ++ more); reason = ReadFault })
   too_long : (more front rest : List ℕ) → Consumes left_old left_new more → u ++ more ≡ front ++ rest → length front ≡ 2 ^ 62 → 0 < length rest
       → ReadsAllOf p given front new before after

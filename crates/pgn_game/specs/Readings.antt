@@ -87,7 +87,8 @@ ComesNext left_old given t = IfSome left_old (λ s. AreShown s (given ++ t ∷ [
 
 -- The source gives no more: a read failed behind the bytes u, or the byte at place 2^62 came.
 pub data ReadFails (left_old left_new : Option (List ℕ)) (given : List Token) : Fault → Type 0 where
-  unread : (u : List ℕ) → Consumes left_old left_new u → given ≡ decided u → ReadFails left_old left_new given (record { at = length u; reason = ReadFault })
+  unread : (u : List ℕ) → Consumes left_old left_new u → length u ≤ 2 ^ 62 → given ≡ decided u
+      → ReadFails left_old left_new given (record { at = length u; reason = ReadFault })
   too_long : (u rest : List ℕ) → Consumes left_old left_new (u ++ rest) → length u ≡ 2 ^ 62 → 0 < length rest → given ≡ decided u
       → ReadFails left_old left_new given (record { at = length u; reason = InputTooLong })
 

@@ -62,7 +62,7 @@ source_fails : (p : Profile) (s : List ℕ) (gs : List Game) (f : Fault) (left_o
     → left_old ≡ Some s → Fails p left_old left_new before after f → SourceIsKept p gs (Err f) before after
 source_fails p s gs _ left_old left_new before after ver short left (conversion.Fails.refused f h) =
     absurd (no_fault p s gs f ver (some_text _ s _ left h).1.0)
-source_fails p s gs _ left_old left_new before after ver short left (conversion.Fails.unread u consumed none) = inl refl
+source_fails p s gs _ left_old left_new before after ver short left (conversion.Fails.unread u consumed few none) = inl refl
 source_fails p s gs _ left_old left_new before after ver short left (conversion.Fails.unwritten u at consumed stops) = inr refl
 source_fails p s gs _ left_old left_new before after ver short left (conversion.Fails.too_long u rest consumed long some none) =
     absurd (let fits = consumed_fits left_old left_new s (u ++ rest) left consumed in omega (arith, length-append u rest))

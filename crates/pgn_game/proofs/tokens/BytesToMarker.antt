@@ -1,6 +1,6 @@
 -- The bytes of a source, read up to a marker.
 use Rattle.std.specs.Io.KnownBytes.{Keeps, IsAtEnd}
-use Rattle.pgn_game.proofs.Words.{Token, ReadFault, Fault, Profile, ◌≡◌, ℕ, List, [], ◌∷◌, ◌++◌, length, drop, take, Option, None, Some, refl, sym, ap, subst, ◌∙◌, inl, inr, append-nil, append_assoc, take-append-drop, Consumes, Consumes-nil, Consumes-trans, decided, Follows, IsDecided, StandsAfter, first, still, Games, games_of, Converter, HasRead, Reaches, ReadsMore, as_written, MoreSoFar, StandsWithin, StopsIn, at_token, too_long, arith}
+use Rattle.pgn_game.proofs.Words.{Token, ReadFault, Fault, Profile, ◌≡◌, ℕ, ◌^◌, ◌≤◌, List, [], ◌∷◌, ◌++◌, length, drop, take, Option, None, Some, refl, sym, ap, subst, ◌∙◌, inl, inr, append-nil, append_assoc, take-append-drop, Consumes, Consumes-nil, Consumes-trans, decided, Follows, IsDecided, StandsAfter, first, still, Games, games_of, Converter, HasRead, Reaches, ReadsMore, as_written, MoreSoFar, StandsWithin, StopsIn, at_token, too_long, arith}
 use Rattle.pgn_game.specs.declared.marker.Mark.{Mark}
 use Rattle.pgn_game.specs.ConverterSteps.{FailsIn, ReadsPiece, ReadsToMarker}
 use Rattle.pgn_game.specs.GamesSteps as games_steps
@@ -142,10 +142,10 @@ module _ (p : Profile) (u : List ℕ) (given : List Token) (left_old left left_n
   pub at_source_end : Consumes left left_new [] → IsAtEnd left_new → UsesAll p u given left_old left_new (games_of now []) a c
   at_source_end consumed end = record { so_far = filled [] consumed; none_left = refl; at_end = end }
 
-  pub unread : (new : Converter) (f : Fault) → new.reading ≡ now.reading → Keeps left left_new
+  pub unread : (new : Converter) (f : Fault) → new.reading ≡ now.reading → now.lexer.count ≤ 2 ^ 62 → Keeps left left_new
       → f ≡ record { at = now.lexer.count; reason = ReadFault } → StopsBefore p u given left_old left_new new a c f
-  unread new f same keeps is =
+  unread new f same few keeps is =
       let place : now.lexer.count ≡ length (u ++ so.more) = so.stands.lexer.count ∙ ap (length {A = ℕ}) (sym all_used) in
       subst (StopsBefore p u given left_old left_new new a c) (sym (is ∙ ap (λ n. record { at = n; reason = ReadFault }) place))
-      (games_steps.unread so.more (keeps_consumed left_old left left_new so.more so.consumed keeps)
+      (games_steps.unread so.more (keeps_consumed left_old left left_new so.more so.consumed keeps) (omega (arith, few, place))
       (rw all_used (reads_all None new now same so.stands.lexer (decided_at_end so.stands.used so.tokens so.stands.decided) so.reads)))

@@ -154,7 +154,7 @@ module _ (p : Profile) (known : IsKnown p) (u : List ℕ) (given : List Token) (
         no_game = to.no_game;
         counts = to.counts;
       })
-  stops_before new c f (games_steps.unread more consumed all) = games_calls.unread more consumed (none_in all)
+  stops_before new c f (games_steps.unread more consumed few all) = games_calls.unread more consumed few (none_in all)
   stops_before new c f (games_steps.too_long more front rest consumed cut place some all) =
       games_calls.too_long more front rest consumed cut place some (none_in all)
 

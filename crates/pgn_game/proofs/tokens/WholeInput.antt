@@ -4,9 +4,9 @@ use Rattle.pgn_game.proofs.Words.{Token, InputTooLong, Fault, Profile, ◌≡◌
 use Rattle.pgn_game.specs.GamesCalls as games_calls
 use Rattle.pgn_game.specs.Conversion as conversion
 use Rattle.pgn_game.proofs.tokens.OneMoreToken.{torn-none, gains_none, gains_more, stops_more, stops_from}
-use Rattle.pgn_game.specs.ConverterCalls.{AreShown, IsRefused, so_far, at_end}
+use Rattle.pgn_game.specs.ConverterCalls.{AreShown, IsRefused, at_end}
 use Rattle.pgn_game.proofs.tokens.AcceptedToConverter.{in_games}
-use Rattle.pgn_game.proofs.tokens.BytesWithinLimit.{next_begins, shown_begins, shown_on}
+use Rattle.pgn_game.proofs.tokens.BytesWithinLimit.{all_shown, shown_begins, shown_by}
 
 pub verdict_passes : (r : Read) → r.fault ≡ None
     → verdict_of r ≡ totals (record { games = length r.progress.games; plies = sum (map plies_of r.progress.games) })
@@ -122,9 +122,9 @@ module _ (p : Profile) (left_old left left_new : Option (List ℕ)) (now : Games
       by_stops : {h : Fault} → Stops p [] to.tokens a d h → Fails p left_old left_new a d h
       by_stops (refused h fault gains) =
           conversion.refused h (known_left left_old left_new (so.bytes ++ more) (λ s. IsRefused p s h × IsConverted p s (is_refused h) a d)
-          (all more consumed) (λ rest. refused_by ((so.bytes ++ more) ++ rest) (shown_on (so.bytes ++ more) rest to.tokens to.next) fault gains))
+          (all more consumed) (λ rest. refused_by ((so.bytes ++ more) ++ rest) (shown_by _ (so.bytes ++ more) rest to.tokens refl to.next) fault gains))
       by_stops (unwritten at writing) =
-          let here = next_begins (so.bytes ++ more) to.tokens to.next in
+          let here = shown_begins (so.bytes ++ more) to.tokens (all_shown (so.bytes ++ more) to.tokens to.next) in
           conversion.unwritten (so.bytes ++ more) at (all more consumed) (rw here.1 (further_writing here.0 writing))
   games_stop (games_calls.at_end g more consumed end short to) = by_stops (stops_more so.gains to.stops)
     where
@@ -133,8 +133,8 @@ module _ (p : Profile) (left_old left left_new : Option (List ℕ)) (now : Games
           conversion.refused h (known_whole left_old left_new (so.bytes ++ more) (λ s. IsRefused p s h × IsConverted p s (is_refused h) a d)
           (all more consumed) end (refused_at_end (so.bytes ++ more) short fault gains))
       by_stops (unwritten at writing) = conversion.unwritten (so.bytes ++ more) at (all more consumed) writing
-  games_stop (games_calls.unread more consumed none) =
-      conversion.unread (so.bytes ++ more) (all more consumed)
+  games_stop (games_calls.unread more consumed short none) =
+      conversion.unread (so.bytes ++ more) (all more consumed) short
       (no_more none.reads.decided none.reads.passes (gains_more so.gains none.reads.gains))
   games_stop (games_calls.too_long more front rest consumed cut place some none) =
       subst (λ n. Fails p left_old left_new a d (record { at = n; reason = InputTooLong })) place
@@ -148,10 +148,10 @@ slice_stops p {text} a c (at_token g fed) = by_stops fed.stops
   where
     by_stops : {h : Fault} → Stops p [] fed.tokens a c h → FailsOn p text a c h
     by_stops (refused h fault gains) =
-        let refuses = refused_by text (so_far fed.next) fault gains in
+        let refuses = refused_by text (all_shown text fed.tokens fed.next) fault gains in
         conversion.FailsOn.refused h refuses.0 refuses.1
     by_stops (unwritten at writing) =
-        let here = next_begins text fed.tokens fed.next in
+        let here = shown_begins text fed.tokens (all_shown text fed.tokens fed.next) in
         conversion.FailsOn.unwritten at (rw here.1 (further_writing here.0 writing))
 slice_stops p {text} a c (too_long front rest cut place some before) =
     subst (λ n. FailsOn p text a c (record { at = n; reason = InputTooLong })) place

@@ -8,7 +8,7 @@ use Rattle.pgn_game.specs.ConverterSteps.{AfterEndToMarker, EndsToMarker, IsRead
 use Rattle.pgn_game.specs.GamesSteps.{AfterToMarker, CountsReading, StopsBefore, UsesAll}
 use Rattle.pgn_game.specs.GamesSteps as games_steps
 use Rattle.pgn_game.specs.Readings.{AfterMarker, IsReadyToEnd, HasGiven, ReadingStops, ReadFails, at_read, at_token, StandsIn}
-use Rattle.pgn_game.proofs.tokens.BytesWithinLimit.{next_begins, shown_none, shown_on}
+use Rattle.pgn_game.proofs.tokens.BytesWithinLimit.{all_shown, shown_begins, shown_by, shown_none}
 use Rattle.pgn_game.proofs.tokens.LastTokens.{IsLeft, glyph, left_in, none, symbol}
 use Rattle.pgn_game.proofs.tokens.MissingCountsAs.{reads_taking}
 use Rattle.pgn_game.proofs.tokens.MarkerToGame.{meets_more, not_taken_more, reads_more}
@@ -67,24 +67,24 @@ module _ (q : Profile) (left_old left left_new : Option (List ℕ)) (given : Lis
   stops : (f : Fault) (new : Reading) (a c : Option (List ℕ)) → StopsBefore q u given left left_new new.converter a c f
       → ReadingStops q left_old left_new given f new a c
   stops f new a c (games_steps.at_token g more tokens t taken next fails) =
+      let here = shown_begins (u ++ more) (tokens ++ t ∷ []) (all_shown (u ++ more) (tokens ++ t ∷ []) next) in
       at_token (record {
         tokens = tokens;
         token = t;
         comes = known_left left_old left_new (u ++ more) (λ s. AreShown s (tokens ++ t ∷ [])) (all more taken)
-            (λ rest. shown_on (u ++ more) rest (tokens ++ t ∷ []) next);
+            (λ rest. shown_by _ (u ++ more) rest (tokens ++ t ∷ []) refl next);
         fails = fails;
         text = u ++ more;
-        rest = (next_begins (u ++ more) (tokens ++ t ∷ []) next).0;
-        cut = (next_begins (u ++ more) (tokens ++ t ∷ []) next).1
-            ∙ append_assoc tokens (t ∷ []) (next_begins (u ++ more) (tokens ++ t ∷ []) next).0;
+        rest = here.0;
+        cut = here.1 ∙ append_assoc tokens (t ∷ []) here.0;
       })
-  stops f new a c (games_steps.unread more taken reads) =
+  stops f new a c (games_steps.unread more taken short reads) =
       let behind = some_coming reads.now.lexer in
       at_read (record {
         tokens = decided (u ++ more);
         now = reads.now;
         same = reads.same;
-        fails = ReadFails.unread (u ++ more) (all more taken) refl;
+        fails = ReadFails.unread (u ++ more) (all more taken) short refl;
         reads = reads.reads;
         text = u ++ more;
         token = behind.0;
@@ -119,7 +119,7 @@ module _ (q : Profile) (left_old left left_new : Option (List ℕ)) (given : Lis
           consumed = all h.more h.consumed;
           stands = h.stands;
           shown = known_left left_old left_new (u ++ h.more) (λ s. AreShown s (h.tokens ++ h.token ∷ [])) (all h.more h.consumed)
-              (λ rest. shown_on (u ++ h.more) rest (h.tokens ++ h.token ∷ []) h.next);
+              (λ rest. shown_by _ (u ++ h.more) rest (h.tokens ++ h.token ∷ []) refl h.next);
         };
         meets = h.meets;
       }

@@ -182,8 +182,8 @@ module _ (q : Profile) (first second sink : Device) (first_now : Option (List �
 
   first_unread : {f : Fault} (tokens : List Token) → (read q tokens).fault ≡ None → HasMarked q tokens so.marks
       → (f.reason ≡ ReadFault → FailsOnce first) → ReadFails first.before first.after tokens f → TwoReadingsFail q first second sink f
-  first_unread tokens passes marked counts (ReadFails.unread u consumed is_decided) =
-      TwoReadingsFail.first_unread u consumed (counts refl) (ends_first tokens u passes marked is_decided)
+  first_unread tokens passes marked counts (ReadFails.unread u consumed short is_decided) =
+      TwoReadingsFail.first_unread u consumed short (counts refl) (ends_first tokens u passes marked is_decided)
   first_unread tokens passes marked counts (ReadFails.too_long u rest consumed place some is_decided) =
       TwoReadingsFail.first_too_long u rest consumed place some (ends_first tokens u passes marked is_decided)
 
@@ -284,8 +284,8 @@ module _ (q : Profile) (first second sink : Device) (first_now second_now mid : 
   second_unread : {f : Fault} → ReadFails second.before second.after tokens f
       → (changed_reason f.reason ≡ ReadFault → FailsOnce second) → Appends writes.mid sink.after []
       → TwoReadingsFail q first second sink (as_changed f)
-  second_unread (ReadFails.unread u consumed is_decided) counts wrote =
-      TwoReadingsFail.second_unread u consumed (counts refl) (ends_second u is_decided wrote)
+  second_unread (ReadFails.unread u consumed short is_decided) counts wrote =
+      TwoReadingsFail.second_unread u consumed short (counts refl) (ends_second u is_decided wrote)
   second_unread (ReadFails.too_long u rest consumed place some is_decided) counts wrote =
       TwoReadingsFail.second_too_long u rest consumed place some (ends_second u is_decided wrote)
 

@@ -81,7 +81,7 @@ returns-in_err-read_more g c =
           let feeds = rw c.in_default.is at fed.feeds in
           let now = rest_read p u given _ _ games _ _ x _ c.feed_rest.new.converter fed.written
           (feeds.1 p _ _ _ (reaches p u given _ _ games _ _ x) (follows_own c.loop-mark.buffer)) in
-          rw (e.1, e.2) (unread p u given _ _ _ c.feed_rest.new.converter _ _ now c.read_more.new.converter _ more.1 more.2 more.0);
+          rw (e.1, e.2) (unread p u given _ _ _ c.feed_rest.new.converter _ _ now c.read_more.new.converter _ more.1 c.in_ok-mark.ensures.short more.2 more.0);
       ready = rw e.1 tt;
       short = rw e.1 tt;
       written = ap as_written more.1 ∙ fed.written ∙ so.written;
