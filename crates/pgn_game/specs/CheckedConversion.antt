@@ -60,8 +60,9 @@ pub record AreRefused (p : Profile) (s r : List ℕ) (f : Fault) : Type 0 where
   pub second_shown : AreShown r us
   pub fault : earlier_fault (compared p ts us).fault (read p ts).fault ≡ Some f
 
--- both were converted, with these numbers
+-- Both were converted, with these numbers. `first` has no byte at place 2^62.
 pub record AreTotalled (p : Profile) (s r : List ℕ) (t : Totals) (sink : Device) : Type 0 where
+  pub short : length s ≤ 2 ^ 62
   pub converted : AreConverted p s r (verdict_in t) sink
   pub probes : ProbesBoth p s r t.most_probes
 

@@ -175,7 +175,7 @@ pub record GameRead (q : Profile) (left_old left_new : Option (List ℕ)) (given
 -- It has read the whole text, with no mark more.
 pub record AllRead (q : Profile) (left_old : Option (List ℕ)) (given : List Token) (new : Reading) : Type 0 where
   pub tokens : List Token
-  pub whole : IfSome left_old (λ s. tokens_of s ≡ tokens)
+  pub whole : IfSome left_old (λ s. (length s ≤ 2 ^ 62) × (tokens_of s ≡ tokens))
   pub has_read : HasRead q new.converter tokens
   pub marked : (ms : List Mark) → HasMarked q given ms → HasMarked q tokens ms
 

@@ -1,9 +1,9 @@
 -- The words that proofs of this crate name, under one path.
-pub use Rattle.std.proofs.Common.{Bool, IfSome, List, None, Option, Result, Some, [], ap, append-nil, append_assoc, arith, decimal, false, inl, inr, is_some, length, length-append, length-take, map, refl, rules, subst, suc, sym, take, true, true≢false, unwrap_or, vec_capacity, vec_len, ℕ, ◌++◌, ◌+◌, ◌-◌, ◌<◌, ◌^◌, ◌∙◌, ◌∷◌, ◌≡◌, ◌≤◌, ◌⊎◌}
+pub use Rattle.std.proofs.Common.{Bool, IfSome, List, None, Option, Result, Some, [], ap, append-nil, append_assoc, arith, decimal, drop, false, inl, inr, is_some, length, length-append, length-take, map, refl, rules, subst, suc, sym, take, true, true≢false, unwrap_or, vec_capacity, vec_len, ℕ, ◌++◌, ◌+◌, ◌-◌, ◌<◌, ◌^◌, ◌∙◌, ◌∷◌, ◌≡◌, ◌≤◌, ◌⊎◌}
 pub use Rattle.std.proofs.KnownBytes.{Appends-kept, Appends-nil, Appends-trans, Consumes-nil, Consumes-trans, Consumes-whole}
 pub use Rattle.std.proofs.Math.Seq.{take-append-add, take-append_seam, take-length}
 pub use Rattle.std.proofs.lemmas.Bool.{false≢true}
-pub use Rattle.std.proofs.lemmas.List.{append_cancel_left, length-map, map-append, take-append-le}
+pub use Rattle.std.proofs.lemmas.List.{append_cancel_left, length-map, map-append, take-append-drop, take-append-le}
 pub use Rattle.std.proofs.lemmas.Result.{err_from_is_err_and}
 unfoldable pub use Rattle.std.specs.Fmt.{digits}
 pub use Rattle.std.specs.Global.{Global}

@@ -2,7 +2,7 @@
 -- Letters: u are the bytes read so far, s is a text, c a converter, f a fault. `before` and `after`
 -- (or `now`) are the bytes that the sink has taken, before a call and after it; `left_old` and
 -- `left_new` are those that the source has left.
-use Rattle.std.specs.Prelude.{◌≡◌, ℕ, ◌+◌, ◌^◌, ◌<◌, List, [], ◌∷◌, ◌++◌, length, take, codes, decimal, unwrap_or, Option, None, Some, Result, Ok, Err, IfSome}
+use Rattle.std.specs.Prelude.{◌≡◌, ℕ, ◌+◌, ◌^◌, ◌<◌, ◌≤◌, List, [], ◌∷◌, ◌++◌, length, take, codes, decimal, unwrap_or, Option, None, Some, Result, Ok, Err, IfSome}
 use Rattle.std.specs.Io.KnownBytes.{Appends, Consumes}
 use Rattle.chess_text.specs.Fen.{fen_text}
 use Rattle.pgn_layout.specs.Device.{one_more}
@@ -18,7 +18,7 @@ use Rattle.pgn_game.specs.Pairs.{Pair, value_of}
 use Rattle.pgn_game.specs.TagSection.{exported}
 use Rattle.pgn_game.specs.Game.{Game}
 use Rattle.pgn_game.specs.Progress.{read}
-use Rattle.pgn_game.specs.ConverterCalls.{Converter, FinishedGame, finished_game_of, profile_of}
+use Rattle.pgn_game.specs.ConverterCalls.{Converter, FinishedGame, finished_game_of, profile_of, IsRefused}
 use Rattle.pgn_tool.specs.declared.list.Stopped.{Stopped}
 use Rattle.pgn_tool.specs.declared.list.Stopped.TheVariants.{Refused, Unwritten}
 
@@ -88,20 +88,21 @@ pub record CutsLine (u : List ℕ) (before after : Option (List ℕ)) : Type 0 w
   pub short : count < length (list_text u)
   pub front : Appends before after (take count (list_text u))
 
--- How a list stops: at the input's own fault; because a read failed after the bytes u; because the
--- input has a byte at place 2^62; or because a line could not be written when the bytes u were
--- read.
+-- How a list stops: at the input's own fault, which its bytes before place 2^62 show; because a read
+-- failed after the bytes u; because the input has a byte at that place; or because a line could not
+-- be written when the bytes u were read.
 pub data ListStops (left_old left_new : Option (List ℕ)) (before after : Option (List ℕ)) : Stopped → Type 0 where
-  refused : (f : Fault) → IfSome left_old (λ s. IsListed s (Some f) before after) → ListStops left_old left_new before after (Refused f)
-  unread : (u : List ℕ) → Consumes left_old left_new u → ListsNoMore u before after
+  refused : (f : Fault) → IfSome left_old (λ s. IsRefused list_profile s f × IsListed s (Some f) before after)
+      → ListStops left_old left_new before after (Refused f)
+  unread : (u : List ℕ) → Consumes left_old left_new u → length u ≤ 2 ^ 62 → ListsNoMore u before after
       → ListStops left_old left_new before after (Refused (record { at = length u; reason = ReadFault }))
   too_long : (u rest : List ℕ) → Consumes left_old left_new (u ++ rest) → length u ≡ 2 ^ 62 → 0 < length rest → ListsNoMore u before after
       → ListStops left_old left_new before after (Refused (record { at = length u; reason = InputTooLong }))
   unwritten : (u rest : List ℕ) → Consumes left_old left_new (u ++ rest) → CutsLine u before after → ListStops left_old left_new before after Unwritten
 
--- What the source has left is listed, up to its end.
+-- What the source has left is listed, up to its end. It has no byte at place 2^62.
 abbrev pub ListResult : Option (List ℕ) → Option (List ℕ) → Result Unit Stopped → Option (List ℕ) → Option (List ℕ) → Type 0
-ListResult left_old left_new (Ok done) before after = IfSome left_old (λ s. IsListed s None before after)
+ListResult left_old left_new (Ok done) before after = IfSome left_old (λ s. (length s ≤ 2 ^ 62) × IsListed s None before after)
 ListResult left_old left_new (Err stopped) before after = ListStops left_old left_new before after stopped
 
 -- ReadFault is reported if the source counts one failure more, and WriteFault never

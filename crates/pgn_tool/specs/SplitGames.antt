@@ -9,6 +9,7 @@ use Rattle.pgn_game.specs.declared.reason.Reason.TheVariants.{ReadFault, WriteFa
 use Rattle.pgn_game.specs.declared.reason.Fault.{Fault}
 use Rattle.pgn_game.specs.Text.{game_text, text_of, torn}
 use Rattle.pgn_game.specs.Progress.{due, read}
+use Rattle.pgn_game.specs.ConverterCalls.{IsRefused}
 use Rattle.pgn_tool.specs.declared.split.Unsplit.{Unsplit}
 use Rattle.pgn_tool.specs.declared.split.Unsplit.TheVariants.{Refused, NoMemory}
 use Rattle.pgn_tool.specs.ListLines.{list_profile}
@@ -38,8 +39,10 @@ files_of ts = whole_files 0 (texts_in ts) ++ torn_file (number_after 0 (texts_in
 abbrev pub Logs : Option (List FileStep) → Option (List FileStep) → List FileStep → Type 0
 Logs before after steps = IfSome before (λ log. after ≡ Some (log ++ steps))
 
--- The text s is split, and has no fault: there is a file for each of its games, and no other.
+-- The text s is split, and has no fault and no byte at place 2^62: there is a file for each of its
+-- games, and no other.
 pub record IsSplitWhole (s : List ℕ) (before after : Option (List FileStep)) : Type 0 where
+  pub short : length s ≤ 2 ^ 62
   pub passes : (read list_profile (tokens_of s)).fault ≡ None
   pub files : Logs before after (whole_files 0 (texts_in (tokens_of s)))
 
@@ -90,13 +93,13 @@ pub record CutsFile (u : List ℕ) (why : Unsplit) (before after : Option (List 
       ≡ text_of list_profile (read list_profile front).progress.games ++ text
   pub files : IfSome before (λ log. LogsCut log after (texts_in front) text (length (torn_text front)))
 
--- How a split stops: at the input's own fault; because a read failed behind the bytes u; because
--- the byte at place 2^62 came; or because a file could not be made or written when the bytes u were
--- read.
+-- How a split stops: at the input's own fault, which its bytes before place 2^62 show; because a read
+-- failed behind the bytes u; because the byte at that place came; or because a file could not be
+-- made or written when the bytes u were read.
 pub data SplitStops (left_old left_new : Option (List ℕ)) (before after : Option (List FileStep)) : Unsplit → Type 0 where
-  rejected : (f : Fault) → IfSome left_old (λ s. IsSplit s f before after)
+  rejected : (f : Fault) → IfSome left_old (λ s. IsRefused list_profile s f × IsSplit s f before after)
       → SplitStops left_old left_new before after (Refused f)
-  unread : (u : List ℕ) → Consumes left_old left_new u → SplitsNoMore u before after
+  unread : (u : List ℕ) → Consumes left_old left_new u → length u ≤ 2 ^ 62 → SplitsNoMore u before after
       → SplitStops left_old left_new before after (Refused (record { at = length u; reason = ReadFault }))
   too_long : (u rest : List ℕ) → Consumes left_old left_new (u ++ rest) → length u ≡ 2 ^ 62
       → 0 < length rest → SplitsNoMore u before after

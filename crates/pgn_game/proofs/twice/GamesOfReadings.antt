@@ -62,8 +62,7 @@ module _ (q : Profile) (left_old left_new : Option (List ℕ)) (given : List Tok
   all_read new a c h =
       record {
         tokens = h.tokens ++ h.token ∷ [];
-        whole = IfSome_then left_old {P = λ s. (length s ≤ 2 ^ 62) × (tokens_of s ≡ h.tokens ++ h.token ∷ [])}
-            {Q = λ s. tokens_of s ≡ h.tokens ++ h.token ∷ []} h.whole (λ s whole. whole.1);
+        whole = h.whole;
         has_read = h.has_read;
         marked = λ ms so.
             marked_more q h.tokens h.token ms (part_after q h.tokens) h.reads.has_read.passes h.passes

@@ -1,6 +1,6 @@
 -- From what the calls of each game return, in both readings, to the conversion.
 use Rattle.std.proofs.lemmas.Option.{IfSome_then}
-use Rattle.pgn_game.proofs.Words.{Token, Reason, Changed, ReadFault, Fault, Profile, Missing, takes_the_marker, Game, no_part, ◌≡◌, ℕ, ◌+◌, ◌<◌, ◌≤◌, max, Bool, true, false, List, [], ◌∷◌, ◌++◌, length, take, Option, None, Some, Ok, IfSome, refl, sym, ap, subst, ◌∙◌, append_assoc, append-nil, length-append, arith, IsTrue, map, sum, take-append-add, Appends-nil, Appends-trans, and_parts, not-false, bytes_eq-Decides, Appends, Device, FailsOnce, tokens_of, decided, coming, plies_of, text_next, gain, refusal, whole_plies, play_moves, verdict_in, MostTried, Mark, marks_from, is_other, is_changed, marks_after, Comparison, compared_from, compared, with_mark, torn_before, written_by, earlier_fault, BothSoFar, HasMarked, Reading, changed_reason, model_mark, part_after}
+use Rattle.pgn_game.proofs.Words.{Token, Reason, Changed, ReadFault, Fault, Profile, Missing, takes_the_marker, Game, no_part, ◌≡◌, ℕ, ◌+◌, ◌^◌, ◌<◌, ◌≤◌, max, Bool, true, false, List, [], ◌∷◌, ◌++◌, length, take, Option, None, Some, Ok, IfSome, refl, sym, ap, subst, ◌∙◌, append_assoc, append-nil, length-append, arith, IsTrue, map, sum, take-append-add, Appends-nil, Appends-trans, and_parts, not-false, bytes_eq-Decides, Appends, Device, FailsOnce, tokens_of, decided, coming, plies_of, text_next, gain, refusal, whole_plies, play_moves, verdict_in, MostTried, Mark, marks_from, is_other, is_changed, marks_after, Comparison, compared_from, compared, with_mark, torn_before, written_by, earlier_fault, BothSoFar, HasMarked, Reading, changed_reason, model_mark, part_after}
 use Rattle.pgn_game.specs.declared.conversion.Totals.{Totals}
 use Rattle.pgn_game.specs.declared.marker.Mark.{Mark as CodeMark}
 use Rattle.pgn_game.specs.Text.{game_text, text_of, torn}
@@ -135,12 +135,14 @@ module _ (q : Profile) (first second sink : Device) (first_now : Option (List �
       let same : totals (record { games = length c.games; plies = sum (map plies_of c.games) }) ≡ verdict_in t =
       ap (λ n. totals (record { games = n; plies = sum (map plies_of c.games) })) (sym (games ∙ h.games))
       ∙ ap (λ n. totals (record { games = t.games; plies = n })) (sym (plies ∙ h.plies)) in
-      both_known first.before second.before (λ s. tokens_of s ≡ tokens)
+      both_known first.before second.before (λ s. (length s ≤ 2 ^ 62) × (tokens_of s ≡ tokens))
       (Begins so.second_tokens) (λ s r. AreTotalled q s r t sink) reads.whole second_begins
-      (λ s r x y.
+      (λ s r whole y.
+      let x = whole.1 in
       let is = last_mark (tokens_of s) (tokens_of r) tokens [] y.0 (x ∙ sym (append-nil tokens)) y.1
       (reads.marked so.marks so.marked) refl in
       record {
+        short = whole.0;
         converted = subst (λ v. AreConverted q s r v sink) same
             (converted s r None is (ap (λ (ts : List Token). (read q ts).fault) x ∙ reads.has_read.passes));
         probes = record {

@@ -1,5 +1,6 @@
 -- Games listed one by one.
-use Rattle.pgn_tool.proofs.Words.{◌≡◌, ℕ, ◌+◌, List, [], ◌∷◌, ◌++◌, length, Option, None, Some, IfSome, refl, sym, ap, subst, ◌∙◌, append-nil, append_assoc, length-append, arith, Appends, Consumes, IsAtEnd, Appends-trans, Consumes-trans, AppendsFront, Token, tokens_of, InputTooLong, Fault, Game, Read, no_progress, read, HasRead, CountsDevices, Games, HaveRead, within, at_end, NextGame, NoGame, NextStops, ReadsNoGame, IsListed, ListsNoMore, ListStops, game_line, line_just_finished, lines_from, lines_of, list_profile, list_text, too_long, unread, ListedSoFar, Refused, Unwritten, Consumes-whole, Stops, games_before, AreNext}
+use Rattle.pgn_tool.proofs.Words.{◌≡◌, ℕ, ◌+◌, ◌^◌, ◌≤◌, List, [], ◌∷◌, ◌++◌, drop, length, length-take, take-append-drop, Option, None, Some, IfSome, refl, sym, ap, subst, ◌∙◌, append-nil, append_assoc, length-append, arith, Appends, Consumes, IsAtEnd, Appends-trans, Consumes-trans, AppendsFront, Token, tokens_of, InputTooLong, Fault, Game, Read, no_progress, read, HasRead, CountsDevices, Games, HaveRead, within, at_end, NextGame, NoGame, NextStops, ReadsNoGame, IsListed, ListsNoMore, ListStops, game_line, line_just_finished, lines_from, lines_of, list_profile, list_text, too_long, unread, ListedSoFar, Refused, Unwritten, Consumes-whole, Stops, games_before, AreNext}
+use Rattle.pgn_game.specs.ConverterCalls.{AreShown, IsRefused, so_far, within_limit}
 use Rattle.pgn_lexer.specs.Standing.{coming}
 use Rattle.pgn_lexer.specs.Stands.{Follows, first}
 use Rattle.pgn_tool.proofs.runs.PartsOfText.{front_after, front_within}
@@ -33,25 +34,36 @@ tokens_so_far left u games given (at_end all) = ([], sym all.whole ∙ sym (appe
 
 -- ---- the whole text of a source
 
--- Where a token of ts is rejected, the text of the source reads as ts: what follows of that holds
--- of it, if it is known.
+-- Where a token of ts is rejected, the text of the source reads as ts, as its bytes before place
+-- 2^62 show: what follows of that holds of it, if it is known.
 abbrev pub ReadAs : Option (List ℕ) → List Token → Type 1
 ReadAs left ts =
     (f : Fault) → (read list_profile ts).fault ≡ Some f
-    → (P : List ℕ → Type 0) → ((s : List ℕ) → read list_profile (tokens_of s) ≡ read list_profile ts → P s) → IfSome left P
+    → (P : List ℕ → Type 0) → ((s : List ℕ) → IsRefused list_profile s f → read list_profile (tokens_of s) ≡ read list_profile ts → P s) → IfSome left P
 
--- the bytes so far decide these tokens
-pub reads_at_token : (o n : Option (List ℕ)) (u : List ℕ) (ts : List Token) → Consumes o n u → AreNext u None ts → ReadAs o ts
+-- the bytes so far begin with those of them before place 2^62
+pub cut_at_limit : (u rest : List ℕ) → u ++ rest ≡ within_limit u ++ (drop (2 ^ 62) u ++ rest)
+cut_at_limit u rest =
+    ap (λ v. v ++ rest) (sym (take-append-drop (2 ^ 62) u)) ∙ append_assoc (within_limit u) (drop (2 ^ 62) u) rest
+
+-- which decide these tokens
+pub reads_at_token : (o n : Option (List ℕ)) (u : List ℕ) (ts : List Token) → Consumes o n u → AreNext (within_limit u) ts → ReadAs o ts
 reads_at_token None n u ts consumed next f fault P follows = tt
 reads_at_token (Some s) None u ts consumed next f fault P follows = absurd consumed
 reads_at_token (Some s) (Some left) u ts consumed next f fault P follows =
-    let (rest, begins) = next left tt in
-    follows s (ap (λ l. read list_profile (tokens_of l)) consumed
+    let behind : List ℕ = drop (2 ^ 62) u ++ left in
+    let cut : s ≡ within_limit u ++ behind = consumed ∙ cut_at_limit u left in
+    let (rest, begins) = next behind in
+    follows s
+    (record { tokens = ts; shown = so_far (within_limit u) behind cut (omega (arith, length-take (2 ^ 62) u)) next; fault = fault })
+    (ap (λ l. read list_profile (tokens_of l)) cut
     ∙ ap (read list_profile) begins ∙ read_stops list_profile no_progress ts rest f fault)
 
 -- the source has ended
-pub reads_at_end : (o n : Option (List ℕ)) (u : List ℕ) → Consumes o n u → IsAtEnd n → ReadAs o (tokens_of u)
-reads_at_end o n u consumed end f fault P follows = Consumes-whole o n u P consumed end (follows u refl)
+pub reads_at_end : (o n : Option (List ℕ)) (u : List ℕ) → Consumes o n u → IsAtEnd n → length u ≤ 2 ^ 62 → ReadAs o (tokens_of u)
+reads_at_end o n u consumed end short f fault P follows =
+    Consumes-whole o n u P consumed end
+    (follows u (record { tokens = tokens_of u; shown = AreShown.at_end short [] (sym (append-nil (tokens_of u))); fault = fault }) refl)
 
 -- ---- a call
 
@@ -98,10 +110,11 @@ module _ (left_old left left_new : Option (List ℕ)) (old new : Games) (a b : O
         (record { count = count; short = short; front = front })
 
   -- no game is left
-  pub all_listed : NoGame list_profile so.bytes so.tokens left left_new new None None → IfSome left_old (λ s. IsListed s None a b)
+  pub all_listed : NoGame list_profile so.bytes so.tokens left left_new new None None
+      → IfSome left_old (λ s. (length s ≤ 2 ^ 62) × IsListed s None a b)
   all_listed end =
-      Consumes-whole left_old left_new (so.bytes ++ end.more) (λ s. IsListed s None a b)
-      (all end.more end.consumed) end.have_read_all.at_end (record {
+      Consumes-whole left_old left_new (so.bytes ++ end.more) (λ s. (length s ≤ 2 ^ 62) × IsListed s None a b)
+      (all end.more end.consumed) end.have_read_all.at_end (end.have_read_all.short, record {
         fault = end.have_read_all.has_read.passes;
         written = subst (λ gs. Appends a b (lines_from 1 gs)) (sym end.no_game) so.written;
       })
@@ -124,19 +137,20 @@ module _ (left_old left left_new : Option (List ℕ)) (old new : Games) (a b : O
           → CountsDevices h.reason s t 0 0 → ListStops left_old left_new a b (Refused h)
       by_stops ts reads (Stops.unwritten at writing) same counts = absurd (omega (arith, counts.1))
       by_stops ts reads (Stops.refused h fault gains) same counts =
-          ListStops.refused h (reads h fault (λ s. IsListed s (Some h) a b) (λ s is. record {
+          ListStops.refused h (reads h fault (λ s. IsRefused list_profile s h × IsListed s (Some h) a b) (λ s refused is. (refused, record {
             fault = ap (λ (r : Read). r.fault) is ∙ fault;
             written = subst (λ gs. Appends a b (lines_from 1 gs)) (sym same ∙ ap (λ (r : Read). r.progress.games) (sym is)) so.written;
-          }))
+          })))
 
       by_stop : {h : Fault} → NextStops list_profile so.bytes so.tokens left left_new most None None h
           → CountsDevices h.reason s t 0 0 → ListStops left_old left_new a b (Refused h)
       by_stop (NextStops.at_token h more consumed to) counts =
           by_stops to.tokens (reads_at_token left_old left_new (so.bytes ++ more) to.tokens (all more consumed) to.next) to.stops to.no_game counts
-      by_stop (NextStops.at_end h more consumed end to) counts =
+      by_stop (NextStops.at_end h more consumed end short to) counts =
           by_stops (tokens_of (so.bytes ++ more))
-          (reads_at_end left_old left_new (so.bytes ++ more) (all more consumed) end) to.stops to.no_game counts
-      by_stop (NextStops.unread more consumed none) counts = unread (so.bytes ++ more) (all more consumed) (no_more (so.bytes ++ more) none)
+          (reads_at_end left_old left_new (so.bytes ++ more) (all more consumed) end short) to.stops to.no_game counts
+      by_stop (NextStops.unread more consumed short none) counts =
+          unread (so.bytes ++ more) (all more consumed) short (no_more (so.bytes ++ more) none)
       by_stop (NextStops.too_long more front rest consumed cut place some none) counts =
           subst (λ n. ListStops left_old left_new a b (Refused (record { at = n; reason = InputTooLong }))) place
           (too_long front rest (subst (Consumes left_old left_new) cut (all more consumed)) place some (no_more front none))

@@ -54,10 +54,10 @@ module _ (decides : DecidedIsPrefix) (grows : DueGrows) (equal : EqualReadings) 
       (subst (λ (t : List ℕ). IsPrefix (written_by p (compared p ends.tokens (decided u))) (output p t)) (sym x.1) law.most) ends.appended
 
   fails : (f : Fault) → TwoReadingsFail p first second out f → HasFront out (output p s)
-  fails _ (TwoReadingsFail.refused f known) = converted _ (rw (first_gives, second_gives) at known)
-  fails _ (first_unread u consumed failed ends) = ends_first u (rest_of first first_gives u consumed) ends
+  fails _ (TwoReadingsFail.refused f known) = converted _ (rw (first_gives, second_gives) at known).1
+  fails _ (first_unread u consumed few failed ends) = ends_first u (rest_of first first_gives u consumed) ends
   fails _ (first_too_long u rest consumed long more ends) = ends_first u (front_left u rest (rest_of first first_gives (u ++ rest) consumed)) ends
-  fails _ (second_unread u consumed failed ends) = ends_second u (rest_of second second_gives u consumed) ends
+  fails _ (second_unread u consumed few failed ends) = ends_second u (rest_of second second_gives u consumed) ends
   fails _ (second_too_long u rest consumed long more ends) = ends_second u (front_left u rest (rest_of second second_gives (u ++ rest) consumed)) ends
   fails _ (unwritten at known) =
       let h = rw second_gives at known in

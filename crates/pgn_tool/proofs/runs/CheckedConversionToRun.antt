@@ -46,17 +46,17 @@ module _ (p : Profile) (first second d : Device) (after : Option (List ℕ)) (fa
 
   fails_on : (f : Fault) → TwoReadingsFail p first second d f → TwoReadingsFail p first second e f
   fails_on _ (TwoReadingsFail.refused f known) = TwoReadingsFail.refused f
-      (IfSome_then first.before known (λ s known. IfSome_then second.before known (λ r known. (known.0, taken_on _ known.1))))
-  fails_on _ (first_unread u consumed failed ends) = first_unread u consumed failed (first_on u ends)
+      (IfSome_then first.before known (λ s known. IfSome_then second.before known (λ r known. (known.0, (known.1.0, taken_on _ known.1.1)))))
+  fails_on _ (first_unread u consumed few failed ends) = first_unread u consumed few failed (first_on u ends)
   fails_on _ (first_too_long u rest consumed long more ends) = first_too_long u rest consumed long more (first_on u ends)
-  fails_on _ (second_unread u consumed failed ends) = second_unread u consumed failed (second_on u ends)
+  fails_on _ (second_unread u consumed few failed ends) = second_unread u consumed few failed (second_on u ends)
   fails_on _ (second_too_long u rest consumed long more ends) = second_too_long u rest consumed long more (second_on u ends)
   fails_on _ (unwritten at known) = unwritten at (IfSome_then second.before known (λ r. stops_on at (tokens_of r)))
 
   pub converts_twice_on : (r : Result Totals Fault) → TwoReadingsConvert p first second d r → TwoReadingsConvert p first second e r
   converts_twice_on (Ok t) converts =
       IfSome_then first.before converts (λ s known.
-      IfSome_then second.before known (λ r known. record { converted = (known.converted.0, taken_on _ known.converted.1); probes = known.probes }))
+      IfSome_then second.before known (λ r known. record { short = known.short; converted = (known.converted.0, taken_on _ known.converted.1); probes = known.probes }))
   converts_twice_on (Err f) converts = fails_on f converts
 
 -- ---- which device is to blame
@@ -92,11 +92,11 @@ module _ (s r : List ℕ) (first second out : Device) (one : IsSmooth s first ou
   -- a fault that no device is to blame for is the texts' own
   own_fault : (p : Profile) (f : Fault) → TwoReadingsFail p first second out f
       → BlamesTwice f.reason first second out → AreConverted p s r (refused f) out
-  own_fault p _ (TwoReadingsFail.refused f known) blames = rw (one.gives, other.gives) at known
-  own_fault p _ (first_unread u consumed failed ends) blames = absurd (neither_failed first second one.reads other.reads blames)
+  own_fault p _ (TwoReadingsFail.refused f known) blames = (rw (one.gives, other.gives) at known).1
+  own_fault p _ (first_unread u consumed few failed ends) blames = absurd (neither_failed first second one.reads other.reads blames)
   own_fault p _ (first_too_long u rest consumed long more ends) blames =
       absurd (longer s first.after u rest (rw one.gives at consumed) long more one.short)
-  own_fault p _ (second_unread u consumed failed ends) blames = absurd (neither_failed first second one.reads other.reads blames)
+  own_fault p _ (second_unread u consumed few failed ends) blames = absurd (neither_failed first second one.reads other.reads blames)
   own_fault p _ (second_too_long u rest consumed long more ends) blames =
       absurd (longer r second.after u rest (rw other.gives at consumed) long more other.short)
   own_fault p _ (unwritten at known) blames = absurd (calm_fails out one.writes blames)

@@ -63,8 +63,8 @@ module _ (left_old left_new a b c : Option (List ℕ)) (keeps : Keeps b c) where
   kept text wrote = Appends-kept a b c text wrote keeps
 
   fails_on : (p : Profile) (f : Fault) → Fails p left_old left_new a b f → Fails p left_old left_new a c f
-  fails_on p _ (Fails.refused f known) = Fails.refused f (IfSome_then left_old known (λ s converted. (converted.0, kept _ converted.1)))
-  fails_on p _ (Fails.unread u consumed reads) = Fails.unread u consumed (record { passes = reads.passes; appended = kept _ reads.appended })
+  fails_on p _ (Fails.refused f known) = Fails.refused f (IfSome_then left_old known (λ s known. (known.0, (known.1.0, kept _ known.1.1))))
+  fails_on p _ (Fails.unread u consumed few reads) = Fails.unread u consumed few (record { passes = reads.passes; appended = kept _ reads.appended })
   fails_on p _ (Fails.unwritten u at consumed stops) =
       Fails.unwritten u at consumed (record {
         front = stops.front;
@@ -92,15 +92,15 @@ module _ (left_old left_new a b c : Option (List ℕ)) (keeps : Keeps b c) where
   -- the same of a list
   stops_on : (stopped : Stopped) → ListStops left_old left_new a b stopped → ListStops left_old left_new a c stopped
   stops_on _ (ListStops.refused f known) =
-      ListStops.refused f (IfSome_then left_old known (λ s listed. record { fault = listed.fault; written = kept _ listed.written }))
-  stops_on _ (ListStops.unread u consumed listed) = ListStops.unread u consumed (record { passes = listed.passes; written = kept _ listed.written })
+      ListStops.refused f (IfSome_then left_old known (λ s known. (known.0, record { fault = known.1.fault; written = kept _ known.1.written })))
+  stops_on _ (ListStops.unread u consumed few listed) = ListStops.unread u consumed few (record { passes = listed.passes; written = kept _ listed.written })
   stops_on _ (ListStops.too_long u rest consumed long more listed) =
       ListStops.too_long u rest consumed long more (record { passes = listed.passes; written = kept _ listed.written })
   stops_on _ (ListStops.unwritten u rest consumed cut) =
       ListStops.unwritten u rest consumed (record { count = cut.count; short = cut.short; front = kept _ cut.front })
 
   pub lists_on : (r : Result Unit Stopped) → ListResult left_old left_new r a b → ListResult left_old left_new r a c
-  lists_on (Ok x) known = IfSome_then left_old known (λ s listed. record { fault = listed.fault; written = kept _ listed.written })
+  lists_on (Ok x) known = IfSome_then left_old known (λ s known. (known.0, record { fault = known.1.fault; written = kept _ known.1.written }))
   lists_on (Err stopped) listed = stops_on stopped listed
 
 -- ---- which device is to blame
@@ -188,8 +188,8 @@ module _ (s : List ℕ) (source out : Device) (smooth : IsSmooth s source out) w
   -- a fault that no device is to blame for is the text's own
   own_fault : (p : Profile) (a b : Option (List ℕ)) (f : Fault) → Fails p source.before source.after a b f → Blames f.reason source out
       → IsConverted p s (refused f) a b
-  own_fault p a b _ (Fails.refused f converted) blames = rw smooth.gives at converted
-  own_fault p a b _ (Fails.unread u consumed reads) blames = absurd (calm_fails source smooth.reads blames)
+  own_fault p a b _ (Fails.refused f known) blames = (rw smooth.gives at known).1
+  own_fault p a b _ (Fails.unread u consumed few reads) blames = absurd (calm_fails source smooth.reads blames)
   own_fault p a b _ (Fails.unwritten u at consumed stops) blames = absurd (calm_fails out smooth.writes blames)
   own_fault p a b _ (Fails.too_long u rest consumed long more reads) blames =
       absurd (longer s source.after u rest (rw smooth.gives at consumed) long more smooth.short)
@@ -218,10 +218,10 @@ module _ (s : List ℕ) (source out : Device) (smooth : IsSmooth s source out) w
     stopped_answers : (stopped : Stopped) → ListStops source.before source.after out.before out.after stopped
         → EndsList (Err stopped) source out err code → Answers listing s out err code
     stopped_answers _ (ListStops.refused f known) ends =
-        let listed = rw smooth.gives at known in
+        let listed = (rw smooth.gives at known).1 in
         let by = refuses_by_verdict _ err code f (verdict_is (read list_profile (tokens_of s)) (Some f) listed.fault) ends.ends ends.told in
         record { ends = by.0; written = listed.written; told = by.1 }
-    stopped_answers _ (ListStops.unread u consumed listed) ends = absurd (calm_fails source smooth.reads ends.blames)
+    stopped_answers _ (ListStops.unread u consumed few listed) ends = absurd (calm_fails source smooth.reads ends.blames)
     stopped_answers _ (ListStops.too_long u rest consumed long more listed) ends =
         absurd (longer s source.after u rest (rw smooth.gives at consumed) long more smooth.short)
     stopped_answers _ (ListStops.unwritten u rest consumed cut) ends = absurd (calm_fails out smooth.writes ends.failed)
@@ -229,7 +229,7 @@ module _ (s : List ℕ) (source out : Device) (smooth : IsSmooth s source out) w
     list_answers : (answer : Result Unit Stopped) → ListResult source.before source.after answer out.before out.after
         → EndsList answer source out err code → Answers listing s out err code
     list_answers (Ok x) works ends =
-        let listed = rw smooth.gives at works in
+        let listed = (rw smooth.gives at works).1 in
         let by = concludes_by_verdict _ source out err code _ (verdict_is (read list_profile (tokens_of s)) None listed.fault) smooth.writes ends in
         record { ends = by.0; written = listed.written; told = by.1 }
     list_answers (Err stopped) works ends = stopped_answers stopped works ends

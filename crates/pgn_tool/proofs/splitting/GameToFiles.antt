@@ -1,6 +1,7 @@
 -- What each game makes of the files of the games so far.
-use Rattle.pgn_tool.proofs.Words.{◌≡◌, ◌∙◌, ℕ, ◌^◌, ◌<◌, ◌≤◌, true, false, List, [], ◌∷◌, ◌++◌, length, length-append, length-take, map, take, Option, None, Some, IfSome, Result, Ok, Err, refl, sym, ap, subst, inl, inr, ◌⊎◌, arith, append_assoc, append-nil, Appends, Consumes, Consumes-trans, false≢true, length-map, map-append, Device, one_more, Token, tokens_of, Reason, ReadFault, WriteFault, InputTooLong, Fault, game_text, text_of, Read, due, no_progress, read, StopsWriting, CountsDevices, Games, NextGame, NextStops, NoGame, ReadsNoGame, GameFile, NotMade, Open, Unsplit, list_profile, FileStep, IsBegun, added, bytes_in, closed, failures_in, file_steps, made, number_after, refusal_step, taken_by, whole_files, CountsSource, CountsSplit, GameSplit, IsOwn, LastFile, SplitFiles, reported, settled, CutFile, CutsFile, IsSplit, IsSplitWhole, Logs, LogsCut, SplitResult, SplitStops, SplitsNoMore, StopsAt, files_of, texts_in, torn_file, torn_text, SplitSoFar, Consumes-whole, CreateFault, Stops, games_before}
+use Rattle.pgn_tool.proofs.Words.{◌≡◌, ◌∙◌, ℕ, ◌^◌, ◌<◌, ◌≤◌, true, false, List, [], ◌∷◌, ◌++◌, drop, take-append-drop, length, length-append, length-take, map, take, Option, None, Some, IfSome, Result, Ok, Err, refl, sym, ap, subst, inl, inr, ◌⊎◌, arith, append_assoc, append-nil, Appends, Consumes, Consumes-trans, false≢true, length-map, map-append, Device, one_more, Token, tokens_of, Reason, ReadFault, WriteFault, InputTooLong, Fault, game_text, text_of, Read, due, no_progress, read, StopsWriting, CountsDevices, Games, NextGame, NextStops, NoGame, ReadsNoGame, GameFile, NotMade, Open, Unsplit, list_profile, FileStep, IsBegun, added, bytes_in, closed, failures_in, file_steps, made, number_after, refusal_step, taken_by, whole_files, CountsSource, CountsSplit, GameSplit, IsOwn, LastFile, SplitFiles, reported, settled, CutFile, CutsFile, IsSplit, IsSplitWhole, Logs, LogsCut, SplitResult, SplitStops, SplitsNoMore, StopsAt, files_of, texts_in, torn_file, torn_text, SplitSoFar, Consumes-whole, CreateFault, Stops, games_before}
 use Rattle.pgn_game.specs.Due.{Gains}
+use Rattle.pgn_game.specs.ConverterCalls.{IsRefused}
 use Rattle.pgn_tool.proofs.runs.CallToLines.{ReadAs, has_read_of, reads_at_end, reads_at_token}
 use Rattle.pgn_tool.proofs.splitting.FilesOfGames.{file_holds, game_is, log_on, none_torn, number_is, taken_is, torn_is, whole_and_one, whole_file}
 use Rattle.pgn_tool.proofs.splitting.NoWriteFaultInTable.{read_own}
@@ -156,6 +157,7 @@ module _ {A : Type 0} (taken : A → Option (List ℕ)) (failures : A → ℕ) (
     all_ended = (
       Consumes-whole left_old left_new (so.bytes ++ end.more) (λ s. IsSplitWhole s before after)
           (all end.more end.consumed) end.have_read_all.at_end (record {
+            short = end.have_read_all.short;
             passes = end.have_read_all.has_read.passes;
             files = logs before after _ (all_files ∙ ap (added before) (append-nil (whole_files 0 (texts_in text_tokens))));
           }),
@@ -236,23 +238,23 @@ module _ {A : Type 0} (taken : A → Option (List ℕ)) (failures : A → ℕ) (
           let is_own : IsOwn h.reason = rw fault at (read_own list_profile no_progress ts) in
           let clean = clean_at h is_own counts in
           let files = logs before after _ (files_left ts gains same clean) in
-          own h clean (SplitStops.rejected h (reads h fault (λ s. IsSplit s h before after) (λ s is. record {
+          own h clean (SplitStops.rejected h (reads h fault (λ s. IsRefused list_profile s h × IsSplit s h before after) (λ s refused is. (refused, record {
             fault = ap (λ (r : Read). r.fault) is ∙ fault;
             files = rw is files;
-          })))
+          }))))
 
       by_stop : {h : Fault} → NextStops list_profile so.bytes so.tokens left left_new most none some h
           → CountsDevices h.reason s t 0 (failures_in failures file) → Stopped h
       by_stop (NextStops.at_token h more consumed to) counts =
-          let (rest, begins) = to.next [] tt in
-          by_stops (so.bytes ++ more) to.tokens rest (all more consumed) (ap tokens_of (sym (append-nil (so.bytes ++ more))) ∙ begins)
+          let (rest, begins) = to.next (drop (2 ^ 62) (so.bytes ++ more)) in
+          by_stops (so.bytes ++ more) to.tokens rest (all more consumed) (ap tokens_of (sym (take-append-drop (2 ^ 62) (so.bytes ++ more))) ∙ begins)
           (reads_at_token left_old left_new (so.bytes ++ more) to.tokens (all more consumed) to.next) to.stops to.no_game counts
-      by_stop (NextStops.at_end h more consumed end to) counts =
+      by_stop (NextStops.at_end h more consumed end short to) counts =
           by_stops (so.bytes ++ more) (tokens_of (so.bytes ++ more)) [] (all more consumed) (sym (append-nil (tokens_of (so.bytes ++ more))))
-          (reads_at_end left_old left_new (so.bytes ++ more) (all more consumed) end) to.stops to.no_game counts
-      by_stop (NextStops.unread more consumed none_read) counts =
+          (reads_at_end left_old left_new (so.bytes ++ more) (all more consumed) end short) to.stops to.no_game counts
+      by_stop (NextStops.unread more consumed short none_read) counts =
           let clean = clean_at (record { at = length (so.bytes ++ more); reason = ReadFault }) tt counts in
-          own _ clean (SplitStops.unread (so.bytes ++ more) (all more consumed) (no_more (so.bytes ++ more) none_read clean))
+          own _ clean (SplitStops.unread (so.bytes ++ more) (all more consumed) short (no_more (so.bytes ++ more) none_read clean))
       by_stop (NextStops.too_long more front rest consumed parts place further none_read) counts =
           let clean = clean_at (record { at = 2 ^ 62; reason = InputTooLong }) tt counts in
           own _ clean (subst (λ n. SplitStops left_old left_new before after (Unsplit.Refused (record { at = n; reason = InputTooLong }))) place
