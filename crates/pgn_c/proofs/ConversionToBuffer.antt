@@ -41,7 +41,7 @@ before_limit p u rest grows prefix =
 
 front_on_fault : (p : Profile) → due p [] ≡ [] → (text written : List ℕ) (f : Fault) → DueGrows → DecidedIsPrefix
     → FailsOn p text (Some []) (Some written) f → IsPrefix written (output p text)
-front_on_fault p nothing text written _ grows prefix (refused f converted) = all_of _ _ converted.1
+front_on_fault p nothing text written _ grows prefix (refused f in_time converted) = all_of _ _ converted.1
 front_on_fault p nothing text written _ grows prefix (unwritten at stops) = before_full p nothing (tokens_of text) at written grows stops
 front_on_fault p nothing text written _ grows prefix (too_long u rest is long more reads) =
     subst (λ l. IsPrefix l (output p text)) (sym reads.appended)

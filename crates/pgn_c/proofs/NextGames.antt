@@ -8,7 +8,7 @@ use Rattle.pgn_game.specs.Pairs.{value_of}
 use Rattle.pgn_game.specs.TagSection.{exported}
 use Rattle.pgn_game.specs.Game.{Game}
 use Rattle.pgn_game.specs.Due.{Gains}
-use Rattle.pgn_game.specs.ConverterCalls.{Converter, FinishedGame, finished_game_of, finished_game_value, IsLast, Stands, StopsWriting, Stops, refused, unwritten, FedAll, FedGame, FedToFault, AreNext, StopsIn, at_token, too_long, Finishes, FinishesToFault, games_before, position_at_stop, refused_position, reported_position}
+use Rattle.pgn_game.specs.ConverterCalls.{Converter, FinishedGame, finished_game_of, finished_game_value, IsLast, Stands, StopsWriting, Stops, refused, unwritten, FedAll, FedGame, FedToFault, within_limit, StopsIn, at_token, too_long, Finishes, FinishesToFault, games_before, position_at_stop, refused_position, reported_position}
 use Rattle.pgn_game.specs.GameEnds.{EndsByMarker, GamesEndByMarker, TextsEndBehindMarker, TextsEndBetweenGames}
 
 -- ---- a marker
@@ -180,14 +180,14 @@ module _ (mode : Mode) (missing : Marker) (u piece : List ℕ) (before : Option 
             )
 
     -- a token that is rejected whatever comes, a write that failed, or a text that is too long
-    pub fault_fed : (new : Converter) (f : Fault) → StopsIn u piece (λ fault. FedToFault p u None [] piece fault new.reading before after)
+    pub fault_fed : (new : Converter) (f : Fault) → StopsIn u piece (λ bytes fault. FedToFault p bytes [] fault new.reading before after)
         (λ front. (now : Converter) × FedAll p u None [] front now before after × (new.reading ≡ now.reading)) f
         → new.fault ≡ Some f → result ≡ fault_result (status_for 1 f.reason) f (refused_position new) → NextOf p s piece result before after
     fault_fed new f (at_token _ to) kept answer =
         by_stops f to.fed.stops (answer ∙ ap (fault_result (status_for 1 f.reason) f) (position_is new f kept ∙ to.position)) to.no_game
       where
-        known : AreKnown s to.fed.tokens
-        known more = subst (λ b. AreNext s b to.fed.tokens) none_still to.fed.next more tt
+        known : AreKnown (within_limit s) to.fed.tokens
+        known more = to.fed.next more
 
         by_stops : (g : Fault) (stops : Stops p [] to.fed.tokens before after g)
             → result ≡ fault_result (status_for 1 g.reason) g (position_at_stop stops) → games_before stops ≡ []
@@ -206,7 +206,7 @@ module _ (mode : Mode) (missing : Marker) (u piece : List ℕ) (before : Option 
             NextOf.full (record {
               at = at;
               tokens = to.fed.tokens;
-              first = let all = known [] in (all.0, ap tokens_of (sym (append-nil s)) ∙ all.1);
+              first = let all = known (drop (2 ^ 62) s) in (all.0, ap tokens_of (sym (take-append-drop (2 ^ 62) s)) ∙ all.1);
               stops = writing;
               no_game = none;
               is_result = is;
@@ -278,11 +278,16 @@ module _ (mode : Mode) (missing : Marker) (u piece : List ℕ) (before : Option 
             is_result = is ∙ ap (λ m. game_result game mark.marker last.marker.at m) (sym end);
           })
 
-      pub none_at_end : (new : Converter) → Finishes p s fed.tokens new false middle after
+      -- it has no byte at place 2^62
+      all_short : mid.lexer.count ≤ 2 ^ 62 → length s ≤ 2 ^ 62
+      all_short few = omega (arith, few, stands.lexer.count)
+
+      pub none_at_end : (new : Converter) → mid.lexer.count ≤ 2 ^ 62 → Finishes p s fed.tokens new false middle after
           → result ≡ nothing 4 → NextOf p s piece result before after
-      none_at_end new fin is =
+      none_at_end new few fin is =
           let none : games_read p (tokens_of s) ≡ [] = by_games (games_read p (tokens_of s)) refl in
           NextOf.no_game (record {
+            short = all_short few;
             passes = fin.has_read.passes;
             no_game = none;
             wrote = subst (Appends before after) (whole_of fin.has_read.passes ∙ ap (text_of p) none) (all_due fin.gains);
@@ -294,10 +299,10 @@ module _ (mode : Mode) (missing : Marker) (u piece : List ℕ) (before : Option 
           by_games (g ∷ gs) is =
               let some : IsTrue false = fin.game.1 (omega (arith, ap (length {A = Game}) is, ap (length {A = Game}) fed.no_game)) in absurd (cc)
 
-      pub fault_at_end : (new : Converter) (f : Fault) → FinishesToFault p s fed.tokens new f middle after → new.fault ≡ Some f
+      pub fault_at_end : (new : Converter) (f : Fault) → mid.lexer.count ≤ 2 ^ 62 → FinishesToFault p s fed.tokens new f middle after → new.fault ≡ Some f
           → result ≡ fault_result (status_for 5 f.reason) f (refused_position new) → NextOf p s piece result before after
       unfolding writing_more
-      fault_at_end new f fin kept answer =
+      fault_at_end new f few fin kept answer =
           by_stops f fin.stops (answer ∙ ap (fault_result (status_for 5 f.reason) f) (position_is new f kept ∙ fin.position))
           (fin.no_game ∙ fed.no_game)
         where
@@ -306,6 +311,7 @@ module _ (mode : Mode) (missing : Marker) (u piece : List ℕ) (before : Option 
               → NextOf p s piece result before after
           by_stops g (refused _ fault gains) is none =
               NextOf.needs_more (record {
+                short = all_short few;
                 fault = g;
                 tokens = fed.tokens;
                 known = known;

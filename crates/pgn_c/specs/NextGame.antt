@@ -25,7 +25,7 @@ use Rattle.pgn_game.specs.Game.{Game}
 use Rattle.pgn_game.specs.Levels.{plies_of, last_position}
 use Rattle.pgn_game.specs.Text.{game_text}
 use Rattle.pgn_game.specs.Progress.{read, due, position_at_fault}
-use Rattle.pgn_game.specs.ConverterCalls.{StopsWriting}
+use Rattle.pgn_game.specs.ConverterCalls.{StopsWriting, within_limit}
 use Rattle.pgn_game.specs.GamesRestart.{games_read}
 use Rattle.pgn_c.specs.declared.game_result.PgnGame.{PgnGame}
 use Rattle.pgn_c.specs.Results.{IsFilled, padded, profile_in}
@@ -100,26 +100,28 @@ pub record IsGame (p : Profile) (s : List ℕ) (result : PgnGame) (before after 
   pub wrote : Appends before after (game_text p game)
   pub is_result : result ≡ game_result game marker at.at result.end
 
--- No game is left, and no token is rejected. Nothing is written.
+-- No game is left, no token is rejected, and the text has no byte at place 2^62. Nothing is written.
 pub record HasNoGame (p : Profile) (s : List ℕ) (result : PgnGame) (before after : Option (List ℕ)) : Type 0 where
+  pub short : length s ≤ 2 ^ 62
   pub passes : (read p (tokens_of s)).fault ≡ None
   pub no_game : games_read p (tokens_of s) ≡ []
   pub wrote : Appends before after []
   pub is_result : result ≡ nothing 4
 
--- A token of the first game is rejected, whatever comes behind the text. What is due for the tokens
--- before it is written.
+-- A token of the first game is rejected, whatever comes behind the bytes before place 2^62. What is
+-- due for the tokens before it is written.
 pub record IsRejected (p : Profile) (s : List ℕ) (result : PgnGame) (before after : Option (List ℕ)) : Type 0 where
   pub fault : Fault
   pub tokens : List Token
-  pub known : AreKnown s tokens
+  pub known : AreKnown (within_limit s) tokens
   pub rejected : (read p tokens).fault ≡ Some fault
   pub no_game : games_read p tokens ≡ []
   pub wrote : Appends before after (due p tokens)
   pub is_result : result ≡ fault_result (status_for 1 fault.reason) fault (position_at_fault (read p tokens))
 
--- The text so far rejects no token and has no game, but its end is a fault.
+-- The text so far rejects no token and has no game and no byte at place 2^62, but its end is a fault.
 pub record NeedsMore (p : Profile) (s piece : List ℕ) (result : PgnGame) (before after : Option (List ℕ)) : Type 0 where
+  pub short : length s ≤ 2 ^ 62
   pub fault : Fault
   pub tokens : List Token
   pub known : AreKnown s tokens

@@ -42,6 +42,7 @@ returns-in-Ok-false-clause-next g c =
     rw (← c.is_first_column-place.ensures)
     (none_at_end c.args.mode c.args.missing _ _ _ c.games_end_by_marker.ensures
     c.texts_end_between_games.ensures _ _ c.feed.new.self _ fed c.finish.new.self
+    (rw (c.in-Ok-All.is ∙ ap Ok c.in-Ok-All.field-0-is) at c.feed.ensures.short)
     (ends _ _ _ _ fed.stands) c.no_game.ensures)
 
 pub returns-in-Err-finish-clause-next : goal.returns-in-Err-finish-clause-next
@@ -54,6 +55,7 @@ returns-in-Err-finish-clause-next g c =
     rw (← c.is_first_column-place.ensures)
     (fault_at_end c.args.mode c.args.missing _ _ _ c.games_end_by_marker.ensures
     c.texts_end_between_games.ensures _ _ c.feed.new.self _ fed c.finish.new.self _
+    (rw (c.in-Ok-All.is ∙ ap Ok c.in-Ok-All.field-0-is) at c.feed.ensures.short)
     (ends _ _ _ _ fed.stands) kept c.refused_game.ensures)
 
 pub returns-in-Err-clause-next : goal.returns-in-Err-clause-next
