@@ -333,7 +333,7 @@ module _ (q : Profile) (first second sink : Device) (first_now second_now mid : 
   second_differs t comes changed wrote =
       let f : Fault = record { at = t.at; reason = Changed } in
       let is : (xs us vs ws : List Token) → xs ≡ first_tokens ++ vs → us ≡ tokens ++ t ∷ ws
-          → compared q xs us ≡ record { progress = c; marks_left = mark ∷ behind vs; fault = Some f } =
+      → compared q xs us ≡ record { progress = c; marks_left = mark ∷ behind vs; fault = Some f } =
       λ xs us vs ws first_cut second_cut. goes xs us vs (t ∷ ws) first_cut second_cut ∙ change_test q mark (behind vs) c t ws
       ∙ ap (after_change q mark (behind vs) c t ws) changed in
       TwoReadingsFail.refused f
@@ -350,7 +350,8 @@ module _ (q : Profile) (first second sink : Device) (first_now second_now mid : 
           second_shown = second_shown;
           fault = ap (λ (z : Comparison). earlier_fault z.fault (read q first_tokens).fault)
               (is first_tokens (tokens ++ t ∷ []) [] [] (sym (append-nil first_tokens)) refl);
-        }, (
+        },
+        (
           ap (λ (z : Comparison). verdict_of (record { progress = z.progress; fault = earlier_fault z.fault (read q (tokens_of s)).fault })) all,
           subst (λ (z : Comparison). HasTaken sink (written_by q z)) (sym all) (torn_written wrote),
         ),

@@ -114,10 +114,13 @@ module _ (left_old left left_new : Option (List ℕ)) (old new : Games) (a b : O
       → IfSome left_old (λ s. (length s ≤ 2 ^ 62) × IsListed s None a b)
   all_listed end =
       Consumes-whole left_old left_new (so.bytes ++ end.more) (λ s. (length s ≤ 2 ^ 62) × IsListed s None a b)
-      (all end.more end.consumed) end.have_read_all.at_end (end.have_read_all.short, record {
-        fault = end.have_read_all.has_read.passes;
-        written = subst (λ gs. Appends a b (lines_from 1 gs)) (sym end.no_game) so.written;
-      })
+      (all end.more end.consumed) end.have_read_all.at_end (
+        end.have_read_all.short,
+        record {
+          fault = end.have_read_all.has_read.passes;
+          written = subst (λ gs. Appends a b (lines_from 1 gs)) (sym end.no_game) so.written;
+        },
+      )
 
   no_more : (u : List ℕ) → ReadsNoGame list_profile so.tokens u None None → ListsNoMore u a b
   no_more u none =
@@ -137,10 +140,13 @@ module _ (left_old left left_new : Option (List ℕ)) (old new : Games) (a b : O
           → CountsDevices h.reason s t 0 0 → ListStops left_old left_new a b (Refused h)
       by_stops ts reads (Stops.unwritten at writing) same counts = absurd (omega (arith, counts.1))
       by_stops ts reads (Stops.refused h fault gains) same counts =
-          ListStops.refused h (reads h fault (λ s. IsRefused list_profile s h × IsListed s (Some h) a b) (λ s refused is. (refused, record {
-            fault = ap (λ (r : Read). r.fault) is ∙ fault;
-            written = subst (λ gs. Appends a b (lines_from 1 gs)) (sym same ∙ ap (λ (r : Read). r.progress.games) (sym is)) so.written;
-          })))
+          ListStops.refused h (reads h fault (λ s. IsRefused list_profile s h × IsListed s (Some h) a b) (λ s refused is. (
+            refused,
+            record {
+              fault = ap (λ (r : Read). r.fault) is ∙ fault;
+              written = subst (λ gs. Appends a b (lines_from 1 gs)) (sym same ∙ ap (λ (r : Read). r.progress.games) (sym is)) so.written;
+            },
+          )))
 
       by_stop : {h : Fault} → NextStops list_profile so.bytes so.tokens left left_new most None None h
           → CountsDevices h.reason s t 0 0 → ListStops left_old left_new a b (Refused h)

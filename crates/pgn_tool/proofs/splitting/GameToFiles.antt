@@ -238,10 +238,13 @@ module _ {A : Type 0} (taken : A → Option (List ℕ)) (failures : A → ℕ) (
           let is_own : IsOwn h.reason = rw fault at (read_own list_profile no_progress ts) in
           let clean = clean_at h is_own counts in
           let files = logs before after _ (files_left ts gains same clean) in
-          own h clean (SplitStops.rejected h (reads h fault (λ s. IsRefused list_profile s h × IsSplit s h before after) (λ s refused is. (refused, record {
-            fault = ap (λ (r : Read). r.fault) is ∙ fault;
-            files = rw is files;
-          }))))
+          own h clean (SplitStops.rejected h (reads h fault (λ s. IsRefused list_profile s h × IsSplit s h before after) (λ s refused is. (
+            refused,
+            record {
+              fault = ap (λ (r : Read). r.fault) is ∙ fault;
+              files = rw is files;
+            },
+          ))))
 
       by_stop : {h : Fault} → NextStops list_profile so.bytes so.tokens left left_new most none some h
           → CountsDevices h.reason s t 0 (failures_in failures file) → Stopped h
