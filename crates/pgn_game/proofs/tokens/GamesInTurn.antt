@@ -1,5 +1,5 @@
 -- Games read in turn from a source.
-use Rattle.pgn_game.proofs.Words.{Token, Fault, Profile, Game, no_part, ◌≡◌, ℕ, ◌+◌, ◌^◌, ◌≤◌, Bool, true, false, List, [], ◌∷◌, ◌++◌, length, Option, None, Some, Result, Ok, Err, refl, sym, ap, subst, ◌∙◌, inl, inr, append-nil, append_assoc, length-append, arith, Consumes-nil, tokens_of, decided, coming, first, Gains, Games, games_of, HasReadAll, HaveRead, within, at_end, NextGame, NoGame, NextStops, AfterNext, IsTrue, is_ok, text_of_games as text_of, whole, next, Progress, read, read_from, written_so_far as written, Converter, AfterFinish, Finishes, FinishesToFault, rules, Reason, refusal, Next, going, progress_with, Read, finished_game_of, HasRead, no_progress, Device, FinishedGame, game_in_reader, AreNext, IsKnown, Stands, MoreSoFar, StandsWithin, EndsGame}
+use Rattle.pgn_game.proofs.Words.{Token, Fault, Profile, Game, no_part, ◌≡◌, ℕ, ◌+◌, ◌^◌, ◌≤◌, Bool, true, false, List, [], ◌∷◌, ◌++◌, length, Option, None, Some, Result, Ok, Err, refl, sym, ap, subst, ◌∙◌, inl, inr, append-nil, length-append, arith, Consumes-nil, tokens_of, decided, coming, first, Gains, Games, games_of, HasReadAll, HaveRead, within, at_end, NextGame, NoGame, NextStops, AfterNext, IsTrue, is_ok, text_of_games as text_of, whole, next, Progress, read, read_from, written_so_far as written, Converter, AfterFinish, Finishes, FinishesToFault, rules, Reason, refusal, Next, going, progress_with, Read, finished_game_of, HasRead, no_progress, Device, FinishedGame, game_in_reader, IsKnown, Stands, MoreSoFar, StandsWithin, EndsGame}
 use Rattle.pgn_game.specs.declared.marker.Mark.{Mark}
 use Rattle.pgn_game.specs.GamesCalls as games_calls
 use Rattle.pgn_game.specs.GamesCalls.{ReadsNoGame}
@@ -7,7 +7,6 @@ use Rattle.pgn_game.specs.GamesSteps as games_steps
 use Rattle.pgn_game.specs.GamesSteps.{MeetsNext, ReadsAllOf, StopsBefore, UsesAll}
 use Rattle.pgn_game.proofs.tokens.OneMoreToken.{read-passes, read-refuses, stops_from, torn-none, gains_none, gains_more, stops_more, games_still}
 use Rattle.pgn_game.proofs.tokens.OneMoreToken.{counts_still}
-use Rattle.pgn_game.proofs.tokens.AcceptedToConverter.{follows_first}
 use Rattle.pgn_game.proofs.tokens.BytesToMarker.{follows_none}
 use Rattle.pgn_game.proofs.tokens.LastTokens.{AddsOne, left_games, left_none_begun}
 use Rattle.pgn_game.proofs.tokens.MarkerToGame.{fault_not_taken, fault_of_marker, gains_known, gains_marker, game_by_marker, has_read_marker}

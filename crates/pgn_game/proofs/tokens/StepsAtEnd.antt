@@ -1,7 +1,7 @@
 -- Steps behind the last piece, and how small the counts stay.
 use Rattle.pgn_lexer.specs.Tokens as tokens
 use Rattle.pgn_lexer.specs.PartialToken.{refusal as refusal_token}
-use Rattle.pgn_game.proofs.Words.{Kind, Token, Stage, Between, Reason, Lexical, Fault, Profile, Pair, Item, Game, Part, no_part, ◌≡◌, ℕ, ◌+◌, ◌<◌, ◌≤◌, Bool, true, false, ◌&&◌, List, [], ◌∷◌, ◌++◌, Option, None, Some, Result, Ok, Err, is_ok, refl, sym, subst, append-nil, append_assoc, Appends, arith, ◌*◌, ◌^◌, IsTrue, is_some, Device, tokens_of, Standing, waiting, HasLeft, IsNext, FinishGivesToken, More, refusal, is_end, marker_of, Marker, next, gain, progress_with, Progress, read, ReaderState, Agrees, HoldsPairs, as_written, CountsWrites, Keeps, TakesToken, AfterStepAtEnd, ReadsMore, due_as, part_after, outcome_at, fault_of_step, LexFault, Converter, IsSound, game_in_reader_if, HasRead, FinishedGame, Stands, CountsFault, CountsReason, IfOk, IsStill, rules, ap, ◌∙◌, coming, none-some, false≢true, Follows}
+use Rattle.pgn_game.proofs.Words.{Kind, Token, Stage, Between, Reason, Lexical, Fault, Profile, Pair, Item, Game, Part, no_part, ◌≡◌, ℕ, ◌+◌, ◌<◌, ◌≤◌, Bool, true, false, ◌&&◌, List, [], ◌∷◌, ◌++◌, Option, None, Some, Result, Ok, Err, is_ok, refl, sym, subst, append-nil, append_assoc, Appends, arith, ◌*◌, ◌^◌, IsTrue, is_some, Device, tokens_of, Standing, waiting, HasLeft, IsNext, FinishGivesToken, More, refusal, is_end, marker_of, Marker, next, gain, progress_with, Progress, read, ReaderState, Agrees, HoldsPairs, as_written, CountsWrites, Keeps, TakesToken, AfterStepAtEnd, ReadsMore, due_as, part_after, outcome_at, fault_of_step, LexFault, Converter, IsSound, game_in_reader_if, HasRead, FinishedGame, Stands, CountsFault, CountsReason, IsStill, rules, ap, ◌∙◌, coming, none-some, false≢true, Follows}
 use Rattle.pgn_game.specs.PutResult.{TakesUnlessMarker}
 use Rattle.pgn_game.specs.ConverterSteps.{IsReadyAfter, StepAdvances, StepAtEndAdvances, is_ended}
 use Rattle.pgn_game.proofs.tokens.OneMoreToken.{read-passes}

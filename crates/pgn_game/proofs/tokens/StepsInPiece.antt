@@ -4,7 +4,7 @@ use Rattle.pgn_game.specs.declared.marker.Mark.{Mark}
 use Rattle.pgn_game.specs.declared.converter.Met.TheVariants.{Token as Other, Marker as AtMarker}
 use Rattle.pgn_game.specs.declared.converter.Met.{Met}
 use Rattle.pgn_game.specs.ConverterSteps.{AfterSteps, ReadsPiece, ReadsToMarker, FailsIn}
-use Rattle.pgn_game.proofs.Words.{Reason, InputTooLong, Fault, Profile, take-append-drop, take-take, drop-take, drop-drop, Token, tokens_of, decided, Follows, IsDecided, first, still, Standing, StandsAfter, ReaderState, as_written, Converter, Stands, Reaches, EndsWithin, StopsIn, within_limit, too_long, CountsReason, ◌≡◌, ℕ, ◌+◌, ◌-◌, ◌<◌, ◌≤◌, ◌^◌, zero, suc, List, [], ◌∷◌, ◌++◌, length, take, drop, Option, None, Some, refl, sym, ap, subst, ◌∙◌, append_assoc, append-nil, length-append, length-drop, length-take, le_refl, drop_of_length-le, inl, inr, arith, Result, Ok, Err, take-add, AfterStep, next_at, SoFar, EndsAt}
+use Rattle.pgn_game.proofs.Words.{Reason, InputTooLong, Fault, Profile, take-append-drop, take-take, drop-take, drop-drop, Token, decided, Follows, IsDecided, first, still, Standing, StandsAfter, ReaderState, as_written, Converter, Stands, Reaches, EndsWithin, StopsIn, within_limit, too_long, CountsReason, ◌≡◌, ℕ, ◌+◌, ◌-◌, ◌<◌, ◌≤◌, ◌^◌, zero, suc, List, [], ◌∷◌, ◌++◌, length, take, drop, Option, None, Some, refl, sym, ap, subst, ◌∙◌, append_assoc, append-nil, length-append, length-drop, length-take, le_refl, drop_of_length-le, inl, inr, arith, Result, Ok, Err, take-add, AfterStep, next_at, SoFar, EndsAt}
 use Rattle.pgn_game.proofs.tokens.MarkerToGame.{reads_none, reads_more, meets_more, not_taken_more}
 use Rattle.pgn_game.proofs.tokens.AcceptedToConverter.{next_in_piece, still_none}
 use Rattle.pgn_game.proofs.tokens.BytesWithinLimit.{all_within, front_within}

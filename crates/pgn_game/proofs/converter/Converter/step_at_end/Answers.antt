@@ -1,4 +1,4 @@
-use Rattle.pgn_game.proofs.Words.{Token, Standing, fault_of_step, kind_of, as_written, Keeps, arith, sym, ap, subst, refl, ◌∙◌, ◌≡◌, ◌&&◌, true, false, is_ok, is_end, Converter, HasRead, HasLeft, outcome_at, game_in_reader_if}
+use Rattle.pgn_game.proofs.Words.{Token, fault_of_step, kind_of, as_written, Keeps, arith, sym, ap, subst, refl, ◌∙◌, ◌≡◌, ◌&&◌, true, false, is_ok, is_end, Converter, HasRead, HasLeft, outcome_at, game_in_reader_if}
 use Rattle.pgn_game.proofs.tokens.StepsAtEnd.{Left, Nearer, closes_end, closes_token, closes_fault, kept, left_by, nearer_by, not_just_finished, counts_token}
 use Rattle.pgn_game.proofs.tokens.StepsAtEnd.{advances_at_end, counts_ok, goes_on_at, no_fault_if_ok, ready_at_end, sound_at_end, sound_behind, sound_behind_fault, sound_if_not_ok}
 use Rattle.pgn_game.proofs.tokens.AcceptedToConverter.{written_same}
