@@ -244,10 +244,6 @@ pub still_none : (b : Option ℕ) (piece : List ℕ) → 0 < length piece → st
 still_none b [] h = absurd (omega arith)
 still_none b (x ∷ xs) h = refl
 
-pub still_none-none : (piece : List ℕ) → still None piece ≡ None
-still_none-none [] = refl
-still_none-none (x ∷ xs) = refl
-
 -- where nothing was read, nothing was gained
 pub gains_as_none : (w p : Profile) (given : List Token) {a c : Option (List ℕ)} → c ≡ a → GainsAs w p given given a c
 gains_as_none w p given {a} same = record { text = []; due_for = sym (append-nil (due_as w p given)); appended = rw same (Appends-nil a) }

@@ -42,7 +42,7 @@ ReadAs left ts =
     → (P : List ℕ → Type 0) → ((s : List ℕ) → IsRefused list_profile s f → read list_profile (tokens_of s) ≡ read list_profile ts → P s) → IfSome left P
 
 -- the bytes so far begin with those of them before place 2^62
-pub cut_at_limit : (u rest : List ℕ) → u ++ rest ≡ within_limit u ++ (drop (2 ^ 62) u ++ rest)
+cut_at_limit : (u rest : List ℕ) → u ++ rest ≡ within_limit u ++ (drop (2 ^ 62) u ++ rest)
 cut_at_limit u rest =
     ap (λ v. v ++ rest) (sym (take-append-drop (2 ^ 62) u)) ∙ append_assoc (within_limit u) (drop (2 ^ 62) u) rest
 
