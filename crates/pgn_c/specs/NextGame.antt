@@ -100,7 +100,8 @@ pub record IsGame (p : Profile) (s : List ℕ) (result : PgnGame) (before after 
   pub wrote : Appends before after (game_text p game)
   pub is_result : result ≡ game_result game marker at.at result.end
 
--- No game is left, no token is rejected, and the text has no byte at place 2^62. Nothing is written.
+-- No game is left, no token is rejected, and the text has no byte at place 2^62. Nothing is
+-- written.
 pub record HasNoGame (p : Profile) (s : List ℕ) (result : PgnGame) (before after : Option (List ℕ)) : Type 0 where
   pub short : length s ≤ 2 ^ 62
   pub passes : (read p (tokens_of s)).fault ≡ None
@@ -119,7 +120,8 @@ pub record IsRejected (p : Profile) (s : List ℕ) (result : PgnGame) (before af
   pub wrote : Appends before after (due p tokens)
   pub is_result : result ≡ fault_result (status_for 1 fault.reason) fault (position_at_fault (read p tokens))
 
--- The text so far rejects no token and has no game and no byte at place 2^62, but its end is a fault.
+-- The text so far rejects no token and has no game and no byte at place 2^62, but its end is a
+-- fault.
 pub record NeedsMore (p : Profile) (s piece : List ℕ) (result : PgnGame) (before after : Option (List ℕ)) : Type 0 where
   pub short : length s ≤ 2 ^ 62
   pub fault : Fault

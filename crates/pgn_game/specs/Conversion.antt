@@ -44,8 +44,8 @@ pub record ReadsNoMore (p : Profile) (u : List ℕ) (before after : Option (List
   pub passes : (read p (decided u)).fault ≡ None
   pub appended : Appends before after (due p (decided u))
 
--- How a conversion of a slice fails: by the text's own fault, which its bytes before place 2^62 show;
--- because a write failed; or since the slice is too long.
+-- How a conversion of a slice fails: by the text's own fault, which its bytes before place 2^62
+-- show; because a write failed; or since the slice is too long.
 pub data FailsOn (p : Profile) (text : List ℕ) (before after : Option (List ℕ)) : Fault → Type 0 where
   refused : (f : Fault) → IsRefused p text f → IsConverted p text (is_refused f) before after → FailsOn p text before after f
   unwritten : (at : ℕ) → StopsWriting p [] (tokens_of text) at before after → FailsOn p text before after (record { at = at; reason = WriteFault })

@@ -108,8 +108,8 @@ pub record ReadsNoGame (p : Profile) (given : List Token) (u : List ℕ) (before
   pub reads : ReadsUpTo p given u before after
   pub no_game : (read p reads.tokens).progress.games ≡ (read p given).progress.games
 
--- How a call stops: at a token that the bytes before place 2^62 decide; at the end of the text, which
--- has no byte there; because a read failed; or since the byte at place 2^62 came.
+-- How a call stops: at a token that the bytes before place 2^62 decide; at the end of the text,
+-- which has no byte there; because a read failed; or since the byte at place 2^62 came.
 pub data NextStops (p : Profile) (u : List ℕ) (given : List Token) (left_old left_new : Option (List ℕ)) (most : ℕ) (before after : Option (List ℕ)) : Fault → Type 0 where
   at_token : (f : Fault) (more : List ℕ) → Consumes left_old left_new more → StopsAtToken p (within_limit (u ++ more)) given most f before after
       → NextStops p u given left_old left_new most before after f

@@ -93,9 +93,9 @@ pub record CutsFile (u : List ℕ) (why : Unsplit) (before after : Option (List 
       ≡ text_of list_profile (read list_profile front).progress.games ++ text
   pub files : IfSome before (λ log. LogsCut log after (texts_in front) text (length (torn_text front)))
 
--- How a split stops: at the input's own fault, which its bytes before place 2^62 show; because a read
--- failed behind the bytes u; because the byte at that place came; or because a file could not be
--- made or written when the bytes u were read.
+-- How a split stops: at the input's own fault, which its bytes before place 2^62 show; because a
+-- read failed behind the bytes u; because the byte at that place came; or because a file could not
+-- be made or written when the bytes u were read.
 pub data SplitStops (left_old left_new : Option (List ℕ)) (before after : Option (List FileStep)) : Unsplit → Type 0 where
   rejected : (f : Fault) → IfSome left_old (λ s. IsRefused list_profile s f × IsSplit s f before after)
       → SplitStops left_old left_new before after (Refused f)
