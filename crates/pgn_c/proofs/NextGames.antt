@@ -9,7 +9,7 @@ use Rattle.pgn_game.specs.TagSection.{exported}
 use Rattle.pgn_game.specs.Game.{Game}
 use Rattle.pgn_game.specs.Due.{Gains}
 use Rattle.pgn_game.specs.ConverterCalls.{Converter, FinishedGame, finished_game_of, finished_game_value, IsLast, Stands, StopsWriting, Stops, refused, unwritten, FedAll, FedGame, FedToFault, within_limit, StopsIn, at_token, too_long, Finishes, FinishesToFault, games_before, position_at_stop, refused_position, reported_position}
-use Rattle.pgn_game.specs.GameEnds.{EndsByMarker, GamesEndByMarker, TextsEndBehindMarker, TextsEndBetweenGames}
+use Rattle.pgn_game.specs.GameEnds.{GamesEndByMarker, TextsEndBehindMarker, TextsEndBetweenGames}
 
 -- ---- a marker
 

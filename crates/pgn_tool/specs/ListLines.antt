@@ -89,8 +89,8 @@ pub record CutsLine (u : List ℕ) (before after : Option (List ℕ)) : Type 0 w
   pub front : Appends before after (take count (list_text u))
 
 -- How a list stops: at the input's own fault, which its bytes before place 2^62 show; because a
--- read failed after the bytes u; because the input has a byte at that place; or because a line could
--- not be written when the bytes u were read.
+-- read failed after the bytes u; because the input has a byte at that place; or because a line
+-- could not be written when the bytes u were read.
 pub data ListStops (left_old left_new : Option (List ℕ)) (before after : Option (List ℕ)) : Stopped → Type 0 where
   refused : (f : Fault) → IfSome left_old (λ s. IsRefused list_profile s f × IsListed s (Some f) before after)
       → ListStops left_old left_new before after (Refused f)
