@@ -59,7 +59,7 @@ fn main() {
             catch_unwind(|| resolve(&position, &form, &mut with_room_for(room)).is_ok()).is_err(),
             catch_unwind(|| resolve_move(&position, &form, &mut with_room_for(room)).is_ok())
                 .is_err(),
-            catch_unwind(|| origins_of_form(&position, &form, &mut with_room_for(56 + room)))
+            catch_unwind(|| origins_of_form(&position, &form, &mut with_room_for(room)))
                 .is_err(),
             catch_unwind(|| write_san(&position, &played, &mut with_room_for(1024 + room)))
                 .is_err(),
@@ -173,7 +173,7 @@ class Built(unittest.TestCase):
                  for it in re.finditer(r"catch_unwind\(\|\|", SAMPLE_OF_ROOM)]
         self.assertEqual(re.findall(r"sample\.rs:(\d+):", said), [str(it) for it in lines])
         rooms = re.findall(r"the count of Probes has room for ([\d,]+) more", said)
-        self.assertEqual(rooms, ["1", "1,024", "8", "8", "64", "1,032"])
+        self.assertEqual(rooms, ["1", "1,024", "8", "8", "8", "1,032"])
 
     def build_libraries(self):
         ran = cargo("build", "--lib", *("--package=" + it for it in LIBRARIES))

@@ -4,7 +4,7 @@ pub use Rattle.chess_rules.specs.Board.{Board, at, cell_of, has_colour, has_piec
 pub use Rattle.chess_rules.specs.Board.{some_piece}
 pub use Rattle.chess_rules.specs.Candidate.{candidates, is_candidate, kinds, lone, sees}
 unfoldable pub use Rattle.chess_rules.specs.Candidate.{pair_count}
-pub use Rattle.chess_rules.specs.Laws.{CandidatesComplete, CasesApart, FewCandidates, LeavesPosition, PromotionsAlike}
+pub use Rattle.chess_rules.specs.Laws.{CandidatesComplete, CasesApart, FewCandidates, LeavesPosition, PromotionsAlike, StepsFromCandidates}
 pub use Rattle.chess_rules.specs.Legal.{every_promotion, has_legal_move, if_safe, is_check, is_legal, legal}
 pub use Rattle.chess_rules.specs.Pairs.{Counts, is_king_step, is_untried, is_untried_aligned, one_move}
 unfoldable pub use Rattle.chess_rules.specs.Pairs.{count_king_steps, count_untried, has_king_step, has_untried_move, is_legal_pair}
@@ -14,7 +14,7 @@ pub use Rattle.chess_rules.specs.Reach.{slides, square_at}
 pub use Rattle.chess_rules.specs.Square.{Square, between_on_diagonal, between_on_file, between_on_rank, gap, in_line, inside, is_adjacent, is_jump}
 pub use Rattle.chess_rules.specs.Square.{lines, on_board, on_diagonal, same_square, square, strictly_between}
 unfoldable pub use Rattle.chess_rules.specs.Square.{squares}
-pub use Rattle.chess_rules.specs.Step.{Wing, after, board_after, captured_pawn, carried, castled, castles, castles_long, castles_short, crossed, double_rank, en_passant_board, full_after, half_after, home, home_rank, is_advance, is_double_step, is_en_passant, is_on_board, is_pawn_capture, is_pawn_step, is_pawn_way, is_piece_step, is_target, keeps, kind_of, last_rank, long_right, long_wing, own, pawn_rank, promoted, promotion_fits, rights_after, short_right, short_wing, target_after}
+pub use Rattle.chess_rules.specs.Step.{Wing, after, board_after, captured_pawn, carried, castled, castles, castles_long, castles_short, crossed, double_rank, en_passant_board, full_after, half_after, home, home_rank, is_advance, is_double_step, is_en_passant, is_on_board, is_pawn_capture, is_pawn_step, is_pawn_way, is_piece_step, is_target, keeps, kind_of, last_rank, long_right, long_wing, own, pawn_rank, promoted, promotion_fits, rights_after, short_right, short_wing, step, target_after}
 unfoldable pub use Rattle.chess_rules.specs.StepKinds.{step_kind}
 pub use Rattle.chess_rules.specs.StoredPosition.{FitsPosition, parts_of}
 pub use Rattle.chess_rules.specs.Words.{AreWords, Bits, HasNone, IsFirst, IsFrom, IsHighest, IsLowest, IsOnly, IsUpTo, Places, Sets, TakesLowest, cell_in, coded}

@@ -9,7 +9,7 @@ use Rattle.chess_rules.specs.declared.position.Parts.{Parts}
 use Rattle.chess_rules.specs.Square.{Square, on_board}
 use Rattle.chess_rules.specs.Board.{at, has_piece}
 use Rattle.chess_rules.specs.Position.{is_position}
-use Rattle.chess_rules.specs.Step.{own, cases}
+use Rattle.chess_rules.specs.Step.{own, cases, step}
 use Rattle.chess_rules.specs.Legal.{legal, is_legal}
 use Rattle.chess_rules.specs.Candidate.{is_candidate, candidates}
 
@@ -31,6 +31,13 @@ abbrev pub CandidatesComplete : Type 0
 CandidatesComplete =
     (p q : Parts) (m : Move) (k : Kind)
     → legal p m ≡ Some q → IsTrue (own p k m.from) → IsTrue (is_candidate p k m.to m.from)
+
+-- The origin of each step is such a candidate too, whether or not its king is safe afterwards. So
+-- what is no candidate has no step.
+abbrev pub StepsFromCandidates : Type 0
+StepsFromCandidates =
+    (p q : Parts) (m : Move) (k : Kind)
+    → step p m ≡ Some q → IsTrue (own p k m.from) → IsTrue (is_candidate p k m.to m.from)
 
 -- no square has more than 8 candidates of one kind
 abbrev pub FewCandidates : Type 0

@@ -1,7 +1,7 @@
 //! Laws of the definitions of play: what they promise for all positions, or even for all parts. The
 //! functions do nothing: their contracts are the laws.
 
-ghost use Rattle.chess_rules.specs.Laws.{CandidatesComplete, CasesApart, FewCandidates, LeavesPosition, OneAfter, OneKing, PromotionsAlike};
+ghost use Rattle.chess_rules.specs.Laws.{CandidatesComplete, CasesApart, FewCandidates, LeavesPosition, OneAfter, OneKing, PromotionsAlike, StepsFromCandidates};
 
 /// No move is a step in two of the five ways.
 ///
@@ -27,6 +27,14 @@ pub fn a_legal_move_leaves_a_position()
 /// Castling, en passant, double steps and promotions are included.
 pub fn candidates_are_complete()
     ensures { CandidatesComplete }
+{}
+
+/// The origin of each step (pseudo-legal move) is a candidate of its kind for its target.
+///
+/// So what is no candidate has no step. Castling, en passant, double steps and promotions are
+/// included.
+pub fn steps_are_from_candidates()
+    ensures { StepsFromCandidates }
 {}
 
 /// No square has more than eight candidates of one kind.

@@ -104,7 +104,7 @@ pub fn has_legal_move(position: &Position, probes: &mut Probes) -> bool
         return true;
     }
     // In check, the targets that may meet the check come first. Of the moves to the others only en
-    // passant can meet it. They are tried too: if no pair is legal, all are counted.
+    // passant can meet it. If it cannot, their pairs are counted together, and none is tried alone.
     let first = evasion_targets(position.board(), position.side().other(), position.king());
     let others = !first;
     if has_other_move_to(position, first, probes) {

@@ -4,7 +4,8 @@ ghost use Rattle.std.specs.Prelude.{◌≡◌, ◌+◌, ◌<◌, ◌^◌};
 
 use std::marker::Model;
 
-/// Counts the pairs of an origin and a target that are tried for legality.
+/// Counts the pairs of an origin and a target that are tried for legality: by a call of
+/// [`try_pair`](crate::try_pair), or in [`has_legal_move`](crate::has_legal_move).
 #[derive(Clone, Copy, PartialEq, Eq, Debug)]
 pub struct Probes {
     count: u32,

@@ -1,6 +1,7 @@
 //! One step (pseudo-legal move) of the side to move: its kind, its rules, and the board after it.
 
-ghost use Rattle.std.specs.Prelude.{◌≡◌, ◌<◌, ◌||◌, IsTrue, Some, is_some};
+ghost use Rattle.std.specs.Prelude.{◌≡◌, ◌<◌, ◌||◌, IsTrue, None, Some, is_some};
+ghost use Rattle.chess_rules.specs.Legal.{legal};
 ghost use Rattle.chess_rules.specs.Step as spec;
 ghost use Rattle.chess_rules.specs.StepKinds as step_kinds;
 ghost use Rattle.chess_rules.specs.declared.piece.Kind.TheVariants.{Pawn};
@@ -199,14 +200,16 @@ fn is_plain_step(position: &Position, mv: &Move) -> bool
         && is_clear(board, mv.from, mv.to)
 }
 
-/// Returns whether the move is a step (pseudo-legal move). (FIDE Laws 3.1 to 3.8)
+/// Returns whether a move that is not legal is a step (pseudo-legal move). (FIDE Laws 3.1 to 3.8)
+///
+/// It explains why [`try_pair`](crate::try_pair) returned `None` for the move. Then a step is a move
+/// that leaves its king in check. The move must not be legal: this does not test it, and counts no
+/// pair. So [`try_pair`](crate::try_pair) and [`has_legal_move`](crate::has_legal_move) alone tell
+/// what is legal.
 ///
 /// A piece of the side to move is on the origin, and the rules of movement let it go to the target,
 /// with this promotion or without one. Castling is a step only if the other side attacks none of
 /// the squares that the king leaves, crosses and reaches (FIDE Laws 3.8.2.2).
-///
-/// This does not ask whether the king would be in check afterwards. [`try_pair`](crate::try_pair)
-/// and [`has_legal_move`](crate::has_legal_move) decide what is legal.
 ///
 /// # Examples
 ///
@@ -226,10 +229,11 @@ fn is_plain_step(position: &Position, mv: &Move) -> bool
 ///     position = try_pair(&position, mv, &mut probes).unwrap();
 /// }
 /// let a6 = mv(square(0, 6), square(0, 5));
-/// assert!(is_step(&position, &a6));
 /// assert!(try_pair(&position, a6, &mut probes).is_none());
+/// assert!(is_step(&position, &a6));
 /// ```
 pub fn is_step(position: &Position, mv: &Move) -> bool
+    requires { legal position.now mv.now ≡ None }
     ensures { result ≡ is_some (spec.step position.now mv.now) }
 {
     is_step_of_kind(position, mv, kind_of_step(position, mv))

@@ -24,9 +24,9 @@ pub use Rattle.std.specs.Option.{ok_or, option_to_list}
 pub use Rattle.std.specs.Prelude.{Err, IfSome, IsTrue, None, Ok, Option, Result, Some, bytes_eq, codes, count_by, decimal, find, flat_map, fold, if◌then◌else◌, is_err, is_none, is_ok, is_some, nat_lt, option_map, slice_index_or, slice_set, sum_by, ◌==◌, ◌↔◌}
 pub use Rattle.std.specs.Result.{OnOk}
 pub use Rattle.chess_rules.specs.Attacks.{attacks, cell_attacks, is_ahead, king_attacked}
-pub use Rattle.chess_rules.specs.Board.{Board, at, has_colour, has_piece, is_empty, other, same_colour, same_kind}
+pub use Rattle.chess_rules.specs.Board.{Board, at, has_colour, has_piece, cell_of, is_empty, other, same_colour, same_kind}
 pub use Rattle.chess_rules.specs.Candidate.{candidates, is_candidate, lone, sees}
-pub use Rattle.chess_rules.specs.Laws.{CandidatesComplete, OneKing}
+pub use Rattle.chess_rules.specs.Laws.{CandidatesComplete, OneKing, StepsFromCandidates}
 pub use Rattle.chess_rules.specs.Legal.{every_promotion, if_safe, is_check, is_legal, is_mate, legal}
 pub use Rattle.chess_rules.specs.Position.{built_unless, initial, is_position, one_king, pawn_on_edge, position_fault, target_fits, target_rank}
 pub use Rattle.chess_rules.specs.Square.{Square, gap, is_adjacent, lines, on_board, same_square, square}
@@ -48,8 +48,8 @@ pub use Rattle.chess_text.specs.Field.{is_digit, is_target, number_of, or_dash, 
 pub use Rattle.chess_text.specs.Field.{target_text, value}
 pub use Rattle.chess_text.specs.Form.{Spells, SpellsBare, SpellsPieceMove, bare_form, before_capture, before_file, before_marks, before_promotion, before_rank, before_sign, before_target, below_eight, capture_texts, castle_of, castle_or, castle_texts, file_at_end, file_of, form_of, front, front_if, hint_text, is_among, is_form, is_mark, kind_of_text, last_byte, letter_texts, piece_move_if, piece_move_of, promotion_at_end, promotion_letter, promotion_of, promotion_texts, promotions, rank_at_end, rank_of, square_of, target_at_end}
 pub use Rattle.chess_text.specs.FormOrigins.{LegalOriginsDecide, count_legal, form_move, is_legal_kind, is_step_of_form, kind_of_move, nth_square}
-pub use Rattle.chess_text.specs.FormOrigins.{origin_kind, step_count}
-unfoldable pub use Rattle.chess_text.specs.FormOrigins.{count_steps, origins_of_form}
+pub use Rattle.chess_text.specs.FormOrigins.{origin_kind}
+unfoldable pub use Rattle.chess_text.specs.FormOrigins.{origins_of_form}
 pub use Rattle.chess_text.specs.Laws.{CanonicalIsShortest, Names, NoMoveIsRead, ShorterIsAmbiguous, SingleReading, TheOneMoveIsRead}
 pub use Rattle.chess_text.specs.Laws.{TwoMovesAreAmbiguous, disambiguations, text_with}
 pub use Rattle.chess_text.specs.Letter.{file_letter, kinds, letter, piece_letter, rank_digit, square_text}

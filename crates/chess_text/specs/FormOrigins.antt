@@ -52,13 +52,6 @@ origin_kind p f s = kind_of_move p f (form_move p.side f s)
 unfoldable pub origins_of_form : Parts → Form → List OriginKind
 origins_of_form p f = map (origin_kind p f) squares
 
--- How many pairs are tried: one for each square with such a step.
-abbrev pub step_count : Parts → Form → Square → ℕ
-step_count p f s = if is_step_of_form p f (form_move p.side f s) then 1 else 0
-
-unfoldable pub count_steps : Parts → Form → ℕ
-count_steps p f = count_by (λ s. is_step_of_form p f (form_move p.side f s)) squares
-
 -- the square with that place among all, rank by rank from a1
 abbrev pub nth_square : ℕ → Square
 nth_square n = square (n % 8) (n / 8)

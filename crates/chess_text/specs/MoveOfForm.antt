@@ -95,7 +95,8 @@ abbrev pub with_next_position : Parts → Result Move SanFault → Result Played
 with_next_position p (Ok m) = ok_or (with_next m (legal p m)) NoMove
 with_next_position p (Err fault) = Err fault
 
--- How many pairs are tried to find it; if two moves agree, at most so many.
+-- How many pairs are tried to find it, at most so many if two moves agree; and how many to explain
+-- the form.
 abbrev pub form_pairs : Parts → Form → ℕ
 form_pairs p (Castle long) = 1
 form_pairs p (Man k file rank to promotion) = length (candidates p k to)

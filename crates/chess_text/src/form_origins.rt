@@ -1,13 +1,16 @@
 //! From which squares a form's move is a step (pseudo-legal move), and from which it is legal.
 
-ghost use Rattle.std.specs.Prelude.{◌≡◌, ◌+◌, ◌<◌, ◌≤◌, ◌^◌, IsTrue, is_some};
+ghost use Rattle.std.specs.Prelude.{◌≡◌, ◌+◌, ◌<◌, ◌≤◌, ◌^◌, IsTrue, is_some, length};
+ghost use Rattle.chess_rules.specs.Board.{cell_of};
+ghost use Rattle.chess_rules.specs.Candidate.{candidates};
 ghost use Rattle.chess_rules.specs.Step.{step};
 ghost use Rattle.chess_text.specs.FormOrigins as spec;
-ghost use Rattle.chess_text.specs.MoveOfForm.{describes as is_described};
+ghost use Rattle.chess_text.specs.MoveOfForm.{describes as is_described, form_pairs};
 
 use crate::form::Form;
 use crate::resolution::{Hints, castling_move, has_own, is_castling};
-use chess_rules::{Colour, Kind, Move, Position, Probes, Square, is_step, try_pair};
+use chess_rules::laws::steps_are_from_candidates;
+use chess_rules::{Colour, Kind, Move, Position, Probes, Square, is_step, origins, try_pair};
 
 /// What the rules say of a form's move from one square.
 #[derive(Clone, Copy, PartialEq, Eq, Debug)]
@@ -52,7 +55,8 @@ impl Form {
 /// `resolve` returns a move exactly if one square is `Legal`. The law
 /// [`legal_origins_decide`](crate::laws::legal_origins_decide) says so.
 ///
-/// This counts one pair for each square that is not `NoStep`. The count must have room for 64.
+/// This counts the pairs that it tries: one for castling, and for another form one for each member
+/// of `origins`. From no other square is the form's move a step. The count must have room for 8.
 ///
 /// # Examples
 ///
@@ -70,40 +74,55 @@ impl Form {
 /// assert_eq!(kinds[4], OriginKind::NoStep);
 /// ```
 pub fn origins_of_form(position: &Position, form: &Form, probes: &mut Probes) -> [OriginKind; 64]
-    requires { probes.old + 64 < 2 ^ 32 }
+    requires { probes.old + 8 < 2 ^ 32 }
     ensures kinds { result ≡ spec.origins_of_form position.now form.now }
-    ensures count { probes.new ≡ probes.old + spec.count_steps position.now form.now }
-    ensures most { probes.new ≤ probes.old + 64 }
+    ensures count { probes.new ≡ probes.old + form_pairs position.now form.now }
+    ensures most { probes.new ≤ probes.old + 8 }
 {
+    steps_are_from_candidates();
     let mut kinds = [OriginKind::NoStep; 64];
-    for index in 0..64 {
-        kinds[index] = origin_kind(position, form, nth_square(index as u8), probes);
+    match *form {
+        Form::Castle { long } => {
+            let origin = castling_move(position.side(), long).from;
+            kinds[place(origin)] = origin_kind(position, form, origin, probes);
+        }
+        Form::Man { kind, to, .. } => {
+            let origins = origins(position, kind, to);
+            for origin in origins.as_slice() {
+                kinds[place(*origin)] = origin_kind(position, form, *origin, probes);
+            }
+        }
     }
     kinds
 }
 
-// The square with that place among all, rank by rank from a1.
-fn nth_square(index: u8) -> Square
-    requires { index < 64 }
-    ensures { result ≡ spec.nth_square index }
+// The place of the square among all, rank by rank from a1.
+fn place(square: Square) -> usize
+    ensures value { result ≡ cell_of square }
+    ensures below { result < 64 }
+    ensures again { spec.nth_square result ≡ square }
 {
-    Square::new(index % 8, index / 8).unwrap()
+    8 * square.rank() as usize + square.file() as usize
 }
 
 // What the rules say of the form's move from the square.
 fn origin_kind(position: &Position, form: &Form, origin: Square, probes: &mut Probes) -> OriginKind
     requires { probes.old + 1 < 2 ^ 32 }
     ensures kind { result ≡ spec.origin_kind position.now form.now origin }
-    ensures count { probes.new ≡ probes.old + spec.step_count position.now form.now origin }
+    ensures count { probes.new ≡ probes.old + 1 }
 {
     let mv = form_move(position.side(), form, origin);
-    if !is_step_of_form(position, form, &mv) {
-        return OriginKind::NoStep;
-    }
     if try_pair(position, mv, probes).is_some() {
-        OriginKind::Legal
-    } else {
+        return if describes(position, form, &mv) {
+            OriginKind::Legal
+        } else {
+            OriginKind::NoStep
+        };
+    }
+    if is_step(position, &mv) && describes(position, form, &mv) {
         OriginKind::Unsafe
+    } else {
+        OriginKind::NoStep
     }
 }
 
@@ -120,14 +139,6 @@ fn form_move(side: Colour, form: &Form, origin: Square) -> Move
         to: form.target(side),
         promotion,
     }
-}
-
-// Whether the form's move is a step, and agrees with the form.
-fn is_step_of_form(position: &Position, form: &Form, mv: &Move) -> bool
-    requires { mv.now ≡ spec.form_move position.now.side form.now mv.now.from }
-    ensures { result ≡ spec.is_step_of_form position.now form.now mv.now }
-{
-    is_step(position, mv) && describes(position, form, mv)
 }
 
 // Whether the form says this of its move, which is a step.

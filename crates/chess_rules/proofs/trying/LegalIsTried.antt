@@ -125,7 +125,7 @@ hit_when p m position h = by_legal (legal_after p m h)
     by_legal (q, l) =
         let (k, owns) = kind_there p.side (at p.board m.from) (board_stays p m l.board sound l.on l.stepped).own in
         by_kind (on_board_means m.from (first_true (on_board m.from) _ l.on))
-        (on_board_means m.to (second_true (on_board m.from) _ l.on)) k owns (step_seen p q m k owns l)
+        (on_board_means m.to (second_true (on_board m.from) _ l.on)) k owns (step_seen p m k l.board owns l.stepped)
 
 promotion_of : (p : Parts) (s t : Square) (os : List (Option Promotion))
     → list_any (λ promotion. is_legal p (record { from = s; to = t; promotion = promotion })) os ≡ true

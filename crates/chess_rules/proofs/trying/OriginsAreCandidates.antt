@@ -1,9 +1,9 @@
--- The origin of each legal move is a candidate.
-use Rattle.chess_rules.proofs.Words.{Colour, Kind, Pawn, Move, Parts, Square, square, gap, inside, same_square, strictly_between, between_on_rank, Board, at, is_empty, has_colour, is_clear, is_ahead, kind_attacks, attacks, own, home, home_rank, pawn_rank, double_rank, is_advance, is_double_step, is_pawn_step, promotion_fits, is_target, crossed, short_right, long_right, short_wing, long_wing, Wing, sees, is_aligned, CandidatesComplete, ◌≡◌, ℕ, ◌+◌, ◌/◌, ◌<◌, true, not, ◌&&◌, ◌||◌, inl, inr, refl, sym, ap₂, subst, arith, ◌==◌, is_none, nat_tests, or_cases, or_left, or_right, and_from}
+-- The origin of each step is a candidate, and so is that of each legal move.
+use Rattle.chess_rules.proofs.Words.{Colour, Kind, Pawn, Move, Parts, Square, square, gap, inside, same_square, strictly_between, between_on_rank, Board, at, is_empty, has_colour, is_clear, is_ahead, kind_attacks, attacks, own, home, home_rank, pawn_rank, double_rank, is_advance, is_double_step, is_pawn_step, promotion_fits, is_target, crossed, short_right, long_right, short_wing, long_wing, Wing, sees, is_aligned, step, if_safe, is_on_board, board_after, after, CandidatesComplete, StepsFromCandidates, ◌≡◌, ℕ, ◌+◌, ◌/◌, ◌<◌, Bool, true, false, Option, None, Some, option_map, if◌then◌else◌, not, ◌&&◌, ◌||◌, inl, inr, refl, sym, ap₂, subst, arith, ◌==◌, is_none, nat_tests, or_cases, or_left, or_right, and_from}
 use Rattle.chess_rules.proofs.sets.AllSquares.{first_true, second_true, each_square, equal_from, equal_tests, not_true}
 use Rattle.chess_rules.proofs.lines.AttackToReach.{near, ahead_gap, attack_seen, clear_if}
 use Rattle.chess_rules.proofs.moves.StepsKeepBoard.{attacks_as, double_ranks, Castles, castles_means}
-use Rattle.chess_rules.proofs.moves.LegalToPosition.{way_of, Legal, legal_means}
+use Rattle.chess_rules.proofs.moves.LegalToPosition.{way_of}
 
 -- what a piece attacks it sees
 seen_by : (k : Kind) (c : Colour) (p : Parts) (s t : Square) → kind_attacks k c p.board s t ≡ true → sees k p s t ≡ true
@@ -97,9 +97,10 @@ by_castling : (p : Parts) (m : Move) (k : Kind) (wing : Wing) → (is_clear p.bo
     → own p k m.from ≡ true → Castles p m wing → sees k p m.from m.to ≡ true
 by_castling p m k wing way h g = grind arith
 
-pub step_seen : (p q : Parts) (m : Move) (k : Kind) → own p k m.from ≡ true → Legal p m q → sees k p m.from m.to ≡ true
-step_seen p q m k h l =
-    elim (way_of p m l.board l.stepped) [
+pub step_seen : (p : Parts) (m : Move) (k : Kind) (b : Board) → own p k m.from ≡ true
+    → board_after p m ≡ Some b → sees k p m.from m.to ≡ true
+step_seen p m k b h stepped =
+    elim (way_of p m b stepped) [
       | inl piece ↦ by_attack p m k h (first_true (attacks p.board m.from m.to) _
           (second_true ((has_colour p.side (at p.board m.from) && not (own p Pawn m.from)) && is_none m.promotion) _ piece.0))
       | inr more ↦ elim more [
@@ -116,5 +117,21 @@ step_seen p q m k h l =
       ]
     ]
 
+-- what the parts after a step say of it
+board_of : (p : Parts) (m : Move) (q : Parts) (on : Bool) (o : Option Board)
+    → (if on then option_map (after p m) o else None) ≡ Some q → (b : Board) × (o ≡ Some b)
+board_of p m q true None h = cc
+board_of p m q true (Some b) h = (b, refl)
+board_of p m q false o h = cc
+
+-- a legal move is a step
+step_of : (o : Option Parts) (q : Parts) → if_safe o ≡ Some q → o ≡ Some q
+step_of o q h = grind arith
+
+pub steps_from_candidates : StepsFromCandidates
+steps_from_candidates p q m k h own =
+    let (b, stepped) = board_of p m q (is_on_board m) (board_after p m) h in
+    and_from _ _ own (step_seen p m k b own stepped)
+
 pub candidates_complete : CandidatesComplete
-candidates_complete p q m k h own = and_from _ _ own (step_seen p q m k own (legal_means p m q h))
+candidates_complete p q m k h own = steps_from_candidates p q m k (step_of (step p m) q h) own
