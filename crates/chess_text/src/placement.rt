@@ -56,13 +56,14 @@ pub(crate) fn push_board(text: &mut ArrayVec<u8, 93>, position: &Position)
     ensures text { text.new.items ≡ placement_text position.now.board }
     ensures short { length text.new.items ≤ 71 }
 {
-    let mut board = [0u8; 72];
-    let mut end = write_rank(&mut board, 0, position, 7);
+    // It is written over zeros, of which those behind it go at the end.
+    let _ = text.try_extend_from_slice(&[0; 72]);
+    let mut end = write_rank(text.as_mut_slice(), 0, position, 7);
     for below in 0..7 {
-        board[end] = b'/';
-        end = write_rank(&mut board, end + 1, position, 6 - below);
+        text.as_mut_slice()[end] = b'/';
+        end = write_rank(text.as_mut_slice(), end + 1, position, 6 - below);
     }
-    let _ = text.try_extend_from_slice(&board[..end]);
+    text.truncate(end);
 }
 
 // Writes the canonical text of a rank, from this place on. Returns where it ends.
@@ -73,7 +74,8 @@ pub(crate) fn push_board(text: &mut ArrayVec<u8, 93>, position: &Position)
 //
 // It is inlined, so that the compiler unrolls its loop, and reads the board once for all ranks.
 #[inline(always)]
-fn write_rank(text: &mut [u8; 72], start: usize, position: &Position, rank: u8) -> usize
+fn write_rank(text: &mut [u8], start: usize, position: &Position, rank: u8) -> usize
+    requires long { length text.old ≡ 72 }
     requires rank { rank < 8 }
     requires room { start + 8 ≤ 72 }
     ensures text { take result text.new
