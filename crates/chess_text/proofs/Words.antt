@@ -24,7 +24,7 @@ pub use Rattle.std.specs.Option.{ok_or, option_to_list}
 pub use Rattle.std.specs.Prelude.{Err, IfSome, IsTrue, None, Ok, Option, Result, Some, bytes_eq, codes, count_by, decimal, find, flat_map, fold, if◌then◌else◌, is_err, is_none, is_ok, is_some, nat_lt, option_map, slice_index_or, slice_set, sum_by, ◌==◌, ◌↔◌}
 pub use Rattle.std.specs.Result.{OnOk}
 pub use Rattle.chess_rules.specs.Attacks.{attacks, cell_attacks, is_ahead, king_attacked}
-pub use Rattle.chess_rules.specs.Board.{Board, at, has_colour, has_piece, cell_of, is_empty, other, same_colour, same_kind}
+pub use Rattle.chess_rules.specs.Board.{Board, at, has_colour, has_piece, is_empty, other, same_colour, same_kind}
 pub use Rattle.chess_rules.specs.Candidate.{candidates, is_candidate, lone, sees}
 pub use Rattle.chess_rules.specs.Laws.{CandidatesComplete, OneKing, StepsFromCandidates}
 pub use Rattle.chess_rules.specs.Legal.{every_promotion, if_safe, is_check, is_legal, is_mate, legal}

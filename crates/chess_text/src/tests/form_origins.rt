@@ -38,7 +38,8 @@ fn wanted(index: usize, row: &[([u8; 2], OriginKind)]) -> OriginKind {
     NoStep
 }
 
-// The text's move is a step from the squares of the row, and from no other. So many pairs are tried.
+// The text's move is a step from the squares of the row, and from no other. `tried` pairs are
+// counted.
 fn explains(rt: &impl Abort, fen: &str, text: &str, tried: u32, row: &[([u8; 2], OriginKind)]) {
     let Ok(position) = read_fen(fen.as_bytes()) else {
         assert!(rt; false, "{fen}");
@@ -67,7 +68,8 @@ fn explains_a_pin(rt: HostRuntime) {
 
 #[test]
 fn explains_what_no_piece_can_do(rt: HostRuntime) {
-    // a rook on a diagonal (it sees the square, so it is tried), a square with a piece of its own side, and pieces of the other side
+    // a rook on a diagonal (it sees the square, so it is tried), a square with a piece of its own
+    // side, and pieces of the other side
     explains(&rt, "4k3/8/8/8/8/8/8/R3K3 w - - 0 1", "Rb2", 1, &[]);
     explains(&rt, FIRST, "Nd2", 1, &[]);
     explains(&rt, FIRST, "Nf6", 0, &[]);
