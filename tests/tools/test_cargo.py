@@ -103,8 +103,10 @@ def read(path):
         return lines.read()
 
 
-# The one line of a library that is another for Cargo.
-INDEX, MASKED_INDEX = "        self.index as usize", "        (self.index % 64) as usize"
+# A line that is another for Cargo.
+INDEX = "        self.index as usize"
+# The heads of the table of these lines.
+OTHER_LINES = ("Function", "In", "The source has", "Cargo has")
 
 
 class Built(unittest.TestCase):
@@ -145,8 +147,8 @@ class Built(unittest.TestCase):
 
     def check_conditions(self, env, expected):
         """The tests that are written for Cargo: of the libraries, and of pgn_c."""
-        words = ["test", "--package", "pgn_game", "--package", "pgn_lexer", "--package",
-                 "chess_rules", "--package", "pgn_c", "--lib", "--tests"]
+        packages = ["--package=" + it for it in ("pgn_c", *LIBRARIES)]
+        words = ["test", *packages, "--lib", "--tests"]
         ran = cargo(*words, env=env)
         said = (ran.stdout + ran.stderr).decode()
         self.assertEqual(ran.returncode, 0, said)
@@ -156,7 +158,7 @@ class Built(unittest.TestCase):
     def test_a_call_that_breaks_a_condition_panics(self):
         files = glob.glob(ROOT + "/cargo/*/*/*.rs")
         wanted = sum(read(it).count("#[test]") for it in files)
-        self.assertGreaterEqual(wanted, 17)
+        self.assertGreaterEqual(wanted, 18)
         self.check_conditions({}, wanted)
         # In release builds all but those of debug_assert!.
         checked_in_debug = sum(read(it).count("#[cfg(debug_assertions)]\nfn ") for it in files)
@@ -423,6 +425,7 @@ class Written(unittest.TestCase):
         count = 0
         for path, lines, source in self.pairs(out):
             source = source.replace('pub extern "C" fn', "pub fn")
+            source = source.replace("pub(crate) fn add_one(", "pub fn add_one(")
             self.assertEqual(head.findall("\n".join(lines)), head.findall(source), path)
             count += len(head.findall(source))
         self.assertGreater(count, 400)
@@ -513,18 +516,43 @@ class Written(unittest.TestCase):
             ("    ghost failures = { λ _. 0 };", "    ghost failures = { λ _. 0 }; fn f() {}"),
         ])
 
-    def test_the_index_of_a_square_is_masked(self):
+    def test_each_line_that_is_another_has_its_row(self):
+        """In the README of the workspace, with the reason."""
         out, _, _ = self.write()
-        lines = read(out + "/crates/chess_rules/src/square.rs").split("\n")
-        self.assertEqual((lines.count(INDEX), lines.count(MASKED_INDEX)), (0, 1))
+        rows = [[it.strip("`") for it in row]
+                for row in table("cargo/README.md", *OTHER_LINES)]
+        made = [[name, file.replace("crates/", "").replace(".rt", ".rs"), line, " ".join(others)]
+                for file, lines in load("bin/to_cargo").OTHER_LINES.items()
+                for name, (line, others) in lines.items()]
+        self.assertEqual(sorted(it[:4] for it in rows), sorted(made))
+        for _, file, line, other, reason in rows:
+            text = " ".join(read(out + "/crates/" + file).split())
+            self.assertIn("// Written for Cargo. The source has `%s` %s" % (line, other), text)
+            self.assertRegex(reason, r"\w+ \w+")
+        files = glob.glob(out + "/crates/*/src/**/*.rs", recursive=True)
+        self.assertEqual(sum(read(it).count("// Written for Cargo. The source") for it in files),
+                         len(rows))
 
-    def test_an_index_that_is_not_there_once_stops_it(self):
+    def test_a_line_that_is_not_there_once_stops_it(self):
         shift = INDEX.replace("index as usize", "index as usize + 0")
         for new in (shift + "\n", (INDEX + "\n") * 2):
             copy = self.copied("crates/chess_rules/src/square.rt", INDEX + "\n", new)
             _, status, said = self.write(copy + "/bin/to_cargo")
             self.assertEqual(status, 1, said)
             self.assertIn("square.rt: not there once: self.index as usize", said)
+
+    def test_each_function_of_the_libraries_has_a_hint(self):
+        """Whether it may be inlined; laws do nothing, and what a trait asks for has no body."""
+        out, _, _ = self.write()
+        head = re.compile(
+            r"(?m)^((?: *#\[.*\]\n)*) *(?:pub(?:\(crate\))? )?(?:const )?fn (?s:.*?)([{;])$")
+        count = 0
+        for path, lines, _ in self.pairs(out, LIBRARIES):
+            for found in head.finditer("" if path.endswith("/laws.rs") else "\n".join(lines)):
+                has_body = found[2] == "{"
+                self.assertEqual(found[1].count("#[inline"), int(has_body), (path, found[0]))
+                count += has_body
+        self.assertGreater(count, 400)
 
     def test_a_call_with_a_condition_that_is_not_there_once_stops_it(self):
         copy = self.copied("crates/pgn_game/src/find.rt", "pub fn find_move(", "pub fn find(")
@@ -573,18 +601,22 @@ def without_added(path, lines):
     added = []
     for conditions in script.ASSERTED.get(file, {}).values():
         added += [line for words in conditions for line in script.assertion(*words)]
-    for module in (it for it in ("traits", "ffi", "conditions") if "mod %s;" % it in lines):
-        is_test = module == "conditions"
+    for line, others in script.OTHER_LINES.get(file, {}).values():
+        added += [script.SOURCE_HAS % line, *others]
+    modules = ("traits", "ffi", "conditions", "own_pair")
+    for module in (it for it in modules if "mod %s;" % it in lines):
+        is_test = module in ("conditions", "own_pair")
         added += ["#[cfg(test)]"] if is_test else ["// Written for Cargo, not proved."]
         added += ["mod %s;" % module]
     left = []
-    hints = ["#[track_caller]"] + ["#[inline]"] * ("/chess_rules/" in path)
-    for line in (it for it in lines if it.strip() not in hints):
+    hints = ["#[track_caller]"]
+    hints += ["#[inline]"] * (path.split("/crates/")[1].split("/")[0] in LIBRARIES)
+    for line in lines:
         found = next((it for it in added if it.strip() == line.strip()), None)
-        if found is None:
-            left.append(line)
-        else:
+        if found is not None:
             added.remove(found)
+        elif line.strip() not in hints:
+            left.append(line)
     assert not added, (path, added)
     while left[-2:] == ["", ""]:
         left.pop()
@@ -601,8 +633,6 @@ def is_made(line, source):
     made.append(source.replace("#[rattlefmt::", "#[rustfmt::"))
     if source == "use std::marker::{Brand, PhantomData};":
         made.append("use std::marker::PhantomData;")
-    if source == INDEX:
-        made.append(MASKED_INDEX)
     return line in made
 
 
