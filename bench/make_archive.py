@@ -3,11 +3,12 @@
 
     bench/make_archive.py --games 20000 --style plain > plain.pgn
     bench/make_archive.py --games 20000 --style annotated > annotated.pgn
+    bench/make_archive.py --games 20000 --style server > server.pgn
 
 The same arguments give the same bytes. A small player of its own plays the games. It looks one move
 ahead, and likes captures, the centre and safe squares. It plays a number of lines (--lines), and
 each is used for many games, with other tags. An annotated line has comments, NAGs and variations,
-some of them nested.
+some of them nested. One of a server is a plain line with a clock time after each ply.
 """
 import argparse
 import random
@@ -301,6 +302,11 @@ def plain(line):
     return [word for game, _, text in line.moves for word in numbered(game, text, True)]
 
 
+def server(line):
+    return [word for game, _, text in line.moves
+            for word in (*numbered(game, text, True), "{ [%clk 0:03:00] }")]
+
+
 def filled(words):
     lines, line = [], ""
     for word in " ".join(words).split():
@@ -342,7 +348,7 @@ def tag_pairs(rng, style, result):
 def main():
     parser = argparse.ArgumentParser(description=__doc__, formatter_class=argparse.RawDescriptionHelpFormatter)
     parser.add_argument("--games", type=int, default=20000)
-    parser.add_argument("--style", choices=("plain", "annotated"), default="plain")
+    parser.add_argument("--style", choices=("plain", "annotated", "server"), default="plain")
     parser.add_argument("--lines", type=int, default=250)
     parser.add_argument("--seed", type=int, default=1)
     given = parser.parse_args()
@@ -350,7 +356,10 @@ def main():
     for number in range(min(given.lines, given.games)):
         line = Line(random.Random("line %d %d" % (given.seed, number)))
         rng = random.Random("words %d %d" % (given.seed, number))
-        words = annotated(rng, line) if given.style == "annotated" else plain(line)
+        if given.style == "annotated":
+            words = annotated(rng, line)
+        else:
+            words = server(line) if given.style == "server" else plain(line)
         lines.append((line.result, filled([*words, line.result])))
     rng = random.Random("games %d" % given.seed)
     for number in range(given.games):

@@ -4,7 +4,7 @@ import re
 import textwrap
 
 # What is measured, of which archive or task, and the most that it may be. Wall time and
-# instructions are parts of pgn-extract's.
+# instructions are parts of pgn-extract's, and those of a build of the proved program's.
 GOALS = (
     ("wall time", "plain", 0.20),
     ("wall time", "annotated", 0.20),
@@ -18,7 +18,15 @@ GOALS = (
     ("least stack", "export --checked", 192),
     ("--checked to export", "plain", 2.2),
     ("--checked to export", "annotated", 2.2),
+    ("Cargo to proved", "plain", 1.01),
+    ("Cargo to proved", "annotated", 1.01),
+    ("Cargo to proved", "server", 1.01),
+    ("dependent to proved", "plain", 1.08),
+    ("dependent to proved", "annotated", 1.08),
+    ("dependent to proved", "server", 1.08),
 )
+# Cargo's program among the converters, beside the proved one
+BY_CARGO = "pgn_tool by Cargo"
 # how a goal and what was measured are shown
 FORMS = {
     "wall time": ("%.2f", "%.3f"),
@@ -26,6 +34,8 @@ FORMS = {
     "memory": ("%d MiB", "%.1f MiB"),
     "least stack": ("%d KiB", "%d KiB"),
     "--checked to export": ("%.1f", "%.2f"),
+    "Cargo to proved": ("%.2f", "%.3f"),
+    "dependent to proved": ("%.2f", "%.3f"),
 }
 
 
@@ -45,10 +55,16 @@ def number(value, form):
     return "" if value is None else format(value, form)
 
 
-def ratio(archive, what):
+def ratio(archive, what, name="pgn_tool"):
     """Ours in parts of pgn-extract's."""
-    ours, theirs = (archive["converters"][it][what] for it in ("pgn_tool", "pgn-extract"))
+    ours, theirs = (archive["converters"][it][what] for it in (name, "pgn-extract"))
     return ours / theirs
+
+
+def counted_builds(result):
+    """The instructions of each build by the name of the archive."""
+    found = {it["name"]: it["builds"] for it in result["archives"]}
+    return {name: spent for name, spent in {**found, **result["counted"]}.items() if spent}
 
 
 def measured_goals(result):
@@ -60,6 +76,10 @@ def measured_goals(result):
         found["memory", it["name"]] = it["converters"]["pgn_tool"]["memory"]
         walls = {task: figures["wall"] for task, figures in it["checked"].items()}
         found["--checked to export", it["name"]] = walls["export --checked"] / walls["export"]
+    for name, spent in counted_builds(result).items():
+        if "proved" in spent:
+            found["Cargo to proved", name] = spent["Cargo"] / spent["proved"]
+            found["dependent to proved", name] = spent["dependent"] / spent["proved"]
     return [(what, of, goal, found[what, of]) for what, of, goal in GOALS if (what, of) in found]
 
 
@@ -73,7 +93,9 @@ def goals(result):
     if not rows:
         return []
     said = ["**Not met:**", "", *missed] if missed else ["All goals are met."]
-    return ["Goals. Wall time and instructions are parts of pgn-extract's:", "",
+    return [*prose("Goals. Wall time and instructions are parts of pgn-extract's. Those of Cargo's "
+                   "program and of the dependent one are parts of the proved program's "
+                   "instructions:"), "",
             *table(["", "of", "at most", "measured", "goal"], rows, "---"), *said, ""]
 
 
@@ -97,9 +119,12 @@ def converters(archive):
                      "%.1f" % (archive["bytes"] / 1e6 / it["wall"]), "%.1f" % it["memory"],
                      format(round(it["instructions"]), ","),
                      format(round(it["mispredictions"]), ",")])
-    rows.append(["pgn_tool to pgn-extract", "%.3f" % ratio(archive, "wall"), "", "",
-                 "%.2f" % ratio(archive, "memory"), "%.3f" % ratio(archive, "instructions"),
-                 "%.3f" % ratio(archive, "mispredictions")])
+    for name in ("pgn_tool", BY_CARGO):
+        if name in archive["converters"]:
+            rows.append([name + " to pgn-extract", "%.3f" % ratio(archive, "wall", name), "", "",
+                         "%.2f" % ratio(archive, "memory", name),
+                         "%.3f" % ratio(archive, "instructions", name),
+                         "%.3f" % ratio(archive, "mispredictions", name)])
     head = ["", "wall s", "games/s", "MB/s", "memory MiB", "instructions a game",
             "branch mispredictions a game"]
     return table(head, rows)
@@ -148,19 +173,19 @@ def checked(archive):
 
 def builds(result):
     """The instructions of each build, and their ratio to those of the first one."""
-    archives = result["archives"]
-    if not archives[0]["builds"]:
+    by_archive = counted_builds(result)
+    if not by_archive:
         return ["### The builds", "", "The builds are not compared, without a cargo that builds them.",
                 ""]
     rows = []
-    for name in archives[0]["builds"]:
+    for name in next(iter(by_archive.values())):
         rows.append([name])
-        for it in archives:
-            spent, first = it["builds"][name], next(iter(it["builds"].values()))
-            rows[-1] += [format(round(spent), ","), "%.2f" % (spent / first)]
+        for it in by_archive.values():
+            spent, first = it[name], next(iter(it.values()))
+            rows[-1] += [format(round(spent), ","), "%.3f" % (spent / first)]
     head = ["instructions a game"]
-    for it in archives:
-        head += [it["name"], "ratio"]
+    for name in by_archive:
+        head += [name, "ratio"]
     return ["### The builds", "", *table(head, rows)]
 
 
@@ -187,7 +212,11 @@ def summary(result):
                      format(round(it["games"] / ours["wall"], -2), ",.0f"),
                      "%.2f" % ratio(it, "wall"), "%.2f" % ratio(it, "instructions"),
                      "%.1f MiB" % ours["memory"]])
+        if BY_CARGO in it["converters"]:
+            rows[-1].append("%.2f" % ratio(it, "wall", BY_CARGO))
     head = ["", "games a second", "wall time", "instructions", "memory"]
+    if len(rows[0]) > len(head):
+        head.append("wall time, by Cargo")
     version = result["machine"]["versions"].get("pgn-extract", "of unknown version")
     said = "Measured on %s, beside pgn-extract %s:" % (result["date"], version)
     return [*prose(said), "", *table(head, rows)][:-1]

@@ -105,7 +105,7 @@ def archive(name, wall):
             "split": {"wall": {"export": 0.5, "split": 4}, "calls": {"export": 0.25, "split": 20}},
             "checked": {"export": {"wall": 0.5, "instructions": 200},
                         "export --checked": {"wall": 1, "instructions": 390}},
-            "builds": {"proved": 2000, "Cargo": 2300.4, "dependent": 2500},
+            "builds": {"proved": 2000, "Cargo": 2300.4, "dependent": 2100},
             "sizes": [{"bytes": 1_000_000, "wall": 0.05, "instructions": 2_000_000, "memory": 1.5}]}
 
 
@@ -114,6 +114,7 @@ RESULT = {
     "machine": {"processors": 8, "model": "a processor", "debian": "99.1",
                 "versions": {"pgn-extract": "1.2-3", "valgrind": "4.5"}},
     "archives": [archive("plain", 0.15), archive("annotated", 0.25)],
+    "counted": {"server": {"proved": 1000, "Cargo": 1009, "dependent": 1081}},
     "stack": {"export": 128, "export --checked": 180, "check": 124, "list": 132},
 }
 
@@ -278,14 +279,20 @@ class Tables(unittest.TestCase):
         self.assertIn("| least stack | export | 128 KiB | 128 KiB | met |\n", text)
         self.assertIn("| least stack | export --checked | 192 KiB | 180 KiB | met |\n", text)
         self.assertIn("| --checked to export | plain | 2.2 | 2.00 | met |\n", text)
+        self.assertIn("| Cargo to proved | server | 1.01 | 1.009 | met |\n", text)
+        self.assertIn("| dependent to proved | annotated | 1.08 | 1.050 | met |\n", text)
         missed = re.findall(r"^- (.*)$", text, re.M)
         self.assertEqual(missed, ["wall time, annotated: 0.250 instead of 0.20",
                                   "instructions, plain: 0.200 instead of 0.19",
-                                  "least stack, list: 132 KiB instead of 128 KiB"])
+                                  "least stack, list: 132 KiB instead of 128 KiB",
+                                  "Cargo to proved, plain: 1.150 instead of 1.01",
+                                  "Cargo to proved, annotated: 1.150 instead of 1.01",
+                                  "dependent to proved, server: 1.081 instead of 1.08"])
 
     def test_all_goals_met(self):
         result = copy.deepcopy(RESULT)
         result["archives"], result["stack"] = [archive("annotated", 0.2)], {"check": 96}
+        result["archives"][0]["builds"], result["counted"] = {"Cargo": 9, "dependent": 9}, {}
         self.assertIn("All goals are met.", tables.goals(result))
         result["archives"], result["stack"] = [archive("archive", 0.9)], {}
         self.assertEqual(tables.goals(result), [])
@@ -305,15 +312,16 @@ class Tables(unittest.TestCase):
                      "| 1.0 | 0.05 | 50.0 | 2.0 | 1.5 |",
                      "| list | 132 |",
                      "### The builds",
-                     "| instructions a game | plain | ratio | annotated | ratio |",
-                     "| proved | 2,000 | 1.00 | 2,000 | 1.00 |",
-                     "| Cargo | 2,300 | 1.15 | 2,300 | 1.15 |",
-                     "| dependent | 2,500 | 1.25 | 2,500 | 1.25 |"):
+                     "| instructions a game | plain | ratio | annotated | ratio | server | ratio |",
+                     "| proved | 2,000 | 1.000 | 2,000 | 1.000 | 1,000 | 1.000 |",
+                     "| Cargo | 2,300 | 1.150 | 2,300 | 1.150 | 1,009 | 1.009 |",
+                     "| dependent | 2,100 | 1.050 | 2,100 | 1.050 | 1,081 | 1.081 |"):
             self.assertIn(line, lines)
         self.assertEqual([line for line in lines if len(line) > 100 and line[0] != "|"], [])
 
     def test_what_could_not_be_measured(self):
         result = copy.deepcopy(RESULT)
+        result["counted"] = {"server": {}}
         for it in result["archives"]:
             it["sizes"], it["builds"] = [], {}
         result["archives"][0]["split"] = None
@@ -332,6 +340,17 @@ class Tables(unittest.TestCase):
             "|  | games a second | wall time | instructions | memory |", "|---|---:|---:|---:|---:|",
             "| plain, 2,000 games, 3.0 MB | 13,300 | 0.15 | 0.20 | 1.5 MiB |",
             "| annotated, 2,000 games, 3.0 MB | 8,000 | 0.25 | 0.20 | 1.5 MiB |"])
+
+    def test_cargo_s_program_beside_the_proved_one(self):
+        result = copy.deepcopy(RESULT)
+        for it in result["archives"]:
+            it["converters"][tables.BY_CARGO] = converter(0.3, 2, 210, 30)
+        row = "| pgn_tool by Cargo to pgn-extract | 0.300 |  |  | 0.50 | 0.210 | 0.500 |"
+        self.assertEqual(tables.report(result).count(row), 2)
+        lines = tables.summary(result)
+        self.assertEqual(lines[2], "|  | games a second | wall time | instructions | memory "
+                                   "| wall time, by Cargo |")
+        self.assertTrue(lines[-1].endswith("| 0.25 | 0.20 | 1.5 MiB | 0.30 |"), lines[-1])
 
     def test_the_sentence_of_the_manual(self):
         line = tables.least_stack(RESULT)[0]
