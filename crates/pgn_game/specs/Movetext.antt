@@ -1,10 +1,11 @@
 -- **Bookkeeping**: what is stored of movetext while it is read.
 -- That is the levels, the number of moves outside variations, and whether a move was written last.
-use Rattle.std.specs.Prelude.{◌≡◌, ℕ, ◌+◌, ◌≤◌, Bool, true, false, List, [], ◌∷◌, map, length, Option, None, Some, All}
+use Rattle.std.specs.Prelude.{◌≡◌, ℕ, ◌≤◌, Bool, true, false, List, [], ◌∷◌, ◌++◌, map, length, Option, None, Some, All}
 use Rattle.chess_rules.specs.declared.position.Parts.{Parts}
 use Rattle.pgn_layout.specs.Lines.{IsToken, lines_of, last_line}
 use Rattle.pgn_game.specs.declared.levels.Level.{Level as CodeLevel}
 use Rattle.pgn_game.specs.declared.mode.Mode.{Mode}
+use Rattle.pgn_game.specs.Chess.{first_position}
 use Rattle.pgn_game.specs.Game.{Item}
 use Rattle.pgn_game.specs.Levels.{Level as ModelLevel, Levels as ModelLevels, levels_of, first_level, replayed, without_last, main_moves}
 use Rattle.pgn_game.specs.Text.{Placed, placed_from, is_move, written_items, tokens_out}
@@ -25,8 +26,8 @@ level_at start = record { present = start; before = None }
 abbrev pub only_level : Parts → StoredLevels
 only_level start = record { present = level_at start; around = [] }
 
--- The levels as the code stores them: the current one, and a list of those around it, the main line
--- first. A place of the list that is empty counts for nothing.
+-- The levels as the code stores them: a list with the main line first and the current level last.
+-- A place of the list that is empty counts for nothing.
 abbrev pub level_of : CodeLevel → StoredLevel
 level_of l = record { present = l.present; before = l.before }
 
@@ -35,18 +36,25 @@ inside ls [] = ls
 inside ls (Some l ∷ more) = inside (level_of l ∷ ls) more
 inside ls (None ∷ more) = inside ls more
 
-abbrev pub code_levels : CodeLevel → List (Option CodeLevel) → StoredLevels
-code_levels current around = record { present = level_of current; around = inside [] around }
+-- the nearest first; there is always one
+abbrev pub nearest_first : List StoredLevel → StoredLevels
+nearest_first [] = only_level first_position
+nearest_first (l ∷ around) = record { present = l; around = around }
 
--- no place is empty
-abbrev pub AreThere : List (Option CodeLevel) → Type 0
-AreThere [] = Unit {0}
-AreThere (Some l ∷ more) = AreThere more
-AreThere (None ∷ more) = ⊥
+abbrev pub code_levels : List (Option CodeLevel) → StoredLevels
+code_levels places = nearest_first (inside [] places)
 
-pub record FitsLevelStore (most : ℕ) (around : List (Option CodeLevel)) : Type 0 where
-  pub there : AreThere around
-  pub room : length around + 1 ≤ most
+-- the places of these levels, the nearest of which is the first here and the last there
+abbrev pub places_of : List CodeLevel → List (Option CodeLevel)
+places_of [] = []
+places_of (l ∷ around) = places_of around ++ Some l ∷ []
+
+-- No place is empty, and there is a current level.
+pub record FitsLevelStore (most : ℕ) (places : List (Option CodeLevel)) : Type 0 where
+  pub current : CodeLevel
+  pub around : List CodeLevel
+  pub there : places ≡ places_of (current ∷ around)
+  pub room : length places ≤ most
 
 -- A variation closes: the nearest level around is current again. No claim if there is none.
 abbrev pub ClosesLevel : List StoredLevel → StoredLevels → Type 0

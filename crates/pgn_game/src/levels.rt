@@ -1,7 +1,7 @@
 //! The levels of movetext: the game's own, and those of the variations that are open.
 ghost use Rattle.std.specs.Prelude.{◌≡◌, ◌+◌, ◌<◌, ◌≤◌, ◌∷◌, None, Some, IsSome, IfSome, is_some, length};
 ghost use Rattle.pgn_game.specs.Chess.{first_position};
-ghost use Rattle.pgn_game.specs.Movetext.{level_at, only_level, ClosesLevel};
+ghost use Rattle.pgn_game.specs.Movetext.{level_at, level_of, only_level, ClosesLevel};
 
 use arrayvec::ArrayVec;
 use chess_rules::Position;
@@ -35,10 +35,9 @@ impl Default for Level {
 /// The levels of the current game: at least one and at most `L`.
 #[derive(Drop)]
 pub struct Levels<const L: usize> {
-    current: Level,
-    // The levels around it, the main line first. Each is `Some`: so the blank places of the vector
+    // The main line first, the current level last. Each is `Some`: so the blank places of the vector
     // are zeros, and the toolchain makes a new one by a single call of `memset`.
-    around: ArrayVec<Option<Level>, L>,
+    levels: ArrayVec<Option<Level>, L>,
 }
 
 impl<const L: usize> Model for Levels<L> {
@@ -46,9 +45,9 @@ impl<const L: usize> Model for Levels<L> {
 
     ghost Value = { Seen };
 
-    ghost view = { λ l. code_levels l.current l.around.items };
+    ghost view = { λ l. code_levels l.levels.items };
 
-    ghost invariant = { λ l. FitsLevelStore L l.around.items };
+    ghost invariant = { λ l. FitsLevelStore L l.levels.items };
 }
 
 impl<const L: usize> Levels<L> {
@@ -57,18 +56,29 @@ impl<const L: usize> Levels<L> {
         requires { 1 ≤ L }
         ensures { result ≡ only_level first_position }
     {
-        Levels {
-            current: Level::at(Position::initial()),
-            around: ArrayVec::new(),
-        }
+        let mut levels = ArrayVec::new();
+        levels.push(Some(Level::at(Position::initial())));
+        Levels { levels }
     }
 
     /// Begins a game: the main line alone, at this position.
     pub fn begin(&mut self, start: Position)
         ensures { self.new ≡ only_level start }
     {
-        self.around.clear();
-        self.current = Level::at(start);
+        self.levels.clear();
+        self.levels.push(Some(Level::at(start)));
+    }
+
+    // The current level.
+    #[inline(always)]
+    fn current(&self) -> &Level
+        ensures { level_of result.now ≡ self.now.present }
+    {
+        let levels = self.levels.as_slice();
+        match &levels[levels.len() - 1] {
+            Some(level) => level,
+            None => unreachable!(),
+        }
     }
 
     /// Returns the position of the current level.
@@ -76,7 +86,7 @@ impl<const L: usize> Levels<L> {
     pub fn present(&self) -> &Position
         ensures { result.now ≡ self.now.present.present }
     {
-        &self.current.present
+        &self.current().present
     }
 
     /// Returns how many variations are open.
@@ -85,7 +95,7 @@ impl<const L: usize> Levels<L> {
         ensures value { result ≡ length self.now.around }
         ensures room { result + 1 ≤ L }
     {
-        self.around.len()
+        self.levels.len() - 1
     }
 
     /// Whether a move was played at the current level.
@@ -93,7 +103,7 @@ impl<const L: usize> Levels<L> {
     pub fn has_own_move(&self) -> bool
         ensures { result ≡ is_some self.now.present.before }
     {
-        self.current.before.is_some()
+        self.current().before.is_some()
     }
 
     /// Plays a move that leads to this position.
@@ -104,8 +114,12 @@ impl<const L: usize> Levels<L> {
           around = self.old.around;
         } }
     {
-        self.current.before = Some(self.current.present);
-        self.current.present = next;
+        let last = self.levels.len() - 1;
+        let Some(level) = &mut self.levels[last] else {
+            unreachable!()
+        };
+        level.before = Some(level.present);
+        level.present = next;
     }
 
     /// Opens a variation, which begins before the last move of the current level.
@@ -115,9 +129,8 @@ impl<const L: usize> Levels<L> {
         ensures { IfSome self.old.present.before (λ start. self.new
             ≡ record { present = level_at start; around = self.old.present ∷ self.old.around }) }
     {
-        if let Some(start) = self.current.before {
-            self.around.push(Some(self.current));
-            self.current = Level::at(start);
+        if let Some(start) = self.current().before {
+            self.levels.push(Some(Level::at(start)));
         }
     }
 
@@ -126,11 +139,6 @@ impl<const L: usize> Levels<L> {
         requires { 0 < length self.old.around }
         ensures { ClosesLevel self.old.around self.new }
     {
-        match self.around.pop() {
-            Some(Some(level)) => self.current = level,
-            // Never: each level around is there.
-            Some(None) => {}
-            None => {}
-        }
+        let _ = self.levels.pop();
     }
 }

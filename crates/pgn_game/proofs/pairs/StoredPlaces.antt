@@ -82,7 +82,7 @@ pub stored-in-order : {most : ℕ} {ps : List Pair} {order : List ℕ} {place : 
 stored-in-order {order} fits = record { within = below-more order fits.first fits.within; in_order = fits.in_order }
 
 -- a slice that is as long takes the place of all items
-written : (ps : List Pair) (n : ℕ) (p : Pair) → refill (length ps) ps (set ps n p) ≡ set ps n p
+pub written : {A : Type 0} (ps : List A) (n : ℕ) (p : A) → refill (length ps) ps (set ps n p) ≡ set ps n p
 written ps n p = let same = length-set ps n p in grind (arith, take-append_seam)
 
 -- Of pairs that are stored, those in the order are held, and there is a place behind them.

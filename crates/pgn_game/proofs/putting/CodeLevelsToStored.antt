@@ -1,44 +1,115 @@
--- The levels around the current one, as they are kept and as contracts see them: kept with the main
--- line first, seen with the nearest first.
-use Rattle.pgn_game.proofs.Words.{◌≡◌, ◌+◌, List, [], ◌∷◌, ◌++◌, length, refl, arith, Option, None, Some, IfSome, Parts}
-use Rattle.pgn_game.proofs.Words.{StoredLevel, StoredLevels, inside, code_levels, AreThere, ClosesLevel, level_at, level_of}
+-- The levels as they are kept and as contracts see them: kept with the main line first, seen with the
+-- nearest first.
+use Rattle.pgn_game.proofs.Words.{◌≡◌, ℕ, ◌+◌, ◌-◌, ◌<◌, ◌≤◌, List, [], ◌∷◌, ◌++◌, length, length-map, map, refl, sym, ap, ◌∙◌, arith, length-append, get_or, set, take, refill, take-append_seam, Option, None, Some, IfSome, Parts}
+use Rattle.pgn_game.proofs.Words.{StoredLevel, StoredLevels, inside, code_levels, nearest_first, places_of, level_at, level_of, FitsLevelStore, ClosesLevel}
+use Rattle.std.proofs.Math.Seq.{get_or-append_seam, set-append_seam}
+use Rattle.pgn_game.proofs.pairs.StoredPlaces.{written}
 use Rattle.pgn_game.specs.declared.levels.Level.{Level as CodeLevel}
 
 -- one more is the nearest
-pub inside-snoc : (ls : List StoredLevel) (xs : List (Option CodeLevel)) (l : CodeLevel)
+inside-snoc : (ls : List StoredLevel) (xs : List (Option CodeLevel)) (l : CodeLevel)
     → inside ls (xs ++ Some l ∷ []) ≡ level_of l ∷ inside ls xs
 inside-snoc ls [] l = refl
 inside-snoc ls (Some x ∷ xs) l = inside-snoc (level_of x ∷ ls) xs l
 inside-snoc ls (None ∷ xs) l = inside-snoc ls xs l
 
-inside-depth : (ls : List StoredLevel) (xs : List (Option CodeLevel)) → AreThere xs → length (inside ls xs) ≡ length ls + length xs
-inside-depth ls [] there = omega arith
-inside-depth ls (Some x ∷ xs) there = omega (arith, inside-depth (level_of x ∷ ls) xs there)
-inside-depth ls (None ∷ xs) there = absurd there
+inside-places : (ls : List CodeLevel) → inside [] (places_of ls) ≡ map level_of ls
+inside-places [] = refl
+inside-places (l ∷ around) =
+    inside-snoc [] (places_of around) l ∙ ap (λ (ls : List StoredLevel). level_of l ∷ ls) (inside-places around)
+
+-- what is seen of these levels
+pub seen : (current : CodeLevel) (around : List CodeLevel)
+    → code_levels (places_of (current ∷ around)) ≡ record { present = level_of current; around = map level_of around }
+seen current around = ap nearest_first (inside-places (current ∷ around))
 
 -- how many there are
-pub depth-held : (xs : List (Option CodeLevel)) → AreThere xs → length (inside [] xs) ≡ length xs
-depth-held xs there = omega (arith, inside-depth [] xs there)
+pub length-places : (ls : List CodeLevel) → length (places_of ls) ≡ length ls
+length-places [] = refl
+length-places (l ∷ around) = omega (arith, length-append (places_of around) (Some l ∷ []), length-places around)
 
-pub there-snoc : (xs : List (Option CodeLevel)) (l : CodeLevel) → AreThere xs → AreThere (xs ++ Some l ∷ [])
-there-snoc [] l there = tt
-there-snoc (Some x ∷ xs) l there = there-snoc xs l there
-there-snoc (None ∷ xs) l there = absurd there
+-- The levels that are seen of places that fit.
+pub held : (most : ℕ) (places : List (Option CodeLevel)) (fits : FitsLevelStore most places) (ls : StoredLevels)
+    → code_levels places ≡ ls → ls ≡ record { present = level_of fits.current; around = map level_of fits.around }
+held most places fits ls is = sym is ∙ ap code_levels fits.there ∙ seen fits.current fits.around
 
-pub there-front : (xs ys : List (Option CodeLevel)) → AreThere (xs ++ ys) → AreThere xs
-there-front [] ys there = tt
-there-front (Some x ∷ xs) ys there = there-front xs ys there
-there-front (None ∷ xs) ys there = absurd there
+pub depth-held : (most : ℕ) (places : List (Option CodeLevel)) → FitsLevelStore most places → (ls : StoredLevels)
+    → code_levels places ≡ ls → length ls.around + 1 ≡ length places
+depth-held most places fits ls is =
+    omega (
+      arith,
+      ap (λ (ls : StoredLevels). length ls.around) (held most places fits ls is),
+      length-map fits.around level_of,
+      ap (length {A = Option CodeLevel}) fits.there,
+      length-places (fits.current ∷ fits.around),
+    )
 
--- the last one is there
-pub last-there : (xs : List (Option CodeLevel)) → AreThere (xs ++ None ∷ []) → ⊥
-last-there [] there = there
-last-there (Some x ∷ xs) there = last-there xs there
-last-there (None ∷ xs) there = there
+-- the last place
+last_at : (most : ℕ) (places : List (Option CodeLevel)) (fits : FitsLevelStore most places) (d : Option CodeLevel)
+    → get_or places (length places - 1) d ≡ Some fits.current
+last_at most places fits d =
+    let front = places_of fits.around in
+    let last : length places - 1 ≡ length front =
+    omega (arith, ap (length {A = Option CodeLevel}) fits.there, length-append front (Some fits.current ∷ [])) in
+    ap (λ (i : ℕ). get_or places i d) last ∙ ap (λ (ps : List (Option CodeLevel)). get_or ps (length front) d) fits.there
+    ∙ get_or-append_seam front (Some fits.current) [] d
 
--- the nearest one is current again
-pub closes : (xs : List (Option CodeLevel)) (l : CodeLevel) → ClosesLevel (inside [] (xs ++ Some l ∷ [])) (code_levels l xs)
-closes xs l = rw (inside-snoc [] xs l) refl
+-- has the current level
+pub current_at : (most : ℕ) (places : List (Option CodeLevel)) (fits : FitsLevelStore most places) (ls : StoredLevels)
+    → code_levels places ≡ ls → (l : CodeLevel) (d : Option CodeLevel) → get_or places (length places - 1) d ≡ Some l
+    → level_of l ≡ ls.present
+current_at most places fits ls is l d at =
+    let same : Some l ≡ Some fits.current = sym at ∙ last_at most places fits d in
+    let same : l ≡ fits.current = cc in
+    ap level_of same ∙ sym (ap (λ (ls : StoredLevels). ls.present) (held most places fits ls is))
+
+-- Another current level is written in its place.
+pub plays : (most : ℕ) (places : List (Option CodeLevel)) (fits : FitsLevelStore most places) (ls : StoredLevels)
+    → code_levels places ≡ ls → (l : CodeLevel)
+    → code_levels (refill (length places) places (set places (length places - 1) (Some l)))
+    ≡ record { present = level_of l; around = ls.around }
+plays most places fits ls is l =
+    let front = places_of fits.around in
+    let last : length places - 1 ≡ length front =
+    omega (arith, ap (length {A = Option CodeLevel}) fits.there, length-append front (Some fits.current ∷ [])) in
+    ap code_levels (written places (length places - 1) (Some l)
+    ∙ ap (λ (i : ℕ). set places i (Some l)) last ∙ ap (λ (ps : List (Option CodeLevel)). set ps (length front) (Some l)) fits.there
+    ∙ set-append_seam front (Some fits.current) [] (Some l))
+    ∙ seen l fits.around
+    ∙ sym (ap (λ (ls : StoredLevels). record { present = level_of l; around = ls.around }) (held most places fits ls is))
+
+-- without the last place
+pub popped : (most : ℕ) (places front : List (Option CodeLevel)) (fits : FitsLevelStore most places)
+    → front ≡ take (length places - 1) places → front ≡ places_of fits.around
+popped most places front fits is =
+    let rest = places_of fits.around in
+    let last : length places - 1 ≡ length rest =
+    omega (arith, ap (length {A = Option CodeLevel}) fits.there, length-append rest (Some fits.current ∷ [])) in
+    is ∙ ap (λ (i : ℕ). take i places) last ∙ ap (take (length rest)) fits.there ∙ take-append_seam rest (Some fits.current ∷ [])
+
+pub fits_front : (most : ℕ) (front : List (Option CodeLevel)) (around : List CodeLevel) → front ≡ places_of around
+    → 0 < length around → length front ≤ most → FitsLevelStore most front
+fits_front most front [] is some room = absurd (omega arith)
+fits_front most front (l ∷ around) is some room = record { current = l; around = around; there = is; room = room }
+
+-- The nearest one is current again.
+pub closes : (front : List (Option CodeLevel)) (around : List CodeLevel) (ls : List StoredLevel) → front ≡ places_of around
+    → ls ≡ map level_of around → ClosesLevel ls (code_levels front)
+closes front [] ls is e = rw e tt
+closes front (l ∷ around) ls is e = rw e (ap code_levels is ∙ seen l around)
+
+-- one place more
+pub pushed : (most : ℕ) (places more : List (Option CodeLevel)) (fits : FitsLevelStore most places) (l : CodeLevel)
+    → more ≡ places ++ Some l ∷ [] → more ≡ places_of (l ∷ fits.current ∷ fits.around)
+pushed most places more fits l is = is ∙ ap (λ (ps : List (Option CodeLevel)). ps ++ Some l ∷ []) fits.there
+
+-- has a level with the current one around it
+pub opened : (most : ℕ) (places more : List (Option CodeLevel)) (fits : FitsLevelStore most places) (ls : StoredLevels)
+    → code_levels places ≡ ls → (l : CodeLevel) → more ≡ places ++ Some l ∷ []
+    → code_levels more ≡ record { present = level_of l; around = ls.present ∷ ls.around }
+opened most places more fits ls is l pushes =
+    ap code_levels (pushed most places more fits l pushes) ∙ seen l (fits.current ∷ fits.around)
+    ∙ sym (ap (λ (ls : StoredLevels). record { present = level_of l; around = ls.present ∷ ls.around }) (held most places fits ls is))
 
 -- what a variation begins at: it is there, for the current level has a move
 pub opens : (o : Option Parts) (start : Parts) (ls new : StoredLevels) → o ≡ Some start

@@ -1,22 +1,27 @@
-use Rattle.pgn_game.proofs.Words.{◌≡◌, List, ◌∷◌, length, Some, ap, subst, sym, ◌∙◌, arith, [], StoredLevel, StoredLevels, AreThere}
-use Rattle.pgn_game.proofs.Words.{level_at}
-use Rattle.pgn_game.proofs.putting.CodeLevelsToStored.{depth-held, inside-snoc, there-snoc, opens}
+use Rattle.pgn_game.proofs.Words.{◌≡◌, List, ◌∷◌, length, Some, ap, subst, sym, ◌∙◌, arith, rules, [], StoredLevel, StoredLevels, code_levels}
+use Rattle.pgn_game.proofs.Words.{level_of}
+use Rattle.pgn_game.specs.declared.levels.Level.{Level as CodeLevel}
+use Rattle.pgn_game.proofs.putting.CodeLevelsToStored.{depth-held, opened, opens, pushed}
 use Rattle.pgn_game.proofs.levels.Levels.open.Goals as goal
+
+pub push-requires : goal.push-requires
+push-requires g c =
+    let depth = depth-held g.row.L c.self.inside.levels.items c.self.invariant c.args.self.now c.self.view_is in search rules
 
 pub invariant_of-self : goal.invariant_of-self
 invariant_of-self g c =
-    let items = c.self.inside.around.items in
-    let depth = depth-held items c.self.invariant.there in record {
-      there = subst AreThere (sym c.push.ensures.items) (there-snoc items c.self.inside.current c.self.invariant.there);
-      room = omega (arith, c.push.ensures.len, c.requires.room, depth, ap (λ (ls : StoredLevels). length ls.around) c.self.view_is);
+    let places = c.self.inside.levels.items in
+    let fits = c.self.invariant in record {
+      current = c.at.result;
+      around = fits.current ∷ fits.around;
+      there = pushed g.row.L places c.push.new.self.items fits c.at.result c.push.ensures.items;
+      room = omega (arith, c.push.ensures.len, c.requires.room, depth-held g.row.L places fits c.args.self.now c.self.view_is);
     }
 
 pub returns-in-Some : goal.returns-in-Some
 returns-in-Some g c =
-    let items = c.self.inside.around.items in
     let now = c.args.self.now in
-    let before : now.present.before ≡ Some c.in-Some.start = ap (λ (ls : StoredLevels). ls.present.before) (sym c.self.view_is) ∙ c.in-Some.is in
+    let before : now.present.before ≡ Some c.in-Some.start = ap (λ (l : StoredLevel). l.before) (sym c.current.ensures) ∙ c.in-Some.is in
     opens now.present.before c.in-Some.start now _ before
-    (rw (c.push.ensures.items, c.at-self-inside.ensures)
-    (ap (λ (ls : List StoredLevel). record { present = level_at c.in-Some.start; around = ls })
-    (inside-snoc [] items c.self.inside.current ∙ ap (λ (ls : StoredLevels). ls.present ∷ ls.around) c.self.view_is)))
+    (opened g.row.L c.self.inside.levels.items c.push.new.self.items c.self.invariant now c.self.view_is c.at.result c.push.ensures.items
+    ∙ ap (λ (l : CodeLevel). record { present = level_of l; around = now.present ∷ now.around }) c.at.ensures)

@@ -1,0 +1,9 @@
+use Rattle.pgn_game.proofs.Words.{◌≡◌, ◌-◌, ◌∙◌, Some, Option, sym, ap, get_or, length, List}
+use Rattle.pgn_game.specs.declared.levels.Level.{Level as CodeLevel}
+use Rattle.pgn_game.proofs.putting.CodeLevelsToStored.{current_at}
+use Rattle.pgn_game.proofs.levels.Levels.current.Goals as goal
+
+pub returns : goal.returns
+returns g c =
+    let at : get_or c.self.inside.levels.items (length c.self.inside.levels.items - 1) c.index-levels-levels.result ≡ Some c.in-Some.level = cc in
+    current_at g.row.L c.self.inside.levels.items c.self.invariant c.args.self.now c.self.view_is c.in-Some.level c.index-levels-levels.result at

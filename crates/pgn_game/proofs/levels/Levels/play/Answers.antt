@@ -1,0 +1,15 @@
+use Rattle.pgn_game.proofs.Words.{◌≡◌, ◌∙◌, Some, ap, StoredLevel, level_of, get_or, length, ◌-◌}
+use Rattle.pgn_game.proofs.putting.CodeLevelsToStored.{current_at, plays}
+use Rattle.pgn_game.proofs.levels.Levels.play.Goals as goal
+
+pub returns : goal.returns
+returns g c =
+    let places = c.self.inside.levels.items in
+    let now = c.args.self.now in
+    let at : get_or places (length places - 1) c.index-deref_mut-last.result ≡ Some c.in-Some.level =
+    cc (c.in-Some.is, c.deref_mut.ensures.value, c.len-last.ensures.value) in
+    let same : level_of c.in-Some.level ≡ now.present =
+    current_at g.row.L places c.self.invariant now c.self.view_is c.in-Some.level c.index-deref_mut-last.result at in
+    rw (c.deref_mut.ensures.value, c.len-last.ensures.value)
+    (plays g.row.L places c.self.invariant now c.self.view_is (record { present = c.args.next; before = Some c.in-Some.level.present })
+    ∙ ap (λ (l : StoredLevel). record { present = record { present = c.args.next; before = Some l.present }; around = now.around }) same)
