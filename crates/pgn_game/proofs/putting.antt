@@ -7,4 +7,5 @@ pub mod MarkerToReader
 pub mod NumberToTokens
 pub mod PairStepToReader
 pub mod PlayedMovesAreLegal
+pub mod ReadTokensFitOnLines
 pub mod WritesInTurn

@@ -11,6 +11,7 @@ pub mod Chess
 pub mod Game
 pub mod Levels
 pub mod Movetext
+pub mod MovetextLines
 pub mod ItemResult
 pub mod TagSection
 pub mod SectionLines

@@ -4,6 +4,7 @@ ghost use Rattle.pgn_game.specs.GamesJoined as games_joined;
 ghost use Rattle.pgn_game.specs.GameEnds as game_ends;
 ghost use Rattle.pgn_game.specs.GamesRestart as restart;
 ghost use Rattle.pgn_game.specs.MovesAreLegal as legality;
+ghost use Rattle.pgn_game.specs.MovetextLines as on_lines;
 ghost use Rattle.pgn_game.specs.FixedPoint as fixed;
 ghost use Rattle.pgn_game.specs.UniqueReading as unique;
 ghost use Rattle.pgn_game.specs.EqualReadings as equal;
@@ -14,7 +15,7 @@ use chess_text::laws::{
     a_written_move_is_a_symbol, a_written_move_is_read_as_itself, reading_is_spelling,
     the_one_move_is_read,
 };
-use pgn_layout::laws::lines_keep_tokens;
+use pgn_layout::laws::{lines_keep_tokens, tokens_determine_lines};
 use pgn_lexer::laws::{
     decided_is_prefix, numbers_are_symbols, symbols_stand_in_text, texts_restart, tokens_are_sound,
     tokens_rise, written_tokens_are_read_back,
@@ -115,6 +116,22 @@ pub fn moves_are_legal()
     ensures { legality.MovesAreLegal }
 {
     the_one_move_is_read();
+}
+
+/// Movetext is on lines of at most 79 bytes, and no line breaks too early (PGN 8.2.1).
+///
+/// Each token has 1 to 79 bytes. On a line the tokens are joined by single spaces, and the first
+/// token of the next line has no room on it. The law is of each game that is read of a text, and
+/// of the game after them that is not finished.
+pub fn movetext_is_on_lines()
+    ensures { on_lines.MovetextIsOnLines }
+{
+    a_legal_move_leaves_a_position();
+    a_written_move_is_a_symbol();
+    reading_is_spelling();
+    tokens_determine_lines();
+    tokens_are_sound();
+    moves_are_legal();
 }
 
 /// The export text of games is read back as these games with their defaults filled in.

@@ -61,12 +61,12 @@ unfolding roster
 some_exported Full m ps e = cc
 some_exported Reduced m ps e = cc
 
-first_is_position : IsTrue (is_position first_position)
+pub first_is_position : IsTrue (is_position first_position)
 unfolding first_position squares
 first_is_position = refl
 
 module _ (reads_fen : ReadingIsSpelling) where
-  fen_is_position : (text : List ℕ) (start : Parts) → position_of text ≡ Ok start → IsTrue (is_position start)
+  pub fen_is_position : (text : List ℕ) (start : Parts) → position_of text ≡ Ok start → IsTrue (is_position start)
   unfolding position_of
   fen_is_position text start e = ((reads_fen text start).1 e).position
 

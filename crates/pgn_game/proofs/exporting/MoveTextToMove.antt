@@ -11,7 +11,7 @@ last_test : (a b c d : Bool) {e : Bool} → is_none (if a then Some Kings else i
     → e ≡ true
 last_test a b c d h = grind (arith, false≢true)
 
-full_fits : (q : Parts) → IsTrue (is_position q) → q.full ≤ 99999
+pub full_fits : (q : Parts) → IsTrue (is_position q) → q.full ≤ 99999
 full_fits q e = grind (arith, and_parts, leb-true, last_test)
 
 -- All positions that the moves of a trail lead through are positions.

@@ -72,7 +72,7 @@ behind old part marker outside is =
       probed = is.probed;
     }
 
-marker_token : (marker : Marker) → IsToken (marker_text marker)
+pub marker_token : (marker : Marker) → IsToken (marker_text marker)
 marker_token WhiteWins = record { not_empty = lit< tt; fits = lit≤ tt }
 marker_token BlackWins = record { not_empty = lit< tt; fits = lit≤ tt }
 marker_token Draw = record { not_empty = lit< tt; fits = lit≤ tt }

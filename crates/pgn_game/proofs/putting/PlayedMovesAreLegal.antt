@@ -9,11 +9,11 @@ abbrev go_on_legally : Parts → Levels → List Item → Bool
 go_on_legally start ls items = list_all (λ i. is_legal_at i.position i.item) (placed_from start ls items)
 
 -- no item stands outside movetext
-abbrev HoldsNone : Stage → List Item → Type 0
+abbrev pub HoldsNone : Stage → List Item → Type 0
 HoldsNone InMovetext items = Unit {0}
 HoldsNone _ items = items ≡ []
 
-none_held : (stage : Stage) (items : List Item) → items ≡ [] → HoldsNone stage items
+pub none_held : (stage : Stage) (items : List Item) → items ≡ [] → HoldsNone stage items
 none_held InMovetext items e = tt
 none_held _ items e = e
 
@@ -28,11 +28,11 @@ LeadsLegally (going part) = IsLegal part
 LeadsLegally (whole g) = IsTrue (plays_legally g.pairs g.items)
 
 -- a token outside movetext adds no item, or it begins movetext
-abbrev AddsNone : Next → Type 0
+abbrev pub AddsNone : Next → Type 0
 AddsNone (going part) = part.items ≡ []
 AddsNone (whole g) = ⊥
 
-adds_none : (stage : Stage) (part : Part) (k : Kind) → HoldsNone stage part.items
+pub adds_none : (stage : Stage) (part : Part) (k : Kind) → HoldsNone stage part.items
     → (next_in stage part k ≡ in_text part k) ⊎ AddsNone (next_in stage part k)
 adds_none stage part k none = grind arith
 

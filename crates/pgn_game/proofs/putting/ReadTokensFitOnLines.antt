@@ -1,0 +1,236 @@
+-- Each token that is written of a game that is read fits on a line, so its movetext is on the lines
+-- that its tokens have.
+use Rattle.pgn_game.proofs.Words.{◌≡◌, ℕ, ◌<◌, ◌≤◌, ◌^◌, Bool, true, false, List, [], ◌∷◌, ◌++◌, length, Option, None, Some, Result, Ok, Err, refl, sym, ap, subst, ◌∙◌, ◌⊎◌, arith, rules, inl, inr, is_some, IsTrue, and_parts, false≢true, filter, list_all, unwrap_or, codes, All, All-nil, All-cons, AllByRecursion, Move, Parts, is_position, legal, is_legal, LeavesPosition, WrittenMoveIsSymbol, ReadingIsSpelling, IsToken, lines_of, Kind, Token, IsSoundKind, Mode, Full, Reduced, InMovetext, Profile, Pair, value_of, Item, Game, Part, Level, Levels, levels_after, depth, first_level, back_to, start_of, Placed, placed_from, is_main_move, written_items, number_before, tokens_at, tokens_from, tokens_out, is_black_to_move, text_of_move, play, marker_of, Next, going, whole, next, next_in, in_text, items_of, Progress, progress_with, progress_after, no_progress, read_from, tokens_of, position_of, replayed}
+use Rattle.std.proofs.lemmas.List.Elements.{All-append}
+use Rattle.chess_text.specs.WrittenMove.{IsMoveSymbol, begins_with_letter}
+use Rattle.chess_text.specs.declared.fen.FenFault.{FenFault}
+use Rattle.pgn_layout.specs.Laws.{TokensDetermineLines}
+use Rattle.pgn_lexer.specs.Laws.{TokensAreSound}
+use Rattle.pgn_lexer.specs.Sound.{IsWord}
+use Rattle.pgn_lexer.specs.Tokens as tokens
+use Rattle.pgn_game.specs.Game as games
+use Rattle.pgn_game.specs.Levels.{start_by, position_or_first}
+use Rattle.pgn_game.specs.MovesAreLegal.{is_legal_at, plays_legally, MovesAreLegal}
+use Rattle.pgn_game.specs.MovetextLines.{AreOnLines, GameIsOnLines, PartIsOnLines, MovetextIsOnLines}
+use Rattle.pgn_game.proofs.AllOfJoined.{all_front, all_behind}
+use Rattle.pgn_game.proofs.MarkerTexts.{result_marker}
+use Rattle.pgn_game.proofs.tokens.OneMoreToken.{by_token}
+use Rattle.pgn_game.proofs.putting.MarkerToReader.{marker_token}
+use Rattle.pgn_game.proofs.putting.NumberToTokens.{number_token, glyph_token}
+use Rattle.pgn_game.proofs.putting.PlayedMovesAreLegal.{HoldsNone, none_held, AddsNone, adds_none}
+use Rattle.pgn_game.proofs.exporting.GameTextToGame.{first_is_position, fen_is_position}
+use Rattle.pgn_game.proofs.exporting.SpelledToSound.{marker_is_result}
+use Rattle.pgn_game.proofs.exporting.MoveTextToMove.{ArePositions, last_position, earlier_positions, full_fits}
+
+-- what is known of an item of sound tokens
+abbrev IsSoundItem : Item → Type 0
+IsSoundItem (games.glyph n) = n ≤ 255
+IsSoundItem (games.word text) = IsWord text
+IsSoundItem _ = Unit {0}
+
+one_token : (t : List ℕ) → IsToken t → All IsToken (t ∷ [])
+one_token t is = All-cons IsToken t [] is (All-nil IsToken)
+
+short_token : (t : List ℕ) → 0 < length t → length t ≤ 7 → All IsToken (t ∷ [])
+short_token t some short = one_token t (record { not_empty = some; fits = omega arith })
+
+number_fits : (b is_black : Bool) (n : ℕ) → n ≤ 99999 → All IsToken (number_before b is_black n)
+number_fits b false n few = one_token _ (number_token n (codes ".") (omega arith) (omega arith))
+number_fits false true n few = one_token _ (number_token n (codes "...") (omega arith) (omega arith))
+number_fits true true n few = All-nil IsToken
+
+not_empty : (s : List ℕ) → IsTrue (begins_with_letter s) → 0 < length s
+not_empty [] e = absurd (false≢true e)
+not_empty (c ∷ s) e = omega arith
+
+-- all positions of these levels are positions
+abbrev LeadThroughPositions : Parts → Levels → Type 0
+LeadThroughPositions start ls = ArePositions start ls.present.trail × AllByRecursion (λ l. ArePositions start l.trail) ls.around
+
+-- the tokens of an item fit on lines
+abbrev FitsOnLines : Placed → Type 0
+FitsOnLines i = (b : Bool) → All IsToken (tokens_at b i.position i.item)
+
+filtered : (is : List Placed) → AllByRecursion FitsOnLines is → AllByRecursion FitsOnLines (filter is_main_move is)
+filtered [] fit = tt
+filtered (i ∷ is) fit = grind (arith, filtered is fit.1)
+
+written_fit : (mode : Mode) (is : List Placed) → AllByRecursion FitsOnLines is → AllByRecursion FitsOnLines (written_items mode is)
+written_fit Full is fit = fit
+written_fit Reduced is fit = filtered is fit
+
+joined : (b : Bool) (is : List Placed) → AllByRecursion FitsOnLines is → All IsToken (tokens_from b is)
+joined b [] fit = All-nil IsToken
+joined b (i ∷ is) fit = All-append IsToken (tokens_at b i.position i.item) _ (fit.0 b) (joined _ is fit.1)
+
+-- Soundness of what is read.
+abbrev IsSoundPart : Part → Type 0
+IsSoundPart part = HoldsNone part.stage part.items × AllByRecursion IsSoundItem part.items
+
+pub record IsSoundGame (g : Game) : Type 0 where
+  pub items : AllByRecursion IsSoundItem g.items
+  pub marker : IsToken g.marker
+
+abbrev LeadsSoundly : Next → Type 0
+LeadsSoundly (going part) = IsSoundPart part
+LeadsSoundly (whole g) = IsSoundGame g
+
+no_items : (items : List Item) → items ≡ [] → AllByRecursion IsSoundItem items
+no_items items e = rw e tt
+
+leads_none : (nx : Next) → AddsNone nx → LeadsSoundly nx
+leads_none (going part) none = (none_held part.stage part.items none, no_items part.items none)
+leads_none (whole g) none = absurd none
+
+items_sound : (part : Part) (k : Kind) → IsSoundKind k → AllByRecursion IsSoundItem (items_of part k)
+items_sound part k sound = grind arith
+
+more_items : (items more : List Item) → AllByRecursion IsSoundItem items → AllByRecursion IsSoundItem more
+    → AllByRecursion IsSoundItem (items ++ more)
+more_items [] more h k = k
+more_items (i ∷ is) more h k = (h.0, more_items is more h.1 k)
+
+marker_fits : (k : Kind) (marker : List ℕ) → marker_of k ≡ Some marker → IsToken marker
+marker_fits k marker is =
+    let found = result_marker marker (marker_is_result k is) in
+    subst IsToken (sym found.1) (marker_token found.0)
+
+text_sound : (part : Part) (k : Kind) → IsSoundKind k → AllByRecursion IsSoundItem part.items → LeadsSoundly (in_text part k)
+text_sound part k sound h = by_marker (marker_of k) refl
+  where
+    by_marker : (o : Option (List ℕ)) → marker_of k ≡ o
+        → LeadsSoundly (elim o [
+          | Some marker ↦ whole (record { pairs = part.pairs; items = part.items; marker = marker })
+          | None ↦ going (record { stage = InMovetext; pairs = part.pairs; name = part.name; items = part.items ++ items_of part k })
+        ])
+    by_marker None is = (tt, more_items part.items _ h (items_sound part k sound))
+    by_marker (Some marker) is = record { items = h; marker = marker_fits k marker is }
+
+next_sound : (part : Part) (k : Kind) → IsSoundKind k → IsSoundPart part → LeadsSoundly (next part k)
+next_sound part k sound h = by_stage (adds_none part.stage part k h.0)
+  where
+    by_stage : (next part k ≡ in_text part k) ⊎ AddsNone (next part k) → LeadsSoundly (next part k)
+    by_stage (inl is) = subst LeadsSoundly (sym is) (text_sound part k sound h.1)
+    by_stage (inr none) = leads_none (next part k) none
+
+abbrev IsSoundProgress : Progress → Type 0
+IsSoundProgress b = AllByRecursion IsSoundGame b.games × IsSoundPart b.part
+
+more_games : (gs : List Game) (g : Game) → AllByRecursion IsSoundGame gs → IsSoundGame g → AllByRecursion IsSoundGame (gs ++ g ∷ [])
+more_games [] g h k = (k, tt)
+more_games (x ∷ gs) g h k = (h.0, more_games gs g h.1 k)
+
+with_sound : (gs : List Game) (nx : Next) → AllByRecursion IsSoundGame gs → LeadsSoundly nx → IsSoundProgress (progress_with gs nx)
+with_sound gs (going part) h k = (h, k)
+with_sound gs (whole g) h k = (more_games gs g h k, (refl, tt))
+
+read_sound : (p : Profile) (b : Progress) (ts : List Token) → AllByRecursion (λ t. IsSoundKind t.kind) ts → IsSoundProgress b
+    → IsSoundProgress (read_from p b ts).progress
+read_sound p b [] sound h = h
+read_sound p b (t ∷ ts) sound h =
+    by_token p b t ts (λ r. IsSoundProgress r.progress) (λ reason is. h)
+    (λ is. read_sound p (progress_after b t) ts sound.1 (with_sound b.games (next _ t.kind) h.0 (next_sound _ _ sound.0 h.1)))
+
+module _ (leaves : LeavesPosition) (is_symbol : WrittenMoveIsSymbol) (reads_fen : ReadingIsSpelling)
+    (legal_moves : MovesAreLegal) (determine : TokensDetermineLines) (sound_tokens : TokensAreSound) where
+  move_fits : (b : Bool) (at : Parts) (m : Move) → IsTrue (is_position at) → IsTrue (is_legal at m)
+      → All IsToken (tokens_at b at (games.move m))
+  unfolding text_of_move
+  move_fits b at m position may =
+      let symbol = is_symbol at m may in
+      All-append IsToken (number_before b (is_black_to_move at) at.full) _
+      (number_fits b (is_black_to_move at) at.full (full_fits at position))
+      (short_token (text_of_move at m) (not_empty _ symbol.begins) symbol.fits)
+
+  item_fits : (at : Parts) (deep : ℕ) (i : Item) → IsTrue (is_position at) → IsSoundItem i → IsTrue (is_legal_at at i)
+      → FitsOnLines (record { position = at; depth = deep; item = i })
+  item_fits at deep (games.move m) position sound may b = move_fits b at m position may
+  item_fits at deep (games.glyph n) position sound may b = one_token _ (glyph_token n (omega arith))
+  item_fits at deep games.comment_open position sound may b = short_token _ (omega arith) (omega arith)
+  item_fits at deep (games.word text) position sound may b =
+      one_token text (record { not_empty = sound.some; fits = sound.fits })
+  item_fits at deep games.comment_close position sound may b = short_token _ (omega arith) (omega arith)
+  item_fits at deep games.open_variation position sound may b = short_token _ (omega arith) (omega arith)
+  item_fits at deep games.close_variation position sound may b = short_token _ (omega arith) (omega arith)
+
+  plays_on : (at : Parts) (m : Move) → IsTrue (is_position at) → IsTrue (is_legal at m) → IsTrue (is_position (play at m))
+  unfolding play
+  plays_on at m position may = by_answer (legal at m) refl may
+    where
+      by_answer : (o : Option Parts) → legal at m ≡ o → IsTrue (is_some o) → IsTrue (is_position (unwrap_or o at))
+      by_answer None e is = absurd (false≢true is)
+      by_answer (Some q) e is = leaves at q m position e
+
+  levels_go_on : (start : Parts) (ls : Levels) (i : Item) → LeadThroughPositions start ls
+      → IsTrue (is_legal_at (replayed start ls.present.trail) i) → LeadThroughPositions start (levels_after ls i)
+  levels_go_on start ls (games.move m) good may =
+      ((plays_on _ m (last_position start ls.present.trail good.0) may, good.0), good.1)
+  levels_go_on start ls games.open_variation good may =
+      (earlier_positions start ls.present.trail good.0, (good.0, good.1))
+  levels_go_on start ls games.close_variation good may = by_around ls.around good.1
+    where
+      by_around : (around : List Level) → AllByRecursion (λ l. ArePositions start l.trail) around
+          → LeadThroughPositions start (back_to around ls)
+      by_around [] all = good
+      by_around (l ∷ around) all = all
+  levels_go_on start ls _ good may = good
+
+  placed_fit : (start : Parts) (ls : Levels) (items : List Item) → LeadThroughPositions start ls → AllByRecursion IsSoundItem items
+      → IsTrue (list_all (λ i. is_legal_at i.position i.item) (placed_from start ls items))
+      → AllByRecursion FitsOnLines (placed_from start ls items)
+  placed_fit start ls [] good sound may = tt
+  placed_fit start ls (i ∷ is) good sound may =
+      let both = and_parts (is_legal_at (replayed start ls.present.trail) i) _ may in (
+        item_fits _ (depth ls) i (last_position start ls.present.trail good.0) sound.0 both.0,
+        placed_fit start (levels_after ls i) is (levels_go_on start ls i good both.0) sound.1 both.1,
+      )
+
+  start_is_position : (pairs : List Pair) → IsTrue (is_position (start_of pairs))
+  start_is_position pairs = by_value (value_of pairs (codes "FEN"))
+    where
+      by_fen : (text : List ℕ) (r : Result Parts FenFault) → position_of text ≡ r → IsTrue (is_position (position_or_first r))
+      by_fen text (Ok q) e = fen_is_position reads_fen text q e
+      by_fen text (Err f) e = first_is_position
+
+      by_value : (o : Option (List ℕ)) → IsTrue (is_position (start_by o))
+      by_value None = first_is_position
+      by_value (Some text) = by_fen text (position_of text) refl
+
+  tokens_fit : (mode : Mode) (pairs : List Pair) (items : List Item) → AllByRecursion IsSoundItem items
+      → IsTrue (plays_legally pairs items) → All IsToken (tokens_out mode (start_of pairs) items)
+  tokens_fit mode pairs items sound may =
+      joined false _
+      (written_fit mode _ (placed_fit (start_of pairs) first_level items (start_is_position pairs, tt) sound may))
+
+  on_lines : (ts : List (List ℕ)) → All IsToken ts → AreOnLines ts (lines_of ts)
+  on_lines ts each = record { each = each; joined = (determine ts (lines_of ts) each).1 refl }
+
+  games_on_lines : (p : Profile) (gs : List Game) → AllByRecursion IsSoundGame gs
+      → IsTrue (list_all (λ g. plays_legally g.pairs g.items) gs) → AllByRecursion (GameIsOnLines p) gs
+  games_on_lines p [] sound may = tt
+  games_on_lines p (g ∷ gs) sound may =
+      let both = and_parts (plays_legally g.pairs g.items) _ may in (
+        record {
+          lines = lines_of (tokens_out p.mode (start_of g.pairs) g.items ++ g.marker ∷ []);
+          on =
+              on_lines _
+              (All-append IsToken (tokens_out p.mode (start_of g.pairs) g.items) _
+              (tokens_fit p.mode g.pairs g.items sound.0.items both.0) (one_token g.marker sound.0.marker));
+          text = refl;
+        },
+        games_on_lines p gs sound.1 both.1,
+      )
+
+  pub movetext_is_on_lines : MovetextIsOnLines
+  movetext_is_on_lines p s =
+      let ts = tokens_of s in
+      let sound = read_sound p no_progress ts (sound_tokens s).texts (tt, (refl, tt)) in
+      let are_legal = legal_moves p ts in
+      let part = (read_from p no_progress ts).progress.part in (
+        games_on_lines p _ sound.0 are_legal.0,
+        record {
+          lines = lines_of (tokens_out p.mode (start_of part.pairs) part.items);
+          on = on_lines _ (tokens_fit p.mode part.pairs part.items sound.1.1 are_legal.1);
+          text = refl;
+        },
+      )
