@@ -26,12 +26,6 @@ impl Level {
     }
 }
 
-impl Default for Level {
-    fn default() -> Level {
-        Level::at(Position::initial())
-    }
-}
-
 /// The levels of the current game: at least one and at most `L`.
 #[derive(Drop)]
 pub struct Levels<const L: usize> {
