@@ -1,18 +1,16 @@
 -- Each token that is written of a game that is read fits on a line, so its movetext is on the lines
 -- that its tokens have.
-use Rattle.pgn_game.proofs.Words.{◌≡◌, ℕ, ◌<◌, ◌≤◌, ◌^◌, Bool, true, false, List, [], ◌∷◌, ◌++◌, length, Option, None, Some, Result, Ok, Err, refl, sym, ap, subst, ◌∙◌, ◌⊎◌, arith, rules, inl, inr, is_some, IsTrue, and_parts, false≢true, filter, list_all, unwrap_or, codes, All, All-nil, All-cons, AllByRecursion, Move, Parts, is_position, legal, is_legal, LeavesPosition, WrittenMoveIsSymbol, ReadingIsSpelling, IsToken, lines_of, Kind, Token, IsSoundKind, Mode, Full, Reduced, InMovetext, Profile, Pair, value_of, Item, Game, Part, Level, Levels, levels_after, depth, first_level, back_to, start_of, Placed, placed_from, is_main_move, written_items, number_before, tokens_at, tokens_from, tokens_out, is_black_to_move, text_of_move, play, marker_of, Next, going, whole, next, next_in, in_text, items_of, Progress, progress_with, progress_after, no_progress, read_from, tokens_of, position_of, replayed}
+use Rattle.pgn_game.proofs.Words.{◌≡◌, ℕ, ◌<◌, ◌≤◌, Bool, true, false, List, [], ◌∷◌, ◌++◌, length, Option, None, Some, Result, Ok, Err, refl, sym, subst, ◌⊎◌, arith, inl, inr, is_some, IsTrue, and_parts, false≢true, filter, list_all, unwrap_or, codes, All, All-nil, All-cons, AllByRecursion, Move, Parts, is_position, legal, is_legal, LeavesPosition, WrittenMoveIsSymbol, ReadingIsSpelling, IsToken, lines_of, Kind, Token, IsSoundKind, Mode, Full, Reduced, InMovetext, Profile, Pair, value_of, Item, Game, Part, Level, Levels, levels_after, depth, first_level, back_to, start_of, Placed, placed_from, is_main_move, written_items, number_before, tokens_at, tokens_from, tokens_out, is_black_to_move, text_of_move, play, marker_of, Next, going, whole, next, in_text, items_of, Progress, progress_with, progress_after, no_progress, read_from, tokens_of, position_of, replayed}
 use Rattle.std.proofs.lemmas.List.Elements.{All-append}
-use Rattle.chess_text.specs.WrittenMove.{IsMoveSymbol, begins_with_letter}
+use Rattle.chess_text.specs.WrittenMove.{begins_with_letter}
 use Rattle.chess_text.specs.declared.fen.FenFault.{FenFault}
 use Rattle.pgn_layout.specs.Laws.{TokensDetermineLines}
 use Rattle.pgn_lexer.specs.Laws.{TokensAreSound}
 use Rattle.pgn_lexer.specs.Sound.{IsWord}
-use Rattle.pgn_lexer.specs.Tokens as tokens
 use Rattle.pgn_game.specs.Game as games
 use Rattle.pgn_game.specs.Levels.{start_by, position_or_first}
 use Rattle.pgn_game.specs.MovesAreLegal.{is_legal_at, plays_legally, MovesAreLegal}
-use Rattle.pgn_game.specs.MovetextLines.{AreOnLines, GameIsOnLines, PartIsOnLines, MovetextIsOnLines}
-use Rattle.pgn_game.proofs.AllOfJoined.{all_front, all_behind}
+use Rattle.pgn_game.specs.MovetextLines.{AreOnLines, GameIsOnLines, MovetextIsOnLines}
 use Rattle.pgn_game.proofs.MarkerTexts.{result_marker}
 use Rattle.pgn_game.proofs.tokens.OneMoreToken.{by_token}
 use Rattle.pgn_game.proofs.putting.MarkerToReader.{marker_token}
