@@ -1,6 +1,6 @@
 -- **Definition**: what a call does to the bytes of a device, and to its count of failures.
 -- A device is a source of bytes, or a sink.
-use Rattle.std.specs.Prelude.{◌≡◌, ℕ, ◌+◌, ◌-◌, ◌^◌, ◌<◌, min, List, length, take, Option, None, Result, MatchResult}
+use Rattle.std.specs.Prelude.{◌≡◌, ℕ, ◌+◌, ◌-◌, ◌^◌, ◌<◌, min, List, [], length, take, Option, None, Some, Result, MatchResult}
 use Rattle.std.specs.Io.KnownBytes.{Appends}
 
 -- one more failure; the count stays at 2^64 - 1
@@ -18,6 +18,11 @@ AppendsFront old new text = (n : ℕ) × (n < length text) × Appends old new (t
 -- the whole text was appended, or if the call failed a prefix of it and not all
 abbrev pub Writes : {A E : Type 0} → Option (List ℕ) → Option (List ℕ) → Result A E → List ℕ → Type 0
 Writes old new r text = MatchResult r (λ _. Appends old new text) (λ _. AppendsFront old new text)
+
+-- no byte is unflushed, if the sink reports which are
+abbrev pub NoneUnflushed : Option (List ℕ) → Type 0
+NoneUnflushed None = Unit {0}
+NoneUnflushed (Some bytes) = bytes ≡ []
 
 -- What a contract compares: a device before and after a call. The bytes are those left in a source
 -- or taken by a sink, if it reports them.

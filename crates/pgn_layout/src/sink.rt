@@ -1,7 +1,7 @@
 //! Sinks: what takes the output.
-ghost use Rattle.std.specs.Prelude.{ℕ, ◌<◌, ◌≤◌, List, length, Option, IfOk};
+ghost use Rattle.std.specs.Prelude.{ℕ, ◌<◌, ◌≤◌, List, length, Option, None, IfOk, OnOk};
 ghost use Rattle.std.specs.Io.KnownBytes.{Keeps, WriteAppends};
-ghost use Rattle.pgn_layout.specs.Device.{Counts, Writes};
+ghost use Rattle.pgn_layout.specs.Device.{Counts, NoneUnflushed, Writes};
 
 /// A write or a flush that failed.
 #[derive(Clone, Copy, Debug, PartialEq, Eq)]
@@ -16,6 +16,9 @@ pub trait Sink {
 
     // How many calls have failed; the count stays at 2^64 - 1.
     ghost failures: { Self → ℕ };
+
+    // The bytes taken that a flush has to pass on, if the sink reports them.
+    ghost unflushed: { Self → Option (List ℕ) } = { λ _. None };
 
     /// Takes some of the first bytes, at least one, and returns how many.
     ///
@@ -37,7 +40,8 @@ pub trait Sink {
     /// [`WriteFault`] if that failed.
     fn flush(&mut self) -> Result<(), WriteFault>
         ensures bytes { Keeps (taken self.old) (taken self.new) }
-        ensures failures { Counts result (failures self.old) (failures self.new) };
+        ensures failures { Counts result (failures self.old) (failures self.new) }
+        ensures flushed { OnOk result (NoneUnflushed (unflushed self.new)) };
 }
 
 /// Writes all the bytes.

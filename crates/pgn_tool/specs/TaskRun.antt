@@ -1,7 +1,7 @@
 -- **Definition**: what a run of a task does to its devices, and the status that it ends with.
-use Rattle.std.specs.Prelude.{◌≡◌, ℕ, ◌-◌, ◌^◌, ◌<◌, ◌≤◌, ◌⊎◌, Bool, true, false, List, [], ◌∷◌, ◌++◌, length, take, codes, decimal, Some, Result, Ok, Err}
+use Rattle.std.specs.Prelude.{◌≡◌, ℕ, ◌-◌, ◌^◌, ◌<◌, ◌≤◌, ◌⊎◌, Bool, true, false, List, [], ◌∷◌, ◌++◌, length, take, codes, decimal, Option, Some, Result, Ok, Err}
 use Rattle.std.specs.Io.KnownBytes.{Appends, Keeps}
-use Rattle.pgn_layout.specs.Device.{Device, IsStill, nowhere, one_more}
+use Rattle.pgn_layout.specs.Device.{Device, IsStill, NoneUnflushed, nowhere, one_more}
 use Rattle.pgn_game.specs.declared.mode.Mode.{Mode}
 use Rattle.pgn_game.specs.declared.mode.Mode.TheVariants.{Full, Reduced}
 use Rattle.pgn_game.specs.declared.reason.Reason.{Reason}
@@ -103,9 +103,10 @@ Tells d text = IsCalm d → Appends d.before d.after text
 abbrev pub HasFront : Device → List ℕ → Type 0
 HasFront d text = (count : ℕ) × Appends d.before d.after (take count text)
 
--- Nothing is left in the sink's buffer, or a call of it failed and the status is 1.
-abbrev pub IsFlushed : Device → List ℕ → ℕ → Type 0
-IsFlushed d unflushed status = (unflushed ≡ []) ⊎ (HasFailed d × (status ≡ 1))
+-- Nothing that the sink took is unflushed, if it reports that, or a call of it failed and the
+-- status is 1.
+abbrev pub IsFlushed : Device → Option (List ℕ) → ℕ → Type 0
+IsFlushed d unflushed status = NoneUnflushed unflushed ⊎ (HasFailed d × (status ≡ 1))
 
 -- ---- if no device fails
 

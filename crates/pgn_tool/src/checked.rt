@@ -5,7 +5,6 @@ ghost use Rattle.pgn_tool.specs.TaskRun.{IsFlushed, IsSmooth, mode_for};
 ghost use Rattle.pgn_tool.specs.CheckedRun.{AnswersSame, AnswersTwice, Gives, RunsTwice, WritesFront};
 ghost use Rattle.pgn_tool.specs.CheckedRun.{checked_mode, is_checked};
 
-use crate::machine::Output;
 use crate::stream::{LEVELS, TAGS, conclude, export_mode, refuse};
 use pgn_arguments::Task;
 use pgn_game::laws::{due_grows, equal_readings, interrupted_readings};
@@ -25,7 +24,7 @@ use pgn_lexer::laws::decided_is_prefix;
 /// On a fault of `first` every game before it is written, and nothing of its own game. On another
 /// one, the text of the current game may be torn. Only the first fault is reported. A failure of
 /// `err` changes no status. The task must be `Checked`.
-pub fn run_checked<Q: Source, R: Source, O: Output, E: Sink>(
+pub fn run_checked<Q: Source, R: Source, O: Sink, E: Sink>(
     task: &Task,
     first: &mut Q,
     second: &mut R,
@@ -72,7 +71,7 @@ pub fn run_checked<Q: Source, R: Source, O: Output, E: Sink>(
         (device O.taken O.failures out.old out.new)
         (device E.taken E.failures err.old err.new) result }
 
-    // Nothing is left in the buffer, or a call of `out` failed.
+    // Nothing that `out` took is unflushed, if it reports that, or a call of it failed.
     ensures flushed { IsFlushed (device O.taken O.failures out.old out.new)
         (O.unflushed out.new) result }
 {
@@ -89,7 +88,7 @@ pub fn run_checked<Q: Source, R: Source, O: Output, E: Sink>(
 // Writes the games in export format, each after it has been read. It is not inlined, so that only
 // this task has room for two converters on its stack.
 #[inline(never)]
-fn export_twice<Q: Source, R: Source, O: Output, E: Sink>(
+fn export_twice<Q: Source, R: Source, O: Sink, E: Sink>(
     mode: Mode,
     first: &mut Q,
     second: &mut R,
@@ -104,7 +103,7 @@ fn export_twice<Q: Source, R: Source, O: Output, E: Sink>(
         (O.unflushed out.new) result }
 {
     let answer = convert_checked::<TAGS, LEVELS, Q, R, O>(first, second, out, mode);
-    let flushed = out.flush_all();
+    let flushed = out.flush();
     match answer {
         Ok(_) => conclude(flushed.is_ok(), err),
         Err(fault) => refuse(fault, err),

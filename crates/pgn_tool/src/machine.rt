@@ -1,6 +1,6 @@
 //! What a machine gives to a run of the program, beside the files that games are written to.
 use crate::files::GameFiles;
-use pgn_game::{Sink, Source, WriteFault};
+use pgn_game::{Sink, Source};
 use std::alloc::AllocError;
 use std::io;
 use std::io::ErrorKind;
@@ -59,33 +59,21 @@ pub trait Input: Source {
 
 /// Standard output.
 pub trait Output: Sink {
-    ghost use Rattle.std.specs.Prelude.{◌≡◌, ℕ, List, [], Bool, true, false, OnErr, OnOk};
-    ghost use Rattle.std.specs.Io.KnownBytes.{Keeps};
-    ghost use Rattle.pgn_layout.specs.Device.{Counts};
+    ghost use Rattle.std.specs.Prelude.{◌≡◌, Bool, true, false, IsSome, OnErr, OnOk};
 
     // There was no memory for the buffer.
     ghost lacks_memory: { Self → Bool };
-
-    // The bytes taken that are still in the buffer.
-    ghost unflushed: { Self → List ℕ };
 
     /// Makes a buffer for what is written from now on.
     fn reserve(&mut self) -> Result<(), AllocError>
         ensures taken { Self.taken self.new ≡ Self.taken self.old }
         ensures failures { Self.failures self.new ≡ Self.failures self.old }
-        ensures kept { unflushed self.new ≡ unflushed self.old }
+        ensures kept { Self.unflushed self.new ≡ Self.unflushed self.old }
         ensures short { OnErr result (lacks_memory self.new ≡ true) }
         ensures room { OnOk result (lacks_memory self.new ≡ false) };
 
-    /// Flushes: writes out what is in the buffer, and flushes what that goes to.
-    ///
-    /// # Errors
-    ///
-    /// [`WriteFault`] if one of these failed.
-    fn flush_all(&mut self) -> Result<(), WriteFault>
-        ensures bytes { Keeps (Self.taken self.old) (Self.taken self.new) }
-        ensures failures { Counts result (Self.failures self.old) (Self.failures self.new) }
-        ensures flushed { OnOk result (unflushed self.new ≡ []) };
+    // It always reports the bytes that are not flushed yet.
+    ghost reports: { (out : Self) → IsSome (Self.unflushed out) };
 }
 
 /// Files of games, in a folder.

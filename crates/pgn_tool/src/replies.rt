@@ -1,10 +1,9 @@
 //! The replies if no task is run.
-ghost use Rattle.std.specs.Prelude.{◌≡◌, [], codes};
-ghost use Rattle.pgn_layout.specs.Device.{device};
+ghost use Rattle.std.specs.Prelude.{◌≡◌, codes};
+ghost use Rattle.pgn_layout.specs.Device.{NoneUnflushed, device};
 ghost use Rattle.pgn_tool.specs.TaskRun.{IsFlushed, Tells, line};
 ghost use Rattle.pgn_tool.specs.Replies.{AnswersFault, Shows};
 
-use crate::machine::Output;
 use crate::stream::{conclude, tell, write_last};
 use pgn_arguments::ParseFault;
 use pgn_game::Sink;
@@ -15,10 +14,10 @@ use pgn_layout::write_all;
 /// - Help goes to `out`, with status 0, or 1 if that fails.
 /// - A mistake goes to `err`, with status 2.
 /// - A lack of memory goes to `err`, with status 3.
-pub fn answer_fault<O: Output, E: Sink>(fault: &ParseFault, out: &mut O, err: &mut E) -> u8
+pub fn answer_fault<O: Sink, E: Sink>(fault: &ParseFault, out: &mut O, err: &mut E) -> u8
     ensures answers { AnswersFault fault.now (device O.taken O.failures out.old out.new)
         (device E.taken E.failures err.old err.new) result }
-    ensures flushed { O.unflushed out.old ≡ []
+    ensures flushed { NoneUnflushed (O.unflushed out.old)
         → IsFlushed (device O.taken O.failures out.old out.new) (O.unflushed out.new) result }
 {
     match fault {
@@ -32,7 +31,7 @@ pub fn answer_fault<O: Output, E: Sink>(fault: &ParseFault, out: &mut O, err: &m
 }
 
 // Writes the text of help, and flushes.
-fn show<O: Output, E: Sink>(text: &str, out: &mut O, err: &mut E) -> u8
+fn show<O: Sink, E: Sink>(text: &str, out: &mut O, err: &mut E) -> u8
     ensures shows { Shows text.now (device O.taken O.failures out.old out.new)
         (device E.taken E.failures err.old err.new) result }
     ensures flushed { IsFlushed (device O.taken O.failures out.old out.new)

@@ -1,6 +1,6 @@
 //! A run of the program, on whatever machine.
-ghost use Rattle.std.specs.Prelude.{◌≡◌, ℕ, ◌≤◌, false, true, List, [], Some};
-ghost use Rattle.pgn_layout.specs.Device.{device};
+ghost use Rattle.std.specs.Prelude.{◌≡◌, ℕ, ◌≤◌, false, true, List, Some};
+ghost use Rattle.pgn_layout.specs.Device.{NoneUnflushed, device};
 ghost use Rattle.pgn_tool.specs.Machine.{HasRoom, machine, missing, reading};
 ghost use Rattle.pgn_arguments.specs.Requests.{file_of, request_of};
 ghost use Rattle.pgn_tool.specs.TaskRun.{IsFlushed, is_for_stream, job_of};
@@ -54,7 +54,7 @@ pub fn run<I: Input, O: Output, F: GameFolder, E: Sink>(
         (HasRoom O.taken O.failures O.lacks_memory out.old)
         (F.log files.old) (F.log files.new)
         (device E.taken E.failures err.old err.new)) result }
-    ensures flushed { O.unflushed out.old ≡ []
+    ensures flushed { NoneUnflushed (O.unflushed out.old)
         → IsFlushed (device O.taken O.failures out.old out.new) (O.unflushed out.new) result }
 {
     match words {
@@ -84,7 +84,7 @@ fn run_answer<I: Input, O: Output, F: GameFolder, E: Sink>(
         (HasRoom O.taken O.failures O.lacks_memory out.old)
         (F.log files.old) (F.log files.new)
         (device E.taken E.failures err.old err.new)) result }
-    ensures flushed { O.unflushed out.old ≡ []
+    ensures flushed { NoneUnflushed (O.unflushed out.old)
         → IsFlushed (device O.taken O.failures out.old out.new) (O.unflushed out.new) result }
 {
     match answer {
@@ -110,7 +110,7 @@ pub fn run_task<I: Input, O: Output, F: GameFolder, E: Sink>(
         (HasRoom O.taken O.failures O.lacks_memory out.old)
         (F.log files.old) (F.log files.new)
         (device E.taken E.failures err.old err.new)) result }
-    ensures flushed { O.unflushed out.old ≡ []
+    ensures flushed { NoneUnflushed (O.unflushed out.old)
         → IsFlushed (device O.taken O.failures out.old out.new) (O.unflushed out.new) result }
     ensures missing { (name : List ℕ) → file_of (request_of task) ≡ Some name
         → I.holding input.old name ≡ missing
@@ -161,7 +161,7 @@ fn run_opened<I: Input, O: Output, F: GameFolder, E: Sink>(
         (HasRoom O.taken O.failures O.lacks_memory out.old)
         (F.log files.old) (F.log files.new)
         (device E.taken E.failures err.old err.new) result }
-    ensures flushed { O.unflushed out.old ≡ []
+    ensures flushed { NoneUnflushed (O.unflushed out.old)
         → IsFlushed (device O.taken O.failures out.old out.new) (O.unflushed out.new) result }
 {
     match task {
@@ -188,7 +188,7 @@ fn run_to_output<I: Input, O: Output, E: Sink>(
         (device O.taken O.failures out.old out.new) (O.lacks_memory out.new)
         (HasRoom O.taken O.failures O.lacks_memory out.old)
         (device E.taken E.failures err.old err.new) result }
-    ensures flushed { O.unflushed out.old ≡ []
+    ensures flushed { NoneUnflushed (O.unflushed out.old)
         → IsFlushed (device O.taken O.failures out.old out.new) (O.unflushed out.new) result }
 {
     match task {
@@ -217,7 +217,7 @@ fn run_again<I: Input, O: Output, E: Sink>(
         (device O.taken O.failures out.old out.new) (O.lacks_memory out.new)
         (HasRoom O.taken O.failures O.lacks_memory out.old)
         (device E.taken E.failures err.old err.new) result }
-    ensures flushed { O.unflushed out.old ≡ []
+    ensures flushed { NoneUnflushed (O.unflushed out.old)
         → IsFlushed (device O.taken O.failures out.old out.new) (O.unflushed out.new) result }
 {
     match second.open(name) {
@@ -242,7 +242,7 @@ fn run_both<I: Input, O: Output, E: Sink>(
         (device O.taken O.failures out.old out.new) (O.lacks_memory out.new)
         (HasRoom O.taken O.failures O.lacks_memory out.old)
         (device E.taken E.failures err.old err.new) result }
-    ensures flushed { O.unflushed out.old ≡ []
+    ensures flushed { NoneUnflushed (O.unflushed out.old)
         → IsFlushed (device O.taken O.failures out.old out.new) (O.unflushed out.new) result }
 {
     match out.reserve() {
@@ -264,7 +264,7 @@ fn run_buffered<I: Input, O: Output, E: Sink>(
         (device O.taken O.failures out.old out.new) (O.lacks_memory out.new)
         (HasRoom O.taken O.failures O.lacks_memory out.old)
         (device E.taken E.failures err.old err.new) result }
-    ensures flushed { O.unflushed out.old ≡ []
+    ensures flushed { NoneUnflushed (O.unflushed out.old)
         → IsFlushed (device O.taken O.failures out.old out.new) (O.unflushed out.new) result }
 {
     match out.reserve() {

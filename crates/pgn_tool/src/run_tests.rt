@@ -88,11 +88,13 @@ struct Screen {
 }
 
 impl Sink for Screen {
-    ghost use Rattle.std.specs.Prelude.{None};
+    ghost use Rattle.std.specs.Prelude.{[], None, Some};
 
     ghost taken = { λ _. None };
 
     ghost failures = { λ s. s.outlet.failures };
+
+    ghost unflushed = { λ _. Some [] };
 
     fn write_some(&mut self, bytes: &[u8]) -> Result<usize, WriteFault> {
         self.outlet.write_some(bytes)
@@ -104,11 +106,11 @@ impl Sink for Screen {
 }
 
 impl Output for Screen {
-    ghost use Rattle.std.specs.Prelude.{[]};
+    ghost use Rattle.std.specs.Prelude.{refl};
 
     ghost lacks_memory = { λ s. s.lacks_memory };
 
-    ghost unflushed = { λ _. [] };
+    ghost reports = { λ _. refl };
 
     fn reserve(&mut self) -> Result<(), AllocError> {
         self.buffers = self.buffers.saturating_add(1);
@@ -118,10 +120,6 @@ impl Output for Screen {
         } else {
             Err(AllocError)
         }
-    }
-
-    fn flush_all(&mut self) -> Result<(), WriteFault> {
-        self.outlet.flush()
     }
 }
 

@@ -128,11 +128,14 @@ fn remove_front(buffer: &mut Vec<u8>, count: usize)
 }
 
 impl<W: Write> Sink for StandardOutput<W> {
+    ghost use Rattle.std.specs.Prelude.{Some};
     ghost use Rattle.std.specs.Io.KnownBytes.{append_known};
 
     ghost taken = { λ s. append_known (W.contents s.outlet.writer) s.buffer.items };
 
     ghost failures = { λ s. s.outlet.failures };
+
+    ghost unflushed = { λ s. Some s.buffer.items };
 
     #[inline]
     fn write_some(&mut self, bytes: &[u8]) -> Result<usize, WriteFault> {
@@ -149,23 +152,20 @@ impl<W: Write> Sink for StandardOutput<W> {
     }
 
     fn flush(&mut self) -> Result<(), WriteFault> {
-        self.flush_all()
+        self.write_out()?;
+        self.outlet.flush()
     }
 }
 
 impl<W: Write> Output for StandardOutput<W> {
+    ghost use Rattle.std.specs.Prelude.{refl};
     ghost use Rattle.pgn_tool.specs.Standard.{lacks_room};
 
     ghost lacks_memory = { λ s. lacks_room s.buffer };
 
-    ghost unflushed = { λ s. s.buffer.items };
+    ghost reports = { λ _. refl };
 
     fn reserve(&mut self) -> Result<(), AllocError> {
         Ok(self.buffer.try_reserve_exact(OUTPUT_BUFFER)?)
-    }
-
-    fn flush_all(&mut self) -> Result<(), WriteFault> {
-        self.write_out()?;
-        self.outlet.flush()
     }
 }

@@ -1,12 +1,11 @@
 //! Carries out a task on a source and sinks.
-ghost use Rattle.std.specs.Prelude.{◌≡◌, ◌⊎◌, ℕ, ◌+◌, ◌≤◌, List, [], ◌++◌, length, true, false, codes, if◌then◌else◌};
+ghost use Rattle.std.specs.Prelude.{◌≡◌, ◌⊎◌, ℕ, ◌+◌, ◌≤◌, List, ◌++◌, length, true, false, codes, if◌then◌else◌};
 ghost use Rattle.std.specs.Io.KnownBytes.{Appends};
-ghost use Rattle.pgn_layout.specs.Device.{device};
+ghost use Rattle.pgn_layout.specs.Device.{NoneUnflushed, device};
 ghost use Rattle.pgn_game.specs.Reason.{line_of};
 ghost use Rattle.pgn_tool.specs.TaskRun.{Answers, FlushCounts, HasFailed, HasFront, IsFlushed, IsSmooth, Runs, Tells, checking, counting_line, exporting, is_for_stream, job_of, line, listing, mode_for};
 
 use crate::list::{Stopped, list_games};
-use crate::machine::Output;
 use arrayvec::ArrayVec;
 use itoa::Buffer;
 use pgn_arguments::Task;
@@ -30,7 +29,7 @@ pub const READ_LENGTH: usize = 4096;
 /// On a fault, `export` has written every finished game and the complete lines of the current one,
 /// `list` the lines of the finished games, and `check` nothing. Only the first fault is reported. A
 /// failure of `err` changes no status. The task must be `export`, `check` or `list`.
-pub fn run_stream<R: Source, O: Output, E: Sink>(
+pub fn run_stream<R: Source, O: Sink, E: Sink>(
     task: &Task,
     reader: &mut R,
     out: &mut O,
@@ -55,7 +54,7 @@ pub fn run_stream<R: Source, O: Output, E: Sink>(
         (device O.taken O.failures out.old out.new)
         (device E.taken E.failures err.old err.new) result }
 
-    // Nothing is left in the buffer, or a call of `out` failed.
+    // Nothing that `out` took is unflushed, if it reports that, or a call of it failed.
     ensures flushed { IsFlushed (device O.taken O.failures out.old out.new)
         (O.unflushed out.new) result }
 {
@@ -77,7 +76,7 @@ pub fn export_mode(reduced: bool) -> Mode
 // Writes the games in export format. No task is inlined into `run_stream`: the stack would hold a
 // converter of each.
 #[inline(never)]
-fn export<R: Source, O: Output, E: Sink>(mode: Mode, source: &mut R, out: &mut O, err: &mut E) -> u8
+fn export<R: Source, O: Sink, E: Sink>(mode: Mode, source: &mut R, out: &mut O, err: &mut E) -> u8
     ensures runs { Runs (exporting mode) (device R.left R.failures source.old source.new)
         (device O.taken O.failures out.old out.new)
         (device E.taken E.failures err.old err.new) result }
@@ -85,7 +84,7 @@ fn export<R: Source, O: Output, E: Sink>(mode: Mode, source: &mut R, out: &mut O
         (O.unflushed out.new) result }
 {
     let answer = convert::<TAGS, LEVELS, R, O>(source, out, mode);
-    let flushed = out.flush_all();
+    let flushed = out.flush();
     match answer {
         Ok(_) => conclude(flushed.is_ok(), err),
         Err(fault) => refuse(fault, err),
@@ -94,7 +93,7 @@ fn export<R: Source, O: Output, E: Sink>(mode: Mode, source: &mut R, out: &mut O
 
 // Writes how many games and moves there are.
 #[inline(never)]
-fn check<R: Source, O: Output, E: Sink>(source: &mut R, out: &mut O, err: &mut E) -> u8
+fn check<R: Source, O: Sink, E: Sink>(source: &mut R, out: &mut O, err: &mut E) -> u8
     ensures runs { Runs checking (device R.left R.failures source.old source.new)
         (device O.taken O.failures out.old out.new)
         (device E.taken E.failures err.old err.new) result }
@@ -107,7 +106,7 @@ fn check<R: Source, O: Output, E: Sink>(source: &mut R, out: &mut O, err: &mut E
             conclude(is_written, err)
         }
         Err(fault) => {
-            let _ = out.flush_all();
+            let _ = out.flush();
             refuse(fault, err)
         }
     }
@@ -115,7 +114,7 @@ fn check<R: Source, O: Output, E: Sink>(source: &mut R, out: &mut O, err: &mut E
 
 // Writes a line for each game.
 #[inline(never)]
-fn list<R: Source, O: Output, E: Sink>(source: &mut R, out: &mut O, err: &mut E) -> u8
+fn list<R: Source, O: Sink, E: Sink>(source: &mut R, out: &mut O, err: &mut E) -> u8
     ensures runs { Runs listing (device R.left R.failures source.old source.new)
         (device O.taken O.failures out.old out.new)
         (device E.taken E.failures err.old err.new) result }
@@ -123,7 +122,7 @@ fn list<R: Source, O: Output, E: Sink>(source: &mut R, out: &mut O, err: &mut E)
         (O.unflushed out.new) result }
 {
     let answer = list_games(source, out);
-    let flushed = out.flush_all();
+    let flushed = out.flush();
     match answer {
         Ok(()) => conclude(flushed.is_ok(), err),
         Err(Stopped::Refused(fault)) => refuse(fault, err),
@@ -132,18 +131,18 @@ fn list<R: Source, O: Output, E: Sink>(source: &mut R, out: &mut O, err: &mut E)
 }
 
 /// Writes the text and flushes, and returns whether both succeeded.
-pub fn write_last<O: Output>(text: &[u8], out: &mut O) -> bool
+pub fn write_last<O: Sink>(text: &[u8], out: &mut O) -> bool
     ensures written { result ≡ true → Appends (O.taken out.old) (O.taken out.new) text.now }
     ensures kept { result ≡ true → O.failures out.new ≡ O.failures out.old }
     ensures failed { result ≡ false → HasFailed (device O.taken O.failures out.old out.new) }
-    ensures flushed { (O.unflushed out.new ≡ [])
+    ensures flushed { NoneUnflushed (O.unflushed out.new)
         ⊎ (HasFailed (device O.taken O.failures out.old out.new) × (result ≡ false)) }
     ensures counted { (written : ℕ) × FlushCounts (O.failures out.old) written
         × FlushCounts written (O.failures out.new) }
     ensures front { HasFront (device O.taken O.failures out.old out.new) text.now }
 {
     let written = write_all(out, text);
-    let flushed = out.flush_all();
+    let flushed = out.flush();
     written.is_ok() && flushed.is_ok()
 }
 

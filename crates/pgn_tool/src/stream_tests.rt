@@ -9,7 +9,7 @@ use crate::machine::Output;
 use crate::standard::StandardOutput;
 use crate::stream::run_stream;
 use pgn_arguments::Task;
-use pgn_game::{Inlet, Outlet};
+use pgn_game::{Inlet, Outlet, Sink};
 use pgn_layout::write_all;
 use std::alloc::Global;
 use std::io::ErrorKind;
@@ -128,6 +128,17 @@ fn run(job: Job, reader: Reader, out: Page, err: Page) -> Ran {
     let mut err = Outlet::new(err);
     let status = run_stream(&job.task(), &mut Inlet::new(reader), &mut out, &mut err);
     left_by(status, out, err)
+}
+
+// The run over a writer alone, as a caller has it that makes no buffer.
+fn run_unbuffered(job: Job, reader: Reader, out: Page, err: Page) -> Ran {
+    let (mut out, mut err) = (Outlet::new(out), Outlet::new(err));
+    let status = run_stream(&job.task(), &mut Inlet::new(reader), &mut out, &mut err);
+    Ran {
+        status,
+        out: out.into_inner(),
+        err: err.into_inner(),
+    }
 }
 
 /// A task, a text, and what the run of it leaves: the status, standard output, standard error.
@@ -291,6 +302,27 @@ fn writes_what_is_asked_for(rt: HostRuntime) {
     leave_all(&rt, rt.alloc(), lists(), NONE);
 }
 
+// Whether a run over a writer alone leaves what the row says, where this fails.
+fn leaves_unbuffered(alloc: Global, row: &Row, failing: Failing) -> bool {
+    let (job, text, status, written, told) = *row;
+    let (out, err) = failing_pages(alloc, failing);
+    run_unbuffered(job, whole(text), out, err).is(status, written, told)
+}
+
+fn leave_all_unbuffered(rt: &impl Abort, alloc: Global, rows: &[Row], failing: Failing) {
+    for row in rows {
+        holds_at(rt, leaves_unbuffered(alloc, row, failing), &(row.0, row.1));
+    }
+}
+
+#[test]
+fn runs_over_a_writer_alone(rt: HostRuntime) {
+    leave_all_unbuffered(&rt, rt.alloc(), exports(), NONE);
+    leave_all_unbuffered(&rt, rt.alloc(), checks(), NONE);
+    leave_all_unbuffered(&rt, rt.alloc(), lists(), NONE);
+    leave_all_unbuffered(&rt, rt.alloc(), unflushed(), (usize::MAX, true, usize::MAX));
+}
+
 // How many games of `TWO` are whole when so many bytes were read.
 fn whole_games(bytes: usize) -> usize {
     match bytes {
@@ -440,7 +472,7 @@ fn fills(out: &mut StandardOutput<Page>, text: &[u8]) -> bool {
 
 // Whether a flush leaves nothing in the buffer.
 fn empties(out: &mut StandardOutput<Page>) -> bool {
-    out.flush_all().is_ok() && out.buffer.is_empty()
+    out.flush().is_ok() && out.buffer.is_empty()
 }
 
 #[test]

@@ -127,12 +127,12 @@ silent_blames _ source out devices = tt
 -- ---- what a flush leaves in the buffer
 
 -- nothing is left after a flush that did well, and one that failed raises the count
-pub flushed_after : {A E : Type 0} → (r : Result A E) (old mid new : ℕ) (unflushed : List ℕ) (P : Type 0)
+pub flushed_after : {A E : Type 0} → (r : Result A E) (old mid new : ℕ) (Empty P : Type 0)
     → FlushCounts old mid → Counts r mid new
-    → OnOk r (unflushed ≡ []) → (is_ok r ≡ false → P) → (unflushed ≡ []) ⊎ ((one_more old ≤ new) × P)
-flushed_after (Ok x) old mid new unflushed P before counts empty ill = inl empty
-flushed_after (Err e) old mid new unflushed P (inl still) counts empty ill = inr (omega (arith, still, counts), ill refl)
-flushed_after (Err e) old mid new unflushed P (inr rose) counts empty ill = inr (omega (arith, rose, counts), ill refl)
+    → OnOk r Empty → (is_ok r ≡ false → P) → Empty ⊎ ((one_more old ≤ new) × P)
+flushed_after (Ok x) old mid new Empty P before counts empty ill = inl empty
+flushed_after (Err e) old mid new Empty P (inl still) counts empty ill = inr (omega (arith, still, counts), ill refl)
+flushed_after (Err e) old mid new Empty P (inr rose) counts empty ill = inr (omega (arith, rose, counts), ill refl)
 
 -- a conversion that reports a fault counts one failure of its sink at most
 pub counted_once : (reason : Reason) (source_old source_new old mid : ℕ)
@@ -142,11 +142,11 @@ counted_once WriteFault source_old source_new old mid devices = inr devices.1
 counted_once _ source_old source_new old mid devices = inl devices.1
 
 -- the same of a run that says whether all was written
-pub flushed_well : (is_written : Bool) (old new status : ℕ) (unflushed : List ℕ) → status ≡ (if is_written then 0 else 1)
-    → (unflushed ≡ []) ⊎ ((one_more old ≤ new) × (is_written ≡ false))
-    → (unflushed ≡ []) ⊎ ((one_more old ≤ new) × (status ≡ 1))
-flushed_well is_written old new status unflushed is (inl empty) = inl empty
-flushed_well is_written old new status unflushed is (inr (failed, ill)) = inr (failed, rw ill at is)
+pub flushed_well : (is_written : Bool) (old new status : ℕ) (Empty : Type 0) → status ≡ (if is_written then 0 else 1)
+    → Empty ⊎ ((one_more old ≤ new) × (is_written ≡ false))
+    → Empty ⊎ ((one_more old ≤ new) × (status ≡ 1))
+flushed_well is_written old new status Empty is (inl empty) = inl empty
+flushed_well is_written old new status Empty is (inr (failed, ill)) = inr (failed, rw ill at is)
 
 -- ---- where no device fails
 

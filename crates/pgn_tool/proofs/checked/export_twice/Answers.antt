@@ -6,7 +6,7 @@ use Rattle.pgn_tool.proofs.checked.export_twice.Goals as goal
 pub returns-in-Ok : goal.returns-in-Ok
 returns-in-Ok g c =
     let counted = c.in-Ok.ensures.counted in
-    let flush = c.flush_all-flushed in
+    let flush = c.flush-flushed in
     let first = device g.Q.Source.left g.Q.Source.failures c.args.first.now c.convert_checked-answer.new.first in
     let second = device g.R.Source.left g.R.Source.failures c.args.second.now c.convert_checked-answer.new.second in
     let converted = device g.O.Sink.taken g.O.Sink.failures c.args.out.now c.convert_checked-answer.new.writer in
@@ -32,7 +32,7 @@ returns-in-Ok g c =
 pub returns-in-Err : goal.returns-in-Err
 returns-in-Err g c =
     let counted = c.in-Err.ensures.counted in
-    let flush = c.flush_all-flushed in
+    let flush = c.flush-flushed in
     let reason = c.in-Err.fault.reason in
     let first = device g.Q.Source.left g.Q.Source.failures c.args.first.now c.convert_checked-answer.new.first in
     let second = device g.R.Source.left g.R.Source.failures c.args.second.now c.convert_checked-answer.new.second in

@@ -22,7 +22,7 @@ returns-in-Ok g c =
 
 pub returns-in-Err : goal.returns-in-Err
 returns-in-Err g c =
-    let flush = c.flush_all in
+    let flush = c.flush in
     record {
       runs = record {
         answer = Err c.in-Err.fault;

@@ -4,7 +4,7 @@ use Rattle.pgn_tool.proofs.stream.export.Goals as goal
 
 pub returns-in-Ok : goal.returns-in-Ok
 returns-in-Ok g c =
-    let flush = c.flush_all-flushed in
+    let flush = c.flush-flushed in
     let counted = c.in-Ok.ensures.counted in
     record {
       runs = record {
@@ -23,7 +23,7 @@ returns-in-Ok g c =
 
 pub returns-in-Err : goal.returns-in-Err
 returns-in-Err g c =
-    let flush = c.flush_all-flushed in
+    let flush = c.flush-flushed in
     let counted = c.in-Err.ensures.counted in
     let reason = c.in-Err.fault.reason in
     record {

@@ -4,7 +4,7 @@ use Rattle.pgn_tool.proofs.stream.list.Goals as goal
 
 pub returns-in-Ok : goal.returns-in-Ok
 returns-in-Ok g c =
-    let flush = c.flush_all-flushed in
+    let flush = c.flush-flushed in
     let counted = c.in-Ok.ensures.counted in
     record {
       runs = record {
@@ -23,7 +23,7 @@ returns-in-Ok g c =
 
 pub returns-in-Err-Refused : goal.returns-in-Err-Refused
 returns-in-Err-Refused g c =
-    let flush = c.flush_all-flushed in
+    let flush = c.flush-flushed in
     let list = c.list_games-answer in
     let f = c.in-Err-Refused.fault in
     let is : list.result ≡ Err (Refused f) = c.in-Err-Refused.is ∙ ap (λ s. Err s) (rw c.in-Err-Refused.is at c.in-Err-Refused.field-0-is) in
@@ -44,7 +44,7 @@ returns-in-Err-Refused g c =
 
 pub returns-in-Err-Unwritten : goal.returns-in-Err-Unwritten
 returns-in-Err-Unwritten g c =
-    let flush = c.flush_all-flushed in
+    let flush = c.flush-flushed in
     let list = c.list_games-answer in
     let told = c.conclude-in-Err-Unwritten.ensures in
     let is : list.result ≡ Err Unwritten = c.in-Err-Unwritten.is ∙ ap (λ s. Err s) (rw c.in-Err-Unwritten.is at c.in-Err-Unwritten.field-0-is) in
