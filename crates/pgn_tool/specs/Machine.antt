@@ -2,10 +2,20 @@
 -- The real machine reports nothing here. What is said of machines that report holds for the program
 -- all the same: it is generic, so it does the same on each.
 use Rattle.std.specs.Prelude.{◌≡◌, ℕ, Bool, true, false, List, Option, Result, Ok, Err}
+use Rattle.std.specs.declared.io.ErrorKind.{ErrorKind}
+use Rattle.std.specs.declared.io.ErrorKind.TheVariants.{OutOfMemory}
 use Rattle.pgn_layout.specs.Device.{Device, device}
 use Rattle.pgn_tool.specs.declared.machine.SystemFault.{SystemFault}
+use Rattle.pgn_tool.specs.declared.machine.SystemFault.TheVariants.{Refused, NoMemory}
 use Rattle.pgn_tool.specs.Files.{FileStep}
 use Rattle.pgn_tool.specs.TaskRun.{IsUntouched}
+
+-- ---- why words or a file are not given
+
+-- what an error of this kind means: only a lack of memory is one
+abbrev pub fault_of_kind : ErrorKind → SystemFault
+fault_of_kind OutOfMemory = NoMemory
+fault_of_kind _ = Refused
 
 -- ---- files to read
 

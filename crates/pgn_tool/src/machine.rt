@@ -15,6 +15,12 @@ pub enum SystemFault {
 }
 
 impl From<io::Error> for SystemFault {
+    ghost use Rattle.std.specs.Prelude.{◌≡◌};
+    ghost use Rattle.std.specs.IoError.{error_kind};
+    ghost use Rattle.pgn_tool.specs.Machine.{fault_of_kind};
+
+    ghost from_gives = { λ error fault. fault ≡ fault_of_kind (error_kind error) };
+
     fn from(error: io::Error) -> SystemFault {
         match error.kind() {
             ErrorKind::OutOfMemory => SystemFault::NoMemory,
