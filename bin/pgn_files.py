@@ -3,7 +3,7 @@
 What PGN text means they leave to the program, and to the Python package over the library.
 """
 import argparse
-import contextlib
+import importlib.util
 import os
 import shutil
 import signal
@@ -27,10 +27,6 @@ class Failure(Exception):
     def __init__(self, status, text):
         super().__init__(text)
         self.status = status
-
-
-# the signals that ask a script to stop
-STOPPING = (signal.SIGTERM, signal.SIGHUP, signal.SIGINT)
 
 
 class Stopped(BaseException):
@@ -229,65 +225,19 @@ class Lines:
 # ---- files that are replaced whole
 
 
-@contextlib.contextmanager
-def signals_wait():
-    """Lets a signal that asks the script to stop wait for the end of the block."""
-    before = signal.pthread_sigmask(signal.SIG_BLOCK, STOPPING)
-    try:
-        yield
-    finally:
-        signal.pthread_sigmask(signal.SIG_SETMASK, before)
+def _replacement():
+    """The module of the package, without the package: that needs the library."""
+    here = os.path.dirname(os.path.realpath(__file__))
+    folder = os.path.dirname(here) + "/python" if os.path.exists(here + "/build_program") else here
+    spec = importlib.util.spec_from_file_location(
+        "pgn_replacement", folder + "/gillspoon/_replacement.py")
+    module = importlib.util.module_from_spec(spec)
+    spec.loader.exec_module(module)
+    return module
 
 
-class Replacement:
-    """A temporary file beside a target, which takes its place once all went well.
-
-    A symbolic link is followed, and a file that stands there keeps its mode.
-    """
-
-    # all of this run, for a signal that comes before a caller has them
-    made = []
-
-    def __init__(self, path):
-        self.path = os.path.realpath(path)
-        if os.path.exists(self.path) and not os.path.isfile(self.path):
-            raise Failure(USAGE, "%s: is not a regular file" % path)
-        folder, name = os.path.split(self.path)
-        with signals_wait():
-            try:
-                handle, self.temporary = tempfile.mkstemp(prefix=".%s." % name[:40], dir=folder)
-            except OSError as error:
-                raise Failure(REFUSED, "%s: no file can be made beside it: %s" % (
-                    path, error.strerror)) from None
-            self.file = os.fdopen(handle, "w+b")
-            self.made.append(self)
-
-    def take_place(self):
-        """Puts the new file in the place of the old one."""
-        self.file.flush()
-        os.fsync(self.file.fileno())
-        if os.path.exists(self.path):
-            old = os.stat(self.path)
-            if os.geteuid() == 0:
-                os.fchown(self.file.fileno(), old.st_uid, old.st_gid)
-            mode = stat.S_IMODE(old.st_mode)
-        else:
-            mask = os.umask(0)
-            os.umask(mask)
-            mode = 0o666 & ~mask
-        os.fchmod(self.file.fileno(), mode)
-        self.file.close()
-        with signals_wait():
-            os.replace(self.temporary, self.path)
-            self.temporary = None
-
-    def discard(self):
-        """Removes the temporary file, if it has not taken its place."""
-        with signals_wait():
-            if self.temporary:
-                self.file.close()
-                os.unlink(self.temporary)
-                self.temporary = None
+replacement = _replacement()
+Replacement, STOPPING = replacement.Replacement, replacement.STOPPING
 
 
 class Nowhere:
@@ -312,7 +262,11 @@ def is_nowhere(path):
 
 def target_of(path):
     """What is written in place of a file."""
-    return Nowhere() if is_nowhere(path) else Replacement(path)
+    if is_nowhere(path):
+        return Nowhere()
+    if os.path.exists(path) and not os.path.isfile(path):
+        raise Failure(USAGE, "%s: is not a regular file" % path)
+    return Replacement(path)
 
 
 def is_same_file(one, other):

@@ -104,7 +104,8 @@ def put(wheel, path, data):
 def build_wheel(wheel_directory, config_settings=None, metadata_directory=None):
     """Called by pip install ./python, and by pip wheel."""
     files = {}
-    for path in [*sorted(glob.glob(HERE + "/gillspoon/*.py")), HERE + "/gillspoon/py.typed"]:
+    for path in [*sorted(glob.glob(HERE + "/gillspoon/*.py")), HERE + "/gillspoon/py.typed",
+                 HERE + "/gillspoon/fixes.json"]:
         files["gillspoon/" + os.path.basename(path)] = read(path).encode()
     with open(library(), "rb") as file:
         files["gillspoon/" + FILE] = file.read()

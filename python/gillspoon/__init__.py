@@ -10,11 +10,13 @@ The library plays every move by the rules of chess, and rejects a game at its fi
 accepts and writes is in docs/PROFILE.md, and docs/PYTHON.md has recipes.
 """
 from ._calls import Explanation, Played, explain, normalize_fen, san
+from ._edits import Edit, fixes
 from ._faults import FenFault, MoveFault, PgnFault
 from ._games import Game, Totals, check, convert, games, write_game
 from ._moves import Line, Note, Ply
 
 __all__ = [
-    "Explanation", "FenFault", "Game", "Line", "MoveFault", "Note", "PgnFault", "Played", "Ply",
-    "Totals", "check", "convert", "explain", "games", "normalize_fen", "san", "write_game",
+    "Edit", "Explanation", "FenFault", "Game", "Line", "MoveFault", "Note", "PgnFault", "Played",
+    "Ply", "Totals", "check", "convert", "explain", "fixes", "games", "normalize_fen", "san",
+    "write_game",
 ]

@@ -3,17 +3,21 @@
 All that is said of a text comes from the library: the faults and their places, the names of a bad
 game, and whether a Result is missing, which is so if the game is accepted without one.
 """
-import ctypes
 import re
 import unicodedata
-from typing import Callable, Iterator, List, NamedTuple, Optional, Tuple
+from typing import TYPE_CHECKING, Callable, Iterator, List, NamedTuple, Optional, Tuple
 
 from . import _calls, _library
+from ._edits import Edit
 from ._faults import MoveFault, PgnFault
 from ._games import Reader
 from ._moves import read_tags
 from ._places import LINE_END
+from ._reading import GameReader
 from ._sources import Source, Window
+
+if TYPE_CHECKING:
+    from ._mend import SectionMender
 
 # A symbol (PGN 7), which is what a text of a move is.
 SYMBOL = re.compile(rb"[\w+#=:/-]+", re.ASCII)
@@ -76,16 +80,19 @@ class Finding(NamedTuple):
     """Those from which it could, but its own king would be in check."""
     explanation: str
     """What is wrong with that move, in a sentence, or nothing."""
+    fixes: Tuple[Edit, ...] = ()
+    """With --json and --sarif the edits that mend the game, or what of it can be mended."""
 
 
 class Linter(Reader):
     """Reads a file and makes a Finding of each fault."""
 
-    def __init__(self, source: Source, name: str, checked: bool) -> None:
+    def __init__(self, source: Source, name: str, checked: bool,
+                 mender: "Optional[SectionMender]" = None) -> None:
         super().__init__(Window(source), checked, False)
-        self.name = name
+        self.name, self._mender = name, mender
         self.found: List[Finding] = []
-        self._buffer = ctypes.create_string_buffer(1 << 16)
+        self._reader = GameReader()
         self._bad = _BadGame("", 0, "?", "?", None, "")
 
     def findings(self, step: Callable[[int], None] = lambda number: None) -> Iterator[Finding]:
@@ -140,34 +147,25 @@ class Linter(Reader):
         base, data, begin = self.window.base, self.window.data, self.at - self.window.base
         at = data.find(b"{", max(data.rfind(b"}"), begin))
         while at >= 0:
-            found, _ = self._next_game(data[begin:at + 1], 0, _library.RESULT_FROM_MARKER)
+            found, _ = self._reader.read(data[begin:at + 1], 0)
             if found.fault == UNCLOSED_COMMENT:
                 return "it begins at line %d, column %d" % self.window.place(base + at)
             at = data.find(b"{", at + 1)
         return ""
 
-    def _next_game(self, text: bytes, begin: int, missing: int) -> Tuple[_library.NextGame, bytes]:
-        """The answer of the library, and what it has written."""
-        while True:
-            found = _library.next_game(text, len(text), begin, _library.FULL_FORMAT, missing,
-                                       self._buffer, len(self._buffer))
-            if found.status != _library.FULL:
-                return found, ctypes.string_at(self._buffer, found.written)
-            self._buffer = ctypes.create_string_buffer(2 * len(self._buffer))
-
     def _passes_without_result(self) -> bool:
         begin = self.at - self.window.base
-        found, _ = self._next_game(self.window.data, begin, _library.RESULT_FROM_MARKER)
+        found, _ = self._reader.read(self.window.data, begin)
         return found.status == _library.OK
 
     def _names(self, fault: PgnFault) -> Tuple[str, str]:
         """White and Black of a bad game, if the library reads its tags, or each on its line."""
         begin, end = self.at - self.window.base, fault.offset - self.window.base
         before = self.window.data[begin:end] + b"\n*"
-        _, text = self._next_game(before, 0, _library.RESULT_UNKNOWN)
+        _, text = self._reader.read(before, 0, _library.RESULT_UNKNOWN)
         if not text:
             text = self._good_tag_lines(fault.begin - self.window.base)
-        tags = read_tags(_decoded(text).partition("\n\n")[0])
+        tags = read_tags(text_of(text).partition("\n\n")[0])
         return printable(tags.get("White", "?")), printable(tags.get("Black", "?"))
 
     def _good_tag_lines(self, begin: int) -> bytes:
@@ -176,9 +174,9 @@ class Linter(Reader):
         for line in LINE_END.split(self.window.data[begin:begin + (1 << 14)])[:MOST_LINES]:
             if not line.lstrip(b"\xef\xbb\xbf").startswith((b"[", b"%")):
                 break
-            found, _ = self._next_game(good + line + b"\n*", 0, _library.RESULT_FROM_MARKER)
+            found, _ = self._reader.read(good + line + b"\n*", 0)
             good += line + b"\n" if found.status == _library.OK else b""
-        return self._next_game(good + b"*", 0, _library.RESULT_FROM_MARKER)[1]
+        return self._reader.read(good + b"*", 0)[1]
 
     def _add(self, fault: PgnFault) -> None:
         bad = self._bad
@@ -191,7 +189,8 @@ class Linter(Reader):
         self.found.append(Finding(
             self.name, fault.line, fault.column, fault.offset, fault.number, fault.reason, bad.note,
             fault.game, bad.white, bad.black, fault.begin, fault.end, bad.text, bad.before,
-            fault.fen, bad.move, legal, exposing, sentence))
+            fault.fen, bad.move, legal, exposing, sentence,
+            tuple(self._mender.section(fault).edits) if self._mender else ()))
 
 
 class _BadGame(NamedTuple):
@@ -239,7 +238,8 @@ def _is_utf8(text: bytes) -> bool:
     return True
 
 
-def _decoded(text: bytes) -> str:
+def text_of(text: bytes) -> str:
+    """The text of bytes of a file: UTF-8, or else Latin-1."""
     try:
         return text.decode("utf-8")
     except UnicodeDecodeError:
@@ -252,7 +252,7 @@ def shown(value: bytes) -> str:
     >>> shown(b"M\\xfcller")
     'M\xfcller'
     """
-    return printable(_decoded(value))
+    return printable(text_of(value))
 
 
 def printable(text: str) -> str:

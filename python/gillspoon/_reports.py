@@ -10,10 +10,13 @@ import unicodedata
 from typing import Dict, List, NamedTuple, Optional, TextIO, Tuple, Union
 from urllib.parse import quote
 
-from ._findings import Finding, board
+from ._edits import Edit
+from ._findings import Finding, board, printable, text_of
 
 VERSION_OF_SARIF = "2.1.0"
 SCHEMA_OF_SARIF = "https://json.schemastore.org/sarif-2.1.0.json"
+# How many characters of an edit are shown.
+LONGEST_EXCERPT = 60
 BOLD, RED, GREEN, PLAIN = "\x1b[1m", "\x1b[31m", "\x1b[32m", "\x1b[0m"
 
 
@@ -31,13 +34,25 @@ class Summary(NamedTuple):
     games: int
     faults: int
     bad_files: int
+    fixed: Optional[int] = None
+    """How many edits were made, or would be, if edits are made at all."""
+    more: Optional[int] = None
+    """How many further edits --unsafe-fixes would make."""
 
     def __str__(self) -> str:
         words = [_count(self.files, "file"), _count(self.games, "game"),
                  _count(self.faults, "fault")]
         if self.faults:
             words[2] += " in " + _count(self.bad_files, "file")
+        if self.fixed is not None:
+            words.append(_count(self.fixed, "edit"))
+        if self.more:
+            words.append("%s more with --unsafe-fixes" % format(self.more, ","))
         return ", ".join(words)
+
+    def record(self) -> "Dict[str, int]":
+        """The counts that there are, by their names."""
+        return {name: it for name, it in self._asdict().items() if it is not None}
 
 
 def _count(number: int, what: str) -> str:
@@ -104,7 +119,7 @@ def _replacement(error: UnicodeError) -> "Tuple[Union[str, bytes], int]":
     character = error.object[error.start]
     if "\udc80" <= character <= "\udcff":
         return bytes((ord(character) - 0xDC00,)), error.start + 1
-    return "-" if character == "\u2013" else "?", error.start + 1
+    return {"\u2013": "-", "\u2192": "->"}.get(character, "?"), error.start + 1
 
 
 class Report:
@@ -123,6 +138,15 @@ class Report:
         if self.with_board:
             for line in self._explanation(it):
                 self._put("  " + line if line else "")
+
+    def edit(self, file: str, it: Edit, is_done: bool) -> None:
+        """Writes an edit that was made, or would be."""
+        place = "%s:%d:%d:" % (in_a_line(file), it.line, it.column)
+        word = ("fixed" if is_done else "would fix") + ("" if it.safe else " (unsafe)")
+        old, new = _excerpt(it.old), _excerpt(it.new)
+        change = "%s \u2192 %s" % (old, new) if old and new else \
+            "added " + new if new else "taken out: " + old
+        self._put("%s %s: %s: %s" % (self._in(BOLD, place), self._in(GREEN, word), it.name, change))
 
     def _explanation(self, it: Finding) -> List[str]:
         """The line with a caret; of a move also the board, its FEN and a sentence."""
@@ -146,6 +170,18 @@ class Report:
         self.out.write(line + "\n")
 
 
+def _excerpt(text: bytes) -> str:
+    """A text of a file in a line, cut where it is long."""
+    line = printable(" ".join(text_of(text).split()))
+    line = line if line.strip("\ufffd") else repr(text)[2:-1]
+    return line if len(line) <= LONGEST_EXCERPT else line[:LONGEST_EXCERPT] + "..."
+
+
+def edit_record(it: Edit) -> "Dict[str, object]":
+    """The fields of an edit for a record of JSON."""
+    return dict(it._asdict(), old=text_of(it.old), new=text_of(it.new))
+
+
 def blank(character: str) -> str:
     """White space as wide as a character on a terminal."""
     if character == "\t" or unicodedata.combining(character):
@@ -161,12 +197,18 @@ class JsonReport:
 
     def fault(self, it: Finding) -> None:
         """Writes the record of a fault."""
-        self._put(dict({"kind": "fault"}, **it._asdict()))
+        record = dict({"kind": "fault"}, **it._asdict())
+        record["fixes"] = [edit_record(edit) for edit in it.fixes]
+        self._put(record)
+
+    def edit(self, file: str, it: Edit, is_done: bool) -> None:
+        """Writes the record of an edit."""
+        self._put(dict({"kind": "fix", "file": file}, **edit_record(it)))
 
     def end(self, summary: Summary, unread: List[Unread]) -> None:
         """Writes the record of the summary."""
         if not self.is_quiet:
-            self._put(dict({"kind": "summary"}, **summary._asdict()))
+            self._put(dict({"kind": "summary"}, **summary.record()))
 
     def _put(self, record: "Dict[str, object]") -> None:
         self.out.write(json.dumps(record) + "\n")
@@ -186,7 +228,7 @@ class SarifReport:
         game = " (game %d, %s \u2013 %s)" % (it.game, it.white, it.black)
         reason = it.reason + (": " + it.note if it.note else "")
         text = ". ".join([reason + game, it.explanation]) if it.explanation else reason + game
-        self.results.append({
+        result: "Dict[str, object]" = {
             "ruleId": _rule(it.number),
             "level": "error",
             "message": {"text": text},
@@ -195,7 +237,13 @@ class SarifReport:
                 "region": {"startLine": it.line, "startColumn": it.column,
                            "byteOffset": it.offset},
             }}],
-        })
+        }
+        if it.fixes:
+            result["fixes"] = [sarif_fix(it)]
+        self.results.append(result)
+
+    def edit(self, file: str, it: Edit, is_done: bool) -> None:
+        """Nothing: the log has the fixes of each fault."""
 
     def end(self, summary: Summary, unread: List[Unread]) -> None:
         """Writes the log."""
@@ -215,6 +263,21 @@ class SarifReport:
                 "results": self.results,
             }],
         }, indent=1) + "\n")
+
+
+def sarif_fix(it: Finding) -> "Dict[str, object]":
+    """The edits of a game as one fix of SARIF."""
+    names = ", ".join(dict.fromkeys(edit.name for edit in it.fixes))
+    return {
+        "description": {"text": names},
+        "artifactChanges": [{
+            "artifactLocation": {"uri": uri_of(it.file)},
+            "replacements": [{
+                "deletedRegion": {"byteOffset": edit.offset, "byteLength": len(edit.old)},
+                "insertedContent": {"text": text_of(edit.new)},
+            } for edit in it.fixes],
+        }],
+    }
 
 
 AnyReport = Union[Report, JsonReport, SarifReport]

@@ -80,14 +80,14 @@ def readable_again(source: Source) -> Source:
         opened.close()
 
 
-Opened = Tuple[Callable[[int], bytes], Callable[[], None]]
+Calls = Tuple[Callable[[int], bytes], Callable[[], None]]
 
 
 def _nothing() -> None:
     pass
 
 
-def _open_data(data: Data) -> Opened:
+def _open_data(data: Data) -> Calls:
     view, at = memoryview(data).cast("B"), 0
 
     def read(size: int) -> bytes:
@@ -118,22 +118,22 @@ def _reader_of_file(file: Any) -> Callable[[int], bytes]:
     return read
 
 
-def _open_plain(path: str) -> Opened:
+def _open_plain(path: str) -> Calls:
     file = open(path, "rb", buffering=0)
     return _reader_of_file(file), file.close
 
 
-def _open_gzip(path: str) -> Opened:
+def _open_gzip(path: str) -> Calls:
     import gzip
     return _open_compressed(gzip.GzipFile(path), path)
 
 
-def _open_bzip2(path: str) -> Opened:
+def _open_bzip2(path: str) -> Calls:
     import bz2
     return _open_compressed(bz2.BZ2File(path), path)
 
 
-def _open_compressed(file: Any, path: str) -> Opened:
+def _open_compressed(file: Any, path: str) -> Calls:
     """How a compressed file is read. One that is bad or cut off is an OSError with its path."""
     import zlib
 
@@ -146,7 +146,7 @@ def _open_compressed(file: Any, path: str) -> Opened:
     return read, file.close
 
 
-def _open_zstd(path: str) -> Opened:
+def _open_zstd(path: str) -> Calls:
     """How a file of Zstandard is opened: by the program zstd, else by the module zstandard."""
     import shutil
     program = shutil.which("zstd")
@@ -158,7 +158,7 @@ def _open_zstd(path: str) -> Opened:
         raise
 
 
-def _run_zstd(program: str, file: BinaryIO, path: str) -> Opened:
+def _run_zstd(program: str, file: BinaryIO, path: str) -> Calls:
     import subprocess
     with file:
         child = subprocess.Popen([program, "-dcq"], stdin=file, stdout=subprocess.PIPE,
@@ -182,7 +182,7 @@ def _run_zstd(program: str, file: BinaryIO, path: str) -> Opened:
     return read, close
 
 
-def _use_zstandard(file: BinaryIO, path: str) -> Opened:
+def _use_zstandard(file: BinaryIO, path: str) -> Calls:
     try:
         import zstandard
     except ImportError:
@@ -210,11 +210,70 @@ def _frames(file: BinaryIO, path: str, zstandard: Any) -> Iterator[bytes]:
         raise OSError("%s: the file ends inside a frame of Zstandard" % path)
 
 
-_OPENERS: "dict[str, Callable[[str], Opened]]" = {
+_OPENERS: "dict[str, Callable[[str], Calls]]" = {
     ".gz": _open_gzip,
     ".bz2": _open_bzip2,
     ".zst": _open_zstd,
 }
+
+
+class Opened:
+    """A source whose bytes can be read again: a file, or a temporary file with what it has."""
+
+    def __init__(self, source: Source) -> None:
+        self._at = 0
+        self._file = _plain_file(source) or _spooled(source)
+        self.size = os.fstat(self._file.fileno()).st_size
+
+    def read(self, size: int) -> bytes:
+        """The next bytes, at most so many; none at the end."""
+        piece = self.fetch(self._at, self._at + size)
+        self._at += len(piece)
+        return piece
+
+    def fetch(self, begin: int, end: int) -> bytes:
+        """The bytes between two offsets."""
+        return os.pread(self._file.fileno(), max(min(end, self.size) - begin, 0), begin)
+
+    def again(self) -> "Opened":
+        """The source, which is then read from its start."""
+        self._at = 0
+        return self
+
+    @property
+    def handle(self) -> int:
+        """The number of the open file, from its start."""
+        os.lseek(self._file.fileno(), 0, os.SEEK_SET)
+        return self._file.fileno()
+
+    def close(self) -> None:
+        """Closes the file."""
+        self._file.close()
+
+
+def _plain_file(source: Source) -> Optional[BinaryIO]:
+    """An open file, if a source is the path of one that is not compressed."""
+    if not isinstance(source, (str, os.PathLike)) or not os.path.isfile(source):
+        return None
+    return None if is_compressed(os.fspath(source)) else open(source, "rb", buffering=0)
+
+
+def is_compressed(path: str) -> bool:
+    """Whether a file has to be unpacked before it is read."""
+    return os.path.splitext(path)[1].lower() in _OPENERS
+
+
+def _spooled(source: Source) -> BinaryIO:
+    """A temporary file with all bytes of a source."""
+    import tempfile
+    opened, held = Input(source), tempfile.TemporaryFile()
+    try:
+        for piece in iter(lambda: opened.read(CHUNK), b""):
+            held.write(piece)
+        held.flush()
+    finally:
+        opened.close()
+    return held
 
 
 class Window:

@@ -9,9 +9,12 @@ import signal
 import sys
 from typing import TYPE_CHECKING, Dict, Iterator, List, NamedTuple, NoReturn, Optional, Union
 
+from ._edits import Edit
 from ._findings import Finding, Linter
+from ._replacement import STOPPING, Replacement
 from ._reports import (AnyReport, JsonReport, Output, OutputFault, Progress, Report, SarifReport,
                        Summary, Unread, has_colours, message)
+from ._sources import Opened, Source
 
 if TYPE_CHECKING:
     from concurrent.futures import Future
@@ -20,6 +23,10 @@ DESCRIPTION = "Checks PGN files, and names each fault by file, line and column."
 HELP = """examples:
   pgn_lint games.pgn
   pgn_lint --board games.pgn          with the board, and why the move is rejected
+  pgn_lint --diff games.pgn           what --fix would change
+  pgn_lint --fix games.pgn            mends the file in place, where the text has one reading
+  pgn_lint --fix - <old.pgn >new.pgn  mends standard input
+  pgn_lint --fixes                    lists all fixes
   pgn_lint -j 4 archive/              all *.pgn below a folder, by four processes
   pgn_lint --json games.pgn | jq -r 'select(.kind == "fault") | .fen'
   vim -q <(pgn_lint games.pgn)        with :set errorformat=%f:%l:%v:\\ %m
@@ -27,9 +34,14 @@ HELP = """examples:
 In a folder these are checked: *.pgn, *.pgn.gz, *.pgn.zst, *.pgn.bz2. A column is a character. Where
 a bad game ends is a guess: before the next line that begins a tag section.
 
+A fix changes text at a fault, and only if the library then reads on behind it. It is safe if the
+text has one reading and nothing is lost; --unsafe-fixes adds the others. What no fix mends stays as
+it is, byte for byte. --fix replaces a file whole, and leaves read-only files alone. What is left is
+reported by the lines of the text after the edits.
+
 status:
-  0  no fault
-  1  there are faults
+  0  no fault is left, and with --diff nothing would change
+  1  there are faults; or with --diff something would change
   2  wrong arguments, or a file cannot be read, or the output cannot be written
   127  there is no shared library
 
@@ -65,6 +77,16 @@ def arguments(words: Optional[List[str]]) -> argparse.Namespace:
     parser.add_argument("--checked", action="store_true",
                         help="a missing Result tag takes the result at the end of its game")
     parser.add_argument("--max", metavar="N", type=_number, help="write the first N faults alone")
+    tasks = parser.add_mutually_exclusive_group()
+    tasks.add_argument("--fix", action="store_true",
+                       help="mend the files in place, or standard input to standard output")
+    tasks.add_argument("--diff", action="store_true", help="show what --fix would change")
+    tasks.add_argument("--fixes", action="store_true", help="list all fixes, and end")
+    parser.add_argument("--unsafe-fixes", action="store_true",
+                        help="also fixes that lose text, or choose one of several readings")
+    parser.add_argument("--select", metavar="NAME,...", type=_names, help="try these fixes alone")
+    parser.add_argument("--ignore", metavar="NAME,...", type=_names, default=(),
+                        help="do not try these fixes")
     parser.add_argument("-j", "--jobs", metavar="N", type=_number, default=1,
                         help="check files by N processes [default: 1]")
     words = sys.argv[1:] if words is None else words
@@ -74,9 +96,33 @@ def arguments(words: Optional[List[str]]) -> argparse.Namespace:
     given.paths += words[end + 1:]
     if given.board and (given.json or given.sarif):
         parser.error("--board goes with neither --json nor --sarif, which have all that it shows")
-    if not given.paths and sys.stdin and sys.stdin.isatty():
+    error = _wrong_fixing(given)
+    if error:
+        parser.error(error)
+    if not given.paths and not given.fixes and sys.stdin and sys.stdin.isatty():
         parser.error("give a FILE, a FOLDER, or - for standard input")
     return given
+
+
+def _wrong_fixing(given: argparse.Namespace) -> str:
+    """Why the words about fixes do not go together, or nothing."""
+    is_fixing = given.fix or given.diff
+    if given.sarif and is_fixing:
+        return "--sarif goes with neither --fix nor --diff: it has the fixes of each fault"
+    if given.unsafe_fixes and not (is_fixing or given.json or given.sarif):
+        return "--unsafe-fixes goes with --fix, --diff, --json or --sarif"
+    if given.fix and "-" in given.paths and len(given.paths) > 1:
+        return "--fix - goes with no other FILE"
+    return ""
+
+
+def _names(text: str) -> List[str]:
+    from ._fixes import NAMES
+    names = [it.strip().replace("-", " ") for it in text.split(",") if it.strip()]
+    for name in names:
+        if name not in NAMES:
+            raise argparse.ArgumentTypeError("there is no fix %s; --fixes lists them" % name)
+    return names
 
 
 def _number(text: str) -> int:
@@ -140,24 +186,36 @@ class FilePath(os.PathLike[str]):
         return self.name
 
 
-def linter_of(path: str, checked: bool) -> Linter:
-    """The reader of a file, or of standard input."""
-    if path == "-":
-        if sys.stdin is None:
-            raise OSError(errno.EBADF, os.strerror(errno.EBADF))
-        return Linter(sys.stdin.buffer, STANDARD_INPUT, checked)
-    return Linter(FilePath(path), path, checked)
+def source_of(path: str) -> Source:
+    """What is read for a path, or for standard input."""
+    if path != "-":
+        return FilePath(path)
+    if sys.stdin is None:
+        raise OSError(errno.EBADF, os.strerror(errno.EBADF))
+    return sys.stdin.buffer
 
 
-def check_file(path: str, checked: bool, most: Optional[int]) -> Checked:
+def linter_of(path: str, given: argparse.Namespace) -> Linter:
+    """The reader of a file, or of standard input. Its records have fixes, if they are written."""
+    name = STANDARD_INPUT if path == "-" else path
+    if not given.json and not given.sarif:
+        return Linter(source_of(path), name, given.checked)
+    from ._fixes import chosen_fixes
+    from ._mend import SectionMender
+    opened = Opened(source_of(path))
+    fixes = chosen_fixes(given.unsafe_fixes, given.select, given.ignore)
+    return Linter(opened, name, given.checked, SectionMender(opened, given.checked, fixes))
+
+
+def check_file(path: str, given: argparse.Namespace) -> Checked:
     """Checks a file in a process of a pool, and keeps its first faults: all, or so many."""
     findings: List[Finding] = []
     faults = games = 0
     try:
-        linter = linter_of(path, checked)
+        linter = linter_of(path, given)
         for finding in linter.findings():
             faults += 1
-            if most is None or faults <= most:
+            if given.max is None or faults <= given.max:
                 findings.append(finding)
             games = linter.number - 1
         games = linter.number - 1
@@ -186,39 +244,81 @@ class Run:
         self.given, self.report = given, report
         self.files = list(files_of(given.paths or ["-"]))
         self.progress = Progress(len(self.files), not given.quiet)
-        self.read = self.games = self.faults = self.bad_files = 0
+        self.read = self.games = self.faults = self.bad_files = self.fixed = self.more = 0
+        self.is_fixing: bool = given.fix or given.diff
         self.unread: List[Unread] = []
         self.has_ended_processes = False
         """Whether processes were ended: then Python could wait for ever for what they write."""
 
     def run(self) -> int:
         """Checks all files, and gives the status."""
-        if self.given.jobs > 1 and len(self.files) > 1:
+        if self.given.jobs > 1 and len(self.files) > 1 and not self.is_fixing:
             self._check_by_processes()
         else:
             for file in self.files:
                 self._check_here(file)
         self.progress.clear()
-        self.report.end(Summary(self.read, self.games, self.faults, self.bad_files), self.unread)
-        return UNREADABLE if self.unread else FAULTY if self.faults else SOUND
+        self.report.end(Summary(self.read, self.games, self.faults, self.bad_files,
+                                *((self.fixed, self.more) if self.is_fixing else ())), self.unread)
+        is_faulty = self.faults or self.given.diff and self.fixed
+        return UNREADABLE if self.unread else FAULTY if is_faulty else SOUND
 
     def _check_here(self, file: Union[str, Unread]) -> None:
         """Checks a file in this process, and writes each fault when it is found."""
         if isinstance(file, Unread):
             self._cannot_read(file)
             return
-        before, faults = self.games, self.faults
+        faults = self.faults
         try:
-            linter = linter_of(file, self.given.checked)
-            for finding in linter.findings(lambda number: self._show(before + number)):
-                self._fault(finding)
-                self.games = before + linter.number - 1
-            self.games = before + linter.number - 1
+            if self.is_fixing:
+                self._mend(file)
+            else:
+                self._lint(linter_of(file, self.given))
             self.read += 1
         except OSError as error:
             name = STANDARD_INPUT if file == "-" else file
             self._cannot_read(Unread(name, reason_of(error, file)))
         self.bad_files += self.faults > faults
+
+    def _lint(self, linter: Linter) -> None:
+        before = self.games
+        for finding in linter.findings(lambda number: self._show(before + number)):
+            self._fault(finding)
+            self.games = before + linter.number - 1
+        self.games = before + linter.number - 1
+
+    def _mend(self, file: str) -> None:
+        """Mends a file in place, or shows what that would change; reports what is left."""
+        from . import _fixing
+        given, name = self.given, STANDARD_INPUT if file == "-" else file
+        chosen = _fixing.choice(given.unsafe_fixes, given.select, given.ignore)
+
+        def on_edit(edit: Edit) -> None:
+            self.progress.clear()
+            self.report.edit(name, edit, given.fix)
+
+        def look_at(source: Opened, mended: _fixing.Mended) -> None:
+            if mended.faults:
+                self._lint(Linter(mended.again() or source.again(), name, given.checked))
+            else:
+                self.games += mended.games
+            if given.diff:
+                _fixing.write_diff(source, name, mended)
+            elif file == "-":
+                _fixing.write_all(source, mended)
+            self.fixed, self.more = self.fixed + mended.edits, self.more + mended.more
+
+        before = self.games
+
+        def step(number: int) -> None:
+            self._show(before + number)
+
+        if given.fix and file != "-":
+            note = _fixing.mend_in_place(file, given.checked, chosen, on_edit, look_at, step)
+            if note:
+                message("%s: %s" % (file, note))
+        else:
+            _fixing.mend_copy(source_of(file), given.checked, chosen, on_edit, look_at, step)
 
     def _check_by_processes(self) -> None:
         """Checks the files by several processes, and writes the faults in the order of the files.
@@ -232,7 +332,7 @@ class Run:
         pool = ProcessPoolExecutor(self.given.jobs, initializer=_end_with_parent)
         try:
             asked: "Dict[int, Future[Checked]]" = {
-                at: pool.submit(check_file, file, self.given.checked, self.given.max)
+                at: pool.submit(check_file, file, self.given)
                 for at, file in enumerate(self.files) if isinstance(file, str) and file != "-"}
             for at, file in enumerate(self.files):
                 if at in asked:
@@ -282,10 +382,39 @@ def _end_with_parent() -> None:
         signal.signal(signal.SIGINT, signal.SIG_DFL)
 
 
+class Stopped(BaseException):
+    """A signal asked the command to stop."""
+
+    def __init__(self, number: int) -> None:
+        super().__init__(number)
+        self.number = number
+
+
+def _stop(number: int, _frame: object) -> NoReturn:
+    raise Stopped(number)
+
+
+def list_fixes() -> int:
+    """Prints the table of fixes."""
+    from ._fixing import table
+    out = Output(sys.stdout)
+    for line in table():
+        out.write(line + "\n")
+    out.flush()
+    return SOUND
+
+
 def main(words: Optional[List[str]] = None) -> int:
     """Runs the command, and gives its status."""
     given = arguments(words)
-    out = Output(sys.stdout)
+    if given.fixes:
+        return list_fixes()
+    # standard output is for the text or the diff
+    out = Output(sys.stderr if given.diff or given.fix and given.paths in ([], ["-"]) else
+                 sys.stdout)
+    if given.fix:
+        for number in STOPPING:
+            signal.signal(number, _stop)
     report: AnyReport
     if given.sarif:
         report = SarifReport(out)
@@ -297,10 +426,13 @@ def main(words: Optional[List[str]] = None) -> int:
     try:
         status = run.run()
         out.flush()
-    except KeyboardInterrupt:
+    except (KeyboardInterrupt, Stopped) as stopped:
         run.progress.clear()
-        signal.signal(signal.SIGINT, signal.SIG_DFL)
-        os.kill(os.getpid(), signal.SIGINT)
+        for replacement in Replacement.made:
+            replacement.discard()
+        number = stopped.number if isinstance(stopped, Stopped) else signal.SIGINT
+        signal.signal(number, signal.SIG_DFL)
+        os.kill(os.getpid(), number)
         return UNREADABLE
     except OutputFault as fault:
         run.progress.clear()

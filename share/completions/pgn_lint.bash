@@ -4,13 +4,13 @@ _pgn_lint() {
     local word=${COMP_WORDS[COMP_CWORD]} before=${COMP_WORDS[COMP_CWORD - 1]} i
     COMPREPLY=()
     case $before in
-        --max | -j | --jobs) return ;;
+        --max | -j | --jobs | --select | --ignore) return ;;
     esac
     if [[ $word == -* ]]; then
         while IFS= read -r i; do
             COMPREPLY+=("$i")
-        done < <(compgen -W '-h --help --board --json --sarif --quiet --checked --max -j --jobs' \
-            -- "$word")
+        done < <(compgen -W '-h --help --board --json --sarif --quiet --checked --max -j --jobs
+            --fix --diff --fixes --unsafe-fixes --select --ignore' -- "$word")
     else
         compopt -o filenames 2>/dev/null
         while IFS= read -r i; do

@@ -8,3 +8,10 @@ complete -c pgn_lint -l checked \
     -d 'A missing Result tag takes the result at the end of its game'
 complete -c pgn_lint -l max -x -d 'Write the first N faults alone'
 complete -c pgn_lint -s j -l jobs -x -d 'Check files by N processes'
+complete -c pgn_lint -l fix -d 'Mend the files in place'
+complete -c pgn_lint -l diff -d 'Show what --fix would change'
+complete -c pgn_lint -l fixes -d 'List all fixes'
+complete -c pgn_lint -l unsafe-fixes \
+    -d 'Also fixes that lose text, or choose one of several readings'
+complete -c pgn_lint -l select -x -d 'Try these fixes alone'
+complete -c pgn_lint -l ignore -x -d 'Do not try these fixes'

@@ -224,7 +224,7 @@ VECTORS = {
 }
 FIELDS = ["kind", "file", "line", "column", "offset", "number", "reason", "note", "game", "white",
           "black", "begin", "end", "text", "before", "fen", "move", "legal", "exposing",
-          "explanation"]
+          "explanation", "fixes"]
 TEXT = {"type": "object", "required": ["text"], "properties": {"text": {"type": "string"}}}
 
 
@@ -260,6 +260,17 @@ SARIF = record(
         results=array(record(
             ["message"], ruleId=RULE, message=TEXT,
             level={"enum": ["none", "note", "warning", "error"]},
+            fixes=array(minItems=1, items=record(
+                ["artifactChanges"], description=TEXT,
+                artifactChanges=array(minItems=1, items=record(
+                    ["artifactLocation", "replacements"],
+                    artifactLocation=record(["uri"], uri=URI),
+                    replacements=array(minItems=1, items=record(
+                        ["deletedRegion"], insertedContent=TEXT,
+                        deletedRegion=record(
+                            ["byteOffset", "byteLength"],
+                            byteOffset={"type": "integer", "minimum": 0},
+                            byteLength={"type": "integer", "minimum": 0}))))))),
             locations=array(record([], physicalLocation=record(
                 ["artifactLocation"],
                 artifactLocation=record(["uri"], uri=URI),
@@ -559,7 +570,7 @@ class Options(Lint):
         self.assertEqual(list(fault.values()), [
             "fault", "a.pgn", 5, 1, 70, 34, "move is not legal", "", 1, "Ada", "Bob", 0, 76,
             "Rd2 *", 0, "4r2k/8/8/8/8/8/4R3/4K3 w - - 0 1", "Rd2", [], ["e2"],
-            "A white rook can go to d2 from e2, but its king would then be in check."])
+            "A white rook can go to d2 from e2, but its king would then be in check.", []])
         self.assertEqual(summary, {"kind": "summary", "files": 1, "games": 1, "faults": 1,
                                    "bad_files": 1})
 

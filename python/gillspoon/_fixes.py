@@ -1,0 +1,91 @@
+"""The table of the fixes of pgn_lint.
+
+A fix has no say in what PGN is. The library names the byte and the reason of a fault. The fix looks
+at the text around it, and proposes one edit or none. The library then reads the text again: see
+gillspoon._mend. What needs no board is in fixes.json, which the page reads too.
+"""
+from typing import Callable, FrozenSet, List, NamedTuple, Optional, Sequence, Tuple, Union
+
+from . import _proposals as by
+from ._here import DATA, Change, Here
+from ._spellings import SPELLINGS, Spelling
+
+
+class Fix(NamedTuple):
+    """A row of the table, for a text that is no move."""
+
+    name: str
+    reasons: FrozenSet[int]
+    """The faults at which it is tried, by their numbers in docs/PROFILE.md."""
+    is_safe: bool
+    """Whether the text has one reading, and nothing is lost."""
+    example: Tuple[str, str]
+    """What is in a file, and what is written."""
+    propose: Callable[[Here], Optional[Change]]
+    """The edit for a fault, or None."""
+
+
+AnyFix = Union[Fix, Spelling]
+
+
+def _fix(name: str, reasons: Sequence[int], is_safe: bool, old: str, new: str,
+         propose: Callable[[Here], Optional[Change]]) -> Fix:
+    return Fix(name, frozenset(reasons), is_safe, (old, new), propose)
+
+
+def _of_data() -> List[Fix]:
+    """The fixes that fixes.json has whole."""
+    return [_fix(row["name"], row["reasons"], row["safe"], *row["example"],
+                 by.by_pattern(row["name"])) for row in DATA["texts"]]
+
+
+SAFE, UNSAFE = True, False
+# In the order in which they are tried.
+FIXES: "Tuple[AnyFix, ...]" = SPELLINGS + tuple(_of_data()) + (
+    _fix("novelty", (33,), SAFE, "Nf3 N", "Nf3 $146", by.novelty),
+    _fix("Result tag from the marker", (25,), SAFE, '[Result "?"] … 1-0', '[Result "1-0"] … 1-0',
+         by.unknown_result_tag),
+    _fix("missing Result tag", (41,), SAFE, "1. e4 1-0", '[Result "1-0"] 1. e4 1-0',
+         by.missing_result_tag),
+    _fix("quotes in a value", (28,), SAFE, '"The "Open""', r'"The \"Open\""', by.quotes_in_value),
+    _fix("pair given twice", (22,), SAFE, '[Site "?"] [Site "?"]', '[Site "?"]', by.equal_pair),
+    _fix("spelling of a FEN", (26,), SAFE, '"… w qkQK - 0 1 "', '"… w KQkq - 0 1"',
+         by.fen_spelling),
+    _fix("long drawing command", (6,), SAFE, "[%cal Ga1a2,…,Gh7h8]", "[%cal Ga1a2,…] [%cal …,Gh7h8]",
+         by.long_command),
+    _fix("second marker", (41,), UNSAFE, "1-0 1-0", "1-0", by.second_marker),
+    _fix("other Result tag", (41,), UNSAFE, '[Result "*"] … 1-0', '[Result "1-0"] … 1-0',
+         by.other_result_tag),
+    _fix("bad Result tag", (25,), UNSAFE, '[Result "won"] … 1-0', '[Result "1-0"] … 1-0',
+         by.bad_result_tag),
+    _fix("marker cut short", (1, 33, 34, 42), UNSAFE, "1-", "1-0", by.result_cut_short),
+    _fix("comment between tags", (32,), UNSAFE, '[White "a"] {c} [Black "b"]',
+         '[White "a"] [Black "b"] {c}', by.comment_between_tags),
+    _fix("no marker", (32, 42), UNSAFE, "1. e4 e5", "1. e4 e5 *", by.no_marker),
+    _fix("null move", (1, 3, 33), UNSAFE, "(12. -- Nf6)", "(12. {-- Nf6})", by.null_move),
+    _fix("other pair of one name", (22,), UNSAFE, '[Site "a"] [Site "b"]', '[Site "a"]',
+         by.other_pair),
+    _fix("pair too many", (23,), UNSAFE, "a 65th tag pair", "", by.pair_too_many),
+    _fix("long word", (6,), UNSAFE, "[%evp 0,34,19,…]", "[%evp 0,34, 19,…]", by.long_word),
+    _fix("FEN without counters", (26,), UNSAFE, '"… w KQkq -"', '"… w KQkq - 0 1"',
+         by.fen_without_counters),
+    _fix("SetUp without FEN", (30,), UNSAFE, '[SetUp "1"]', "", by.setup_without_fen),
+    _fix("blank in a tag's name", (21, 24), UNSAFE, '[White Elo "2700"]', '[WhiteElo "2700"]',
+         by.blank_in_name),
+    _fix("long suffix", (9,), UNSAFE, "!!!", "!!", by.long_suffix),
+    _fix("glyph above 255", (8,), UNSAFE, "$256", "{$256}", by.glyph_above),
+    _fix("diagram", (33,), UNSAFE, "D", "{D}", by.diagram),
+    _fix("parenthesis too many", (39,), UNSAFE, "e4 ) e5", "e4  e5", by.parenthesis_too_many),
+    _fix("trailing text", (1, 33), UNSAFE, "White resigns 1-0", "{White resigns} 1-0",
+         by.trailing_text),
+    _fix("comment never closed", (12,), UNSAFE, "{Black resigns", "{Black resigns}",
+         by.unclosed_comment),
+)
+NAMES = tuple(it.name for it in FIXES)
+
+
+def chosen_fixes(unsafe: bool = False, select: Optional[Sequence[str]] = None,
+                 ignore: Sequence[str] = ()) -> "Tuple[AnyFix, ...]":
+    """The fixes to try: the safe ones, or all; of these those of some names, or without them."""
+    return tuple(it for it in FIXES if (it.is_safe or unsafe)
+                 and (select is None or it.name in select) and it.name not in ignore)

@@ -1,0 +1,417 @@
+"""Edits of tags, results, glyphs and comments: each function proposes one for a fault, or none."""
+import re
+from typing import Callable, List, Optional
+
+from . import _calls
+from ._faults import FenFault, MoveFault
+from ._here import DATA, MOVE, NEAR, Change, Here, pattern_of, steps_of
+from ._left_out import PART
+from ._sections import SPACE
+
+Propose = Callable[[Here], Optional[Change]]
+LONGEST_WORD = 79
+MARKER = re.compile(rb"(?<![\w+#=:/-])(?:1-0|0-1|1/2-1/2|\*)(?![\w+#=:/-])", re.ASCII)
+# What a text of movetext is made of: a string, comment or escape line; a parenthesis; a marker.
+MOVETEXT = re.compile(PART.pattern + rb"|([()])|(" + MARKER.pattern + rb")", re.DOTALL)
+# White space, comments and escape lines to the end of a section.
+REST = re.compile(SPACE.pattern + rb"\Z")
+BEHIND_MOVE = pattern_of(r"(?:MOVE[+#]*[!?]*|\$[0-9]+|\})\s*\Z")
+SYMBOL = re.compile(rb"[^\s{}()\[\];\"]+")
+
+
+# ---- what a pattern of the data finds
+
+
+def by_pattern(name: str) -> Propose:
+    """A proposal that writes what the data has for a text at the fault."""
+    row = next(it for it in DATA["texts"] if it["name"] == name)
+    steps, condition = steps_of(row), CONDITIONS[row.get("needs", "")]
+
+    def propose(here: Here) -> Optional[Change]:
+        for pattern, new in steps:
+            match = here.match_at_place(pattern)
+            if match and match.expand(new) != match[0] and condition(here, match):
+                return Change(match.start(), match.end(), match.expand(new))
+        return None
+
+    return propose
+
+
+def _always(here: Here, match: "re.Match[bytes]") -> bool:
+    return True
+
+
+def _is_behind_move(here: Here, match: "re.Match[bytes]") -> bool:
+    """Whether a move, a glyph or a comment is just before a text."""
+    begin = max(here.begin, match.start() - NEAR)
+    return bool(BEHIND_MOVE.search(here.text, begin, match.start()))
+
+
+def _is_at_end(here: Here, match: "re.Match[bytes]") -> bool:
+    """Whether white space and comments alone are between a text and the end of its section."""
+    return bool(REST.match(here.text, match.end()))
+
+
+def _is_last(here: Here, match: "re.Match[bytes]") -> bool:
+    return here.is_last
+
+
+CONDITIONS = {"": _always, "move": _is_behind_move, "end": _is_at_end, "last": _is_last}
+
+
+# ---- tags
+
+
+def quotes_in_value(here: Here) -> Optional[Change]:
+    """Escapes the quotes of a value, on a line that is one tag pair."""
+    pair = here.match_at_place(VALUE_WITH_QUOTES)
+    if not pair or PAIR_BEHIND_VALUE.search(pair[2]):
+        return None
+    value = re.sub(rb'(\\["\\])|"', lambda it: it[1] or rb'\"', pair[2])
+    return Change(pair.start(2), pair.end(2), value)
+
+
+VALUE_WITH_QUOTES = re.compile(
+    rb'(?<![^\r\n])([ \t]*\[[ \t]*\w+[ \t]*")([^\r\n]*)"[ \t]*\][ \t]*(?![^\r\n])')
+PAIR_BEHIND_VALUE = re.compile(rb'"[ \t]*\][ \t]*\[')
+
+
+def _second_pair(here: Here, is_equal: bool) -> Optional[Change]:
+    pair = next((it for it in here.head().pairs if it.start() <= here.place < it.end()), None)
+    if not pair or (here.head().value(pair[1]) == pair[2]) != is_equal:
+        return None
+    return _whole_line(here.text, pair.start(), pair.end())
+
+
+def _whole_line(text: bytes, start: int, stop: int) -> Change:
+    """Takes out a text, and its line too if nothing else is on it."""
+    line = re.compile(rb"[ \t]*(?:\r\n|\r|\n)").match(text, stop)
+    is_alone = not start or text[start - 1:start] in b"\r\n"
+    return Change(start, line.end() if line and is_alone else stop, b"")
+
+
+def equal_pair(here: Here) -> Optional[Change]:
+    """Takes out a pair that the game has already, with the same value."""
+    return _second_pair(here, True)
+
+
+def other_pair(here: Here) -> Optional[Change]:
+    """Takes out a pair whose name the game has already, with another value."""
+    return _second_pair(here, False)
+
+
+def pair_too_many(here: Here) -> Optional[Change]:
+    """Takes out a pair for which a game has no room."""
+    pair = next((it for it in here.head().pairs if it.start() == here.place), None)
+    return _whole_line(here.text, pair.start(), pair.end()) if pair else None
+
+
+def blank_in_name(here: Here) -> Optional[Change]:
+    """Joins the words of a tag's name."""
+    found = here.match_at_place(NAME_OF_WORDS)
+    return found and Change(found.start(1), found.end(1), re.sub(rb"[ \t-]+", b"", found[1]))
+
+
+NAME_OF_WORDS = re.compile(rb'\[[ \t]*(\w+(?:[ \t-]+\w+)+)[ \t]*"')
+
+
+def setup_without_fen(here: Here) -> Optional[Change]:
+    """Takes out the SetUp tag."""
+    pair = next(iter(here.head().named(b"SetUp")), None)
+    return _whole_line(here.text, pair.start(), pair.end()) if pair else None
+
+
+def comment_between_tags(here: Here) -> Optional[Change]:
+    """Moves the comments between tag pairs behind the last one."""
+    pairs = here.head().pairs
+    if not any(it.start() == here.place for it in pairs):
+        return None
+    kept, comments = [pairs[0][0]], []
+    for before, pair in zip(pairs, pairs[1:]):
+        gap = here.text[before.end():pair.start()]
+        comments += [it[1] for it in PART.finditer(gap) if it[1]]
+        kept += [PART.sub(lambda it: b"" if it[1] else it[0], gap), pair[0]]
+    new = b"".join(kept) + b"\n" + b"\n".join(comments)
+    return Change(pairs[0].start(), pairs[-1].end(), new)
+
+
+# ---- the position
+
+
+def fen_spelling(here: Here) -> Optional[Change]:
+    """Writes a FEN with the blanks and the castling letters that it has to have."""
+    value = _value_at(here)
+    if not value:
+        return None
+    fields = value[1].split()
+    if len(fields) not in (4, 6):
+        return None
+    fields[2] = _rights(fields[2])
+    if len(fields) == 4:
+        number = FIRST_NUMBER.match(here.text, here.head().end)
+        if not number or bool(number[2]) != (fields[1] == b"b"):
+            return None
+        fields += [b"0", number[1]]
+    return _fen_change(value, fields)
+
+
+FIRST_NUMBER = re.compile(SPACE.pattern + rb"([0-9]+)[ \t]*\.([ \t]*\.[ \t.]*)?")
+VALUE = re.compile(rb'"([^"\\\r\n]*)"')
+
+
+def fen_without_counters(here: Here) -> Optional[Change]:
+    """Adds the counters 0 and 1 to a FEN of four fields."""
+    value = _value_at(here)
+    fields = value[1].split() if value else []
+    if not value or len(fields) != 4:
+        return None
+    return _fen_change(value, fields[:2] + [_rights(fields[2]), fields[3], b"0", b"1"])
+
+
+def _value_at(here: Here) -> "Optional[re.Match[bytes]]":
+    return VALUE.match(here.text, here.place)
+
+
+def _rights(field: bytes) -> bytes:
+    """Castling letters in the order of a FEN."""
+    return bytes(sorted(field, key=b"KQkq".find)) if set(field) <= set(b"KQkq") else field
+
+
+def _fen_change(value: "re.Match[bytes]", fields: List[bytes]) -> Optional[Change]:
+    """The value made of these fields, if it is a position and none is changed in it."""
+    try:
+        _calls.normalize_fen(b" ".join(fields).decode("ascii"))
+    except (FenFault, UnicodeDecodeError):
+        return None
+    return Change(value.start(1), value.end(1), b" ".join(fields))
+
+
+# ---- results
+
+
+def missing_result_tag(here: Here) -> Optional[Change]:
+    """Adds a Result tag with the marker, to a game that has moves or tags."""
+    head, marker = here.head(), MARKER.match(here.text, here.place)
+    has_moves = not REST.match(here.text[:here.place], here.begin)
+    if not marker or head.value(b"Result") is not None or not has_moves:
+        return None
+    tag = b'[Result "' + marker[0] + b'"]'
+    if not head.pairs:
+        at = SPACE.match(here.text, here.begin)
+        begin = at.end() if at else here.begin
+        return Change(begin, begin, tag + b"\n\n")
+    end = head.pairs[-1].end()
+    line = b"\r\n" if here.text[end:end + 2] == b"\r\n" else b"\n"
+    return Change(end, end, line + tag)
+
+
+def unknown_result_tag(here: Here) -> Optional[Change]:
+    """Writes the marker of the game in place of a value that says nothing."""
+    pair = next(iter(here.head().named(b"Result")), None)
+    marker = _last_marker(here.text)
+    if not pair or pair[2].strip() not in (b"", b"?", b"??", b"-") or not marker:
+        return None
+    return Change(pair.start(2), pair.end(2), marker)
+
+
+def _last_marker(text: bytes) -> Optional[bytes]:
+    """The marker that a section ends with."""
+    found = None
+    for found in (it for it in MOVETEXT.finditer(text) if it[4]):
+        pass
+    return found[4] if found and REST.match(text, found.end()) else None
+
+
+def other_result_tag(here: Here) -> Optional[Change]:
+    """Writes the marker in place of the value of the Result tag."""
+    pair, marker = next(iter(here.head().named(b"Result")), None), MARKER.match(
+        here.text, here.place)
+    if not pair or not marker:
+        return None
+    return Change(pair.start(2), pair.end(2), marker[0])
+
+
+def bad_result_tag(here: Here) -> Optional[Change]:
+    """Writes the marker of the game in place of a value that is no result."""
+    pair, marker = next(iter(here.head().named(b"Result")), None), _last_marker(here.text)
+    return Change(pair.start(2), pair.end(2), marker) if pair and marker else None
+
+
+def result_cut_short(here: Here) -> Optional[Change]:
+    """Completes a marker, or writes that of a game that was not played."""
+    for pattern, marker in CUT_SHORT:
+        found = here.match_at_place(pattern)
+        if found and _is_at_end(here, found):
+            return Change(found.start(), found.end(), marker)
+    return None
+
+
+CUT_SHORT = tuple((pattern_of(pattern), marker) for pattern, marker in (
+    ("BEHIND1[-/]?END", b"1-0"),
+    ("BEHIND0-?END", b"0-1"),
+    ("BEHIND1/2[-/]1?/?END", b"1/2-1/2"),
+    ("BEHIND0BLANKSDASHBLANKS0END", b"*"),
+    (r"BEHIND\+BLANKS[:/]?BLANKS--?END", b"1-0"),
+    (r"BEHIND-BLANKS[:/]?BLANKS\+END", b"0-1"),
+    (r"BEHIND=BLANKS:BLANKS=END", b"1/2-1/2"),
+))
+
+
+def second_marker(here: Here) -> Optional[Change]:
+    """Takes out a marker that comes right behind a game."""
+    marker = MARKER.match(here.text, here.place)
+    is_alone = REST.match(here.text[:here.place], here.begin)
+    if not marker or not is_alone or here.is_first:
+        return None
+    return Change(marker.start(), marker.end(), b"")
+
+
+def no_marker(here: Here) -> Optional[Change]:
+    """Adds the value of the Result tag, or `*`, behind the last word of a game."""
+    value = here.head().value(b"Result")
+    marker = value if value and MARKER.fullmatch(value) else b"*"
+    end = len(here.text.rstrip())
+    line = b"\n" if LINE_COMMENT_AT_END.search(here.text[:end]) else b" "
+    return Change(end, end, line + marker)
+
+
+LINE_COMMENT_AT_END = re.compile(rb";[^\r\n}]*\Z")
+
+
+# ---- movetext
+
+
+def novelty(here: Here) -> Optional[Change]:
+    """Writes a novelty's N as the glyph that programs have for it."""
+    found = here.match_at_place(NOVELTY)
+    if not found or not _is_behind_move(here, found):
+        return None
+    fen = here.position(found.start())
+    if not fen:
+        return None
+    try:
+        _calls.san(fen, "N" + (found[1] or b"").decode("ascii"))
+    except MoveFault:
+        return Change(found.start(), found.start() + 1, b"$146")
+    return None
+
+
+NOVELTY = re.compile(rb"(?<![\w+#=:/.-])N(?![\w+#=:/-])(?:[ \t]*([a-h1-8x][\w+#=-]*))?")
+
+
+def long_suffix(here: Here) -> Optional[Change]:
+    """Writes the first two signs of a suffix that is too long."""
+    found = re.compile(rb"[!?]+").match(here.text, here.place)
+    return found and Change(found.start(), found.end(), found[0][:2])
+
+
+def glyph_above(here: Here) -> Optional[Change]:
+    """Makes a comment of a glyph that is out of range."""
+    found = re.compile(rb"\$[0-9]+").match(here.text, here.place)
+    return found and Change(found.start(), found.end(), b"{" + found[0] + b"}")
+
+
+def parenthesis_too_many(here: Here) -> Optional[Change]:
+    """Takes out a parenthesis that closes nothing."""
+    return Change(here.place, here.place + 1, b"")
+
+
+def diagram(here: Here) -> Optional[Change]:
+    """Makes a comment of the D that marks a diagram."""
+    found = re.compile(rb"D(?![\w+#=:/-])").match(here.text, here.place)
+    return found and Change(found.start(), found.end(), b"{D}")
+
+
+def trailing_text(here: Here) -> Optional[Change]:
+    """Makes a comment of words up to the marker, or to the end of the section."""
+    found = WORDS.match(here.text, here.place)
+    if not found or not (MARKER.match(here.text, found.end()) or _is_at_end(here, found)):
+        return None
+    return Change(found.start(), found.end(1), as_comment(found[1]))
+
+
+WORDS = re.compile(rb"([A-Za-z\x80-\xff][A-Za-z\x80-\xff'.,:-]+(?:[ \t\r\n]+"
+                   rb"[A-Za-z\x80-\xff'][A-Za-z\x80-\xff'.,:-]*)*)\s*")
+
+
+def null_move(here: Here) -> Optional[Change]:
+    """Makes a comment of a null move and what follows in its line."""
+    found = NULL_MOVE.match(here.text, here.place)
+    end = found and _end_of_line(here.text, here.place)
+    if not found or not end:
+        return None
+    text = here.text[here.place:end]
+    stop = here.place + len(text.rstrip())
+    return Change(here.place, stop, as_comment(text.rstrip()))
+
+
+NULL_MOVE = re.compile(rb"(?:--|Z0|@@@@|null|pass|<>)(?![\w#=:/-])")
+
+
+def _end_of_line(text: bytes, begin: int) -> Optional[int]:
+    """Where a variation ends, or the main line: before its parenthesis, or its game's marker."""
+    depth = 0
+    for found in MOVETEXT.finditer(text, begin):
+        depth += (found[3] == b"(") - (found[3] == b")")
+        if depth < 0 or found[4] and not depth:
+            return found.start()
+    return None
+
+
+def as_comment(text: bytes) -> bytes:
+    """A comment with a text: without braces of its own, and with long words cut."""
+    plain = text.replace(b"{", b"(").replace(b"}", b")")
+    return b"{" + re.sub(rb"\S{80,}", lambda it: cut_word(it[0]), plain) + b"}"
+
+
+# ---- comments
+
+
+def long_command(here: Here) -> Optional[Change]:
+    """Makes several drawing commands of one that is too long."""
+    found = here.match_at_place(COMMAND)
+    if not found:
+        return None
+    marks, size = found[2].split(b","), 12
+    parts = [b",".join(marks[at:at + size]) for at in range(0, len(marks), size)]
+    new = b" ".join(b"[%" + found[1] + b" " + part + b"]" for part in parts)
+    return Change(found.start(), found.end(), new)
+
+
+COMMAND = re.compile(rb"\[%(cal|csl)\s+([RGYBCOrgybco](?:[a-h][1-8]){1,2}"
+                     rb"(?:,[RGYBCOrgybco](?:[a-h][1-8]){1,2})*)\]")
+
+
+def long_word(here: Here) -> Optional[Change]:
+    """Cuts a word of a comment behind a comma or a semicolon, else at its longest."""
+    found = re.compile(rb"[^\s}]+").match(here.text, here.place)
+    return found and Change(found.start(), found.end(), cut_word(found[0]))
+
+
+def cut_word(word: bytes) -> bytes:
+    """A word with blanks: behind commas and semicolons outside numbers, else after 79 bytes."""
+    parts = []
+    while len(word) > LONGEST_WORD:
+        ends = [it.end() for it in CUT.finditer(word, 0, LONGEST_WORD + 1)
+                if it.end() <= LONGEST_WORD]
+        end = ends[-1] if ends else LONGEST_WORD
+        while not ends and word[end] & 0xC0 == 0x80 and end > LONGEST_WORD - 4:
+            end -= 1
+        parts.append(word[:end])
+        word = word[end:]
+    return b" ".join(parts + [word])
+
+
+CUT = re.compile(rb"[,;]")
+
+
+def unclosed_comment(here: Here) -> Optional[Change]:
+    """Closes a comment at the end of its section, before a marker that is its last word."""
+    end = len(here.text.rstrip())
+    marker = MARKER_AT_END.search(here.text, here.begin, end)
+    if marker:
+        return Change(marker.start(), marker.start(), b"} ")
+    return Change(end, end, b"}")
+
+
+MARKER_AT_END = re.compile(rb"(?<=\s)(?:1-0|0-1|1/2-1/2|\*)\Z")

@@ -1,0 +1,258 @@
+"""Spellings that real programs write, with the edits that mend them and what comes out.
+
+Each row is an input, its edits and its output, worked out by hand from the PGN standard and from
+docs/TOOLS.md. An edit is (what is replaced, what is written, the name of the fix).
+"""
+RUY = "1. e4 e5 2. Nf3 Nc6 3. Bb5 a6 "
+PAWN = '[FEN "7k/P7/8/8/8/8/8/K7 w - - 0 1"]\n\n1. '
+TAKES = '[FEN "1n5k/P7/8/8/8/8/8/K7 w - - 0 1"]\n\n1. '
+PASSANT = "1. e4 Nf6 2. e5 d5 3. "
+CASTLES = '[FEN "r3k2r/8/8/8/8/8/8/R3K2R w KQkq - 0 1"]\n\n1. '
+MATE = "1. e4 e5 2. Qh5 Nc6 3. Bc4 Nf6 4. "
+SCANDINAVIAN = "1. e4 d5 2. "
+MARKS = ",".join("Ga1%s%d" % (file, rank) for file in "bc" for rank in range(1, 9))
+
+
+def _move(before, old, new, name, behind=" *"):
+    """A row in which the text of one move is replaced."""
+    return before + old + behind, [(old, new, name)], before + new + behind
+
+
+def _tags(tags, old, new, name, behind="\n\n1. e4 *\n"):
+    return tags.replace("OLD", old) + behind, [(old, new, name)], tags.replace("OLD", new) + behind
+
+
+LONG, SIGN, LETTER, PROMOTION = "long notation", "capture sign", "missing letter", "promotion"
+CASTLING, CHECK, WORD_OF_MATE, PASSING = "castling", "word of check", "word of mate", "en passant"
+NUMBER, SMALL, FIGURINE, COMMA = "joined number", "small letter", "figurine", "comma"
+RESULT, TAG = "spelling of the result", "missing Result tag"
+DRAW, WON, LOST = ('[Result "%s"]\n\n' % it for it in ("1/2-1/2", "1-0", "0-1"))
+
+SAFE = [
+    # the signs of long notation and of captures
+    _move("1. ", "e2-e4", "e2e4", LONG, " e5 *"),
+    _move("1. ", "Ng1-f3", "Ng1f3", LONG),
+    _move("1. ", "N-f3", "Nf3", LONG),
+    _move("1. ", "e2\u2013e4", "e2e4", LONG),
+    _move(SCANDINAVIAN, "e4:d5", "e4xd5", SIGN),
+    _move(SCANDINAVIAN, "e:d5", "exd5", SIGN),
+    _move(SCANDINAVIAN, "eXd5", "exd5", SIGN),
+    _move(SCANDINAVIAN, "e\u00d7d5", "exd5", SIGN),
+    _move(SCANDINAVIAN, "ed5:", "ed5", SIGN),
+    _move(SCANDINAVIAN, "e4-d5", "e4d5", LONG),
+    ("1. e2-e4 (1. d2-d4 d7-d5) e7-e5 {e2-e4} 2. Ng1-f3 *",
+     [("e2-e4", "e2e4", LONG), ("d2-d4", "d2d4", LONG), ("d7-d5", "d7d5", LONG),
+      ("e7-e5", "e7e5", LONG), ("Ng1-f3", "Ng1f3", LONG)],
+     "1. e2e4 (1. d2d4 d7d5) e7e5 {e2-e4} 2. Ng1f3 *"),
+    # castling
+    _move(RUY + "4. ", "o-o", "O-O", CASTLING),
+    _move(RUY + "4. ", "OO", "O-O", CASTLING),
+    _move(RUY + "4. ", "0-O", "O-O", CASTLING),
+    _move(RUY + "4. ", "O - O", "O-O", CASTLING),
+    _move(RUY + "4. ", "0 - 0", "O-O", CASTLING),
+    _move(RUY + "4. ", "O\u2013O", "O-O", CASTLING),
+    _move(RUY + "4. ", "e1g1", "O-O", CASTLING),
+    _move(RUY + "4. ", "e1-g1", "O-O", CASTLING),
+    _move(RUY + "4. ", "Ke1g1", "O-O", CASTLING),
+    _move(RUY + "4. ", "e1h1", "O-O", CASTLING),
+    _move(CASTLES, "o-o-o", "O-O-O", CASTLING),
+    _move(CASTLES, "OOO", "O-O-O", CASTLING),
+    _move(CASTLES, "0-0-O", "O-O-O", CASTLING),
+    _move(CASTLES, "e1c1", "O-O-O", CASTLING),
+    _move(CASTLES, "e1a1", "O-O-O", CASTLING),
+    _move(CASTLES + "O-O ", "e8c8", "O-O-O", CASTLING),
+    _move(CASTLES + "O-O-O ", "e8g8", "O-O", CASTLING),
+    # letters
+    _move("1. ", "g1f3", "Ng1f3", LETTER),
+    ("1. g1-f3 *", [("g1-f3", "Ng1f3", "long notation, missing letter")], "1. Ng1f3 *"),
+    _move("1. e4 e5 2. ", "f1c4", "Bf1c4", LETTER),
+    _move("1. ", "nf3", "Nf3", SMALL),
+    _move(CASTLES, "ra8+", "Ra8+", SMALL),
+    _move("1. e4 e5 2. ", "qh5", "Qh5", SMALL),
+    _move("1. e4 e5 2. ", "ke2", "Ke2", SMALL),
+    _move("1. ", "\u2658f3", "Nf3", FIGURINE),
+    _move("1. ", "\u265ef3", "Nf3", FIGURINE),
+    _move("1. ", "\u2659e4", "e4", FIGURINE),
+    _move("1. e4 e5 2. ", "\u2655h5", "Qh5", FIGURINE),
+    _move("1. e4 e5 2. ", "\u2657c4", "Bc4", FIGURINE),
+    _move("1. e4 e5 2. ", "\u2654e2", "Ke2", FIGURINE),
+    _move(CASTLES, "\u2656a8+", "Ra8+", FIGURINE),
+    # promotions
+    _move(PAWN, "a8=q", "a8=Q", PROMOTION),
+    _move(PAWN, "a8q", "a8=Q", PROMOTION),
+    _move(PAWN, "a8(Q)", "a8=Q", PROMOTION),
+    _move(PAWN, "a8/Q", "a8=Q", PROMOTION),
+    _move(PAWN, "a8=(Q)", "a8=Q", PROMOTION),
+    _move(PAWN, "a8 =Q", "a8=Q", PROMOTION),
+    _move(PAWN, "a8= N", "a8=N", PROMOTION),
+    _move(PAWN, "a8(r)", "a8=R", PROMOTION),
+    _move(PAWN, "a8/b+", "a8=B+", PROMOTION),
+    _move(PAWN, "a8=\u2655", "a8=Q", FIGURINE),
+    _move(TAKES, "axb8(Q)+", "axb8=Q+", PROMOTION),
+    (PAWN + "a7-a8q *", [("a7-a8q", "a7a8=Q", "long notation, promotion")], PAWN + "a7a8=Q *"),
+    (TAKES + "a7:b8/q *", [("a7:b8/q", "a7xb8=Q", "capture sign, promotion")],
+     TAKES + "a7xb8=Q *"),
+    # en passant
+    _move(PASSANT, "exd6ep", "exd6", PASSING),
+    _move(PASSANT, "exd6e.p.", "exd6", PASSING),
+    _move(PASSANT, "exd6 e.p.", "exd6", PASSING),
+    _move(PASSANT, "exd6 ep", "exd6", PASSING),
+    _move(PASSANT, "exd6(ep)", "exd6", PASSING),
+    _move(PASSANT, "exd6 (e.p.)", "exd6", PASSING, " exd6 *"),
+    # words of check and mate
+    _move("1. e4 f5 2. ", "Qh5ch", "Qh5", CHECK),
+    _move("1. e4 f5 2. ", "Qh5 ch", "Qh5", CHECK),
+    _move("1. e4 f5 2. ", "Qh5 ch.", "Qh5", CHECK),
+    _move("1. e4 f5 2. ", "Qh5 check", "Qh5", CHECK),
+    _move("1. e4 f5 2. ", "Qh5+ dis ch", "Qh5+", CHECK),
+    _move("1. e4 f5 2. ", "Qh5\u2020", "Qh5", CHECK),
+    _move(MATE, "Qxf7mate", "Qxf7", WORD_OF_MATE),
+    _move(MATE, "Qxf7 mate", "Qxf7", WORD_OF_MATE),
+    _move(MATE, "Qxf7# checkmate", "Qxf7#", WORD_OF_MATE),
+    # numbers and commas
+    _move("", "1e4", "1. e4", NUMBER, " e5 *"),
+    _move("1. e4 e5 ", "2Nf3", "2. Nf3", NUMBER),
+    _move("", "1) e4", "1. e4", NUMBER),
+    _move("", "1)e4", "1. e4", NUMBER),
+    _move("1. ", "e4,", "e4", COMMA, " e5 *"),
+    # signs
+    _move("1. e4 ", "+/-", "$16", "sign", " e5 *"),
+    _move("1. e4 ", "\u00b1", "$16", "sign", " e5 *"),
+    _move("1. e4 ", "\u2213", "$17", "sign", " e5 *"),
+    _move("1. e4 ", "-/+", "$17", "sign", " e5 *"),
+    _move("1. e4 ", "+-", "$18", "sign", " e5 *"),
+    _move("1. e4 ", "-+", "$19", "sign", " e5 *"),
+    _move("1. e4 ", "+=", "$14", "sign", " e5 *"),
+    _move("1. e4 ", "+/=", "$14", "sign", " e5 *"),
+    _move("1. e4 ", "\u2a72", "$14", "sign", " e5 *"),
+    _move("1. e4 ", "=+", "$15", "sign", " e5 *"),
+    _move("1. e4 ", "=/+", "$15", "sign", " e5 *"),
+    _move("1. e4 ", "\u2a71", "$15", "sign", " e5 *"),
+    _move("1. e4 ", "=", "$10", "sign", " e5 *"),
+    _move("1. e4 ", "\u221e", "$13", "sign", " e5 *"),
+    _move("1. e4 ", "\u25a1", "$7", "sign", " e5 *"),
+    _move("1. ", "e4+/-", "e4 $16", "sign at a move", " e5 *"),
+    _move("1. ", "e4+-", "e4 $18", "sign at a move", " e5 *"),
+    _move("1. ", "e4=", "e4 $10", "sign at a move", " e5 *"),
+    _move("1. e4 ", "(=)", "{(=)}", "offer of a draw", " e5 *"),
+    _move("1. e4 ", "( = )", "{(=)}", "offer of a draw", " e5 *"),
+    _move("1. e4 ", "N", "$146", "novelty", " e5 *"),
+    # results
+    ("1. e4 1/2\n", [("", DRAW, TAG), ("1/2", "1/2-1/2", RESULT)], DRAW + "1. e4 1/2-1/2\n"),
+    _move('[Result "1/2-1/2"]\n\n1. e4 ', "1/2", "1/2-1/2", RESULT, "\n"),
+    _move(DRAW + "1. e4 ", "\u00bd-\u00bd", "1/2-1/2", RESULT, "\n"),
+    _move(DRAW + "1. e4 ", "\u00bd", "1/2-1/2", RESULT, "\n"),
+    _move(DRAW + "1. e4 ", "0.5-0.5", "1/2-1/2", RESULT, " {agreed}\n"),
+    _move(WON + "1. e4 ", "1\u20130", "1-0", RESULT, "\n"),
+    _move(WON + "1. e4 ", "1 - 0", "1-0", RESULT, "\n"),
+    _move(WON + "1. e4 ", "1:0", "1-0", RESULT, "\n"),
+    _move(LOST + "1. e4 ", "0:1", "0-1", RESULT, "\n"),
+    _move(LOST + "1. e4 ", "0 - 1", "0-1", RESULT, "\n"),
+    ("1. e4 1-0\n", [("", WON, TAG)], WON + "1. e4 1-0\n"),
+    ('[White "Ada"]\n\n1. e4 1-0\n', [("", '\n[Result "1-0"]', TAG)],
+     '[White "Ada"]\n[Result "1-0"]\n\n1. e4 1-0\n'),
+    ('[White "Ada"]\r\n\r\n1. e4 1-0\r\n', [("", '\r\n[Result "1-0"]', TAG)],
+     '[White "Ada"]\r\n[Result "1-0"]\r\n\r\n1. e4 1-0\r\n'),
+    ('[Result ""]\n\n1. e4 1-0\n', [("", "1-0", "Result tag from the marker")],
+     WON + "1. e4 1-0\n"),
+    ('[Result "?"]\n\n1. e4 1-0\n', [("?", "1-0", "Result tag from the marker")],
+     WON + "1. e4 1-0\n"),
+    ('[Result "1/2"]\n\n1. e4 1/2-1/2\n',
+     [('[Result "1/2"', '[Result "1/2-1/2"', "spelling of the Result tag")],
+     DRAW + "1. e4 1/2-1/2\n"),
+    # tags
+    _tags('[Event "OLD"]', 'The "Open"', r"The \"Open\"", "quotes in a value"),
+    ('[Site "a"]\n[Site "a"]\n\n*\n', [('[Site "a"]\n', "", "pair given twice")],
+     '[Site "a"]\n\n*\n'),
+    ('[Event "a\tb"]\n\n*\n', [("\t", " ", "white space")], '[Event "a b"]\n\n*\n'),
+    _move("1. e4", "\u00a0", " ", "white space", "e5 *"),
+    ("1. e4 *\n\x1a", [("\x1a", "", "end of a DOS file")], "1. e4 *\n"),
+    ("*\n\n\ufeff[White \"Ada\"]\n\n*\n", [("\ufeff", "", "byte order mark")],
+     '*\n\n[White "Ada"]\n\n*\n'),
+    # positions
+    _tags('[FEN "OLD"]', "4k3/8/8/8/8/8/8/4K2R w K - 0 1 ", "4k3/8/8/8/8/8/8/4K2R w K - 0 1",
+          "spelling of a FEN", "\n\n1. O-O *\n"),
+    _tags('[FEN "OLD"]', "r3k2r/8/8/8/8/8/8/R3K2R w kqKQ - 0 1",
+          "r3k2r/8/8/8/8/8/8/R3K2R w KQkq - 0 1", "spelling of a FEN", "\n\n1. O-O *\n"),
+    _tags('[FEN "OLD"]', "4k3/8/8/8/8/8/8/4K3 w - -", "4k3/8/8/8/8/8/8/4K3 w - - 0 30",
+          "spelling of a FEN", "\n\n30. Kd2 *\n"),
+    _tags('[FEN "OLD"]', "4k3/8/8/8/8/8/8/4K3 b - -", "4k3/8/8/8/8/8/8/4K3 b - - 0 30",
+          "spelling of a FEN", "\n\n30... Kd7 *\n"),
+    # comments
+    ("1. e4 {[%%cal %s]} *" % MARKS,
+     [("[%%cal %s]" % MARKS, "[%%cal %s] [%%cal %s]" % (MARKS[:71], MARKS[72:]),
+       "long drawing command")],
+     "1. e4 {[%%cal %s] [%%cal %s]} *" % (MARKS[:71], MARKS[72:])),
+]
+
+CUT, NULL, CLOSED = "marker cut short", "null move", "comment never closed"
+UNSAFE = [
+    ("1. e4 e5 (1... c5 2. -- Nf6) 2. Nf3 *", [("-- Nf6", "{-- Nf6}", NULL)],
+     "1. e4 e5 (1... c5 2. {-- Nf6}) 2. Nf3 *"),
+    ("1. e4 (1. Z0 d5 {a} (1... e5) 2. e4) e5 *",
+     [("Z0 d5 {a} (1... e5) 2. e4", "{Z0 d5 (a) (1... e5) 2. e4}", NULL)],
+     "1. e4 (1. {Z0 d5 (a) (1... e5) 2. e4}) e5 *"),
+    ("1. e4 -- 2. d4 d5 *", [("-- 2. d4 d5", "{-- 2. d4 d5}", NULL)],
+     "1. e4 {-- 2. d4 d5} *"),
+    ("1. e4 @@@@ *", [("@@@@", "{@@@@}", NULL)], "1. e4 {@@@@} *"),
+    ("1. e4 e5\n", [("", " *", "no marker")], "1. e4 e5 *\n"),
+    ('[Result "1-0"]\n\n1. e4 e5\n', [("", " 1-0", "no marker")], WON + "1. e4 e5 1-0\n"),
+    ('[White "Ada"]\n\n1. e4\n\n[White "Bob"]\n\n1. d4 *\n', [("", " *", "no marker")],
+     '[White "Ada"]\n\n1. e4 *\n\n[White "Bob"]\n\n1. d4 *\n'),
+    (WON + "1. e4 1-\n", [("1-", "1-0", CUT)], WON + "1. e4 1-0\n"),
+    (DRAW + "1. e4 1/2-\n", [("1/2-", "1/2-1/2", CUT)], DRAW + "1. e4 1/2-1/2\n"),
+    ("1. e4 0-0\n", [("0-0", "*", CUT)], "1. e4 *\n"),
+    (WON + "1. e4 +:-\n", [("+:-", "1-0", CUT)], WON + "1. e4 1-0\n"),
+    (LOST + "1. e4 -:+\n", [("-:+", "0-1", CUT)], LOST + "1. e4 0-1\n"),
+    ('[Result "*"]\n\n1. e4 1-0\n', [("*", "1-0", "other Result tag")], WON + "1. e4 1-0\n"),
+    ('[Result "0-1"]\n\n1. e4 1-0\n', [("0-1", "1-0", "other Result tag")], WON + "1. e4 1-0\n"),
+    ('[Result "won"]\n\n1. e4 1-0\n', [("won", "1-0", "bad Result tag")], WON + "1. e4 1-0\n"),
+    (WON + "1. e4 1-0 1-0\n", [("1-0", "", "second marker")], WON + "1. e4 1-0 \n"),
+    ('[Site "a"]\n[Site "b"]\n\n*\n', [('[Site "b"]\n', "", "other pair of one name")],
+     '[Site "a"]\n\n*\n'),
+    ("".join('[T%d ""]\n' % it for it in range(65)) + "\n*\n",
+     [('[T64 ""]\n', "", "pair too many")],
+     "".join('[T%d ""]\n' % it for it in range(64)) + "\n*\n"),
+    ("1. e4 {" + "-27,19;" * 12 + "} *",
+     [("-27,19;" * 12, "-27,19;" * 11 + " -27,19;", "long word")],
+     "1. e4 {" + "-27,19;" * 11 + " -27,19;} *"),
+    ("1. e4 {" + "a" * 100 + "} *", [("a" * 100, "a" * 79 + " " + "a" * 21, "long word")],
+     "1. e4 {" + "a" * 79 + " " + "a" * 21 + "} *"),
+    _tags('[FEN "OLD"]', "4k3/8/8/8/8/8/8/4K3 w - -", "4k3/8/8/8/8/8/8/4K3 w - - 0 1",
+          "FEN without counters", "\n\nKd2 *\n"),
+    ('[SetUp "1"]\n[White "Ada"]\n\n1. e4 *\n', [('[SetUp "1"]\n', "", "SetUp without FEN")],
+     '[White "Ada"]\n\n1. e4 *\n'),
+    _tags('[OLD "2700"]', "White Elo", "WhiteElo", "blank in a tag's name"),
+    _move("1. e4", "!!!", "!!", "long suffix"),
+    _move("1. e4 ", "$256", "{$256}", "glyph above 255"),
+    ('[White "Ada"]\n{why}\n[Black "Bob"]\n\n1. e4 *\n',
+     [('[White "Ada"]\n{why}\n[Black "Bob"]', '[White "Ada"]\n\n[Black "Bob"]\n{why}',
+       "comment between tags")],
+     '[White "Ada"]\n\n[Black "Bob"]\n{why}\n\n1. e4 *\n'),
+    _move("1. e4 e5 ", "White resigns", "{White resigns}", "trailing text"),
+    ("1. e4 e5 * agreed drawn\n", [("agreed drawn", "{agreed drawn}", "trailing text")],
+     "1. e4 e5 * {agreed drawn}\n"),
+    _move("1. e4 ", ")", "", "parenthesis too many", " e5 *"),
+    _move("1. e4 ", "D", "{D}", "diagram", " e5 *"),
+    ('[White "Ada"]\n\n1. e4 {Black resigns *\n\n[White "Bob"]\n\n1. d4 {\n*\n',
+     [("", "} ", CLOSED), ("", "} ", CLOSED)],
+     '[White "Ada"]\n\n1. e4 {Black resigns } *\n\n[White "Bob"]\n\n1. d4 {\n} *\n'),
+    ("1. e4 {Black resigns\n", [("", "} *", "comment never closed, no marker")],
+     "1. e4 {Black resigns} *\n"),
+]
+
+# Texts that have no single reading, or none that the rules allow: no fix touches them.
+LEFT = [
+    "1. e4 e5 1/2 2. d4 *",
+    "1. e4 (1. d4 1/2) *",
+    "1. e4 f5 2. Qh5+- g6 *",
+    "1. e4 e5 2. Nf3 ch *",
+    "1. e4 e5 2. Nf3 mate *",
+    "1. e4 e5 2. d3-d4 *",
+    "1. e4 e5 2. a1a5 *",
+    "1. e4 e5 2. o-o *",
+    "1. e4 d5 2. exd5 e.p. *",
+    "1. N f3 *",
+    '[Result "0-1"]\n\n1. e4 1/2',
+    '[FEN "4k3/8/8/8/8/8/8/4K3 w - - x y"]\n\n*\n',
+]

@@ -1,0 +1,373 @@
+#!/usr/bin/env python3
+"""Tests of the fixes: pgn_lint --fix and --diff, gillspoon.fixes, and the table of spellings."""
+import glob
+import json
+import os
+import random
+import re
+import signal
+import stat
+import subprocess
+import sys
+import time
+import unittest
+
+sys.path.insert(0, os.path.dirname(os.path.realpath(__file__)))
+from programs import ROOT, need, not_tried, run, without_rights
+from spellings import LEFT, SAFE, UNSAFE
+from test_lint import LINT, Lint, setUpModule as _set_up_lint
+from test_python import PACKAGE
+
+BAD = b'[White "Ada"]\n[Black "Bob"]\n\n1. e2-e4 e5 *\n'
+MENDED = b'[White "Ada"]\n[Black "Bob"]\n\n1. e2e4 e5 *\n'
+LINE = "a.pgn:4:4: fixed: long notation: e2-e4 \u2192 e2e4\n"
+
+
+def setUpModule():
+    global gillspoon
+    _set_up_lint()
+    sys.path.insert(0, PACKAGE)
+    import gillspoon
+
+
+def applied(text, edits):
+    """A text after its edits."""
+    out, at = b"", 0
+    for it in edits:
+        if it.offset < at or text[it.offset:it.offset + len(it.old)] != it.old:
+            raise AssertionError("%r is not at its place" % (it,))
+        out += text[at:it.offset] + it.new
+        at = it.offset + len(it.old)
+    return out + text[at:]
+
+
+def moves_of(text):
+    """For each game its moves with its variations, and its result."""
+    return [(game.result, str(game.moves().plies), game.text.partition(b"\n\n")[2])
+            for game in gillspoon.games(text, checked=True)]
+
+
+class Spellings(unittest.TestCase):
+    def each(self, rows, unsafe):
+        for text, edits, wanted in rows:
+            with self.subTest(text):
+                data = text.encode()
+                found = list(gillspoon.fixes(data, unsafe=unsafe))
+                said = [(it.old.decode(), it.new.decode(), it.name) for it in found]
+                self.assertEqual(said, edits)
+                self.assertEqual(applied(data, found), wanted.encode())
+                self.assertEqual(list(gillspoon.fixes(wanted.encode(), unsafe=True)), [])
+                gillspoon.check(wanted.encode())
+
+    def test_safe(self):
+        self.each(SAFE, False)
+        self.assertTrue(all(edit.safe for text, _, _ in SAFE
+                            for edit in gillspoon.fixes(text.encode())))
+
+    def test_unsafe(self):
+        self.each(UNSAFE, True)
+        for text, _, _ in UNSAFE:
+            found = [it for it in gillspoon.fixes(text.encode())]
+            self.assertEqual(found, [], text)
+
+    def test_left(self):
+        for text in LEFT:
+            self.assertEqual(list(gillspoon.fixes(text.encode())), [], text)
+
+    def test_each_fix_has_a_spelling(self):
+        from gillspoon._fixes import NAMES
+        tried = {name for _, edits, _ in SAFE + UNSAFE for edit in edits
+                 for name in edit[2].split(", ")}
+        self.assertEqual(tried, set(NAMES))
+
+    def test_latin_1(self):
+        for old, new in ((b"1. e4 \xbd\n", b'[Result "1/2-1/2"]\n\n1. e4 1/2-1/2\n'),
+                         (b"1. e4 \xb1 e5 *", b"1. e4 $16 e5 *"),
+                         (b"1. e4\xa0e5 *", b"1. e4 e5 *"),
+                         (b"1. e4 d5 2. e\xd7d5 *", b"1. e4 d5 2. exd5 *")):
+            self.assertEqual(applied(old, gillspoon.fixes(old)), new)
+
+
+# What a program may write for a token of a sound game: a pattern, and the spelling of a match.
+SPOILT = (
+    (rb"([KQRBN]?[a-h][1-8])([a-h][1-8])", rb"\1-\2"),
+    (rb"([KQRBN]?[a-h]?[1-8]?)x([a-h][1-8])", rb"\1:\2"),
+    (rb"([KQRBN]?[a-h]?[1-8]?)x([a-h][1-8])", rb"\1X\2"),
+    (rb"O-O", b"o-o"), (rb"O-O-O", b"0-O-O"), (rb"O-O", b"OO"), (rb"O-O-O", b"O - O - O"),
+    (rb"N([a-h1-8x]+)", rb"n\1"), (rb"Q([a-h1-8x]+)", rb"q\1"), (rb"R([a-h1-8x]+)", rb"r\1"),
+    (rb"N([a-h1-8x]+)", "\u2658\\1".encode()), (rb"B([a-h1-8x]+)", "\u265d\\1".encode()),
+    (rb"(\w*[a-h][18])=([QRBN])", rb"\1(\2)"), (rb"(\w*[a-h][18])=([QRBN])", rb"\1/\2"),
+    (rb"(\w+)\+", rb"\1ch"), (rb"(\w+)\+", rb"\1 ch."), (rb"(\w+)#", rb"\1 mate"),
+    (rb"([a-h][1-8])", rb"\1,"), (rb"([a-h][1-8])", rb"\1 +/-"), (rb"([a-h][1-8])", rb"\1 (=)"),
+    (rb"(1)/2-1/2", rb"\1/2"), (rb"1/2-1/2", "\u00bd-\u00bd".encode()),
+    (rb"1-0", b"1:0"), (rb"0-1", b"0 - 1"), (rb"1-0", "1\u20130".encode()),
+)
+PATTERNS = [(re.compile(rb"(?:%s)(?![\w+#=-])" % pattern), new) for pattern, new in SPOILT]
+ANNOTATED = re.compile(rb"[0-9]+\.+|\$[0-9]+|\{[^}]*\}")
+
+
+def spoilt(text, rng):
+    """A game with one to five tokens in another spelling."""
+    words = text.split(b" ")
+    places, depth = [], 0
+    for at, word in enumerate(words):
+        # in a comment a brace means nothing but its end
+        depth = (depth or word == b"{") and word != b"}"
+        places += [] if depth else [at]
+    rng.shuffle(places)
+    wanted, count = rng.randint(1, 5), 0
+    for at in places:
+        for pattern, new in rng.sample(PATTERNS, len(PATTERNS)):
+            match = pattern.fullmatch(words[at])
+            if match and count < wanted:
+                words[at] = match.expand(new)
+                count += 1
+                break
+    return b" ".join(words), count
+
+
+def bench_games(count):
+    """Games of bench/games.txt with a Result tag, each in one line of movetext."""
+    with open(ROOT + "/bench/games.txt", "rb") as file:
+        for number, line in zip(range(count), file):
+            result, _, moves = line.rstrip(b"\n").partition(b" ")
+            text = b'[Result "%s"]\n\n%s %s\n' % (result, moves, result)
+            yield next(gillspoon.games(text)).text.replace(b"\n", b" ").replace(b"]  ", b"]\n\n")
+
+
+class Spoilt(unittest.TestCase):
+    """Games that are spoilt have the moves of the unspoilt ones after --fix."""
+
+    def compare(self, texts, seed):
+        rng, tried = random.Random(seed), 0
+        for sound in texts:
+            head, _, moves = sound.partition(b"\n\n")
+            bad, count = spoilt(moves.replace(b"\n", b" "), rng)
+            text = head + b"\n\n" + bad
+            mended = applied(text, gillspoon.fixes(text))
+            with self.subTest(text):
+                self.assertEqual([plain(it) for it in moves_of(mended)],
+                                 [plain(it) for it in moves_of(sound)])
+            tried += count > 0
+        return tried
+
+    def test_games_of_the_bench(self):
+        self.assertGreater(self.compare(bench_games(2000), 77), 1900)
+
+    def test_games_of_the_corpus(self):
+        texts = []
+        for path in sorted(glob.glob(ROOT + "/fuzz/corpus/*")):
+            with open(path, "rb") as file:
+                texts += [it.text for it in gillspoon.games(
+                    file, checked=True, on_fault=lambda fault: None) if it.plies]
+        self.assertGreater(len(texts), 30)
+        self.assertGreater(self.compare(texts * 30, 78), 500)
+
+
+def plain(game):
+    """A game without the glyphs and comments that the spelling of signs adds."""
+    result, plies, text = game
+    return result, plies, re.sub(rb"\s*(?:\$16|\{ \(=\) \}|[0-9]+\.+(?=\s))", b"",
+                                 re.sub(rb"\s+", b" ", text))
+
+
+class Kept(unittest.TestCase):
+    """What decides whether an edit is kept."""
+
+    def mended(self, text, *proposals):
+        """A text after fixes that are planted: functions of a fault."""
+        from gillspoon._fixes import Fix
+        from gillspoon._mend import Mending
+        from gillspoon._reading import GameReader
+        fixes = [Fix("planted", frozenset(range(60)), True, ("", ""), it) for it in proposals]
+        return Mending(text, fixes, GameReader(), False, True, True).run().changes.text
+
+    def test_a_fix_that_makes_another_game_is_refused(self):
+        """Each would mend the fault, and changes a move or the first position before it."""
+        from gillspoon._here import Change
+        text = b'[FEN "4k3/8/8/8/8/8/8/4K2R w K - 0 1"]\n\n1. Rh2 Kd7 2. Kd2 Kc6 3. 1/2 *\n'
+        end = text.index(b" 3. 1/2")
+        wrong = text[:end] + b" Rh8 *\n"
+
+        def planted(old, new):
+            at = wrong.index(old)
+            return lambda here: Change(at, at + len(old), new)
+
+        for old, new in ((b"Rh2", b"Rh3"), (b"Kd7", b"Kd8"), (b"Kd2", b"Rh8"),
+                         (b"4K2R w", b"4K1R1 w"), (b"Rh2 ", b"O-O "), (b"1. Rh2 Kd7 2. ", b"")):
+            bad = wrong.replace(b"Rh8 *", b"Rb6+ *") if old == b"Kd2" else wrong.replace(
+                b" Rh8 *", b" 3. K9 *")
+            self.assertEqual(self.mended(bad, planted(old, new)), bad, (old, new))
+        # a tag before the moves is changed, and the game is another one
+        tag = b'[Result "0-1"]\n\n1. e4 e5 1-0\n'
+        other = b'[FEN "4k3/4p3/8/8/8/8/4P3/K7 w - - 0 1"]\n[Result "1-0"]'
+        self.assertEqual(self.mended(tag, lambda here: Change(0, 14, other)), tag)
+        self.assertEqual(self.mended(tag, lambda here: Change(9, 12, b"1-0")),
+                         tag.replace(b"0-1", b"1-0"))
+
+    def test_a_fix_must_go_on(self):
+        from gillspoon._here import Change
+        text = b"1. e4 K9 Ka1 *\n"
+        for new in (b"K9", b"K8", b"Ke2", b"{a", b"["):
+            self.assertEqual(self.mended(text, lambda here: Change(6, 8, new)), text)
+        self.assertEqual(self.mended(text, lambda here: Change(6, 8, b"e5")),
+                         text.replace(b"K9", b"e5"))
+
+
+class Command(Lint):
+    """pgn_lint --fix, --diff and --fixes."""
+
+    def read(self, name):
+        with open(os.path.join(self.folder, name), "rb") as file:
+            return file.read()
+
+    def test_fix(self):
+        self.put("a.pgn", BAD)
+        self.assertEqual(self.lint("--fix", "a.pgn"),
+                         (0, LINE + "1 file, 1 game, 0 faults, 1 edit\n", ""))
+        self.assertEqual(self.read("a.pgn"), MENDED)
+        before = os.stat(self.folder + "/a.pgn").st_ino
+        self.assertEqual(self.lint("--fix", "a.pgn"), (0, "1 file, 1 game, 0 faults, 0 edits\n", ""))
+        self.assertEqual(os.stat(self.folder + "/a.pgn").st_ino, before)
+
+    def test_what_is_left(self):
+        """It is reported by the lines of the new text, and unsafe edits are counted."""
+        self.put("a.pgn", b"1. e2-e4 1-0\n\n" + BAD.replace(b"e5", b"-- 2. d4"))
+        wanted = MENDED.replace(b"e5", b"-- 2. d4")
+        said = ("a.pgn:1:1: fixed: missing Result tag: added [Result \"1-0\"]\n"
+                "a.pgn:1:4: fixed: long notation: e2-e4 \u2192 e2e4\n"
+                "a.pgn:6:4: fixed: long notation: e2-e4 \u2192 e2e4\n"
+                "a.pgn:8:9: stray byte (game 2, Ada \u2013 Bob)\n"
+                "1 file, 2 games, 1 fault in 1 file, 3 edits, 1 more with --unsafe-fixes\n")
+        self.assertEqual(self.lint("--fix", "a.pgn"), (1, said, ""))
+        self.assertEqual(self.read("a.pgn"), b'[Result "1-0"]\n\n1. e2e4 1-0\n\n' + wanted)
+        said = ("a.pgn:8:9: fixed (unsafe): null move: -- 2. d4 \u2192 {-- 2. d4}\n"
+                "1 file, 2 games, 0 faults, 1 edit\n")
+        self.assertEqual(self.lint("--fix", "--unsafe-fixes", "a.pgn"), (0, said, ""))
+
+    def test_standard_input(self):
+        for words in (["--fix", "-"], ["--fix"]):
+            self.assertEqual(self.lint(*words, input=BAD), (
+                0, MENDED.decode(), LINE.replace("a.pgn", "<stdin>")
+                + "1 file, 1 game, 0 faults, 1 edit\n"))
+        self.assertEqual(self.lint("--fix", "--quiet", "-", input=MENDED), (0, MENDED.decode(), ""))
+
+    def test_diff(self):
+        need("diff")
+        self.put("a.pgn", BAD)
+        status, out, told = self.lint("--diff", "a.pgn")
+        self.assertEqual((status, out.splitlines()[:2], told.splitlines()[0] + "\n"),
+                         (1, ["--- a.pgn", "+++ a.pgn mended"], LINE.replace("fixed", "would fix")))
+        self.assertEqual([it for it in out.splitlines()[2:] if it[0] in "+-"],
+                         ["-1. e2-e4 e5 *", "+1. e2e4 e5 *"])
+        self.assertEqual(self.read("a.pgn"), BAD)
+        self.put("a.pgn", MENDED)
+        self.assertEqual(self.lint("--diff", "--quiet", "a.pgn"), (0, "", ""))
+
+    def test_names(self):
+        self.put("a.pgn", BAD)
+        self.assertEqual(self.lint("--fix", "--ignore", "long-notation", "a.pgn")[0], 1)
+        self.assertEqual(self.lint("--fix", "--select", "castling,small letter", "a.pgn")[0], 1)
+        self.assertEqual(self.read("a.pgn"), BAD)
+        self.assertEqual(self.lint("--fix", "--select", "long notation", "a.pgn")[0], 0)
+        self.assertEqual(self.lint("--fix", "--select", "none", "a.pgn"), (2, "", (
+            "pgn_lint: argument --select: there is no fix none; --fixes lists them "
+            "(--help shows the usage)\n")))
+
+    def test_wrong_words(self):
+        for words in (["--fix", "--diff", "a"], ["--fix", "--sarif", "a"], ["--fix", "-", "a"],
+                      ["--unsafe-fixes", "a"]):
+            status, out, told = self.lint(*words)
+            self.assertEqual((status, out, told.count("\n")), (2, "", 1), words)
+
+    def test_table(self):
+        from gillspoon._fixes import FIXES
+        status, out, told = self.lint("--fixes")
+        rows = [line.split(" | ") for line in out.splitlines()]
+        self.assertEqual((status, told, [row[0][2:] for row in rows[2:]]),
+                         (0, "", [it.name for it in FIXES]))
+        self.assertEqual([row[2] for row in rows[2:]],
+                         ["yes" if it.is_safe else "no" for it in FIXES])
+
+    def test_the_table_of_the_document(self):
+        with open(ROOT + "/docs/TOOLS.md", encoding="utf-8") as page:
+            found = re.search(r"<!-- pgn_lint --fixes: begin -->\n\n(.*?)\n<!--", page.read(), re.S)
+        self.assertEqual(found[1], self.lint("--fixes")[1])
+
+    def test_json(self):
+        self.put("a.pgn", BAD)
+        fix = {"game": 1, "line": 4, "column": 4, "offset": 32, "old": "e2-e4", "new": "e2e4",
+               "name": "long notation", "safe": True}
+        self.assertEqual(self.records("a.pgn")[0]["fixes"], [fix])
+        self.assertEqual(self.records("--fix", "a.pgn"), [
+            {"kind": "fix", "file": "a.pgn", **fix},
+            {"kind": "summary", "files": 1, "games": 1, "faults": 0, "bad_files": 0, "fixed": 1,
+             "more": 0}])
+
+    def test_sarif(self):
+        self.put("a.pgn", BAD)
+        log = json.loads(self.lint("--sarif", "a.pgn")[1])
+        self.assertEqual(log["runs"][0]["results"][0]["fixes"], [{
+            "description": {"text": "long notation"},
+            "artifactChanges": [{
+                "artifactLocation": {"uri": "a.pgn"},
+                "replacements": [{"deletedRegion": {"byteOffset": 32, "byteLength": 5},
+                                  "insertedContent": {"text": "e2e4"}}]}]}])
+
+    def test_compressed_files_stay(self):
+        import gzip
+        self.put("a.pgn.gz", gzip.compress(BAD))
+        status, _, told = self.lint("--fix", "a.pgn.gz")
+        self.assertEqual((status, told), (
+            2, "pgn_lint: a.pgn.gz: is compressed: unpack it, or give it to --fix -\n"))
+        need("diff")
+        self.assertIn("+1. e2e4 e5 *", self.lint("--diff", "a.pgn.gz")[1])
+
+    def test_modes_links_and_read_only_files(self):
+        self.put("a.pgn", BAD)
+        os.chmod(self.folder + "/a.pgn", 0o640)
+        os.symlink("a.pgn", self.folder + "/link.pgn")
+        os.link(self.folder + "/a.pgn", self.folder + "/hard.txt")
+        status, _, told = self.lint("--fix", "link.pgn")
+        self.assertEqual((status, told), (0, "pgn_lint: link.pgn: had 2 hard links: those of other "
+                                             "names keep the old text\n"))
+        self.assertTrue(os.path.islink(self.folder + "/link.pgn"))
+        self.assertEqual(stat.S_IMODE(os.stat(self.folder + "/a.pgn").st_mode), 0o640)
+        self.assertEqual((self.read("a.pgn"), self.read("hard.txt")), (MENDED, BAD))
+        self.put("b.pgn", BAD)
+        os.chmod(self.folder + "/b.pgn", 0o444)
+        status, out, told = self.lint("--fix", "b.pgn")
+        self.assertEqual((status, told), (
+            2, "pgn_lint: b.pgn: is read-only; it is left as it is\n"))
+        self.assertEqual((self.read("b.pgn"), sorted(os.listdir(self.folder))),
+                         (BAD, ["a.pgn", "b.pgn", "hard.txt", "link.pgn"]))
+
+    def test_a_full_disk(self):
+        """A limit on the size of files stands for it."""
+        import resource
+        text = BAD + MENDED * 4000
+        self.put("a.pgn", text)
+
+        def limit():
+            signal.signal(signal.SIGXFSZ, signal.SIG_IGN)
+            resource.setrlimit(resource.RLIMIT_FSIZE, (1 << 16, 1 << 16))
+
+        status, _, told = self.lint("--fix", "a.pgn", preexec_fn=limit)
+        self.assertEqual(status, 2, told)
+        self.assertEqual((self.read("a.pgn"), os.listdir(self.folder)), (text, ["a.pgn"]))
+
+    def test_a_kill(self):
+        text = BAD * 20000
+        self.put("a.pgn", text)
+        words = [LINT, "--fix", "a.pgn"]
+        for number in (signal.SIGTERM, signal.SIGHUP, signal.SIGINT, signal.SIGKILL):
+            with subprocess.Popen(words, cwd=self.folder, stdout=subprocess.PIPE,
+                                  stderr=subprocess.DEVNULL, env=self.env) as running:
+                running.stdout.read(1 << 12)
+                running.send_signal(number)
+                running.stdout.read()
+            self.assertEqual(running.returncode, -number)
+            left = sorted(os.listdir(self.folder))
+            self.assertEqual(self.read("a.pgn"), text)
+            if number != signal.SIGKILL:
+                self.assertEqual(left, ["a.pgn"])
