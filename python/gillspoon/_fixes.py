@@ -8,6 +8,7 @@ from typing import Callable, FrozenSet, List, NamedTuple, Optional, Sequence, Tu
 
 from . import _proposals as by
 from ._here import DATA, Change, Here
+from ._languages import in_language
 from ._spellings import SPELLINGS, Spelling
 
 
@@ -35,7 +36,7 @@ def _fix(name: str, reasons: Sequence[int], is_safe: bool, old: str, new: str,
 
 def _of_data() -> List[Fix]:
     """The fixes that fixes.json has whole."""
-    return [_fix(row["name"], row["reasons"], row["safe"], *row["example"],
+    return [_fix(row["name"], row["reasons"], row["safe"], row["example"][0], row["example"][1],
                  by.by_pattern(row["name"])) for row in DATA["texts"]]
 
 
@@ -81,11 +82,26 @@ FIXES: "Tuple[AnyFix, ...]" = SPELLINGS + tuple(_of_data()) + (
     _fix("comment never closed", (12,), UNSAFE, "{Black resigns", "{Black resigns}",
          by.unclosed_comment),
 )
-NAMES = tuple(it.name for it in FIXES)
+
+
+def of_language(code: str) -> Fix:
+    """The fix for the letters of a language."""
+    return _fix("letters of a language", (1, 33, 34), UNSAFE, "1. e4 e5 2. Sf3 Sc6",
+                "1. e4 e5 2. Nf3 Nc6", in_language(code))
+
+
+# What pgn_lint --fixes lists: the last one is tried with --language alone.
+LISTED = FIXES + (of_language("de"),)
+NAMES = tuple(it.name for it in LISTED)
 
 
 def chosen_fixes(unsafe: bool = False, select: Optional[Sequence[str]] = None,
-                 ignore: Sequence[str] = ()) -> "Tuple[AnyFix, ...]":
-    """The fixes to try: the safe ones, or all; of these those of some names, or without them."""
-    return tuple(it for it in FIXES if (it.is_safe or unsafe)
-                 and (select is None or it.name in select) and it.name not in ignore)
+                 ignore: Sequence[str] = (), language: Optional[str] = None
+                 ) -> "Tuple[AnyFix, ...]":
+    """The fixes to try: the safe ones, or all; of these those of some names, or without them.
+
+    With a language its letters come first.
+    """
+    tried = tuple(it for it in FIXES if it.is_safe or unsafe)
+    return tuple(it for it in ((of_language(language),) if language else ()) + tried
+                 if (select is None or it.name in select) and it.name not in ignore)

@@ -10,7 +10,7 @@ import tempfile
 from typing import IO, Callable, List, NamedTuple, Optional, Sequence
 
 from ._edits import Edit
-from ._fixes import AnyFix, FIXES, chosen_fixes
+from ._fixes import LISTED, AnyFix, chosen_fixes
 from ._mend import Mender, SectionMender
 from ._replacement import Replacement, check_writable, note_of_links
 from ._sources import CHUNK, Opened, Source, is_compressed
@@ -25,10 +25,11 @@ class Choice(NamedTuple):
     others: Sequence[AnyFix]
 
 
-def choice(unsafe: bool, select: Optional[Sequence[str]], ignore: Sequence[str]) -> Choice:
+def choice(unsafe: bool, select: Optional[Sequence[str]], ignore: Sequence[str],
+           language: Optional[str]) -> Choice:
     """The fixes that the words of a command line choose."""
-    chosen = chosen_fixes(unsafe, select, ignore)
-    return Choice(chosen, () if unsafe else chosen_fixes(True, select, ignore))
+    chosen = chosen_fixes(unsafe, select, ignore, language)
+    return Choice(chosen, () if unsafe else chosen_fixes(True, select, ignore, language))
 
 
 class Mended(NamedTuple):
@@ -158,7 +159,7 @@ def write_diff(source: Opened, name: str, mended: Mended) -> None:
 def table() -> List[str]:
     """The lines of a table with all fixes, as docs/TOOLS.md has it."""
     rows = [("Fix", "Reasons", "Safe", "In the file", "Becomes"), ("---",) * 5]
-    for fix in FIXES:
+    for fix in LISTED:
         old, new = (_cell(it) for it in fix.example)
         rows.append((fix.name, ", ".join(map(str, sorted(fix.reasons))),
                      "yes" if fix.is_safe else "no", old, new))

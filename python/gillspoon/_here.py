@@ -92,7 +92,7 @@ class Head:
 
 def pattern_of(text: str) -> "re.Pattern[bytes]":
     """The regular expression of a text of the data, in which words in capitals stand for others."""
-    macros = DATA["macros"]
+    macros: Dict[str, str] = DATA["macros"]
     whole = re.sub("|".join(macros), lambda it: macros[it[0]], text)
     return re.compile(whole.encode("ascii"))
 

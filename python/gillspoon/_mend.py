@@ -79,6 +79,8 @@ class Mending:
         self.changes = Changes(text)
         self.fixes, self.reader = [it for it in fixes if isinstance(it, Fix)], reader
         self.spellings = tuple(it for it in fixes if isinstance(it, Spelling))
+        self.before_spellings = next(
+            (at for at, it in enumerate(fixes) if isinstance(it, Spelling)), 0)
         self.missing = _library.RESULT_FROM_MARKER if checked else _library.RESULT_UNKNOWN
         self.is_first, self.is_last, self.begin = is_first, is_last, 0
         self.is_sound = False
@@ -105,9 +107,12 @@ class Mending:
 
     def fixes_of(self, number: int) -> "List[Union[Fix, Tuple[Spelling, ...]]]":
         """The fixes for a reason, in order; all spellings of moves are tried as one."""
-        spellings = [self.spellings] if self.spellings and number in self.spellings[0].reasons \
-            else []
-        return spellings + [it for it in self.fixes if number in it.reasons]
+        chosen: "List[Union[Fix, Tuple[Spelling, ...]]]" = [
+            it for it in self.fixes if number in it.reasons]
+        if self.spellings and number in self.spellings[0].reasons:
+            # behind the letters of a language, which are those of a whole game
+            chosen.insert(self.before_spellings, self.spellings)
+        return chosen
 
     def _try(self, here: Here, fix: "Union[Fix, Tuple[Spelling, ...]]", missing: int) -> bool:
         if not isinstance(fix, Fix):

@@ -109,7 +109,9 @@ def pair_too_many(here: Here) -> Optional[Change]:
 def blank_in_name(here: Here) -> Optional[Change]:
     """Joins the words of a tag's name."""
     found = here.match_at_place(NAME_OF_WORDS)
-    return found and Change(found.start(1), found.end(1), re.sub(rb"[ \t-]+", b"", found[1]))
+    if not found:
+        return None
+    return Change(found.start(1), found.end(1), re.sub(rb"[ \t-]+", b"", found[1]))
 
 
 NAME_OF_WORDS = re.compile(rb'\[[ \t]*(\w+(?:[ \t-]+\w+)+)[ \t]*"')
@@ -302,13 +304,13 @@ NOVELTY = re.compile(rb"(?<![\w+#=:/.-])N(?![\w+#=:/-])(?:[ \t]*([a-h1-8x][\w+#=
 def long_suffix(here: Here) -> Optional[Change]:
     """Writes the first two signs of a suffix that is too long."""
     found = re.compile(rb"[!?]+").match(here.text, here.place)
-    return found and Change(found.start(), found.end(), found[0][:2])
+    return Change(found.start(), found.end(), found[0][:2]) if found else None
 
 
 def glyph_above(here: Here) -> Optional[Change]:
     """Makes a comment of a glyph that is out of range."""
     found = re.compile(rb"\$[0-9]+").match(here.text, here.place)
-    return found and Change(found.start(), found.end(), b"{" + found[0] + b"}")
+    return Change(found.start(), found.end(), b"{" + found[0] + b"}") if found else None
 
 
 def parenthesis_too_many(here: Here) -> Optional[Change]:
@@ -319,7 +321,7 @@ def parenthesis_too_many(here: Here) -> Optional[Change]:
 def diagram(here: Here) -> Optional[Change]:
     """Makes a comment of the D that marks a diagram."""
     found = re.compile(rb"D(?![\w+#=:/-])").match(here.text, here.place)
-    return found and Change(found.start(), found.end(), b"{D}")
+    return Change(found.start(), found.end(), b"{D}") if found else None
 
 
 def trailing_text(here: Here) -> Optional[Change]:
@@ -385,7 +387,7 @@ COMMAND = re.compile(rb"\[%(cal|csl)\s+([RGYBCOrgybco](?:[a-h][1-8]){1,2}"
 def long_word(here: Here) -> Optional[Change]:
     """Cuts a word of a comment behind a comma or a semicolon, else at its longest."""
     found = re.compile(rb"[^\s}]+").match(here.text, here.place)
-    return found and Change(found.start(), found.end(), cut_word(found[0]))
+    return Change(found.start(), found.end(), cut_word(found[0])) if found else None
 
 
 def cut_word(word: bytes) -> bytes:

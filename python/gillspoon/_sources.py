@@ -5,7 +5,7 @@ What only compressed files need is imported when there is one, so that a script 
 import io
 import mmap
 import os
-from typing import Any, BinaryIO, Callable, Iterator, Optional, Protocol, Tuple, Union
+from typing import IO, Any, BinaryIO, Callable, Iterator, Optional, Protocol, Tuple, Union
 
 from ._places import LINE_END, NEAR, LineCounter
 
@@ -222,7 +222,7 @@ class Opened:
 
     def __init__(self, source: Source) -> None:
         self._at = 0
-        self._file = _plain_file(source) or _spooled(source)
+        self._file: IO[bytes] = _plain_file(source) or _spooled(source)
         self.size = os.fstat(self._file.fileno()).st_size
 
     def read(self, size: int) -> bytes:
@@ -251,7 +251,7 @@ class Opened:
         self._file.close()
 
 
-def _plain_file(source: Source) -> Optional[BinaryIO]:
+def _plain_file(source: Source) -> Optional[IO[bytes]]:
     """An open file, if a source is the path of one that is not compressed."""
     if not isinstance(source, (str, os.PathLike)) or not os.path.isfile(source):
         return None
@@ -263,7 +263,7 @@ def is_compressed(path: str) -> bool:
     return os.path.splitext(path)[1].lower() in _OPENERS
 
 
-def _spooled(source: Source) -> BinaryIO:
+def _spooled(source: Source) -> IO[bytes]:
     """A temporary file with all bytes of a source."""
     import tempfile
     opened, held = Input(source), tempfile.TemporaryFile()

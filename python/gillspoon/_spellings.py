@@ -31,7 +31,8 @@ class Spelling(NamedTuple):
     is_safe: bool = True
 
 
-SPELLINGS = tuple(Spelling(row["name"], steps_of(row), row.get("needs", ""), tuple(row["example"]))
+SPELLINGS = tuple(Spelling(row["name"], steps_of(row), row.get("needs", ""),
+                           (row["example"][0], row["example"][1]))
                   for row in DATA["moves"])
 
 
@@ -58,27 +59,34 @@ def respelled(here: Here, spellings: Iterable[Spelling]) -> Optional[Respelled]:
 def _respelled_at(text: bytes, start: int, fen: str,
                   wanted: Tuple[Spelling, ...]) -> Optional[Respelled]:
     """Applies all spellings in turn: one token can have several. The move has to be legal."""
-    lead, rest, used = b"", text[start:start + NEAR], []
-    size, kept = len(rest), len(rest)
+    lead, rest = b"", text[start:start + NEAR]
+    used: List[Spelling] = []
+    size = kept = len(rest)
     for spelling in wanted:
-        for pattern, new in spelling.steps:
-            match = pattern.match(rest)
-            made = match and match.expand(new) + _letter(spelling, match, fen)
-            if not match or made == match[0] or not _holds(
-                    spelling.needs, made + rest[match.end():], fen):
-                continue
-            kept = min(kept, len(rest) - match.end())
-            rest = made + rest[match.end():]
-            if NUMBER.match(made):
-                lead, rest = made, rest[len(made):]
+        found = _step(spelling, rest, fen)
+        if found:
+            made, tail = found
+            kept = min(kept, len(tail))
+            lead, made = (made, b"") if NUMBER.match(made) else (lead, made)
+            rest = made + tail
             used.append(spelling)
-            break
     move = MOVE.match(rest)
     if not used or not move or not _played(fen, move[0]):
         return None
     kept = min(kept, len(rest) - move.end())
     change = Change(start, start + size - kept, lead + rest[:len(rest) - kept])
     return Respelled(change, tuple(used))
+
+
+def _step(spelling: Spelling, text: bytes, fen: str) -> Optional[Tuple[bytes, bytes]]:
+    """What a spelling makes of the begin of a text, and the rest behind it."""
+    for pattern, new in spelling.steps:
+        match = pattern.match(text)
+        if match:
+            made, tail = match.expand(new) + _letter(spelling, match, fen), text[match.end():]
+            if made != match[0] and _holds(spelling.needs, made + tail, fen):
+                return made, tail
+    return None
 
 
 def _letter(spelling: Spelling, match: "re.Match[bytes]", fen: str) -> bytes:

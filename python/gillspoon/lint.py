@@ -87,6 +87,9 @@ def arguments(words: Optional[List[str]]) -> argparse.Namespace:
     parser.add_argument("--select", metavar="NAME,...", type=_names, help="try these fixes alone")
     parser.add_argument("--ignore", metavar="NAME,...", type=_names, default=(),
                         help="do not try these fixes")
+    parser.add_argument("--language", metavar="CODE",
+                        choices=("de", "fr", "es", "it", "nl", "ru"),
+                        help="mend games with the letters of this language, such as Sf3")
     parser.add_argument("-j", "--jobs", metavar="N", type=_number, default=1,
                         help="check files by N processes [default: 1]")
     words = sys.argv[1:] if words is None else words
@@ -109,8 +112,8 @@ def _wrong_fixing(given: argparse.Namespace) -> str:
     is_fixing = given.fix or given.diff
     if given.sarif and is_fixing:
         return "--sarif goes with neither --fix nor --diff: it has the fixes of each fault"
-    if given.unsafe_fixes and not (is_fixing or given.json or given.sarif):
-        return "--unsafe-fixes goes with --fix, --diff, --json or --sarif"
+    if (given.unsafe_fixes or given.language) and not (is_fixing or given.json or given.sarif):
+        return "--unsafe-fixes and --language go with --fix, --diff, --json or --sarif"
     if given.fix and "-" in given.paths and len(given.paths) > 1:
         return "--fix - goes with no other FILE"
     return ""
@@ -203,7 +206,7 @@ def linter_of(path: str, given: argparse.Namespace) -> Linter:
     from ._fixes import chosen_fixes
     from ._mend import SectionMender
     opened = Opened(source_of(path))
-    fixes = chosen_fixes(given.unsafe_fixes, given.select, given.ignore)
+    fixes = chosen_fixes(given.unsafe_fixes, given.select, given.ignore, given.language)
     return Linter(opened, name, given.checked, SectionMender(opened, given.checked, fixes))
 
 
@@ -291,7 +294,8 @@ class Run:
         """Mends a file in place, or shows what that would change; reports what is left."""
         from . import _fixing
         given, name = self.given, STANDARD_INPUT if file == "-" else file
-        chosen = _fixing.choice(given.unsafe_fixes, given.select, given.ignore)
+        chosen = _fixing.choice(given.unsafe_fixes, given.select, given.ignore,
+                                given.language)
 
         def on_edit(edit: Edit) -> None:
             self.progress.clear()
@@ -413,8 +417,8 @@ def main(words: Optional[List[str]] = None) -> int:
     out = Output(sys.stderr if given.diff or given.fix and given.paths in ([], ["-"]) else
                  sys.stdout)
     if given.fix:
-        for number in STOPPING:
-            signal.signal(number, _stop)
+        for stopping in STOPPING:
+            signal.signal(stopping, _stop)
     report: AnyReport
     if given.sarif:
         report = SarifReport(out)

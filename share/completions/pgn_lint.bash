@@ -5,12 +5,18 @@ _pgn_lint() {
     COMPREPLY=()
     case $before in
         --max | -j | --jobs | --select | --ignore) return ;;
+        --language)
+            while IFS= read -r i; do
+                COMPREPLY+=("$i")
+            done < <(compgen -W 'de es fr it nl ru' -- "$word")
+            return
+            ;;
     esac
     if [[ $word == -* ]]; then
         while IFS= read -r i; do
             COMPREPLY+=("$i")
         done < <(compgen -W '-h --help --board --json --sarif --quiet --checked --max -j --jobs
-            --fix --diff --fixes --unsafe-fixes --select --ignore' -- "$word")
+            --fix --diff --fixes --unsafe-fixes --select --ignore --language' -- "$word")
     else
         compopt -o filenames 2>/dev/null
         while IFS= read -r i; do

@@ -15,3 +15,5 @@ complete -c pgn_lint -l unsafe-fixes \
     -d 'Also fixes that lose text, or choose one of several readings'
 complete -c pgn_lint -l select -x -d 'Try these fixes alone'
 complete -c pgn_lint -l ignore -x -d 'Do not try these fixes'
+complete -c pgn_lint -l language -x -a 'de es fr it nl ru' \
+    -d 'Mend games with the letters of this language'

@@ -223,6 +223,7 @@ UNSAFE = [
     ('[SetUp "1"]\n[White "Ada"]\n\n1. e4 *\n', [('[SetUp "1"]\n', "", "SetUp without FEN")],
      '[White "Ada"]\n\n1. e4 *\n'),
     _tags('[OLD "2700"]', "White Elo", "WhiteElo", "blank in a tag's name"),
+    _move("1. e4 ", "\x01", " ", "control byte", "e5 *"),
     _move("1. e4", "!!!", "!!", "long suffix"),
     _move("1. e4 ", "$256", "{$256}", "glyph above 255"),
     ('[White "Ada"]\n{why}\n[Black "Bob"]\n\n1. e4 *\n',

@@ -78,7 +78,8 @@ class Spellings(unittest.TestCase):
         from gillspoon._fixes import NAMES
         tried = {name for _, edits, _ in SAFE + UNSAFE for edit in edits
                  for name in edit[2].split(", ")}
-        self.assertEqual(tried, set(NAMES))
+        # the last one has a test of its own
+        self.assertEqual(tried, set(NAMES) - {"letters of a language"})
 
     def test_latin_1(self):
         for old, new in ((b"1. e4 \xbd\n", b'[Result "1/2-1/2"]\n\n1. e4 1/2-1/2\n'),
@@ -274,6 +275,25 @@ class Command(Lint):
             "pgn_lint: argument --select: there is no fix none; --fixes lists them "
             "(--help shows the usage)\n")))
 
+    def test_languages(self):
+        promoted = '[FEN "7k/P7/8/8/8/8/8/K7 w - - 0 1"]\n\n1. %s Kg7 2. %s *\n'
+        for code, text, wanted in (
+                ("de", "1. e4 e5 2. Sf3 Sc6 3. Lb5 a6 4. Lxc6 {Lc6} dxc6 5. De2 Kd7 *\n",
+                 "1. e4 e5 2. Nf3 Nc6 3. Bb5 a6 4. Bxc6 {Lc6} dxc6 5. Qe2 Kd7 *\n"),
+                ("fr", "1. e4 e5 2. Cf3 Cc6 3. Fb5 a6 4. Re2 *\n",
+                 "1. e4 e5 2. Nf3 Nc6 3. Bb5 a6 4. Ke2 *\n"),
+                ("es", "1. e4 e5 2. Cf3 Cc6 3. Ab5 a6 4. Tg1 *\n",
+                 "1. e4 e5 2. Nf3 Nc6 3. Bb5 a6 4. Rg1 *\n"),
+                ("ru", "1. e4 e5 2. \u041af3 \u041ac6 3. \u0421b5 a6 4. \u041a\u0440e2 *\n",
+                 "1. e4 e5 2. Nf3 Nc6 3. Bb5 a6 4. Ke2 *\n"),
+                ("nl", promoted % ("a8D+", "Dg8+"), promoted % ("a8=Q+", "Qg8+"))):
+            status, out, _ = self.lint("--fix", "--language", code, input=text.encode())
+            self.assertEqual((status, out), (0, wanted))
+            # English games stay, and so does a game without its language
+            self.assertEqual(self.lint("--fix", "--language", code, input=wanted.encode())[1],
+                             wanted)
+            self.assertEqual(self.lint("--fix", input=text.encode())[1], text)
+
     def test_wrong_words(self):
         for words in (["--fix", "--diff", "a"], ["--fix", "--sarif", "a"], ["--fix", "-", "a"],
                       ["--unsafe-fixes", "a"]):
@@ -281,13 +301,13 @@ class Command(Lint):
             self.assertEqual((status, out, told.count("\n")), (2, "", 1), words)
 
     def test_table(self):
-        from gillspoon._fixes import FIXES
+        from gillspoon._fixes import LISTED
         status, out, told = self.lint("--fixes")
         rows = [line.split(" | ") for line in out.splitlines()]
         self.assertEqual((status, told, [row[0][2:] for row in rows[2:]]),
-                         (0, "", [it.name for it in FIXES]))
+                         (0, "", [it.name for it in LISTED]))
         self.assertEqual([row[2] for row in rows[2:]],
-                         ["yes" if it.is_safe else "no" for it in FIXES])
+                         ["yes" if it.is_safe else "no" for it in LISTED])
 
     def test_the_table_of_the_document(self):
         with open(ROOT + "/docs/TOOLS.md", encoding="utf-8") as page:

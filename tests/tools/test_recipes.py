@@ -253,38 +253,13 @@ class Encodings(Recipe):
 
 
 class Mended(Recipe):
-    def test_null_moves(self):
-        text = '[Event "(a -- b)"]\n1. e4 {(x -- y)} e5 (1... -- 2. d4) 2. Nf3 (2. Z0\nd5) *'
-        wanted = game(
-            "1. e4 { (x -- y) } 1... e5 { 1... -- 2. d4 } 2. Nf3 { 2. Z0 d5 } *", Event="(a -- b)")
-        self.mend("Null moves", text, "byte 45: stray byte", wanted)
-        for text, message in (("1. e4 -- *", "byte 6: stray byte"),
-                              ("1. e4 e5 2. d4 (2. -- {a}) *", "byte 19: stray byte"),
-                              ("1. e4 (1. d4 (1. -- ;)\n)) *", "byte 17: stray byte")):
-            self.unmended("Null moves", text, message)
-
-    def test_long_notation(self):
-        text = '[Event "e2-e4"]\n1. e2-e4 {e2-e4} d7-d5 2. e4xd5 Ng8-f6 3. O-O-O *'
-        self.put("games.pgn", text)
-        ran = self.recipe("Long notation")
-        # A castling that is not legal stays one.
-        message = "byte %d: move is not legal\n" % (text.find("O-O-O") - 3)
-        self.assertEqual(ran.stderr.decode(), message)
-        wanted = game("1. e4 { e2-e4 } 1... d5 2. exd5 Nf6 *", Event="e2-e4")
-        self.mend("Long notation", text.replace(" 3. O-O-O", ""), "byte 19: not a move", wanted)
-        self.unmended("Long notation", "1. e3-e4 *", "byte 3: move is not legal")
-
-    def test_moves_without_letters(self):
-        programs.need("pgn-extract")
-        text = '[Event "a"]\n\n1. e2e4 {x} e7e5 2. g1f3 (2. b1c3) *\n\n' \
-            '[Event "b"]\n\nd2d4 g8f6 *\n'
-        wanted = game("1. e4 e5 2. Nf3 *", Event="a") + game("1. d4 Nf6 *", Event="b")
-        said = self.mend("Moves without letters", text, "byte 33: move is not legal", wanted)
-        self.assertEqual(said, "5\n2\ngames: 2, plies: 5\n")
-        # A game that pgn-extract drops is missing in the counts.
-        self.put("games.pgn", text.replace("g1f3", "g1f4"))
-        said = self.recipe("Moves without letters").stdout.decode()
-        self.assertEqual(said, "5\n2\ngames: 1, plies: 2\n")
+    def test_mend(self):
+        """The fixes give what the text means, and no comment or tag changes."""
+        text = '[Event "The "Open""]\n[Round "1/2"]\n\n1. e2-e4 {e2-e4} d7-d5 2. e4:d5 g8f6 1/2\n'
+        wanted = game("1. e4 { e2-e4 } 1... d5 2. exd5 Nf6 1/2-1/2", "1/2-1/2",
+                      Event=r"The \"Open\"", Round="1/2")
+        said = self.mend("Mend what is rejected", text, "byte 13: closing bracket expected", wanted)
+        self.assertEqual(said.splitlines()[-1], "1 file, 1 game, 0 faults, 7 edits")
 
     def test_missing_result_tag(self):
         text = '[Event "a"]\n\n1. e4 {1-0} e5 1-0\n\n[Event "b"]\n[Result "0-1"]\n\n1. d4 0-1\n\n' \
@@ -293,130 +268,7 @@ class Mended(Recipe):
             + game("1. d4 0-1", "0-1", Event="b") + game("1. c4 *", White="c") \
             + game("1. f4 1/2-1/2", "1/2-1/2", White="d")
         message = "byte 28: result differs from the Result tag"
-        self.mend("Missing Result tag", text, message, wanted)
-
-    def test_missing_result(self):
-        text = '[Event "a"]\n[Result "1-0"]\n\n1. e4 e5\n\n[Event "b"]\n\n1. d4\n\n' \
-            '[Event "c"]\n\n1. c4 *\n'
-        wanted = game("1. e4 e5 1-0", "1-0", Event="a") + game("1. d4 *", Event="b") \
-            + game("1. c4 *", Event="c")
-        said = self.mend("Missing result", text, "byte 38: tag in movetext", wanted)
-        self.assertEqual(said, "3\ngames: 3, plies: 4\n")
-
-    def counted(self, said, *numbers):
-        """Whether a recipe printed these numbers of games and faults, and other lines between."""
-        lines = said.split("\n")[:-1]
-        found = [re.fullmatch(r"1 file, (\d+) games?, (\d+) faults?( in 1 file)?", it)
-                 for it in (lines[0], lines[-1])]
-        self.assertEqual([(int(it[1]), int(it[2])) for it in found], list(numbers))
-        return lines[1:-1]
-
-    def test_unknown_results_in_tags(self):
-        text = '[White "a"]\n[Result "*"]\n\n1. e4 {x} 1-0\n\n[White "b"]\r\n[Result "*"]\r\n\r\n' \
-            '1. d4 *\r\n\r\n[White "c"]\n[Result "0-1"]\n\n1. c4 0-1\n\n' \
-            '[White "d"]\r\n[Result "*"] \r\n\r\n1. f4 1/2-1/2\r\n'
-        wanted = game("1. e4 { x } 1-0", "1-0", White="a") + game("1. d4 *", White="b") \
-            + game("1. c4 0-1", "0-1", White="c") + game("1. f4 1/2-1/2", "1/2-1/2", White="d")
-        said = self.mend("Unknown results in tags", text,
-                         "byte 36: result differs from the Result tag", wanted)
-        self.assertEqual(self.counted(said, (4, 2), (4, 0)), ["3", "1"])
-        # a line of a comment goes too, as the recipe says, and a tag that shares its line stays
-        self.put("games.pgn", '1. e4 {a\n[Result "*"]\nb} *')
-        self.recipe("Unknown results in tags")
-        self.assertEqual(self.get("mended.pgn").decode(), game("1. e4 { a b } *"))
-        self.put("games.pgn", '[Result "*"] [White "a"]\n\n1. e4 1-0')
-        self.assertIn(b"result differs", self.recipe("Unknown results in tags").stderr)
-
-    def test_draws_written_in_short(self):
-        text = '[Round "1/2"]\n[Result "1/2"]\n\n1. e4 {1/2 a} e5 ; 1/2\n1/2\n\n' \
-            '[Round "2"]\n\n1. d4 1/2-1/2\n\n[Round "1-1/2"]\n[Result "1/2-1/2"]\n\n1. c4 {x}1/2'
-        wanted = game("1. e4 { 1/2 a } 1... e5 { 1/2 } 1/2-1/2", "1/2-1/2", Round="1/2")
-        self.put("games.pgn", text)
-        said = self.recipe("Draws written 1/2").stdout.decode()
-        self.counted(said, (3, 3), (3, 1))
-        text = text.replace('[Round "2"]\n', '[Round "2"]\n[Result "1/2-1/2"]\n')
-        said = self.mend("Draws written 1/2", text, "byte 22: bad result value", wanted
-                         + game("1. d4 1/2-1/2", "1/2-1/2", Round="2")
-                         + game("1. c4 { x } 1/2-1/2", "1/2-1/2", Round="1-1/2"))
-        self.counted(said, (3, 2), (3, 0))
-        # an offer of a draw ends the game, and the number of games shows it
-        self.put("games.pgn", '[Result "1/2-1/2"]\n\n1. e4 1/2 e5 1/2-1/2\n')
-        self.counted(self.recipe("Draws written 1/2").stdout.decode(), (1, 1), (2, 1))
-
-    def test_en_passant(self):
-        for words in ("exd6 e.p.", "exd6e.p.", "exd6 ep", "exd6\nep."):
-            text = '[White "e6 e.p."]\n1. e4 {d6 ep} a6 2. e5 d5 3. %s *' % words
-            message = "byte %d: not a move" % (
-                text.index("exd6") + (5 if words[4] in " \n" else 0))
-            wanted = game("1. e4 { d6 ep } 1... a6 2. e5 d5 3. exd6 *", White="e6 e.p.")
-            self.counted(self.mend("En passant with e.p.", text, message, wanted), (1, 1), (1, 0))
-            self.assertTrue(self.get("mended.pgn").endswith(b" 3. exd6 *"))
-        check = '[FEN "3k4/2p5/8/3P4/K7/8/8/3R4 b - - 0 1"]\n\n1... c5 2. dxc6+ e.p. *\n'
-        self.put("games.pgn", check)
-        self.counted(self.recipe("En passant with e.p.").stdout.decode(), (1, 1), (1, 0))
-        # a capture that is not en passant is accepted, and one that is not legal is not
-        taken = "1. e4 d6 2. e5 a6 3. exd6 e.p. *"
-        self.put("games.pgn", taken)
-        self.counted(self.recipe("En passant with e.p.").stdout.decode(), (1, 1), (1, 0))
-        self.put("games.pgn", taken.replace("d6 2", "d5 2").replace("e5", "a3"))
-        self.counted(self.recipe("En passant with e.p.").stdout.decode(), (1, 1), (1, 1))
-
-    def test_promotions(self):
-        fen = "8/P6k/8/8/8/8/8/K7 w - - 0 1"
-        head = '[Event "a8=q"]\n[FEN "%s"]\n\n1. ' % fen
-        for words, letter in (("a8=q", "Q"), ("a8q", "Q"), ("a8(Q)", "Q"), ("a7a8(=b)", "B"),
-                              ("a8=n", "N"), ("a8r", "R")):
-            text = head + words + " {a8=q} *"
-            self.put("games.pgn", text)
-            said = self.recipe("Promotions in small letters")
-            self.assertEqual(said.stderr, b"")
-            self.counted(said.stdout.decode(), (1, 1), (1, 0))
-            exported = self.shell("pgn_tool export mended.pgn").stdout.decode()
-            self.assertIn("\n\n1. a8=%s { a8=q } *\n" % letter, exported)
-            self.assertIn('[Event "a8=q"]\n', exported)
-        # other moves and variations are left alone
-        text = '[FEN "r5k1/8/8/8/8/8/8/R5K1 w - - 0 1"]\n\n1. a1a8 (1. Ra8) (1. a1b1) *\n'
-        self.put("games.pgn", text)
-        self.recipe("Promotions in small letters")
-        self.assertEqual(self.get("mended.pgn").decode(), text)
-
-    def test_half_signs(self):
-        text = '[Result "½-½"]\n\n1. e4 ½-½\n'
-        wanted = game("1. e4 1/2-1/2", "1/2-1/2")
-        self.mend("Half signs", text, "byte 8: bad result value", wanted)
-
-    def test_quotes_in_tags(self):
-        text = '[Event "The "Open""]\n[Site "a\\"b\\\\"]\n' \
-            '[Round "1"] [White "x"]\n1. e4 *\n'
-        tags = {"Event": 'The \\"Open\\"', "Site": 'a\\"b\\\\', "Round": "1", "White": "x"}
-        wanted = game("1. e4 *", **tags)
-        self.mend("Quotes in tags", text, "byte 13: closing bracket expected", wanted)
-        message = "byte 11: closing bracket expected"
-        self.unmended("Quotes in tags", '[Event "a "b""] [Site "x"]\n*', message)
-
-    def test_long_words(self):
-        letters, accents = "x" * 100, "ü" * 60
-        text = '[Event "{%s}"]\n1. e4 {%s short %s} *' % (letters, letters, accents)
-        place = len('[Event "{%s}"]\n1. e4 {' % letters)
-        words = ["{", "x" * 59, "x" * 41, "short", "ü" * 30, "ü" * 30, "}", "*"]
-        wanted = game(laid_out(["1.", "e4"] + words), Event="{%s}" % letters)
-        message = "byte %d: comment word is too long" % place
-        self.mend("Long words", text, message, wanted)
-        message = "byte 7: comment word is too long"
-        self.unmended("Long words", "1. e4 ;%s\n*" % letters, message)
-
-    def test_long_drawing_commands(self):
-        files = [(a, b) for a in "abc" for b in "de"]
-        marks = ["G%s%d%s%d" % (a, r, b, r + 1) for a, b in files for r in (1, 2, 3, 4, 5)]
-        text = "1. e4 {[%%cal %s] [%%csl Ra1]} *" % ",".join(marks)
-        words = [it for n in (0, 12, 24) for it in ("[%cal", ",".join(marks[n : n + 12]) + "]")]
-        wanted = game(laid_out(["1.", "e4", "{"] + words + ["[%csl", "Ra1]", "}", "*"]))
-        self.mend("Long drawing commands", text, "byte 13: comment word is too long", wanted)
-
-    def test_marks_tabs_and_control_bytes(self):
-        text = '[Event "a\tb"]\n1. e4 {x\x01y} *\n\x1a\n\ufeff[Event "c"]\n1. d4\t*\r\n\x00'
-        wanted = game("1. e4 { x y } *", Event="a b") + game("1. d4 *", Event="c")
-        self.mend("Byte order marks, tabs and control bytes", text, "byte 9: control byte", wanted)
+        self.mend("Take a missing Result from the end of its game", text, message, wanted)
 
 
 if __name__ == "__main__":
