@@ -5,16 +5,17 @@ game, and whether a Result is missing, which is so if the game is accepted witho
 """
 import re
 import unicodedata
-from typing import TYPE_CHECKING, Callable, Iterator, List, NamedTuple, Optional, Tuple
+from typing import TYPE_CHECKING, Callable, Iterator, List, NamedTuple, Optional, Tuple, Union
 
 from . import _calls, _library
 from ._edits import Edit
 from ._faults import MoveFault, PgnFault
-from ._games import Reader
+from ._games import Game, Reader
 from ._moves import read_tags
 from ._places import LINE_END
 from ._reading import GameReader
 from ._sources import Source, Window
+from ._warnings import Watcher
 
 if TYPE_CHECKING:
     from ._mend import SectionMender
@@ -84,28 +85,48 @@ class Finding(NamedTuple):
     """With --json and --sarif the edits that mend the game, or what of it can be mended."""
 
 
+class Warned(NamedTuple):
+    """A warning, of a sound game or of a file. These are its fields of --json."""
+
+    file: str
+    line: int
+    column: int
+    offset: int
+    reason: str
+    game: Optional[int]
+    """The number of the game, or None."""
+    white: str
+    black: str
+
+
 class Linter(Reader):
-    """Reads a file and makes a Finding of each fault."""
+    """Reads a file and makes a Finding of each fault, and a Warned of each warning."""
 
     def __init__(self, source: Source, name: str, checked: bool,
                  mender: "Optional[SectionMender]" = None) -> None:
         super().__init__(Window(source), checked, False)
         self.name, self._mender = name, mender
-        self.found: List[Finding] = []
+        self.found: List[Union[Finding, Warned]] = []
+        self._watcher: Optional[Watcher] = None
         self._reader = GameReader()
         self._bad = _BadGame("", 0, "?", "?", None, "")
 
-    def findings(self, step: Callable[[int], None] = lambda number: None) -> Iterator[Finding]:
-        """The faults in turn. At the end `number` is one above the number of games.
+    def findings(self, step: Callable[[int], None] = lambda number: None
+                 ) -> "Iterator[Union[Finding, Warned]]":
+        """The faults and warnings in turn. At the end `number` is one above the number of games.
 
         Now and then `step` is called with the number of a game.
         """
         try:
             for game in self.games(self._add):
+                if self._watcher:
+                    self._watch(self._watcher, game)
                 if self.found:
                     yield from self._taken()
                 if not game.number % STEP:
                     step(game.number)
+            if self._watcher:
+                self._watch_end(self._watcher)
         except PgnFault as fault:
             # nothing is read behind a fault that would be met again
             fault.end = self.window.base + len(self.window.data)
@@ -115,7 +136,28 @@ class Linter(Reader):
             self.window.close()
         yield from self._taken()
 
-    def _taken(self) -> List[Finding]:
+    def watched(self) -> "Linter":
+        """The same, and it warns."""
+        self._watcher = Watcher()
+        return self
+
+    def _watch(self, watcher: Watcher, game: Game) -> None:
+        base = self.window.base
+        text = self.window.data[game.offset - base:game.end - base]
+        for it in watcher.game(game, text):
+            line, column = self.window.place(it.offset)
+            self.found.append(Warned(
+                self.name, line, column, it.offset, it.reason, game.number,
+                printable(game.tags.get("White", "?")), printable(game.tags.get("Black", "?"))))
+
+    def _watch_end(self, watcher: Watcher) -> None:
+        at = min(self.at, self.window.base + len(self.window.data))
+        rest = self.window.data[at - self.window.base:]
+        for it in watcher.file(self.number > 1, rest, at):
+            line, column = self.window.place(it.offset)
+            self.found.append(Warned(self.name, line, column, it.offset, it.reason, None, "?", "?"))
+
+    def _taken(self) -> "List[Union[Finding, Warned]]":
         taken, self.found = self.found, []
         return taken
 

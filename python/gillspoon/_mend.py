@@ -9,10 +9,11 @@ from . import _library
 from ._edits import Edit
 from ._faults import PgnFault
 from ._fixes import AnyFix, Fix
-from ._games import Reader
+from ._games import Game, Reader
 from ._here import Change, Here
 from ._places import BYTE_ORDER_MARK, NEAR, LineCounter
 from ._reading import GameReader
+from ._sections import game_in_comment
 from ._sources import CHUNK, Opened, Window
 from ._spellings import Spelling, like_tokens, respelled
 
@@ -212,8 +213,11 @@ class SectionMender:
         # up to where lines are counted
         self._lines, self._counted = LineCounter(), 0
 
-    def section(self, fault: PgnFault) -> Section:
-        """The edits of the bad game that a fault is in, by the fixes; `others` are counted."""
+    def section(self, fault: PgnFault, is_sound: bool = False) -> Section:
+        """The edits of the bad game that a fault is in, by the fixes; `others` are counted.
+
+        If it `is_sound` all the same, edits are made only if they end with a sound text.
+        """
         assert fault.end is not None
         # a byte order mark and a % mean something else at the start of a text
         begin = fault.begin and fault.begin - 1
@@ -222,7 +226,9 @@ class SectionMender:
         text = self.opened.fetch(begin, max(fault.end, mark_end) if is_mark else fault.end)
         text = b" " + text[1:] if fault.begin and not text[:1].isspace() else text
         mending = self._mending(text, fault, self.fixes)
-        edits = [self._edit(fault.game, begin, it, text) for it in mending.changes.applied]
+        is_kept = mending.is_sound or not is_sound
+        edits = [self._edit(fault.game, begin, it, text)
+                 for it in mending.changes.applied if is_kept]
         more = 0
         if self.others and not mending.is_sound:
             more = len(self._mending(mending.changes.text, fault, self.others).changes.applied)
@@ -260,6 +266,7 @@ class Mender(Reader):
             for game in self.games(bad.append):
                 yield from map(self._mender.section, bad)
                 bad.clear()
+                yield from self._with_open_comment(game)
                 if not game.number % STEP:
                     step(game.number)
         except PgnFault as fault:
@@ -270,3 +277,12 @@ class Mender(Reader):
         finally:
             self.window.close()
         yield from map(self._mender.section, bad)
+
+    def _with_open_comment(self, game: Game) -> Iterator[Section]:
+        """A sound game with another one in a comment: its text up to there is mended alone."""
+        base = self.window.base
+        inside = game_in_comment(self.window.data[game.offset - base:game.end - base])
+        if inside is not None:
+            end = game.offset + inside
+            yield self._mender.section(PgnFault(
+                UNCLOSED_COMMENT, "", end, 0, 0, game.number, None, game.offset, end), True)

@@ -11,7 +11,7 @@ from typing import Dict, List, NamedTuple, Optional, TextIO, Tuple, Union
 from urllib.parse import quote
 
 from ._edits import Edit
-from ._findings import Finding, board, printable, text_of
+from ._findings import Finding, Warned, board, printable, text_of
 
 VERSION_OF_SARIF = "2.1.0"
 SCHEMA_OF_SARIF = "https://json.schemastore.org/sarif-2.1.0.json"
@@ -38,12 +38,16 @@ class Summary(NamedTuple):
     """How many edits were made, or would be, if edits are made at all."""
     more: Optional[int] = None
     """How many further edits --unsafe-fixes would make."""
+    warnings: Optional[int] = None
+    """How many warnings there are, if any."""
 
     def __str__(self) -> str:
         words = [_count(self.files, "file"), _count(self.games, "game"),
                  _count(self.faults, "fault")]
         if self.faults:
             words[2] += " in " + _count(self.bad_files, "file")
+        if self.warnings:
+            words.append(_count(self.warnings, "warning"))
         if self.fixed is not None:
             words.append(_count(self.fixed, "edit"))
         if self.more:
@@ -139,6 +143,13 @@ class Report:
             for line in self._explanation(it):
                 self._put("  " + line if line else "")
 
+    def warning(self, it: Warned) -> None:
+        """Writes a warning."""
+        place = "%s:%d:%d:" % (in_a_line(it.file), it.line, it.column)
+        game = "" if it.game is None else " (game %d, %s \u2013 %s)" % (
+            it.game, it.white, it.black)
+        self._put("%s warning: %s%s" % (self._in(BOLD, place), it.reason, game))
+
     def edit(self, file: str, it: Edit, is_done: bool) -> None:
         """Writes an edit that was made, or would be."""
         place = "%s:%d:%d:" % (in_a_line(file), it.line, it.column)
@@ -201,6 +212,10 @@ class JsonReport:
         record["fixes"] = [edit_record(edit) for edit in it.fixes]
         self._put(record)
 
+    def warning(self, it: Warned) -> None:
+        """Writes the record of a warning."""
+        self._put(dict({"kind": "warning"}, **it._asdict()))
+
     def edit(self, file: str, it: Edit, is_done: bool) -> None:
         """Writes the record of an edit."""
         self._put(dict({"kind": "fix", "file": file}, **edit_record(it)))
@@ -241,6 +256,20 @@ class SarifReport:
         if it.fixes:
             result["fixes"] = [sarif_fix(it)]
         self.results.append(result)
+
+    def warning(self, it: Warned) -> None:
+        """Takes a warning."""
+        game = "" if it.game is None else " (game %d, %s \u2013 %s)" % (
+            it.game, it.white, it.black)
+        self.results.append({
+            "level": "warning",
+            "message": {"text": it.reason + game},
+            "locations": [{"physicalLocation": {
+                "artifactLocation": {"uri": uri_of(it.file)},
+                "region": {"startLine": it.line, "startColumn": it.column,
+                           "byteOffset": it.offset},
+            }}],
+        })
 
     def edit(self, file: str, it: Edit, is_done: bool) -> None:
         """Nothing: the log has the fixes of each fault."""

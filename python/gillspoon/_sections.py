@@ -118,6 +118,28 @@ def end_of(bad: BadGame, lines: Iterable[Tuple[int, bytes]]) -> Optional[int]:
     return None
 
 
+QUOTED_TAG_LINE = re.compile(rb'[\r\n][\x00-\x20\x7f\xef\xbb\xbf]*\[[\t-\r ]*\w+[\t-\r ]*"')
+
+
+def game_in_comment(text: bytes) -> Optional[int]:
+    """Where a comment of a sound game holds a line that begins a tag section, or None.
+
+    >>> game_in_comment(b'1. e4 {resigns\\n\\n[White "Ada"]\\n\\n1. d4 {a} 1-0')
+    15
+    """
+    head = text.find(b"\n\n") + 1
+    if text.find(b'"', head) < 0 or not QUOTED_TAG_LINE.search(text, head):
+        return None
+    bad, at = BadGame(len(text)), 0
+    for line in text.splitlines(keepends=True):
+        end = bad.end_before(at, line) if bad.in_comment else None
+        if end is not None:
+            return end
+        bad.read(at, line)
+        at += len(line)
+    return None
+
+
 def tag_pairs(text: bytes) -> Dict[bytes, bytes]:
     """The tag pairs that a game's text begins with; lines with a mistake are passed over.
 

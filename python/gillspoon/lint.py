@@ -10,7 +10,7 @@ import sys
 from typing import TYPE_CHECKING, Dict, Iterator, List, NamedTuple, NoReturn, Optional, Union
 
 from ._edits import Edit
-from ._findings import Finding, Linter
+from ._findings import Finding, Linter, Warned
 from ._replacement import STOPPING, Replacement
 from ._reports import (AnyReport, JsonReport, Output, OutputFault, Progress, Report, SarifReport,
                        Summary, Unread, has_colours, message)
@@ -39,9 +39,12 @@ text has one reading and nothing is lost; --unsafe-fixes adds the others. What n
 it is, byte for byte. --fix replaces a file whole, and leaves read-only files alone. What is left is
 reported by the lines of the text after the edits.
 
+A warning is about a sound game: a comment in which a game may be, text that export drops, a value
+whose form the standard does not know, a mix of encodings, a Variant tag, or a file without games.
+
 status:
   0  no fault is left, and with --diff nothing would change
-  1  there are faults; or with --diff something would change
+  1  there are faults; or with --diff something would change; or with --strict a warning
   2  wrong arguments, or a file cannot be read, or the output cannot be written
   127  there is no shared library
 
@@ -73,7 +76,9 @@ def arguments(words: Optional[List[str]]) -> argparse.Namespace:
     forms.add_argument("--json", action="store_true", help="write a record of JSON a line")
     forms.add_argument("--sarif", action="store_true", help="write a log of SARIF 2.1.0")
     parser.add_argument("--quiet", action="store_true",
-                        help="write faults alone: no summary, no progress")
+                        help="write faults alone: no summary, no progress, and warnings only "
+                        "with --strict")
+    parser.add_argument("--strict", action="store_true", help="the status is 1 with a warning too")
     parser.add_argument("--checked", action="store_true",
                         help="a missing Result tag takes the result at the end of its game")
     parser.add_argument("--max", metavar="N", type=_number, help="write the first N faults alone")
@@ -114,6 +119,8 @@ def _wrong_fixing(given: argparse.Namespace) -> str:
         return "--sarif goes with neither --fix nor --diff: it has the fixes of each fault"
     if (given.unsafe_fixes or given.language) and not (is_fixing or given.json or given.sarif):
         return "--unsafe-fixes and --language go with --fix, --diff, --json or --sarif"
+    if given.strict and is_fixing:
+        return "--strict goes with neither --fix nor --diff, which do not warn"
     if given.fix and "-" in given.paths and len(given.paths) > 1:
         return "--fix - goes with no other FILE"
     return ""
@@ -173,8 +180,9 @@ def files_below(folder: str) -> Iterator[Union[str, Unread]]:
 class Checked(NamedTuple):
     """What another process found in a file: its first faults, and how many it has."""
 
-    findings: List[Finding]
+    findings: List[Union[Finding, Warned]]
     faults: int
+    warnings: int
     games: int
     unread: Optional[Unread]
 
@@ -200,6 +208,16 @@ def source_of(path: str) -> Source:
 
 def linter_of(path: str, given: argparse.Namespace) -> Linter:
     """The reader of a file, or of standard input. Its records have fixes, if they are written."""
+    linter = _linter_of(path, given)
+    return linter.watched() if watches(given) else linter
+
+
+def watches(given: argparse.Namespace) -> bool:
+    """Whether warnings are written."""
+    return bool(given.strict or not given.quiet)
+
+
+def _linter_of(path: str, given: argparse.Namespace) -> Linter:
     name = STANDARD_INPUT if path == "-" else path
     if not given.json and not given.sarif:
         return Linter(source_of(path), name, given.checked)
@@ -212,19 +230,22 @@ def linter_of(path: str, given: argparse.Namespace) -> Linter:
 
 def check_file(path: str, given: argparse.Namespace) -> Checked:
     """Checks a file in a process of a pool, and keeps its first faults: all, or so many."""
-    findings: List[Finding] = []
-    faults = games = 0
+    findings: List[Union[Finding, Warned]] = []
+    faults = games = warnings = 0
     try:
         linter = linter_of(path, given)
         for finding in linter.findings():
-            faults += 1
+            if isinstance(finding, Warned):
+                warnings += 1
+            else:
+                faults += 1
             if given.max is None or faults <= given.max:
                 findings.append(finding)
             games = linter.number - 1
         games = linter.number - 1
     except OSError as error:
-        return Checked(findings, faults, games, Unread(path, reason_of(error, path)))
-    return Checked(findings, faults, games, None)
+        return Checked(findings, faults, warnings, games, Unread(path, reason_of(error, path)))
+    return Checked(findings, faults, warnings, games, None)
 
 
 def reason_of(error: OSError, path: str) -> str:
@@ -248,6 +269,7 @@ class Run:
         self.files = list(files_of(given.paths or ["-"]))
         self.progress = Progress(len(self.files), not given.quiet)
         self.read = self.games = self.faults = self.bad_files = self.fixed = self.more = 0
+        self.warnings = 0
         self.is_fixing: bool = given.fix or given.diff
         self.unread: List[Unread] = []
         self.has_ended_processes = False
@@ -262,8 +284,10 @@ class Run:
                 self._check_here(file)
         self.progress.clear()
         self.report.end(Summary(self.read, self.games, self.faults, self.bad_files,
-                                *((self.fixed, self.more) if self.is_fixing else ())), self.unread)
-        is_faulty = self.faults or self.given.diff and self.fixed
+                                *((self.fixed, self.more) if self.is_fixing else (None, None)),
+                                self.warnings or None), self.unread)
+        is_faulty = self.faults or self.given.diff and self.fixed or \
+            self.given.strict and self.warnings
         return UNREADABLE if self.unread else FAULTY if is_faulty else SOUND
 
     def _check_here(self, file: Union[str, Unread]) -> None:
@@ -286,7 +310,7 @@ class Run:
     def _lint(self, linter: Linter) -> None:
         before = self.games
         for finding in linter.findings(lambda number: self._show(before + number)):
-            self._fault(finding)
+            self._found(finding)
             self.games = before + linter.number - 1
         self.games = before + linter.number - 1
 
@@ -355,20 +379,25 @@ class Run:
         pool.shutdown()
 
     def _take(self, checked: Checked) -> None:
+        faults, warnings = self.faults, self.warnings
         for finding in checked.findings:
-            self._fault(finding)
-        self.faults += checked.faults - len(checked.findings)
+            self._found(finding)
+        self.faults, self.warnings = faults + checked.faults, warnings + checked.warnings
         self.bad_files += checked.faults > 0
         self.games += checked.games
         self.read += not checked.unread
         if checked.unread:
             self._cannot_read(checked.unread)
 
-    def _fault(self, finding: Finding) -> None:
-        self.faults += 1
+    def _found(self, finding: Union[Finding, Warned]) -> None:
+        self.faults += isinstance(finding, Finding)
+        self.warnings += isinstance(finding, Warned)
         if self.given.max is None or self.faults <= self.given.max:
             self.progress.clear()
-            self.report.fault(finding)
+            if isinstance(finding, Finding):
+                self.report.fault(finding)
+            else:
+                self.report.warning(finding)
 
     def _cannot_read(self, unread: Unread) -> None:
         self.unread.append(unread)

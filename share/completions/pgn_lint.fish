@@ -4,6 +4,7 @@ complete -c pgn_lint -l board -d 'Show the line, and for a move the board and wh
 complete -c pgn_lint -l json -d 'Write a record of JSON a line'
 complete -c pgn_lint -l sarif -d 'Write a log of SARIF 2.1.0'
 complete -c pgn_lint -l quiet -d 'Write faults alone: no summary, no progress'
+complete -c pgn_lint -l strict -d 'The status is 1 with a warning too'
 complete -c pgn_lint -l checked \
     -d 'A missing Result tag takes the result at the end of its game'
 complete -c pgn_lint -l max -x -d 'Write the first N faults alone'

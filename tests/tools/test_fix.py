@@ -215,6 +215,88 @@ class Kept(unittest.TestCase):
                          text.replace(b"K9", b"e5"))
 
 
+SWALLOWED = b'[White "Ada"]\n\n1. e4 {Black resigns\n\n[White "Bob"]\n\n1. d4 {good} *\n'
+
+
+class Warnings(Lint):
+    """What pgn_lint says of games that are sound."""
+
+    def warned(self, text, *lines):
+        self.put("a.pgn", text)
+        status, out, told = self.lint("a.pgn")
+        wanted = ["a.pgn:" + it for it in lines]
+        self.assertEqual((status, out.splitlines()[:-1], told), (0, wanted, ""))
+        self.assertEqual(out.endswith("%d warning%s\n" % (len(lines), "s"[len(lines) == 1:])),
+                         bool(lines))
+
+    def test_a_game_in_a_comment(self):
+        line = ("5:1: warning: a comment holds a line that begins a tag section: perhaps it was "
+                "never closed (game 1, Ada \u2013 ?)")
+        self.warned(SWALLOWED, line)
+        self.warned(SWALLOWED.replace(b"\n", b"\r\n"), line)
+        self.warned(b'1. e4 {a\n[%clk 1:2]\n["x"]\n\n[a] "b"} *\n')
+        self.warned(b'1. e4 {[White "Ada"] "x"} *\n')
+
+    def test_it_is_closed(self):
+        wanted = SWALLOWED.replace(b"resigns\n", b"resigns} *\n")
+        said = self.lint("--fix", input=SWALLOWED)
+        self.assertEqual(said, (0, SWALLOWED.decode(), (
+            "1 file, 1 game, 0 faults, 0 edits, 1 more with --unsafe-fixes\n")))
+        self.assertEqual(self.lint("--fix", "--unsafe-fixes", input=SWALLOWED), (
+            0, wanted.decode(), "<stdin>:3:21: fixed (unsafe): comment never closed, no marker: "
+            "added } *\n1 file, 2 games, 0 faults, 1 edit\n"))
+
+    def test_what_export_drops(self):
+        self.warned(b"{a} 1. e4 *\n", "1:1: warning: comment before a game, which export drops "
+                                      "(game 1, ? \u2013 ?)")
+        self.warned(b"1. e4 * {a}\n", "1:9: warning: comment behind the last game, which export "
+                                      "drops")
+
+    def test_forms_of_tags(self):
+        for tag, reason in (
+                ('Date "2020-01-02"', "Date is not YYYY.MM.DD (PGN 8.1.1.3)"),
+                ('Round "one"', "Round is not a number, ? or - (PGN 8.1.1.4)"),
+                ('WhiteElo "about 2000"', "WhiteElo is not a number or - (PGN 9.1.2)"),
+                ('BlackElo ""', "BlackElo is not a number or - (PGN 9.1.2)"),
+                ('ECO "X99"', "ECO is not a letter and two digits (PGN 9.4.1)"),
+                ('Variant "Atomic"', "Variant tag: the moves are checked by the rules of ordinary "
+                                     "chess")):
+            self.warned(b"[%s]\n\n*\n" % tag.encode(),
+                        "1:1: warning: %s (game 1, ? \u2013 ?)" % reason)
+        for tag in ('Date "????.??.??"', 'Date "2020.01.??"', 'Round "1.2"', 'Round "-"',
+                    'Variant "Standard"', 'WhiteElo "2700"', 'BlackElo "-"', 'ECO "B12/13"', 'ECO "B12"'):
+            self.warned(b"[%s]\n\n*\n" % tag.encode())
+
+    def test_files(self):
+        for text, line in ((b"", 1), (b"\n \n", 3), (b"%x\n", 1)):
+            self.put("a.pgn", text)
+            self.assertEqual(self.lint("--strict", "a.pgn"), (
+                1, "a.pgn:%d:1: warning: there is no game\n"
+                   "1 file, 0 games, 0 faults, 1 warning\n" % line, ""))
+        game = '[White "M\u00fcller"]\n\n*\n'
+        self.warned(game.encode() + b"\n" + game.encode("latin-1"),
+                    "5:10: warning: another encoding than that of the games before: a file is "
+                    "UTF-8 or it is not (game 2, M\u00fcller \u2013 ?)")
+        self.warned(game.encode() * 2)
+        self.warned(game.encode("latin-1") * 2)
+
+    def test_options(self):
+        self.put("a.pgn", SWALLOWED)
+        self.put("b.pgn", SWALLOWED)
+        self.assertEqual(self.lint("--quiet", "a.pgn"), (0, "", ""))
+        self.assertEqual(self.lint("--strict", "a.pgn")[0], 1)
+        self.assertEqual(self.lint("--strict", "-j", "2", "a.pgn", "b.pgn"),
+                         self.lint("--strict", "a.pgn", "b.pgn"))
+        warning, summary = self.records("a.pgn")
+        self.assertEqual(warning, {
+            "kind": "warning", "file": "a.pgn", "line": 5, "column": 1, "offset": 37,
+            "reason": "a comment holds a line that begins a tag section: perhaps it was never "
+                      "closed", "game": 1, "white": "Ada", "black": "?"})
+        self.assertEqual(summary["warnings"], 1)
+        log = json.loads(self.lint("--sarif", "a.pgn")[1])
+        self.assertEqual([it["level"] for it in log["runs"][0]["results"]], ["warning"])
+
+
 class Command(Lint):
     """pgn_lint --fix, --diff and --fixes."""
 
