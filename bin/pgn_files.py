@@ -38,6 +38,10 @@ class Parser(argparse.ArgumentParser):
 
     wrong_arguments = USAGE
 
+    def __init__(self, **more):
+        super().__init__(**more)
+        _module("_version").add_version(self)
+
     def error(self, message):
         self.exit(self.wrong_arguments, "%s: %s (--help shows the usage)\n" % (
             self.prog, message))
@@ -107,6 +111,7 @@ def spooled(read):
     """A temporary file with all that a function reads, as a pipe has it once alone."""
     held = tempfile.TemporaryFile()
     copy(read, held)
+    held.seek(0)
     return held
 
 
@@ -115,6 +120,18 @@ def copy(read, out):
     for piece in iter(lambda: read(BLOCK), b""):
         out.write(piece)
     out.flush()
+
+
+def open_text(path, advice=""):
+    """Opens a file for reading; of one that is compressed, a temporary file with its text."""
+    opener = packed.opener_of(path)
+    if not opener:
+        return open_file(path, advice)
+    read, close = opener(path)
+    try:
+        return spooled(read)
+    finally:
+        close()
 
 
 def open_file(path, advice=""):
@@ -225,18 +242,18 @@ class Lines:
 # ---- files that are replaced whole
 
 
-def _replacement():
-    """The module of the package, without the package: that needs the library."""
+def _module(name):
+    """A module of the package, without the package: that needs the library."""
     here = os.path.dirname(os.path.realpath(__file__))
     folder = os.path.dirname(here) + "/python" if os.path.exists(here + "/build_program") else here
     spec = importlib.util.spec_from_file_location(
-        "pgn_replacement", folder + "/gillspoon/_replacement.py")
+        "pgn" + name, "%s/gillspoon/%s.py" % (folder, name))
     module = importlib.util.module_from_spec(spec)
     spec.loader.exec_module(module)
     return module
 
 
-replacement = _replacement()
+replacement, packed = _module("_replacement"), _module("_packed")
 Replacement, STOPPING = replacement.Replacement, replacement.STOPPING
 
 

@@ -109,6 +109,7 @@ def build_wheel(wheel_directory, config_settings=None, metadata_directory=None):
         files["gillspoon/" + os.path.basename(path)] = read(path).encode()
     with open(library(), "rb") as file:
         files["gillspoon/" + FILE] = file.read()
+    files["gillspoon/VERSION"] = version().encode()
     return build(wheel_directory, files)
 
 

@@ -14,6 +14,7 @@ from ._games import Game, Reader
 from ._moves import read_tags
 from ._places import LINE_END
 from ._reading import GameReader
+from ._sections import has_movetext
 from ._sources import Source, Window
 from ._warnings import Watcher
 
@@ -28,12 +29,13 @@ STEP = 256
 SHOWN = 60
 # How many lines of a bad game are searched for its tags.
 MOST_LINES = 64
-UNCLOSED_COMMENT, MOVE_LIMIT, RESULT_DIFFERS = 12, 36, 41
+UNCLOSED_COMMENT, TAG_IN_MOVETEXT, MOVE_LIMIT, RESULT_DIFFERS = 12, 32, 36, 41
 # What a message leaves out, by the number of the fault.
 NOTES = {
-    32: "the game before may have no result at its end",
     42: "the last game has no result at its end",
 }
+COMMENT_AMONG_TAGS = "a comment behind a tag pair begins the movetext"
+NO_RESULT_BEFORE = "the game before may have no result at its end"
 NO_RESULT = "there is no Result tag, which counts as *; --checked takes the result at the end"
 CASTLING = ("%s may not castle by %s here: the right is lost, a square between is occupied, or the "
             "king is in check, or passes or reaches an attacked square.")
@@ -182,6 +184,9 @@ class Linter(Reader):
             return self._begin_of_comment()
         if fault.number == RESULT_DIFFERS and self._passes_without_result():
             return NO_RESULT
+        if fault.number == TAG_IN_MOVETEXT:
+            before = self.window.data[self.at - self.window.base:fault.offset - self.window.base]
+            return NO_RESULT_BEFORE if has_movetext(before) else COMMENT_AMONG_TAGS
         return NOTES.get(fault.number, "")
 
     def _begin_of_comment(self) -> str:
@@ -205,7 +210,7 @@ class Linter(Reader):
         begin, end = self.at - self.window.base, fault.offset - self.window.base
         before = self.window.data[begin:end] + b"\n*"
         _, text = self._reader.read(before, 0, _library.RESULT_UNKNOWN)
-        if not text:
+        if not text or fault.number == TAG_IN_MOVETEXT:
             text = self._good_tag_lines(fault.begin - self.window.base)
         tags = read_tags(text_of(text).partition("\n\n")[0])
         return printable(tags.get("White", "?")), printable(tags.get("Black", "?"))
@@ -213,9 +218,15 @@ class Linter(Reader):
     def _good_tag_lines(self, begin: int) -> bytes:
         """The export of those lines of a tag section that are good by themselves."""
         good = b""
+        is_behind_empty_line = False
         for line in LINE_END.split(self.window.data[begin:begin + (1 << 14)])[:MOST_LINES]:
-            if not line.lstrip(b"\xef\xbb\xbf").startswith((b"[", b"%")):
+            line = line.lstrip(b"\xef\xbb\xbf \t")
+            is_next_game = is_behind_empty_line and line.startswith(b"[Event ")
+            is_behind_empty_line = not line
+            if is_next_game or line and not line.startswith((b"[", b"%", b"{", b";")):
                 break
+            if not line.startswith(b"["):
+                continue
             found, _ = self._reader.read(good + line + b"\n*", 0)
             good += line + b"\n" if found.status == _library.OK else b""
         return self._reader.read(good + b"*", 0)[1]
@@ -326,12 +337,15 @@ def explained(number: int, fen: str, move: str) -> Tuple[Tuple[str, ...], Tuple[
         sentence = "No FEN has a move number above 99,999."
     elif said.legal:
         sentence = _many(fen, move, said)
+    elif not _has_move(fen):
+        sentence = "%s has no legal move: the game is over before this one." % (
+            _side(fen).capitalize())
     elif said.exposing:
         sentence = _exposing(fen, said)
     elif said.castling:
         sentence = CASTLING % (_side(fen).capitalize(), said.castling)
     else:
-        sentence = _none(fen, move, said)
+        sentence = _other_reading(fen, move) or _none(fen, move, said)
     return said.legal, said.exposing, sentence
 
 
@@ -348,6 +362,37 @@ def _exposing(fen: str, said: _calls.Explanation) -> str:
             _piece(fen, said), said.target)
     return "A %s can go to %s from %s, but its king would then be in check." % (
         _piece(fen, said), said.target, _joined(said.exposing))
+
+
+# A move that is written by its squares alone, which is read as a pawn's.
+SQUARES = re.compile("([a-h][1-8])([a-h][1-8])")
+
+
+def _other_reading(fen: str, move: str) -> str:
+    """The sentence for a move that is written by its squares alone, or nothing."""
+    squares = SQUARES.fullmatch(move)
+    if squares:
+        piece = piece_on(fen, squares[1]).upper()
+        for text in (piece + move, "O-O", "O-O-O"):
+            if piece in "QRBN" and text[0] == piece or piece == "K" and move in CASTLED.get(text, ()):
+                try:
+                    written = _calls.san(fen, text).san
+                except MoveFault:
+                    continue
+                return "A move without a letter is a pawn's: for the %s on %s write %s." % (
+                    PIECES[piece], squares[1], written)
+    return ""
+
+
+CASTLED = {"O-O": ("e1g1", "e8g8"), "O-O-O": ("e1c1", "e8c8")}
+
+
+def _has_move(fen: str) -> bool:
+    """Whether the side to move has a legal move."""
+    return any(_calls.explain(fen, letter + file + rank + end).legal
+               for letter, end in (("P", ""), ("P", "=Q"), ("N", ""), ("B", ""), ("R", ""),
+                                   ("Q", ""), ("K", ""))
+               for rank in "43562718" for file in "abcdefgh")
 
 
 def _none(fen: str, move: str, said: _calls.Explanation) -> str:
@@ -376,6 +421,16 @@ def _joined(words: "List[str] | Tuple[str, ...]", last: str = "and") -> str:
     if len(words) < 2:
         return "".join(words)
     return "%s %s %s" % (", ".join(words[:-1]), last, words[-1])
+
+
+def piece_on(fen: str, square: str) -> str:
+    """The piece on a square of a FEN, or a period.
+
+    >>> piece_on("4k3/8/8/8/8/8/8/4K2R w - - 0 1", "h1")
+    'R'
+    """
+    row = fen.split()[0].split("/")[8 - int(square[1])]
+    return "".join("." * int(it) if it.isdigit() else it for it in row)["abcdefgh".index(square[0])]
 
 
 def board(fen: str) -> List[str]:

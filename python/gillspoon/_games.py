@@ -219,7 +219,7 @@ def games(source: Source, *, checked: bool = False, reduced: bool = False,
           on_fault: Optional[OnFault] = None) -> Iterator[Game]:
     """Reads the games of a source, one at a time.
 
-    A source is a path (`.gz`, `.bz2` and `.zst` are read through), bytes or an mmap, or a binary
+    A source is a path (of a compressed file too: gz, bz2, xz, zst, zip), bytes or an mmap, or a binary
     file. Memory grows with the longest game and the comments before it, not with the source.
 
     `checked`: a game without a Result tag takes its termination marker. Else a missing Result

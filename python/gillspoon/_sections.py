@@ -125,7 +125,7 @@ def game_in_comment(text: bytes) -> Optional[int]:
     """Where a comment of a sound game holds a line that begins a tag section, or None.
 
     >>> game_in_comment(b'1. e4 {resigns\\n\\n[White "Ada"]\\n\\n1. d4 {a} 1-0')
-    15
+    16
     """
     head = text.find(b"\n\n") + 1
     if text.find(b'"', head) < 0 or not QUOTED_TAG_LINE.search(text, head):
@@ -138,6 +138,21 @@ def game_in_comment(text: bytes) -> Optional[int]:
         bad.read(at, line)
         at += len(line)
     return None
+
+
+def has_movetext(text: bytes) -> bool:
+    """Whether a text has more than tag pairs, comments and white space.
+
+    >>> has_movetext(b'[White "Ada"] {a} '), has_movetext(b'[White "Ada"] 1. e4 ')
+    (False, True)
+    """
+    at = 0
+    while True:
+        space = SPACE.match(text, at)
+        pair = PAIR.match(text, space.end() if space else at)
+        if not pair:
+            return (space.end() if space else at) < len(text)
+        at = pair.end()
 
 
 def tag_pairs(text: bytes) -> Dict[bytes, bytes]:

@@ -1,12 +1,10 @@
-"""The bytes of a source: a file, a compressed file, an open binary file, or bytes in memory.
-
-What only compressed files need is imported when there is one, so that a script starts fast.
-"""
+"""The bytes of a source: a file, a compressed file, an open binary file, or bytes in memory."""
 import io
 import mmap
 import os
 from typing import IO, Any, BinaryIO, Callable, Iterator, Optional, Protocol, Tuple, Union
 
+from ._packed import Calls, opener_of
 from ._places import LINE_END, NEAR, LineCounter
 
 CHUNK = 1 << 20
@@ -38,8 +36,7 @@ class Input:
             path = os.fspath(source)
             if source is path and "\n" in path:
                 raise TypeError("a str is a path: give the text itself as bytes, text.encode()")
-            opener = _OPENERS.get(os.path.splitext(path)[1].lower(), _open_plain)
-            self._read, self._close = opener(path)
+            self._read, self._close = (opener_of(path) or _open_plain)(path)
         else:
             self._read = _reader_of_file(source)
 
@@ -80,9 +77,6 @@ def readable_again(source: Source) -> Source:
         opened.close()
 
 
-Calls = Tuple[Callable[[int], bytes], Callable[[], None]]
-
-
 def _nothing() -> None:
     pass
 
@@ -121,100 +115,6 @@ def _reader_of_file(file: Any) -> Callable[[int], bytes]:
 def _open_plain(path: str) -> Calls:
     file = open(path, "rb", buffering=0)
     return _reader_of_file(file), file.close
-
-
-def _open_gzip(path: str) -> Calls:
-    import gzip
-    return _open_compressed(gzip.GzipFile(path), path)
-
-
-def _open_bzip2(path: str) -> Calls:
-    import bz2
-    return _open_compressed(bz2.BZ2File(path), path)
-
-
-def _open_compressed(file: Any, path: str) -> Calls:
-    """How a compressed file is read. One that is bad or cut off is an OSError with its path."""
-    import zlib
-
-    def read(size: int) -> bytes:
-        try:
-            return bytes(file.read(size))
-        except (EOFError, OSError, zlib.error) as error:
-            raise OSError("%s: %s" % (path, error)) from error
-
-    return read, file.close
-
-
-def _open_zstd(path: str) -> Calls:
-    """How a file of Zstandard is opened: by the program zstd, else by the module zstandard."""
-    import shutil
-    program = shutil.which("zstd")
-    file = open(path, "rb", buffering=0)
-    try:
-        return _run_zstd(program, file, path) if program else _use_zstandard(file, path)
-    except BaseException:
-        file.close()
-        raise
-
-
-def _run_zstd(program: str, file: BinaryIO, path: str) -> Calls:
-    import subprocess
-    with file:
-        child = subprocess.Popen([program, "-dcq"], stdin=file, stdout=subprocess.PIPE,
-                                 stderr=subprocess.PIPE, bufsize=0)
-    assert child.stdout and child.stderr
-    out, errors = child.stdout, child.stderr
-
-    def read(size: int) -> bytes:
-        data = out.read(size)
-        if not data and child.wait():
-            said = errors.read().decode("utf-8", "replace").strip()
-            raise OSError("%s: %s" % (path, said or "zstd ended with status %d" % child.returncode))
-        return data
-
-    def close() -> None:
-        child.kill()
-        out.close()
-        errors.close()
-        child.wait()
-
-    return read, close
-
-
-def _use_zstandard(file: BinaryIO, path: str) -> Calls:
-    try:
-        import zstandard
-    except ImportError:
-        raise OSError("%s: needs the program zstd or the module zstandard" % path) from None
-    data = _frames(file, path, zstandard)
-    return lambda size: next(data, b""), file.close
-
-
-def _frames(file: BinaryIO, path: str, zstandard: Any) -> Iterator[bytes]:
-    """The data of all frames of a file of Zstandard, in pieces."""
-    frame = zstandard.ZstdDecompressor().decompressobj()
-    is_begun = False
-    for packed in iter(lambda: file.read(CHUNK // 8), b""):
-        while packed:
-            try:
-                data = frame.decompress(packed)
-            except zstandard.ZstdError as error:
-                raise OSError("%s: %s" % (path, error)) from error
-            is_begun, packed = not frame.eof, frame.unused_data
-            if frame.eof:
-                frame = zstandard.ZstdDecompressor().decompressobj()
-            if data:
-                yield data
-    if is_begun:
-        raise OSError("%s: the file ends inside a frame of Zstandard" % path)
-
-
-_OPENERS: "dict[str, Callable[[str], Calls]]" = {
-    ".gz": _open_gzip,
-    ".bz2": _open_bzip2,
-    ".zst": _open_zstd,
-}
 
 
 class Opened:
@@ -260,7 +160,7 @@ def _plain_file(source: Source) -> Optional[IO[bytes]]:
 
 def is_compressed(path: str) -> bool:
     """Whether a file has to be unpacked before it is read."""
-    return os.path.splitext(path)[1].lower() in _OPENERS
+    return opener_of(path) is not None
 
 
 def _spooled(source: Source) -> IO[bytes]:

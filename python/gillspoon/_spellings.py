@@ -8,6 +8,7 @@ from typing import FrozenSet, Iterable, List, NamedTuple, Optional, Tuple
 
 from . import _calls
 from ._faults import FenFault, MoveFault
+from ._findings import piece_on
 from ._here import DATA, MOVE, NEAR, Change, Here, Steps, pattern_of, steps_of
 from ._left_out import PART
 
@@ -121,16 +122,6 @@ def _played(fen: str, move: bytes) -> Optional[_calls.Played]:
 def _is_en_passant(fen: str, san: str) -> bool:
     target = fen.split()[3]
     return san[0] in "abcdefgh" and san[1:4] == "x" + target
-
-
-def piece_on(fen: str, square: str) -> str:
-    """The piece on a square of a FEN, or a period.
-
-    >>> piece_on("4k3/8/8/8/8/8/8/4K2R w - - 0 1", "h1")
-    'R'
-    """
-    row = fen.split()[0].split("/")[8 - int(square[1])]
-    return "".join("." * int(it) if it.isdigit() else it for it in row)["abcdefgh".index(square[0])]
 
 
 def like_tokens(text: bytes, begin: int, spellings: Tuple[Spelling, ...]) -> List[Change]:

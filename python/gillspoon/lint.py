@@ -15,6 +15,7 @@ from ._replacement import STOPPING, Replacement
 from ._reports import (AnyReport, JsonReport, Output, OutputFault, Progress, Report, SarifReport,
                        Summary, Unread, has_colours, message)
 from ._sources import Opened, Source
+from ._version import add_version
 
 if TYPE_CHECKING:
     from concurrent.futures import Future
@@ -31,8 +32,8 @@ HELP = """examples:
   pgn_lint --json games.pgn | jq -r 'select(.kind == "fault") | .fen'
   vim -q <(pgn_lint games.pgn)        with :set errorformat=%f:%l:%v:\\ %m
 
-In a folder these are checked: *.pgn, *.pgn.gz, *.pgn.zst, *.pgn.bz2. A column is a character. Where
-a bad game ends is a guess: before the next line that begins a tag section.
+In a folder *.pgn are checked, also with .gz, .bz2, .xz, .zst or .zip behind, in small letters or
+not. Compressed files are known by their first bytes too. A column is a character. Where a bad game ends is a guess: before the next line that begins a tag section.
 
 A fix changes text at a fault, and only if the library then reads on behind it. It is safe if the
 text has one reading and nothing is lost; --unsafe-fixes adds the others. What no fix mends stays as
@@ -52,7 +53,7 @@ environment:
   GILLSPOON_LIBRARY  the shared library to use [default: the one that is installed or built]
   NO_COLOR           if it is set, there are no colours on a terminal
 """
-SUFFIXES = (".pgn", ".pgn.gz", ".pgn.zst", ".pgn.bz2")
+SUFFIXES = (".pgn", ".pgn.gz", ".pgn.zst", ".pgn.bz2", ".pgn.xz", ".pgn.zip")
 STANDARD_INPUT = "<stdin>"
 SOUND, FAULTY, UNREADABLE = range(3)
 
@@ -68,6 +69,7 @@ def arguments(words: Optional[List[str]]) -> argparse.Namespace:
     """What the words of a command line ask for."""
     parser = Parser(prog="pgn_lint", description=DESCRIPTION, epilog=HELP,
                     formatter_class=argparse.RawDescriptionHelpFormatter)
+    add_version(parser)
     parser.add_argument("paths", metavar="FILE", nargs="*",
                         help="a file, a folder, or - for standard input")
     parser.add_argument("--board", action="store_true",
@@ -154,7 +156,7 @@ def files_of(paths: List[str]) -> Iterator[Union[str, Unread]]:
         for count, found in enumerate(files_below(path), 1):
             yield found
         if not count:
-            yield Unread(path, "has no file *.pgn, *.pgn.gz, *.pgn.zst or *.pgn.bz2")
+            yield Unread(path, "has no file *.pgn, also with .gz, .bz2, .xz, .zst or .zip behind")
 
 
 def files_below(folder: str) -> Iterator[Union[str, Unread]]:

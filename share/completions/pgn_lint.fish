@@ -1,5 +1,6 @@
 # Completion of pgn_lint for fish: put this file into ~/.config/fish/completions/.
 complete -c pgn_lint -s h -l help -d 'Print help'
+complete -c pgn_lint -l version -d 'Print the version'
 complete -c pgn_lint -l board -d 'Show the line, and for a move the board and what is wrong'
 complete -c pgn_lint -l json -d 'Write a record of JSON a line'
 complete -c pgn_lint -l sarif -d 'Write a log of SARIF 2.1.0'

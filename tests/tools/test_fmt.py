@@ -53,6 +53,20 @@ class FmtTest(unittest.TestCase):
         self.check(self.call("--reduced", input=b"e4 {a} (d4) e5 *"), 0,
                    HEAD % b"?" + b"1. e4 e5 *\n\n")
 
+    def test_compressed(self):
+        """It is read by its first bytes, and --write leaves it as it is."""
+        import gzip
+        self.write("packed.pgn", gzip.compress(LOOSE))
+        self.check(self.call("packed.pgn"), 0, TIDY)
+        self.check(self.call("--checked", "packed.pgn"), 0, TIDY)
+        self.check(self.call("--check", "packed.pgn"), 1, b"packed.pgn\n")
+        self.check(self.call("--write", "packed.pgn"), 2, b"", (
+            b"pgn_fmt: packed.pgn: is compressed, and left as it is: unpack it first\n"))
+        need("diff")
+        self.assertIn(b"\n+1. e4 e5 *\n", self.call("--diff", "packed.pgn").stdout)
+        self.write("packed.pgn", gzip.compress(TIDY))
+        self.check(self.call("--check", "packed.pgn"), 0, b"")
+
     def test_merge(self):
         # a byte order mark, and no LF at the end
         self.write("mark.pgn", b"\xef\xbb\xbf" + LOOSE)

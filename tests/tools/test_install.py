@@ -22,7 +22,7 @@ FILES = [
     "share/fish/vendor_completions.d/pgn_tool.fish",
     "share/man/man1/pgn_fmt.1", "share/man/man1/pgn_lint.1", "share/man/man1/pgn_sieve.1",
     "share/man/man1/pgn_tool.1", "share/man/man1/pgn_where.1",
-    LIST, *("share/pgn_tool/gillspoon/" + it for it in sorted(os.listdir(MODULES))
+    LIST, *("share/pgn_tool/gillspoon/" + it for it in sorted(os.listdir(MODULES) + ["VERSION"])
             if it != "__pycache__"),
     "share/pgn_tool/pgn_files.py", "share/pgn_tool/pgn_fmt", "share/pgn_tool/pgn_lint",
     "share/pgn_tool/pgn_sieve", "share/pgn_tool/pgn_where",

@@ -47,6 +47,9 @@ WAYS = {
     "no result": (b'[White "Ada"]\n\n1. e4\n\n[White "Bob"]\n\n1. d4 *\n', [
         "5:1: tag in movetext: the game before may have no result at its end "
         "(game 1, Ada \u2013 ?)"]),
+    "a comment between tags": (b'[White "Ada"]\n{a}\n[Black "Bob"]\n\n1. e4 *\n', [
+        "3:1: tag in movetext: a comment behind a tag pair begins the movetext "
+        "(game 1, Ada \u2013 Bob)"]),
     "no result at the end": (b"1. e4\n", [
         "2:1: unexpected end of input: the last game has no result at its end "
         "(game 1, ? \u2013 ?)"]),
@@ -178,7 +181,7 @@ VECTORS = {
     "faults.34-a-number-joined-to-a-move": (
         INITIAL, "No white pawn can go to e4 as 1e4 says, but one may from e2."),
     "faults.34-no-letter": (
-        INITIAL, "No white pawn can go to f3 as g1f3 says, but one may from f2."),
+        INITIAL, "A move without a letter is a pawn's: for the knight on g1 write Nf3."),
     "faults.34-illegal-king-move": (AFTER_E4_E5, "The white king cannot go to e3."),
     "faults.34-castling": (AFTER_E4_E5, CASTLING % "O-O"),
     "faults.34-castling-after-the-king-moved": (
@@ -331,11 +334,35 @@ class Faults(Lint):
             self.put("ways/" + name + ".pgn", text)
         wanted = ["ways/%s.pgn:%s" % (name, it) for name in sorted(WAYS, key="{}.pgn".format)
                   for it in WAYS[name][1]]
-        # 24 files have a game each, but one has a second game, and one has five
-        wanted.append("24 files, 29 games, 26 faults in 24 files")
+        # 25 files have a game each, but one has a second game, and one has five
+        wanted.append("25 files, 30 games, 27 faults in 25 files")
         for words in ([], ["-j", "3"]):
             status, out, told = self.lint("ways", *words)
             self.assertEqual((status, out.splitlines(), told), (1, wanted, ""))
+
+    def test_sentences(self):
+        from gillspoon._findings import explained
+        castles = "r3k2r/8/8/8/8/8/8/R3K2R w KQkq - 0 1"
+        mated = "r1bqkb1r/pppp1Qpp/2n2n2/4p3/2B1P3/8/PPPP1PPP/RNB1K1NR b KQkq - 0 4"
+        for fen, move, sentence in (
+                (castles, "e1g1", "A move without a letter is a pawn's: for the king on e1 write "
+                                  "O-O."),
+                (castles, "e1c1", "A move without a letter is a pawn's: for the king on e1 write "
+                                  "O-O-O."),
+                (castles, "a1a8", "A move without a letter is a pawn's: for the rook on a1 write "
+                                  "Rxa8+."),
+                (mated, "Ke7", "Black has no legal move: the game is over before this one."),
+                ("7k/5Q2/6K1/8/8/8/8/8 b - - 0 1", "Kg8",
+                 "Black has no legal move: the game is over before this one.")):
+            self.assertEqual(explained(34, fen, move)[2], sentence)
+
+    def test_names_further_down(self):
+        for tags in ('[Event "a "b""]\n\n', '{a}\n[A-B "x"]\n', '[Event "\x01"]\n;x\n'):
+            self.put("a.pgn", tags.encode() + PLAYERS + b"\n1. e4 *\n")
+            self.assertIn("(game 1, Ada \u2013 Bob)", self.lint("a.pgn")[1])
+        # the names of the next game are not those of this one
+        self.put("a.pgn", b'[White "Cy"\n\n[Event "x"]\n' + PLAYERS + b"\n1. e4 *\n")
+        self.assertNotIn("Ada", self.lint("a.pgn")[1].splitlines()[0])
 
     def test_boards(self):
         for name, shown in BOARDS.items():
@@ -426,8 +453,8 @@ class Files(Lint):
         self.assertGreater(len(wanted), 5)
         self.assertGreater(games, 3000)
         words = self.lint("-j", "4", "real")[1].splitlines()[-1]
-        self.assertEqual(words, "58 files, %s games, %d faults in %d files" % (
-            format(games, ","), len(wanted), summary["bad_files"]))
+        self.assertTrue(words.startswith("58 files, %s games, %d faults in %d files" % (
+            format(games, ","), len(wanted), summary["bad_files"])), words)
 
     def sieved(self, name, text):
         """How many games pgn_sieve finds in a file, and their faults: offset, reason and line."""
@@ -503,7 +530,7 @@ class Files(Lint):
         for name, reason in (
                 ("missing.pgn", "No such file or directory"),
                 ("good.pgn/x", "Not a directory"),
-                ("empty", "has no file *.pgn, *.pgn.gz, *.pgn.zst or *.pgn.bz2"),
+                ("empty", "has no file *.pgn, also with .gz, .bz2, .xz, .zst or .zip behind"),
                 ("cut.pgn.gz", "Compressed file ended before the end-of-stream marker was "
                  "reached")):
             for words in ([], ["-j", "2"]):
@@ -651,7 +678,7 @@ class Options(Lint):
         log = json.loads(self.lint("--sarif", "ways")[1])
         jsonschema.validate(log, SARIF)
         ran, = log["runs"]
-        self.assertEqual(len(ran["results"]), 27)
+        self.assertEqual(len(ran["results"]), 28)
         rules = {it["id"] for it in ran["tool"]["driver"]["rules"]}
         self.assertEqual({it["ruleId"] for it in ran["results"]}, rules)
         self.assertIn("ways/a%0A%25%C3%BC.pgn", json.dumps(ran["results"]))
@@ -847,13 +874,24 @@ class Others(Lint):
         ran = run(["pre-commit", "try-repo", ROOT, "pgn_lint", "--all-files"],
                   cwd=self.folder, env=env)
         self.assertEqual(ran.returncode, 0, ran.stdout + ran.stderr)
+        env["PGN_TOOL"] = programs.need_program()
+        ran = run(["pre-commit", "try-repo", ROOT, "pgn_fmt", "--all-files", "--color", "never"],
+                  cwd=self.folder, env=env)
+        self.assertEqual(ran.returncode, 1, ran.stdout + ran.stderr)
+        self.assertIn("\ngood games.pgn\n", ran.stdout.decode())
 
     def test_the_configuration_of_the_hook(self):
-        """What the recipe says of pre-commit names the hook of this repository."""
+        """What the recipe says of pre-commit names the hooks of this repository."""
         with open(ROOT + "/.pre-commit-hooks.yaml", encoding="utf-8") as hooks:
-            name = re.search(r"(?m)^- id: (\w+)$", hooks.read())[1]
+            said = hooks.read()
+        names = re.findall(r"(?m)^- id: (\w+)$", said)
         text = next(it for it in self.recipe("yaml") if "repos:" in it)
-        self.assertEqual(re.findall(r"- id: (\w+)", text), [name])
+        self.assertEqual(re.findall(r"- id: (\w+)", text), names)
+        for pattern in re.findall(r"(?m)^  files: '(.*)'$", said):
+            for name in ("a.pgn", "a/B.PGN", "c.Pgn"):
+                self.assertTrue(re.search(pattern, name), (pattern, name))
+            for name in ("a.pgn.txt", "apgn", "a.pgnx"):
+                self.assertFalse(re.search(pattern, name), (pattern, name))
 
     def test_the_workflow(self):
         """Its commands are run, but those that fetch and install."""

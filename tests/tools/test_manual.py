@@ -200,6 +200,13 @@ class Scripts(unittest.TestCase):
             for word in re.findall(r"\b[A-Z]+\b", usage):
                 self.assertIn(word, synopsis)
 
+    def test_versions(self):
+        wanted = run([programs.need_program(), "--version"]).stdout.split()[1]
+        for name in SCRIPTS:
+            ran = run(["bin/" + name, "--version"])
+            self.assertEqual((ran.returncode, ran.stdout, ran.stderr),
+                             (0, b"%s %s\n" % (name.encode(), wanted), b""))
+
     def test_statuses(self):
         for name in SCRIPTS:
             text = run(["bin/" + name, "--help"]).stdout.decode()

@@ -459,6 +459,26 @@ class Sources(Folder):
                     gillspoon.check(self.put("b.pgn." + name, damaged))
                 self.assertIn("b.pgn." + name, str(raised.exception))
 
+    def test_compressed_files_are_known_by_their_first_bytes(self):
+        import lzma
+        import zipfile
+        whole = self.compressed("gz")
+        self.assertEqual(gillspoon.check(self.put("a.PGN", whole)).games, 300)
+        text = b"1. e4 *"
+        self.assertEqual(gillspoon.check(self.put("b", lzma.compress(text))).games, 1)
+        path = self.put("c.bin", b"")
+        with zipfile.ZipFile(path, "w", zipfile.ZIP_DEFLATED) as archive:
+            # two games without a line end between them, and a file that is no PGN
+            for name, data in (("x/a.PGN", text), ("read.me", b"&"), ("b.pgn", text)):
+                archive.writestr(name, data)
+        self.assertEqual(gillspoon.check(path).games, 2)
+        with zipfile.ZipFile(path, "w") as archive:
+            archive.writestr("read.me", b"&")
+        for bad in (path, self.put("d.xz", lzma.compress(text)[:-4]), self.put("e.zip", b"no")):
+            with self.assertRaises(OSError) as raised:
+                gillspoon.check(bad)
+            self.assertIn(bad, str(raised.exception))
+
     def test_zstandard_in_place_of_the_program(self):
         ran = run([PYTHON, "-c", "import zstandard"])
         if ran.returncode:
@@ -979,7 +999,7 @@ class Wheel(Folder):
         text = "import gillspoon; print(gillspoon.check('examples/annotated.pgn'))"
         ran = run([python, "-c", text], env=env)
         self.assertEqual(ran.stdout, b"Totals(games=1, plies=7)\n")
-        ran = run([self.folder + "/venv/bin/pgn_lint", "examples/two-games.pgn"], env=env)
+        ran = run([self.folder + "/venv/bin/pgn_lint", "-"], env=env, input=b"1. e4 *\n1. d4 *\n")
         self.assertEqual(ran.stdout, b"1 file, 2 games, 0 faults\n", ran.stderr)
 
     def test_tag(self):

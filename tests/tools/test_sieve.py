@@ -309,6 +309,13 @@ class SieveTest(unittest.TestCase):
         with open(file, "rb") as text:
             self.assertEqual(text.read(), sound(b"A"))
 
+    def test_a_compressed_archive(self):
+        import gzip
+        plain = Sieved(self, sound(b"A") + b"1. e9 *\n")
+        packed = Sieved(self, gzip.compress(sound(b"A") + b"1. e9 *\n"))
+        self.assertEqual((packed.good, packed.bad), (plain.good, plain.bad))
+        self.assertIn(b"1. e9 *", packed.bad)
+
     def test_a_pipe_is_refused(self):
         """Its name is in the message, and what to do; no writer is waited for."""
         done = Sieved(self, sound(b"A"))

@@ -1,0 +1,159 @@
+"""Compressed files: how each is known, and how its text is read.
+
+The scripts load this file by its path too, so it takes nothing from the package. What only one kind
+of file needs is imported when there is one, so that a script starts fast.
+"""
+import os
+from typing import Any, BinaryIO, Callable, Iterator, Optional, Tuple
+
+# How many bytes of a file of Zstandard are unpacked at once.
+CHUNK = 1 << 17
+Calls = Tuple[Callable[[int], bytes], Callable[[], None]]
+Opener = Callable[[str], Calls]
+
+
+def opener_of(path: str) -> Optional[Opener]:
+    """How a compressed file is opened: by its first bytes, else by its name. None: it is plain."""
+    begin = b""
+    if os.path.isfile(path):
+        with open(path, "rb", buffering=0) as file:
+            begin = file.read(6)
+    for mark, opener in _MARKS:
+        if begin.startswith(mark):
+            return opener
+    return _NAMES.get(os.path.splitext(path)[1].lower())
+
+
+def _open_gzip(path: str) -> Calls:
+    import gzip
+    return _open_compressed(gzip.GzipFile(path), path)
+
+
+def _open_bzip2(path: str) -> Calls:
+    import bz2
+    return _open_compressed(bz2.BZ2File(path), path)
+
+
+def _open_compressed(file: Any, path: str) -> Calls:
+    """How a compressed file is read. One that is bad or cut off is an OSError with its path."""
+    import zlib
+
+    def read(size: int) -> bytes:
+        try:
+            return bytes(file.read(size))
+        except (EOFError, OSError, zlib.error) as error:
+            raise OSError("%s: %s" % (path, error)) from error
+
+    return read, file.close
+
+
+def _open_zstd(path: str) -> Calls:
+    """How a file of Zstandard is opened: by the program zstd, else by the module zstandard."""
+    import shutil
+    program = shutil.which("zstd")
+    file = open(path, "rb", buffering=0)
+    try:
+        return _run_zstd(program, file, path) if program else _use_zstandard(file, path)
+    except BaseException:
+        file.close()
+        raise
+
+
+def _run_zstd(program: str, file: BinaryIO, path: str) -> Calls:
+    import subprocess
+    with file:
+        child = subprocess.Popen([program, "-dcq"], stdin=file, stdout=subprocess.PIPE,
+                                 stderr=subprocess.PIPE, bufsize=0)
+    assert child.stdout and child.stderr
+    out, errors = child.stdout, child.stderr
+
+    def read(size: int) -> bytes:
+        data = out.read(size)
+        if not data and child.wait():
+            said = errors.read().decode("utf-8", "replace").strip()
+            raise OSError("%s: %s" % (path, said or "zstd ended with status %d" % child.returncode))
+        return data
+
+    def close() -> None:
+        child.kill()
+        out.close()
+        errors.close()
+        child.wait()
+
+    return read, close
+
+
+def _use_zstandard(file: BinaryIO, path: str) -> Calls:
+    try:
+        import zstandard
+    except ImportError:
+        raise OSError("%s: needs the program zstd or the module zstandard" % path) from None
+    data = _frames(file, path, zstandard)
+    return lambda size: next(data, b""), file.close
+
+
+def _frames(file: BinaryIO, path: str, zstandard: Any) -> Iterator[bytes]:
+    """The data of all frames of a file of Zstandard, in pieces."""
+    frame = zstandard.ZstdDecompressor().decompressobj()
+    is_begun = False
+    for packed in iter(lambda: file.read(CHUNK), b""):
+        while packed:
+            try:
+                data = frame.decompress(packed)
+            except zstandard.ZstdError as error:
+                raise OSError("%s: %s" % (path, error)) from error
+            is_begun, packed = not frame.eof, frame.unused_data
+            if frame.eof:
+                frame = zstandard.ZstdDecompressor().decompressobj()
+            if data:
+                yield data
+    if is_begun:
+        raise OSError("%s: the file ends inside a frame of Zstandard" % path)
+
+
+def _open_xz(path: str) -> Calls:
+    import lzma
+    file = lzma.LZMAFile(path)
+
+    def read(size: int) -> bytes:
+        try:
+            return file.read(size)
+        except (EOFError, OSError, lzma.LZMAError) as error:
+            raise OSError("%s: %s" % (path, error)) from error
+
+    return read, file.close
+
+
+def _open_zip(path: str) -> Calls:
+    """How a file of ZIP is read: all files *.pgn in it, in turn."""
+    import zipfile
+    try:
+        archive = zipfile.ZipFile(path)
+    except zipfile.BadZipFile as error:
+        raise OSError("%s: %s" % (path, error)) from error
+    names = [it for it in archive.namelist() if it.lower().endswith(".pgn")]
+    if not names:
+        archive.close()
+        raise OSError("%s: has no file *.pgn inside" % path)
+    pieces = _pieces_of_zip(archive, names, path)
+    return lambda size: next(pieces, b""), archive.close
+
+
+def _pieces_of_zip(archive: Any, names: "list[str]", path: str) -> Iterator[bytes]:
+    import zipfile
+    import zlib
+    try:
+        for name in names:
+            with archive.open(name) as file:
+                yield from iter(lambda: file.read(CHUNK), b"")
+            # the last line of a file may have no end
+            yield b"\n\n"
+    except (EOFError, RuntimeError, zipfile.BadZipFile, zlib.error) as error:
+        raise OSError("%s: %s" % (path, error)) from error
+
+
+_MARKS: "tuple[tuple[bytes, Opener], ...]" = (
+    (b"\x1f\x8b", _open_gzip), (b"BZh", _open_bzip2), (b"\xfd7zXZ\0", _open_xz),
+    (b"\x28\xb5\x2f\xfd", _open_zstd), (b"PK\x03\x04", _open_zip))
+_NAMES: "dict[str, Opener]" = {
+    ".gz": _open_gzip, ".bz2": _open_bzip2, ".xz": _open_xz, ".zst": _open_zstd, ".zip": _open_zip}
