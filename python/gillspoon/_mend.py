@@ -13,7 +13,7 @@ from ._games import Game, Reader
 from ._here import Change, Here
 from ._places import BYTE_ORDER_MARK, NEAR, LineCounter
 from ._reading import GameReader
-from ._sections import game_in_comment
+from ._sections import BadGame, end_of, game_in_comment, lines_of
 from ._sources import CHUNK, Opened, Window
 from ._spellings import Spelling, like_tokens, respelled
 
@@ -85,6 +85,8 @@ class Mending:
         self.missing = _library.RESULT_FROM_MARKER if checked else _library.RESULT_UNKNOWN
         self.is_first, self.is_last, self.begin = is_first, is_last, 0
         self.is_sound = False
+        # of a text that is not sound the first fault that no fix mends
+        self.fault = self.place = 0
 
     def run(self) -> "Mending":
         """Mends the text game by game, until it is sound or no fix applies."""
@@ -96,6 +98,7 @@ class Mending:
                 self.is_sound = True
                 return self
             elif not self._mend_fault(found):
+                self.fault, self.place = found.fault, found.place
                 return self
 
     def _mend_fault(self, found: _library.NextGame) -> bool:
@@ -226,13 +229,22 @@ class SectionMender:
         text = self.opened.fetch(begin, max(fault.end, mark_end) if is_mark else fault.end)
         text = b" " + text[1:] if fault.begin and not text[:1].isspace() else text
         mending = self._mending(text, fault, self.fixes)
-        is_kept = mending.is_sound or not is_sound
+        is_kept = mending.is_sound or not is_sound and self._ends_as_before(mending, fault.end)
         edits = [self._edit(fault.game, begin, it, text)
                  for it in mending.changes.applied if is_kept]
         more = 0
         if self.others and not mending.is_sound:
             more = len(self._mending(mending.changes.text, fault, self.others).changes.applied)
         return Section(fault.begin, fault.end, edits, more)
+
+    def _ends_as_before(self, mending: Mending, end: int) -> bool:
+        """Whether what is still bad ends where the section does, and takes no game behind it."""
+        following = self.opened.fetch(end, end + NEAR)
+        if not following:
+            return True
+        rest = mending.changes.text[mending.begin:]
+        last = end_of(BadGame(mending.place - mending.begin), lines_of(rest + following))
+        return mending.fault != UNCLOSED_COMMENT and last == len(rest)
 
     def _mending(self, text: bytes, fault: PgnFault, fixes: Sequence[AnyFix]) -> Mending:
         return Mending(text, fixes, self._reader, self.checked, not fault.begin,

@@ -4,6 +4,7 @@ The scripts load this file by its path too, so it takes nothing from the package
 of file needs is imported when there is one, so that a script starts fast.
 """
 import os
+from functools import partial
 from typing import Any, BinaryIO, Callable, Iterator, Optional, Tuple
 
 # How many bytes of a file of Zstandard are unpacked at once.
@@ -145,7 +146,7 @@ def _pieces_of_zip(archive: Any, names: "list[str]", path: str) -> Iterator[byte
     try:
         for name in names:
             with archive.open(name) as file:
-                yield from iter(lambda: file.read(CHUNK), b"")
+                yield from iter(partial(file.read, CHUNK), b"")
             # the last line of a file may have no end
             yield b"\n\n"
     except (EOFError, RuntimeError, zipfile.BadZipFile, zlib.error) as error:

@@ -4,7 +4,7 @@ It ends before the next line that begins a tag section. docs/PYTHON.md has the r
 of it is a guess, since a bad game says nothing sure of its text. Sound games are the library's.
 """
 import re
-from typing import Dict, Iterable, Match, Optional, Tuple
+from typing import Dict, Iterable, Iterator, Match, Optional, Tuple
 
 # A line that begins with a bracket, also behind stray bytes that joined files have there; with the
 # name and the quote of a tag pair, if it has them. Words such as [%clk stand in comments.
@@ -108,6 +108,14 @@ class BadGame:
         return COMMENT.sub(drop, line[begin:])
 
 
+def lines_of(text: bytes) -> Iterator[Tuple[int, bytes]]:
+    """The lines of a text with their offsets."""
+    at = 0
+    for line in text.splitlines(keepends=True):
+        yield at, line
+        at += len(line)
+
+
 def end_of(bad: BadGame, lines: Iterable[Tuple[int, bytes]]) -> Optional[int]:
     """The offset where a bad game ends, given its lines with their offsets; None: with the text."""
     for at, line in lines:
@@ -130,13 +138,12 @@ def game_in_comment(text: bytes) -> Optional[int]:
     head = text.find(b"\n\n") + 1
     if text.find(b'"', head) < 0 or not QUOTED_TAG_LINE.search(text, head):
         return None
-    bad, at = BadGame(len(text)), 0
-    for line in text.splitlines(keepends=True):
+    bad = BadGame(len(text))
+    for at, line in lines_of(text):
         end = bad.end_before(at, line) if bad.in_comment else None
         if end is not None:
             return end
         bad.read(at, line)
-        at += len(line)
     return None
 
 
