@@ -16,8 +16,9 @@ BLOCK = 1 << 20
 BYTE_ORDER_MARK = b"\xef\xbb\xbf"
 # How many bytes behind a place its encoding is looked for in.
 NEAR = 1 << 12
-# The status of a script, which are those of the program.
-REFUSED, USAGE, NO_MEMORY, NO_PROGRAM = 1, 2, 3, 127
+# The status of a script: a fault or a difference, wrong words, a file that cannot be read or
+# written (or no memory), and no program.
+REFUSED, USAGE, UNREADABLE, NO_PROGRAM = 1, 2, 3, 127
 
 
 
@@ -36,27 +37,25 @@ class Stopped(BaseException):
 class Parser(argparse.ArgumentParser):
     """A reader of arguments whose errors are one line."""
 
-    wrong_arguments = USAGE
-
     def __init__(self, **more):
         super().__init__(**more)
         _module("_version").add_version(self)
 
     def error(self, message):
-        self.exit(self.wrong_arguments, "%s: %s (--help shows the usage)\n" % (
+        self.exit(USAGE, "%s: %s (--help shows the usage)\n" % (
             self.prog, message))
 
 
-def run_script(name, main, failed=REFUSED, no_memory=NO_MEMORY):
+def run_script(name, main):
     """Runs a script's main function, and ends with its status; an error is one line.
 
-    Where nobody reads the output any more, it ends silently, with the status `failed`.
+    Where nobody reads the output any more, it ends silently, with the status UNREADABLE.
     """
     def stop(number, _frame):
         raise Stopped(number)
 
     if sys.stdout is None:
-        sys.exit(report(name, "standard output is closed", failed))
+        sys.exit(report(name, "standard output is closed", UNREADABLE))
     for number in STOPPING:
         signal.signal(number, stop)
     try:
@@ -69,11 +68,11 @@ def run_script(name, main, failed=REFUSED, no_memory=NO_MEMORY):
         os.kill(os.getpid(), stopped.args[0])
         status = REFUSED
     except BrokenPipeError:
-        status = failed
+        status = UNREADABLE
     except MemoryError:
-        status = report(name, "out of memory", no_memory)
+        status = report(name, "out of memory", UNREADABLE)
     except (Failure, OSError) as error:
-        status = report_error(name, error, failed)
+        status = report_error(name, error)
     try:
         sys.stdout.flush()
     except OSError:
@@ -99,12 +98,12 @@ def report(name, text, status):
     return status
 
 
-def report_error(name, error, failed=REFUSED):
+def report_error(name, error):
     """Reports a Failure or an error of the system, and gives the status."""
     if isinstance(error, Failure):
         return report(name, str(error), error.status)
     where = "%s: " % error.filename if error.filename else ""
-    return report(name, where + (error.strerror or str(error)), failed)
+    return report(name, where + (error.strerror or str(error)), UNREADABLE)
 
 
 def spooled(read):

@@ -46,7 +46,8 @@ whose form the standard does not know, a mix of encodings, a Variant tag, or a f
 status:
   0  no fault is left, and with --diff nothing would change
   1  there are faults; or with --diff something would change; or with --strict a warning
-  2  wrong arguments, or a file cannot be read, or the output cannot be written
+  2  wrong arguments
+  3  a file cannot be read or written, or the output cannot be written
   127  there is no shared library
 
 environment:
@@ -55,14 +56,14 @@ environment:
 """
 SUFFIXES = (".pgn", ".pgn.gz", ".pgn.zst", ".pgn.bz2", ".pgn.xz", ".pgn.zip")
 STANDARD_INPUT = "<stdin>"
-SOUND, FAULTY, UNREADABLE = range(3)
+SOUND, FAULTY, WRONG_WORDS, UNREADABLE = range(4)
 
 
 class Parser(argparse.ArgumentParser):
     """A reader of arguments whose errors are one line."""
 
     def error(self, message: str) -> NoReturn:
-        self.exit(UNREADABLE, "%s: %s (--help shows the usage)\n" % (self.prog, message))
+        self.exit(WRONG_WORDS, "%s: %s (--help shows the usage)\n" % (self.prog, message))
 
 
 def arguments(words: Optional[List[str]]) -> argparse.Namespace:

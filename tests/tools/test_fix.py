@@ -459,7 +459,7 @@ class Command(Lint):
         self.put("a.pgn.gz", gzip.compress(BAD))
         status, _, told = self.lint("--fix", "a.pgn.gz")
         self.assertEqual((status, told), (
-            2, "pgn_lint: a.pgn.gz: is compressed: unpack it, or give it to --fix -\n"))
+            3, "pgn_lint: a.pgn.gz: is compressed: unpack it, or give it to --fix -\n"))
         need("diff")
         self.assertIn("+1. e2e4 e5 *", self.lint("--diff", "a.pgn.gz")[1])
 
@@ -478,7 +478,7 @@ class Command(Lint):
         os.chmod(self.folder + "/b.pgn", 0o444)
         status, out, told = self.lint("--fix", "b.pgn")
         self.assertEqual((status, told), (
-            2, "pgn_lint: b.pgn: is read-only; it is left as it is\n"))
+            3, "pgn_lint: b.pgn: is read-only; it is left as it is\n"))
         self.assertEqual((self.read("b.pgn"), sorted(os.listdir(self.folder))),
                          (BAD, ["a.pgn", "b.pgn", "hard.txt", "link.pgn"]))
 
@@ -493,7 +493,7 @@ class Command(Lint):
             resource.setrlimit(resource.RLIMIT_FSIZE, (1 << 16, 1 << 16))
 
         status, _, told = self.lint("--fix", "a.pgn", preexec_fn=limit)
-        self.assertEqual(status, 2, told)
+        self.assertEqual(status, 3, told)
         self.assertEqual((self.read("a.pgn"), os.listdir(self.folder)), (text, ["a.pgn"]))
 
     def test_a_kill(self):

@@ -60,7 +60,7 @@ class FmtTest(unittest.TestCase):
         self.check(self.call("packed.pgn"), 0, TIDY)
         self.check(self.call("--checked", "packed.pgn"), 0, TIDY)
         self.check(self.call("--check", "packed.pgn"), 1, b"packed.pgn\n")
-        self.check(self.call("--write", "packed.pgn"), 2, b"", (
+        self.check(self.call("--write", "packed.pgn"), 3, b"", (
             b"pgn_fmt: packed.pgn: is compressed, and left as it is: unpack it first\n"))
         need("diff")
         self.assertIn(b"\n+1. e4 e5 *\n", self.call("--diff", "packed.pgn").stdout)
@@ -76,11 +76,11 @@ class FmtTest(unittest.TestCase):
 
     def test_file_with_a_fault_adds_nothing(self):
         told = b"pgn_fmt: bad.pgn: byte 15: not a move\n"
-        self.check(self.call("loose.pgn", "bad.pgn", "tidy.pgn"), 2, TIDY * 2, told)
+        self.check(self.call("loose.pgn", "bad.pgn", "tidy.pgn"), 1, TIDY * 2, told)
         self.write("all.pgn", b"old")
-        self.check(self.call("-o", "all.pgn", "loose.pgn", "bad.pgn"), 2, b"", told)
+        self.check(self.call("-o", "all.pgn", "loose.pgn", "bad.pgn"), 1, b"", told)
         self.assertEqual(self.read("all.pgn"), b"old")
-        self.check(self.call(input=BAD), 2, b"", b"pgn_fmt: standard input: byte 15: not a move\n")
+        self.check(self.call(input=BAD), 1, b"", b"pgn_fmt: standard input: byte 15: not a move\n")
         self.assertEqual(sorted(os.listdir(self.folder)),
                          ["all.pgn", "bad.pgn", "loose.pgn", "tidy.pgn"])
 
@@ -89,9 +89,9 @@ class FmtTest(unittest.TestCase):
         for words in (["-o", "loose.pgn", "loose.pgn"],
                       ["-o", "link.pgn", "tidy.pgn", "loose.pgn"]):
             ran = self.call(*words)
-            self.assertEqual((ran.returncode, ran.stderr.count(b"\n")), (3, 1))
+            self.assertEqual((ran.returncode, ran.stderr.count(b"\n")), (2, 1))
         with open(self.folder + "/loose.pgn", "ab") as out:
-            self.assertEqual(self.call("tidy.pgn", "loose.pgn", stdout=out).returncode, 3)
+            self.assertEqual(self.call("tidy.pgn", "loose.pgn", stdout=out).returncode, 2)
         self.assertEqual(self.read("loose.pgn"), LOOSE)
 
     def test_check(self):
@@ -106,13 +106,13 @@ class FmtTest(unittest.TestCase):
         # a file that stops at a fault is no export, also where all before the fault is
         self.write("torn.pgn", TIDY + HEAD % b"A" + b"1. e4 e9\n")
         ran = self.call("--check", "torn.pgn", "loose.pgn")
-        self.check(ran, 2, b"loose.pgn\n",
+        self.check(ran, 1, b"loose.pgn\n",
                    b"pgn_fmt: torn.pgn: byte %d: not a move\n" % (len(TIDY + HEAD) - 1 + 6))
 
     def test_write(self):
         before = os.stat(self.folder + "/tidy.pgn")
         told = b"pgn_fmt: bad.pgn: byte 15: not a move\n"
-        self.check(self.call("--write", "loose.pgn", "bad.pgn", "tidy.pgn"), 2, b"loose.pgn\n",
+        self.check(self.call("--write", "loose.pgn", "bad.pgn", "tidy.pgn"), 1, b"loose.pgn\n",
                    told)
         self.assertEqual([self.read(it) for it in ("loose.pgn", "bad.pgn", "tidy.pgn")],
                          [TIDY, BAD, TIDY])
@@ -136,7 +136,7 @@ class FmtTest(unittest.TestCase):
         self.write("program", b'#!/bin/sh\ncat >/dev/null\necho more >>loose.pgn\necho "export"\n')
         os.chmod(self.folder + "/program", 0o755)
         ran = self.call("-w", "loose.pgn", program=self.folder + "/program")
-        self.assertEqual((ran.returncode, ran.stdout), (2, b""))
+        self.assertEqual((ran.returncode, ran.stdout), (3, b""))
         self.assertEqual(self.read("loose.pgn"), LOOSE + b"more\n")
 
     def test_diff(self):
@@ -149,48 +149,48 @@ class FmtTest(unittest.TestCase):
         self.assertEqual(lines[:2], [b"--- near.pgn", b"+++ near.pgn in export format"])
         self.assertIn(b"-1.e4 e5 *", lines)
         self.assertIn(b"+1. e4 e5 *", lines)
-        self.check(self.call("--diff", "bad.pgn"), 2, b"",
+        self.check(self.call("--diff", "bad.pgn"), 1, b"",
                    b"pgn_fmt: bad.pgn: byte 15: not a move\n")
 
     def test_checked_is_handed_on(self):
         self.write("won.pgn", b"1. e4 1-0")
-        self.check(self.call("won.pgn"), 2, b"",
+        self.check(self.call("won.pgn"), 1, b"",
                    b"pgn_fmt: won.pgn: byte 6: result differs from the Result tag\n")
         ran = self.call("--checked", "won.pgn")
         self.assertEqual((ran.returncode, ran.stderr), (0, b""))
         self.assertTrue(ran.stdout.endswith(b'[Result "1-0"]\n\n1. e4 1-0\n\n'), ran.stdout)
-        self.assertEqual(self.call("--checked").returncode, 3)
+        self.assertEqual(self.call("--checked").returncode, 2)
 
     def test_errors(self):
         os.mkfifo(self.folder + "/pipe")
-        for words, status in ((["--check"], 3), (["--write"], 3), (["--diff"], 3),
-                              (["--chek", "tidy.pgn"], 3), (["--drop", "tidy.pgn"], 3),
-                              (["--check", "--drop", "tidy.pgn"], 3),
-                              (["--stdin-name", "x", "tidy.pgn"], 3),
-                              (["--stdin-name", "x", "--write"], 3), (["--stdin-name"], 3),
-                              (["--check", "--write", "tidy.pgn"], 3), (["none.pgn"], 2),
-                              (["--write", "none.pgn"], 2), (["--check", "none.pgn"], 2),
-                              (["--check", "pipe"], 2), (["--output", "none/a", "tidy.pgn"], 2),
-                              (["--diff", "none.pgn"], 2), (["--check", "."], 2)):
+        for words, status in ((["--check"], 2), (["--write"], 2), (["--diff"], 2),
+                              (["--chek", "tidy.pgn"], 2), (["--drop", "tidy.pgn"], 2),
+                              (["--check", "--drop", "tidy.pgn"], 2),
+                              (["--stdin-name", "x", "tidy.pgn"], 2),
+                              (["--stdin-name", "x", "--write"], 2), (["--stdin-name"], 2),
+                              (["--check", "--write", "tidy.pgn"], 2), (["none.pgn"], 3),
+                              (["--write", "none.pgn"], 3), (["--check", "none.pgn"], 3),
+                              (["--check", "pipe"], 2), (["--output", "none/a", "tidy.pgn"], 3),
+                              (["--diff", "none.pgn"], 3), (["--check", "."], 3)):
             ran = self.call(*words)
             self.assertEqual((ran.returncode, ran.stdout, ran.stderr.count(b"\n")),
                              (status, b"", 1), (words, ran.stderr))
         self.write("program", b'#!/bin/sh\necho "out of memory" >&2\nexit 3\n')
         os.chmod(self.folder + "/program", 0o755)
         ran = self.call("tidy.pgn", program=self.folder + "/program")
-        self.check(ran, 2, b"", b"pgn_fmt: tidy.pgn: out of memory\n")
+        self.check(ran, 3, b"", b"pgn_fmt: tidy.pgn: out of memory\n")
 
     def test_output_that_cannot_be_written(self):
         with open("/dev/full", "wb") as full:
             for words in (["loose.pgn"], ["--check", "loose.pgn"]):
                 ran = self.call(*words, stdout=full)
-                self.assertEqual((ran.returncode, ran.stderr.count(b"\n")), (2, 1), ran.stderr)
+                self.assertEqual((ran.returncode, ran.stderr.count(b"\n")), (3, 1), ran.stderr)
 
     def test_a_closed_output(self):
         ran = run(["sh", "-c", '"$0" "$1" --write loose.pgn >&-', sys.executable, FMT],
                   cwd=self.folder)
         self.assertEqual((ran.returncode, ran.stderr),
-                         (2, b"pgn_fmt: standard output is closed\n"))
+                         (3, b"pgn_fmt: standard output is closed\n"))
         self.assertEqual(self.read("loose.pgn"), LOOSE)
 
     def test_a_closed_pipe_ends_it_silently(self):
@@ -200,7 +200,7 @@ class FmtTest(unittest.TestCase):
             os.close(ours)
             with open(its, "wb") as closed:
                 ran = self.call(*words, stdout=closed)
-            self.assertEqual((ran.returncode, ran.stderr), (2, b""))
+            self.assertEqual((ran.returncode, ran.stderr), (3, b""))
 
     def test_standard_input_by_a_name(self):
         """It can be checked and compared, and read twice for --checked."""
@@ -210,7 +210,7 @@ class FmtTest(unittest.TestCase):
         self.check(self.call(*name, "--check", input=TIDY), 0, b"")
         self.check(self.call(*name, "--check", input=LOOSE), 1, b"a b.pgn\n")
         for words in ([], ["--check"], ["--diff"]):
-            self.check(self.call(*name, *words, input=BAD), 2, b"",
+            self.check(self.call(*name, *words, input=BAD), 1, b"",
                        b"pgn_fmt: a b.pgn: byte 15: not a move\n")
         ran = self.call(*name, "--diff", input=LOOSE)
         self.assertEqual((ran.returncode, ran.stderr), (1, b""))
@@ -226,7 +226,7 @@ class FmtTest(unittest.TestCase):
         """Also as root, whom permissions do not bind. What is in form has nothing to write."""
         for name in ("loose.pgn", "tidy.pgn"):
             os.chmod(os.path.join(self.folder, name), 0o444)
-        self.check(self.call("--write", "loose.pgn", "tidy.pgn"), 2, b"",
+        self.check(self.call("--write", "loose.pgn", "tidy.pgn"), 3, b"",
                    b"pgn_fmt: loose.pgn: is read-only; it is left as it is\n")
         self.assertEqual(self.read("loose.pgn"), LOOSE)
         os.chmod(self.folder + "/loose.pgn", 0o644)
@@ -252,14 +252,14 @@ class FmtTest(unittest.TestCase):
             with self.subTest(text):
                 self.write("a.pgn", text)
                 ran = self.call("--write", "a.pgn")
-                self.check(ran, 2, b"", b"pgn_fmt: a.pgn: is left as it is: export format has no "
+                self.check(ran, 3, b"", b"pgn_fmt: a.pgn: is left as it is: export format has no "
                            b"place for %s (--diff shows them, --drop drops them)\n" % what.encode())
                 self.assertEqual(self.read("a.pgn"), text)
                 self.check(self.call("--write", "--drop", "a.pgn"), 0, b"a.pgn\n",
                            b"a.pgn: dropped %s\n" % what.encode())
                 self.assertEqual(self.read("a.pgn"), TIDY.replace(b"1. e4", b"1. e4" + kept))
         self.write("a.pgn", b"; a note\n")
-        self.assertEqual(self.call("--write", "a.pgn").returncode, 2)
+        self.assertEqual(self.call("--write", "a.pgn").returncode, 3)
         self.assertEqual(self.read("a.pgn"), b"; a note\n")
         # what is kept is no reason to refuse
         self.write("a.pgn", b'\xef\xbb\xbf[White "{; A"] {a} e4 ; b {\n ({c}d4) *\n\n')

@@ -536,7 +536,7 @@ class Files(Lint):
             for words in ([], ["-j", "2"]):
                 with self.subTest(name):
                     status, out, told = self.lint(*words, "good.pgn", name, "bad.pgn")
-                    self.assertEqual((status, told), (2, "pgn_lint: %s: %s\n" % (name, reason)))
+                    self.assertEqual((status, told), (3, "pgn_lint: %s: %s\n" % (name, reason)))
                     self.assertEqual(out.splitlines()[0], "bad.pgn:" + BAD_LINE)
                     self.assertIn("2 files, ", out)
 
@@ -552,7 +552,7 @@ class Files(Lint):
         if b"build" in ran.stderr or b"cannot be used" in ran.stderr:
             not_tried("another user cannot read the library")
         self.assertEqual((ran.returncode, ran.stderr),
-                         (2, b"pgn_lint: a.pgn: Permission denied\n"))
+                         (3, b"pgn_lint: a.pgn: Permission denied\n"))
 
     def test_no_library(self):
         self.env["GILLSPOON_LIBRARY"] = "/missing.so"
@@ -589,7 +589,7 @@ class Options(Lint):
             self.put("all/%d.pgn" % number, b"\n".join([GOOD, BAD, GOOD][:number % 4] * number))
         for words in (["--board"], ["--json"], ["--sarif"], ["--quiet"], ["--max", "7"]):
             one = self.lint(*words, "all", "missing")
-            self.assertEqual(one[0], 2)
+            self.assertEqual(one[0], 3)
             self.assertEqual(self.lint(*words, "-j", "3", "all", "missing"), one)
 
     def test_json(self):
@@ -621,7 +621,7 @@ class Options(Lint):
         status, out, _ = self.lint("--sarif", "my games", "missing")
         log = json.loads(out)
         jsonschema.validate(log, SARIF)
-        self.assertEqual(status, 2)
+        self.assertEqual(status, 3)
         ran, = log["runs"]
         self.assertEqual(ran["invocations"][0], {
             "executionSuccessful": False, "toolExecutionNotifications": [
@@ -718,7 +718,7 @@ class Streams(Lint):
             ran = run(["bash", "-c", script], cwd=self.folder, env=self.env)
             first, status = ran.stdout.decode().splitlines()
             self.assertIn("move is not legal", first)
-            self.assertEqual((status, ran.stderr), ("2", b""))
+            self.assertEqual((status, ran.stderr), ("3", b""))
 
     def test_a_closed_pipe_while_processes_write(self):
         """What they have to say is more than a pipe holds, so that some end in the midst of it."""
@@ -726,7 +726,7 @@ class Streams(Lint):
         script = "pgn_lint -j4%s | head -n 1; echo ${PIPESTATUS[0]}" % (8 * " a.pgn")
         for _ in range(6):
             ran = run(["bash", "-c", script], cwd=self.folder, env=self.env, timeout=20)
-            self.assertEqual(ran.stdout.decode().splitlines(), ["a.pgn:" + BAD_LINE, "2"])
+            self.assertEqual(ran.stdout.decode().splitlines(), ["a.pgn:" + BAD_LINE, "3"])
             self.assertEqual(ran.stderr, b"")
 
     def test_a_full_device(self):
@@ -735,7 +735,7 @@ class Streams(Lint):
             with open("/dev/full", "wb") as full:
                 status, _, told = self.lint("a.pgn", *words, stdout=full)
             self.assertEqual((status, told), (
-                2, "pgn_lint: output cannot be written: No space left on device\n"))
+                3, "pgn_lint: output cannot be written: No space left on device\n"))
 
     def interrupted(self, *words):
         """The status and the errors of a call that waits for a pipe, and gets SIGINT."""
@@ -784,7 +784,7 @@ class Streams(Lint):
                         os.kill(int(process), signal.SIGKILL)
                 _, told = child.communicate(timeout=20)
         self.assertEqual((child.returncode, told), (
-            2, b"pgn_lint: a process ended before its file was checked; try again without -j\n"))
+            3, b"pgn_lint: a process ended before its file was checked; try again without -j\n"))
 
     def test_colours_on_a_terminal_alone(self):
         self.put("a.pgn", BAD)

@@ -303,7 +303,7 @@ class SieveTest(unittest.TestCase):
         for words in ([folder + "/none", other, other + "2"], [folder, folder + "/g", other],
                       [file, folder + "/none/g", other]):
             ran = call([*words])
-            self.assertEqual((ran.returncode, ran.stdout, ran.stderr.count(b"\n")), (1, b"", 1),
+            self.assertEqual((ran.returncode, ran.stdout, ran.stderr.count(b"\n")), (3, b"", 1),
                              (words, ran.stderr))
         self.assertEqual(sorted(os.listdir(folder)), ["a.pgn", "link.pgn"])
         with open(file, "rb") as text:
@@ -400,7 +400,7 @@ class SieveTest(unittest.TestCase):
         os.close(ours)
         with open(its, "wb") as closed:
             ran = call(done.paths, stdout=closed)
-        self.assertEqual((ran.returncode, ran.stderr), (1, b""))
+        self.assertEqual((ran.returncode, ran.stderr), (3, b""))
 
     def test_without_the_library(self):
         done = Sieved(self, sound(b"A"))
@@ -476,9 +476,9 @@ pgn_files.run_script("script", lambda: pgn_files.Replacement(sys.argv[2]))
     def test_failures_of_the_program_leave_the_old_files(self):
         for script, status, text in (
                 ("echo 'out of memory' >&2; exit 3", 3, b"pgn_sieve: out of memory\n"),
-                ("echo 'byte 5: input cannot be read' >&2; exit 1", 1,
+                ("echo 'byte 5: input cannot be read' >&2; exit 1", 3,
                  b"pgn_sieve: byte 5: input cannot be read\n"),
-                ("kill -9 $$", 1, b"pgn_sieve: the program ended with status -9\n")):
+                ("kill -9 $$", 3, b"pgn_sieve: the program ended with status -9\n")):
             started = self.start(script, stdout=subprocess.PIPE, stderr=subprocess.PIPE)
             out, err = started.communicate(timeout=20)
             self.assertEqual((started.returncode, out, err), (status, b"", text))
@@ -490,7 +490,7 @@ pgn_files.run_script("script", lambda: pgn_files.Replacement(sys.argv[2]))
         started = self.start(script, stdout=subprocess.PIPE, stderr=subprocess.PIPE)
         out, err = started.communicate(timeout=20)
         self.assertEqual((started.returncode, out, err), (
-            1, b"", b"pgn_sieve: the archive changed while it was read; nothing was written\n"))
+            3, b"", b"pgn_sieve: the archive changed while it was read; nothing was written\n"))
         for path, text in zip(self.paths, (b"new", b"old", b"old")):
             with open(path, "rb") as file:
                 self.assertEqual(file.read(), text)

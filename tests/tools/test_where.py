@@ -285,7 +285,7 @@ class WhereTest(unittest.TestCase):
             ran = self.call([self.file + "." + end, "55"])
             self.assertEqual(ran.stdout.decode().split("\n")[1:3], shown[1:3])
         self.put("b.pgn.gz", gzip.compress(text)[:-9])
-        self.assertEqual(self.call([self.folder + "/b.pgn.gz", "55"]).returncode, 1)
+        self.assertEqual(self.call([self.folder + "/b.pgn.gz", "55"]).returncode, 3)
 
     def test_messages_of_pgn_fmt(self):
         self.put("a b.pgn", TAGS + b"1. e4 e5 2. Ke3 *\n")
@@ -306,7 +306,7 @@ class WhereTest(unittest.TestCase):
         shown = b"b.pgn:1:4: not a move (game 1, ? - ?)\n"
         ran = run([sys.executable, WHERE], cwd=self.folder, input=told + shown)
         self.assertEqual((ran.returncode, ran.stderr), (
-            1, b"pgn_where: none.pgn: No such file or directory\npgn_where: b.pgn: has no line 9\n"
+            3, b"pgn_where: none.pgn: No such file or directory\npgn_where: b.pgn: has no line 9\n"
             b"pgn_where: b.pgn: has no line 1, column 20\n"
             b"pgn_where: b.pgn: has 8 bytes, so there is no byte 99\n"))
         self.assertEqual(ran.stdout, told + b"b.pgn: line 1, column 4 (byte 3): not a move "
@@ -318,8 +318,8 @@ class WhereTest(unittest.TestCase):
         for words, told, status in (
                 ([self.file, "x"], b"", 2), ([self.file, "-1"], b"", 2),
                 ([self.file, "1", "2"], b"", 2),
-                ([self.file, "3"], b"", 1), ([self.folder + "/none", "3"], b"", 1),
-                ([self.folder, "0"], b"", 1), ([self.folder + "/none"], b"", 1),
+                ([self.file, "3"], b"", 3), ([self.folder + "/none", "3"], b"", 3),
+                ([self.folder, "0"], b"", 3), ([self.folder + "/none"], b"", 3),
                 (["/dev/null", "0"], b"", 2)):
             ran = self.call(words, input=told)
             self.assertEqual((ran.returncode, ran.stdout, ran.stderr.count(b"\n")),
@@ -359,10 +359,10 @@ class WhereTest(unittest.TestCase):
     def test_closed_output(self):
         ran = run(["sh", "-c", '"$0" "$1" examples/two-games.pgn 3 >/dev/full', sys.executable,
                    WHERE])
-        self.assertEqual((ran.returncode, ran.stderr.count(b"\n")), (1, 1), ran.stderr)
+        self.assertEqual((ran.returncode, ran.stderr.count(b"\n")), (3, 1), ran.stderr)
         ran = run(["sh", "-c", '"$0" "$1" examples/two-games.pgn 3 >&-', sys.executable, WHERE])
         self.assertEqual((ran.returncode, ran.stderr),
-                         (1, b"pgn_where: standard output is closed\n"))
+                         (3, b"pgn_where: standard output is closed\n"))
 
     def test_a_closed_pipe_ends_it_silently(self):
         with open(self.file, "wb") as file:
@@ -372,7 +372,7 @@ class WhereTest(unittest.TestCase):
             os.close(ours)
             with open(its, "wb") as closed:
                 ran = self.call(words, stdout=closed, input=b"byte 3: no\nmore\n")
-            self.assertEqual((ran.returncode, ran.stderr), (1, b""))
+            self.assertEqual((ran.returncode, ran.stderr), (3, b""))
 
 
 if __name__ == "__main__":
