@@ -4,7 +4,7 @@ from typing import Callable, List, Optional
 
 from . import _calls
 from ._faults import FenFault, MoveFault
-from ._here import DATA, MOVE, NEAR, Change, Here, pattern_of, steps_of
+from ._here import DATA, NEAR, Change, Here, pattern_of, steps_of
 from ._left_out import PART
 from ._sections import SPACE
 

@@ -2,7 +2,7 @@
 import io
 import mmap
 import os
-from typing import IO, Any, BinaryIO, Callable, Iterator, Optional, Protocol, Tuple, Union
+from typing import IO, Any, Callable, Iterator, Optional, Protocol, Tuple, Union
 
 from ._packed import Calls, opener_of
 from ._places import LINE_END, NEAR, LineCounter

@@ -85,19 +85,7 @@ def arguments(words: Optional[List[str]]) -> argparse.Namespace:
     parser.add_argument("--checked", action="store_true",
                         help="a missing Result tag takes the result at the end of its game")
     parser.add_argument("--max", metavar="N", type=_number, help="write the first N faults alone")
-    tasks = parser.add_mutually_exclusive_group()
-    tasks.add_argument("--fix", action="store_true",
-                       help="mend the files in place, or standard input to standard output")
-    tasks.add_argument("--diff", action="store_true", help="show what --fix would change")
-    tasks.add_argument("--fixes", action="store_true", help="list all fixes, and end")
-    parser.add_argument("--unsafe-fixes", action="store_true",
-                        help="also fixes that lose text, or choose one of several readings")
-    parser.add_argument("--select", metavar="NAME,...", type=_names, help="try these fixes alone")
-    parser.add_argument("--ignore", metavar="NAME,...", type=_names, default=(),
-                        help="do not try these fixes")
-    parser.add_argument("--language", metavar="CODE",
-                        choices=("de", "fr", "es", "it", "nl", "ru"),
-                        help="mend games with the letters of this language, such as Sf3")
+    _add_fix_options(parser)
     parser.add_argument("-j", "--jobs", metavar="N", type=_number, default=1,
                         help="check files by N processes [default: 1]")
     words = sys.argv[1:] if words is None else words
@@ -113,6 +101,22 @@ def arguments(words: Optional[List[str]]) -> argparse.Namespace:
     if not given.paths and not given.fixes and sys.stdin and sys.stdin.isatty():
         parser.error("give a FILE, a FOLDER, or - for standard input")
     return given
+
+
+def _add_fix_options(parser: argparse.ArgumentParser) -> None:
+    tasks = parser.add_mutually_exclusive_group()
+    tasks.add_argument("--fix", action="store_true",
+                       help="mend the files in place, or standard input to standard output")
+    tasks.add_argument("--diff", action="store_true", help="show what --fix would change")
+    tasks.add_argument("--fixes", action="store_true", help="list all fixes, and end")
+    parser.add_argument("--unsafe-fixes", action="store_true",
+                        help="also fixes that lose text, or choose one of several readings")
+    parser.add_argument("--select", metavar="NAME,...", type=_names, help="try these fixes alone")
+    parser.add_argument("--ignore", metavar="NAME,...", type=_names, default=(),
+                        help="do not try these fixes")
+    parser.add_argument("--language", metavar="CODE",
+                        choices=("de", "fr", "es", "it", "nl", "ru"),
+                        help="mend games with the letters of this language, such as Sf3")
 
 
 def _wrong_fixing(given: argparse.Namespace) -> str:
@@ -440,6 +444,15 @@ def list_fixes() -> int:
     return SOUND
 
 
+def _report_of(given: argparse.Namespace, out: Output) -> AnyReport:
+    """What writes the findings in the form that is asked for."""
+    if given.sarif:
+        return SarifReport(out)
+    if given.json:
+        return JsonReport(out, given.quiet)
+    return Report(out, given.board, given.quiet, has_colours(out))
+
+
 def main(words: Optional[List[str]] = None) -> int:
     """Runs the command, and gives its status."""
     given = arguments(words)
@@ -451,14 +464,7 @@ def main(words: Optional[List[str]] = None) -> int:
     if given.fix:
         for stopping in STOPPING:
             signal.signal(stopping, _stop)
-    report: AnyReport
-    if given.sarif:
-        report = SarifReport(out)
-    elif given.json:
-        report = JsonReport(out, given.quiet)
-    else:
-        report = Report(out, given.board, given.quiet, has_colours(out))
-    run = Run(given, report)
+    run = Run(given, _report_of(given, out))
     try:
         status = run.run()
         out.flush()

@@ -9,11 +9,10 @@ import signal
 import stat
 import subprocess
 import sys
-import time
 import unittest
 
 sys.path.insert(0, os.path.dirname(os.path.realpath(__file__)))
-from programs import ROOT, need, not_tried, run, without_rights
+from programs import ROOT, need
 from spellings import LEFT, SAFE, UNSAFE
 from test_lint import LINT, Lint, setUpModule as _set_up_lint
 from test_python import PACKAGE
@@ -104,7 +103,6 @@ SPOILT = (
     (rb"1-0", b"1:0"), (rb"0-1", b"0 - 1"), (rb"1-0", "1\u20130".encode()),
 )
 PATTERNS = [(re.compile(rb"(?:%s)(?![\w+#=-])" % pattern), new) for pattern, new in SPOILT]
-ANNOTATED = re.compile(rb"[0-9]+\.+|\$[0-9]+|\{[^}]*\}")
 
 
 def spoilt(text, rng):
