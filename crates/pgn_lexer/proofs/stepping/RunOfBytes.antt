@@ -1,5 +1,5 @@
 -- A byte that goes on with a run, and one that ends it.
-use Rattle.pgn_lexer.proofs.Words.{◌≡◌, ℕ, ◌+◌, Bool, true, false, cond, List, [], ◌∷◌, ◌++◌, ap, ◌∙◌, append-nil, append_assoc, take_while, LexReason, take_while-cons, is_digit, continues_symbol, is_suffix, class, Found, gives, stops, Kind, Token, refused, Within, in_symbol, in_glyph, in_suffix, outside, begins_after, after_run, onto, tokens_from, arith}
+use Rattle.pgn_lexer.proofs.Words.{◌≡◌, ℕ, ◌+◌, Bool, true, false, List, [], ◌∷◌, ◌++◌, ap, append-nil, append_assoc, take_while, LexReason, is_digit, continues_symbol, is_suffix, class, Found, gives, stops, Kind, Token, refused, Within, in_symbol, in_glyph, in_suffix, outside, begins_after, after_run, onto, tokens_from, arith}
 
 pub take_while-true : (p : ℕ → Bool) (b : ℕ) (s : List ℕ) → p b ≡ true → take_while p (b ∷ s) ≡ b ∷ take_while p s
 take_while-true p b s e = grind arith
