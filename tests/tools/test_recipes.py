@@ -33,16 +33,6 @@ def sections():
     return found
 
 
-def laid_out(words):
-    """Words on lines of at most 79 bytes."""
-    lines = [""]
-    for word in words:
-        if lines[-1] and len((lines[-1] + " " + word).encode()) > 79:
-            lines.append("")
-        lines[-1] = (lines[-1] + " " + word).strip()
-    return "\n".join(lines)
-
-
 def game(moves="1. e4 e5 *", result="*", **tags):
     """A game as export format has it, with this roster and these moves."""
     roster = ["Event", "Site", "Date", "Round", "White", "Black"]
@@ -85,12 +75,6 @@ class Recipe(unittest.TestCase):
         exported = self.shell("pgn_tool export mended.pgn")
         self.assertEqual(exported.stdout.decode(), wanted)
         return ran.stdout.decode()
-
-    def unmended(self, title, text, message):
-        """What the recipe makes of the text is refused, with this message."""
-        self.put("games.pgn", text)
-        ran = self.recipe(title)
-        self.assertEqual(ran.stderr.decode(), message + "\n")
 
 
 class Whole(Recipe):
