@@ -1,52 +1,63 @@
 // What a person would try next, by the fault and by what stands at its place.
 //
-// README.md and docs/RECIPES.md have the same table, with commands for whole files.
+// README.md has the same table. docs/TOOLS.md names what pgn_lint --fix mends, and which of it the
+// button of the page does.
 import { DRAW, RESULTS } from "./text.js";
 
-const WRITE_DRAW = "Write a draw as " + DRAW + ".";
+const BUTTON = " The button “Mend what has one reading” does it.";
+const LINT = " pgn_lint --fix does it.";
+const UNSAFE = " pgn_lint --fix --unsafe-fixes does it.";
+const WRITE_DRAW = "Write a draw as " + DRAW + "." + BUTTON;
+const NUMBER_APART = "Put a period or a blank between the number and the move." + BUTTON;
 
 // `offer` names a button: "fromMarker" takes missing results from the markers, "full" converts in
 // full.
 const ADVICE = [
   [(it) => it.number === 1 && it.near.startsWith("--") || it.number === 33 && it.symbol === "Z0" ||
       it.number === 33 && it.symbol.startsWith("--"),
-    "This is a null move, which is no move of chess. Put its variation into braces, as a comment."],
+    "This is a null move, which is no move of chess. Put its variation into braces, as a comment." +
+      UNSAFE],
   [(it) => it.number === 33 && /^[KQRBN]?[a-h][1-8]-[a-h][1-8]/.test(it.symbol),
-    "Take out the hyphen: e2e4 and Ng1f3 are read, e2-e4 and Ng1-f3 are not."],
-  [(it) => it.number === 33 && /^[0-9]+[a-hKQRBNO]/.test(it.symbol),
-    "Put a period or a blank between the number and the move."],
+    "Take out the hyphen: e2e4 and Ng1f3 are read, e2-e4 and Ng1-f3 are not." + BUTTON],
+  [(it) => it.number === 33 && /^[0-9]+[a-hKQRBNO]/.test(it.symbol), NUMBER_APART],
   [(it) => it.number === 33 && it.symbol === "1/2", WRITE_DRAW],
   [(it) => it.number === 33 && /^[SDTLCAF][a-h]?[1-8]?x?[a-h][1-8]/.test(it.symbol),
-    "Pieces have their English letters here: K, Q, R, B, N."],
+    "Pieces have their English letters here: K, Q, R, B, N. pgn_lint --fix --language de writes " +
+    "German games anew, and those of five other languages."],
   [(it) => it.number === 34 && /^([a-h][1-8]){2}/.test(it.symbol),
-    "A move without a piece’s letter is a pawn’s: write Ng1f3, not g1f3."],
-  [(it) => it.number === 34 && /^1[a-h][1-8]/.test(it.symbol),
-    "Put a period or a blank between the number and the move."],
+    "A move without a piece’s letter is a pawn’s: write Ng1f3, not g1f3." + BUTTON],
+  [(it) => it.number === 34 && /^1[a-h][1-8]/.test(it.symbol), NUMBER_APART],
   [(it) => it.number === 41 && !it.hasResult,
     "The game has no Result tag, which counts as *. A missing Result can take the result at the " +
-    "end of its game instead.", "fromMarker"],
+    "end of its game instead. pgn_lint --fix writes the tag.", "fromMarker"],
   [(it) => it.number === 41, "Correct the Result tag or the result at the end of the game."],
   [(it) => it.number === 32,
     "The game before has no result at its end, or a comment is between two tags. Add the result " +
-    "(" + RESULTS + "), or move the comment below the tags."],
-  [(it) => it.number === 42, "The last game has no result at its end: " + RESULTS + "."],
-  [(it) => it.number === 28, "Write \\\" for a quote inside a value: \"The \\\"Open\\\"\"."],
+    "(" + RESULTS + "), or move the comment below the tags." + UNSAFE],
+  [(it) => it.number === 42,
+    "The last game has no result at its end: " + RESULTS + "." + UNSAFE],
+  [(it) => it.number === 28,
+    "Write \\\" for a quote inside a value: \"The \\\"Open\\\"\"." + LINT],
   [(it) => it.number === 11, "A value ends with a quote on the line where it begins."],
   [(it) => it.number === 1 && it.place === 0 && /^(\u00ff\u00fe|\u00fe\u00ff)/.test(it.near),
     "The file is UTF-16. Save it as UTF-8."],
   [(it) => it.number === 1 && it.near.startsWith("\u00ef\u00bb\u00bf"),
-    "A byte order mark is inside the file, where files were joined. Take it out."],
+    "A byte order mark is inside the file, where files were joined. Take it out." + BUTTON],
   [(it) => it.number === 1 && /^(\u00c2?\u00bd)/.test(it.near), WRITE_DRAW],
   [(it) => it.number === 2 && it.near.startsWith("\u001a"),
-    "Take out the byte 26 with which programs for DOS end a file."],
-  [(it) => it.number === 2, "Replace the control byte, or the tab in a value, by a blank."],
+    "Take out the byte 26 with which programs for DOS end a file." + BUTTON],
+  [(it) => it.number === 2 && /^[\t\v\f]/.test(it.near),
+    "Replace the tab in a value by a blank." + BUTTON],
+  [(it) => it.number === 2, "Replace the control byte by a blank." + UNSAFE],
   [(it) => it.number === 6,
     "A word of a comment has at most 79 bytes. Put a blank into a long address, and give long " +
-    "drawing commands as several ones."],
+    "drawing commands as several ones. pgn_lint --fix does that with drawing commands, and with " +
+    "--unsafe-fixes it cuts other words."],
   [(it) => it.number === 12,
-    "A comment is never closed by }. It begins on line LINE, as far as braces tell."],
+    "A comment is never closed by }. It begins on line LINE, as far as braces tell." + UNSAFE],
   [(it) => it.number === 26, "Put the FEN into the field below, which says what is wrong with it."],
-  [(it) => it.number === 30, "Add the FEN tag, or take out the SetUp tag."],
+  [(it) => it.number === 30, "Add the FEN tag, or take out the SetUp tag. " +
+    "pgn_lint --fix --unsafe-fixes takes it out."],
   [(it) => it.number === 31, "The reduced format has no place for a position.", "full"],
   [(it) => it.number === 38, "Put the deepest variations into braces, as comments."],
 ];

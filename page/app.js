@@ -4,15 +4,13 @@ import { decodedLines } from "./text.js";
 import { faultView, placeOf } from "./fault_view.js";
 import { PositionFields } from "./position.js";
 import { GameList } from "./game_list.js";
-import { button, byId } from "./elements.js";
+import { EditList } from "./edit_list.js";
+import { button, byId, counted } from "./elements.js";
 
 // So much of an export is shown as text; all of it can be downloaded.
 const MOST_SHOWN = 100000;
 const MEGABYTE = 1e6;
-
-function counted(count, noun) {
-  return count.toLocaleString("en") + " " + noun + (count === 1 ? "" : "s");
-}
+const PASTED = "pasted games";
 
 function plies(count) {
   return count.toLocaleString("en") + (count === 1 ? " ply" : " plies");
@@ -32,7 +30,9 @@ class Page {
     const script = new Blob([byId("worker").textContent], { type: "text/javascript" });
     this.workerAddress = URL.createObjectURL(script);
     this.worker = null;
+    this.mender = null;
     this.list = new GameList((message) => this.worker.postMessage(message));
+    this.edits = new EditList();
     this.listen();
   }
 
@@ -42,6 +42,8 @@ class Page {
     byId("stop").addEventListener("click", () => this.worker.postMessage({ kind: "stop" }));
     byId("go-on-once").addEventListener("click", () => this.goOn(false));
     byId("go-on-always").addEventListener("click", () => this.goOn(true));
+    byId("mend").addEventListener("click", () => this.mend());
+    byId("apply").addEventListener("click", () => this.applyEdits());
     byId("download").addEventListener("click", () => this.ask("exported", "download"));
     byId("copy").addEventListener("click", () => this.ask("exported", "copy"));
     byId("download-bad").addEventListener("click", () => this.ask("badGames", "download"));
@@ -72,37 +74,69 @@ class Page {
   }
 
   beginPasted() {
-    this.begin([new File([byId("paste").value], "pasted games")]);
+    this.begin([new File([byId("paste").value], PASTED)]);
   }
 
   // Converts the same files with other options.
   again() {
     if (this.files) {
-      this.begin(this.files);
+      this.begin(this.files, this.applied);
     }
   }
 
-  begin(files) {
+  // Converts files, in which so many edits were applied.
+  begin(files, applied = 0) {
     if (!files.length) {
       return;
     }
     this.files = Array.from(files);
+    this.applied = applied;
     this.faults = [];
-    if (this.worker) {
-      this.worker.terminate();
+    for (const worker of [this.worker, this.mender]) {
+      if (worker) {
+        worker.terminate();
+      }
     }
-    this.worker = new Worker(this.workerAddress);
-    this.worker.onmessage = (event) => this[event.data.kind](event.data);
-    this.worker.onerror = () => this.failed({ reason: "other", text: "the worker has stopped" });
+    this.mender = null;
     this.begun = performance.now();
     this.showWork();
-    this.worker.postMessage({
+    this.worker = this.startWorker(this, {});
+  }
+
+  // Lets a worker go through the files. `hearer` has a function for each kind of its messages.
+  startWorker(hearer, more) {
+    const worker = new Worker(this.workerAddress);
+    worker.onmessage = ({ data }) =>
+      data.kind === "read" ? this.read(data, worker) : hearer[data.kind](data);
+    worker.onerror = () => hearer.failed({ reason: "other", text: "the worker has stopped" });
+    worker.postMessage({
       kind: "begin", module: this.moduleBytes,
       files: this.files.map(({ name, size }, index) => ({ index, name, size })),
       options: {
         mode: MODES[byId("mode").value], missingResult: MISSING_RESULTS[byId("missing").value],
       },
+      ...more,
     });
+    return worker;
+  }
+
+  // Lets another worker look for the edits that mend the bad games of all files.
+  mend() {
+    if (this.mender) {
+      this.mender.terminate();
+    }
+    this.edits.begin();
+    this.mender = this.startWorker(this.edits, { fixes: byId("fixes").textContent });
+  }
+
+  // Puts the edits into the files, and converts them again.
+  async applyEdits() {
+    const { edits } = this.edits;
+    const files = this.files.map((file, index) => this.edits.applied(file, index));
+    if (files[0].name === PASTED) {
+      byId("paste").value = await files[0].text();
+    }
+    this.begin(files, edits.length);
   }
 
   goOn(every) {
@@ -120,14 +154,14 @@ class Page {
     byId("work-bar").value = 0;
     byId("work-text").textContent = "Begins.";
     byId("result").hidden = byId("faults").hidden = byId("game").hidden = true;
+    byId("mending").hidden = true;
   }
 
   // ---- What the worker tells
 
   // Reads a part of a file for the worker. Not every browser lets the worker of a page that is on a
   // disk read the files of that page.
-  async read({ index, begin, end }) {
-    const worker = this.worker;
+  async read({ index, begin, end }, worker) {
     try {
       const bytes = await this.files[index].slice(begin, end).arrayBuffer();
       worker.postMessage({ kind: "part", bytes }, [bytes]);
@@ -150,6 +184,9 @@ class Page {
 
   done(state) {
     this.showEnd(state, "Done");
+    if (this.applied) {
+      byId("result-title").focus();
+    }
   }
 
   stopped(state) {
@@ -167,7 +204,8 @@ class Page {
     byId("stop").hidden = byId("work-bar").hidden = true;
     byId("work-text").textContent = what + ", after " +
       (state.milliseconds / 1000).toFixed(1) + " s" +
-      (state.waiting ? "; " + counted(state.waiting, "file") + " not read yet." : ".");
+      (state.waiting ? "; " + counted(state.waiting, "file") + " not read yet." : ".") +
+      (this.applied ? " " + counted(this.applied, "edit") + " applied before." : "");
     byId("result").hidden = false;
     byId("counts").textContent = counted(state.games, "game") + ", " + plies(state.plies) +
       (state.bad ? "; " + counted(state.bad, "bad game") + " set aside" : "") + ".";

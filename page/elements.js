@@ -13,6 +13,11 @@ export function paragraph(text, className) {
   return made;
 }
 
+// A number of things, such as "1,200 games".
+export function counted(count, noun) {
+  return count.toLocaleString("en") + " " + noun + (count === 1 ? "" : "s");
+}
+
 // A button that calls a function.
 export function button(text, act) {
   const made = document.createElement("button");

@@ -4,6 +4,7 @@
 // how far it is.
 import { OutOfMemory, loadModule } from "./module.js";
 import { Conversion } from "./conversion.js";
+import { Mender } from "./mending.js";
 
 const WORK_MILLISECONDS = 50;
 // So much of a file is read at a time.
@@ -12,7 +13,10 @@ const PART = 1 << 22;
 const MOST_FAULTS = 500;
 
 let conversion = null;
+// takes the bad games, in a worker that looks for edits alone
+let mender = null;
 let files = [];
+let fileIndex = 0;
 let isStopped = false;
 let goesOnByItself = false;
 let faults = 0;
@@ -44,6 +48,10 @@ const ANSWERS = {
     files = message.files;
     const begin = performance.now();
     conversion = new Conversion(await loadModule(message.module), message.options);
+    if (message.fixes) {
+      mender = new Mender(
+        await loadModule(message.module), JSON.parse(message.fixes), message.options.missingResult);
+    }
     await nextFile(begin);
   },
 
@@ -103,6 +111,7 @@ async function nextFile(begin) {
     end("done", begin);
     return;
   }
+  fileIndex = file.index;
   conversion.beginFile(file.name, file.size);
   wholeFile = readFile(file);
   // a part that cannot be read is met where the conversion waits for it
@@ -154,6 +163,12 @@ async function convert(begin) {
 
 // Tells the page the fault; true if the conversion goes on behind it by itself.
 function tellFault() {
+  if (mender) {
+    const place = conversion.module.field("pgn_game", "place");
+    mender.mend(conversion, fileIndex, place);
+    conversion.goOn(place);
+    return true;
+  }
   faults++;
   conversion.lastFault = conversion.fault();
   report("fault", { fault: faults <= MOST_FAULTS ? conversion.lastFault : null });
@@ -170,6 +185,11 @@ function setAside(fault) {
 function end(kind, begin) {
   conversion.move();
   workTime += performance.now() - begin;
+  if (mender) {
+    const { edits, mended, left } = mender;
+    report("mended", { edits, mended, left });
+    return;
+  }
   report(kind, {
     exportLength: conversion.exportLength, milliseconds: workTime,
     place: conversion.from, file: conversion.name, waiting: files.length,

@@ -4,6 +4,7 @@
 Each state that is compared here is also written as a picture, to page/out/pictures.
 """
 import base64
+import json
 import os
 import re
 import shutil
@@ -16,6 +17,7 @@ import programs
 from browser import Browser
 from documents import lines_of
 from programs import ROOT, need_program, run
+from spellings import LEFT, SAFE
 from test_library import c_structs
 from test_sieve import BAD, sound
 
@@ -83,6 +85,13 @@ CONVERT = """
         output: btoa(String.fromCharCode(...memory.subarray(buffer, buffer + number(16)))),
       };
     });
+"""
+# Leaves one fix of the page's data, which writes a text for another one.
+PLANT = """
+    const block = document.getElementById('fixes'), data = JSON.parse(block.textContent);
+    data.moves = [];
+    data.texts = [{name: 'planted', reasons: [33, 34], safe: true, steps: [[...arguments]]}];
+    block.textContent = JSON.stringify(data);
 """
 # Notes the longest time in which the page did nothing else, while it is called.
 BEAT = """
@@ -440,6 +449,107 @@ class Large(Case):
             "in parts, or with the program pgn_tool, which takes under 3 MiB for any size."))
 
 
+class Mending(Case):
+    """The button that mends what has one reading."""
+
+    def look(self):
+        """Clicks the button, and gives what is listed: each edit, and the sentence above."""
+        self.browser.run(CLICK, "mend")
+        self.browser.wait_for(
+            "return document.getElementById('mending').dataset.state === 'listed'")
+        edits = self.browser.run("return [...document.querySelectorAll('#edits li')]"
+                                 ".map(it => it.textContent)")
+        return edits, self.text("mending-text")
+
+    def apply(self):
+        self.browser.run("delete document.getElementById('work').dataset.shown;"
+                         "document.getElementById('apply').click()")
+        return self.browser.wait_for(IS_SHOWN)
+
+    def paste(self, text):
+        self.browser.run("delete document.getElementById('work').dataset.shown")
+        self.set("paste", text)
+        self.browser.run(CLICK, "convert-paste")
+        return self.browser.wait_for(IS_SHOWN)
+
+    def test_spellings(self):
+        """The rows of tests/tools/spellings.py that need the fixes of fixes.json alone."""
+        with open(ROOT + "/python/gillspoon/fixes.json", encoding="utf-8") as file:
+            data = json.load(file)
+        names = {it["name"] for it in data["moves"] + data["texts"] if it.get("safe", True)}
+        self.page()
+        tried = set()
+        for text, edits, wanted in SAFE:
+            needed = {name for _, _, it in edits for name in it.split(", ")}
+            if needed <= names and "\r" not in text:
+                tried |= needed
+                with self.subTest(text):
+                    self.assertEqual(self.paste(text), "refused")
+                    listed, told = self.look()
+                    self.assertEqual([it.split(", ", 2)[2] for it in listed],
+                                     ["%s: %s → %s" % (name, shown(old), shown(new))
+                                      for old, new, name in edits])
+                    self.assertIn("in 1 game. All games are then sound.", told)
+                    self.assertEqual(self.apply(), "done")
+                    self.assertEqual(self.browser.run(
+                        "return document.getElementById('paste').value"), wanted)
+        self.assertEqual(tried, names)
+        self.assertQuiet()
+
+    def test_what_stays(self):
+        """What has no single reading is left as it is."""
+        self.page()
+        for text in LEFT:
+            with self.subTest(text):
+                self.assertEqual(self.paste(text), "refused")
+                self.assertEqual(self.look(), ([], (
+                    "No fix of this page applies. 1 game stays bad. pgn_lint --fix has more "
+                    "fixes.")))
+                self.assertFalse(self.browser.run(IS_VISIBLE, "apply"))
+
+    def test_a_fix_must_go_on(self):
+        """Of fixes that are planted none is kept behind which the module reads no further."""
+        self.page()
+        for new, is_kept in (("K8", False), ("{a", False), ("[", False), ("K9 ", False),
+                             ("e5", True)):
+            with self.subTest(new):
+                self.browser.run(PLANT, "K9", new)
+                self.assertEqual(self.paste("1. e4 K9 Ka1 *"), "refused")
+                listed, told = self.look()
+                self.assertEqual(listed, ["pasted games: line 1, column 7, planted: “K9” → “e5”"]
+                                 if is_kept else [])
+                self.assertIn("1 game stays bad.", told)
+
+    def test_file(self):
+        """Each edit is at its place in its file, and what is left is told after the edits."""
+        self.page()
+        first = sound(b"a") + b'[Event "b"]\n\n1. e2-e4 {\xe9} e5 *\n\n' + sound(b"c")
+        second = b'[Result "1/2-1/2"]\r\n\r\n1. g1f3 \xbd\r\n\r\n[Event "d"]\r\n\r\n1. e5 *\r\n'
+        self.assertEqual(self.convert(("one.pgn", first), ("two.pgn", second)), "refused")
+        line = sound(b"a").count(b"\n") + 3
+        listed, told = self.look()
+        self.picture("mending")
+        self.assertEqual(listed, [
+            "one.pgn: line %d, column 4, long notation: “e2-e4” → “e2e4”" % line,
+            "two.pgn: line 3, column 4, missing letter: “g1f3” → “Ng1f3”",
+            "two.pgn: line 3, column 9, spelling of the result: “½” → “1/2-1/2”"])
+        self.assertEqual(told, "3 edits in 2 games. 1 game stays bad. pgn_lint --fix has more "
+                               "fixes.")
+        self.assertEqual(self.browser.run("return document.activeElement.id"), "mending-title")
+        self.assertEqual(self.apply(), "refused")
+        self.assertIn("3 edits applied before.", self.text("work-text"))
+        self.assertIn("two.pgn: line 7, column 4", self.text("fault"))
+        exported = self.download("download")[1]
+        self.assertIn(b"1. e4 { \xe9 } 1... e5 *", exported)
+        self.assertIn(b"1. Nf3 1/2-1/2", exported)
+        self.assertQuiet()
+
+
+def shown(text):
+    """A text as the list of edits has it."""
+    return "“%s”" % text.replace("\x1a", "\u241a") if text else "nothing"
+
+
 class Rest(Case):
     def test_worker_that_reads_no_file(self):
         """A browser that lets the page alone read its files, as WebKit does with one on a disk."""
@@ -618,7 +728,9 @@ class Rest(Case):
         self.page()
         for text, words in (
                 (b"1. e4 e5 (1... -- 2. d4) *", "null move"), (b"1. e4 (1. Z0) *", "null move"),
-                (b"1. e2-e4 *", "hyphen"), (b"1. e4 1-0", "no Result tag"),
+                (b"1. Z0 *", "pgn_lint --fix --unsafe-fixes does it."),
+                (b"1. e2-e4 *", "hyphen"), (b"1e4 *", "“Mend what has one reading” does it."),
+                (b"1. e4 1-0", "no Result tag"),
                 (b"1. e4 e5", "no result at its end"), (b'1. e4\n[Event "a"]', "no result"),
                 (b'[Event "The "Open""] *', "quote"), (b"\xff\xfee\x004\x00", "UTF-16"),
                 (b"1. e4 *\x1a", "byte 26"), (b"g1f3 *", "Ng1f3")):

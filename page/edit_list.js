@@ -1,0 +1,68 @@
+// The list of edits that mend the bad games, before they are applied.
+import { byId, counted } from "./elements.js";
+import { decoded, printable } from "./text.js";
+
+// So many edits are listed; all are applied.
+const MOST_EDITS = 500;
+
+export class EditList {
+  begin() {
+    this.edits = [];
+    byId("mending").hidden = false;
+    byId("apply").hidden = true;
+    byId("edits").replaceChildren();
+    byId("mending-text").textContent = "Looks for edits.";
+    byId("mending").dataset.state = "looking";
+  }
+
+  // ---- What the worker tells
+
+  progress({ file, bad }) {
+    byId("mending-text").textContent =
+      "Looks for edits in " + file + ": " + counted(bad, "bad game") + " so far.";
+  }
+
+  mended({ edits, mended, left }) {
+    this.edits = edits;
+    byId("apply").hidden = !edits.length;
+    byId("edits").replaceChildren(...edits.slice(0, MOST_EDITS).map(editItem));
+    byId("mending-text").textContent = [
+      edits.length ? counted(edits.length, "edit") + " in " + counted(mended, "game") + "."
+        : "No fix of this page applies.",
+      edits.length > MOST_EDITS ? "The first " + MOST_EDITS + " are listed; all are applied." : "",
+      !left ? "All games are then sound."
+        : counted(left, "game") + (left === 1 ? " stays bad." : " stay bad.") +
+          " pgn_lint --fix has more fixes.",
+    ].join(" ").replace(/ {2}/g, " ");
+    byId("mending").dataset.state = "listed";
+    byId("mending-title").focus();
+  }
+
+  failed({ file, text }) {
+    byId("mending-text").textContent =
+      "The edits were not found" + (file ? " in " + file : "") + ": " + text + ".";
+    byId("mending").dataset.state = "failed";
+  }
+
+  // A file with its edits.
+  applied(file, index) {
+    const parts = [];
+    let at = 0;
+    for (const edit of this.edits.filter((it) => it.index === index)) {
+      parts.push(file.slice(at, edit.offset), edit.text);
+      at = edit.offset + edit.old.length;
+    }
+    return parts.length ? new File([...parts, file.slice(at)], file.name) : file;
+  }
+}
+
+function editItem({ file, line, column, name, old, text }) {
+  const item = document.createElement("li");
+  item.textContent = file + ": line " + line + ", column " + column + ", " + name + ": " +
+    shown(old) + " → " + shown(text);
+  return item;
+}
+
+function shown(bytes) {
+  return bytes.length ? "“" + printable(decoded(bytes)) + "”" : "nothing";
+}

@@ -1,0 +1,195 @@
+// The fixes of pgn_lint that have their whole rule in fixes.json, which pgn_lint reads too: each
+// proposes one edit for a fault, or none. Text is a string here, with a character for each byte.
+import { OK } from "./module.js";
+import { encoded } from "./text.js";
+import { piecesOf } from "./board.js";
+
+// The reasons at which the spelling of a move can be at fault.
+const REASONS_OF_MOVES = [1, 33, 34, 37, 39];
+// How much text behind a move is looked at, and before a fault.
+const BEHIND_MOVE = 160;
+const BEFORE_FAULT = 512;
+const NUMBER = /^[0-9]+\. $/;
+// White space, comments and escape lines to the end of a text.
+const REST = /(?:[\t-\r ]|\xef\xbb\xbf|\{[^}]*(?:\}|$)|;[^\r\n]*|%(?<![^\r\n]%)[^\r\n]*)*$/y;
+// What Python's expressions on bytes have and JavaScript's have in another way.
+const OTHER_SIGNS = { "\\A": "^", "\\Z": "$", "\\s": "[\\t-\\r ]" };
+
+// An edit: the text from `start` up to `stop` becomes `text`.
+export function edited(text, edit) {
+  return text.slice(0, edit.start) + edit.text + text.slice(edit.stop);
+}
+
+export class Fixes {
+  // `data` is what fixes.json has. Only safe fixes are taken.
+  constructor(data, module) {
+    this.macros = data.macros;
+    this.module = module;
+    const steps = (row, flags) =>
+      row.steps.map(([pattern, text]) => [this.pattern(pattern, flags), text]);
+    this.moves = data.moves.map((row) => ({ ...row, steps: steps(row, "") }));
+    this.texts = data.texts.filter((row) => row.safe).map(
+      (row) => ({ ...row, steps: steps(row, "g") }));
+    this.move = this.pattern("\\AMOVE[+#]*(?![A-Za-z0-9_=:/-])", "");
+    this.wordBefore = this.pattern(
+      "(?:MOVE[+#]*|(?<![0-9])[0-9O]{1,5})[!?]*\\s*\\(?[ \\t]*\\Z", "");
+    this.moveBefore = this.pattern("(?:MOVE[+#]*[!?]*|\\$[0-9]+|\\})\\s*\\Z", "");
+  }
+
+  // The expression for one of the data, in which words in capitals stand for others.
+  pattern(text, flags) {
+    const names = new RegExp(Object.keys(this.macros).join("|"), "g");
+    const whole = text.replace(names, (name) => this.macros[name]);
+    return new RegExp(whole.replace(/\\.|\[(?:\\.|[^\]\\])*\]/g, (found) =>
+      found[0] === "[" ? found.replace(/\\s/g, "\\t-\\r ") : OTHER_SIGNS[found] || found), flags);
+  }
+
+  // The edits that may mend a fault, in the order of pgn_lint; each has the names of its fixes.
+  *proposals(here) {
+    if (REASONS_OF_MOVES.includes(here.fault)) {
+      const edit = this.respelled(here);
+      if (edit) {
+        yield edit;
+      }
+    }
+    for (const fix of this.texts) {
+      const edit = fix.reasons.includes(here.fault) ? this.replaced(here, fix) : null;
+      if (edit) {
+        yield edit;
+      }
+    }
+  }
+
+  // ---- Texts that are no moves
+
+  replaced(here, fix) {
+    for (const [pattern, text] of fix.steps) {
+      const match = matchAtPlace(here, pattern);
+      const made = match && expanded(match, text);
+      if (match && made !== match[0] && this.isThere(fix.needs, here, match)) {
+        const stop = match.index + match[0].length;
+        return { start: match.index, stop, text: made, name: fix.name };
+      }
+    }
+    return null;
+  }
+
+  isThere(needs, here, match) {
+    const stop = match.index + match[0].length;
+    if (needs === "move") {
+      const begin = Math.max(here.begin, match.index - BEHIND_MOVE);
+      return this.moveBefore.test(here.text.slice(begin, match.index));
+    }
+    if (needs === "end") {
+      REST.lastIndex = stop;
+      return REST.test(here.text);
+    }
+    return needs !== "last" || here.isLast;
+  }
+
+  // ---- Moves
+
+  // The edit that makes a legal move of the text at the fault, or at the word before it.
+  respelled(here) {
+    const begin = Math.max(here.begin, here.place - BEHIND_MOVE);
+    const before = this.wordBefore.exec(here.text.slice(begin, here.place));
+    for (const start of before ? [here.place, begin + before.index] : [here.place]) {
+      const fen = here.position(start);
+      const edit = fen ? this.respelledAt(here.text, start, fen) : null;
+      if (edit && edit.stop > here.place) {
+        return edit;
+      }
+    }
+    return null;
+  }
+
+  // Applies all spellings in turn: one token can have several. The move has to be legal.
+  respelledAt(text, start, fen) {
+    let lead = "";
+    let rest = text.slice(start, start + BEHIND_MOVE);
+    const used = [];
+    const size = rest.length;
+    let kept = size;
+    for (const spelling of this.moves) {
+      const found = this.step(spelling, rest, fen);
+      if (found) {
+        kept = Math.min(kept, found.tail.length);
+        const isNumber = NUMBER.test(found.made);
+        lead = isNumber ? found.made : lead;
+        rest = isNumber ? found.tail : found.made + found.tail;
+        used.push(spelling.name);
+      }
+    }
+    const move = this.move.exec(rest);
+    if (!used.length || !move || !this.played(fen, move[0])) {
+      return null;
+    }
+    kept = Math.min(kept, rest.length - move[0].length);
+    return {
+      start, stop: start + size - kept, text: lead + rest.slice(0, rest.length - kept),
+      name: used.join(", "),
+    };
+  }
+
+  // What a spelling makes of the begin of a text, and the rest behind it.
+  step(spelling, text, fen) {
+    for (const [pattern, written] of spelling.steps) {
+      const match = pattern.exec(text);
+      if (match) {
+        const letter = spelling.needs === "piece" ? letterOn(fen, match[1]) : "";
+        const made = expanded(match, written) + letter;
+        const tail = text.slice(match[0].length);
+        if (made !== match[0] && this.holds(spelling.needs, made + tail, fen)) {
+          return { made, tail };
+        }
+      }
+    }
+    return null;
+  }
+
+  // Whether the move that a text begins with is what the sign behind it says.
+  holds(needs, text, fen) {
+    if (!needs || needs === "piece") {
+      return true;
+    }
+    const move = this.move.exec(text);
+    const san = move ? this.played(fen, move[0]) : "";
+    const isMate = san.endsWith("#");
+    const isCheck = isMate || san.endsWith("+");
+    return san !== "" && {
+      "legal": true, "check": isCheck, "mate": isMate, "quiet": !isCheck,
+      "en passant": /^[a-h]/.test(san) && san.slice(1, 4) === "x" + fen.split(" ")[3],
+    }[needs];
+  }
+
+  // The SAN of a legal move, or an empty text.
+  played(fen, move) {
+    const found = this.module.san(encoded(fen), encoded(move));
+    return found.status === OK ? found.san : "";
+  }
+}
+
+// A text in which \1 stands for what a group has matched.
+function expanded(match, text) {
+  return text.replace(/\\([0-9])/g, (_, group) => match[group] || "");
+}
+
+// The match that has the place of the fault in it.
+function matchAtPlace(here, pattern) {
+  const line = here.text.lastIndexOf("\n", here.place - 1) + 1;
+  pattern.lastIndex = Math.max(here.place && line, here.begin, here.place - BEFORE_FAULT);
+  for (let match; (match = pattern.exec(here.text));) {
+    if (match.index + match[0].length > here.place) {
+      return match.index <= here.place ? match : null;
+    }
+    pattern.lastIndex += match[0] ? 0 : 1;
+  }
+  return null;
+}
+
+// The letter of the piece on a square; a pawn has none.
+function letterOn(fen, square) {
+  const at = "abcdefgh".indexOf(square[0]) + 8 * (Number(square[1]) - 1);
+  const piece = piecesOf(fen)[at].toUpperCase();
+  return piece === "P" ? "" : piece;
+}

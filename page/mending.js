@@ -1,0 +1,217 @@
+// Finds the edits that mend bad games, as pgn_lint --fix does: an edit is kept if the library then
+// reads the game to its end, or if fewer bytes are behind its first fault than before.
+import { FULL, MISSING_RESULTS, MODES, NO_GAME, OK } from "./module.js";
+import { latin1, lineAround, startsWithByteOrderMark } from "./text.js";
+import { Fixes, edited } from "./fixes.js";
+import { nextSection } from "./next_section.js";
+
+const NOT_LEGAL = 34;
+const RESULT_DIFFERS = 41;
+const NEVER_CLOSED = 12;
+// A move that no position allows: its fault has the position.
+const NO_MOVE = " Ka1a1 ";
+// How much of the text behind a bad game tells whether it still ends where it did.
+const TEXT_BEHIND = 1 << 12;
+const BYTE_ORDER_MARK_SIZE = 3;
+const COLUMN_WIDTH = 76;
+
+// One byte for each character of a text.
+export function bytesOf(text) {
+  const bytes = new Uint8Array(text.length);
+  for (let at = 0; at < bytes.length; at++) {
+    bytes[at] = text.charCodeAt(at);
+  }
+  return bytes;
+}
+
+// Reads games of short texts, by a module of its own.
+class TextReader {
+  constructor(module) {
+    this.module = module;
+    this.capacity = 1 << 16;
+  }
+
+  // What the library answers for the game from a place on.
+  read(text, from, missingResult) {
+    const { module } = this;
+    const at = module.free;
+    const options = { mode: MODES.full, missingResult };
+    for (;; this.capacity *= 2) {
+      module.reserve(at + text.length + this.capacity);
+      module.bytes.set(bytesOf(text), at);
+      const status = module.nextGame(
+        at, text.length, from, options, at + text.length, this.capacity);
+      if (status !== FULL) {
+        const read = (name) => module.field("pgn_game", name);
+        return {
+          status, fault: read("fault"), place: read("place"), end: read("end"),
+          fen: module.textField("pgn_game", "fen"),
+        };
+      }
+    }
+  }
+}
+
+// A fault, and the text in which it is.
+class Here {
+  constructor(text, begin, found, reader, isLast) {
+    Object.assign(this, { text, begin, reader, isLast, fault: found.fault, place: found.place });
+    this.fens = found.fen ? { [found.place]: found.fen } : {};
+  }
+
+  // The FEN at a place where a move may be, or an empty text.
+  position(at) {
+    if (!(at in this.fens)) {
+      const before = this.text.slice(this.begin, at) + NO_MOVE;
+      const found = this.reader.read(before, 0, MISSING_RESULTS.fromMarker);
+      const place = before.length - NO_MOVE.length + 1;
+      this.fens[at] = found.fault === NOT_LEGAL && found.place === place ? found.fen : "";
+    }
+    return this.fens[at];
+  }
+}
+
+// Mends the text of a bad game up to its end, which is a guess.
+class Mending {
+  constructor(text, fixes, reader, missingResult, isLast) {
+    Object.assign(this, { text, fixes, reader, missingResult, isLast });
+    this.begin = 0;
+    this.isSound = false;
+    // the edits that were kept, in order, with the places of the text before all edits
+    this.edits = [];
+  }
+
+  // Mends until the text is sound or no fix applies.
+  run() {
+    for (;;) {
+      const found = this.reader.read(this.text, this.begin, this.missingResult);
+      if (found.status === OK) {
+        this.begin = found.end;
+      } else if (found.status === NO_GAME) {
+        this.isSound = true;
+        return;
+      } else if (!this.mendFault(found)) {
+        this.fault = found.fault;
+        this.place = found.place;
+        return;
+      }
+    }
+  }
+
+  // Tries the fixes at a fault: whether one was kept.
+  mendFault(found) {
+    const here = new Here(this.text, this.begin, found, this.reader, this.isLast);
+    // a missing Result is told last, when all else is sound
+    const missing =
+      found.fault === RESULT_DIFFERS ? this.missingResult : MISSING_RESULTS.fromMarker;
+    for (const edit of this.fixes.proposals(here)) {
+      if (this.isBetter(here, edit, missing)) {
+        this.keep(edit);
+        return true;
+      }
+    }
+    return false;
+  }
+
+  // Whether the library reads on behind an edit. No edit begins behind its fault or ends before it,
+  // so the moves before it are the same.
+  isBetter(here, edit, missing) {
+    const text = edited(here.text, edit);
+    const old = here.text.slice(edit.start, edit.stop);
+    const found = this.reader.read(text, here.begin, missing);
+    const isSound = found.status === OK || found.status === NO_GAME;
+    const isBehind = found.place >= edit.start + edit.text.length &&
+      text.length - found.place < here.text.length - here.place;
+    // what follows an open comment is not read at all
+    return (isSound || isBehind) && openBraces(old) === openBraces(edit.text);
+  }
+
+  // Takes an edit of the present text. Those that it touches become one with it.
+  keep(edit) {
+    const before = [];
+    const touched = [];
+    const behind = [];
+    let [low, high, shift, inside] = [edit.start, edit.stop, 0, 0];
+    for (const it of this.edits) {
+      const begin = it.start + shift + inside;
+      const end = begin + it.text.length;
+      if (end < edit.start) {
+        before.push(it);
+        shift += growth(it);
+      } else if (begin > edit.stop) {
+        behind.push(it);
+      } else {
+        touched.push(it);
+        [low, high] = [Math.min(low, begin), Math.max(high, end)];
+        inside += growth(it);
+      }
+    }
+    const names = [...touched, edit].flatMap((it) => it.name.split(", "));
+    this.edits = [...before, {
+      start: low - shift, stop: high - shift - inside, name: [...new Set(names)].join(", "),
+      text: this.text.slice(low, edit.start) + edit.text + this.text.slice(edit.stop, high),
+    }, ...behind];
+    this.text = edited(this.text, edit);
+  }
+
+  // Whether what is still bad ends where the section does, and takes no game behind it.
+  endsAsBefore(following) {
+    if (!following.length) {
+      return true;
+    }
+    const rest = this.text.slice(this.begin);
+    const bytes = bytesOf(rest + latin1(following));
+    return this.fault !== NEVER_CLOSED &&
+      nextSection(bytes, 0, this.place - this.begin) === rest.length;
+  }
+}
+
+function growth(edit) {
+  return edit.text.length - (edit.stop - edit.start);
+}
+
+// How many braces a text opens and does not close.
+function openBraces(text) {
+  return text.split("{").length - text.split("}").length;
+}
+
+// Mends the bad games of a conversion, in their order.
+export class Mender {
+  // `module` is another one than that of the conversion, and `data` what fixes.json has.
+  constructor(module, data, missingResult) {
+    this.reader = new TextReader(module);
+    this.fixes = new Fixes(data, module);
+    this.missingResult = missingResult;
+    this.edits = [];
+    // how many games have edits, and how many are still bad after them
+    this.mended = this.left = 0;
+  }
+
+  // Finds the edits of the bad game that a conversion is at, in a file with this index.
+  mend(conversion, index, place) {
+    const bytes = conversion.fileBytes();
+    const isMark = startsWithByteOrderMark(bytes, place);
+    const found = nextSection(bytes, conversion.from, place);
+    const end = found === null ? bytes.length : found;
+    const stop = isMark ? Math.max(end, place + BYTE_ORDER_MARK_SIZE) : end;
+    // a byte order mark and a % mean something else at the start of a text
+    const begin = conversion.from && conversion.from - 1;
+    const given = latin1(bytes.subarray(begin, stop));
+    const text = conversion.from ? given.replace(/^[^\t-\r ]/, " ") : given;
+    const mending = new Mending(
+      text, this.fixes, this.reader, this.missingResult, end === bytes.length);
+    mending.run();
+    const isKept =
+      mending.isSound || mending.endsAsBefore(bytes.subarray(end, end + TEXT_BEHIND));
+    for (const edit of isKept ? mending.edits : []) {
+      const offset = begin + edit.start;
+      this.edits.push({
+        index, offset, file: conversion.name, line: conversion.lineOf(offset),
+        column: lineAround(bytes, offset, COLUMN_WIDTH).column, name: edit.name,
+        old: bytes.slice(offset, begin + edit.stop), text: bytesOf(edit.text),
+      });
+    }
+    this.mended += isKept && mending.edits.length ? 1 : 0;
+    this.left += mending.isSound ? 0 : 1;
+  }
+}
