@@ -5,7 +5,6 @@
 import { DRAW, RESULTS } from "./text.js";
 
 const BUTTON = " The button “Mend what has one reading” does it.";
-const LINT = " pgn_lint --fix does it.";
 const UNSAFE = " pgn_lint --fix --unsafe-fixes does it.";
 const WRITE_DRAW = "Write a draw as " + DRAW + "." + BUTTON;
 const NUMBER_APART = "Put a period or a blank between the number and the move." + BUTTON;
@@ -37,7 +36,7 @@ const ADVICE = [
   [(it) => it.number === 42,
     "The last game has no result at its end: " + RESULTS + "." + UNSAFE],
   [(it) => it.number === 28,
-    "Write \\\" for a quote inside a value: \"The \\\"Open\\\"\"." + LINT],
+    "Write \\\" for a quote inside a value: \"The \\\"Open\\\"\"." + BUTTON],
   [(it) => it.number === 11, "A value ends with a quote on the line where it begins."],
   [(it) => it.number === 1 && it.place === 0 && /^(\u00ff\u00fe|\u00fe\u00ff)/.test(it.near),
     "The file is UTF-16. Save it as UTF-8."],
@@ -51,8 +50,8 @@ const ADVICE = [
   [(it) => it.number === 2, "Replace the control byte by a blank." + UNSAFE],
   [(it) => it.number === 6,
     "A word of a comment has at most 79 bytes. Put a blank into a long address, and give long " +
-    "drawing commands as several ones. pgn_lint --fix does that with drawing commands, and with " +
-    "--unsafe-fixes it cuts other words."],
+    "drawing commands as several ones, as the button “Mend what has one reading” does. " +
+    "pgn_lint --fix --unsafe-fixes cuts other words."],
   [(it) => it.number === 12,
     "A comment is never closed by }. It begins on line LINE, as far as braces tell." + UNSAFE],
   [(it) => it.number === 26, "Put the FEN into the field below, which says what is wrong with it."],

@@ -205,7 +205,7 @@ class Page {
     byId("work-text").textContent = what + ", after " +
       (state.milliseconds / 1000).toFixed(1) + " s" +
       (state.waiting ? "; " + counted(state.waiting, "file") + " not read yet." : ".") +
-      (this.applied ? " " + counted(this.applied, "edit") + " applied before." : "");
+      (this.applied ? " " + counted(this.applied, "edit") + " applied." : "");
     byId("result").hidden = false;
     byId("counts").textContent = counted(state.games, "game") + ", " + plies(state.plies) +
       (state.bad ? "; " + counted(state.bad, "bad game") + " set aside" : "") + ".";

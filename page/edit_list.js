@@ -38,9 +38,10 @@ export class EditList {
     byId("mending-title").focus();
   }
 
-  failed({ file, text }) {
+  failed({ reason, file, text }) {
     byId("mending-text").textContent =
-      "The edits were not found" + (file ? " in " + file : "") + ": " + text + ".";
+      "The edits were not found" + (file ? " in " + file : "") + ": " +
+      (reason === "memory" ? "the page has too little memory" : text) + ".";
     byId("mending").dataset.state = "failed";
   }
 

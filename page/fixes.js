@@ -1,4 +1,4 @@
-// The fixes of pgn_lint that have their whole rule in fixes.json, which pgn_lint reads too: each
+// The fixes of pgn_lint that have their patterns in fixes.json, which pgn_lint reads too: each
 // proposes one edit for a fault, or none. Text is a string here, with a character for each byte.
 import { OK } from "./module.js";
 import { encoded } from "./text.js";
@@ -10,6 +10,8 @@ const REASONS_OF_MOVES = [1, 33, 34, 37, 39];
 const BEHIND_MOVE = 160;
 const BEFORE_FAULT = 512;
 const NUMBER = /^[0-9]+\. $/;
+// How many marks a drawing command gets.
+const MARKS = 12;
 // White space, comments and escape lines to the end of a text.
 const REST = /(?:[\t-\r ]|\xef\xbb\xbf|\{[^}]*(?:\}|$)|;[^\r\n]*|%(?<![^\r\n]%)[^\r\n]*)*$/y;
 // What Python's expressions on bytes have and JavaScript's have in another way.
@@ -30,6 +32,9 @@ export class Fixes {
     this.moves = data.moves.map((row) => ({ ...row, steps: steps(row, "") }));
     this.texts = data.texts.filter((row) => row.safe).map(
       (row) => ({ ...row, steps: steps(row, "g") }));
+    this.functions = data.functions.map((row) => ({
+      ...row, pattern: this.pattern(row.pattern, "g"), propose: FUNCTIONS[row.name],
+    }));
     this.move = this.pattern("\\AMOVE[+#]*(?![A-Za-z0-9_=:/-])", "");
     this.wordBefore = this.pattern(
       "(?:MOVE[+#]*|(?<![0-9])[0-9O]{1,5})[!?]*\\s*\\(?[ \\t]*\\Z", "");
@@ -58,6 +63,13 @@ export class Fixes {
         yield edit;
       }
     }
+    for (const { name, reasons, pattern, propose } of this.functions) {
+      const match = reasons.includes(here.fault) ? matchAtPlace(here, pattern) : null;
+      const edit = match && propose(this, here, match);
+      if (edit) {
+        yield { ...edit, name };
+      }
+    }
   }
 
   // ---- Texts that are no moves
@@ -77,14 +89,19 @@ export class Fixes {
   isThere(needs, here, match) {
     const stop = match.index + match[0].length;
     if (needs === "move") {
-      const begin = Math.max(here.begin, match.index - BEHIND_MOVE);
-      return this.moveBefore.test(here.text.slice(begin, match.index));
+      return this.isBehindMove(here, match);
     }
     if (needs === "end") {
       REST.lastIndex = stop;
       return REST.test(here.text);
     }
     return needs !== "last" || here.isLast;
+  }
+
+  // Whether a move, a glyph or a comment is just before a text.
+  isBehindMove(here, match) {
+    const begin = Math.max(here.begin, match.index - BEHIND_MOVE);
+    return this.moveBefore.test(here.text.slice(begin, match.index));
   }
 
   // ---- Moves
@@ -168,6 +185,33 @@ export class Fixes {
     return found.status === OK ? found.san : "";
   }
 }
+
+// The edits of the fixes that have more than patterns: of a match at the fault, or none.
+const FUNCTIONS = {
+  "novelty"(fixes, here, match) {
+    const fen = fixes.isBehindMove(here, match) ? here.position(match.index) : "";
+    const isMove = fen && fixes.played(fen, "N" + (match[1] || ""));
+    return fen && !isMove
+      ? { start: match.index, stop: match.index + 1, text: "$146" } : null;
+  },
+
+  "quotes in a value"(fixes, here, match) {
+    const start = match.index + match[1].length;
+    const text = match[2].replace(/(\\["\\])|"/g, (_, escaped) => escaped || "\\\"");
+    return { start, stop: start + match[2].length, text };
+  },
+
+  "long drawing command"(fixes, here, match) {
+    const marks = match[2].split(",");
+    const commands = [];
+    for (let at = 0; at < marks.length; at += MARKS) {
+      commands.push("[%" + match[1] + " " + marks.slice(at, at + MARKS).join(",") + "]");
+    }
+    return {
+      start: match.index, stop: match.index + match[0].length, text: commands.join(" "),
+    };
+  },
+};
 
 // A text in which \1 stands for what a group has matched.
 function expanded(match, text) {

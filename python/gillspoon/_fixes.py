@@ -2,7 +2,7 @@
 
 A fix has no say in what PGN is. The library names the byte and the reason of a fault. The fix looks
 at the text around it, and proposes one edit or none. The library then reads the text again: see
-gillspoon._mend. What needs no board is in fixes.json, which the page reads too.
+gillspoon._mend. The patterns of what needs no board are in fixes.json, which the page reads too.
 """
 from typing import Callable, FrozenSet, List, NamedTuple, Optional, Sequence, Tuple, Union
 
@@ -40,20 +40,25 @@ def _of_data() -> List[Fix]:
                  by.by_pattern(row["name"])) for row in DATA["texts"]]
 
 
+def _of_row(name: str, propose: Callable[[Here], Optional[Change]]) -> Fix:
+    """A safe fix for which fixes.json has a pattern."""
+    row = next(it for it in DATA["functions"] if it["name"] == name)
+    return _fix(name, row["reasons"], SAFE, row["example"][0], row["example"][1], propose)
+
+
 SAFE, UNSAFE = True, False
 # In the order in which they are tried.
 FIXES: "Tuple[AnyFix, ...]" = SPELLINGS + tuple(_of_data()) + (
-    _fix("novelty", (33,), SAFE, "Nf3 N", "Nf3 $146", by.novelty),
+    _of_row("novelty", by.novelty),
     _fix("Result tag from the marker", (25,), SAFE, '[Result "?"] … 1-0', '[Result "1-0"] … 1-0',
          by.unknown_result_tag),
     _fix("missing Result tag", (41,), SAFE, "1. e4 1-0", '[Result "1-0"] 1. e4 1-0',
          by.missing_result_tag),
-    _fix("quotes in a value", (28,), SAFE, '"The "Open""', r'"The \"Open\""', by.quotes_in_value),
+    _of_row("quotes in a value", by.quotes_in_value),
     _fix("pair given twice", (22,), SAFE, '[Site "?"] [Site "?"]', '[Site "?"]', by.equal_pair),
     _fix("spelling of a FEN", (26,), SAFE, '"… w qkQK - 0 1 "', '"… w KQkq - 0 1"',
          by.fen_spelling),
-    _fix("long drawing command", (6,), SAFE, "[%cal Ga1a2,…,Gh7h8]", "[%cal Ga1a2,…] [%cal …,Gh7h8]",
-         by.long_command),
+    _of_row("long drawing command", by.long_command),
     _fix("second marker", (41,), UNSAFE, "1-0 1-0", "1-0", by.second_marker),
     _fix("other Result tag", (41,), UNSAFE, '[Result "*"] … 1-0', '[Result "1-0"] … 1-0',
          by.other_result_tag),

@@ -16,6 +16,8 @@ MOVETEXT = re.compile(PART.pattern + rb"|([()])|(" + MARKER.pattern + rb")", re.
 # White space, comments and escape lines to the end of a section.
 REST = re.compile(SPACE.pattern + rb"\Z")
 BEHIND_MOVE = pattern_of(r"(?:MOVE[+#]*[!?]*|\$[0-9]+|\})\s*\Z")
+# What the functions look for that the page has too.
+PATTERNS = {it["name"]: pattern_of(it["pattern"]) for it in DATA["functions"]}
 SYMBOL = re.compile(rb"[^\s{}()\[\];\"]+")
 
 
@@ -64,16 +66,11 @@ CONDITIONS = {"": _always, "move": _is_behind_move, "end": _is_at_end, "last": _
 
 def quotes_in_value(here: Here) -> Optional[Change]:
     """Escapes the quotes of a value, on a line that is one tag pair."""
-    pair = here.match_at_place(VALUE_WITH_QUOTES)
-    if not pair or PAIR_BEHIND_VALUE.search(pair[2]):
+    pair = here.match_at_place(PATTERNS["quotes in a value"])
+    if not pair:
         return None
     value = re.sub(rb'(\\["\\])|"', lambda it: it[1] or rb'\"', pair[2])
     return Change(pair.start(2), pair.end(2), value)
-
-
-VALUE_WITH_QUOTES = re.compile(
-    rb'(?<![^\r\n])([ \t]*\[[ \t]*\w+[ \t]*")([^\r\n]*)"[ \t]*\][ \t]*(?![^\r\n])')
-PAIR_BEHIND_VALUE = re.compile(rb'"[ \t]*\][ \t]*\[')
 
 
 def _second_pair(here: Here, is_equal: bool) -> Optional[Change]:
@@ -285,7 +282,7 @@ LINE_COMMENT_AT_END = re.compile(rb";[^\r\n}]*\Z")
 
 def novelty(here: Here) -> Optional[Change]:
     """Writes a novelty's N as the glyph that programs have for it."""
-    found = here.match_at_place(NOVELTY)
+    found = here.match_at_place(PATTERNS["novelty"])
     if not found or not _is_behind_move(here, found):
         return None
     fen = here.position(found.start())
@@ -296,9 +293,6 @@ def novelty(here: Here) -> Optional[Change]:
     except MoveFault:
         return Change(found.start(), found.start() + 1, b"$146")
     return None
-
-
-NOVELTY = re.compile(rb"(?<![\w+#=:/.-])N(?![\w+#=:/-])(?:[ \t]*([a-h1-8x][\w+#=-]*))?")
 
 
 def long_suffix(here: Here) -> Optional[Change]:
@@ -371,17 +365,13 @@ def as_comment(text: bytes) -> bytes:
 
 def long_command(here: Here) -> Optional[Change]:
     """Makes several drawing commands of one that is too long."""
-    found = here.match_at_place(COMMAND)
+    found = here.match_at_place(PATTERNS["long drawing command"])
     if not found:
         return None
     marks, size = found[2].split(b","), 12
     parts = [b",".join(marks[at:at + size]) for at in range(0, len(marks), size)]
     new = b" ".join(b"[%" + found[1] + b" " + part + b"]" for part in parts)
     return Change(found.start(), found.end(), new)
-
-
-COMMAND = re.compile(rb"\[%(cal|csl)\s+([RGYBCOrgybco](?:[a-h][1-8]){1,2}"
-                     rb"(?:,[RGYBCOrgybco](?:[a-h][1-8]){1,2})*)\]")
 
 
 def long_word(here: Here) -> Optional[Change]:

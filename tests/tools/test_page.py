@@ -89,7 +89,7 @@ CONVERT = """
 # Leaves one fix of the page's data, which writes a text for another one.
 PLANT = """
     const block = document.getElementById('fixes'), data = JSON.parse(block.textContent);
-    data.moves = [];
+    data.moves = data.functions = [];
     data.texts = [{name: 'planted', reasons: [33, 34], safe: true, steps: [[...arguments]]}];
     block.textContent = JSON.stringify(data);
 """
@@ -476,7 +476,8 @@ class Mending(Case):
         """The rows of tests/tools/spellings.py that need the fixes of fixes.json alone."""
         with open(ROOT + "/python/gillspoon/fixes.json", encoding="utf-8") as file:
             data = json.load(file)
-        names = {it["name"] for it in data["moves"] + data["texts"] if it.get("safe", True)}
+        rows = data["moves"] + data["texts"] + data["functions"]
+        names = {it["name"] for it in rows if it.get("safe", True)}
         self.page()
         tried = set()
         for text, edits, wanted in SAFE:
@@ -520,6 +521,15 @@ class Mending(Case):
                                  if is_kept else [])
                 self.assertIn("1 game stays bad.", told)
 
+    def test_phone(self):
+        """The text of a long edit is broken, so that the page is as wide as the window."""
+        self.page(size=(360, 740))
+        self.browser.command("Emulation.setDeviceMetricsOverride", width=360, height=740,
+                             deviceScaleFactor=2, mobile=True)
+        self.paste("1. e4 {[%%cal %s]} *" % ",".join(["Ga1a8"] * 24))
+        self.assertEqual(len(self.look()[0]), 1)
+        self.assertEqual(self.browser.run("return document.documentElement.scrollWidth"), 360)
+
     def test_file(self):
         """Each edit is at its place in its file, and what is left is told after the edits."""
         self.page()
@@ -537,7 +547,7 @@ class Mending(Case):
                                "fixes.")
         self.assertEqual(self.browser.run("return document.activeElement.id"), "mending-title")
         self.assertEqual(self.apply(), "refused")
-        self.assertIn("3 edits applied before.", self.text("work-text"))
+        self.assertIn("3 edits applied.", self.text("work-text"))
         self.assertIn("two.pgn: line 7, column 4", self.text("fault"))
         exported = self.download("download")[1]
         self.assertIn(b"1. e4 { \xe9 } 1... e5 *", exported)
