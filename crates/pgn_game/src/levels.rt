@@ -29,8 +29,8 @@ impl Level {
 /// The levels of the current game: at least one and at most `L`.
 #[derive(Drop)]
 pub struct Levels<const L: usize> {
-    // The main line first, the current level last. Each is `Some`: so the blank places of the vector
-    // are zeros, and the toolchain makes a new one by a single call of `memset`.
+    // The main line first, the current level last. Each is `Some`: so the blank places of the
+    // vector are zeros, and the toolchain makes a new one by a single call of `memset`.
     levels: ArrayVec<Option<Level>, L>,
 }
 
