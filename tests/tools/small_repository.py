@@ -86,12 +86,10 @@ class Repository:
                      "crates/pgn_vectors/src/lib.rt", "crates/pgn_c/src/lib.rt",
                      "crates/pgn_c/pgn.h", "cargo/pgn_c/ffi.rs", "cargo/rattle_std/lib.rs"):
             self.write(path, "text")
-        for name in ("man/man1/pgn_tool.1", "man/man1/pgn_where.1", "man/man1/pgn_sieve.1",
-                     "man/man1/pgn_fmt.1", "man/man1/pgn_lint.1", "completions/pgn_tool.bash",
-                     "completions/_pgn_tool", "completions/pgn_tool.fish",
-                     "completions/pgn_lint.bash", "completions/_pgn_lint",
-                     "completions/pgn_lint.fish"):
-            self.write("share/" + name, name)
+        for command in ("pgn_tool", "pgn_lint", "pgn_where", "pgn_sieve", "pgn_fmt"):
+            for form in ("man/man1/%s.1", "completions/%s.bash", "completions/_%s",
+                         "completions/%s.fish"):
+                self.write("share/" + form % command, form % command)
         os.mkdir(self.root + "/path")
         for name in SYSTEM:
             os.symlink(shutil.which(name), self.root + "/path/" + name)

@@ -17,16 +17,23 @@ MODULES = ROOT + "/python/gillspoon"
 FILES = [
     "bin/pgn_fmt", "bin/pgn_lint", "bin/pgn_sieve", "bin/pgn_tool", "bin/pgn_where",
     "include/pgn.h", "lib/libpgn_c.a", "lib/libpgn_c.so", "lib/pkgconfig/pgn_c.pc",
-    "share/bash-completion/completions/pgn_lint", "share/bash-completion/completions/pgn_tool",
+    "share/bash-completion/completions/pgn_fmt", "share/bash-completion/completions/pgn_lint",
+    "share/bash-completion/completions/pgn_sieve", "share/bash-completion/completions/pgn_tool",
+    "share/bash-completion/completions/pgn_where",
+    "share/fish/vendor_completions.d/pgn_fmt.fish",
     "share/fish/vendor_completions.d/pgn_lint.fish",
+    "share/fish/vendor_completions.d/pgn_sieve.fish",
     "share/fish/vendor_completions.d/pgn_tool.fish",
+    "share/fish/vendor_completions.d/pgn_where.fish",
     "share/man/man1/pgn_fmt.1", "share/man/man1/pgn_lint.1", "share/man/man1/pgn_sieve.1",
     "share/man/man1/pgn_tool.1", "share/man/man1/pgn_where.1",
     LIST, *("share/pgn_tool/gillspoon/" + it for it in sorted(os.listdir(MODULES) + ["VERSION"])
             if it != "__pycache__"),
     "share/pgn_tool/pgn_files.py", "share/pgn_tool/pgn_fmt", "share/pgn_tool/pgn_lint",
     "share/pgn_tool/pgn_sieve", "share/pgn_tool/pgn_where",
-    "share/zsh/site-functions/_pgn_lint", "share/zsh/site-functions/_pgn_tool",
+    "share/zsh/site-functions/_pgn_fmt", "share/zsh/site-functions/_pgn_lint",
+    "share/zsh/site-functions/_pgn_sieve", "share/zsh/site-functions/_pgn_tool",
+    "share/zsh/site-functions/_pgn_where",
 ]
 SCRIPTS = ("pgn_lint", "pgn_where", "pgn_sieve", "pgn_fmt")
 

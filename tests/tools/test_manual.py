@@ -327,34 +327,41 @@ class Completions(Folder):
         for option in options() + options("export"):
             self.assertIn(option, text)
 
-    def lint_options(self):
-        text = run(["bin/pgn_lint", "--help"]).stdout.decode()
+    def script_options(self, name):
+        text = run(["bin/" + name, "--help"]).stdout.decode()
         rows = re.search(r"^options:\n((?:  .*\n)+)", text, re.M)[1]
         return sorted(re.findall(r"(?<![\w-])--?[\w-]+", "\n".join(
             it.split("  ")[1] for it in rows.splitlines() if it.startswith("  -"))))
 
-    def test_bash_for_pgn_lint(self):
-        self.assertEqual(self.words("pgn_lint", "-"), self.lint_options())
-        self.assertIn("--sarif", self.lint_options())
+    def test_bash_for_the_scripts(self):
         open(self.folder + "/some games.pgn", "wb").close()
+        for name in SCRIPTS:
+            self.assertIn("--version", self.script_options(name))
+            self.assertEqual(self.words(name, "-"), self.script_options(name))
+            self.assertEqual(self.words(name, "some"), ["some games.pgn"])
+        self.assertIn("--sarif", self.script_options("pgn_lint"))
         self.assertEqual(self.words("pgn_lint", "--board", "some"), ["some games.pgn"])
         self.assertEqual(self.words("pgn_lint", "--max", "s"), [])
+        self.assertEqual(self.words("pgn_fmt", "--output", "s"), ["some games.pgn"])
+        self.assertEqual(self.words("pgn_fmt", "--stdin-name", "s"), [])
 
-    def test_fish_for_pgn_lint(self):
+    def test_fish_for_the_scripts(self):
         programs.need("fish")
-        script = "source %spgn_lint.fish; complete -C 'pgn_lint -'" % COMPLETIONS
-        env = dict(os.environ, HOME=self.folder, XDG_CONFIG_HOME=self.folder)
-        ran = run(["fish", "-c", script], cwd=self.folder, env=env)
-        found = sorted(it.split("\t")[0] for it in ran.stdout.decode().splitlines())
-        self.assertEqual(found, self.lint_options())
+        for name in SCRIPTS:
+            script = "source %s%s.fish; complete -C '%s -'" % (COMPLETIONS, name, name)
+            env = dict(os.environ, HOME=self.folder, XDG_CONFIG_HOME=self.folder)
+            ran = run(["fish", "-c", script], cwd=self.folder, env=env)
+            found = sorted(it.split("\t")[0] for it in ran.stdout.decode().splitlines())
+            self.assertEqual(found, self.script_options(name), name)
 
-    def test_zsh_for_pgn_lint(self):
+    def test_zsh_for_the_scripts(self):
         programs.need("zsh")
-        ran = run(["zsh", "-n", COMPLETIONS + "_pgn_lint"])
-        self.assertEqual((ran.returncode, ran.stderr), (0, b""))
-        text = text_of(COMPLETIONS + "_pgn_lint")
-        for option in self.lint_options():
-            self.assertRegex(text, r"[{',)]%s[,}\[]" % option)
+        for name in SCRIPTS:
+            ran = run(["zsh", "-n", COMPLETIONS + "_" + name])
+            self.assertEqual((ran.returncode, ran.stderr), (0, b""))
+            text = text_of(COMPLETIONS + "_" + name)
+            for option in self.script_options(name):
+                self.assertRegex(text, r"[{',)]%s[,}\[]" % option)
 
 
 if __name__ == "__main__":

@@ -1,0 +1,11 @@
+# Completion of pgn_fmt for fish: put this file into ~/.config/fish/completions/.
+complete -c pgn_fmt -s h -l help -d 'Print help'
+complete -c pgn_fmt -l version -d 'Print the version'
+complete -c pgn_fmt -s c -l check -d 'Name the files that are not in export format'
+complete -c pgn_fmt -s w -l write -d 'Format the files in place, and name those that changed'
+complete -c pgn_fmt -s d -l diff -d 'Show what --write would change'
+complete -c pgn_fmt -s o -l output -r -F -d 'Write to a file that is replaced if all went well'
+complete -c pgn_fmt -l drop -d 'With --write: drop what export format has no place for'
+complete -c pgn_fmt -l stdin-name -x -d 'Read standard input, and call it so in messages'
+complete -c pgn_fmt -l reduced -d 'Write the roster and the moves outside variations alone'
+complete -c pgn_fmt -l checked -d 'A missing Result takes the marker of its game'
