@@ -3,6 +3,7 @@
 What PGN text means they leave to the program, and to the Python package over the library.
 """
 import argparse
+import contextlib
 import importlib.util
 import os
 import shutil
@@ -131,6 +132,37 @@ def open_text(path, advice=""):
         return spooled(read)
     finally:
         close()
+
+
+@contextlib.contextmanager
+def held_input():
+    """A named temporary file with standard input; of one that is compressed, with its text."""
+    if sys.stdin is None:
+        raise Failure(UNREADABLE, "standard input is closed")
+    with tempfile.NamedTemporaryFile(prefix="pgn.") as held:
+        copy(sys.stdin.buffer.read, held)
+        if packed.opener_of(held.name):
+            unpack(held)
+        held.seek(0)
+        yield held
+
+
+def unpack(held):
+    """Puts its text in the place of what a named temporary file has."""
+    try:
+        with open_text(held.name) as text:
+            held.seek(0)
+            held.truncate()
+            copy(text.read, held)
+    except OSError as error:
+        said = error.strerror or str(error).replace(held.name + ": ", "")
+        raise Failure(UNREADABLE, "standard input: " + said) from None
+
+
+def open_input():
+    """Opens standard input as open_text opens a file."""
+    with held_input() as held:
+        return open(held.name, "rb")
 
 
 def open_file(path, advice=""):

@@ -222,6 +222,33 @@ class FmtTest(unittest.TestCase):
         self.check(self.call(*name, "-o", "all.pgn", input=LOOSE), 0, b"")
         self.assertEqual(self.read("all.pgn"), TIDY)
 
+    def test_standard_input_among_files(self):
+        self.check(self.call("tidy.pgn", "-", input=LOOSE), 0, TIDY * 2)
+        self.check(self.call("--check", "-", "tidy.pgn", input=LOOSE), 1, b"standard input\n")
+        self.check(self.call("--stdin-name", "a", "--check", "-", input=LOOSE), 1, b"a\n")
+        self.check(self.call("-o", "all.pgn", "-", "loose.pgn", input=TIDY), 0, b"")
+        self.assertEqual(self.read("all.pgn"), TIDY * 2)
+        ran = self.call("--checked", "-", input=b"1. e4 1-0")
+        self.assertTrue(ran.stdout.endswith(b'[Result "1-0"]\n\n1. e4 1-0\n\n'), ran.stdout)
+        for words in (["-", "-"], ["--write", "-"], ["--stdin-name", "a", "-", "tidy.pgn"]):
+            ran = self.call(*words, input=LOOSE)
+            self.assertEqual((ran.returncode, ran.stdout, ran.stderr.count(b"\n")), (2, b"", 1))
+        ran = run(["sh", "-c", '"$0" "$1" - <&-', sys.executable, FMT], cwd=self.folder)
+        self.check(ran, 3, b"", b"pgn_fmt: standard input is closed\n")
+
+    def test_compressed_standard_input(self):
+        """Also where it is cut off: then an output that is there stays as it is."""
+        import gzip
+        packed = gzip.compress(LOOSE)
+        for words in ([], ["-"], ["--stdin-name", "a"], ["--checked", "-"]):
+            self.check(self.call(*words, input=packed), 0, TIDY)
+        self.write("all.pgn", b"old")
+        for words in (["-"], ["-o", "all.pgn", "-"], ["-o", "all.pgn", "tidy.pgn", "-"]):
+            ran = self.call(*words, input=packed[:-9])
+            self.check(ran, 3, b"", b"pgn_fmt: standard input: Compressed file ended before the "
+                       b"end-of-stream marker was reached\n")
+            self.assertEqual(self.read("all.pgn"), b"old")
+
     def test_write_refuses_a_read_only_file(self):
         """Also as root, whom permissions do not bind. What is in form has nothing to write."""
         for name in ("loose.pgn", "tidy.pgn"):

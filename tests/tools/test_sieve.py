@@ -316,6 +316,24 @@ class SieveTest(unittest.TestCase):
         self.assertEqual((packed.good, packed.bad), (plain.good, plain.bad))
         self.assertIn(b"1. e9 *", packed.bad)
 
+    def test_a_compressed_archive_on_standard_input(self):
+        """Where it is cut off, the outputs stay as they are."""
+        import gzip
+        plain = Sieved(self, sound(b"A") + b"1. e9 *\n")
+        packed = gzip.compress(plain.text)
+        outputs = [plain.folder + "/g", plain.folder + "/b"]
+        self.assertEqual(call(["-", *outputs], input=packed).returncode, 1)
+        self.assertEqual([plain.read(it) for it in outputs], [plain.good, plain.bad])
+        with open(plain.paths[0], "wb") as file:
+            file.write(packed[:-9])
+        for name, more in (("-", {"input": packed[:-9]}), (plain.paths[0], {})):
+            ran = call([name, *outputs], **more)
+            said = "standard input" if name == "-" else name
+            self.assertEqual((ran.returncode, ran.stdout, ran.stderr.decode()), (
+                3, b"", "pgn_sieve: %s: Compressed file ended before the end-of-stream marker was "
+                "reached\n" % said))
+            self.assertEqual([plain.read(it) for it in outputs], [plain.good, plain.bad])
+
     def test_a_pipe_is_refused(self):
         """Its name is in the message, and what to do; no writer is waited for."""
         done = Sieved(self, sound(b"A"))

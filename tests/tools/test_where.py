@@ -287,6 +287,15 @@ class WhereTest(unittest.TestCase):
         self.put("b.pgn.gz", gzip.compress(text)[:-9])
         self.assertEqual(self.call([self.folder + "/b.pgn.gz", "55"]).returncode, 3)
 
+    def test_standard_input(self):
+        for pack in (bytes, gzip.compress, bz2.compress):
+            ran = self.call(["-", str(len(TAGS) + 3)], input=pack(TAGS + b"1. Ke2 *"))
+            self.assertEqual((ran.returncode, ran.stdout.decode(), ran.stderr), (
+                0, "<stdin>: line 5, column 4 (byte %d)\n1. Ke2 *\n   ^\n%s" % (
+                    len(TAGS) + 3, GAME), b""))
+        ran = self.call(["-"], input=b"byte 3: move is not legal\n")
+        self.assertEqual((ran.returncode, ran.stdout, ran.stderr.count(b"\n")), (2, b"", 1))
+
     def test_messages_of_pgn_fmt(self):
         self.put("a b.pgn", TAGS + b"1. e4 e5 2. Ke3 *\n")
         self.put("c.pgn", TAGS + b"1. e9 *\n")
