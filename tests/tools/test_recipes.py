@@ -186,17 +186,24 @@ class Whole(Recipe):
     def test_folder(self):
         self.put("in/a b.pgn", "1. e4 *")
         self.put("in/c.pgn", "1. e9 *")
+        self.put("in/D.PGN", "1. d4 *")
+        self.put("in/E.Pgn", "1. c4 *")
         ran = self.recipe("Convert a whole folder")
         self.assertEqual(ran.stdout.decode(), "in/c.pgn: byte 3: not a move\n1 with a fault\n")
         self.assertEqual(self.get("out/a b.pgn").decode(), game("1. e4 *"))
-        self.assertEqual(sorted(os.listdir(self.folder + "/out")), ["a b.pgn", "c.pgn.fault"])
+        self.assertEqual(self.get("out/D.PGN").decode(), game("1. d4 *"))
+        self.assertEqual(self.get("out/E.Pgn").decode(), game("1. c4 *"))
+        self.assertEqual(sorted(os.listdir(self.folder + "/out")),
+                         ["D.PGN", "E.Pgn", "a b.pgn", "c.pgn.fault"])
 
     def test_folder_with_parallel(self):
         programs.need("parallel")
         self.put("in/a b.pgn", "1. e4 *")
         self.put("in/c.pgn", "1. e9 *")
+        self.put("in/d.PGN", "1. d4 *")
         ran = self.recipe("Convert a whole folder", 1)
-        self.assertEqual((ran.returncode, ran.stdout), (1, b"in/a b.pgn\tgames: 1, plies: 1\n"))
+        self.assertEqual((ran.returncode, ran.stdout), (
+            1, b"in/a b.pgn\tgames: 1, plies: 1\nin/d.PGN\tgames: 1, plies: 1\n"))
         self.assertIn(b"in/c.pgn\tbyte 3: not a move\n", ran.stderr)
 
     def test_how_far(self):
