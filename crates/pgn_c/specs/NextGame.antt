@@ -25,7 +25,7 @@ use Rattle.pgn_game.specs.Game.{Game}
 use Rattle.pgn_game.specs.Levels.{plies_of, last_position}
 use Rattle.pgn_game.specs.Text.{game_text}
 use Rattle.pgn_game.specs.Progress.{read, due, position_at_fault}
-use Rattle.pgn_game.specs.ConverterCalls.{StopsWriting, within_limit}
+use Rattle.pgn_game.specs.ConverterCalls.{AreShown, StopsWriting, within_limit}
 use Rattle.pgn_game.specs.GamesRestart.{games_read}
 use Rattle.pgn_c.specs.declared.game_result.PgnGame.{PgnGame}
 use Rattle.pgn_c.specs.Results.{IsFilled, padded, profile_in}
@@ -84,13 +84,14 @@ abbrev pub AreKnown : List ℕ → List Token → Type 0
 AreKnown bytes tokens = (more : List ℕ) → (later : List Token) × (tokens_of (bytes ++ more) ≡ tokens ++ later)
 
 -- A game: the first tokens of the text, up to its marker, are read into this one. No byte behind
--- the one after the marker decides that. The export text of the game is written.
+-- the one after the marker decides that, and no byte at place 2^62 or behind it. The export text of
+-- the game is written.
 pub record IsGame (p : Profile) (s : List ℕ) (result : PgnGame) (before after : Option (List ℕ)) : Type 0 where
   pub tokens : List Token
   pub at : Token
   pub marker : Marker
   pub game : Game
-  pub first : (later : List Token) × (tokens_of s ≡ tokens ++ at ∷ later)
+  pub shown : AreShown s (tokens ++ at ∷ [])
   pub none_before : games_read p tokens ≡ []
   pub passes : (read p (tokens ++ at ∷ [])).fault ≡ None
   pub one_game : games_read p (tokens ++ at ∷ []) ≡ game ∷ []
@@ -136,11 +137,11 @@ pub record NeedsMore (p : Profile) (s piece : List ℕ) (result : PgnGame) (befo
   pub is_result : result ≡ fault_result (status_for 5 fault.reason) fault (position_at_fault (read p (tokens_of s)))
 
 -- The buffer is full: more is due for the token at this place and those before it. These are of the
--- first game.
+-- first game, and the bytes before place 2^62 show them.
 pub record IsFull (p : Profile) (s : List ℕ) (result : PgnGame) (before after : Option (List ℕ)) : Type 0 where
   pub at : ℕ
   pub tokens : List Token
-  pub first : (later : List Token) × (tokens_of s ≡ tokens ++ later)
+  pub shown : AreShown s tokens
   pub stops : StopsWriting p [] tokens at before after
   pub no_game : games_read p stops.front ≡ []
   pub is_result : result ≡ fault_result 2 (record { at = at; reason = WriteFault }) None
@@ -199,13 +200,13 @@ abbrev pub profile_taking : Mode → Profile
 profile_taking mode = checked_profile 64 32 mode
 
 -- A missing Result takes the marker: the first tokens of the text, up to its marker, are read into
--- this game, and the buffer begins with its export text.
+-- this game, and the buffer begins with its export text. The bytes before place 2^62 show them.
 pub record TakesMarker (mode : Mode) (s : List ℕ) (before after : List ℕ) (result : PgnGame) : Type 0 where
   pub tokens : List Token
   pub at : Token
   pub marker : Marker
   pub game : Game
-  pub first : (later : List Token) × (tokens_of s ≡ tokens ++ at ∷ later)
+  pub shown : AreShown s (tokens ++ at ∷ [])
   pub passes : (read (profile_taking mode) (tokens ++ at ∷ [])).fault ≡ None
   pub one_game : games_read (profile_taking mode) (tokens ++ at ∷ []) ≡ game ∷ []
   pub is_marker : game.marker ≡ marker_text marker

@@ -14,14 +14,10 @@ use Rattle.pgn_game.specs.declared.reason.Fault.{Fault}
 use Rattle.pgn_game.specs.declared.conversion.Totals.{Totals}
 use Rattle.pgn_game.specs.Profile.{Profile}
 use Rattle.pgn_game.specs.Progress.{read, Verdict, refused as is_refused}
-use Rattle.pgn_game.specs.Conversion.{verdict_in}
+use Rattle.pgn_game.specs.Conversion.{Decides, verdict_in}
 use Rattle.pgn_game.specs.ConverterCalls.{AreShown, play_moves}
 use Rattle.pgn_game.specs.MostTried.{MostTried}
 use Rattle.pgn_game.specs.Checked.{Mark, compared, written_by, earlier_fault, checked_verdict, checked_output}
-
--- the tokens begin with ts
-abbrev pub IsTokenPrefix : List Token → List Token → Type 0
-IsTokenPrefix ts tokens = (rest : List Token) × (tokens ≡ ts ++ rest)
 
 -- the sink has taken this text, and no more
 abbrev pub HasTaken : Device → List ℕ → Type 0
@@ -60,17 +56,15 @@ pub record AreRefused (p : Profile) (s r : List ℕ) (f : Fault) : Type 0 where
   pub second_shown : AreShown r us
   pub fault : earlier_fault (compared p ts us).fault (read p ts).fault ≡ Some f
 
--- Both were converted, with these numbers. `first` has no byte at place 2^62.
+-- Both were converted, with these numbers. `first` has no byte at place 2^62, and the bytes of
+-- `second` before that place show it up to the last mark.
 pub record AreTotalled (p : Profile) (s r : List ℕ) (t : Totals) (sink : Device) : Type 0 where
   pub short : length s ≤ 2 ^ 62
+  pub us : List Token
+  pub second_shown : AreShown r us
+  pub no_mark_left : (compared p (tokens_of s) us).marks_left ≡ []
   pub converted : AreConverted p s r (verdict_in t) sink
   pub probes : ProbesBoth p s r t.most_probes
-
--- The bytes that a source has given decide these tokens: however it goes on, the tokens of its text
--- begin with them. Or it has ended, and the tokens of its text begin with them.
-pub data Decides (source : Device) (ts : List Token) : Type 0 where
-  so_far : (u : List ℕ) → Consumes source.before source.after u → ((x : List ℕ) → IsTokenPrefix ts (tokens_of (u ++ x))) → Decides source ts
-  at_end : (u : List ℕ) → Consumes source.before source.after u → IfSome source.before (λ s. s ≡ u) → IsTokenPrefix ts (tokens_of u) → Decides source ts
 
 -- `second` was read up to the last mark of these tokens of `first`, without a difference, and the
 -- games up to there are written.
@@ -88,21 +82,20 @@ pub record FirstStops (p : Profile) (u : List ℕ) (second sink : Device) : Type
 -- of tokens that `first` has given.
 pub record SecondStops (p : Profile) (first : Device) (u : List ℕ) (sink : Device) : Type 0 where
   pub tokens : List Token
-  pub decided_by : Decides first tokens
+  pub decided_by : Decides first.before first.after tokens
   pub fault : (compared p tokens (decided u)).fault ≡ None
   pub next_mark : (m : Mark) × (ms : List Mark) × ((compared p tokens (decided u)).marks_left ≡ m ∷ ms)
   pub appended : HasTaken sink (written_by p (compared p tokens (decided u)))
 
--- Where a write failed: the tokens of `second` up to `token` show no difference from the marks of
--- tokens that `first` has given. Of what is written for them, a front was, not all, and at least
--- what is written for those before it.
-pub record WriteStops (p : Profile) (first : Device) (us : List Token) (at : ℕ) (sink : Device) : Type 0 where
+-- Where a write failed: the tokens of `second` up to `token`, which its bytes before place 2^62
+-- show, show no difference from the marks of tokens that `first` has given. Of what is written for
+-- them, a front was, not all, and at least what is written for those before it.
+pub record WriteStops (p : Profile) (first : Device) (r : List ℕ) (at : ℕ) (sink : Device) : Type 0 where
   pub tokens : List Token
-  pub decided_by : Decides first tokens
+  pub decided_by : Decides first.before first.after tokens
   pub front : List Token
   pub token : Token
-  pub rest : List Token
-  pub cut : us ≡ front ++ token ∷ rest
+  pub shown : AreShown r (front ++ token ∷ [])
   pub place : token.at ≡ at
   pub fault : (compared p tokens (front ++ token ∷ [])).fault ≡ None
   pub count : ℕ
@@ -125,7 +118,7 @@ pub data TwoReadingsFail (p : Profile) (first second sink : Device) : Fault → 
       → TwoReadingsFail p first second sink (record { at = length u; reason = ReadFault })
   second_too_long : (u rest : List ℕ) → Consumes second.before second.after (u ++ rest) → length u ≡ 2 ^ 62 → 0 < length rest → SecondStops p first u sink
       → TwoReadingsFail p first second sink (record { at = length u; reason = Changed })
-  unwritten : (at : ℕ) → IfSome second.before (λ r. WriteStops p first (tokens_of r) at sink)
+  unwritten : (at : ℕ) → IfSome second.before (λ r. WriteStops p first r at sink)
       → TwoReadingsFail p first second sink (record { at = at; reason = WriteFault })
 
 -- What the sources have left is converted, `first` up to its end.

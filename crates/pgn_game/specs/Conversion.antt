@@ -16,7 +16,7 @@ use Rattle.pgn_game.specs.Profile.{Profile}
 use Rattle.pgn_game.specs.Progress.{read, due, output, Verdict, refused as is_refused, totals, verdict}
 use Rattle.pgn_game.specs.Due.{Gains}
 use Rattle.pgn_game.specs.MostTried.{MostTried}
-use Rattle.pgn_game.specs.ConverterCalls.{Converter, IsRefused, play_moves, Stands, StopsWriting, Stops}
+use Rattle.pgn_game.specs.ConverterCalls.{AreNext, AreShown, Converter, IsRefused, play_moves, Stands, StopsWriting, Stops}
 
 -- the verdict that has these numbers
 abbrev pub verdict_in : Totals → Verdict
@@ -44,11 +44,12 @@ pub record ReadsNoMore (p : Profile) (u : List ℕ) (before after : Option (List
   pub passes : (read p (decided u)).fault ≡ None
   pub appended : Appends before after (due p (decided u))
 
--- How a conversion of a slice fails: by the text's own fault, which its bytes before place 2^62
--- show; because a write failed; or since the slice is too long.
+-- How a conversion of a slice fails: by the text's own fault, or because a write failed for one of
+-- the tokens, both of which its bytes before place 2^62 show; or since the slice is too long.
 pub data FailsOn (p : Profile) (text : List ℕ) (before after : Option (List ℕ)) : Fault → Type 0 where
   refused : (f : Fault) → IsRefused p text f → IsConverted p text (is_refused f) before after → FailsOn p text before after f
-  unwritten : (at : ℕ) → StopsWriting p [] (tokens_of text) at before after → FailsOn p text before after (record { at = at; reason = WriteFault })
+  unwritten : (tokens : List Token) (at : ℕ) → AreShown text tokens → StopsWriting p [] tokens at before after
+      → FailsOn p text before after (record { at = at; reason = WriteFault })
   too_long : (u rest : List ℕ) → text ≡ u ++ rest → length u ≡ 2 ^ 62 → 0 < length rest → ReadsNoMore p u before after
       → FailsOn p text before after (record { at = length u; reason = InputTooLong })
 
@@ -60,14 +61,26 @@ AfterSlice p text (Err f) before after = FailsOn p text before after f
 abbrev pub ConvertsSlice : Profile → List ℕ → Result Totals Fault → Device → Type 0
 ConvertsSlice p text result sink = AfterSlice p text result sink.before sink.after
 
+-- the tokens begin with ts
+abbrev pub IsTokenPrefix : List Token → List Token → Type 0
+IsTokenPrefix ts tokens = (rest : List Token) × (tokens ≡ ts ++ rest)
+
+-- The bytes that a source has given decide these tokens: some of those before place 2^62, from the
+-- first on, do so. Or it has ended, without a byte at that place, and the tokens of its text begin
+-- with them.
+pub data Decides (left_old left_new : Option (List ℕ)) (ts : List Token) : Type 0 where
+  so_far : (u more : List ℕ) → Consumes left_old left_new (u ++ more) → length u ≤ 2 ^ 62 → AreNext u ts → Decides left_old left_new ts
+  at_end : (u : List ℕ) → Consumes left_old left_new u → length u ≤ 2 ^ 62 → IfSome left_old (λ s. s ≡ u) → IsTokenPrefix ts (tokens_of u)
+      → Decides left_old left_new ts
+
 -- How a conversion fails: by the input's own fault, which its bytes before place 2^62 show; because
--- a read failed behind the bytes u; because a write failed when the bytes u were read; or since the
--- byte at place 2^62 came.
+-- a read failed behind the bytes u; because a write failed for one of the tokens that the bytes
+-- read by then decide; or since the byte at place 2^62 came.
 pub data Fails (p : Profile) (left_old left_new : Option (List ℕ)) (before after : Option (List ℕ)) : Fault → Type 0 where
   refused : (f : Fault) → IfSome left_old (λ s. IsRefused p s f × IsConverted p s (is_refused f) before after) → Fails p left_old left_new before after f
   unread : (u : List ℕ) → Consumes left_old left_new u → length u ≤ 2 ^ 62 → ReadsNoMore p u before after
       → Fails p left_old left_new before after (record { at = length u; reason = ReadFault })
-  unwritten : (u : List ℕ) (at : ℕ) → Consumes left_old left_new u → StopsWriting p [] (tokens_of u) at before after
+  unwritten : (tokens : List Token) (at : ℕ) → Decides left_old left_new tokens → StopsWriting p [] tokens at before after
       → Fails p left_old left_new before after (record { at = at; reason = WriteFault })
   too_long : (u rest : List ℕ) → Consumes left_old left_new (u ++ rest) → length u ≡ 2 ^ 62 → 0 < length rest → ReadsNoMore p u before after
       → Fails p left_old left_new before after (record { at = length u; reason = InputTooLong })

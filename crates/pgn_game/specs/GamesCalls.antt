@@ -32,13 +32,14 @@ abbrev pub games_of : Converter → List ℕ → Games
 games_of converter unused = record { converter = converter; unused = unused }
 
 -- The converter stands after the bytes `used`, and the other bytes that the source gave are not
--- used yet. The tokens read are those that are decided then.
+-- used yet. The tokens read are those that are decided then, by bytes before place 2^62.
 pub record ReadsOn (p : Profile) (u : List ℕ) (games : Games) (given : List Token) : Type 0 where
   pub used : List ℕ
   pub bytes : u ≡ used ++ games.unused
   pub stands : Stands p games.converter used (first games.unused) given
   pub at_limit : length used ≡ 2 ^ 62 → given ≡ decided used
   pub decided : IsDecided used games.unused given
+  pub next : AreNext (within_limit u) given
   pub not_finished : games.converter.is_finished ≡ false
 
 -- The source is at its end, so u is the whole text, and all its tokens were read. They leave no

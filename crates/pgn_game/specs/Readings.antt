@@ -21,7 +21,7 @@ use Rattle.pgn_game.specs.FaultTable.{refusal, is_end}
 use Rattle.pgn_game.specs.Text.{game_text, text_of, torn}
 use Rattle.pgn_game.specs.Progress.{no_progress, read}
 use Rattle.pgn_game.specs.Due.{gain}
-use Rattle.pgn_game.specs.ConverterCalls.{Converter, AreShown, HasRead}
+use Rattle.pgn_game.specs.ConverterCalls.{Converter, AreNext, AreShown, within_limit, HasRead}
 use Rattle.pgn_game.specs.ConverterSteps.{NotTaken, IsReady, Meets, OneGame, ReadsMore, SameGames, part_after}
 use Rattle.pgn_game.specs.GamesCalls.{games_of}
 use Rattle.pgn_game.specs.GamesSteps.{StandsWithin}
@@ -37,10 +37,10 @@ pub record Reading : Type 0 where
 abbrev pub model_mark : CodeMark → Mark
 model_mark m = record { text = marker_text m.marker; at = m.at }
 
--- The source has given the bytes u. The lexer stands in them, or the source has ended, and u is the
--- whole text.
+-- The source has given the bytes u. The lexer stands in them, and those before place 2^62 decide
+-- the tokens given; or the source has ended, and u is the whole text.
 abbrev pub StandsIn : Bool → Reading → List ℕ → List Token → Option (List ℕ) → Type 0
-StandsIn false r u given left_old = StandsWithin u (games_of r.converter r.unused) given
+StandsIn false r u given left_old = StandsWithin u (games_of r.converter r.unused) given × AreNext (within_limit u) given
 StandsIn true r u given left_old = HasLeft r.converter.lexer u given × (r.converter.lexer.count ≡ length u) × (length u ≤ 2 ^ 62) × IfSome left_old (λ s. s ≡ u)
 
 -- The reading has come to stand behind these tokens of the source. The bytes before place 2^62 show

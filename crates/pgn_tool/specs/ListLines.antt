@@ -19,6 +19,7 @@ use Rattle.pgn_game.specs.TagSection.{exported}
 use Rattle.pgn_game.specs.Game.{Game}
 use Rattle.pgn_game.specs.Progress.{read}
 use Rattle.pgn_game.specs.ConverterCalls.{Converter, FinishedGame, finished_game_of, profile_of, IsRefused}
+use Rattle.pgn_game.specs.Conversion.{Decides}
 use Rattle.pgn_tool.specs.declared.list.Stopped.{Stopped}
 use Rattle.pgn_tool.specs.declared.list.Stopped.TheVariants.{Refused, Unwritten}
 
@@ -82,15 +83,15 @@ pub record ListsNoMore (u : List ℕ) (before after : Option (List ℕ)) : Type 
   pub passes : (read list_profile (decided u)).fault ≡ None
   pub written : Appends before after (lines_of (decided u))
 
--- of the lines of the games that the bytes u have, a prefix is written, and not all
-pub record CutsLine (u : List ℕ) (before after : Option (List ℕ)) : Type 0 where
+-- of the lines of the games that these tokens finish, a prefix is written, and not all
+pub record CutsLine (tokens : List Token) (before after : Option (List ℕ)) : Type 0 where
   pub count : ℕ
-  pub short : count < length (list_text u)
-  pub front : Appends before after (take count (list_text u))
+  pub short : count < length (lines_of tokens)
+  pub front : Appends before after (take count (lines_of tokens))
 
 -- How a list stops: at the input's own fault, which its bytes before place 2^62 show; because a
 -- read failed after the bytes u; because the input has a byte at that place; or because a line
--- could not be written when the bytes u were read.
+-- could not be written of a game that the bytes read by then decide.
 pub data ListStops (left_old left_new : Option (List ℕ)) (before after : Option (List ℕ)) : Stopped → Type 0 where
   refused : (f : Fault) → IfSome left_old (λ s. IsRefused list_profile s f × IsListed s (Some f) before after)
       → ListStops left_old left_new before after (Refused f)
@@ -98,7 +99,7 @@ pub data ListStops (left_old left_new : Option (List ℕ)) (before after : Optio
       → ListStops left_old left_new before after (Refused (record { at = length u; reason = ReadFault }))
   too_long : (u rest : List ℕ) → Consumes left_old left_new (u ++ rest) → length u ≡ 2 ^ 62 → 0 < length rest → ListsNoMore u before after
       → ListStops left_old left_new before after (Refused (record { at = length u; reason = InputTooLong }))
-  unwritten : (u rest : List ℕ) → Consumes left_old left_new (u ++ rest) → CutsLine u before after → ListStops left_old left_new before after Unwritten
+  unwritten : (tokens : List Token) → Decides left_old left_new tokens → CutsLine tokens before after → ListStops left_old left_new before after Unwritten
 
 -- What the source has left is listed, up to its end. It has no byte at place 2^62.
 abbrev pub ListResult : Option (List ℕ) → Option (List ℕ) → Result Unit Stopped → Option (List ℕ) → Option (List ℕ) → Type 0

@@ -10,6 +10,7 @@ use Rattle.pgn_game.specs.declared.reason.Fault.{Fault}
 use Rattle.pgn_game.specs.Text.{game_text, text_of, torn}
 use Rattle.pgn_game.specs.Progress.{due, read}
 use Rattle.pgn_game.specs.ConverterCalls.{IsRefused}
+use Rattle.pgn_game.specs.Conversion.{Decides}
 use Rattle.pgn_tool.specs.declared.split.Unsplit.{Unsplit}
 use Rattle.pgn_tool.specs.declared.split.Unsplit.TheVariants.{Refused, NoMemory}
 use Rattle.pgn_tool.specs.ListLines.{list_profile}
@@ -78,14 +79,14 @@ abbrev pub StopsAt : ℕ → Unsplit → Type 0
 StopsAt place NoMemory = Unit {0}
 StopsAt place (Refused f) = f ≡ record { at = place; reason = WriteFault }
 
--- A file could not be made or written when the bytes u were read. The games before it have their
+-- A file could not be made or written for one of these tokens. The games before it have their
 -- files, and `text` is what had to be written of its own game up to the token at fault. What had to
 -- be written up to the tokens before is written: so it is the first token with text missing.
-pub record CutsFile (u : List ℕ) (why : Unsplit) (before after : Option (List FileStep)) : Type 0 where
+pub record CutsFile (tokens : List Token) (why : Unsplit) (before after : Option (List FileStep)) : Type 0 where
   pub front : List Token
   pub token : Token
   pub rest : List Token
-  pub tokens : tokens_of u ≡ front ++ token ∷ rest
+  pub cut : tokens ≡ front ++ token ∷ rest
   pub passes : (read list_profile (front ++ token ∷ [])).fault ≡ None
   pub stops : StopsAt token.at why
   pub text : List ℕ
@@ -95,7 +96,7 @@ pub record CutsFile (u : List ℕ) (why : Unsplit) (before after : Option (List 
 
 -- How a split stops: at the input's own fault, which its bytes before place 2^62 show; because a
 -- read failed behind the bytes u; because the byte at that place came; or because a file could not
--- be made or written when the bytes u were read.
+-- be made or written for one of the tokens that the bytes read by then decide.
 pub data SplitStops (left_old left_new : Option (List ℕ)) (before after : Option (List FileStep)) : Unsplit → Type 0 where
   rejected : (f : Fault) → IfSome left_old (λ s. IsRefused list_profile s f × IsSplit s f before after)
       → SplitStops left_old left_new before after (Refused f)
@@ -104,8 +105,8 @@ pub data SplitStops (left_old left_new : Option (List ℕ)) (before after : Opti
   too_long : (u rest : List ℕ) → Consumes left_old left_new (u ++ rest) → length u ≡ 2 ^ 62
       → 0 < length rest → SplitsNoMore u before after
       → SplitStops left_old left_new before after (Refused (record { at = length u; reason = InputTooLong }))
-  unwritten : (u : List ℕ) (why : Unsplit) → Consumes left_old left_new u
-      → CutsFile u why before after → SplitStops left_old left_new before after why
+  unwritten : (tokens : List Token) (why : Unsplit) → Decides left_old left_new tokens
+      → CutsFile tokens why before after → SplitStops left_old left_new before after why
 
 -- What the source has left is split, up to its end.
 abbrev pub SplitResult : Option (List ℕ) → Option (List ℕ) → Result Unit Unsplit
