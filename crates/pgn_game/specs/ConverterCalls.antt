@@ -186,7 +186,7 @@ pub record FedAll (p : Profile) (u : List ℕ) (b : Option ℕ) (given : List To
   pub gains : Gains p given tokens before after
 
 -- The used bytes end with a marker: it finished a game, and no token before it did; what they gain
--- was written. A byte at place 2^62 is never looked at.
+-- was written. The bytes before place 2^62 decide it.
 pub record FedGame (p : Profile) (u : List ℕ) (given : List Token) (piece : List ℕ) (used : ℕ) (new : Converter) (before after : Option (List ℕ)) : Type 0 where
   pub tokens : List Token
   pub marker : Token
@@ -195,6 +195,7 @@ pub record FedGame (p : Profile) (u : List ℕ) (given : List Token) (piece : Li
   pub at_limit : length (u ++ take used piece) ≡ 2 ^ 62
       → tokens ++ marker ∷ [] ≡ decided (u ++ take used piece)
   pub decided : IsDecided (u ++ take used piece) (drop used piece) (tokens ++ marker ∷ [])
+  pub next : AreNext (within_limit (u ++ piece)) (tokens ++ marker ∷ [])
   pub ends : EndsAt marker.kind marker.at (length u + used)
   pub no_game : (read p tokens).progress.games ≡ (read p given).progress.games
   pub one_game : (read p (tokens ++ marker ∷ [])).progress.games ≡ (read p given).progress.games ++ game ∷ []
