@@ -47,7 +47,7 @@ written_again p s gs t before after out ver h = search (rules, same_totals)
 slice_fails : (p : Profile) (s : List ℕ) (gs : List Game) (f : Fault) (before after : Option (List ℕ))
     → verdict p s ≡ totals (counted gs) → length s ≤ 2 ^ 62 → FailsOn p s before after f → SliceIsKept p gs (Err f) before after
 slice_fails p s gs _ before after ver short (conversion.FailsOn.refused f in_time h) = absurd (no_fault p s gs f ver h.0)
-slice_fails p s gs _ before after ver short (conversion.FailsOn.unwritten at stops) = refl
+slice_fails p s gs _ before after ver short (conversion.FailsOn.unwritten tokens at shown stops) = refl
 slice_fails p s gs _ before after ver short (conversion.FailsOn.too_long u rest e long some none) =
     absurd (let sum = ap length e in omega (arith, length-append u rest))
 
@@ -63,7 +63,7 @@ source_fails : (p : Profile) (s : List ℕ) (gs : List Game) (f : Fault) (left_o
 source_fails p s gs _ left_old left_new before after ver short left (conversion.Fails.refused f h) =
     absurd (no_fault p s gs f ver (some_text _ s _ left h).1.0)
 source_fails p s gs _ left_old left_new before after ver short left (conversion.Fails.unread u consumed few none) = inl refl
-source_fails p s gs _ left_old left_new before after ver short left (conversion.Fails.unwritten u at consumed stops) = inr refl
+source_fails p s gs _ left_old left_new before after ver short left (conversion.Fails.unwritten tokens at decided stops) = inr refl
 source_fails p s gs _ left_old left_new before after ver short left (conversion.Fails.too_long u rest consumed long some none) =
     absurd (let fits = consumed_fits left_old left_new s (u ++ rest) left consumed in omega (arith, length-append u rest))
 

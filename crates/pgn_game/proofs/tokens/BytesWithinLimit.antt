@@ -1,6 +1,7 @@
 -- The bytes of a text before place 2^62, and the tokens that they decide.
-use Rattle.pgn_game.proofs.Words.{Token, tokens_of, ◌≡◌, ℕ, ◌+◌, ◌^◌, ◌≤◌, List, [], ◌++◌, length, take, drop, refl, sym, ap, ◌∙◌, append_assoc, append-nil, arith, length-take, take_all, take-append-add, take-append-drop, AreNext, within_limit}
+use Rattle.pgn_game.proofs.Words.{Consumes, Option, Token, tokens_of, ◌≡◌, ℕ, ◌+◌, ◌^◌, ◌≤◌, List, [], ◌++◌, length, take, drop, refl, sym, ap, ◌∙◌, append_assoc, append-nil, arith, subst, length-take, take_all, take-append-add, take-append-drop, AreNext, within_limit}
 use Rattle.pgn_game.specs.ConverterCalls.{AreShown, so_far, at_end}
+use Rattle.pgn_game.specs.Conversion.{Decides}
 
 -- a short text is all within it
 pub all_within : (s : List ℕ) → length s ≤ 2 ^ 62 → within_limit s ≡ s
@@ -28,3 +29,14 @@ shown_begins s ts (at_end short rest cut) = (rest, cut)
 -- no token at all
 pub shown_none : (s : List ℕ) → AreShown s []
 shown_none s = so_far [] s refl (omega arith) (λ x. (tokens_of x, refl))
+
+-- a source decides the tokens that the bytes decide which it has given
+pub decides_by : (left_old left_new : Option (List ℕ)) (u : List ℕ) (ts : List Token)
+    → Consumes left_old left_new u → AreNext (within_limit u) ts → Decides left_old left_new ts
+decides_by left_old left_new u ts consumed next =
+    Decides.so_far (within_limit u) (drop (2 ^ 62) u) (subst (Consumes left_old left_new) (sym (take-append-drop (2 ^ 62) u)) consumed)
+    (omega (arith, length-take (2 ^ 62) u)) next
+
+-- no token is decided by all bytes
+pub none_next : (u : List ℕ) → AreNext u []
+none_next u x = (tokens_of (u ++ x), refl)

@@ -106,6 +106,7 @@ module _ (p : Profile) (known : IsKnown p) (u : List ℕ) (given : List Token) (
             stands = record { known = known; lexer = rw lexer met.stands.lexer; has_read = has_read };
             at_limit = met.stands.at_limit;
             decided = met.stands.decided;
+            next = met.next;
             not_finished = not_finished;
           });
           game = one.0;

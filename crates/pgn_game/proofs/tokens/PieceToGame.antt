@@ -86,6 +86,7 @@ module _ (p : Profile) (known : IsKnown p) (u : List ℕ) (b : Option ℕ) (give
           };
           at_limit = reads.at_limit;
           decided = reads.ends.decided;
+          next = reads.next;
           ends = reads.ends.ends;
           no_game = reads.meets.reads.no_game;
           one_game = one.1;

@@ -1,12 +1,12 @@
 -- Conversions of whole inputs.
 use Rattle.std.specs.Io.KnownBytes.{Keeps, IsAtEnd}
-use Rattle.pgn_game.proofs.Words.{Token, InputTooLong, Fault, Profile, ◌≡◌, ℕ, false, ◌^◌, ◌≤◌, List, [], ◌++◌, length, Option, None, Some, Result, Ok, Err, IfSome, sym, ap, subst, ◌∙◌, append-nil, append_assoc, map, sum, Consumes-nil, Consumes-trans, tokens_of, decided, plies_of, whole_plies, Gains, IsConverted, IsTotalled, MostProbes, ReadsNoMore, FailsOn, Fails, AfterEnd, AfterConversion, AfterSlice, verdict_in, Games, games_of, HaveRead, NextGame, NoGame, NextStops, ReadSoFar, Appends, Consumes, Totals, Read, read, due, refused as is_refused, totals, verdict, verdict_of, Converter, HasRead, Stands, Stops, refused_stop as refused, unwritten, StopsWriting, StopsIn, at_token, too_long, FedFault, FedWhole, ReadsUpTo, Finishes, rules, no_progress, inl, refl, within}
+use Rattle.pgn_game.proofs.Words.{Token, within_limit, InputTooLong, Fault, Profile, ◌≡◌, ℕ, false, ◌^◌, ◌≤◌, List, [], ◌++◌, length, Option, None, Some, Result, Ok, Err, IfSome, sym, ap, subst, ◌∙◌, append-nil, map, sum, Consumes-nil, Consumes-trans, tokens_of, decided, plies_of, whole_plies, Gains, IsConverted, IsTotalled, MostProbes, ReadsNoMore, FailsOn, Fails, AfterEnd, AfterConversion, AfterSlice, verdict_in, Games, games_of, HaveRead, NextGame, NoGame, NextStops, ReadSoFar, Appends, Consumes, Totals, Read, read, due, refused as is_refused, totals, verdict, verdict_of, Converter, HasRead, Stands, Stops, refused_stop as refused, unwritten, StopsIn, at_token, too_long, FedFault, FedWhole, ReadsUpTo, Finishes, rules, no_progress, inl, refl, within}
 use Rattle.pgn_game.specs.GamesCalls as games_calls
 use Rattle.pgn_game.specs.Conversion as conversion
 use Rattle.pgn_game.proofs.tokens.OneMoreToken.{torn-none, gains_none, gains_more, stops_more, stops_from}
 use Rattle.pgn_game.specs.ConverterCalls.{AreShown, IsRefused, at_end}
 use Rattle.pgn_game.proofs.tokens.AcceptedToConverter.{in_games}
-use Rattle.pgn_game.proofs.tokens.BytesWithinLimit.{all_shown, shown_begins, shown_by}
+use Rattle.pgn_game.proofs.tokens.BytesWithinLimit.{all_shown, decides_by, none_next, shown_begins, shown_by}
 
 pub verdict_passes : (r : Read) → r.fault ≡ None
     → verdict_of r ≡ totals (record { games = length r.progress.games; plies = sum (map plies_of r.progress.games) })
@@ -36,7 +36,7 @@ appended {p} {tokens} {a} {c} gains =
 pub none_read : {p : Profile} {c : Converter} {left : Option (List ℕ)} → Stands p c [] None []
     → c.is_finished ≡ false → HaveRead p left [] (games_of c []) []
 none_read stands not_finished =
-    within (record { used = []; bytes = refl; stands = stands; at_limit = λ h. refl; decided = inl refl; not_finished = not_finished })
+    within (record { used = []; bytes = refl; stands = stands; at_limit = λ h. refl; decided = inl refl; next = none_next (within_limit []); not_finished = not_finished })
 
 pub read_none : {p : Profile} {now : Games} (left : Option (List ℕ)) {o : Option (List ℕ)}
     → HaveRead p left [] now [] → ReadSoFar p left left now o o
@@ -76,10 +76,6 @@ refused_by s {tokens} shown fault gains =
 refused_at_end : {p : Profile} (s : List ℕ) {f : Fault} {a c : Option (List ℕ)} → length s ≤ 2 ^ 62
     → (read p (tokens_of s)).fault ≡ Some f → Gains p [] (tokens_of s) a c → IsRefused p s f × IsConverted p s (is_refused f) a c
 refused_at_end s short fault gains = refused_by s (at_end short [] (sym (append-nil (tokens_of s)))) fault gains
-
-further_writing : {p : Profile} {given tokens : List Token} (more : List Token) {at : ℕ} {a c : Option (List ℕ)}
-    → StopsWriting p given tokens at a c → StopsWriting p given (tokens ++ more) at a c
-further_writing more w = search (rules, append_assoc, appended)
 
 pub known_left : (o n : Option (List ℕ)) (u : List ℕ) (P : List ℕ → Type 0)
     → Consumes o n u → ((rest : List ℕ) → P (u ++ rest)) → IfSome o P
@@ -124,15 +120,18 @@ module _ (p : Profile) (left_old left left_new : Option (List ℕ)) (now : Games
           conversion.refused h (known_left left_old left_new (so.bytes ++ more) (λ s. IsRefused p s h × IsConverted p s (is_refused h) a d)
           (all more consumed) (λ rest. refused_by ((so.bytes ++ more) ++ rest) (shown_by _ (so.bytes ++ more) rest to.tokens refl to.next) fault gains))
       by_stops (unwritten at writing) =
-          let here = shown_begins (so.bytes ++ more) to.tokens (all_shown (so.bytes ++ more) to.tokens to.next) in
-          conversion.unwritten (so.bytes ++ more) at (all more consumed) (rw here.1 (further_writing here.0 writing))
+          conversion.unwritten to.tokens at (decides_by left_old left_new (so.bytes ++ more) to.tokens (all more consumed) to.next) writing
   games_stop (games_calls.at_end g more consumed end short to) = by_stops (stops_more so.gains to.stops)
     where
       by_stops : {h : Fault} → Stops p [] (tokens_of (so.bytes ++ more)) a d h → Fails p left_old left_new a d h
       by_stops (refused h fault gains) =
           conversion.refused h (known_whole left_old left_new (so.bytes ++ more) (λ s. IsRefused p s h × IsConverted p s (is_refused h) a d)
           (all more consumed) end (refused_at_end (so.bytes ++ more) short fault gains))
-      by_stops (unwritten at writing) = conversion.unwritten (so.bytes ++ more) at (all more consumed) writing
+      by_stops (unwritten at writing) =
+          let text = so.bytes ++ more in
+          conversion.unwritten (tokens_of text) at
+          (conversion.Decides.at_end text (all more consumed) short (known_whole left_old left_new text (λ s. s ≡ text) (all more consumed) end refl)
+          ([], sym (append-nil (tokens_of text)))) writing
   games_stop (games_calls.unread more consumed short none) =
       conversion.unread (so.bytes ++ more) (all more consumed) short
       (no_more none.reads.decided none.reads.passes (gains_more so.gains none.reads.gains))
@@ -150,9 +149,7 @@ slice_stops p {text} a c (at_token g fed) = by_stops fed.stops
     by_stops (refused h fault gains) =
         let refuses = refused_by text (all_shown text fed.tokens fed.next) fault gains in
         conversion.FailsOn.refused h refuses.0 refuses.1
-    by_stops (unwritten at writing) =
-        let here = shown_begins text fed.tokens (all_shown text fed.tokens fed.next) in
-        conversion.FailsOn.unwritten at (rw here.1 (further_writing here.0 writing))
+    by_stops (unwritten at writing) = conversion.FailsOn.unwritten fed.tokens at (all_shown text fed.tokens fed.next) writing
 slice_stops p {text} a c (too_long front rest cut place some before) =
     subst (λ n. FailsOn p text a c (record { at = n; reason = InputTooLong })) place
     (conversion.FailsOn.too_long front rest cut place some (no_more before.decided before.passes before.gains))
@@ -167,4 +164,5 @@ slice_ends {p} {text} {a} d (Err f) fed short stops = by_stops (stops_more fed.g
     by_stops (refused h fault gains) =
         let refuses = refused_at_end text short fault gains in
         conversion.FailsOn.refused h refuses.0 refuses.1
-    by_stops (unwritten at writing) = conversion.FailsOn.unwritten at writing
+    by_stops (unwritten at writing) =
+        conversion.FailsOn.unwritten (tokens_of text) at (at_end short [] (sym (append-nil (tokens_of text)))) writing

@@ -44,7 +44,7 @@ come_cut : (left_old left_now : Option (List ℕ)) (r : Reading) (ts : List Toke
 come_cut left_old left_now r ts h = by_end r.has_ended h.stands
   where
     by_end : (e : Bool) → StandsIn e r h.bytes ts left_old → (rest : List Token) × (tokens_of h.bytes ≡ ts ++ rest)
-    by_end false stands = (coming r.converter.lexer r.unused, ap tokens_of stands.bytes ∙ stands.lexer.tokens r.unused (follows_own r.unused))
+    by_end false (stands, next) = (coming r.converter.lexer r.unused, ap tokens_of stands.bytes ∙ stands.lexer.tokens r.unused (follows_own r.unused))
     by_end true (left, count, short, text_is) = (coming r.converter.lexer [], left)
 
 -- ---- the first reading
@@ -139,14 +139,16 @@ come_still left_old left_now r s ts lexer unused ended h =
     }
   where
     by_end : (e : Bool) → StandsIn e r h.bytes ts left_old → StandsIn e s h.bytes ts left_old
-    by_end false stands =
-        record {
-          used = stands.used;
-          bytes = stands.bytes ∙ ap (λ (l : List ℕ). stands.used ++ l) (sym unused);
-          lexer = rw (lexer, unused) stands.lexer;
-          at_limit = stands.at_limit;
-          decided = rw unused stands.decided;
-        }
+    by_end false (stands, next) = (
+      record {
+        used = stands.used;
+        bytes = stands.bytes ∙ ap (λ (l : List ℕ). stands.used ++ l) (sym unused);
+        lexer = rw (lexer, unused) stands.lexer;
+        at_limit = stands.at_limit;
+        decided = rw unused stands.decided;
+      },
+      next,
+    )
     by_end true (left, count, short, text_is) = (rw lexer left, rw lexer count, short, text_is)
 
 -- The marker that one of the readings has met is taken.

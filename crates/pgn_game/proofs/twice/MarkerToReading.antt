@@ -2,13 +2,13 @@
 -- ended.
 use Rattle.pgn_lexer.specs.declared.partial_token.Mode.{Mode}
 use Rattle.pgn_game.specs.declared.marker.Mark.{Mark as CodeMark}
-use Rattle.pgn_game.proofs.Words.{Token, InputTooLong, Fault, Profile, ◌≡◌, ℕ, ◌^◌, ◌≤◌, arith, false, true, List, [], ◌∷◌, ◌++◌, length, Option, None, Some, Result, Ok, Err, IfOk, IfSome, IsStill, CountsDevices, CountsFault, refl, sym, ap, subst, ◌∙◌, append_assoc, append-nil, Consumes-nil, Consumes-trans, Consumes, Stands, inl, takes_the_marker, with_missing, Device, tokens_of, decided, Standing, coming, HasLeft, Follows, first, Converter, ReadsMore, as_written, StandsWithin, Reading, games_of}
+use Rattle.pgn_game.proofs.Words.{Token, within_limit, InputTooLong, Fault, Profile, ◌≡◌, ℕ, ◌^◌, ◌≤◌, arith, false, true, List, [], ◌∷◌, ◌++◌, length, Option, None, Some, Result, Ok, Err, IfOk, IfSome, IsStill, CountsDevices, CountsFault, refl, sym, ap, subst, ◌∙◌, append_assoc, append-nil, Consumes-nil, Consumes-trans, Consumes, Stands, inl, takes_the_marker, with_missing, Device, tokens_of, decided, Standing, coming, HasLeft, Follows, first, Converter, ReadsMore, as_written, StandsWithin, Reading, games_of}
 use Rattle.pgn_game.specs.ConverterCalls.{AreShown, KeepsFault, at_end}
 use Rattle.pgn_game.specs.ConverterSteps.{AfterEndToMarker, EndsToMarker, IsReady, is_end_of_input, taking_marker}
 use Rattle.pgn_game.specs.GamesSteps.{AfterToMarker, CountsReading, StopsBefore, UsesAll}
 use Rattle.pgn_game.specs.GamesSteps as games_steps
 use Rattle.pgn_game.specs.Readings.{AfterMarker, IsReadyToEnd, HasGiven, ReadingStops, ReadFails, at_read, at_token, StandsIn}
-use Rattle.pgn_game.proofs.tokens.BytesWithinLimit.{all_shown, shown_begins, shown_by, shown_none}
+use Rattle.pgn_game.proofs.tokens.BytesWithinLimit.{all_shown, none_next, shown_begins, shown_by, shown_none}
 use Rattle.pgn_game.proofs.tokens.LastTokens.{IsLeft, glyph, left_in, none, symbol}
 use Rattle.pgn_game.proofs.tokens.MissingCountsAs.{reads_taking}
 use Rattle.pgn_game.proofs.tokens.MarkerToGame.{meets_more, not_taken_more, reads_more}
@@ -42,7 +42,7 @@ given_none p c d unused left stands is empty =
       come = record {
         bytes = [];
         consumed = Consumes-nil left;
-        stands = record { used = []; bytes = refl; lexer = stands.lexer; at_limit = λ h. refl; decided = inl refl };
+        stands = (record { used = []; bytes = refl; lexer = stands.lexer; at_limit = λ h. refl; decided = inl refl }, none_next (within_limit []));
         shown = all_shown_none left;
       };
       has_read = reads_taking p c stands.has_read;
@@ -51,7 +51,7 @@ given_none p c d unused left stands is empty =
 -- where a reading stands, by whether its source has ended
 pub within_source : (q : Profile) (left_old left : Option (List ℕ)) (r : Reading) (given : List Token) (h : HasGiven q left_old left r given)
     → r.has_ended ≡ false → StandsWithin h.come.bytes (games_of r.converter r.unused) given
-within_source q left_old left r given h is = subst (λ e. StandsIn e r h.come.bytes given left_old) is h.come.stands
+within_source q left_old left r given h is = (subst (λ e. StandsIn e r h.come.bytes given left_old) is h.come.stands).0
 
 pub behind_source : (q : Profile) (left_old left : Option (List ℕ)) (r : Reading) (given : List Token) (h : HasGiven q left_old left r given)
     → r.has_ended ≡ true
@@ -117,7 +117,7 @@ module _ (q : Profile) (left_old left left_new : Option (List ℕ)) (given : Lis
         come = record {
           bytes = u ++ h.more;
           consumed = all h.more h.consumed;
-          stands = h.stands;
+          stands = (h.stands, h.next);
           shown = known_left left_old left_new (u ++ h.more) (λ s. AreShown s (h.tokens ++ h.token ∷ [])) (all h.more h.consumed)
               (λ rest. shown_by _ (u ++ h.more) rest (h.tokens ++ h.token ∷ []) refl h.next);
         };

@@ -6,7 +6,8 @@ use Rattle.pgn_game.specs.declared.marker.Mark.{Mark as CodeMark}
 use Rattle.pgn_game.specs.Text.{game_text, text_of, torn}
 use Rattle.pgn_game.specs.Progress.{Next, going, whole, next, Progress, progress_with, progress_after, Read, read, refused as is_refused, totals}
 use Rattle.pgn_game.specs.Progress.{verdict_of}
-use Rattle.pgn_game.specs.CheckedConversion.{AreConverted, AreRefused, AreTotalled, IsTokenPrefix, Decides, HasTaken, MatchesAllMarks, FirstStops, SecondStops}
+use Rattle.pgn_game.specs.Conversion.{Decides, IsTokenPrefix}
+use Rattle.pgn_game.specs.CheckedConversion.{AreConverted, AreRefused, AreTotalled, HasTaken, MatchesAllMarks, FirstStops, SecondStops}
 use Rattle.pgn_game.specs.CheckedConversion.{WriteStops, TwoReadingsFail, TwoReadingsConvert}
 use Rattle.pgn_game.specs.Readings.{AllRead, ComesNext, FirstFails, GameRead, GameWritten, HasCome, HasGiven, ReadFails, SecondFails, StandsIn, WhyFirst, WhySecond, as_changed}
 use Rattle.pgn_game.specs.Readings as readings
@@ -14,8 +15,8 @@ use Rattle.pgn_game.proofs.EqualReadings.{after_marks, marks_test, after_change,
 use Rattle.pgn_game.proofs.tokens.NextGrows.{next_is}
 use Rattle.pgn_game.proofs.tokens.OneMoreToken.{read-refuses, text_of-snoc}
 use Rattle.pgn_game.specs.ConverterCalls.{AreShown}
-use Rattle.pgn_game.proofs.tokens.AcceptedToConverter.{follows_first, in_games}
-use Rattle.pgn_game.proofs.tokens.BytesWithinLimit.{shown_begins}
+use Rattle.pgn_game.proofs.tokens.AcceptedToConverter.{in_games}
+use Rattle.pgn_game.proofs.tokens.BytesWithinLimit.{decides_by, shown_begins}
 use Rattle.pgn_game.proofs.twice.GamesOfReadings.{begins}
 use Rattle.pgn_game.proofs.twice.MarksInTurn.{matched_mark, not_changed, both_read}
 
@@ -30,18 +31,12 @@ abbrev Begins : List Token → List ℕ → Type 0
 Begins given s = IsTokenPrefix given (tokens_of s)
 
 -- the bytes of a source that were read decide the tokens that the reading has given
-decides : (r : Reading) (given : List Token) (d : Device) → HasCome d.before d.after r given → Decides d given
+decides : (r : Reading) (given : List Token) (d : Device) → HasCome d.before d.after r given → Decides d.before d.after given
 decides r given d h = by_end r.has_ended h.stands
   where
-    by_end : (e : Bool) → StandsIn e r h.bytes given d.before → Decides d given
-    by_end false stands =
-        Decides.so_far h.bytes h.consumed
-        (λ rest. (
-          coming r.converter.lexer (r.unused ++ rest),
-          ap tokens_of (ap (λ (l : List ℕ). l ++ rest) stands.bytes ∙ append_assoc stands.used r.unused rest)
-              ∙ stands.lexer.tokens (r.unused ++ rest) (follows_first r.unused rest),
-        ))
-    by_end true (left, count, short, text_is) = Decides.at_end h.bytes h.consumed text_is (coming r.converter.lexer [], left)
+    by_end : (e : Bool) → StandsIn e r h.bytes given d.before → Decides d.before d.after given
+    by_end false (stands, next) = decides_by d.before d.after h.bytes given h.consumed next
+    by_end true (left, count, short, text_is) = Decides.at_end h.bytes h.consumed short text_is (coming r.converter.lexer [], left)
 
 pub both_none : (q : Profile) (first second : Option (List ℕ)) (a b : Reading) (o : Option (List ℕ))
     → HasGiven q first first a [] → HasGiven q second second b [] → BothSoFar q first first second second a b o o
@@ -136,13 +131,18 @@ module _ (q : Profile) (first second sink : Device) (first_now : Option (List �
       ap (λ n. totals (record { games = n; plies = sum (map plies_of c.games) })) (sym (games ∙ h.games))
       ∙ ap (λ n. totals (record { games = t.games; plies = n })) (sym (plies ∙ h.plies)) in
       both_known first.before second.before (λ s. (length s ≤ 2 ^ 62) × (tokens_of s ≡ tokens))
-      (Begins so.second_tokens) (λ s r. AreTotalled q s r t sink) reads.whole second_begins
-      (λ s r whole y.
+      (λ r. AreShown r so.second_tokens) (λ s r. AreTotalled q s r t sink) reads.whole so.second_stands.has_given.come.shown
+      (λ s r whole second_shown.
       let x = whole.1 in
+      let y = shown_begins r so.second_tokens second_shown in
       let is = last_mark (tokens_of s) (tokens_of r) tokens [] y.0 (x ∙ sym (append-nil tokens)) y.1
       (reads.marked so.marks so.marked) refl in
       record {
         short = whole.0;
+        us = so.second_tokens;
+        second_shown = second_shown;
+        no_mark_left = ap (λ (f : Comparison). f.marks_left) (last_mark (tokens_of s) so.second_tokens tokens [] []
+            (x ∙ sym (append-nil tokens)) (sym (append-nil so.second_tokens)) (reads.marked so.marks so.marked) refl);
         converted = subst (λ v. AreConverted q s r v sink) same
             (converted s r None is (ap (λ (ts : List Token). (read q ts).fault) x ∙ reads.has_read.passes));
         probes = record {
@@ -251,7 +251,7 @@ module _ (q : Profile) (first second sink : Device) (first_now second_now mid : 
   abbrev behind : List Token → List Mark
   behind vs = marks_from q (read q first_tokens).progress vs
 
-  first_decides : Decides first first_tokens
+  first_decides : Decides first.before first.after first_tokens
   first_decides = decides new_a first_tokens first reads.stands.has_given.come
 
   goes : (xs us vs ws : List Token) → xs ≡ first_tokens ++ vs → us ≡ tokens ++ ws
@@ -294,8 +294,8 @@ module _ (q : Profile) (first second sink : Device) (first_now second_now mid : 
   -- a write failed at a token
   stops_at : (t : Token) → is_changed q mark c.part t ≡ false → (n : ℕ) → n < length (gain under c.part t.kind)
       → Appends writes.mid sink.after (take n (gain under c.part t.kind))
-      → (r : List ℕ) → (us : List Token) × (tokens_of r ≡ tokens ++ t ∷ us) → WriteStops q first (tokens_of r) t.at sink
-  stops_at t same n short wrote r y =
+      → (r : List ℕ) → AreShown r (tokens ++ t ∷ []) → WriteStops q first r t.at sink
+  stops_at t same n short wrote r shown =
       let games : List ℕ = text_of q c.games in
       let before_it : List ℕ = torn under c.part in
       let more : List ℕ = gain under c.part t.kind in
@@ -316,8 +316,7 @@ module _ (q : Profile) (first second sink : Device) (first_now second_now mid : 
         decided_by = first_decides;
         front = tokens;
         token = t;
-        rest = y.0;
-        cut = y.1;
+        shown = shown;
         place = refl;
         fault = ap (λ (f : Comparison). f.fault) at_token;
         count = length (games ++ before_it) + n;
@@ -366,8 +365,5 @@ module _ (q : Profile) (first second sink : Device) (first_now second_now mid : 
       by_why g counts (readings.unwritten t comes same (n, short, wrote)) =
           TwoReadingsFail.unwritten t.at
           (IfSome_then second.before {P = λ r. AreShown r (tokens ++ t ∷ [])}
-          {Q = λ r. WriteStops q first (tokens_of r) t.at sink} comes
-          (λ r shown.
-          let y = shown_begins r (tokens ++ t ∷ []) shown in
-          stops_at t same n short wrote r (y.0, y.1 ∙ append_assoc tokens (t ∷ []) y.0)))
+          {Q = λ r. WriteStops q first r t.at sink} comes (stops_at t same n short wrote))
       by_why g counts (readings.unread e fails wrote) = second_unread fails counts wrote
