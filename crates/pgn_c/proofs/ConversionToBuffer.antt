@@ -3,7 +3,7 @@ use Rattle.pgn_c.proofs.Words.{◌≡◌, ℕ, ◌<◌, ◌≤◌, List, [], ◌
 use Rattle.pgn_lexer.specs.Decided.{decided}
 use Rattle.pgn_lexer.specs.Laws.{DecidedIsPrefix}
 use Rattle.pgn_game.specs.declared.conversion.Totals.{Totals}
-use Rattle.pgn_game.specs.ConverterCalls.{StopsWriting}
+use Rattle.pgn_game.specs.ConverterCalls.{AreShown, StopsWriting}
 use Rattle.pgn_game.specs.Laws.{DueGrows, IsPrefix}
 use Rattle.pgn_game.specs.Conversion.{AfterSlice, FailsOn, refused, unwritten, too_long, CountsSink, CountsWriting}
 
@@ -33,6 +33,21 @@ before_full p nothing tokens at written grows stops =
           ∙ more.1 ∙ ap (λ l. l ++ more.0) (stops.due_for ∙ ap (λ l. l ++ stops.text) nothing),
     ))
 
+-- a text begins with the tokens that it shows
+begins : (s : List ℕ) (ts : List Token) → AreShown s ts → (rest : List Token) × (tokens_of s ≡ ts ++ rest)
+begins s ts (AreShown.so_far front rest is short next) = ((next rest).0, ap tokens_of is ∙ (next rest).1)
+begins s ts (AreShown.at_end short rest cut) = (rest, cut)
+
+full_in_text : (p : Profile) → due p [] ≡ [] → (text : List ℕ) (tokens : List Token) (at : ℕ) (written : List ℕ) → DueGrows
+    → AreShown text tokens → StopsWriting p [] tokens at (Some []) (Some written) → IsPrefix written (output p text)
+full_in_text p nothing text tokens at written grows shown stops =
+    let here = begins text tokens shown in
+    let front = before_full p nothing tokens at written grows stops in
+    let more = grows p tokens here.0 in (
+      front.0 ++ more.0,
+      ap (due p) here.1 ∙ more.1 ∙ ap (λ l. l ++ more.0) front.1 ∙ append_assoc written front.0 more.0,
+    )
+
 before_limit : (p : Profile) (u rest : List ℕ) → DueGrows → DecidedIsPrefix → IsPrefix (due p (decided u)) (output p (u ++ rest))
 before_limit p u rest grows prefix =
     let more = prefix u rest in
@@ -42,7 +57,7 @@ before_limit p u rest grows prefix =
 front_on_fault : (p : Profile) → due p [] ≡ [] → (text written : List ℕ) (f : Fault) → DueGrows → DecidedIsPrefix
     → FailsOn p text (Some []) (Some written) f → IsPrefix written (output p text)
 front_on_fault p nothing text written _ grows prefix (refused f in_time converted) = all_of _ _ converted.1
-front_on_fault p nothing text written _ grows prefix (unwritten at stops) = before_full p nothing (tokens_of text) at written grows stops
+front_on_fault p nothing text written _ grows prefix (unwritten tokens at shown stops) = full_in_text p nothing text tokens at written grows shown stops
 front_on_fault p nothing text written _ grows prefix (too_long u rest is long more reads) =
     subst (λ l. IsPrefix l (output p text)) (sym reads.appended)
     (subst (λ s. IsPrefix (due p (decided u)) (output p s)) (sym is) (before_limit p u rest grows prefix))

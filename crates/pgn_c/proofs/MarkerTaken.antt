@@ -28,7 +28,7 @@ module _ (law : MissingResults) (mode : Mode) (marker : Marker) where
           at = is.at;
           marker = is.marker;
           game = is.game;
-          first = is.first;
+          shown = is.shown;
           passes = ap (λ (r : Read). r.fault) both.same ∙ is.passes;
           one_game = games;
           is_marker = is.is_marker;

@@ -1,5 +1,6 @@
 -- What a conversion of one game finds, from the calls of the converter.
 use Rattle.pgn_c.proofs.Words.{◌≡◌, ℕ, ◌+◌, ◌-◌, ◌^◌, ◌<◌, ◌≤◌, Bool, true, false, List, [], ◌∷◌, ◌++◌, length, take, drop, Option, None, Some, refl, sym, ap, subst, ◌∙◌, append-nil, append_assoc, length-append, arith, bytes_eq, codes, IsTrue, length-take-le, take-append-drop, take_at, bytes_eq-Decides, take-append-add, Kind, Token, EndsAt, tokens_of, Marker, WhiteWins, BlackWins, Draw, Unknown, Mode, InputTooLong, Fault, marker_text, Profile, known_result, is_score, marker_of, game_text, text_of, read, due, games_read, FinishesGame, PgnGame, AreKnown, NextOf, fault_result, game_result, nothing, profile_counting, status_for}
+use Rattle.std.proofs.Common.{length-take}
 use Rattle.std.proofs.KnownBytes.{Appends-trans}
 use Rattle.std.specs.Io.KnownBytes.{Appends}
 use Rattle.pgn_lexer.specs.Standing.{coming}
@@ -8,7 +9,7 @@ use Rattle.pgn_game.specs.Pairs.{value_of}
 use Rattle.pgn_game.specs.TagSection.{exported}
 use Rattle.pgn_game.specs.Game.{Game}
 use Rattle.pgn_game.specs.Due.{Gains}
-use Rattle.pgn_game.specs.ConverterCalls.{Converter, FinishedGame, finished_game_of, finished_game_value, IsLast, Stands, StopsWriting, Stops, refused, unwritten, FedAll, FedGame, FedToFault, within_limit, StopsIn, at_token, too_long, Finishes, FinishesToFault, games_before, position_at_stop, refused_position, reported_position}
+use Rattle.pgn_game.specs.ConverterCalls.{AreShown, Converter, FinishedGame, finished_game_of, finished_game_value, IsLast, Stands, StopsWriting, Stops, refused, unwritten, FedAll, FedGame, FedToFault, within_limit, StopsIn, at_token, too_long, Finishes, FinishesToFault, games_before, position_at_stop, refused_position, reported_position}
 use Rattle.pgn_game.specs.GameEnds.{GamesEndByMarker, TextsEndBehindMarker, TextsEndBetweenGames}
 
 -- ---- a marker
@@ -63,6 +64,12 @@ writing_more p x y tokens at a b c first more =
       short = omega (arith, more.short, length-append first.text more.text);
       appended = subst (Appends a c) (sym (take-append-add first.text more.text more.count)) (Appends-trans a b c _ _ first.appended more.appended);
     }
+
+-- ---- what the bytes before place 2^62 show
+
+shown_within : (s : List ℕ) (ts : List Token) → AreKnown (within_limit s) ts → AreShown s ts
+shown_within s ts known =
+    AreShown.so_far (within_limit s) (drop (2 ^ 62) s) (sym (take-append-drop (2 ^ 62) s)) (omega (arith, length-take (2 ^ 62) s)) known
 
 -- ---- the converter
 
@@ -144,11 +151,7 @@ module _ (mode : Mode) (missing : Marker) (u piece : List ℕ) (before : Option 
           at = fed.marker;
           marker = mark.marker;
           game = fed.game;
-          first = (
-            coming new.lexer (drop used piece),
-            ap tokens_of parts ∙ fed.stands.lexer.tokens (drop used piece) (own (drop used piece))
-                ∙ append_assoc fed.tokens (fed.marker ∷ []) (coming new.lexer (drop used piece)),
-          );
+          shown = shown_within s ts fed.next;
           none_before = fed.no_game;
           passes = fed.stands.has_read.passes;
           one_game = fed.one_game;
@@ -159,10 +162,6 @@ module _ (mode : Mode) (missing : Marker) (u piece : List ℕ) (before : Option 
           is_result = is ∙ ap (λ m. game_result fed.game mark.marker fed.marker.at m) (sym end);
         })
       where
-        own : (bs : List ℕ) → Follows (first bs) bs
-        own [] = tt
-        own (b ∷ bs) = refl
-
         by_rest : (rest : List ℕ) → drop used piece ≡ rest → s ≡ (u ++ take used piece) ++ drop used piece
             → length (u ++ take used piece) ≡ n → result.end ≡ n → result.end < length s → (more : List ℕ)
             → (later : List Token) × (tokens_of (take (result.end + 1) s ++ more) ≡ (fed.tokens ++ fed.marker ∷ []) ++ later)
@@ -206,7 +205,7 @@ module _ (mode : Mode) (missing : Marker) (u piece : List ℕ) (before : Option 
             NextOf.full (record {
               at = at;
               tokens = to.fed.tokens;
-              first = let all = known (drop (2 ^ 62) s) in (all.0, ap tokens_of (sym (take-append-drop (2 ^ 62) s)) ∙ all.1);
+              shown = shown_within s to.fed.tokens known;
               stops = writing;
               no_game = none;
               is_result = is;
@@ -233,6 +232,10 @@ module _ (mode : Mode) (missing : Marker) (u piece : List ℕ) (before : Option 
       stands : Stands p mid s None fed.tokens
       stands = subst (λ b. Stands p mid s b fed.tokens) none_still fed.stands
 
+      -- it has no byte at place 2^62
+      all_short : mid.lexer.count ≤ 2 ^ 62 → length s ≤ 2 ^ 62
+      all_short few = omega (arith, few, stands.lexer.count)
+
       known : AreKnown s fed.tokens
       known more = (coming mid.lexer more, stands.lexer.tokens more tt)
 
@@ -242,9 +245,9 @@ module _ (mode : Mode) (missing : Marker) (u piece : List ℕ) (before : Option 
           subst (Appends before after) (sym (gains.due_for ∙ ap (λ l. l ++ gains.text) fed.gains.due_for))
           (Appends-trans before middle after _ _ fed.gains.appended gains.appended)
 
-      pub game_at_end : (new : Converter) (n : ℕ) → TextsEndBehindMarker → n ≡ length s
+      pub game_at_end : (new : Converter) (n : ℕ) → TextsEndBehindMarker → mid.lexer.count ≤ 2 ^ 62 → n ≡ length s
           → Finishes p s fed.tokens new true middle after → Answered new n result → NextOf p s piece result before after
-      game_at_end new n law count fin answer =
+      game_at_end new n law few count fin answer =
           let last = law p mid s fed.tokens stands (fin.game.0 refl) in
           let game = last.finishes.game in
           let ends_by = laws p fed.tokens last.marker last.finishes in
@@ -266,7 +269,7 @@ module _ (mode : Mode) (missing : Marker) (u piece : List ℕ) (before : Option 
             at = last.marker;
             marker = mark.marker;
             game = game;
-            first = (_, last.tokens);
+            shown = AreShown.at_end (all_short few) _ (last.tokens ∙ sym (append_assoc fed.tokens (last.marker ∷ []) _));
             none_before = fed.no_game;
             passes = last.finishes.passes;
             one_game = one;
@@ -277,10 +280,6 @@ module _ (mode : Mode) (missing : Marker) (u piece : List ℕ) (before : Option 
                 (whole_of fin.has_read.passes ∙ ap (text_of p) (last.same ∙ one) ∙ append-nil (game_text p game)) (all_due fin.gains);
             is_result = is ∙ ap (λ m. game_result game mark.marker last.marker.at m) (sym end);
           })
-
-      -- it has no byte at place 2^62
-      all_short : mid.lexer.count ≤ 2 ^ 62 → length s ≤ 2 ^ 62
-      all_short few = omega (arith, few, stands.lexer.count)
 
       pub none_at_end : (new : Converter) → mid.lexer.count ≤ 2 ^ 62 → Finishes p s fed.tokens new false middle after
           → result ≡ nothing 4 → NextOf p s piece result before after
@@ -327,7 +326,7 @@ module _ (mode : Mode) (missing : Marker) (u piece : List ℕ) (before : Option 
               NextOf.full (record {
                 at = at;
                 tokens = tokens_of s;
-                first = ([], sym (append-nil (tokens_of s)));
+                shown = AreShown.at_end (all_short few) [] (sym (append-nil (tokens_of s)));
                 stops = writing_more p [] fed.tokens (tokens_of s) at before middle after fed.gains writing;
                 no_game = none;
                 is_result = is;

@@ -24,6 +24,7 @@ returns-in-Ok-true-clause-next g c =
     (game_at_end c.args.mode c.args.missing _ _ _ c.games_end_by_marker.ensures
     c.texts_end_between_games.ensures _ _ c.feed.new.self _ fed c.finish.new.self _
     c.texts_end_behind_marker.ensures
+    (rw (c.in-Ok-All.is ∙ ap Ok c.in-Ok-All.field-0-is) at c.feed.ensures.short)
     (omega (
       arith,
       begun.count,
