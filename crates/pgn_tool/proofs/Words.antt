@@ -10,8 +10,8 @@ pub use Rattle.std.specs.Global.{Global}
 pub use Rattle.std.specs.Io.KnownBytes.{Appends, Consumes, IsAtEnd, Keeps, WriteAppends, append_known}
 pub use Rattle.std.specs.Prelude.{Err, IfOk, Ok, OnOk, String, codes, if◌then◌else◌, is_ok, option_map, string_bytes}
 pub use Rattle.pgn_arguments.specs.declared.arguments.Task.TheVariants.{Export, Split}
-pub use Rattle.pgn_game.specs.CheckedConversion.{AreConverted, CountsThree, Decides, FirstStops, HasTaken, IsTokenPrefix, OneFails, SecondStops, TwoReadingsConvert, TwoReadingsFail, WriteStops, first_too_long, first_unread, second_too_long, second_unread, unwritten}
-pub use Rattle.pgn_game.specs.Conversion.{AfterConversion, CountsDevices, Fails, IsConverted}
+pub use Rattle.pgn_game.specs.CheckedConversion.{AreConverted, CountsThree, FirstStops, HasTaken, OneFails, SecondStops, TwoReadingsConvert, TwoReadingsFail, WriteStops, first_too_long, first_unread, second_too_long, second_unread, unwritten}
+pub use Rattle.pgn_game.specs.Conversion.{AfterConversion, CountsDevices, Decides, Fails, IsConverted, IsTokenPrefix}
 pub use Rattle.pgn_game.specs.ConverterCalls.{AreNext, FinishedGame, HasRead, Stops, StopsWriting, games_before, profile_of}
 pub use Rattle.pgn_game.specs.EqualReadings.{EqualReadings, InterruptedReadings}
 pub use Rattle.pgn_game.specs.FaultTable.{Row, first_holding, result_for, rows}

@@ -1,10 +1,8 @@
 -- Games listed one by one.
-use Rattle.pgn_tool.proofs.Words.{◌≡◌, ℕ, ◌+◌, ◌^◌, ◌≤◌, List, [], ◌∷◌, ◌++◌, drop, length, length-take, take-append-drop, Option, None, Some, IfSome, refl, sym, ap, subst, ◌∙◌, append-nil, append_assoc, length-append, arith, Appends, Consumes, IsAtEnd, Appends-trans, Consumes-trans, AppendsFront, Token, tokens_of, InputTooLong, Fault, Game, Read, no_progress, read, HasRead, CountsDevices, Games, HaveRead, within, at_end, NextGame, NoGame, NextStops, ReadsNoGame, IsListed, ListsNoMore, ListStops, game_line, line_just_finished, lines_from, lines_of, list_profile, list_text, too_long, unread, ListedSoFar, Refused, Unwritten, Consumes-whole, Stops, games_before, AreNext}
+use Rattle.pgn_tool.proofs.Words.{◌≡◌, ℕ, ◌+◌, ◌^◌, ◌≤◌, List, [], ◌∷◌, ◌++◌, drop, length, length-take, take-append-drop, Option, None, Some, IfSome, refl, sym, ap, subst, ◌∙◌, append-nil, append_assoc, length-append, arith, Appends, Consumes, IsAtEnd, Appends-trans, Consumes-trans, AppendsFront, Token, tokens_of, InputTooLong, Fault, Game, Read, no_progress, read, HasRead, CountsDevices, Games, HaveRead, within, at_end, NextGame, NoGame, NextStops, ReadsNoGame, IsListed, ListsNoMore, ListStops, game_line, line_just_finished, lines_from, lines_of, list_profile, too_long, unread, Decides, ListedSoFar, Refused, Unwritten, Consumes-whole, Stops, games_before, AreNext}
 use Rattle.pgn_game.specs.ConverterCalls.{AreShown, IsRefused, so_far, within_limit}
-use Rattle.pgn_lexer.specs.Standing.{coming}
-use Rattle.pgn_lexer.specs.Stands.{Follows, first}
-use Rattle.pgn_tool.proofs.runs.PartsOfText.{front_after, front_within}
-use Rattle.pgn_tool.proofs.runs.TokensInTwoParts.{games_grow, read_stops}
+use Rattle.pgn_tool.proofs.runs.PartsOfText.{front_after}
+use Rattle.pgn_tool.proofs.runs.TokensInTwoParts.{read_stops}
 
 -- ---- lines
 
@@ -16,21 +14,27 @@ lines_two n (g ∷ gs) hs =
 
 -- ---- what was read
 
-own_follows : (xs : List ℕ) → Follows (first xs) xs
-own_follows [] = tt
-own_follows (x ∷ xs) = refl
-
 pub has_read_of : (left : Option (List ℕ)) (u : List ℕ) (games : Games) (given : List Token)
     → HaveRead list_profile left u games given → HasRead list_profile games.converter given
 has_read_of left u games given (within on) = on.stands.has_read
 has_read_of left u games given (at_end all) = all.has_read
 
--- the tokens of the bytes so far begin with those read
-tokens_so_far : (left : Option (List ℕ)) (u : List ℕ) (games : Games) (given : List Token) → HaveRead list_profile left u games given
-    → (rest : List Token) × (tokens_of u ≡ given ++ rest)
-tokens_so_far left u games given (within on) =
-    (coming games.converter.lexer games.unused, ap tokens_of on.bytes ∙ on.stands.lexer.tokens games.unused (own_follows games.unused))
-tokens_so_far left u games given (at_end all) = ([], sym all.whole ∙ sym (append-nil given))
+-- the bytes so far decide these tokens
+pub decides_at_token : (o n : Option (List ℕ)) (u : List ℕ) (ts : List Token) → Consumes o n u → AreNext (within_limit u) ts → Decides o n ts
+decides_at_token o n u ts consumed next =
+    Decides.so_far (within_limit u) (drop (2 ^ 62) u) (subst (Consumes o n) (sym (take-append-drop (2 ^ 62) u)) consumed)
+    (omega (arith, length-take (2 ^ 62) u)) next
+
+-- the source has ended
+pub decides_at_end : (o n : Option (List ℕ)) (u : List ℕ) → Consumes o n u → IsAtEnd n → length u ≤ 2 ^ 62 → Decides o n (tokens_of u)
+decides_at_end o n u consumed end short =
+    Decides.at_end u consumed short (Consumes-whole o n u (λ s. s ≡ u) consumed end refl) ([], sym (append-nil (tokens_of u)))
+
+-- those read are decided
+decides_read : (o n : Option (List ℕ)) (u : List ℕ) (games : Games) (given : List Token) → Consumes o n u → HaveRead list_profile n u games given
+    → Decides o n given
+decides_read o n u games given consumed (within on) = decides_at_token o n u given consumed on.next
+decides_read o n u games given consumed (at_end all) = subst (Decides o n) (sym all.whole) (decides_at_end o n u consumed all.at_end all.short)
 
 -- ---- the whole text of a source
 
@@ -98,15 +102,9 @@ module _ (left_old left left_new : Option (List ℕ)) (old new : Games) (a b : O
     -- the line could not be written
     pub game_cut : (c : Option (List ℕ)) → AppendsFront b c (line_just_finished new.converter) → ListStops left_old left_new a c Unwritten
     game_cut c wrote =
-        let u = so.bytes ++ game.more in
-        let here = tokens_so_far left_new u new game.tokens game.have_read in
-        let grown = games_grow list_profile game.tokens here.0 has.passes in
-        let games = (read list_profile game.tokens).progress.games in
-        let more = lines_from (1 + length games) grown.0 in
-        let known : list_text u ≡ (lines_of so.tokens ++ line_just_finished new.converter) ++ more =
-        ap lines_of here.1 ∙ ap (lines_from 1) grown.1 ∙ lines_two 1 games grown.0 ∙ ap (λ l. l ++ more) next_line in
-        let (count, short, front) = subst (AppendsFront a c) (sym known) (front_within a c _ more (front_after a b c _ _ so.written wrote)) in
-        ListStops.unwritten u [] (subst (Consumes left_old left_new) (sym (append-nil u)) (all game.more game.consumed))
+        let (count, short, front) = subst (AppendsFront a c) (sym next_line) (front_after a b c _ _ so.written wrote) in
+        ListStops.unwritten game.tokens
+        (decides_read left_old left_new (so.bytes ++ game.more) new game.tokens (all game.more game.consumed) game.have_read)
         (record { count = count; short = short; front = front })
 
   -- no game is left

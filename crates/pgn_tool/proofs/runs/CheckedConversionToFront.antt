@@ -1,8 +1,9 @@
 -- A run that reads the same text twice has written a prefix of its output, whichever device fails.
-use Rattle.pgn_tool.proofs.Words.{◌≡◌, ◌∙◌, ℕ, List, ◌++◌, length, take, Option, Some, None, [], ap, append_assoc, append-nil, subst, sym, take-append_seam, Result, Ok, Err, Appends, Consumes, Device, Token, tokens_of, decided, Fault, Totals, Profile, takes_the_marker, Verdict, due, output, AreConverted, IsTokenPrefix, TwoReadingsConvert, Decides, FirstStops, SecondStops, TwoReadingsFail, HasTaken, first_too_long, first_unread, second_too_long, second_unread, unwritten, EqualReadings, InterruptedReadings, HasFront, Gives}
+use Rattle.pgn_tool.proofs.Words.{◌≡◌, ◌∙◌, ℕ, List, ◌∷◌, ◌++◌, length, take, Option, Some, None, [], ap, append_assoc, append-nil, subst, sym, take-append_seam, Result, Ok, Err, Appends, Consumes, Device, Token, tokens_of, decided, Fault, Totals, Profile, takes_the_marker, Verdict, due, output, AreConverted, IsTokenPrefix, TwoReadingsConvert, Decides, FirstStops, SecondStops, TwoReadingsFail, HasTaken, first_too_long, first_unread, second_too_long, second_unread, unwritten, EqualReadings, InterruptedReadings, HasFront, Gives}
 use Rattle.pgn_lexer.specs.Laws.{DecidedIsPrefix}
 use Rattle.pgn_game.specs.Laws.{DueGrows, IsPrefix}
 use Rattle.pgn_game.specs.Checked.{compared, written_by}
+use Rattle.pgn_game.specs.ConverterCalls.{AreShown}
 
 front_is : (out : Device) (written whole : List ℕ) → IsPrefix written whole → HasTaken out written → HasFront out whole
 front_is out written whole prefix taken =
@@ -12,6 +13,11 @@ front_is out written whole prefix taken =
 left_of : (s : List ℕ) (new : Option (List ℕ)) (u : List ℕ) → Consumes (Some s) new u → (x : List ℕ) × (s ≡ u ++ x)
 left_of s None u consumed = absurd consumed
 left_of s (Some x) u consumed = (x, consumed)
+
+-- a text begins with the tokens that it shows
+shown_begins : (s : List ℕ) (ts : List Token) → AreShown s ts → IsTokenPrefix ts (tokens_of s)
+shown_begins s ts (AreShown.so_far front rest is short next) = ((next rest).0, ap tokens_of is ∙ (next rest).1)
+shown_begins s ts (AreShown.at_end short rest cut) = (rest, cut)
 
 front_left : {s : List ℕ} (u rest : List ℕ) → ((x : List ℕ) × (s ≡ (u ++ rest) ++ x)) → (x : List ℕ) × (s ≡ u ++ x)
 front_left u rest x = (rest ++ x.0, x.1 ∙ append_assoc u rest x.0)
@@ -37,11 +43,11 @@ module _ (decides : DecidedIsPrefix) (grows : DueGrows) (equal : EqualReadings) 
       ap (λ (t : List ℕ). written_by p (compared p (decided u) (tokens_of t))) x.1 ∙ law.written in
       front_is out _ _ all (subst (HasTaken out) text so.appended)
 
-  begins : (ts : List Token) → Decides first ts → IsTokenPrefix ts (tokens_of s)
-  begins ts (Decides.so_far u consumed goes) =
-      let x = rest_of first first_gives u consumed in
+  begins : (ts : List Token) → Decides first.before first.after ts → IsTokenPrefix ts (tokens_of s)
+  begins ts (Decides.so_far u more consumed few goes) =
+      let x = front_left u more (rest_of first first_gives (u ++ more) consumed) in
       subst (λ (t : List ℕ). IsTokenPrefix ts (tokens_of t)) (sym x.1) (goes x.0)
-  begins ts (Decides.at_end u consumed all goes) =
+  begins ts (Decides.at_end u consumed few all goes) =
       let same : s ≡ u = rw first_gives at all in
       subst (λ (t : List ℕ). IsTokenPrefix ts (tokens_of t)) (sym same) goes
 
@@ -62,7 +68,9 @@ module _ (decides : DecidedIsPrefix) (grows : DueGrows) (equal : EqualReadings) 
   fails _ (unwritten at known) =
       let h = rw second_gives at known in
       let x = begins h.tokens h.decided_by in
-      front_is out _ _ (interrupted.write_fails p s h.tokens x.0 h.front h.rest h.token h.count takes x.1 h.cut) h.appended
+      let y = shown_begins s (h.front ++ h.token ∷ []) h.shown in
+      let cut = y.1 ∙ append_assoc h.front (h.token ∷ []) y.0 in
+      front_is out _ _ (interrupted.write_fails p s h.tokens x.0 h.front y.0 h.token h.count takes x.1 cut) h.appended
 
   pub front_written : (answer : Result Totals Fault) → TwoReadingsConvert p first second out answer → HasFront out (output p s)
   front_written (Ok t) converts = converted _ (rw (first_gives, second_gives) at converts).converted

@@ -1,5 +1,5 @@
 -- What follows of a run from the conversion in it, of an input that is read twice.
-use Rattle.pgn_tool.proofs.Words.{◌≡◌, ◌∙◌, ℕ, ◌≤◌, List, Option, ◌⊎◌, inl, inr, ap, refl, subst, arith, Result, Ok, Err, Appends, Keeps, Counts, Device, IsStill, Token, tokens_of, Mode, Reason, ReadFault, WriteFault, Fault, Totals, Profile, refused, AreConverted, TwoReadingsConvert, CountsThree, FirstStops, SecondStops, TwoReadingsFail, HasTaken, OneFails, WriteStops, first_too_long, first_unread, second_too_long, second_unread, unwritten, EqualReadings, FlushCounts, HasFailed, IsCalm, IsSmooth, TellsVerdict, status_of, AnswersSame, AnswersTwice, BlamesTwice, EndsTwice, RunsTwice, profile_twice, Appends-kept, IfSome_then}
+use Rattle.pgn_tool.proofs.Words.{◌≡◌, ◌∙◌, ℕ, ◌≤◌, List, Option, ◌⊎◌, inl, inr, ap, refl, subst, arith, Result, Ok, Err, Appends, Keeps, Counts, Device, IsStill, Mode, Reason, ReadFault, WriteFault, Fault, Totals, Profile, refused, AreConverted, TwoReadingsConvert, CountsThree, FirstStops, SecondStops, TwoReadingsFail, HasTaken, OneFails, WriteStops, first_too_long, first_unread, second_too_long, second_unread, unwritten, EqualReadings, FlushCounts, HasFailed, IsCalm, IsSmooth, TellsVerdict, status_of, AnswersSame, AnswersTwice, BlamesTwice, EndsTwice, RunsTwice, profile_twice, Appends-kept, IfSome_then}
 use Rattle.pgn_tool.proofs.runs.ConversionToRun.{calm_fails, concludes_by_verdict, longer, refuses_by_verdict, risen}
 
 -- ---- a conversion, and a flush after it
@@ -28,14 +28,13 @@ module _ (p : Profile) (first second d : Device) (after : Option (List ℕ)) (fa
     appended = taken_on _ ends.appended;
   }
 
-  stops_on : (at : ℕ) (us : List Token) → WriteStops p first us at d → WriteStops p first us at e
-  stops_on at us known = record {
+  stops_on : (at : ℕ) (r : List ℕ) → WriteStops p first r at d → WriteStops p first r at e
+  stops_on at r known = record {
     tokens = known.tokens;
     decided_by = known.decided_by;
     front = known.front;
     token = known.token;
-    rest = known.rest;
-    cut = known.cut;
+    shown = known.shown;
     place = known.place;
     fault = known.fault;
     count = known.count;
@@ -51,12 +50,19 @@ module _ (p : Profile) (first second d : Device) (after : Option (List ℕ)) (fa
   fails_on _ (first_too_long u rest consumed long more ends) = first_too_long u rest consumed long more (first_on u ends)
   fails_on _ (second_unread u consumed few failed ends) = second_unread u consumed few failed (second_on u ends)
   fails_on _ (second_too_long u rest consumed long more ends) = second_too_long u rest consumed long more (second_on u ends)
-  fails_on _ (unwritten at known) = unwritten at (IfSome_then second.before known (λ r. stops_on at (tokens_of r)))
+  fails_on _ (unwritten at known) = unwritten at (IfSome_then second.before known (stops_on at))
 
   pub converts_twice_on : (r : Result Totals Fault) → TwoReadingsConvert p first second d r → TwoReadingsConvert p first second e r
   converts_twice_on (Ok t) converts =
       IfSome_then first.before converts (λ s known.
-      IfSome_then second.before known (λ r known. record { short = known.short; converted = (known.converted.0, taken_on _ known.converted.1); probes = known.probes }))
+      IfSome_then second.before known (λ r known. record {
+        short = known.short;
+        us = known.us;
+        second_shown = known.second_shown;
+        no_mark_left = known.no_mark_left;
+        converted = (known.converted.0, taken_on _ known.converted.1);
+        probes = known.probes;
+      }))
   converts_twice_on (Err f) converts = fails_on f converts
 
 -- ---- which device is to blame

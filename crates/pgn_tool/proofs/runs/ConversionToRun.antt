@@ -65,8 +65,8 @@ module _ (left_old left_new a b c : Option (List ℕ)) (keeps : Keeps b c) where
   fails_on : (p : Profile) (f : Fault) → Fails p left_old left_new a b f → Fails p left_old left_new a c f
   fails_on p _ (Fails.refused f known) = Fails.refused f (IfSome_then left_old known (λ s known. (known.0, (known.1.0, kept _ known.1.1))))
   fails_on p _ (Fails.unread u consumed few reads) = Fails.unread u consumed few (record { passes = reads.passes; appended = kept _ reads.appended })
-  fails_on p _ (Fails.unwritten u at consumed stops) =
-      Fails.unwritten u at consumed (record {
+  fails_on p _ (Fails.unwritten tokens at decides stops) =
+      Fails.unwritten tokens at decides (record {
         front = stops.front;
         token = stops.token;
         rest = stops.rest;
@@ -96,8 +96,8 @@ module _ (left_old left_new a b c : Option (List ℕ)) (keeps : Keeps b c) where
   stops_on _ (ListStops.unread u consumed few listed) = ListStops.unread u consumed few (record { passes = listed.passes; written = kept _ listed.written })
   stops_on _ (ListStops.too_long u rest consumed long more listed) =
       ListStops.too_long u rest consumed long more (record { passes = listed.passes; written = kept _ listed.written })
-  stops_on _ (ListStops.unwritten u rest consumed cut) =
-      ListStops.unwritten u rest consumed (record { count = cut.count; short = cut.short; front = kept _ cut.front })
+  stops_on _ (ListStops.unwritten tokens decides cut) =
+      ListStops.unwritten tokens decides (record { count = cut.count; short = cut.short; front = kept _ cut.front })
 
   pub lists_on : (r : Result Unit Stopped) → ListResult left_old left_new r a b → ListResult left_old left_new r a c
   lists_on (Ok x) known = IfSome_then left_old known (λ s known. (known.0, record { fault = known.1.fault; written = kept _ known.1.written }))
@@ -190,7 +190,7 @@ module _ (s : List ℕ) (source out : Device) (smooth : IsSmooth s source out) w
       → IsConverted p s (refused f) a b
   own_fault p a b _ (Fails.refused f known) blames = (rw smooth.gives at known).1
   own_fault p a b _ (Fails.unread u consumed few reads) blames = absurd (calm_fails source smooth.reads blames)
-  own_fault p a b _ (Fails.unwritten u at consumed stops) blames = absurd (calm_fails out smooth.writes blames)
+  own_fault p a b _ (Fails.unwritten tokens at decides stops) blames = absurd (calm_fails out smooth.writes blames)
   own_fault p a b _ (Fails.too_long u rest consumed long more reads) blames =
       absurd (longer s source.after u rest (rw smooth.gives at consumed) long more smooth.short)
 
@@ -224,7 +224,7 @@ module _ (s : List ℕ) (source out : Device) (smooth : IsSmooth s source out) w
     stopped_answers _ (ListStops.unread u consumed few listed) ends = absurd (calm_fails source smooth.reads ends.blames)
     stopped_answers _ (ListStops.too_long u rest consumed long more listed) ends =
         absurd (longer s source.after u rest (rw smooth.gives at consumed) long more smooth.short)
-    stopped_answers _ (ListStops.unwritten u rest consumed cut) ends = absurd (calm_fails out smooth.writes ends.failed)
+    stopped_answers _ (ListStops.unwritten tokens decides cut) ends = absurd (calm_fails out smooth.writes ends.failed)
 
     list_answers : (answer : Result Unit Stopped) → ListResult source.before source.after answer out.before out.after
         → EndsList answer source out err code → Answers listing s out err code

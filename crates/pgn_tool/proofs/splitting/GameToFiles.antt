@@ -1,8 +1,8 @@
 -- What each game makes of the files of the games so far.
-use Rattle.pgn_tool.proofs.Words.{◌≡◌, ◌∙◌, ℕ, ◌^◌, ◌<◌, ◌≤◌, true, false, List, [], ◌∷◌, ◌++◌, drop, take-append-drop, length, length-append, length-take, map, take, Option, None, Some, IfSome, Result, Ok, Err, refl, sym, ap, subst, inl, inr, ◌⊎◌, arith, append_assoc, append-nil, Appends, Consumes, Consumes-trans, false≢true, length-map, map-append, Device, one_more, Token, tokens_of, Reason, ReadFault, WriteFault, InputTooLong, Fault, game_text, text_of, Read, due, no_progress, read, StopsWriting, CountsDevices, Games, NextGame, NextStops, NoGame, ReadsNoGame, GameFile, NotMade, Open, Unsplit, list_profile, FileStep, IsBegun, added, bytes_in, closed, failures_in, file_steps, made, number_after, refusal_step, taken_by, whole_files, CountsSource, CountsSplit, GameSplit, IsOwn, LastFile, SplitFiles, reported, settled, CutFile, CutsFile, IsSplit, IsSplitWhole, Logs, LogsCut, SplitResult, SplitStops, SplitsNoMore, StopsAt, files_of, texts_in, torn_file, torn_text, SplitSoFar, Consumes-whole, CreateFault, Stops, games_before}
+use Rattle.pgn_tool.proofs.Words.{◌≡◌, ◌∙◌, ℕ, ◌^◌, ◌<◌, ◌≤◌, true, false, List, [], ◌∷◌, ◌++◌, length, length-append, length-take, map, take, Option, None, Some, IfSome, Result, Ok, Err, refl, sym, ap, subst, inl, inr, ◌⊎◌, arith, append-nil, Appends, Consumes, Consumes-trans, false≢true, length-map, map-append, Device, one_more, Token, tokens_of, Reason, ReadFault, WriteFault, InputTooLong, Fault, game_text, text_of, Read, due, no_progress, read, StopsWriting, CountsDevices, Games, NextGame, NextStops, NoGame, ReadsNoGame, Decides, GameFile, NotMade, Open, Unsplit, list_profile, FileStep, IsBegun, added, bytes_in, closed, failures_in, file_steps, made, number_after, refusal_step, taken_by, whole_files, CountsSource, CountsSplit, GameSplit, IsOwn, LastFile, SplitFiles, reported, settled, CutFile, CutsFile, IsSplit, IsSplitWhole, Logs, LogsCut, SplitResult, SplitStops, SplitsNoMore, StopsAt, files_of, texts_in, torn_file, torn_text, SplitSoFar, Consumes-whole, CreateFault, Stops, games_before}
 use Rattle.pgn_game.specs.Due.{Gains}
 use Rattle.pgn_game.specs.ConverterCalls.{IsRefused}
-use Rattle.pgn_tool.proofs.runs.CallToLines.{ReadAs, has_read_of, reads_at_end, reads_at_token}
+use Rattle.pgn_tool.proofs.runs.CallToLines.{ReadAs, decides_at_end, decides_at_token, has_read_of, reads_at_end, reads_at_token}
 use Rattle.pgn_tool.proofs.splitting.FilesOfGames.{file_holds, game_is, log_on, none_torn, number_is, taken_is, torn_is, whole_and_one, whole_file}
 use Rattle.pgn_tool.proofs.splitting.NoWriteFaultInTable.{read_own}
 
@@ -190,11 +190,10 @@ module _ {A : Type 0} (taken : A → Option (List ℕ)) (failures : A → ℕ) (
             ∙ ap (λ o. added o (whole_files 0 texts ++ last)) is;
       }
 
-  cuts : (u : List ℕ) (ts rest : List Token) (at : ℕ) → (writing : StopsWriting list_profile so.tokens ts at none some)
+  cuts : (ts : List Token) (at : ℕ) → (writing : StopsWriting list_profile so.tokens ts at none some)
       → (read list_profile writing.front).progress.games ≡ (read list_profile so.tokens).progress.games
-      → tokens_of u ≡ ts ++ rest → 0 < failures_in failures file
-      → CutsFile u (reported file (record { at = at; reason = WriteFault })) before after
-  cuts u ts rest at writing same tokens more =
+      → 0 < failures_in failures file → CutsFile ts (reported file (record { at = at; reason = WriteFault })) before after
+  cuts ts at writing same more =
       let earlier = text_of list_profile (read list_profile so.tokens).progress.games in
       let given : due list_profile so.tokens ≡ earlier = ap (λ l. earlier ++ l) so.none_torn ∙ append-nil earlier in
       let front : due list_profile writing.front ≡ earlier ++ torn_text writing.front =
@@ -202,8 +201,8 @@ module _ {A : Type 0} (taken : A → Option (List ℕ)) (failures : A → ℕ) (
       record {
         front = writing.front;
         token = writing.token;
-        rest = writing.rest ++ rest;
-        tokens = tokens ∙ ap (λ l. l ++ rest) writing.cut ∙ append_assoc writing.front (writing.token ∷ writing.rest) rest;
+        rest = writing.rest;
+        cut = writing.cut;
         passes = writing.passes;
         stops = rw writing.place (write_reported taken failures log file at);
         text = writing.text;
@@ -228,13 +227,12 @@ module _ {A : Type 0} (taken : A → Option (List ℕ)) (failures : A → ℕ) (
       clean_at : (h : Fault) → IsOwn h.reason → CountsDevices h.reason s t 0 (failures_in failures file) → failures_in failures file ≡ 0
       clean_at h is counts = (due_to h.at h.reason s t (failures_in failures file) counts).1 is
 
-      by_stops : {h : Fault} (u : List ℕ) (ts rest : List Token)
-          → Consumes left_old left_new u → tokens_of u ≡ ts ++ rest → ReadAs left_old ts
+      by_stops : {h : Fault} (ts : List Token) → Decides left_old left_new ts → ReadAs left_old ts
           → (stops : Stops list_profile so.tokens ts none some h) → games_before stops ≡ (read list_profile so.tokens).progress.games
           → CountsDevices h.reason s t 0 (failures_in failures file) → Stopped h
-      by_stops u ts rest consumed tokens reads (Stops.unwritten at writing) same counts =
-          SplitStops.unwritten u _ consumed (cuts u ts rest at writing same tokens (omega (arith, counts.1)))
-      by_stops u ts rest consumed tokens reads (Stops.refused h fault gains) same counts =
+      by_stops ts decides reads (Stops.unwritten at writing) same counts =
+          SplitStops.unwritten ts _ decides (cuts ts at writing same (omega (arith, counts.1)))
+      by_stops ts decides reads (Stops.refused h fault gains) same counts =
           let is_own : IsOwn h.reason = rw fault at (read_own list_profile no_progress ts) in
           let clean = clean_at h is_own counts in
           let files = logs before after _ (files_left ts gains same clean) in
@@ -249,11 +247,10 @@ module _ {A : Type 0} (taken : A → Option (List ℕ)) (failures : A → ℕ) (
       by_stop : {h : Fault} → NextStops list_profile so.bytes so.tokens left left_new most none some h
           → CountsDevices h.reason s t 0 (failures_in failures file) → Stopped h
       by_stop (NextStops.at_token h more consumed to) counts =
-          let (rest, begins) = to.next (drop (2 ^ 62) (so.bytes ++ more)) in
-          by_stops (so.bytes ++ more) to.tokens rest (all more consumed) (ap tokens_of (sym (take-append-drop (2 ^ 62) (so.bytes ++ more))) ∙ begins)
+          by_stops to.tokens (decides_at_token left_old left_new (so.bytes ++ more) to.tokens (all more consumed) to.next)
           (reads_at_token left_old left_new (so.bytes ++ more) to.tokens (all more consumed) to.next) to.stops to.no_game counts
       by_stop (NextStops.at_end h more consumed end short to) counts =
-          by_stops (so.bytes ++ more) (tokens_of (so.bytes ++ more)) [] (all more consumed) (sym (append-nil (tokens_of (so.bytes ++ more))))
+          by_stops (tokens_of (so.bytes ++ more)) (decides_at_end left_old left_new (so.bytes ++ more) (all more consumed) end short)
           (reads_at_end left_old left_new (so.bytes ++ more) (all more consumed) end short) to.stops to.no_game counts
       by_stop (NextStops.unread more consumed short none_read) counts =
           let clean = clean_at (record { at = length (so.bytes ++ more); reason = ReadFault }) tt counts in
