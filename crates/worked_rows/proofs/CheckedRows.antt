@@ -1,8 +1,14 @@
 -- Worked rows of inputs that are read twice.
-use Rattle.worked_rows.proofs.Words.{String, ◌≡◌, ℕ, List, [], ◌++◌, None, refl, codes, replicate, take, tokens_of, Full, Reduced}
+use Rattle.worked_rows.proofs.Words.{String, ◌≡◌, ℕ, ◌+◌, List, [], ◌++◌, None, Some, length, refl, codes, replicate, take, tokens_of, Full, Reduced}
+use Rattle.std.specs.Prelude.{drop}
 use Rattle.worked_rows.proofs.Words.{ResultDiffers, IllegalMove, UnexpectedEnd, Changed, Profile, Verdict, totals, due, output}
 use Rattle.pgn_lexer.specs.Decided.{decided}
 use Rattle.pgn_game.specs.Checked.{checked_profile, compared, written_by, checked_verdict, checked_output}
+use Rattle.pgn_game.specs.CheckedConversion.{WriteStops}
+use Rattle.pgn_game.specs.Conversion.{Decides}
+use Rattle.pgn_game.specs.ConverterCalls.{AreShown}
+use Rattle.pgn_lexer.specs.Tokens.{asterisk}
+use Rattle.std.proofs.lemmas.Bool.{leb-true, ltb-true}
 use Rattle.worked_rows.proofs.WorkedRows.{counted, fault, head, unknown, of_moves}
 
 abbrev twice : Profile
@@ -89,4 +95,36 @@ second_stops =
     -- at its first move, the tag section of a game is written
     let written_at_a_move : written_by twice (compared twice (tokens_of (codes "e4 1-0")) (take 1 (tokens_of (codes "e4 1-0"))))
     ≡ head_of "1-0" = refl in
+    tt
+
+-- ---- what the bytes of a text show
+
+abbrev two_games : List ℕ
+two_games = codes "* *"
+
+-- Both sources give two games. The sink takes four bytes of the second, whose marker is at place 2.
+writing_stops : WriteStops twice (record { before = Some two_games; after = Some []; failures = 0; failures_after = 0 }) two_games 2
+    (record { before = Some []; after = Some (head ++ codes "*\n\n" ++ take 4 head); failures = 0; failures_after = 1 })
+unfolding of_moves
+writing_stops =
+    record {
+      tokens = tokens_of two_games;
+      decided_by = Decides.at_end two_games refl (leb-true _ _ refl) refl ([], refl);
+      front = take 1 (tokens_of two_games);
+      token = record { at = 2; kind = asterisk };
+      shown = AreShown.at_end (leb-true _ _ refl) (drop 2 (tokens_of two_games)) refl;
+      place = refl;
+      fault = refl;
+      count = length head + 7;
+      least = leb-true _ _ refl;
+      short = ltb-true _ _ refl;
+      appended = refl;
+    }
+
+-- The first token of `second` shows that it is at the only mark of `first`. No token shows nothing.
+shown_up_to_the_mark : Unit {0}
+unfolding of_moves
+shown_up_to_the_mark =
+    let by_its_marker : (compared twice (tokens_of (codes "1-0")) (take 1 (tokens_of (codes "1-0 0-1")))).marks_left ≡ [] = refl in
+    let not_before_it : length (compared twice (tokens_of (codes "1-0")) []).marks_left ≡ 1 = refl in
     tt
