@@ -20,8 +20,8 @@ pub use Rattle.pgn_game.specs.Game.{Game, Part}
 pub use Rattle.pgn_game.specs.GamesCalls.{Games, HaveRead, NextGame, NextStops, NoGame, ReadsNoGame, at_end, most_left, within}
 pub use Rattle.pgn_game.specs.Levels.{start_of}
 pub use Rattle.pgn_game.specs.Profile.{Profile, known_result, takes_the_marker}
-pub use Rattle.pgn_game.specs.Progress.{Next, Progress, Read, Verdict, due, going, next, no_progress, output, progress_after, progress_with, read}
-pub use Rattle.pgn_game.specs.Progress.{read_from, refused, totals, verdict, verdict_of, whole, Counted}
+pub use Rattle.pgn_game.specs.Progress.{Progress, Read, Verdict, due, no_progress, output, progress_after, read}
+pub use Rattle.pgn_game.specs.Progress.{read_from, refused, totals, verdict, verdict_of, Counted}
 pub use Rattle.pgn_game.specs.Reason.{line_of}
 pub use Rattle.pgn_game.specs.TagSection.{exported, tag_section}
 unfoldable pub use Rattle.pgn_game.specs.TagSection.{roster}
@@ -40,7 +40,7 @@ pub use Rattle.pgn_tool.specs.CheckedRun.{AnswersSame, AnswersTwice, BlamesTwice
 pub use Rattle.pgn_tool.specs.Files.{FileStep, IsBegun, IsNew, added, bytes_in, closed, failures_in, file_steps, has_bytes, is_text, made}
 pub use Rattle.pgn_tool.specs.Files.{number_after, refusal_step, taken_by, whole_files}
 pub use Rattle.pgn_tool.specs.ListLines.{CountsReadFault, IsListed, ListResult, ListStops, ListsNoMore, game_line, line_just_finished, lines_from}
-pub use Rattle.pgn_tool.specs.ListLines.{lines_of, list_profile, list_text, listed_value, six_fields, too_long, unread}
+pub use Rattle.pgn_tool.specs.ListLines.{lines_of, list_profile, listed_value, six_fields, too_long, unread}
 unfoldable pub use Rattle.pgn_tool.specs.ListLines.{finished_game_line}
 pub use Rattle.pgn_tool.specs.Machine.{Holding, IsOpened, Machine, Reading, holds, missing, reading}
 pub use Rattle.pgn_tool.specs.Program.{Carries, EndsUnopened, IsMissing, RunsAnswer, RunsOpened, RunsToOutput, RunsWords, StartsFrom, by_fault, by_task, file_source, makes_files, opened, opened_again, source_of, streams, unbuffered, unopened, unopened_again}
