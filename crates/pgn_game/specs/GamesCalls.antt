@@ -32,14 +32,13 @@ abbrev pub games_of : Converter → List ℕ → Games
 games_of converter unused = record { converter = converter; unused = unused }
 
 -- The converter stands after the bytes `used`, and the other bytes that the source gave are not
--- used yet. The tokens read are those that are decided then, by bytes before place 2^62.
+-- used yet. The tokens read are those that are decided then.
 pub record ReadsOn (p : Profile) (u : List ℕ) (games : Games) (given : List Token) : Type 0 where
   pub used : List ℕ
   pub bytes : u ≡ used ++ games.unused
   pub stands : Stands p games.converter used (first games.unused) given
   pub at_limit : length used ≡ 2 ^ 62 → given ≡ decided used
   pub decided : IsDecided used games.unused given
-  pub next : AreNext (within_limit u) given
   pub not_finished : games.converter.is_finished ≡ false
 
 -- The source is at its end, so u is the whole text, and all its tokens were read. They leave no
@@ -68,12 +67,14 @@ pub record ReadSoFar (p : Profile) (left_old left_now : Option (List ℕ)) (now 
 
 -- ---- what a call of `next` does
 
--- A game more was read. All its text is written, and nothing of a game after it.
+-- A game more was read. All its text is written, and nothing of a game after it. The bytes before
+-- place 2^62 decide its marker, or the source has ended.
 pub record NextGame (p : Profile) (u : List ℕ) (given : List Token) (left_old left_new : Option (List ℕ)) (new : Games) (before after : Option (List ℕ)) : Type 0 where
   pub more : List ℕ
   pub consumed : Consumes left_old left_new more
   pub tokens : List Token
   pub have_read : HaveRead p left_new (u ++ more) new tokens
+  pub next : new.converter.is_finished ≡ false → AreNext (within_limit (u ++ more)) tokens
   pub game : Game
   pub one_game : (read p tokens).progress.games ≡ (read p given).progress.games ++ game ∷ []
   pub just_finished : new.converter.just_finished ≡ Some (finished_game_of game)

@@ -106,9 +106,9 @@ module _ (p : Profile) (known : IsKnown p) (u : List ℕ) (given : List Token) (
             stands = record { known = known; lexer = rw lexer met.stands.lexer; has_read = has_read };
             at_limit = met.stands.at_limit;
             decided = met.stands.decided;
-            next = met.next;
             not_finished = not_finished;
           });
+          next = λ going. met.next;
           game = one.0;
           one_game = one.1;
           just_finished = finished ∙ ap (λ (game : FinishedGame). Some game) one.2;
@@ -233,6 +233,7 @@ module _ (p : Profile) (known : IsKnown p) (u : List ℕ) (given : List Token) (
               consumed = so.consumed;
               tokens = tokens_of (u ++ so.more);
               have_read = at_end read_all;
+              next = λ going. absurd (cc (finished, going));
               game = g;
               one_game = rw (← text) (rw so.reads.no_game at adds_one);
               just_finished = rw (last.3 ∙ ap finished_game_of same) at finished_game.1;

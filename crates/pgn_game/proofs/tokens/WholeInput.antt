@@ -1,12 +1,12 @@
 -- Conversions of whole inputs.
 use Rattle.std.specs.Io.KnownBytes.{Keeps, IsAtEnd}
-use Rattle.pgn_game.proofs.Words.{Token, within_limit, InputTooLong, Fault, Profile, ◌≡◌, ℕ, false, ◌^◌, ◌≤◌, List, [], ◌++◌, length, Option, None, Some, Result, Ok, Err, IfSome, sym, ap, subst, ◌∙◌, append-nil, map, sum, Consumes-nil, Consumes-trans, tokens_of, decided, plies_of, whole_plies, Gains, IsConverted, IsTotalled, MostProbes, ReadsNoMore, FailsOn, Fails, AfterEnd, AfterConversion, AfterSlice, verdict_in, Games, games_of, HaveRead, NextGame, NoGame, NextStops, ReadSoFar, Appends, Consumes, Totals, Read, read, due, refused as is_refused, totals, verdict, verdict_of, Converter, HasRead, Stands, Stops, refused_stop as refused, unwritten, StopsIn, at_token, too_long, FedFault, FedWhole, ReadsUpTo, Finishes, rules, no_progress, inl, refl, within}
+use Rattle.pgn_game.proofs.Words.{Token, InputTooLong, Fault, Profile, ◌≡◌, ℕ, false, ◌^◌, ◌≤◌, List, [], ◌++◌, length, Option, None, Some, Result, Ok, Err, IfSome, sym, ap, subst, ◌∙◌, append-nil, map, sum, Consumes-nil, Consumes-trans, tokens_of, decided, plies_of, whole_plies, Gains, IsConverted, IsTotalled, MostProbes, ReadsNoMore, FailsOn, Fails, AfterEnd, AfterConversion, AfterSlice, verdict_in, Games, games_of, HaveRead, NextGame, NoGame, NextStops, ReadSoFar, Appends, Consumes, Totals, Read, read, due, refused as is_refused, totals, verdict, verdict_of, Converter, HasRead, Stands, Stops, refused_stop as refused, unwritten, StopsIn, at_token, too_long, FedFault, FedWhole, ReadsUpTo, Finishes, rules, no_progress, inl, refl, within}
 use Rattle.pgn_game.specs.GamesCalls as games_calls
 use Rattle.pgn_game.specs.Conversion as conversion
 use Rattle.pgn_game.proofs.tokens.OneMoreToken.{torn-none, gains_none, gains_more, stops_more, stops_from}
 use Rattle.pgn_game.specs.ConverterCalls.{AreShown, IsRefused, at_end}
 use Rattle.pgn_game.proofs.tokens.AcceptedToConverter.{in_games}
-use Rattle.pgn_game.proofs.tokens.BytesWithinLimit.{all_shown, decides_by, none_next, shown_begins, shown_by}
+use Rattle.pgn_game.proofs.tokens.BytesWithinLimit.{all_shown, decides_by, shown_begins, shown_by}
 
 pub verdict_passes : (r : Read) → r.fault ≡ None
     → verdict_of r ≡ totals (record { games = length r.progress.games; plies = sum (map plies_of r.progress.games) })
@@ -36,7 +36,7 @@ appended {p} {tokens} {a} {c} gains =
 pub none_read : {p : Profile} {c : Converter} {left : Option (List ℕ)} → Stands p c [] None []
     → c.is_finished ≡ false → HaveRead p left [] (games_of c []) []
 none_read stands not_finished =
-    within (record { used = []; bytes = refl; stands = stands; at_limit = λ h. refl; decided = inl refl; next = none_next (within_limit []); not_finished = not_finished })
+    within (record { used = []; bytes = refl; stands = stands; at_limit = λ h. refl; decided = inl refl; not_finished = not_finished })
 
 pub read_none : {p : Profile} {now : Games} (left : Option (List ℕ)) {o : Option (List ℕ)}
     → HaveRead p left [] now [] → ReadSoFar p left left now o o

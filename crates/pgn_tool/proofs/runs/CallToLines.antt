@@ -1,5 +1,5 @@
 -- Games listed one by one.
-use Rattle.pgn_tool.proofs.Words.{◌≡◌, ℕ, ◌+◌, ◌^◌, ◌≤◌, List, [], ◌∷◌, ◌++◌, drop, length, length-take, take-append-drop, Option, None, Some, IfSome, refl, sym, ap, subst, ◌∙◌, append-nil, append_assoc, length-append, arith, Appends, Consumes, IsAtEnd, Appends-trans, Consumes-trans, AppendsFront, Token, tokens_of, InputTooLong, Fault, Game, Read, no_progress, read, HasRead, CountsDevices, Games, HaveRead, within, at_end, NextGame, NoGame, NextStops, ReadsNoGame, IsListed, ListsNoMore, ListStops, game_line, line_just_finished, lines_from, lines_of, list_profile, too_long, unread, Decides, ListedSoFar, Refused, Unwritten, Consumes-whole, Stops, games_before, AreNext}
+use Rattle.pgn_tool.proofs.Words.{◌≡◌, ℕ, ◌+◌, ◌^◌, ◌≤◌, false, List, [], ◌∷◌, ◌++◌, drop, length, length-take, take-append-drop, Option, None, Some, IfSome, refl, sym, ap, subst, ◌∙◌, append-nil, append_assoc, length-append, arith, Appends, Consumes, IsAtEnd, Appends-trans, Consumes-trans, AppendsFront, Token, tokens_of, InputTooLong, Fault, Game, Read, no_progress, read, HasRead, CountsDevices, Games, HaveRead, within, at_end, NextGame, NoGame, NextStops, ReadsNoGame, IsListed, ListsNoMore, ListStops, game_line, line_just_finished, lines_from, lines_of, list_profile, too_long, unread, Decides, ListedSoFar, Refused, Unwritten, Consumes-whole, Stops, games_before, AreNext}
 use Rattle.pgn_game.specs.ConverterCalls.{AreShown, IsRefused, so_far, within_limit}
 use Rattle.pgn_tool.proofs.runs.PartsOfText.{front_after}
 use Rattle.pgn_tool.proofs.runs.TokensInTwoParts.{read_stops}
@@ -31,10 +31,10 @@ decides_at_end o n u consumed end short =
     Decides.at_end u consumed short (Consumes-whole o n u (λ s. s ≡ u) consumed end refl) ([], sym (append-nil (tokens_of u)))
 
 -- those read are decided
-decides_read : (o n : Option (List ℕ)) (u : List ℕ) (games : Games) (given : List Token) → Consumes o n u → HaveRead list_profile n u games given
-    → Decides o n given
-decides_read o n u games given consumed (within on) = decides_at_token o n u given consumed on.next
-decides_read o n u games given consumed (at_end all) = subst (Decides o n) (sym all.whole) (decides_at_end o n u consumed all.at_end all.short)
+decides_read : (o n : Option (List ℕ)) (u : List ℕ) (games : Games) (given : List Token) → Consumes o n u
+    → (games.converter.is_finished ≡ false → AreNext (within_limit u) given) → HaveRead list_profile n u games given → Decides o n given
+decides_read o n u games given consumed next (within on) = decides_at_token o n u given consumed (next on.not_finished)
+decides_read o n u games given consumed next (at_end all) = subst (Decides o n) (sym all.whole) (decides_at_end o n u consumed all.at_end all.short)
 
 -- ---- the whole text of a source
 
@@ -104,7 +104,7 @@ module _ (left_old left left_new : Option (List ℕ)) (old new : Games) (a b : O
     game_cut c wrote =
         let (count, short, front) = subst (AppendsFront a c) (sym next_line) (front_after a b c _ _ so.written wrote) in
         ListStops.unwritten game.tokens
-        (decides_read left_old left_new (so.bytes ++ game.more) new game.tokens (all game.more game.consumed) game.have_read)
+        (decides_read left_old left_new (so.bytes ++ game.more) new game.tokens (all game.more game.consumed) game.next game.have_read)
         (record { count = count; short = short; front = front })
 
   -- no game is left
