@@ -191,10 +191,11 @@ fn is_fit(hint: Option<u8>, number: u8) -> bool
     }
 }
 
-// Whether the move is legal, no castling, and begins where the hints allow.
+// Whether the move of a piece of this kind is legal, no castling, and begins where the hints allow.
 #[inline(always)]
-fn agrees(position: &Position, hints: Hints, mv: &Move, probes: &mut Probes) -> bool
-    requires { probes.old + 1 < 2 ^ 32 }
+fn agrees(position: &Position, kind: Kind, hints: Hints, mv: &Move, probes: &mut Probes) -> bool
+    requires kind { IsTrue (own position.now kind mv.now.from) }
+    requires room { probes.old + 1 < 2 ^ 32 }
     ensures agrees { result ≡ (is_legal position.now mv.now
         && spec.piece_move_fits position.now hints.file hints.rank mv.now) }
     ensures count { probes.new ≡ probes.old + 1 }
@@ -202,7 +203,7 @@ fn agrees(position: &Position, hints: Hints, mv: &Move, probes: &mut Probes) -> 
     if try_pair(position, *mv, probes).is_none() {
         return false;
     }
-    hints.fit(mv.from) && !is_castling(position, mv)
+    hints.fit(mv.from) && !(kind == Kind::King && is_castling(position, mv))
 }
 
 // The legal move, with the position after it.
@@ -241,7 +242,7 @@ fn resolve_piece_move(
             to,
             promotion,
         };
-        return if agrees(position, hints, &mv, probes) {
+        return if agrees(position, kind, hints, &mv, probes) {
             Ok(mv)
         } else {
             Err(SanFault::NoMove)
@@ -255,7 +256,7 @@ fn resolve_piece_move(
             to,
             promotion,
         };
-        if agrees(position, hints, &mv, probes) {
+        if agrees(position, kind, hints, &mv, probes) {
             if found.is_some() {
                 return Err(SanFault::Ambiguous);
             }

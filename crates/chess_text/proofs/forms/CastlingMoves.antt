@@ -1,7 +1,7 @@
 -- Which steps and legal moves are castling.
 use Rattle.chess_rules.specs.Step.{is_target, after, board_after, carried, castled, en_passant_board, is_on_board, is_pawn_step, is_piece_step}
 use Rattle.chess_rules.specs.Step.{promotion_fits, stand_ready}
-use Rattle.chess_text.proofs.Words.{◌≡◌, ℕ, ◌<◌, ◌≤◌, Bool, true, false, not, ◌&&◌, ◌||◌, inl, inr, refl, sym, ◌∙◌, ap₂, arith, ◌==◌, nat_lt, Option, None, Some, is_none, is_some, option_map, if◌then◌else◌, abs_diff, and_parts, and_from, or_cases, eqb-true, lt-ltb, ltb-true, Colour, King, Pawn, Piece, Move, Parts, Square, square, same_square, is_adjacent, Board, at, has_colour, has_piece, attacks, cell_attacks, own, home, Wing, short_wing, long_wing, short_right, long_right, is_pawn_way, is_en_passant, captured_pawn, other, castles, castles_short, castles_long, on_board, step, is_legal, if_safe, is_castling, nat_tests, is_empty}
+use Rattle.chess_text.proofs.Words.{◌≡◌, ℕ, ◌<◌, ◌≤◌, Bool, true, false, not, ◌&&◌, ◌||◌, inl, inr, refl, sym, ◌∙◌, ap₂, arith, ◌==◌, nat_lt, Option, None, Some, is_none, is_some, option_map, if◌then◌else◌, abs_diff, and_parts, and_from, or_cases, eqb-true, lt-ltb, ltb-true, Colour, King, Pawn, Piece, Move, Parts, Square, square, same_square, is_adjacent, Board, at, has_colour, has_piece, attacks, cell_attacks, own, Kind, home, Wing, short_wing, long_wing, short_right, long_right, is_pawn_way, is_en_passant, captured_pawn, other, castles, castles_short, castles_long, on_board, step, is_legal, if_safe, is_castling, nat_tests, is_empty}
 
 -- what each way of a step says
 pub data StepWay (p : Parts) (m : Move) : Type 0 where
@@ -142,3 +142,20 @@ pub castling_by_files : (p : Parts) (m : Move) (king : Bool) (files : ℕ) → i
     → king ≡ own p King m.from → king ≡ true → files ≡ abs_diff m.from.file m.to.file → nat_lt 1 files ≡ is_castling p m
 castling_by_files p m king files steps seen stands count =
     cc (and_second (own p King _) (nat_lt 1 _) (sym seen ∙ stands), castling_is_far p m steps)
+
+-- only a king castles
+pub castles_by_king : (p : Parts) (m : Move) (k : Kind) → own p k m.from ≡ true → (k ≡ King → ⊥) → is_castling p m ≡ false
+castles_by_king p m k stands other =
+    by_test _ refl
+  where
+    two_kinds : (k : Kind) (c : Colour) (cell : Option Piece) → has_piece c k cell ≡ true → has_piece c King cell ≡ true → k ≡ King
+    two_kinds k c cell h g = grind (arith, nat_tests)
+
+    by_test : (x : Bool) → is_castling p m ≡ x → x ≡ false
+    by_test false is = refl
+    by_test true is =
+        absurd (other (two_kinds k p.side (at p.board m.from) stands (and_parts (own p King _) _ (castling_goes_far p m is)).0))
+
+-- what the code asks, which looks for castling only where the piece is a king
+pub fits_by_kind : (legal fit asked castles : Bool) → legal ≡ true → fit ≡ true → asked ≡ castles → not asked ≡ (legal && (fit && not castles))
+fits_by_kind legal fit asked castles h g same = grind arith

@@ -1,4 +1,4 @@
-use Rattle.chess_text.proofs.Words.{◌≡◌, ℕ, ◌<◌, List, [], ◌∷◌, length, get_or, filter_map, sym, refl, ◌∙◌, ap, subst, arith, Option, Some, is_some, cons_option, ok_or, option_to_list, IsPermutation, and_parts, IsPermutation-refl, length_permutation, Kind, Promotion, Parts, Square, candidates, lone, CandidatesComplete, Man, Played, NoMove, move_from, move_of_form, only, piece_move_fits, played}
+use Rattle.chess_text.proofs.Words.{◌≡◌, ℕ, ◌<◌, List, [], ◌∷◌, length, get_or, filter_map, sym, refl, ◌∙◌, ap, subst, arith, Option, Some, is_some, cons_option, ok_or, option_to_list, IsPermutation, and_parts, IsPermutation-refl, length_permutation, Kind, Promotion, Parts, Square, candidates, lone, CandidatesComplete, Man, Played, NoMove, move_from, move_of_form, only, own, piece_move_fits, played, true}
 use Rattle.chess_text.proofs.forms.MoveKept.{with_position, kept_is_some, kept_next, fitting_is_played, other_is_not_played}
 use Rattle.chess_text.proofs.forms.OnlyElement.{still_none, first_one, second_one, not_at_once, at_the_end}
 use Rattle.chess_text.proofs.forms.PieceForms.{candidates_own, from_square, reads_candidates, tried_at, tried_own}
@@ -28,6 +28,11 @@ lone_gives complete p k file rank to promotion s alone =
       only_found (from_square p (Man k file rank to _) to promotion s),
       reads_candidates p k file rank to promotion complete (s ∷ []) perm,
     )
+
+-- it is a square of the kind
+lone_own : (p : Parts) (k : Kind) (to s : Square) → Some s ≡ lone (candidates p k to) → own p k s ≡ true
+lone_own p k to s alone =
+    candidates_own p k to (s ∷ []) (subst (IsPermutation (candidates p k to)) (lone_is _ s alone) (IsPermutation-refl _)) 0 s (omega arith)
 
 -- The origins are the candidates.
 
@@ -180,3 +185,12 @@ returns-else-agrees-clause-each c _ = omega (arith, one_there (candidates _ _ _)
 
 pub returns-else-agrees-clause-most : goal.returns-else-agrees-clause-most
 returns-else-agrees-clause-most c = omega (arith, one_there (candidates _ _ _) _ _ c.in-Some.is c.only_origin.ensures)
+
+pub agrees-requires-clause-kind : goal.agrees-requires-clause-kind
+agrees-requires-clause-kind c = lone_own c.args.position.now c.args.kind c.args.to c.in-Some.origin (sym c.in-Some.is ∙ c.only_origin.ensures)
+
+pub agrees-requires-in-loop-origin-clause-kind : goal.agrees-requires-in-loop-origin-clause-kind
+agrees-requires-in-loop-origin-clause-kind c =
+    let o = (goal.at.agrees-requires-in-loop-origin-clause-kind c).After-as_slice-origin-items in
+    rw c.origin-item.is
+    (candidates_own c.args.position.now c.args.kind c.args.to _ (perm o) c.loop-origin.origin-index c.origin-item.result (omega arith))
