@@ -121,8 +121,8 @@ pub record IsRejected (p : Profile) (s : List ℕ) (result : PgnGame) (before af
   pub wrote : Appends before after (due p tokens)
   pub is_result : result ≡ fault_result (status_for 1 fault.reason) fault (position_at_fault (read p tokens))
 
--- The text so far rejects no token and has no game and no byte at place 2^62, but its end is a
--- fault.
+-- No token of the text so far is rejected. It has no game and no byte at place 2^62, but its end is
+-- a fault. If the piece has a byte, all tokens that the text decides were read.
 pub record NeedsMore (p : Profile) (s piece : List ℕ) (result : PgnGame) (before after : Option (List ℕ)) : Type 0 where
   pub short : length s ≤ 2 ^ 62
   pub fault : Fault
@@ -195,7 +195,7 @@ ReadsNext mode marker text from found = NextOf (profile_counting mode marker) (t
 abbrev pub IsOtherResult : Mode → Marker → List ℕ → ℕ → Type 0
 IsOtherResult mode marker text from = (found : PgnGame) × ReadsNext mode marker text from found × (found.fault ≡ 41)
 
--- A missing Result takes the marker
+-- the profile in which a missing Result takes the marker
 abbrev pub profile_taking : Mode → Profile
 profile_taking mode = checked_profile 64 32 mode
 
@@ -228,9 +228,9 @@ pub record ChecksNext (mode : Mode) (text : List ℕ) (from : ℕ) (before after
   pub no_game : found.status ≢ 0 → (after ≡ before) × (result ≡ found)
   pub by_each : found.fault ≡ 41 → (other : Marker) → IsOtherResult mode other text from
 
--- The same in a format. If `missing_result` is 0, a missing Result counts as `*`; if it is 1, it
--- takes the marker. The place is in the text, and at most 2^62. Otherwise nothing is read or
--- written.
+-- The next game in a mode. If `missing_result` is 0, a missing Result counts as `*`; if it is 1, it
+-- takes the marker. With another number, or a place outside the text or above 2^62, nothing is read
+-- or written.
 pub record NextGame (mode : Mode) (missing_result : ℕ) (text : List ℕ) (from : ℕ) (before after : List ℕ) (result : PgnGame) : Type 0 where
   pub no_mode : 1 < missing_result → (after ≡ before) × (result ≡ nothing 3)
   pub bad_place : missing_result ≤ 1 → (length text < from) ⊎ (2 ^ 62 < from)

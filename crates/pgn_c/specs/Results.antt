@@ -37,7 +37,7 @@ abbrev pub profile_in : Mode → Profile
 profile_in mode = profile_of 64 32 mode
 
 -- The text was checked: the result is that of a conversion that writes nothing. So it never says
--- that a buffer is full.
+-- that a buffer is full. A text with a byte at place 2^62 is at fault.
 pub record Checks (text : List ℕ) (result : PgnResult) : Type 0 where
   pub outcome : Result Totals Fault
   pub converts : ConvertsSlice (profile_in Full) text outcome nowhere
@@ -50,8 +50,8 @@ pub record IsFilled (before after written : List ℕ) : Type 0 where
   pub fits : length written ≤ length before
   pub now : after ≡ written ++ drop (length written) before
 
--- The text was converted into the buffer. What is written is a front of the export text: all of it
--- up to the first fault, or as much as the buffer holds.
+-- The text was converted into the buffer. What is written is a front of the export text, which ends
+-- at the first fault, before place 2^62, or where the buffer is full.
 pub record Converts (mode : Mode) (text before after : List ℕ) (result : PgnResult) : Type 0 where
   pub outcome : Result Totals Fault
   pub written : List ℕ

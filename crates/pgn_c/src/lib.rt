@@ -134,7 +134,8 @@ pub extern "C" fn pgn_san(fen: &[u8], text: &[u8]) -> PgnMove
 /// written of a game at fault. Another number is status 3.
 ///
 /// - Status 0: a game. The buffer has its export text. Bytes behind the one at `end` do not matter.
-/// - Status 1: a token of the game is rejected, whatever comes behind the text.
+/// - Status 1: a token of the game is rejected, whatever comes behind the text. Or the text has a
+///   byte at place 2^62, and those before it hold no game.
 /// - Status 2: the buffer is full.
 /// - Status 3: there is no such mode. Nothing was read or written.
 /// - Status 4: no game is left.

@@ -41,14 +41,14 @@ pub record MostOfBoth (p : Profile) (ts us : List Token) (n : ℕ) : Type 0 wher
   pub second_tried : MostTried p front most_of_second
   pub greater : n ≡ max most_of_first most_of_second
 
--- It is at most 1,040, and at least one if a game that is written has a move.
+-- That number is at most 1,040, and at least one if a game that is written has a move.
 pub record ProbesBoth (p : Profile) (s r : List ℕ) (n : ℕ) : Type 0 where
   pub most : n ≤ 1040
   pub some : IsTrue (play_moves (compared p (tokens_of s) (tokens_of r)).progress.games) → 0 < n
   pub tried : MostOfBoth p (tokens_of s) (tokens_of r) n
 
--- The fault f is that of both texts, as the bytes of each before place 2^62 show: it comes of the
--- tokens ts of `first` and us of `second`, which these bytes show.
+-- The fault f is the earlier one of the tokens ts of `first` and us of `second`, which the bytes of
+-- each before place 2^62 show. That no token behind these has an earlier one, `AreConverted` says.
 pub record AreRefused (p : Profile) (s r : List ℕ) (f : Fault) : Type 0 where
   pub ts : List Token
   pub us : List Token
@@ -73,7 +73,8 @@ pub record MatchesAllMarks (p : Profile) (ts us : List Token) (sink : Device) : 
   pub no_mark_left : (compared p ts us).marks_left ≡ []
   pub appended : HasTaken sink (written_by p (compared p ts us))
 
--- `first` has given the bytes u, of which nothing is rejected, and is read no further.
+-- In `first` nothing is rejected that the bytes u decide, and `second` was read up to the last mark
+-- of these tokens.
 pub record FirstStops (p : Profile) (u : List ℕ) (second sink : Device) : Type 0 where
   pub passes : (read p (decided u)).fault ≡ None
   pub matched : IfSome second.before (λ r. MatchesAllMarks p (decided u) (tokens_of r) sink)

@@ -34,8 +34,10 @@ pub record MostProbes (p : Profile) (s : List ℕ) (n : ℕ) : Type 0 where
   pub some : IsTrue (play_moves (read p (tokens_of s)).progress.games) → 0 < n
   pub tried : MostTried p (tokens_of s) n
 
--- the same with these numbers
+-- The text s, which has no byte at place 2^62, is converted. These are the numbers of its verdict,
+-- and the most pairs tried.
 pub record IsTotalled (p : Profile) (s : List ℕ) (t : Totals) (before after : Option (List ℕ)) : Type 0 where
+  pub short : length s ≤ 2 ^ 62
   pub converted : IsConverted p s (verdict_in t) before after
   pub probes : MostProbes p s t.most_probes
 

@@ -154,11 +154,11 @@ pub data Stops (p : Profile) (given tokens : List Token) (before after : Option 
   refused : (f : Fault) → (read p tokens).fault ≡ Some f → Gains p given tokens before after → Stops p given tokens before after f
   unwritten : (at : ℕ) → StopsWriting p given tokens at before after → Stops p given tokens before after (record { at = at; reason = WriteFault })
 
--- the tokens of every text that goes on from here begin with these
+-- whatever comes behind the bytes u, the text begins with these tokens
 abbrev pub AreNext : List ℕ → List Token → Type 0
 AreNext u tokens = (s : List ℕ) → (rest : List Token) × (tokens_of (u ++ s) ≡ tokens ++ rest)
 
--- The bytes of a text before place 2^62. No byte behind them decides a token.
+-- The bytes of a text before place 2^62. A byte behind them may decide no token.
 abbrev pub within_limit : List ℕ → List ℕ
 within_limit s = take (2 ^ 62) s
 
@@ -202,7 +202,7 @@ pub record FedGame (p : Profile) (u : List ℕ) (given : List Token) (piece : Li
   pub just_finished : new.just_finished ≡ Some (finished_game_of game)
   pub gains : Gains p given (tokens ++ marker ∷ []) before after
 
--- a token that these bytes decide is rejected, or a write failed
+-- a token that these bytes decide is rejected, or its text could not be written
 pub record FedFault (p : Profile) (bytes : List ℕ) (given : List Token) (f : Fault) (before after : Option (List ℕ)) : Type 0 where
   pub tokens : List Token
   pub next : AreNext bytes tokens

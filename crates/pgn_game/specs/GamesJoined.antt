@@ -2,7 +2,7 @@
 -- Letters: p is the profile, s a text, `left` are the bytes that the source has left before the
 -- first call, `before` those that the sink has taken then. `left_new` and `after` are these after
 -- the last call. `taken` are the games just finished after each call, in their order.
-use Rattle.std.specs.Prelude.{◌≡◌, ℕ, ◌∷◌, ◌++◌, true, false, List, [], length, map, sum, Bool, Option, Some, Result, Ok, Err, IfSome}
+use Rattle.std.specs.Prelude.{◌≡◌, ℕ, ◌∷◌, ◌++◌, ◌^◌, ◌≤◌, true, false, List, [], length, map, sum, Bool, Option, Some, Result, Ok, Err, IfSome}
 use Rattle.std.specs.Io.KnownBytes.{Appends, Consumes}
 use Rattle.pgn_layout.specs.Device.{Device}
 use Rattle.pgn_lexer.specs.Tokens.{Token}
@@ -35,9 +35,10 @@ pub record TookGames (p : Profile) (left left_new : Option (List ℕ)) (taken : 
   pub games : taken ≡ map finished_game_of (games_read p tokens)
   pub written : Appends before after (text_of p (games_read p tokens))
 
--- the games taken are all games of the text, their numbers are its verdict, and its output is
--- written
+-- The text has no byte at place 2^62. The games taken are all its games, their numbers are its
+-- verdict, and its output is written.
 pub record TookAll (p : Profile) (s : List ℕ) (taken : List FinishedGame) (before after : Option (List ℕ)) : Type 0 where
+  pub short : length s ≤ 2 ^ 62
   pub games : taken ≡ map finished_game_of (games_read p (tokens_of s))
   pub counts : verdict p s ≡ totals (record { games = length taken; plies = sum (map (λ game. game.plies) taken) })
   pub written : Appends before after (output p s)

@@ -37,7 +37,7 @@ RestResult old new (Ok None) sink = (new.unused ≡ []) × FeedsToMarker old.con
 RestResult old new (Err f) sink = FeedsToMarker old.converter old.unused new.converter (Err f) sink
 
 -- The lexer stands after the bytes `used`, and the other bytes that the source gave are not used
--- yet. The tokens given are those that are decided then.
+-- yet. The tokens given are those that are decided then; at place 2^62, by the bytes before it.
 pub record StandsWithin (u : List ℕ) (games : Games) (given : List Token) : Type 0 where
   pub used : List ℕ
   pub bytes : u ≡ used ++ games.unused

@@ -85,7 +85,7 @@ no_sink = record { before = None; after = None; failures = 0; failures_after = 0
 abbrev pub ComesNext : Option (List ℕ) → List Token → Token → Type 0
 ComesNext left_old given t = IfSome left_old (λ s. AreShown s (given ++ t ∷ []))
 
--- The source gives no more: a read failed behind the bytes u, or the byte at place 2^62 came.
+-- Reading ends without a token: a read failed behind the bytes u, or the byte at place 2^62 came.
 pub data ReadFails (left_old left_new : Option (List ℕ)) (given : List Token) : Fault → Type 0 where
   unread : (u : List ℕ) → Consumes left_old left_new u → length u ≤ 2 ^ 62 → given ≡ decided u
       → ReadFails left_old left_new given (record { at = length u; reason = ReadFault })
@@ -114,7 +114,7 @@ pub record EndComes (q : Profile) (left_old : Option (List ℕ)) (given : List T
   pub text : List ℕ
   pub cut : tokens_of text ≡ tokens ++ token ∷ []
 
--- A token was not taken, or the source gives no more: then another token may still come.
+-- A token was not taken. It comes in a text that begins with what the source has given.
 pub record TokenFails (q : Profile) (left_old : Option (List ℕ)) (given : List Token) (f : Fault) (new : Reading) (before after : Option (List ℕ)) : Type 0 where
   pub tokens : List Token
   pub token : Token
@@ -124,6 +124,7 @@ pub record TokenFails (q : Profile) (left_old : Option (List ℕ)) (given : List
   pub rest : List Token
   pub cut : tokens_of text ≡ tokens ++ token ∷ rest
 
+-- Reading ended without a token. In some text that begins so, another token comes.
 pub record SourceFails (q : Profile) (left_old left_new : Option (List ℕ)) (given : List Token) (f : Fault) (new : Reading) (before after : Option (List ℕ)) : Type 0 where
   pub tokens : List Token
   pub now : Converter
@@ -179,7 +180,7 @@ pub record AllRead (q : Profile) (left_old : Option (List ℕ)) (given : List To
   pub has_read : HasRead q new.converter tokens
   pub marked : (ms : List Mark) → HasMarked q given ms → HasMarked q tokens ms
 
--- Why it stops: the next token is rejected, or the source gives no more.
+-- Why it stops: the next token is rejected, or reading ended without one.
 pub data WhyFirst (q : Profile) (left_old left_new : Option (List ℕ)) (tokens : List Token) : Fault → Type 0 where
   refused : (t : Token) (reason : Reason) → ComesNext left_old tokens t → refusal q (part_after q tokens) t.kind ≡ Some reason
       → WhyFirst q left_old left_new tokens (record { at = t.at; reason = reason })
@@ -215,8 +216,8 @@ pub record GameWritten (q : Profile) (left_old left_new : Option (List ℕ)) (gi
   pub matched : (ms : List Mark) → HasMatched q ms given (model_mark m ∷ []) → HasMatched q ms tokens []
   pub written : Appends before after (game_text q game)
 
--- Why it stops: the next token shows a difference; or its text could not be written; or the source
--- gives no more.
+-- Why it stops: the next token shows a difference; or its text could not be written; or reading
+-- ended without one.
 pub data WhySecond (q : Profile) (left_old left_new : Option (List ℕ)) (tokens : List Token) (m : CodeMark) (before after : Option (List ℕ)) : Fault → Type 0 where
   differs : (t : Token) → ComesNext left_old tokens t → is_changed q (model_mark m) (part_after q tokens) t ≡ true → Appends before after []
       → WhySecond q left_old left_new tokens m before after (record { at = t.at; reason = Changed })

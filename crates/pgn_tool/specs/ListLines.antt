@@ -101,7 +101,8 @@ pub data ListStops (left_old left_new : Option (List ℕ)) (before after : Optio
       → ListStops left_old left_new before after (Refused (record { at = length u; reason = InputTooLong }))
   unwritten : (tokens : List Token) → Decides left_old left_new tokens → CutsLine tokens before after → ListStops left_old left_new before after Unwritten
 
--- What the source has left is listed, up to its end. It has no byte at place 2^62.
+-- What the source has left is listed, up to its end, and has no byte at place 2^62. Or the list
+-- stops.
 abbrev pub ListResult : Option (List ℕ) → Option (List ℕ) → Result Unit Stopped → Option (List ℕ) → Option (List ℕ) → Type 0
 ListResult left_old left_new (Ok done) before after = IfSome left_old (λ s. (length s ≤ 2 ^ 62) × IsListed s None before after)
 ListResult left_old left_new (Err stopped) before after = ListStops left_old left_new before after stopped

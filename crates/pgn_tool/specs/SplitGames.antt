@@ -67,7 +67,7 @@ pub data CutFile (n : ℕ) (text : List ℕ) (least : ℕ) : List FileStep → T
   cut : (count failures : ℕ) → least ≤ count → count < length text → 0 < failures
       → CutFile n text least (made (one_more n) ∷ closed (Some (take count text)) failures ∷ [])
 
--- whole files with these texts were made, and the last one is such a file
+-- Whole files with these texts were made, and then one that was cut, or could not be made.
 pub record LogsCut (log : List FileStep) (after : Option (List FileStep)) (texts : List (List ℕ)) (text : List ℕ)
     (least : ℕ) : Type 0 where
   pub last : List FileStep

@@ -86,6 +86,7 @@ games_join p left before first old new taken (Ok false) source sink begins calls
     known_whole left source.after text (λ s. games_joined.TookAll p s taken before sink.after)
     (Consumes-trans left source.before source.after so.reads.bytes end.more so.reads.consumed end.consumed) end.have_read_all.at_end
     (record {
+      short = end.have_read_all.short;
       games = same;
       counts = verdict_passes (read p (tokens_of text)) end.have_read_all.has_read.passes
           ∙ ap (λ n. totals (record { games = n; plies = sum (map plies_of games) }))

@@ -105,7 +105,7 @@ module _ (p : Profile) (left_old left left_new : Option (List ℕ)) (now : Games
       let text = so.bytes ++ end.more in
       let (is_verdict, most) = totalled t end.have_read_all.has_read games plies probes bound in
       known_whole left_old left_new text (λ s. IsTotalled p s t a d) (all end.more end.consumed) end.have_read_all.at_end
-      (record { converted = (is_verdict, appended (gains_more so.gains end.gains)); probes = most })
+      (record { short = end.have_read_all.short; converted = (is_verdict, appended (gains_more so.gains end.gains)); probes = most })
 
   pub games_short : {new : Games} → NoGame p so.bytes so.tokens left left_new new c d → IfSome left_old (λ s. length s ≤ 2 ^ 62)
   games_short end =
@@ -157,7 +157,7 @@ slice_stops p {text} a c (too_long front rest cut place some before) =
 pub slice_ends : {p : Profile} {text : List ℕ} {now : Converter} {a c : Option (List ℕ)} (d : Option (List ℕ))
     (r : Result Totals Fault) (fed : FedWhole p [] [] text now a c) → length text ≤ 2 ^ 62 → AfterEnd p text fed.tokens r c d → AfterSlice p text r a d
 slice_ends d (Ok t) fed short (is_verdict, probes, gains) =
-    record { converted = (is_verdict, appended (gains_more fed.gains gains)); probes = probes }
+    record { short = short; converted = (is_verdict, appended (gains_more fed.gains gains)); probes = probes }
 slice_ends {p} {text} {a} d (Err f) fed short stops = by_stops (stops_more fed.gains stops)
   where
     by_stops : {h : Fault} → Stops p [] (tokens_of text) a d h → FailsOn p text a d h
