@@ -140,23 +140,18 @@ def held_input():
     if sys.stdin is None:
         raise Failure(UNREADABLE, "standard input is closed")
     with tempfile.NamedTemporaryFile(prefix="pgn.") as held:
-        copy(sys.stdin.buffer.read, held)
-        if packed.opener_of(held.name):
-            unpack(held)
+        try:
+            read, close = packed.unpacked(sys.stdin.buffer.read1)
+            try:
+                copy(read, held)
+            finally:
+                close()
+        except OSError as error:
+            if error.errno is not None:
+                raise
+            raise Failure(UNREADABLE, "standard input: %s" % error) from None
         held.seek(0)
         yield held
-
-
-def unpack(held):
-    """Puts its text in the place of what a named temporary file has."""
-    try:
-        with open_text(held.name) as text:
-            held.seek(0)
-            held.truncate()
-            copy(text.read, held)
-    except OSError as error:
-        said = error.strerror or str(error).replace(held.name + ": ", "")
-        raise Failure(UNREADABLE, "standard input: " + said) from None
 
 
 def open_input():

@@ -3,6 +3,7 @@
 The scripts load this file by its path too, so it takes nothing from the package. What only one kind
 of file needs is imported when there is one, so that a script starts fast.
 """
+import contextlib
 import os
 from functools import partial
 from typing import Any, BinaryIO, Callable, Iterator, Optional, Tuple
@@ -18,11 +19,71 @@ def opener_of(path: str) -> Optional[Opener]:
     begin = b""
     if os.path.isfile(path):
         with open(path, "rb", buffering=0) as file:
-            begin = file.read(6)
-    for mark, opener in _MARKS:
-        if begin.startswith(mark):
-            return opener
-    return _NAMES.get(os.path.splitext(path)[1].lower())
+            begin = file.read(_LONGEST_MARK)
+    return _opener_of_mark(begin) or _NAMES.get(os.path.splitext(path)[1].lower())
+
+
+def _opener_of_mark(begin: bytes) -> Optional[Opener]:
+    return next((opener for mark, opener in _MARKS if begin.startswith(mark)), None)
+
+
+def unpacked(read: Callable[[int], bytes]) -> Calls:
+    """How the text of a stream is read, which can be read once alone: as it comes, if it is plain.
+
+    It is compressed if its first bytes say so. It is then held in a temporary file, since not all
+    kinds can be unpacked from front to back. An OSError about it names no file.
+    """
+    begin = b""
+    # of no bytes none are read
+    for piece in iter(lambda: read(_LONGEST_MARK - len(begin)), b""):
+        begin += piece
+    opener = _opener_of_mark(begin)
+    if opener:
+        return _open_held(opener, begin, read)
+
+    def read_on(size: int) -> bytes:
+        nonlocal begin
+        piece, begin = begin[:size], begin[size:]
+        return piece or read(size)
+
+    return read_on, lambda: None
+
+
+def _open_held(opener: Opener, begin: bytes, read: Callable[[int], bytes]) -> Calls:
+    """Holds a stream in a temporary file, and opens that."""
+    import tempfile
+    held = tempfile.NamedTemporaryFile(prefix="pgn.")
+    try:
+        held.write(begin)
+        for piece in iter(lambda: read(CHUNK), b""):
+            held.write(piece)
+        held.flush()
+        with _without_name(held.name):
+            read_text, close_text = opener(held.name)
+    except BaseException:
+        held.close()
+        raise
+
+    def read_on(size: int) -> bytes:
+        with _without_name(held.name):
+            return read_text(size)
+
+    def close() -> None:
+        close_text()
+        held.close()
+
+    return read_on, close
+
+
+@contextlib.contextmanager
+def _without_name(name: str) -> Iterator[None]:
+    """Takes the name of a temporary file out of what is said of its data."""
+    try:
+        yield
+    except OSError as error:
+        if error.errno is not None:
+            raise
+        raise OSError(str(error).replace(name + ": ", "")) from None
 
 
 def _open_gzip(path: str) -> Calls:
@@ -72,6 +133,7 @@ def _run_zstd(program: str, file: BinaryIO, path: str) -> Calls:
         data = out.read(size)
         if not data and child.wait():
             said = errors.read().decode("utf-8", "replace").strip()
+            said = said.replace("/*stdin*\\ : ", "")
             raise OSError("%s: %s" % (path, said or "zstd ended with status %d" % child.returncode))
         return data
 
@@ -156,5 +218,6 @@ def _pieces_of_zip(archive: Any, names: "list[str]", path: str) -> Iterator[byte
 _MARKS: "tuple[tuple[bytes, Opener], ...]" = (
     (b"\x1f\x8b", _open_gzip), (b"BZh", _open_bzip2), (b"\xfd7zXZ\0", _open_xz),
     (b"\x28\xb5\x2f\xfd", _open_zstd), (b"PK\x03\x04", _open_zip))
+_LONGEST_MARK = max(len(mark) for mark, _ in _MARKS)
 _NAMES: "dict[str, Opener]" = {
     ".gz": _open_gzip, ".bz2": _open_bzip2, ".xz": _open_xz, ".zst": _open_zstd, ".zip": _open_zip}

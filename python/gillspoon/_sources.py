@@ -4,7 +4,7 @@ import mmap
 import os
 from typing import IO, Any, Callable, Iterator, Optional, Protocol, Tuple, Union
 
-from ._packed import Calls, opener_of
+from ._packed import Calls, opener_of, unpacked
 from ._places import LINE_END, NEAR, LineCounter
 
 CHUNK = 1 << 20
@@ -110,6 +110,21 @@ def _reader_of_file(file: Any) -> Callable[[int], bytes]:
         return bytes(data)
 
     return read
+
+
+class Unpacked:
+    """An open file that is read once: if what it has is compressed, the text inside."""
+
+    def __init__(self, file: Readable) -> None:
+        self._read, self._close = unpacked(_reader_of_file(file))
+
+    def read(self, size: int) -> bytes:
+        """The next bytes of the text, at most so many; none at the end."""
+        return self._read(size)
+
+    def __del__(self) -> None:
+        close = getattr(self, "_close", _nothing)
+        close()
 
 
 def _open_plain(path: str) -> Calls:

@@ -14,7 +14,7 @@ from ._findings import Finding, Linter, Warned
 from ._replacement import STOPPING, Replacement
 from ._reports import (AnyReport, JsonReport, Output, OutputFault, Progress, Report, SarifReport,
                        Summary, Unread, has_colours, message)
-from ._sources import Opened, Source
+from ._sources import Opened, Source, Unpacked
 from ._version import add_version
 
 if TYPE_CHECKING:
@@ -33,7 +33,9 @@ HELP = """examples:
   vim -q <(pgn_lint games.pgn)        with :set errorformat=%f:%l:%v:\\ %m
 
 In a folder *.pgn are checked, also with .gz, .bz2, .xz, .zst or .zip behind, in small letters or
-not. Compressed files are known by their first bytes too. A column is a character. Where a bad game ends is a guess: before the next line that begins a tag section.
+not. Compressed files are known by their first bytes too, and so is standard input: --fix - then
+writes the text plain. A column is a character. Where a bad game ends is a guess: before the next
+line that begins a tag section.
 
 A fix changes text at a fault, and only if the library then reads on behind it. It is safe if the
 text has one reading and nothing is lost; --unsafe-fixes adds the others. What no fix mends stays as
@@ -205,12 +207,12 @@ class FilePath(os.PathLike[str]):
 
 
 def source_of(path: str) -> Source:
-    """What is read for a path, or for standard input."""
+    """What is read for a path, or for standard input, which may be compressed too."""
     if path != "-":
         return FilePath(path)
     if sys.stdin is None:
         raise OSError(errno.EBADF, os.strerror(errno.EBADF))
-    return sys.stdin.buffer
+    return Unpacked(sys.stdin.buffer)
 
 
 def linter_of(path: str, given: argparse.Namespace) -> Linter:

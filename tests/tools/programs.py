@@ -1,7 +1,11 @@
 """What several tests of the tools need: the program, and other programs that may be missing."""
+import bz2
 import functools
 import glob
+import gzip
+import io
 import json
+import lzma
 import os
 import pty
 import re
@@ -10,6 +14,7 @@ import subprocess
 import tempfile
 import termios
 import unittest
+import zipfile
 
 ROOT = os.path.dirname(os.path.dirname(os.path.dirname(os.path.realpath(__file__))))
 # Debian keeps games apart.
@@ -94,6 +99,22 @@ def need_library(build):
     if not library or library != printed_by_build("--library"):
         not_tried("bin/build_program --library --proved has not built the proved library")
     return library
+
+
+def _zip_of(text):
+    held = io.BytesIO()
+    with zipfile.ZipFile(held, "w", zipfile.ZIP_DEFLATED) as archive:
+        archive.writestr("games.pgn", text)
+    return held.getvalue()
+
+
+def _zstd_of(text):
+    return subprocess.run(["zstd", "-qc"], input=text, stdout=subprocess.PIPE, check=True).stdout
+
+
+# How a text is compressed, by the end of a name.
+PACKERS = {"gz": gzip.compress, "bz2": bz2.compress, "xz": lzma.compress, "zst": _zstd_of,
+           "zip": _zip_of}
 
 
 def vectors():

@@ -1,0 +1,141 @@
+#!/usr/bin/env python3
+"""Tests of compressed input: each script takes each kind, by a name and as standard input."""
+import os
+import shutil
+import sys
+import tempfile
+import unittest
+
+sys.path.insert(0, os.path.dirname(os.path.realpath(__file__)))
+import programs
+from programs import PACKERS, ROOT, need, need_program, run
+from test_python import library
+
+# A bad game of 30 bytes between two sound ones of 27; what is mended of it, and its place.
+SOUND = b'[White "Ada"]\n\n1. e4 e5 *\n\n'
+TEXT = SOUND + b'[White "Bob"]\n\n1. e2-e4 e5 *\n\n' + SOUND
+MENDED = TEXT.replace(b"e2-e4", b"e2e4")
+PLACE = 45
+
+
+class Compressed(unittest.TestCase):
+    def setUp(self):
+        need("zstd")
+        self.folder = tempfile.mkdtemp()
+        self.addCleanup(shutil.rmtree, self.folder)
+        self.env = dict(os.environ, PATH=programs.PATH, PGN_TOOL=need_program(),
+                        GILLSPOON_LIBRARY=library(), LC_ALL="C.UTF-8", TMPDIR=self.folder + "/tmp")
+        os.mkdir(self.folder + "/tmp")
+
+    def put(self, name, data):
+        with open(os.path.join(self.folder, name), "wb") as file:
+            file.write(data)
+
+    def read(self, name):
+        with open(os.path.join(self.folder, name), "rb") as file:
+            return file.read()
+
+    def call(self, script, *words, data=b""):
+        """Runs a script, which leaves no temporary file."""
+        ran = run([ROOT + "/bin/" + script, *words], cwd=self.folder, env=self.env, input=data)
+        self.assertEqual(os.listdir(self.folder + "/tmp"), [])
+        return ran.returncode, ran.stdout, ran.stderr
+
+    def texts(self, text=TEXT):
+        """The text, and what each kind makes of it."""
+        yield "plain", text
+        for name, pack in PACKERS.items():
+            yield name, pack(text)
+
+    def test_each_script_reads_standard_input(self):
+        """It gives what it gives for the plain text; a zip ends its file with an empty line."""
+        need("diff")
+        sound, head = SOUND * 2, b"<stdin>:7:4: "
+        wanted = {
+            ("pgn_lint", "--quiet"): (1, head + b"not a move (game 2, Bob \xe2\x80\x93 ?)\n", b""),
+            ("pgn_lint", "--quiet", "-"): (
+                1, head + b"not a move (game 2, Bob \xe2\x80\x93 ?)\n", b""),
+            ("pgn_lint", "--quiet", "--fix", "-"): (
+                0, MENDED, head + b"fixed: long notation: e2-e4 \xe2\x86\x92 e2e4\n"),
+            ("pgn_lint", "--quiet", "--fix"): (
+                0, MENDED, head + b"fixed: long notation: e2-e4 \xe2\x86\x92 e2e4\n"),
+            ("pgn_where", "-", str(PLACE)): (
+                0, b'<stdin>: line 7, column 4 (byte %d)\n1. e2-e4 e5 *\n   ^\n'
+                b'game 2: White "Bob", Black "?", Event "?"\n' % PLACE, b""),
+            ("pgn_fmt", "--check", "-"): (
+                1, b"", b"pgn_fmt: standard input: byte %d: not a move\n" % PLACE),
+            ("pgn_sieve", "-", "good", "bad"): (
+                1, b"good: 2 games\nbad: 1 bad game set aside, 30 bytes\nThe end of a bad game is a "
+                b"guess: the next line that begins a tag section.\n", b""),
+        }
+        for kind, data in self.texts():
+            for (script, *words), said in wanted.items():
+                with self.subTest(kind=kind, script=script, words=words):
+                    status, out, told = self.call(script, *words, data=data)
+                    if kind == "zip" and "--fix" in words:
+                        out = out[:-2]
+                    self.assertEqual((status, out, told), said)
+            self.assertIn(b"% byte 45: not a move; line 7\n", self.read("bad"))
+            status, out, told = self.call("pgn_lint", "--diff", "-", data=data)
+            self.assertEqual((status, out[:31]), (1, b"--- <stdin>\n+++ <stdin> mended\n"), told)
+            self.assertIn(b"\n-1. e2-e4 e5 *\n+1. e2e4 e5 *\n", out)
+        for kind, data in self.texts(sound):
+            exported = self.call("pgn_fmt", data=sound)
+            self.assertEqual(exported[0], 0)
+            self.assertEqual(self.call("pgn_fmt", data=data), exported, kind)
+            self.assertEqual(self.call("pgn_lint", data=data),
+                             (0, b"1 file, 2 games, 0 faults\n", b""), kind)
+            # what is sound comes out plain too
+            status, out, _ = self.call("pgn_lint", "--fix", "-", data=data)
+            self.assertEqual((status, out), (0, sound + b"\n\n" * (kind == "zip")), kind)
+
+    def test_each_script_reads_a_file(self):
+        for kind, data in self.texts():
+            name = "a.pgn" if kind == "plain" else "a.pgn." + kind
+            self.put(name, data)
+            for script, words, status, said in (
+                    ("pgn_lint", [name], 1, b"%s:7:4: not a move"),
+                    ("pgn_where", [name, str(PLACE)], 0, b"%s: line 7, column 4"),
+                    ("pgn_fmt", ["--check", name], 1, b"%s: byte 45: not a move"),
+                    ("pgn_sieve", [name, "good", "bad"], 1, b"1 bad game set aside")):
+                found, out, told = self.call(script, *words)
+                self.assertEqual(found, status, (kind, script, told))
+                self.assertIn(said.replace(b"%s", name.encode()), out + told)
+            self.assertIn(b"% byte 45: not a move; line 7\n", self.read("bad"))
+
+    def test_what_is_cut_off_is_told_without_a_temporary_name(self):
+        """The status is 3, in one line; an output that is there stays as it is."""
+        calls = (("pgn_lint", "-"), ("pgn_lint", "--fix", "-"), ("pgn_lint", "--diff", "-"),
+                 ("pgn_where", "-", "7"), ("pgn_fmt", "-"), ("pgn_fmt", "-o", "good", "-"),
+                 ("pgn_sieve", "-", "good", "bad"))
+        for kind, pack in PACKERS.items():
+            data = pack(TEXT * 50)
+            for (script, *words) in calls:
+                self.put("good", b"old")
+                self.put("bad", b"old")
+                with self.subTest(kind=kind, script=script, words=words):
+                    status, out, told = self.call(script, *words, data=data[:len(data) * 3 // 4])
+                    lines = told.decode().splitlines()
+                    self.assertEqual(status, 3)
+                    self.assertRegex(lines[0], r"^%s: (<stdin>|standard input): \S" % script)
+                    self.assertNotIn("/", lines[0])
+                    self.assertEqual((self.read("good"), self.read("bad")), (b"old", b"old"), out)
+
+    def test_a_zip_without_games(self):
+        import io
+        import zipfile
+        held = io.BytesIO()
+        with zipfile.ZipFile(held, "w") as archive:
+            archive.writestr("readme.txt", "none")
+        for script, words in (("pgn_lint", ["--quiet", "-"]), ("pgn_lint", ["--quiet", "--fix"]),
+                              ("pgn_where", ["-", "7"]), ("pgn_fmt", ["-"]),
+                              ("pgn_sieve", ["-", "good", "bad"])):
+            name = "<stdin>" if script == "pgn_lint" else "standard input"
+            self.assertEqual(self.call(script, *words, data=held.getvalue()), (
+                3, b"", b"%s: %s: has no file *.pgn inside\n" % (script.encode(), name.encode())))
+
+    def test_a_few_bytes(self):
+        """They are too short for a mark, or the beginning of one."""
+        for data in (b"", b"*", b"B", b"BZ", b"\x1f", b"PK\x03", b"\x28\xb5"):
+            status, out, _ = self.call("pgn_lint", "--fix", "-", data=data)
+            self.assertEqual((status, out), (int(data not in (b"", b"*")), data))
