@@ -65,8 +65,8 @@ class Compressed(unittest.TestCase):
             ("pgn_fmt", "--check", "-"): (
                 1, b"", b"pgn_fmt: standard input: byte %d: not a move\n" % PLACE),
             ("pgn_sieve", "-", "good", "bad"): (
-                1, b"good: 2 games\nbad: 1 bad game set aside, 30 bytes\nThe end of a bad game is a "
-                b"guess: the next line that begins a tag section.\n", b""),
+                1, b"good: 2 games\nbad: 1 bad game set aside, 30 bytes\nThe end of a bad game is "
+                b"a guess: the next line that begins a tag section.\n", b""),
         }
         for kind, data in self.texts():
             for (script, *words), said in wanted.items():

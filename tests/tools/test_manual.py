@@ -1,11 +1,14 @@
 #!/usr/bin/env python3
 """Tests of the manual pages and of the completions: against the programs and their sources."""
+import contextlib
 import glob
 import importlib.machinery
 import importlib.util
 import os
+import pty
 import re
 import shutil
+import subprocess
 import sys
 import tempfile
 import unittest
@@ -17,8 +20,23 @@ from programs import ROOT, run
 PAGES = ROOT + "/share/man/man1/"
 PAGE = PAGES + "pgn_tool.1"
 SCRIPTS = ("pgn_lint", "pgn_where", "pgn_sieve", "pgn_fmt")
+# Those that have completions; pgn_conform is not installed, so it has no page.
+COMPLETED = SCRIPTS + ("pgn_conform",)
 VARIABLES = {"pgn_lint": ["GILLSPOON_LIBRARY", "NO_COLOR"], "pgn_where": []}
 COMPLETIONS = ROOT + "/share/completions/"
+# What zsh reads first: each word that it offers goes to a file.
+ZSHRC = r"""fpath=(%s $fpath)
+autoload -Uz compinit
+compinit -u -d dump
+compadd() {
+    local -a words
+    if [[ ${@[1,(i)(-|--)]} != *-(O|A|D)\ * ]]; then
+        builtin compadd -A words "$@"
+        print -rl -- $words >>words
+    fi
+    builtin compadd "$@"
+}
+"""
 # What a shell says of a process that a signal ended: 11, or 6, which Rust sends itself.
 KILLED = (-11, 128 + 11, -6, 128 + 6)
 
@@ -335,7 +353,7 @@ class Completions(Folder):
 
     def test_bash_for_the_scripts(self):
         open(self.folder + "/some games.pgn", "wb").close()
-        for name in SCRIPTS:
+        for name in COMPLETED:
             self.assertIn("--version", self.script_options(name))
             self.assertEqual(self.words(name, "-"), self.script_options(name))
             self.assertEqual(self.words(name, "some"), ["some games.pgn"])
@@ -344,24 +362,57 @@ class Completions(Folder):
         self.assertEqual(self.words("pgn_lint", "--max", "s"), [])
         self.assertEqual(self.words("pgn_fmt", "--output", "s"), ["some games.pgn"])
         self.assertEqual(self.words("pgn_fmt", "--stdin-name", "s"), [])
+        for words in (["--files"], ["cat"], ["--theme", "x", "--list", "cat"], ["cat", "-"]):
+            self.assertEqual(self.words("pgn_conform", *words, "s"), ["some games.pgn"], words)
+        for words in (["--full", "s"], ["--list", "--theme", ""], ["cat", "--th"]):
+            self.assertEqual(self.words("pgn_conform", *words), [], words)
 
     def test_fish_for_the_scripts(self):
         programs.need("fish")
-        for name in SCRIPTS:
+        for name in COMPLETED:
             script = "source %s%s.fish; complete -C '%s -'" % (COMPLETIONS, name, name)
             env = dict(os.environ, HOME=self.folder, XDG_CONFIG_HOME=self.folder)
             ran = run(["fish", "-c", script], cwd=self.folder, env=env)
             found = sorted(it.split("\t")[0] for it in ran.stdout.decode().splitlines())
             self.assertEqual(found, self.script_options(name), name)
 
+    def zsh_words(self, line):
+        """What zsh completes as the last word of a line: it runs on a terminal."""
+        folder = tempfile.mkdtemp()
+        self.addCleanup(shutil.rmtree, folder)
+        open(folder + "/some games.pgn", "wb").close()
+        with open(folder + "/.zshrc", "w", encoding="ascii") as file:
+            file.write(ZSHRC % COMPLETIONS)
+        env = dict(os.environ, ZDOTDIR=folder, TERM="xterm")
+        ours, its = pty.openpty()
+        with subprocess.Popen(["zsh", "-d", "-i"], stdin=its, stdout=its, stderr=its, env=env,
+                              cwd=folder, start_new_session=True):
+            os.close(its)
+            shown = b""
+            # it then edits a line
+            while b"\x1b[?2004h" not in shown:
+                shown += os.read(ours, 4096)
+            os.write(ours, line.encode() + b"\t\x15exit\n")
+            with contextlib.suppress(OSError):
+                while os.read(ours, 4096):
+                    pass
+        os.close(ours)
+        with open(folder + "/words", encoding="utf-8") as file:
+            return sorted(set(file.read().split("\n")) - {""})
+
     def test_zsh_for_the_scripts(self):
         programs.need("zsh")
-        for name in SCRIPTS:
+        for name in COMPLETED:
             ran = run(["zsh", "-n", COMPLETIONS + "_" + name])
             self.assertEqual((ran.returncode, ran.stderr), (0, b""))
-            text = text_of(COMPLETIONS + "_" + name)
-            for option in self.script_options(name):
-                self.assertRegex(text, r"[{',)]%s[,}\[]" % option)
+            found = self.zsh_words(name + " -")
+            self.assertEqual([it for it in found if it != "-"], self.script_options(name))
+            # options are not left out because others begin so
+            self.assertEqual(self.zsh_words(name + " --vers"), ["--version"])
+        for words in ("pgn_lint s", "pgn_lint --fix s", "pgn_fmt --output s", "pgn_where s",
+                      "pgn_sieve a s", "pgn_conform cat - s"):
+            self.assertEqual(self.zsh_words(words), ["some\\ games.pgn"], words)
+        self.assertEqual(self.zsh_words("pgn_lint --language "), "de es fr it nl ru".split())
 
 
 if __name__ == "__main__":

@@ -4,7 +4,9 @@ import glob
 import json
 import os
 import re
+import resource
 import shutil
+import signal
 import sys
 import tempfile
 import unittest
@@ -14,7 +16,8 @@ import programs
 from programs import ROOT, run
 
 DATA = ("vectors", "crates/pgn_vectors/src", "crates/pgn_game/src/reason.rt", "bin/write_vectors",
-        "bin/pgn_conform", "bench/tables.py")
+        "bin/pgn_conform", "bin/pgn_files.py", "bin/build_program", "python/gillspoon",
+        "bench/tables.py")
 # PGN 3.2.4: the export of the game of the standard, as its printed text has it.
 SAMPLE_END = "40. Rd6 Kc5 41. Ra6 Nf2 42. g4 Bd3 43. Re6 1/2-1/2\n\n"
 HEAD = (
@@ -350,19 +353,66 @@ class Conform(unittest.TestCase):
                             ("main_lines.two-games", ["--theme", "faults"])):
             status, _, ran = self.conform("--show", name, *words, "cat")
             self.assertEqual((status, ran.stdout, ran.stderr.decode()),
-                             (2, b"", "bin/pgn_conform: there is no vector %s\n" % name))
+                             (2, b"", "pgn_conform: there is no vector %s\n" % name))
 
     def test_a_closed_pipe_ends_it_quietly(self):
         ours, its = os.pipe()
         os.close(ours)
         with open(its, "wb") as closed:
             ran = run(["bin/pgn_conform", "--theme", "limits", "cat"], stdout=closed)
-        self.assertEqual((ran.returncode, ran.stderr), (1, b""))
+        self.assertEqual((ran.returncode, ran.stderr), (3, b""))
 
     def test_the_words_of_the_call(self):
         for words in ([], ["--full", "cat", "cat"], ["no-such-converter"], ["--theme", "x", "cat"],
-                      ["--files", "out", "cat"]):
-            self.assertEqual(self.conform(*words)[0], 2, words)
+                      ["--files", "out", "cat"], ["--files", "-"], ["--full", "'"],
+                      ["--full", " "], ["--counts", " ", "cat"], ["--refusal", "(", "cat"],
+                      ["--seconds", "x", "cat"], ["--none"]):
+            status, _, ran = self.conform(*words)
+            self.assertEqual((status, ran.stdout, ran.stderr.count(b"\n")), (2, b"", 1), words)
+            self.assertTrue(ran.stderr.startswith(b"pgn_conform: "), ran.stderr)
+
+    def test_a_dash_is_a_word_of_the_converter(self):
+        for words in (["cat", "-"], ["--", "cat", "-"], ["--full", "cat -"]):
+            found = self.conform("--theme", "main_lines", "--reduced", "", *words)
+            self.assertEqual(found[:2], self.conform(
+                "--theme", "main_lines", "--reduced", "", "cat")[:2])
+
+    def test_the_version(self):
+        wanted = run([programs.need_program(), "--version"]).stdout.split()[1]
+        ran = run(["bin/pgn_conform", "--version"])
+        self.assertEqual((ran.returncode, ran.stdout), (0, b"pgn_conform %s\n" % wanted))
+
+    def test_files_that_cannot_be_written(self):
+        """The status is 3, and what is there stays as it is."""
+        folder = tempfile.mkdtemp()
+        self.addCleanup(shutil.rmtree, folder)
+        old = folder + "/limits.tag-pairs.in"
+        with open(old, "w", encoding="ascii") as file:
+            file.write("old")
+
+        def limit():
+            signal.signal(signal.SIGXFSZ, signal.SIG_IGN)
+            resource.setrlimit(resource.RLIMIT_FSIZE, (64, 64))
+
+        ran = run(["bin/pgn_conform", "--files", folder], preexec_fn=limit)
+        self.assertEqual((ran.returncode, ran.stdout, ran.stderr.count(b"\n")), (3, b"", 1))
+        with open(old, encoding="ascii") as file:
+            self.assertEqual((os.listdir(folder), file.read()), (["limits.tag-pairs.in"], "old"))
+        ran = run(["bin/pgn_conform", "--files", old])
+        self.assertEqual((ran.returncode, ran.stdout, ran.stderr.count(b"\n")), (3, b"", 1))
+
+    def test_a_table_that_has_no_place_changes_nothing(self):
+        """The status is 3 too if the vectors cannot be read."""
+        copy = Copy(self)
+        copy.change("vectors/README.md", "<!-- bin/pgn_conform --record: end -->", "")
+        before = copy.text("vectors/README.md")
+        words = [copy.root + "/bin/pgn_conform", "--record", "--theme", "limits", "cat"]
+        ran = run(words)
+        self.assertEqual((ran.returncode, ran.stderr.count(b"\n")), (3, 1))
+        os.remove(copy.root + "/vectors/vectors.json")
+        ran = run(words)
+        self.assertEqual((ran.returncode, ran.stdout, ran.stderr.count(b"\n")), (3, b"", 1))
+        self.assertEqual(copy.text("vectors/README.md"), before)
 
 
 if __name__ == "__main__":

@@ -1,0 +1,13 @@
+# Completion of pgn_conform for fish: put this file into ~/.config/fish/completions/.
+complete -c pgn_conform -s h -l help -d 'Print help'
+complete -c pgn_conform -l version -d 'Print the version'
+complete -c pgn_conform -l full -x -d 'The words for the full format, as one text'
+complete -c pgn_conform -l reduced -x -d 'The words for the reduced format, as one text'
+complete -c pgn_conform -l counts -x -d 'Words that count the games and plies, as one text'
+complete -c pgn_conform -l refusal -x -d 'A pattern of standard error: the input is rejected'
+complete -c pgn_conform -l list -d 'Name each vector that does not pass'
+complete -c pgn_conform -l show -x -d 'Show what one vector gives'
+complete -c pgn_conform -l theme -x -d 'Run this theme alone; more can be given'
+complete -c pgn_conform -l seconds -x -d 'Longest run'
+complete -c pgn_conform -l files -r -d 'Write the files of the vectors to a folder'
+complete -c pgn_conform -l record -d 'Write the table into the README'
