@@ -312,6 +312,11 @@ def target_of(path):
     return Replacement(path)
 
 
+def has_text(path):
+    """Whether a path names a file that is not empty."""
+    return os.path.isfile(path) and os.path.getsize(path) > 0
+
+
 def is_same_file(one, other):
     """Whether two paths name one file, also by links."""
     try:

@@ -334,6 +334,9 @@ class WhereTest(unittest.TestCase):
             self.assertEqual((ran.returncode, ran.stdout, ran.stderr.count(b"\n")),
                              (status, b"", 1), (words, ran.stderr))
         self.assertEqual(self.call(["--help"]).returncode, 0)
+        ran = run(["sh", "-c", '"$0" <&-', ROOT + "/bin/pgn_where"])
+        self.assertEqual((ran.returncode, ran.stdout, ran.stderr), (
+            3, b"", b"pgn_where: standard input is closed\n"))
 
     def test_a_pipe_is_refused(self):
         os.mkfifo(self.file)

@@ -1,0 +1,247 @@
+#!/usr/bin/env python3
+"""An output that is there keeps its bytes until the input was read and understood.
+
+Each script and option that writes a file is tried with inputs that are bad, cut off, of another
+kind, or missing. bin/pgn_conform is tried by test_vectors, and bin/to_cargo by test_cargo.
+"""
+import os
+import shutil
+import sys
+import tempfile
+import unittest
+
+sys.path.insert(0, os.path.dirname(os.path.realpath(__file__)))
+import programs
+from programs import PACKERS, ROOT, need, need_program, run, without_rights
+from test_python import library
+
+SOUND = b'[White "Ada"]\n\n1. e4 e5 *\n\n'
+BAD = b'[White "Bob"]\n\n1. e4 e9 *\n\n'
+OLD = b'[White "Old"]\n\n1. d4 *\n\n'
+# What is no text of games, by a name.
+OTHERS = {
+    "utf-16.pgn": SOUND.decode().encode("utf-16"),
+    "picture.png": b"\x89PNG\r\n\x1a\n\0\0\0\rIHDR\0\0\1\0",
+    "games.7z": b"7z\xbc\xaf\x27\x1c\0\4" + bytes(range(256)),
+    "games.tar": b"games.pgn".ljust(257, b"\0") + b"ustar\0" + SOUND,
+}
+
+
+class Kept(unittest.TestCase):
+    """A test with a folder in which each output has text."""
+
+    def setUp(self):
+        need("zstd")
+        self.folder = tempfile.mkdtemp()
+        self.addCleanup(shutil.rmtree, self.folder)
+        self.env = dict(os.environ, PATH=programs.PATH, PGN_TOOL=need_program(),
+                        GILLSPOON_LIBRARY=library(), LC_ALL="C.UTF-8")
+        for name, text in OTHERS.items():
+            self.put(name, text)
+        for kind, pack in PACKERS.items():
+            self.put("cut.pgn." + kind, pack(SOUND * 99)[:-30])
+        self.put("not.pgn.gz", SOUND)
+        self.put("empty.pgn", b"")
+        self.put("words.pgn", b"% none\n\n")
+        self.put("bad.pgn", SOUND + BAD)
+        self.put("sound.pgn", SOUND)
+        os.mkdir(self.folder + "/folder")
+
+    def unreadable(self):
+        """Names of what no script can read."""
+        return ["missing.pgn", "folder", "not.pgn.gz"] + ["cut.pgn." + it for it in PACKERS]
+
+    def put(self, name, data):
+        with open(os.path.join(self.folder, name), "wb") as file:
+            file.write(data)
+
+    def read(self, name):
+        with open(os.path.join(self.folder, name), "rb") as file:
+            return file.read()
+
+    def call(self, script, *words, env=None, **more):
+        return run([ROOT + "/bin/" + script, *words], cwd=self.folder,
+                   env=dict(self.env, **(env or {})), **more)
+
+    def stays(self, status, outputs, *words, **more):
+        """A call ends with a status and one line, and each output stays; no file is added."""
+        for name in outputs:
+            self.put(name, OLD)
+        before = sorted(os.listdir(self.folder))
+        ran = self.call(*words, **more)
+        with self.subTest(words):
+            self.assertEqual((ran.returncode, ran.stderr.count(b"\n")), (status, 1), ran.stderr)
+            self.assertEqual([self.read(name) for name in outputs], [OLD] * len(outputs))
+            self.assertEqual(sorted(os.listdir(self.folder)), before)
+
+    def standard_input(self, name):
+        """The text of a file as standard input, or nothing if it is none."""
+        path = os.path.join(self.folder, name)
+        return self.read(name) if os.path.isfile(path) and name != "not.pgn.gz" else None
+
+
+class Format(Kept):
+    """pgn_fmt --output and --write."""
+
+    def test_output(self):
+        for name in self.unreadable():
+            self.stays(3, ["out"], "pgn_fmt", "-o", "out", name)
+            self.stays(3, ["out"], "pgn_fmt", "-o", "out", "sound.pgn", name)
+            self.stays(3, ["out"], "pgn_fmt", "--checked", "--output", "out", name)
+            if self.standard_input(name):
+                self.stays(3, ["out"], "pgn_fmt", "-o", "out", "-",
+                           input=self.standard_input(name))
+        for name in [*OTHERS, "bad.pgn"]:
+            self.stays(1, ["out"], "pgn_fmt", "-o", "out", name)
+            self.stays(1, ["out"], "pgn_fmt", "-o", "out", "sound.pgn", name)
+            self.stays(1, ["out"], "pgn_fmt", "-o", "out", input=self.read(name))
+
+    def test_output_of_no_game(self):
+        """A filter that failed gives none. An output that is not there is made."""
+        for words in (["empty.pgn"], ["words.pgn"], ["empty.pgn", "words.pgn"]):
+            self.stays(3, ["out"], "pgn_fmt", "-o", "out", *words)
+        self.stays(3, ["out"], "pgn_fmt", "-o", "out", "-", input=b"")
+        self.assertEqual(self.call("pgn_fmt", "-o", "out", "empty.pgn").stderr,
+                         b"pgn_fmt: out: is left as it is: the input has no game\n")
+        self.assertEqual(self.call("pgn_fmt", "-o", "new", "empty.pgn").returncode, 0)
+        self.assertEqual(self.call("pgn_fmt", "-o", "new", "empty.pgn").returncode, 0)
+        self.assertEqual(self.call("pgn_fmt", "-o", "/dev/null", "empty.pgn").returncode, 0)
+        self.assertEqual(self.read("new"), b"")
+
+    def test_output_without_a_program(self):
+        self.stays(127, ["out"], "pgn_fmt", "-o", "out", "sound.pgn", env={"PGN_TOOL": "/none"})
+        self.stays(3, ["out"], "pgn_fmt", "-o", "out", "sound.pgn", env={"PGN_TOOL": "/bin/false"})
+
+    def test_write(self):
+        for name in [*OTHERS, "bad.pgn"]:
+            self.put("copy", self.read(name))
+            ran = self.call("pgn_fmt", "--write", "--drop", "copy")
+            self.assertEqual((ran.returncode, self.read("copy")), (1, self.read(name)))
+        for name in [it for it in os.listdir(self.folder) if it.startswith("cut")] + ["not.pgn.gz"]:
+            before = self.read(name)
+            ran = self.call("pgn_fmt", "--write", "--drop", name)
+            self.assertEqual((ran.returncode, self.read(name)), (3, before))
+        # comments alone would leave an empty file
+        self.put("copy", b"{only} ; this\n")
+        ran = self.call("pgn_fmt", "--write", "copy")
+        self.assertEqual((ran.returncode, self.read("copy")), (3, b"{only} ; this\n"))
+        for program in ("/none", "/bin/false"):
+            self.call("pgn_fmt", "--write", "sound.pgn", env={"PGN_TOOL": program})
+            self.assertEqual(self.read("sound.pgn"), SOUND)
+
+
+class Sieve(Kept):
+    """pgn_sieve FILE GOOD BAD."""
+
+    def test_what_cannot_be_read(self):
+        for name in self.unreadable():
+            self.stays(3, ["g", "b"], "pgn_sieve", name, "g", "b")
+            self.stays(3, ["g", "b"], "pgn_sieve", "--checked", name, "g", "b")
+            if self.standard_input(name):
+                self.stays(3, ["g", "b"], "pgn_sieve", "-", "g", "b",
+                           input=self.standard_input(name))
+
+    def test_what_is_no_text(self):
+        """Also with outputs that are not there: none is made."""
+        for name in OTHERS:
+            self.stays(3, ["g", "b"], "pgn_sieve", name, "g", "b")
+            self.stays(3, ["g", "b"], "pgn_sieve", "--checked", name, "g", "b")
+            self.stays(3, ["g", "b"], "pgn_sieve", "-", "g", "b", input=self.read(name))
+            self.stays(3, [], "pgn_sieve", name, "g2", "b2")
+        self.assertEqual(self.call("pgn_sieve", "utf-16.pgn", "g", "b").stderr, (
+            b"pgn_sieve: utf-16.pgn: is not a text of games: UTF-16 has to be converted, and "
+            b"another archive unpacked; nothing was written\n"))
+        # a file that is damaged further down has games
+        self.put("torn.pgn", SOUND + b"\0" * 600 + b"\n\n" + SOUND)
+        ran = self.call("pgn_sieve", "torn.pgn", "g", "b")
+        self.assertEqual((ran.returncode, ran.stdout.splitlines()[0]), (1, b"g: 2 games"))
+
+    def test_no_game(self):
+        for name in ("empty.pgn", "words.pgn"):
+            self.stays(3, ["g", "b"], "pgn_sieve", name, "g", "b")
+            self.stays(3, ["b"], "pgn_sieve", name, "/dev/null", "b")
+            self.stays(3, ["g", "b"], "pgn_sieve", "-", "g", "b", input=self.read(name))
+        self.assertEqual(self.call("pgn_sieve", "empty.pgn", "g", "b").stderr,
+                         b"pgn_sieve: empty.pgn: has no game; g is left as it is\n")
+        for _ in range(2):
+            self.assertEqual(self.call("pgn_sieve", "empty.pgn", "g3", "b3").returncode, 0)
+            self.assertEqual((self.read("g3"), self.read("b3")), (b"", b""))
+
+    def test_all_games_are_bad(self):
+        """That is understood: the old text goes."""
+        self.put("all.pgn", BAD * 2)
+        self.put("g", OLD)
+        self.put("b", OLD)
+        self.assertEqual(self.call("pgn_sieve", "all.pgn", "g", "b").returncode, 1)
+        self.assertEqual((self.read("g"), self.read("b").count(BAD)), (b"", 2))
+
+    def test_without_a_program_or_library(self):
+        for env, status in (({"PGN_TOOL": "/none"}, 127), ({"PGN_TOOL": "/bin/false"}, 3),
+                            ({"GILLSPOON_LIBRARY": "/none"}, 127)):
+            self.stays(status, ["g", "b"], "pgn_sieve", "bad.pgn", "g", "b", env=env)
+
+
+class Lint(Kept):
+    """pgn_lint --fix, whose output is its input."""
+
+    def test_fix(self):
+        for name in sorted(os.listdir(self.folder)):
+            if os.path.isdir(os.path.join(self.folder, name)):
+                continue
+            before = self.read(name)
+            status = 0 if name in ("empty.pgn", "words.pgn", "sound.pgn") else \
+                3 if name.startswith(("cut", "not")) else 1
+            for words in (["--fix"], ["--fix", "--unsafe-fixes", "--ignore", "trailing text"]):
+                ran = self.call("pgn_lint", "--quiet", *words, name)
+                if name in OTHERS and "--unsafe-fixes" in words:
+                    # what it would mend is still no game
+                    self.assertEqual(ran.returncode, 1)
+                    continue
+                self.assertEqual((ran.returncode, self.read(name)), (status, before), name)
+
+    def test_without_a_library(self):
+        ran = self.call("pgn_lint", "--fix", "bad.pgn", env={"GILLSPOON_LIBRARY": "/none"})
+        self.assertEqual((ran.returncode, self.read("bad.pgn")), (127, SOUND + BAD))
+
+
+class Split(Kept):
+    """pgn_tool split, which replaces the file of a game once its movetext has begun."""
+
+    def test_split(self):
+        os.mkdir(self.folder + "/out")
+        # it takes a name for nothing: what is compressed is another text to it
+        for name in [it for it in self.unreadable() if it != "not.pgn.gz"] + [
+                *OTHERS, "empty.pgn", "words.pgn"]:
+            self.put("out/000001.pgn", OLD)
+            run([self.env["PGN_TOOL"], "split", "out", name], cwd=self.folder)
+            self.assertEqual((self.read("out/000001.pgn"), os.listdir(self.folder + "/out")),
+                             (OLD, ["000001.pgn"]), name)
+
+
+class Page(Kept):
+    """bin/build_page OUT."""
+
+    def test_a_module_that_is_none(self):
+        for name in ("missing.pgn", "folder", "sound.pgn", "empty.pgn"):
+            self.stays(1, ["page.html"], "build_page", "--module", name, "page.html")
+
+
+class Rights(Kept):
+    """An input without permission to read it."""
+
+    def test_sieve_and_fmt(self):
+        os.chmod(self.folder, 0o777)
+        os.chmod(self.folder + "/sound.pgn", 0)
+        for words in (["pgn_sieve", "sound.pgn", "g", "b"], ["pgn_fmt", "-o", "g", "sound.pgn"]):
+            for name in ("g", "b"):
+                self.put(name, OLD)
+                os.chmod(os.path.join(self.folder, name), 0o666)
+            user = without_rights(self, self.env["PGN_TOOL"])[:-1]
+            ran = run([*user, ROOT + "/bin/" + words[0], *words[1:]], cwd=self.folder,
+                      env=self.env)
+            self.assertEqual((ran.returncode, self.read("g"), self.read("b")), (3, OLD, OLD),
+                             ran.stderr)
+
+
+if __name__ == "__main__":
+    unittest.main()
