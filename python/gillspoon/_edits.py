@@ -1,7 +1,17 @@
 """The edits that mend a source. What makes them is imported when there is something to mend."""
-from typing import Iterator, NamedTuple
+from typing import TYPE_CHECKING, Callable, Iterator, List, NamedTuple, Optional, Sequence
 
-from ._sources import Opened, Source
+from ._faults import PgnFault
+from ._games import Game, Reader
+from ._sections import game_in_comment
+from ._sources import Opened, Source, Window
+
+if TYPE_CHECKING:
+    from ._mend import SectionMender
+
+UNCLOSED_COMMENT = 12
+# After how many games a step is reported.
+STEP = 256
 
 
 class Edit(NamedTuple):
@@ -25,6 +35,86 @@ class Edit(NamedTuple):
     """Whether the text has one reading, and nothing is lost."""
 
 
+class Choice(NamedTuple):
+    """Which fixes are tried: the safe ones, or all; of these some names, or all but some."""
+
+    unsafe: bool = False
+    select: Optional[Sequence[str]] = None
+    ignore: Sequence[str] = ()
+    language: Optional[str] = None
+    counts_more: bool = False
+    """Whether the edits are counted that the unsafe fixes would make."""
+
+
+class Section(NamedTuple):
+    """A bad game of a source: where it is, and the edits that mend it."""
+
+    begin: int
+    end: int
+    edits: List[Edit]
+    more: int
+    """How many edits the fixes would make that are not chosen, but might be."""
+
+
+class BadGames:
+    """Mends the bad games of an opened source, in their order."""
+
+    def __init__(self, opened: Opened, checked: bool, choice: Choice) -> None:
+        self.opened, self._checked, self._choice = opened, checked, choice
+        self._mender: "Optional[SectionMender]" = None
+
+    def section(self, fault: PgnFault, is_sound: bool = False) -> Section:
+        """The edits of the bad game that a fault is in.
+
+        If it `is_sound` all the same, edits are made only if they end with a sound text.
+        """
+        if not self._mender:
+            # sound games need none of it
+            from ._fixes import chosen_fixes
+            from ._mend import SectionMender
+            unsafe, *more = self._choice[:4]
+            others = chosen_fixes(True, *more) if self._choice.counts_more and not unsafe else ()
+            self._mender = SectionMender(
+                self.opened, self._checked, chosen_fixes(unsafe, *more), others)
+        return self._mender.section(fault, is_sound)
+
+
+class Mender(Reader):
+    """Reads a source, and mends each bad game."""
+
+    def __init__(self, opened: Opened, checked: bool, choice: Choice) -> None:
+        super().__init__(Window(opened), checked, False)
+        self._size, self._bad_games = opened.size, BadGames(opened, checked, choice)
+
+    def sections(self, step: Callable[[int], None] = lambda number: None) -> Iterator[Section]:
+        """The bad games in turn. Now and then `step` is called with the number of a game."""
+        bad: List[PgnFault] = []
+        try:
+            for game in self.games(bad.append):
+                yield from map(self._bad_games.section, bad)
+                bad.clear()
+                yield from self._with_open_comment(game)
+                if not game.number % STEP:
+                    step(game.number)
+        except PgnFault as fault:
+            # nothing is read behind a fault that would be met again
+            fault.end = self._size
+            bad.append(fault)
+            self.number += 1
+        finally:
+            self.window.close()
+        yield from map(self._bad_games.section, bad)
+
+    def _with_open_comment(self, game: Game) -> Iterator[Section]:
+        """A sound game with another one in a comment: its text up to there is mended alone."""
+        base = self.window.base
+        inside = game_in_comment(self.window.data[game.offset - base:game.end - base])
+        if inside is not None:
+            end = game.offset + inside
+            yield self._bad_games.section(PgnFault(
+                UNCLOSED_COMMENT, "", end, 0, 0, game.number, None, game.offset, end), True)
+
+
 def fixes(text: Source, *, unsafe: bool = False, checked: bool = False) -> Iterator[Edit]:
     """Yields the edits that mend the bad games of a source.
 
@@ -38,12 +128,9 @@ def fixes(text: Source, *, unsafe: bool = False, checked: bool = False) -> Itera
     16 missing letter b'g1f3' b'Ng1f3'
     21 spelling of the result b'1/2' b'1/2-1/2'
     """
-    from ._fixes import chosen_fixes
-    from ._mend import Mender, SectionMender
     opened = Opened(text)
     try:
-        mender = SectionMender(opened, checked, chosen_fixes(unsafe))
-        for section in Mender(opened, checked, mender).sections():
+        for section in Mender(opened, checked, Choice(unsafe)).sections():
             yield from section.edits
     finally:
         opened.close()

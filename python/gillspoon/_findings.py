@@ -5,10 +5,10 @@ game, and whether a Result is missing, which is so if the game is accepted witho
 """
 import re
 import unicodedata
-from typing import TYPE_CHECKING, Callable, Iterator, List, NamedTuple, Optional, Tuple, Union
+from typing import Callable, Iterator, List, NamedTuple, Optional, Tuple, Union
 
 from . import _calls, _library
-from ._edits import Edit
+from ._edits import BadGames, Edit
 from ._faults import MoveFault, PgnFault
 from ._games import Game, Reader
 from ._moves import read_tags
@@ -17,9 +17,6 @@ from ._reading import GameReader
 from ._sections import has_movetext
 from ._sources import Source, Window
 from ._warnings import Watcher
-
-if TYPE_CHECKING:
-    from ._mend import SectionMender
 
 # A symbol (PGN 7), which is what a text of a move is.
 SYMBOL = re.compile(rb"[\w+#=:/-]+", re.ASCII)
@@ -105,9 +102,9 @@ class Linter(Reader):
     """Reads a file and makes a Finding of each fault, and a Warned of each warning."""
 
     def __init__(self, source: Source, name: str, checked: bool,
-                 mender: "Optional[SectionMender]" = None) -> None:
+                 bad_games: Optional[BadGames] = None) -> None:
         super().__init__(Window(source), checked, False)
-        self.name, self._mender = name, mender
+        self.name, self._bad_games = name, bad_games
         self.found: List[Union[Finding, Warned]] = []
         self._watcher: Optional[Watcher] = None
         self._reader = GameReader()
@@ -243,7 +240,7 @@ class Linter(Reader):
             self.name, fault.line, fault.column, fault.offset, fault.number, fault.reason, bad.note,
             fault.game, bad.white, bad.black, fault.begin, fault.end, bad.text, bad.before,
             fault.fen, bad.move, legal, exposing, sentence,
-            tuple(self._mender.section(fault).edits) if self._mender else ()))
+            tuple(self._bad_games.section(fault).edits) if self._bad_games else ()))
 
 
 class _BadGame(NamedTuple):

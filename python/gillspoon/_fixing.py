@@ -4,32 +4,14 @@ A file is replaced whole, by a temporary file beside it. Without an edit nothing
 """
 import errno
 import os
-import subprocess
 import sys
-import tempfile
-from typing import IO, Callable, List, NamedTuple, Optional, Sequence
+from typing import IO, Callable, List, NamedTuple, Optional
 
-from ._edits import Edit
-from ._fixes import LISTED, AnyFix, chosen_fixes
-from ._mend import Mender, SectionMender
+from ._edits import Choice, Edit, Mender
 from ._replacement import Replacement, check_writable, note_of_links
 from ._sources import CHUNK, Opened, Source, is_compressed
 
 Step = Callable[[int], None]
-
-
-class Choice(NamedTuple):
-    """Which fixes are tried, and those that the report counts as more."""
-
-    fixes: Sequence[AnyFix]
-    others: Sequence[AnyFix]
-
-
-def choice(unsafe: bool, select: Optional[Sequence[str]], ignore: Sequence[str],
-           language: Optional[str]) -> Choice:
-    """The fixes that the words of a command line choose."""
-    chosen = chosen_fixes(unsafe, select, ignore, language)
-    return Choice(chosen, () if unsafe else chosen_fixes(True, select, ignore, language))
 
 
 class Mended(NamedTuple):
@@ -54,7 +36,7 @@ class Mended(NamedTuple):
 def mend(opened: Opened, checked: bool, chosen: Choice, out: Callable[[], IO[bytes]],
          on_edit: Callable[[Edit], None], step: Step) -> Mended:
     """Writes the text after the edits to a file that `out` opens, if there is an edit."""
-    mender = Mender(opened, checked, SectionMender(opened, checked, chosen.fixes, chosen.others))
+    mender = Mender(opened, checked, chosen)
     file, at, edits, more, faults = None, 0, 0, 0, 0
     for faults, section in enumerate(mender.sections(step), 1):
         more += section.more
@@ -117,6 +99,7 @@ def mend_in_place(path: str, checked: bool, chosen: Choice, on_edit: Callable[[E
 def mend_copy(source: Source, checked: bool, chosen: Choice, on_edit: Callable[[Edit], None],
               look_at: Callable[[Opened, Mended], None], step: Step) -> None:
     """Mends a source into a temporary file, for `look_at`."""
+    import tempfile
     opened = Opened(source)
     try:
         with tempfile.TemporaryFile() as held:
@@ -137,16 +120,16 @@ def write_all(source: Opened, mended: Mended) -> None:
     out.flush()
 
 
-def write_diff(source: Opened, name: str, mended: Mended) -> None:
+def write_diff(source: Opened, name: str, mended: Mended, out: IO[bytes]) -> None:
     """Writes a unified diff of a source and its text after the edits, by the command diff."""
     if not mended.edits or mended.text is None:
         return
-    sys.stdout.flush()
+    import subprocess
     mended.text.seek(0)
     handle = source.handle
     words = ["diff", "-a", "-u", "-L", name, "-L", name + " mended", "/dev/fd/%d" % handle, "-"]
     try:
-        ran = subprocess.run(words, stdin=mended.text, check=False, pass_fds=(handle,))
+        ran = subprocess.run(words, stdin=mended.text, stdout=out, check=False, pass_fds=(handle,))
     except FileNotFoundError:
         raise OSError(errno.ENOENT, "the command diff is not on PATH") from None
     if ran.returncode > 1:
@@ -158,6 +141,7 @@ def write_diff(source: Opened, name: str, mended: Mended) -> None:
 
 def table() -> List[str]:
     """The lines of a table with all fixes, as docs/TOOLS.md has it."""
+    from ._fixes import LISTED
     rows = [("Fix", "Reasons", "Safe", "In the file", "Becomes"), ("---",) * 5]
     for fix in LISTED:
         old, new = (_cell(it) for it in fix.example)

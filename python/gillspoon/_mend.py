@@ -3,23 +3,20 @@
 An edit is kept if the game is then sound, or if fewer bytes are behind its first fault than before.
 The moves before the edit have to be the same. What no fix mends stays as it is, byte for byte.
 """
-from typing import Callable, Iterator, List, NamedTuple, Optional, Sequence, Tuple, Union
+from typing import List, NamedTuple, Optional, Sequence, Tuple, Union
 
 from . import _library
-from ._edits import Edit
+from ._edits import UNCLOSED_COMMENT, Edit, Section
 from ._faults import PgnFault
 from ._fixes import AnyFix, Fix
-from ._games import Game, Reader
 from ._here import Change, Here
 from ._places import BYTE_ORDER_MARK, NEAR, LineCounter
 from ._reading import GameReader
-from ._sections import BadGame, end_of, game_in_comment, lines_of
-from ._sources import CHUNK, Opened, Window
+from ._sections import BadGame, end_of, lines_of
+from ._sources import CHUNK, Opened
 from ._spellings import Spelling, like_tokens, respelled
 
-UNCLOSED_COMMENT, RESULT_DIFFERS = 12, 41
-# After how many games a step is reported.
-STEP = 256
+RESULT_DIFFERS = 41
 # The most variations that can be open, and one more.
 MOST_OPEN = 33
 MARKERS = (b" *", b" 1-0", b" 0-1", b" 1/2-1/2")
@@ -196,16 +193,6 @@ def open_braces(text: bytes) -> int:
     return text.count(b"{") - text.count(b"}")
 
 
-class Section(NamedTuple):
-    """A bad game of a source: where it is, and the edits that mend it."""
-
-    begin: int
-    end: int
-    edits: List[Edit]
-    more: int
-    """How many edits the fixes would make that are not chosen, but might be."""
-
-
 class SectionMender:
     """Mends the bad games of an opened source, in their order."""
 
@@ -262,39 +249,3 @@ class SectionMender:
             self._lines.feed(piece)
             self._counted += len(piece)
         return self._lines.copy().place(self.opened.fetch(offset, offset + NEAR))
-
-
-class Mender(Reader):
-    """Reads a source, and mends each bad game."""
-
-    def __init__(self, opened: Opened, checked: bool, mender: SectionMender) -> None:
-        super().__init__(Window(opened), checked, False)
-        self._size, self._mender = opened.size, mender
-
-    def sections(self, step: Callable[[int], None] = lambda number: None) -> Iterator[Section]:
-        """The bad games in turn. Now and then `step` is called with the number of a game."""
-        bad: List[PgnFault] = []
-        try:
-            for game in self.games(bad.append):
-                yield from map(self._mender.section, bad)
-                bad.clear()
-                yield from self._with_open_comment(game)
-                if not game.number % STEP:
-                    step(game.number)
-        except PgnFault as fault:
-            # nothing is read behind a fault that would be met again
-            fault.end = self._size
-            bad.append(fault)
-            self.number += 1
-        finally:
-            self.window.close()
-        yield from map(self._mender.section, bad)
-
-    def _with_open_comment(self, game: Game) -> Iterator[Section]:
-        """A sound game with another one in a comment: its text up to there is mended alone."""
-        base = self.window.base
-        inside = game_in_comment(self.window.data[game.offset - base:game.end - base])
-        if inside is not None:
-            end = game.offset + inside
-            yield self._mender.section(PgnFault(
-                UNCLOSED_COMMENT, "", end, 0, 0, game.number, None, game.offset, end), True)

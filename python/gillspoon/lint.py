@@ -7,9 +7,10 @@ import errno
 import os
 import signal
 import sys
-from typing import TYPE_CHECKING, Dict, Iterator, List, NamedTuple, NoReturn, Optional, Union
+from typing import (TYPE_CHECKING, Dict, Iterator, List, NamedTuple, NoReturn, Optional, Tuple,
+                    Union)
 
-from ._edits import Edit
+from ._edits import BadGames, Choice, Edit
 from ._findings import Finding, Linter, Warned
 from ._replacement import STOPPING, Replacement
 from ._reports import (AnyReport, JsonReport, Output, OutputFault, Progress, Report, SarifReport,
@@ -19,6 +20,8 @@ from ._version import add_version
 
 if TYPE_CHECKING:
     from concurrent.futures import Future
+
+    from . import _fixing
 
 DESCRIPTION = "Checks PGN files, and names each fault by file, line and column."
 HELP = """examples:
@@ -89,7 +92,7 @@ def arguments(words: Optional[List[str]]) -> argparse.Namespace:
     parser.add_argument("--max", metavar="N", type=_number, help="write the first N faults alone")
     _add_fix_options(parser)
     parser.add_argument("-j", "--jobs", metavar="N", type=_number, default=1,
-                        help="check files by N processes [default: 1]")
+                        help="check or mend files by N processes [default: 1]")
     words = sys.argv[1:] if words is None else words
     # options may be between files, and behind -- there are none
     end = words.index("--") if "--" in words else len(words)
@@ -187,12 +190,15 @@ def files_below(folder: str) -> Iterator[Union[str, Unread]]:
 
 
 class Checked(NamedTuple):
-    """What another process found in a file: its first faults, and how many it has."""
+    """What another process did with a file: what it would have written, in order, and its counts."""
 
-    findings: List[Union[Finding, Warned]]
+    written: "List[Union[Finding, Warned, Edit, str, bytes]]"
+    """Of the faults the first ones; messages; and diffs, as bytes."""
     faults: int
     warnings: int
     games: int
+    fixed: int
+    more: int
     unread: Optional[Unread]
 
 
@@ -230,31 +236,85 @@ def _linter_of(path: str, given: argparse.Namespace) -> Linter:
     name = STANDARD_INPUT if path == "-" else path
     if not given.json and not given.sarif:
         return Linter(source_of(path), name, given.checked)
-    from ._fixes import chosen_fixes
-    from ._mend import SectionMender
     opened = Opened(source_of(path))
-    fixes = chosen_fixes(given.unsafe_fixes, given.select, given.ignore, given.language)
-    return Linter(opened, name, given.checked, SectionMender(opened, given.checked, fixes))
+    return Linter(opened, name, given.checked, BadGames(opened, given.checked, choice_of(given)))
+
+
+def choice_of(given: argparse.Namespace) -> Choice:
+    """Which fixes are tried; with --fix and --diff the others are counted."""
+    return Choice(given.unsafe_fixes, given.select, given.ignore, given.language,
+                  given.fix or given.diff)
 
 
 def check_file(path: str, given: argparse.Namespace) -> Checked:
-    """Checks a file in a process of a pool, and keeps its first faults: all, or so many."""
-    findings: List[Union[Finding, Warned]] = []
-    faults = games = warnings = 0
-    try:
-        linter = linter_of(path, given)
-        for finding in linter.findings():
-            if isinstance(finding, Warned):
-                warnings += 1
-            else:
-                faults += 1
-            if given.max is None or faults <= given.max:
-                findings.append(finding)
-            games = linter.number - 1
-        games = linter.number - 1
-    except OSError as error:
-        return Checked(findings, faults, warnings, games, Unread(path, reason_of(error, path)))
-    return Checked(findings, faults, warnings, games, None)
+    """Checks or mends a file in a process of a pool."""
+    record = Record()
+    run = Run(given, record, [path])
+    run.check()
+    return Checked(record.written, run.faults, run.warnings, run.games, run.fixed, run.more,
+                   run.unread[0] if run.unread else None)
+
+
+class Writer:
+    """Where a run writes: the report, messages, and diffs."""
+
+    def __init__(self, report: AnyReport) -> None:
+        self.report = report
+
+    def found(self, finding: Union[Finding, Warned]) -> None:
+        """Writes a fault or a warning."""
+        if isinstance(finding, Finding):
+            self.report.fault(finding)
+        else:
+            self.report.warning(finding)
+
+    def edit(self, name: str, edit: Edit, is_done: bool) -> None:
+        """Writes an edit."""
+        self.report.edit(name, edit, is_done)
+
+    def message(self, text: str) -> None:
+        """Writes a message, behind what was written before."""
+        self.report.out.flush()
+        message(text)
+
+    def diff(self, source: Opened, name: str, mended: "_fixing.Mended") -> None:
+        """Writes a diff to standard output."""
+        from . import _fixing
+        sys.stdout.flush()
+        _fixing.write_diff(source, name, mended, sys.stdout.buffer)
+
+    def copy(self, diff: bytes) -> None:
+        """Writes a diff that another process made."""
+        try:
+            sys.stdout.buffer.write(diff)
+            sys.stdout.flush()
+        except OSError as error:
+            raise OutputFault(error) from None
+
+
+class Record(Writer):
+    """What a run in another process would write."""
+
+    def __init__(self) -> None:
+        self.written: "List[Union[Finding, Warned, Edit, str, bytes]]" = []
+
+    def found(self, finding: Union[Finding, Warned]) -> None:
+        self.written.append(finding)
+
+    def edit(self, name: str, edit: Edit, is_done: bool) -> None:
+        self.written.append(edit)
+
+    def message(self, text: str) -> None:
+        self.written.append(text)
+
+    def diff(self, source: Opened, name: str, mended: "_fixing.Mended") -> None:
+        import tempfile
+
+        from . import _fixing
+        with tempfile.TemporaryFile() as held:
+            _fixing.write_diff(source, name, mended, held)
+            held.seek(0)
+            self.written.append(held.read())
 
 
 def reason_of(error: OSError, path: str) -> str:
@@ -273,10 +333,11 @@ class LostProcess(Exception):
 class Run:
     """A run over files, which writes what it finds in their order."""
 
-    def __init__(self, given: argparse.Namespace, report: AnyReport) -> None:
-        self.given, self.report = given, report
-        self.files = list(files_of(given.paths or ["-"]))
-        self.progress = Progress(len(self.files), not given.quiet)
+    def __init__(self, given: argparse.Namespace, writer: Writer,
+                 files: "List[Union[str, Unread]]") -> None:
+        self.given, self.writer, self.files = given, writer, files
+        is_shown = not given.quiet and not isinstance(writer, Record)
+        self.progress = Progress(len(self.files), is_shown)
         self.read = self.games = self.faults = self.bad_files = self.fixed = self.more = 0
         self.warnings = 0
         self.is_fixing: bool = given.fix or given.diff
@@ -284,20 +345,23 @@ class Run:
         self.has_ended_processes = False
         """Whether processes were ended: then Python could wait for ever for what they write."""
 
-    def run(self) -> int:
-        """Checks all files, and gives the status."""
-        if self.given.jobs > 1 and len(self.files) > 1 and not self.is_fixing:
+    def check(self) -> int:
+        """Checks or mends all files, and gives the status."""
+        if self.given.jobs > 1 and len(self.files) > 1:
             self._check_by_processes()
         else:
             for file in self.files:
                 self._check_here(file)
         self.progress.clear()
-        self.report.end(Summary(self.read, self.games, self.faults, self.bad_files,
-                                *((self.fixed, self.more) if self.is_fixing else (None, None)),
-                                self.warnings or None), self.unread)
         is_faulty = self.faults or self.given.diff and self.fixed or \
             self.given.strict and self.warnings
         return UNREADABLE if self.unread else FAULTY if is_faulty else SOUND
+
+    def summary(self) -> Summary:
+        """What all files had."""
+        return Summary(self.read, self.games, self.faults, self.bad_files,
+                       *((self.fixed, self.more) if self.is_fixing else (None, None)),
+                       self.warnings or None)
 
     def _check_here(self, file: Union[str, Unread]) -> None:
         """Checks a file in this process, and writes each fault when it is found."""
@@ -318,21 +382,20 @@ class Run:
 
     def _lint(self, linter: Linter) -> None:
         before = self.games
-        for finding in linter.findings(lambda number: self._show(before + number)):
-            self._found(finding)
+        try:
+            for finding in linter.findings(lambda number: self._show(before + number)):
+                self._found(finding)
+        finally:
             self.games = before + linter.number - 1
-        self.games = before + linter.number - 1
 
     def _mend(self, file: str) -> None:
         """Mends a file in place, or shows what that would change; reports what is left."""
         from . import _fixing
         given, name = self.given, STANDARD_INPUT if file == "-" else file
-        chosen = _fixing.choice(given.unsafe_fixes, given.select, given.ignore,
-                                given.language)
 
         def on_edit(edit: Edit) -> None:
             self.progress.clear()
-            self.report.edit(name, edit, given.fix)
+            self.writer.edit(name, edit, given.fix)
 
         def look_at(source: Opened, mended: _fixing.Mended) -> None:
             if mended.faults:
@@ -340,7 +403,7 @@ class Run:
             else:
                 self.games += mended.games
             if given.diff:
-                _fixing.write_diff(source, name, mended)
+                self.writer.diff(source, name, mended)
             elif file == "-":
                 _fixing.write_all(source, mended)
             self.fixed, self.more = self.fixed + mended.edits, self.more + mended.more
@@ -350,17 +413,18 @@ class Run:
         def step(number: int) -> None:
             self._show(before + number)
 
+        task = given.checked, choice_of(given), on_edit, look_at, step
         if given.fix and file != "-":
-            note = _fixing.mend_in_place(file, given.checked, chosen, on_edit, look_at, step)
+            note = _fixing.mend_in_place(file, *task)
             if note:
-                message("%s: %s" % (file, note))
+                self.writer.message("%s: %s" % (file, note))
         else:
-            _fixing.mend_copy(source_of(file), given.checked, chosen, on_edit, look_at, step)
+            _fixing.mend_copy(source_of(file), *task)
 
     def _check_by_processes(self) -> None:
-        """Checks the files by several processes, and writes the faults in the order of the files.
+        """Checks the files by several processes, and writes what they found in their order.
 
-        Standard input is read by this one.
+        Standard input is read by this one, and so is a file that was given before: it may change.
         """
         # they take as long as all other imports together
         import multiprocessing
@@ -370,58 +434,94 @@ class Run:
         try:
             asked: "Dict[int, Future[Checked]]" = {
                 at: pool.submit(check_file, file, self.given)
-                for at, file in enumerate(self.files) if isinstance(file, str) and file != "-"}
+                for at, file in self._first_ones() if file != "-"}
             for at, file in enumerate(self.files):
                 if at in asked:
-                    self._take(asked.pop(at).result())
+                    assert isinstance(file, str)
+                    self._take(file, asked.pop(at).result())
                     self._show(self.games)
                 else:
                     self._check_here(file)
         except BaseException as error:
             self.has_ended_processes = True
-            for process in multiprocessing.active_children():
+            processes = multiprocessing.active_children()
+            for process in processes:
                 process.terminate()
             pool.shutdown(wait=False, cancel_futures=True)
+            for process in processes:
+                # each removes its temporary file
+                process.join(END_SECONDS)
             if isinstance(error, BrokenProcessPool):
                 raise LostProcess from None
             raise
         pool.shutdown()
 
-    def _take(self, checked: Checked) -> None:
+    def _first_ones(self) -> Iterator[Tuple[int, str]]:
+        """The files by their places, but those that are there by another name already."""
+        seen = set()
+        for at, file in enumerate(self.files):
+            if isinstance(file, str):
+                try:
+                    found = os.stat(file)
+                    key: object = (found.st_dev, found.st_ino)
+                except OSError:
+                    key = file
+                if key not in seen or not self.given.fix:
+                    yield at, file
+                seen.add(key)
+
+    def _take(self, file: str, checked: Checked) -> None:
         faults, warnings = self.faults, self.warnings
-        for finding in checked.findings:
-            self._found(finding)
+        for it in checked.written:
+            self.progress.clear()
+            if isinstance(it, (Finding, Warned)):
+                self._found(it)
+            elif isinstance(it, Edit):
+                self.writer.edit(file, it, self.given.fix)
+            elif isinstance(it, str):
+                self.writer.message(it)
+            else:
+                self.writer.copy(it)
         self.faults, self.warnings = faults + checked.faults, warnings + checked.warnings
         self.bad_files += checked.faults > 0
         self.games += checked.games
+        self.fixed, self.more = self.fixed + checked.fixed, self.more + checked.more
         self.read += not checked.unread
         if checked.unread:
-            self._cannot_read(checked.unread)
+            self.unread.append(checked.unread)
 
     def _found(self, finding: Union[Finding, Warned]) -> None:
         self.faults += isinstance(finding, Finding)
         self.warnings += isinstance(finding, Warned)
         if self.given.max is None or self.faults <= self.given.max:
             self.progress.clear()
-            if isinstance(finding, Finding):
-                self.report.fault(finding)
-            else:
-                self.report.warning(finding)
+            self.writer.found(finding)
 
     def _cannot_read(self, unread: Unread) -> None:
         self.unread.append(unread)
         self.progress.clear()
-        self.report.out.flush()
-        message("%s: %s" % unread)
+        self.writer.message("%s: %s" % unread)
 
     def _show(self, games: int) -> None:
         self.progress.show(self.read + 1, games)
 
 
+# How long a process may take to remove its temporary file.
+END_SECONDS = 5
+
+
 def _end_with_parent() -> None:
-    """In a process of a pool: an interrupt ends it at once and silently, if it is not ignored."""
-    if signal.getsignal(signal.SIGINT) != signal.SIG_IGN:
-        signal.signal(signal.SIGINT, signal.SIG_DFL)
+    """In a process of a pool: a signal ends it at once and silently, if it is not ignored."""
+    for stopping in STOPPING:
+        if signal.getsignal(stopping) != signal.SIG_IGN:
+            signal.signal(stopping, _end)
+
+
+def _end(number: int, _frame: object) -> None:
+    for replacement in Replacement.made:
+        replacement.discard()
+    signal.signal(number, signal.SIG_DFL)
+    os.kill(os.getpid(), number)
 
 
 class Stopped(BaseException):
@@ -466,9 +566,11 @@ def main(words: Optional[List[str]] = None) -> int:
     if given.fix:
         for stopping in STOPPING:
             signal.signal(stopping, _stop)
-    run = Run(given, _report_of(given, out))
+    report = _report_of(given, out)
+    run = Run(given, Writer(report), list(files_of(given.paths or ["-"])))
     try:
-        status = run.run()
+        status = run.check()
+        report.end(run.summary(), run.unread)
         out.flush()
     except (KeyboardInterrupt, Stopped) as stopped:
         run.progress.clear()

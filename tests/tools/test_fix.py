@@ -9,6 +9,7 @@ import signal
 import stat
 import subprocess
 import sys
+import time
 import unittest
 
 sys.path.insert(0, os.path.dirname(os.path.realpath(__file__)))
@@ -509,3 +510,97 @@ class Command(Lint):
             self.assertEqual(self.read("a.pgn"), text)
             if number != signal.SIGKILL:
                 self.assertEqual(left, ["a.pgn"])
+
+
+class Processes(Lint):
+    """With -j the files and all that is said are those of one process."""
+
+    def fill(self):
+        """Puts the same files again: sound, mended, left, read-only, compressed, linked."""
+        import gzip
+        for number in range(12):
+            self.put("all/%02d.pgn" % number, b"\n".join(
+                [BAD, MENDED, BAD.replace(b"e5", b"Ke5"), b"1. e4 -- *\n"][:number % 5]))
+        self.put("all/packed.pgn.gz", gzip.compress(BAD, mtime=0))
+        self.put("all/locked.pgn", BAD)
+        os.chmod(self.folder + "/all/locked.pgn", 0o444)
+        self.put("all/one.pgn", BAD)
+        os.link(self.folder + "/all/one.pgn", self.folder + "/all/two.pgn")
+        os.symlink("one.pgn", self.folder + "/all/three.pgn")
+
+    def texts(self):
+        found = {}
+        for name in sorted(os.listdir(self.folder + "/all")):
+            with open(os.path.join(self.folder, "all", name), "rb") as file:
+                found[name] = file.read()
+        return found
+
+    def empty(self):
+        import shutil
+        shutil.rmtree(self.folder + "/all", ignore_errors=True)
+
+    def test_they_change_nothing(self):
+        need("diff")
+        for words in (["--fix"], ["--diff"], ["--fix", "--json"], ["--fix", "--unsafe-fixes"],
+                      ["--fix", "--max", "2"], ["--diff", "--quiet"], ["--fix", "--board"]):
+            said = []
+            for jobs in ("1", "3"):
+                self.empty()
+                self.fill()
+                said.append((self.lint(*words, "-j", jobs, "all", "missing", "all/01.pgn"),
+                             self.texts()))
+            with self.subTest(words):
+                self.assertEqual(said[0], said[1])
+                self.assertEqual(said[0][0][0], 3)
+                # the locked one stays
+                self.assertEqual(said[1][1]["locked.pgn"], BAD)
+                wanted = MENDED if "--fix" in words else BAD
+                self.assertEqual((said[1][1]["01.pgn"], said[1][1]["one.pgn"]), (wanted, wanted))
+
+    def test_standard_input_among_files(self):
+        need("diff")
+        self.put("a.pgn", BAD)
+        self.put("b.pgn", BAD)
+        words = ["--diff", "a.pgn", "-", "b.pgn"]
+        one = self.lint(*words, input=BAD)
+        self.assertEqual(self.lint("-j", "2", *words, input=BAD), one)
+        self.assertEqual((one[0], one[1].count("+1. e2e4 e5 *")), (1, 3))
+
+    def test_a_signal_leaves_no_file(self):
+        """Each process removes the file that it writes. What was mended stays mended."""
+        text = BAD * 20000
+        for number in (signal.SIGTERM, signal.SIGHUP, signal.SIGINT):
+            for name in ("a.pgn", "b.pgn", "c.pgn"):
+                self.put(name, text)
+            words = ["env", "--default-signal=INT", LINT, "--fix", "-j", "2", "a.pgn", "b.pgn",
+                     "c.pgn"]
+            with subprocess.Popen(words, cwd=self.folder, stdout=subprocess.DEVNULL,
+                                  stderr=subprocess.PIPE, env=self.env) as running:
+                # a temporary file shows that an edit was made
+                while len(os.listdir(self.folder)) == 3 and running.poll() is None:
+                    time.sleep(0.01)
+                running.send_signal(number)
+                told = running.stderr.read()
+            self.assertEqual((running.returncode, told), (-number, b""))
+            self.assertEqual(sorted(os.listdir(self.folder)), ["a.pgn", "b.pgn", "c.pgn"])
+            for name in ("a.pgn", "b.pgn", "c.pgn"):
+                self.assertIn(self.read(name), (text, MENDED * 20000))
+
+    def read(self, name):
+        with open(os.path.join(self.folder, name), "rb") as file:
+            return file.read()
+
+    def test_sound_files_import_no_fix(self):
+        """They cost what pgn_lint costs."""
+        script = ("import sys; sys.path.insert(0, %r); from gillspoon.lint import main; main(); "
+                  "print(*sorted(it for it in sys.modules if it.startswith('gillspoon._')))")
+        for text, is_there in ((MENDED, False), (BAD, True)):
+            self.put("a.pgn", text)
+            for words in (["--fix"], ["--diff"], ["--json"]):
+                ran = subprocess.run([sys.executable, "-c", script % PACKAGE, *words, "a.pgn"],
+                                     cwd=self.folder, env=self.env, stdout=subprocess.PIPE,
+                                     check=True)
+                loaded = set(ran.stdout.decode().splitlines()[-1].split())
+                found = loaded & {"gillspoon._fixes", "gillspoon._mend", "gillspoon._here"}
+                self.assertEqual(len(found), 3 * is_there, (words, found))
+                self.put("a.pgn", text)
