@@ -26,7 +26,7 @@ STEP = 256
 SHOWN = 60
 # How many lines of a bad game are searched for its tags.
 MOST_LINES = 64
-UNCLOSED_COMMENT, TAG_IN_MOVETEXT, MOVE_LIMIT, RESULT_DIFFERS = 12, 32, 36, 41
+UNCLOSED_COMMENT, BAD_RESULT, TAG_IN_MOVETEXT, MOVE_LIMIT, RESULT_DIFFERS = 12, 25, 32, 36, 41
 # What a message leaves out, by the number of the fault.
 NOTES = {
     42: "the last game has no result at its end",
@@ -34,6 +34,12 @@ NOTES = {
 COMMENT_AMONG_TAGS = "a comment behind a tag pair begins the movetext"
 NO_RESULT_BEFORE = "the game before may have no result at its end"
 NO_RESULT = "there is no Result tag, which counts as *; --checked takes the result at the end"
+# How programs write that a game was forfeited, in place of a result.
+FORFEIT = re.compile(
+    rb'"\s*(?:[+-]\s*[:/]?\s*[+-]|0\s*[-:/]\s*0|[01]\s*F?\s*[-:]\s*[01]\s*F'
+    rb'|[01]\s*F\s*[-:]\s*[01]|[^"\r\n]*(?:FORFEIT|DEFAULT|WALKOVER)[^"\r\n]*)\s*"', re.I)
+OF_FORFEIT = ("of a forfeit PGN 8.1.1.7 has the result alone, * if there is no winner; a Termination "
+              "tag says why")
 CASTLING = ("%s may not castle by %s here: the right is lost, a square between is occupied, or the "
             "king is in check, or passes or reaches an attacked square.")
 PIECES = {"K": "king", "Q": "queen", "R": "rook", "B": "bishop", "N": "knight", "P": "pawn"}
@@ -179,6 +185,9 @@ class Linter(Reader):
         """What the reason leaves out."""
         if fault.number == UNCLOSED_COMMENT:
             return self._begin_of_comment()
+        if fault.number == BAD_RESULT and FORFEIT.match(
+                self.window.data, fault.offset - self.window.base):
+            return OF_FORFEIT
         if fault.number == RESULT_DIFFERS and self._passes_without_result():
             return NO_RESULT
         if fault.number == TAG_IN_MOVETEXT:

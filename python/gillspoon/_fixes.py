@@ -50,14 +50,11 @@ SAFE, UNSAFE = True, False
 # In the order in which they are tried.
 FIXES: "Tuple[AnyFix, ...]" = SPELLINGS + tuple(_of_data()) + (
     _of_row("novelty", by.novelty),
-    _fix("Result tag from the marker", (25,), SAFE, '[Result "?"] … 1-0', '[Result "1-0"] … 1-0',
-         by.unknown_result_tag),
-    _fix("missing Result tag", (41,), SAFE, "1. e4 1-0", '[Result "1-0"] 1. e4 1-0',
-         by.missing_result_tag),
+    _of_row("Result tag from the marker", by.unknown_result_tag),
+    _of_row("missing Result tag", by.missing_result_tag),
     _of_row("quotes in a value", by.quotes_in_value),
-    _fix("pair given twice", (22,), SAFE, '[Site "?"] [Site "?"]', '[Site "?"]', by.equal_pair),
-    _fix("spelling of a FEN", (26,), SAFE, '"… w qkQK - 0 1 "', '"… w KQkq - 0 1"',
-         by.fen_spelling),
+    _of_row("pair given twice", by.equal_pair),
+    _of_row("spelling of a FEN", by.fen_spelling),
     _of_row("long drawing command", by.long_command),
     _fix("second marker", (41,), UNSAFE, "1-0 1-0", "1-0", by.second_marker),
     _fix("other Result tag", (41,), UNSAFE, '[Result "*"] … 1-0', '[Result "1-0"] … 1-0',

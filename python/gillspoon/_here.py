@@ -2,10 +2,9 @@
 import json
 import os
 import re
-from typing import Any, Dict, List, NamedTuple, Optional, Tuple
+from typing import Any, Dict, List, NamedTuple, Optional, Tuple, Union
 
 from ._reading import GameReader
-from ._sections import PAIR, SPACE
 
 # How much text behind a move is looked at, and before a fault.
 NEAR, BEFORE = 160, 512
@@ -14,6 +13,45 @@ NO_MOVE = b" Ka1a1 "
 with open(os.path.join(os.path.dirname(os.path.realpath(__file__)), "fixes.json"),
           encoding="utf-8") as _file:
     DATA: Dict[str, Any] = json.load(_file)
+
+
+# ---- patterns of the data
+
+
+def pattern_of(text: str) -> "re.Pattern[bytes]":
+    """The regular expression of a text of the data, in which words in capitals stand for others."""
+    macros: Dict[str, str] = DATA["macros"]
+    whole = re.sub("|".join(macros), lambda it: macros[it[0]], text)
+    return re.compile(whole.encode("ascii"))
+
+
+# What is written for a match: texts, and the numbers of groups.
+Template = Tuple[Union[bytes, int], ...]
+Steps = Tuple[Tuple["re.Pattern[bytes]", Template], ...]
+
+
+def steps_of(row: Dict[str, Any]) -> Steps:
+    """The patterns of a row of the data, and what is written for each."""
+    return tuple((pattern_of(pattern), _template_of(new)) for pattern, new in row["steps"])
+
+
+def _template_of(text: str) -> Template:
+    parts = re.split(r"\\([0-9])", text)
+    return tuple(int(it) if at % 2 else it.encode("ascii") for at, it in enumerate(parts))
+
+
+def expanded(match: "re.Match[bytes]", template: Template) -> bytes:
+    """What is written for a match."""
+    return b"".join([(match[it] or b"") if isinstance(it, int) else it for it in template])
+
+
+# A move as the reader takes it.
+MOVE = pattern_of("MOVE[+#]*(?![A-Za-z0-9_=:/-])")
+# White space, comments and escape lines, also to the end of a section; and a tag pair.
+SPACE, REST, PAIR = (pattern_of(DATA["parts"][it]) for it in ("space", "rest", "pair"))
+
+
+# ---- faults
 
 
 class Change(NamedTuple):
@@ -85,25 +123,3 @@ class Head:
     def value(self, name: bytes) -> Optional[bytes]:
         """The value of the first pair of a name."""
         return next((it[2] for it in self.named(name)), None)
-
-
-# ---- patterns of the data
-
-
-def pattern_of(text: str) -> "re.Pattern[bytes]":
-    """The regular expression of a text of the data, in which words in capitals stand for others."""
-    macros: Dict[str, str] = DATA["macros"]
-    whole = re.sub("|".join(macros), lambda it: macros[it[0]], text)
-    return re.compile(whole.encode("ascii"))
-
-
-Steps = Tuple[Tuple["re.Pattern[bytes]", bytes], ...]
-
-
-def steps_of(row: Dict[str, Any]) -> Steps:
-    """The patterns of a row of the data, and what is written for each."""
-    return tuple((pattern_of(pattern), new.encode("ascii")) for pattern, new in row["steps"])
-
-
-# A move as the reader takes it.
-MOVE = pattern_of("MOVE[+#]*(?![A-Za-z0-9_=:/-])")

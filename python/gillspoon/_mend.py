@@ -248,4 +248,4 @@ class SectionMender:
             piece = self.opened.fetch(self._counted, min(offset, self._counted + CHUNK))
             self._lines.feed(piece)
             self._counted += len(piece)
-        return self._lines.copy().place(self.opened.fetch(offset, offset + NEAR))
+        return self._lines.place(self.opened.fetch(offset, offset + NEAR))

@@ -88,6 +88,11 @@ class LineCounter:
             return False
         return True
 
+    def _is_plain(self) -> bool:
+        """Whether the line has ASCII alone so far, and the next bytes decide nothing of it."""
+        return self._is_utf8 and self._bytes == self._characters and not self._held \
+            and not self._is_start and not self._decoder.getstate()[0]
+
     def place(self, near: bytes) -> Tuple[int, int]:
         """The line and the column, both from 1; `near` has the next bytes of the text.
 
@@ -103,6 +108,9 @@ class LineCounter:
         >>> counter.find(b"Nf9 *")
         Place(line=2, column=4, before=3, encoding='utf-8')
         """
+        rest = LINE_END.split(near[:NEAR], 1)[0]
+        if self._is_plain() and rest.isascii():
+            return Place(self._line, self._bytes + 1, self._bytes, "utf-8")
         end = self.copy()
         held, end._held = end._held, b""
         if end._is_start and (held + near).startswith(BYTE_ORDER_MARK):
@@ -112,7 +120,6 @@ class LineCounter:
             held = b""
         end._bytes += len(held)
         end._characters += len(held.translate(None, _INSIDE))
-        rest = LINE_END.split(near[:NEAR], 1)[0]
         if end._is_utf8 and end._decodes(held + rest, len(rest) < NEAR):
             inside = 0x80 <= (near or b" ")[0] < 0xC0
             return Place(end._line, max(end._characters + 1 - inside, 1), end._bytes, "utf-8")

@@ -4,17 +4,14 @@ from typing import Callable, List, Optional
 
 from . import _calls
 from ._faults import FenFault, MoveFault
-from ._here import DATA, NEAR, Change, Here, pattern_of, steps_of
+from ._here import DATA, NEAR, REST, SPACE, Change, Here, expanded, pattern_of, steps_of
 from ._left_out import PART
-from ._sections import SPACE
 
 Propose = Callable[[Here], Optional[Change]]
 LONGEST_WORD = 79
-MARKER = re.compile(rb"(?<![\w+#=:/-])(?:1-0|0-1|1/2-1/2|\*)(?![\w+#=:/-])", re.ASCII)
+MARKER = pattern_of("MARKER")
 # What a text of movetext is made of: a string, comment or escape line; a parenthesis; a marker.
-MOVETEXT = re.compile(PART.pattern + rb"|([()])|(" + MARKER.pattern + rb")", re.DOTALL)
-# White space, comments and escape lines to the end of a section.
-REST = re.compile(SPACE.pattern + rb"\Z")
+MOVETEXT = pattern_of(DATA["parts"]["movetext"])
 BEHIND_MOVE = pattern_of(r"(?:MOVE[+#]*[!?]*|\$[0-9]+|\})\s*\Z")
 # What the functions look for that the page has too.
 PATTERNS = {it["name"]: pattern_of(it["pattern"]) for it in DATA["functions"]}
@@ -32,8 +29,9 @@ def by_pattern(name: str) -> Propose:
     def propose(here: Here) -> Optional[Change]:
         for pattern, new in steps:
             match = here.match_at_place(pattern)
-            if match and match.expand(new) != match[0] and condition(here, match):
-                return Change(match.start(), match.end(), match.expand(new))
+            made = expanded(match, new) if match else b""
+            if match and made != match[0] and condition(here, match):
+                return Change(match.start(), match.end(), made)
         return None
 
     return propose
@@ -82,7 +80,7 @@ def _second_pair(here: Here, is_equal: bool) -> Optional[Change]:
 
 def _whole_line(text: bytes, start: int, stop: int) -> Change:
     """Takes out a text, and its line too if nothing else is on it."""
-    line = re.compile(rb"[ \t]*(?:\r\n|\r|\n)").match(text, stop)
+    line = PATTERNS["pair given twice"].match(text, stop)
     is_alone = not start or text[start - 1:start] in b"\r\n"
     return Change(start, line.end() if line and is_alone else stop, b"")
 
@@ -154,8 +152,7 @@ def fen_spelling(here: Here) -> Optional[Change]:
     return _fen_change(value, fields)
 
 
-FIRST_NUMBER = re.compile(SPACE.pattern + rb"([0-9]+)[ \t]*\.([ \t]*\.[ \t.]*)?")
-VALUE = re.compile(rb'"([^"\\\r\n]*)"')
+FIRST_NUMBER = pattern_of(DATA["parts"]["first number"])
 
 
 def fen_without_counters(here: Here) -> Optional[Change]:
@@ -168,7 +165,7 @@ def fen_without_counters(here: Here) -> Optional[Change]:
 
 
 def _value_at(here: Here) -> "Optional[re.Match[bytes]]":
-    return VALUE.match(here.text, here.place)
+    return PATTERNS["spelling of a FEN"].match(here.text, here.place)
 
 
 def _rights(field: bytes) -> bytes:
@@ -190,7 +187,7 @@ def _fen_change(value: "re.Match[bytes]", fields: List[bytes]) -> Optional[Chang
 
 def missing_result_tag(here: Here) -> Optional[Change]:
     """Adds a Result tag with the marker, to a game that has moves or tags."""
-    head, marker = here.head(), MARKER.match(here.text, here.place)
+    head, marker = here.head(), PATTERNS["missing Result tag"].match(here.text, here.place)
     has_moves = not REST.match(here.text[:here.place], here.begin)
     if not marker or head.value(b"Result") is not None or not has_moves:
         return None
@@ -208,7 +205,7 @@ def unknown_result_tag(here: Here) -> Optional[Change]:
     """Writes the marker of the game in place of a value that says nothing."""
     pair = next(iter(here.head().named(b"Result")), None)
     marker = _last_marker(here.text)
-    if not pair or pair[2].strip() not in (b"", b"?", b"??", b"-") or not marker:
+    if not pair or not PATTERNS["Result tag from the marker"].match(pair[2]) or not marker:
         return None
     return Change(pair.start(2), pair.end(2), marker)
 

@@ -9,7 +9,7 @@ from typing import FrozenSet, Iterable, List, NamedTuple, Optional, Tuple
 from . import _calls
 from ._faults import FenFault, MoveFault
 from ._findings import piece_on
-from ._here import DATA, MOVE, NEAR, Change, Here, Steps, pattern_of, steps_of
+from ._here import DATA, MOVE, NEAR, Change, Here, Steps, expanded, pattern_of, steps_of
 from ._left_out import PART
 
 # The reasons at which the spelling of a move can be at fault.
@@ -84,7 +84,7 @@ def _step(spelling: Spelling, text: bytes, fen: str) -> Optional[Tuple[bytes, by
     for pattern, new in spelling.steps:
         match = pattern.match(text)
         if match:
-            made, tail = match.expand(new) + _letter(spelling, match, fen), text[match.end():]
+            made, tail = expanded(match, new) + _letter(spelling, match, fen), text[match.end():]
             if made != match[0] and _holds(spelling.needs, made + tail, fen):
                 return made, tail
     return None
@@ -142,6 +142,6 @@ def _without_board(token: bytes, spellings: Tuple[Spelling, ...]) -> bytes:
         for pattern, new in spelling.steps:
             match = pattern.match(token)
             if match:
-                token = match.expand(new) + token[match.end():]
+                token = expanded(match, new) + token[match.end():]
                 break
     return token

@@ -21,6 +21,9 @@ FORMS = {
     b"Round": (rb"\?|-|[0-9]+(?:\.[0-9]+)*", "a number, ? or -", "8.1.1.4"),
     b"WhiteElo": (rb"[0-9]+|-|\?", "a number or -", "9.1.2"),
     b"BlackElo": (rb"[0-9]+|-|\?", "a number or -", "9.1.2"),
+    b"Termination": (
+        rb'(?i:time forfeit|(?:(?!forfeit|default|walk-?over|no[ -]?show)(?:\\.|[^"\\\n]))*)',
+        "time forfeit, or another word of the standard", "9.8.1"),
     b"ECO": (rb"[A-E][0-9]{2}(?:/[0-9]{2})?|\?|-", "a letter and two digits", "9.4.1"),
 }
 # A line of a tag section in export format whose value has another form; or a Variant tag.

@@ -255,6 +255,9 @@ class Kept(unittest.TestCase):
 SWALLOWED = b'[White "Ada"]\n\n1. e4 {Black resigns\n\n[White "Bob"]\n\n1. d4 {good} *\n'
 
 
+FORFEIT = "Termination is not time forfeit, or another word of the standard (PGN 9.8.1)"
+
+
 class Warnings(Lint):
     """What pgn_lint says of games that are sound."""
 
@@ -296,13 +299,37 @@ class Warnings(Lint):
                 ('WhiteElo "about 2000"', "WhiteElo is not a number or - (PGN 9.1.2)"),
                 ('BlackElo ""', "BlackElo is not a number or - (PGN 9.1.2)"),
                 ('ECO "X99"', "ECO is not a letter and two digits (PGN 9.4.1)"),
+                ('Termination "won by forfeit"', FORFEIT), ('Termination "Forfeit"', FORFEIT),
+                ('Termination "time forfeit of both"', FORFEIT),
+                ('Termination "default"', FORFEIT), ('Termination "no show"', FORFEIT),
+                (r'Termination "a \"walkover\""', FORFEIT),
                 ('Variant "Atomic"', "Variant tag: the moves are checked by the rules of ordinary "
                                      "chess")):
             self.warned(b"[%s]\n\n*\n" % tag.encode(),
                         "1:1: warning: %s (game 1, ? \u2013 ?)" % reason)
         for tag in ('Date "????.??.??"', 'Date "2020.01.??"', 'Round "1.2"', 'Round "-"',
-                    'Variant "Standard"', 'WhiteElo "2700"', 'BlackElo "-"', 'ECO "B12/13"', 'ECO "B12"'):
+                    'Variant "Standard"', 'WhiteElo "2700"', 'BlackElo "-"', 'ECO "B12/13"',
+                    'ECO "B12"', *('Termination "%s"' % it for it in (
+                        # PGN 9.8.1 lists these; lichess.org writes some with a capital
+                        "abandoned", "adjudication", "death", "emergency", "normal",
+                        "rules infraction", "time forfeit", "unterminated", "Time forfeit",
+                        # it says nothing of a forfeit
+                        "Ada won by resignation", "", r"a \"draw\""))):
             self.warned(b"[%s]\n\n*\n" % tag.encode())
+
+    def test_results_of_a_forfeit(self):
+        """They are no Result of PGN 8.1.1.7, and the message says which one there is."""
+        note = ("bad result value: of a forfeit PGN 8.1.1.7 has the result alone, * if there is no "
+                "winner; a Termination tag says why")
+        for value in ("+:-", "-:+", "+ / -", "+-", "-:-", "1-0F", "0-1f", "1F-0F", "1 - 0 F", "0-0",
+                      "0:0", "1-0 forfeit", "Forfeit", "won by default"):
+            self.put("a.pgn", b'[Result "%s"]\n\n1. e4 *\n' % value.encode())
+            self.assertEqual(self.lint("--quiet", "a.pgn"), (
+                1, "a.pgn:1:9: %s (game 1, ? \u2013 ?)\n" % note, ""), value)
+        for value in ("won", "1/2", "?", "", "1-0-0", "0-1-0"):
+            self.put("a.pgn", b'[Result "%s"]\n\n1. e4 *\n' % value.encode())
+            self.assertEqual(self.lint("--quiet", "a.pgn")[1],
+                             "a.pgn:1:9: bad result value (game 1, ? \u2013 ?)\n", value)
 
     def test_files(self):
         for text, line in ((b"", 1), (b"\n \n", 3), (b"%x\n", 1)):
