@@ -64,6 +64,9 @@ function editItem({ file, line, column, name, old, text }) {
   return item;
 }
 
+// A text in a line: without the line ends around it, if it has more.
 function shown(bytes) {
-  return bytes.length ? "“" + printable(decoded(bytes)) + "”" : "nothing";
+  const text = decoded(bytes);
+  const line = text.replace(/^[\r\n]+|[\r\n]+$/g, "").replace(/[\r\n]+/g, " ");
+  return text ? "“" + printable(line || text) + "”" : "nothing";
 }

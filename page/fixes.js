@@ -12,8 +12,8 @@ const BEFORE_FAULT = 512;
 const NUMBER = /^[0-9]+\. $/;
 // How many marks a drawing command gets.
 const MARKS = 12;
-// White space, comments and escape lines to the end of a text.
-const REST = /(?:[\t-\r ]|\xef\xbb\xbf|\{[^}]*(?:\}|$)|;[^\r\n]*|%(?<![^\r\n]%)[^\r\n]*)*$/y;
+// No FEN is longer.
+const LONGEST_FEN = 96;
 // What Python's expressions on bytes have and JavaScript's have in another way.
 const OTHER_SIGNS = { "\\A": "^", "\\Z": "$", "\\s": "[\\t-\\r ]" };
 
@@ -33,8 +33,15 @@ export class Fixes {
     this.texts = data.texts.filter((row) => row.safe).map(
       (row) => ({ ...row, steps: steps(row, "g") }));
     this.functions = data.functions.map((row) => ({
-      ...row, pattern: this.pattern(row.pattern, "g"), propose: FUNCTIONS[row.name],
+      ...row, pattern: this.pattern(row.pattern, FLAGS[row.name] || "g"),
+      propose: FUNCTIONS[row.name],
     }));
+    const part = (name, flags) => this.pattern(data.parts[name], flags);
+    this.space = part("space", "y");
+    this.rest = part("rest", "y");
+    this.pair = part("pair", "y");
+    this.movetext = part("movetext", "g");
+    this.firstNumber = part("first number", "y");
     this.move = this.pattern("\\AMOVE[+#]*(?![A-Za-z0-9_=:/-])", "");
     this.wordBefore = this.pattern(
       "(?:MOVE[+#]*|(?<![0-9])[0-9O]{1,5})[!?]*\\s*\\(?[ \\t]*\\Z", "");
@@ -64,8 +71,7 @@ export class Fixes {
       }
     }
     for (const { name, reasons, pattern, propose } of this.functions) {
-      const match = reasons.includes(here.fault) ? matchAtPlace(here, pattern) : null;
-      const edit = match && propose(this, here, match);
+      const edit = reasons.includes(here.fault) ? propose(this, here, pattern) : null;
       if (edit) {
         yield { ...edit, name };
       }
@@ -92,10 +98,38 @@ export class Fixes {
       return this.isBehindMove(here, match);
     }
     if (needs === "end") {
-      REST.lastIndex = stop;
-      return REST.test(here.text);
+      return this.isRest(here.text, stop);
     }
     return needs !== "last" || here.isLast;
+  }
+
+  // Whether white space, comments and escape lines go from a place to the end of a text.
+  isRest(text, from) {
+    return matchAt(this.rest, text, from) !== null;
+  }
+
+  // The tag pairs that a game begins with: their names, values and places.
+  head(here) {
+    const pairs = [];
+    for (let end = here.begin; ;) {
+      const pair = matchAt(this.pair, here.text, endOf(matchAt(this.space, here.text, end)));
+      if (!pair) {
+        return pairs;
+      }
+      end = endOf(pair);
+      // a value is the first quote behind a name and white space
+      const value = end - pair[0].length + pair[0].indexOf("\"" + pair[2]) + 1;
+      pairs.push({ name: pair[1], value: pair[2], valueAt: value, start: pair.index, end });
+    }
+  }
+
+  // The marker that a text ends with, or an empty text.
+  lastMarker(text) {
+    let last = null;
+    for (const match of text.matchAll(this.movetext)) {
+      last = match[4] ? match : last;
+    }
+    return last && this.isRest(text, endOf(last)) ? last[4] : "";
   }
 
   // Whether a move, a glyph or a comment is just before a text.
@@ -186,32 +220,117 @@ export class Fixes {
   }
 }
 
-// The edits of the fixes that have more than patterns: of a match at the fault, or none.
+// Patterns that are looked for at one place alone.
+const FLAGS = {
+  "Result tag from the marker": "", "missing Result tag": "y", "pair given twice": "y",
+  "spelling of a FEN": "y",
+};
+
+// The edits of the fixes that have more than a pattern: of a fault, or none.
 const FUNCTIONS = {
-  "novelty"(fixes, here, match) {
-    const fen = fixes.isBehindMove(here, match) ? here.position(match.index) : "";
+  "novelty"(fixes, here, pattern) {
+    const match = matchAtPlace(here, pattern);
+    const fen = match && fixes.isBehindMove(here, match) ? here.position(match.index) : "";
     const isMove = fen && fixes.played(fen, "N" + (match[1] || ""));
     return fen && !isMove
       ? { start: match.index, stop: match.index + 1, text: "$146" } : null;
   },
 
-  "quotes in a value"(fixes, here, match) {
+  // Writes the marker of the game in place of a value that says nothing.
+  "Result tag from the marker"(fixes, here, pattern) {
+    const pair = fixes.head(here).find((it) => it.name === "Result");
+    const marker = pair && pattern.test(pair.value) ? fixes.lastMarker(here.text) : "";
+    return marker
+      ? { start: pair.valueAt, stop: pair.valueAt + pair.value.length, text: marker } : null;
+  },
+
+  // Adds a Result tag with the marker, to a game that has moves or tags.
+  "missing Result tag"(fixes, here, pattern) {
+    const pairs = fixes.head(here);
+    const marker = matchAt(pattern, here.text, here.place);
+    const isEmpty = fixes.isRest(here.text.slice(0, here.place), here.begin);
+    if (!marker || isEmpty || pairs.some((it) => it.name === "Result")) {
+      return null;
+    }
+    const tag = "[Result \"" + marker[0] + "\"]";
+    if (!pairs.length) {
+      const start = endOf(matchAt(fixes.space, here.text, here.begin));
+      return { start, stop: start, text: tag + "\n\n" };
+    }
+    const { end } = pairs[pairs.length - 1];
+    const lineEnd = here.text.startsWith("\r\n", end) ? "\r\n" : "\n";
+    return { start: end, stop: end, text: lineEnd + tag };
+  },
+
+  "quotes in a value"(fixes, here, pattern) {
+    const match = matchAtPlace(here, pattern);
+    if (!match) {
+      return null;
+    }
     const start = match.index + match[1].length;
     const text = match[2].replace(/(\\["\\])|"/g, (_, escaped) => escaped || "\\\"");
     return { start, stop: start + match[2].length, text };
   },
 
-  "long drawing command"(fixes, here, match) {
-    const marks = match[2].split(",");
+  // Takes out a pair that the game has already, and its line too if nothing else is on it.
+  "pair given twice"(fixes, here, pattern) {
+    const pairs = fixes.head(here);
+    const pair = pairs.find((it) => it.start <= here.place && here.place < it.end);
+    if (!pair || pairs.find((it) => it.name === pair.name).value !== pair.value) {
+      return null;
+    }
+    const line = matchAt(pattern, here.text, pair.end);
+    const isAlone = !pair.start || /[\r\n]/.test(here.text[pair.start - 1]);
+    return { start: pair.start, stop: line && isAlone ? endOf(line) : pair.end, text: "" };
+  },
+
+  // Writes a FEN with the blanks and the castling letters that it has to have.
+  "spelling of a FEN"(fixes, here, pattern) {
+    const value = matchAt(pattern, here.text, here.place);
+    const fields = value ? value[1].split(/[\t-\r ]+/).filter((it) => it) : [];
+    if (fields.length !== 4 && fields.length !== 6) {
+      return null;
+    }
+    if (/^[KQkq]+$/.test(fields[2])) {
+      fields[2] = [...fields[2]].sort((a, b) => "KQkq".indexOf(a) - "KQkq".indexOf(b)).join("");
+    }
+    if (fields.length === 4) {
+      const pairs = fixes.head(here);
+      const end = pairs.length ? pairs[pairs.length - 1].end : here.begin;
+      const number = matchAt(fixes.firstNumber, here.text, end);
+      if (!number || Boolean(number[2]) !== (fields[1] === "b")) {
+        return null;
+      }
+      fields.push("0", number[1]);
+    }
+    const text = fields.join(" ");
+    const isPosition = text.length <= LONGEST_FEN &&
+      fixes.module.normalizeFen(encoded(text)).status === OK;
+    return isPosition
+      ? { start: value.index + 1, stop: value.index + 1 + value[1].length, text } : null;
+  },
+
+  "long drawing command"(fixes, here, pattern) {
+    const match = matchAtPlace(here, pattern);
+    const marks = match ? match[2].split(",") : [];
     const commands = [];
     for (let at = 0; at < marks.length; at += MARKS) {
       commands.push("[%" + match[1] + " " + marks.slice(at, at + MARKS).join(",") + "]");
     }
-    return {
-      start: match.index, stop: match.index + match[0].length, text: commands.join(" "),
-    };
+    return match
+      ? { start: match.index, stop: endOf(match), text: commands.join(" ") } : null;
   },
 };
+
+// The match of a sticky pattern at a place, or null.
+function matchAt(pattern, text, place) {
+  pattern.lastIndex = place;
+  return pattern.exec(text);
+}
+
+function endOf(match) {
+  return match.index + match[0].length;
+}
 
 // A text in which \1 stands for what a group has matched.
 function expanded(match, text) {

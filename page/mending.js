@@ -1,7 +1,7 @@
 // Finds the edits that mend bad games, as pgn_lint --fix does: an edit is kept if the library then
 // reads the game to its end, or if fewer bytes are behind its first fault than before.
 import { FULL, MISSING_RESULTS, MODES, NO_GAME, OK } from "./module.js";
-import { latin1, lineAround, startsWithByteOrderMark } from "./text.js";
+import { DRAW, latin1, lineAround, startsWithByteOrderMark } from "./text.js";
 import { Fixes, edited } from "./fixes.js";
 import { nextSection } from "./next_section.js";
 
@@ -13,6 +13,9 @@ const NO_MOVE = " Ka1a1 ";
 // How much of the text behind a bad game tells whether it still ends where it did.
 const TEXT_BEHIND = 1 << 12;
 const BYTE_ORDER_MARK_SIZE = 3;
+// The most variations that can be open, and one more.
+const MOST_OPEN = 33;
+const MARKERS = [" *", " 1-0", " 0-1", " " + DRAW];
 const COLUMN_WIDTH = 76;
 
 // One byte for each character of a text.
@@ -43,9 +46,11 @@ class TextReader {
         at, text.length, from, options, at + text.length, this.capacity);
       if (status !== FULL) {
         const read = (name) => module.field("pgn_game", name);
+        const buffer = at + text.length;
         return {
           status, fault: read("fault"), place: read("place"), end: read("end"),
           fen: module.textField("pgn_game", "fen"),
+          export: () => latin1(module.bytes.subarray(buffer, buffer + read("written"))),
         };
       }
     }
@@ -113,8 +118,7 @@ class Mending {
     return false;
   }
 
-  // Whether the library reads on behind an edit. No edit begins behind its fault or ends before it,
-  // so the moves before it are the same.
+  // Whether an edit is kept: the library reads on, and the moves before it are the same.
   isBetter(here, edit, missing) {
     const text = edited(here.text, edit);
     const old = here.text.slice(edit.start, edit.stop);
@@ -123,7 +127,37 @@ class Mending {
     const isBehind = found.place >= edit.start + edit.text.length &&
       text.length - found.place < here.text.length - here.place;
     // what follows an open comment is not read at all
-    return (isSound || isBehind) && openBraces(old) === openBraces(edit.text);
+    return (isSound || isBehind) && openBraces(old) === openBraces(edit.text) &&
+      this.hasSameMoves(here, edit, text);
+  }
+
+  // Whether the moves before the fault are the same after an edit before it.
+  hasSameMoves(here, edit, text) {
+    if (edit.stop > here.place || edit.start >= here.place) {
+      return true;
+    }
+    const before = this.moves(here.text.slice(here.begin, here.place));
+    return before === null ||
+      before === this.moves(text.slice(here.begin, here.place + growth(edit)));
+  }
+
+  // The movetext of a text that may break off, and its last position, or null.
+  moves(text) {
+    for (let closed = 0; closed < MOST_OPEN; closed++) {
+      for (const marker of MARKERS) {
+        const found = this.reader.read(
+          text + " " + ")".repeat(closed) + marker, 0, MISSING_RESULTS.fromMarker);
+        if (found.status === OK) {
+          const exported = found.export();
+          const moves = exported.slice(exported.indexOf("\n\n")).split(/\s+/).filter((it) => it);
+          return [...moves.slice(0, -1), found.fen].join(" ");
+        }
+        if (found.fault !== RESULT_DIFFERS) {
+          break;
+        }
+      }
+    }
+    return null;
   }
 
   // Takes an edit of the present text. Those that it touches become one with it.

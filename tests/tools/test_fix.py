@@ -175,21 +175,23 @@ BITS = (b"{", b"}", b"(", b")", b"[", b"]", b'"', b";", b"\n", b"%", b"*", b"1-0
         b"\xef\xbb\xbf", b"\0", b"1/2", b"N ", b"$", b"!!!", b" = ", b"\\")
 
 
+def damaged(rng, pool):
+    """Some texts of a pool in one, with random damage."""
+    text = bytearray(b"\n\n".join(rng.choice(pool) for _ in range(rng.randint(1, 4))))
+    for _ in range(rng.randint(0, 6)):
+        at, kind = rng.randrange(len(text) + 1), rng.random()
+        if kind < 0.4:
+            text[at:at] = rng.choice(BITS)
+        elif kind < 0.7:
+            del text[at:at + rng.randint(1, 5)]
+        else:
+            other = rng.randrange(len(text) + 1)
+            text[at:at] = text[other:other + rng.randint(1, 30)]
+    return bytes(text)
+
+
 class Damaged(unittest.TestCase):
     """Texts with random damage: no sound game is lost, and no edit is out of its place."""
-
-    def damaged(self, rng, pool):
-        text = bytearray(b"\n\n".join(rng.choice(pool) for _ in range(rng.randint(1, 4))))
-        for _ in range(rng.randint(0, 6)):
-            at, kind = rng.randrange(len(text) + 1), rng.random()
-            if kind < 0.4:
-                text[at:at] = rng.choice(BITS)
-            elif kind < 0.7:
-                del text[at:at + rng.randint(1, 5)]
-            else:
-                other = rng.randrange(len(text) + 1)
-                text[at:at] = text[other:other + rng.randint(1, 30)]
-        return bytes(text)
 
     def test_sound_games_stay(self):
         rng = random.Random(79)
@@ -198,7 +200,7 @@ class Damaged(unittest.TestCase):
             with open(path, "rb") as file:
                 pool.append(file.read())
         for _ in range(1500):
-            text = self.damaged(rng, pool)
+            text = damaged(rng, pool)
             applied(text, gillspoon.fixes(text, unsafe=True))
             mended = applied(text, gillspoon.fixes(text))
             before, after = [], []

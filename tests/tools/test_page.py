@@ -6,6 +6,7 @@ Each state that is compared here is also written as a picture, to page/out/pictu
 import base64
 import json
 import os
+import random
 import re
 import shutil
 import sys
@@ -18,6 +19,7 @@ from browser import Browser
 from documents import lines_of
 from programs import ROOT, need_program, run
 from spellings import LEFT, SAFE
+from test_fix import damaged, setUpModule as _set_up_fix
 from test_library import c_structs
 from test_sieve import BAD, sound
 
@@ -102,6 +104,12 @@ BEAT = """
       last = performance.now();
     }, 10);
 """
+
+
+def setUpModule():
+    global gillspoon
+    _set_up_fix()
+    import gillspoon
 
 
 def as_text(value):
@@ -555,9 +563,50 @@ class Mending(Case):
         self.assertQuiet()
 
 
+    def test_line_ends_and_heads(self):
+        """Rows with CR LF, and tags that no safe fix touches."""
+        self.page()
+        rows = [(text, edits, wanted) for text, edits, wanted in SAFE if "\r" in text]
+        self.assertGreater(len(rows), 0)
+        for text, edits, wanted in rows:
+            self.assertEqual(self.convert(("a.pgn", text.encode())), "refused")
+            self.assertEqual([it.split(", ", 2)[2] for it in self.look()[0]],
+                             ["%s: %s → %s" % (name, shown(old), shown(new))
+                              for old, new, name in edits])
+            self.assertEqual(self.apply(), "done")
+            self.assertEqual(self.download("download")[1],
+                             b"".join(it.text for it in gillspoon.games(wanted.encode())))
+        for text in ('[Site "a"]\n[Site "b"]\n\n*\n', '[Result "won"]\n\n1. e4 1-0\n',
+                     '[Result "?"]\n\n1. e4\n', '[Result "0-1"]\n\n1. e4 1-0\n', "1-0\n",
+                     '[FEN "4k3/8/8/8/8/8/8/4K3 w - -"]\n\n30... Kd7 *\n',
+                     '[FEN "4k3/8/8/8/8/8/8/4K3 w - - 0 1 2"]\n\n*\n',
+                     '[FEN "4k3/8/8/8/8/8/8/4K3 w qkx - 0 1 "]\n\n*\n'):
+            self.assertEqual(self.convert(("a.pgn", text.encode())), "refused", text)
+            self.assertEqual(self.look()[0], [], text)
+
+    def test_edits_are_those_of_pgn_lint(self):
+        """For texts with random damage: each edit and its place."""
+        rng = random.Random(80)
+        pool = [row[0].encode() for row in SAFE] + [it.encode() for it in LEFT]
+        texts = [damaged(rng, pool) for _ in range(150)]
+        files = [("%03d.pgn" % number, text) for number, text in enumerate(texts)]
+        bad = [it for it in files if list(gillspoon.fixes(it[1]))]
+        self.assertGreater(len(bad), 60)
+        self.page()
+        for at in range(0, len(files), 50):
+            part = files[at:at + 50]
+            self.assertEqual(self.convert(*part), "refused")
+            listed, _ = self.look()
+            edits = {name: list(gillspoon.fixes(text)) for name, text in part}
+            wanted = ["%s: line %d, column %d, %s" % (name, it.line, it.column, it.name)
+                      for name, found in edits.items() for it in found]
+            self.assertEqual([re.match("(.*?, column .*?): ", it, re.S)[1] for it in listed],
+                             wanted)
+
+
 def shown(text):
     """A text as the list of edits has it."""
-    return "“%s”" % text.replace("\x1a", "\u241a") if text else "nothing"
+    return "“%s”" % text.strip("\r\n").replace("\x1a", "\u241a") if text else "nothing"
 
 
 class Rest(Case):
