@@ -28,7 +28,8 @@ const ADVICE = [
   [(it) => it.number === 34 && /^1[a-h][1-8]/.test(it.symbol), NUMBER_APART],
   [(it) => it.number === 41 && !it.hasResult,
     "The game has no Result tag, which counts as *. A missing Result can take the result at the " +
-    "end of its game instead. pgn_lint --fix writes the tag.", "fromMarker"],
+    "end of its game instead. The button “Mend what has one reading” writes the tag.",
+    "fromMarker"],
   [(it) => it.number === 41, "Correct the Result tag or the result at the end of the game."],
   [(it) => it.number === 32,
     "The game before has no result at its end, or a comment is between two tags. Add the result " +
@@ -54,7 +55,15 @@ const ADVICE = [
     "pgn_lint --fix --unsafe-fixes cuts other words."],
   [(it) => it.number === 12,
     "A comment is never closed by }. It begins on line LINE, as far as braces tell." + UNSAFE],
-  [(it) => it.number === 26, "Put the FEN into the field below, which says what is wrong with it."],
+  [(it) => it.number === 26, "Put the FEN into the field below, which says what is wrong with it. The button “Mend what " +
+    "has one reading” mends blanks, castling letters in another order, and missing counters if " +
+    "the moves have numbers."],
+  [(it) => it.number === 22,
+    "A game has one pair of each name: take out the second one. The button “Mend what has one " +
+    "reading” does it if both values are equal."],
+  [(it) => it.number === 25,
+    "A Result is one of " + RESULTS + ". The button “Mend what has one reading” writes it if the " +
+    "value is empty, a question mark, or another spelling of a result."],
   [(it) => it.number === 30, "Add the FEN tag, or take out the SetUp tag. " +
     "pgn_lint --fix --unsafe-fixes takes it out."],
   [(it) => it.number === 31, "The reduced format has no place for a position.", "full"],

@@ -790,6 +790,10 @@ class Rest(Case):
                 (b"1. Z0 *", "pgn_lint --fix --unsafe-fixes does it."),
                 (b"1. e2-e4 *", "hyphen"), (b"1e4 *", "“Mend what has one reading” does it."),
                 (b"1. e4 1-0", "no Result tag"),
+                (b"1. e4 1-0", "“Mend what has one reading” writes the tag."),
+                (b'[Site "a"][Site "a"] *', "take out the second one"),
+                (b'[Result "?"] 1. e4 1-0', "A Result is one of 1-0, 0-1, 1/2-1/2"),
+                (b'[FEN "4k3/8/8/8/8/8/8/4K3 w - - 0 1 "] *', "the field below"),
                 (b"1. e4 e5", "no result at its end"), (b'1. e4\n[Event "a"]', "no result"),
                 (b'[Event "The "Open""] *', "quote"), (b"\xff\xfee\x004\x00", "UTF-16"),
                 (b"1. e4 *\x1a", "byte 26"), (b"g1f3 *", "Ng1f3")):
