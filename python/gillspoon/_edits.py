@@ -72,10 +72,11 @@ class BadGames:
             # sound games need none of it
             from ._fixes import chosen_fixes
             from ._mend import SectionMender
-            unsafe, *more = self._choice[:4]
-            others = chosen_fixes(True, *more) if self._choice.counts_more and not unsafe else ()
+            it = self._choice
+            words = it.select, it.ignore, it.language
+            others = chosen_fixes(True, *words) if it.counts_more and not it.unsafe else ()
             self._mender = SectionMender(
-                self.opened, self._checked, chosen_fixes(unsafe, *more), others)
+                self.opened, self._checked, chosen_fixes(it.unsafe, *words), others)
         return self._mender.section(fault, is_sound)
 
 
