@@ -327,6 +327,19 @@ class Verdicts(unittest.TestCase):
         note = "note: src/a.rt:3:1: it is not proved that the index is in range"
         self.check("refused", 1, gone, cites, note, "logic=not-proved")
 
+    def test_a_message_goes_on_on_indented_lines(self):
+        gone = ("./proofs/A.antt:4:2: error: `returns`: the record `a → (b : c) × d` of",
+                "  `in-B` has no field", "    `step`")
+        cites = ("./proofs/C.antt:1:1: error: `A`", "  was not admitted")
+        self.check("refused, but", 1, *gone, *cites, "logic=not-proved")
+        note = ("note: src/a.rt:3:1: it is not proved that", "  the index is in range")
+        self.check("refused", 1, *gone, *cites, *note, "logic=not-proved")
+        # what goes on says of what it is, not of the line after it
+        other = ("./proofs/A.antt:4:2: error: `returns`: expected type", "  `a`, but this has `b`")
+        self.check("refused", 1, *other, "a line that has no field", "logic=not-proved")
+        unread = ("src/a.rt:3:1: error: `f`: the record `a`", "  has no field")
+        self.check("BAD EDIT", 1, *unread, "logic=not-proved")
+
     def test_not_refused(self):
         self.check("NOT REFUSED", 0, "logic=proved functions=2 sum=1 incremental=trusted")
 
