@@ -7,7 +7,9 @@ use crate::devices::{
     Page, Reader, Trouble, failing_memory, holds_at, is_cut_off, memory, says_unread, whole,
 };
 use crate::standard::StandardOutput;
-use crate::stream_tests::{Failing, Ran, UNKNOWN, UNWRITTEN, WON, failing_pages, left_by};
+use crate::stream_tests::{
+    Failing, Ran, UNKNOWN, UNWRITTEN, WON, failing_pages, left_by, left_unbuffered,
+};
 use pgn_arguments::Task;
 use pgn_game::{Inlet, Outlet};
 use std::alloc::Global;
@@ -53,6 +55,18 @@ fn run(reduced: bool, first: Reader, second: Reader, out: Page, err: Page) -> Ra
     let status = run_checked(&task, &mut first, &mut second, &mut out, &mut err);
     left_by(status, out, err)
 }
+
+// The run over a writer alone, as a caller has it that makes no buffer.
+fn run_unbuffered(reduced: bool, first: Reader, second: Reader, out: Page, err: Page) -> Ran {
+    let task = task(out.alloc, reduced);
+    let (mut out, mut err) = (Outlet::new(out), Outlet::new(err));
+    let (mut first, mut second) = (Inlet::new(first), Inlet::new(second));
+    let status = run_checked(&task, &mut first, &mut second, &mut out, &mut err);
+    left_unbuffered(status, out, err)
+}
+
+/// A way to run the task over these devices.
+type Run = fn(bool, Reader, Reader, Page, Page) -> Ran;
 
 /// Two texts, and what a run of them leaves: the status, standard output, standard error.
 type Row = (
@@ -158,21 +172,26 @@ fn run_in_memory(alloc: Global, reduced: bool, first: Reader, second: Reader) ->
 }
 
 /// Whether a run leaves what the row says.
-fn leaves(alloc: Global, row: &Row) -> bool {
-    let (first, second, status, out, err) = *row;
-    run_in_memory(alloc, false, whole(first), whole(second)).is(status, out, err)
+fn leaves(run: Run, alloc: Global, row: &Row) -> bool
+    requires { IsAlwaysCallable run }
+{
+    let (first, second, status, written, told) = *row;
+    let (out, err) = (memory(alloc), memory(alloc));
+    run(false, whole(first), whole(second), out, err).is(status, written, told)
 }
 
-fn leave_all(rt: &impl Abort, alloc: Global, rows: &[Row]) {
+fn leave_all(rt: &impl Abort, run: Run, alloc: Global, rows: &[Row])
+    requires { IsAlwaysCallable run }
+{
     for row in rows {
-        holds_at(rt, leaves(alloc, row), &(row.0, row.1));
+        holds_at(rt, leaves(run, alloc, row), &(row.0, row.1));
     }
 }
 
 #[test]
 fn writes_games_that_are_read_twice(rt: HostRuntime) {
-    leave_all(&rt, rt.alloc(), rows());
-    leave_all(&rt, rt.alloc(), different());
+    leave_all(&rt, run, rt.alloc(), rows());
+    leave_all(&rt, run, rt.alloc(), different());
 }
 
 #[test]
@@ -292,7 +311,9 @@ fn tells_each_write_of_two_that_fails(rt: HostRuntime) {
 type Twice = (&'static [u8], u8, &'static [u8], &'static [u8]);
 
 // Whether a run leaves what the row says, where this fails.
-fn ends(alloc: Global, row: &Twice, failing: Failing) -> bool {
+fn ends(run: Run, alloc: Global, row: &Twice, failing: Failing) -> bool
+    requires { IsAlwaysCallable run }
+{
     let (text, status, written, told) = *row;
     let (out, err) = failing_pages(alloc, failing);
     run(false, whole(text), whole(text), out, err).is(status, written, told)
@@ -315,14 +336,35 @@ fn silent() -> &'static [Twice] {
     SILENT
 }
 
-fn end_all(rt: &impl Abort, alloc: Global, rows: &[Twice], failing: Failing) {
+fn end_all(rt: &impl Abort, run: Run, alloc: Global, rows: &[Twice], failing: Failing)
+    requires { IsAlwaysCallable run }
+{
     for row in rows {
-        holds_at(rt, ends(alloc, row, failing), &row.0);
+        holds_at(rt, ends(run, alloc, row, failing), &row.0);
     }
 }
 
 #[test]
 fn tells_a_flush_that_fails_after_two(rt: HostRuntime) {
-    end_all(&rt, rt.alloc(), unflushed(), (usize::MAX, true, usize::MAX));
-    end_all(&rt, rt.alloc(), silent(), (usize::MAX, false, 0));
+    end_all(
+        &rt,
+        run,
+        rt.alloc(),
+        unflushed(),
+        (usize::MAX, true, usize::MAX),
+    );
+    end_all(&rt, run, rt.alloc(), silent(), (usize::MAX, false, 0));
+}
+
+#[test]
+fn runs_twice_over_a_writer_alone(rt: HostRuntime) {
+    leave_all(&rt, run_unbuffered, rt.alloc(), rows());
+    leave_all(&rt, run_unbuffered, rt.alloc(), different());
+    end_all(
+        &rt,
+        run_unbuffered,
+        rt.alloc(),
+        unflushed(),
+        (usize::MAX, true, usize::MAX),
+    );
 }

@@ -116,9 +116,14 @@ impl Ran {
 
 /// What a run with this status left.
 pub fn left_by(status: u8, out: StandardOutput<Page>, err: Outlet<Page>) -> Ran {
+    left_unbuffered(status, out.outlet, err)
+}
+
+/// What a run with this status left that wrote to a writer alone.
+pub fn left_unbuffered(status: u8, out: Outlet<Page>, err: Outlet<Page>) -> Ran {
     Ran {
         status,
-        out: out.outlet.into_inner(),
+        out: out.into_inner(),
         err: err.into_inner(),
     }
 }
@@ -134,11 +139,7 @@ fn run(job: Job, reader: Reader, out: Page, err: Page) -> Ran {
 fn run_unbuffered(job: Job, reader: Reader, out: Page, err: Page) -> Ran {
     let (mut out, mut err) = (Outlet::new(out), Outlet::new(err));
     let status = run_stream(&job.task(), &mut Inlet::new(reader), &mut out, &mut err);
-    Ran {
-        status,
-        out: out.into_inner(),
-        err: err.into_inner(),
-    }
+    left_unbuffered(status, out, err)
 }
 
 /// A task, a text, and what the run of it leaves: the status, standard output, standard error.
@@ -282,45 +283,45 @@ pub fn failing_pages(alloc: Global, failing: Failing) -> (Page, Page) {
     (out, err)
 }
 
+/// A way to run a task over these devices.
+type Run = fn(Job, Reader, Page, Page) -> Ran;
+
 // Whether a run leaves what the row says, where this fails.
-fn leaves(alloc: Global, row: &Row, failing: Failing) -> bool {
+fn leaves(run: Run, alloc: Global, row: &Row, failing: Failing) -> bool
+    requires { IsAlwaysCallable run }
+{
     let (job, text, status, written, told) = *row;
     let (out, err) = failing_pages(alloc, failing);
     run(job, whole(text), out, err).is(status, written, told)
 }
 
-fn leave_all(rt: &impl Abort, alloc: Global, rows: &[Row], failing: Failing) {
+fn leave_all(rt: &impl Abort, run: Run, alloc: Global, rows: &[Row], failing: Failing)
+    requires { IsAlwaysCallable run }
+{
     for row in rows {
-        holds_at(rt, leaves(alloc, row, failing), &(row.0, row.1));
+        holds_at(rt, leaves(run, alloc, row, failing), &(row.0, row.1));
     }
 }
 
 #[test]
 fn writes_what_is_asked_for(rt: HostRuntime) {
-    leave_all(&rt, rt.alloc(), exports(), NONE);
-    leave_all(&rt, rt.alloc(), checks(), NONE);
-    leave_all(&rt, rt.alloc(), lists(), NONE);
-}
-
-// Whether a run over a writer alone leaves what the row says, where this fails.
-fn leaves_unbuffered(alloc: Global, row: &Row, failing: Failing) -> bool {
-    let (job, text, status, written, told) = *row;
-    let (out, err) = failing_pages(alloc, failing);
-    run_unbuffered(job, whole(text), out, err).is(status, written, told)
-}
-
-fn leave_all_unbuffered(rt: &impl Abort, alloc: Global, rows: &[Row], failing: Failing) {
-    for row in rows {
-        holds_at(rt, leaves_unbuffered(alloc, row, failing), &(row.0, row.1));
-    }
+    leave_all(&rt, run, rt.alloc(), exports(), NONE);
+    leave_all(&rt, run, rt.alloc(), checks(), NONE);
+    leave_all(&rt, run, rt.alloc(), lists(), NONE);
 }
 
 #[test]
 fn runs_over_a_writer_alone(rt: HostRuntime) {
-    leave_all_unbuffered(&rt, rt.alloc(), exports(), NONE);
-    leave_all_unbuffered(&rt, rt.alloc(), checks(), NONE);
-    leave_all_unbuffered(&rt, rt.alloc(), lists(), NONE);
-    leave_all_unbuffered(&rt, rt.alloc(), unflushed(), (usize::MAX, true, usize::MAX));
+    leave_all(&rt, run_unbuffered, rt.alloc(), exports(), NONE);
+    leave_all(&rt, run_unbuffered, rt.alloc(), checks(), NONE);
+    leave_all(&rt, run_unbuffered, rt.alloc(), lists(), NONE);
+    leave_all(
+        &rt,
+        run_unbuffered,
+        rt.alloc(),
+        unflushed(),
+        (usize::MAX, true, usize::MAX),
+    );
 }
 
 // How many games of `TWO` are whole when so many bytes were read.
@@ -456,9 +457,15 @@ fn silent() -> &'static [Row] {
 
 #[test]
 fn ends_at_the_first_device_that_fails(rt: HostRuntime) {
-    leave_all(&rt, rt.alloc(), unwritable(), (0, false, usize::MAX));
-    leave_all(&rt, rt.alloc(), unflushed(), (usize::MAX, true, usize::MAX));
-    leave_all(&rt, rt.alloc(), silent(), (usize::MAX, false, 0));
+    leave_all(&rt, run, rt.alloc(), unwritable(), (0, false, usize::MAX));
+    leave_all(
+        &rt,
+        run,
+        rt.alloc(),
+        unflushed(),
+        (usize::MAX, true, usize::MAX),
+    );
+    leave_all(&rt, run, rt.alloc(), silent(), (usize::MAX, false, 0));
 }
 
 fn first() -> &'static [u8] {
