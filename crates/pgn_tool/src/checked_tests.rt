@@ -8,7 +8,7 @@ use crate::devices::{
 };
 use crate::standard::StandardOutput;
 use crate::stream_tests::{
-    Failing, Ran, UNKNOWN, UNWRITTEN, WON, failing_pages, left_by, left_unbuffered,
+    Failing, Ran, UNKNOWN, UNWRITTEN, WON, Writing, failing_pages, left_by, left_unbuffered,
 };
 use pgn_arguments::Task;
 use pgn_game::{Inlet, Outlet};
@@ -57,16 +57,20 @@ fn run(reduced: bool, first: Reader, second: Reader, out: Page, err: Page) -> Ra
 }
 
 // The run over a writer alone, as a caller has it that makes no buffer.
-fn run_unbuffered(reduced: bool, first: Reader, second: Reader, out: Page, err: Page) -> Ran {
-    let task = task(out.alloc, reduced);
+fn run_unbuffered(first: Reader, second: Reader, out: Page, err: Page) -> Ran {
+    let task = task(out.alloc, false);
     let (mut out, mut err) = (Outlet::new(out), Outlet::new(err));
     let (mut first, mut second) = (Inlet::new(first), Inlet::new(second));
     let status = run_checked(&task, &mut first, &mut second, &mut out, &mut err);
     left_unbuffered(status, out, err)
 }
 
-/// A way to run the task over these devices.
-type Run = fn(bool, Reader, Reader, Page, Page) -> Ran;
+fn run_by(writing: Writing, first: Reader, second: Reader, out: Page, err: Page) -> Ran {
+    match writing {
+        Writing::Buffered => run(false, first, second, out, err),
+        Writing::Unbuffered => run_unbuffered(first, second, out, err),
+    }
+}
 
 /// Two texts, and what a run of them leaves: the status, standard output, standard error.
 type Row = (
@@ -172,26 +176,22 @@ fn run_in_memory(alloc: Global, reduced: bool, first: Reader, second: Reader) ->
 }
 
 /// Whether a run leaves what the row says.
-fn leaves(run: Run, alloc: Global, row: &Row) -> bool
-    requires { IsAlwaysCallable run }
-{
+fn leaves(writing: Writing, alloc: Global, row: &Row) -> bool {
     let (first, second, status, written, told) = *row;
     let (out, err) = (memory(alloc), memory(alloc));
-    run(false, whole(first), whole(second), out, err).is(status, written, told)
+    run_by(writing, whole(first), whole(second), out, err).is(status, written, told)
 }
 
-fn leave_all(rt: &impl Abort, run: Run, alloc: Global, rows: &[Row])
-    requires { IsAlwaysCallable run }
-{
+fn leave_all(rt: &impl Abort, writing: Writing, alloc: Global, rows: &[Row]) {
     for row in rows {
-        holds_at(rt, leaves(run, alloc, row), &(row.0, row.1));
+        holds_at(rt, leaves(writing, alloc, row), &(row.0, row.1));
     }
 }
 
 #[test]
 fn writes_games_that_are_read_twice(rt: HostRuntime) {
-    leave_all(&rt, run, rt.alloc(), rows());
-    leave_all(&rt, run, rt.alloc(), different());
+    leave_all(&rt, Writing::Buffered, rt.alloc(), rows());
+    leave_all(&rt, Writing::Buffered, rt.alloc(), different());
 }
 
 #[test]
@@ -311,12 +311,10 @@ fn tells_each_write_of_two_that_fails(rt: HostRuntime) {
 type Twice = (&'static [u8], u8, &'static [u8], &'static [u8]);
 
 // Whether a run leaves what the row says, where this fails.
-fn ends(run: Run, alloc: Global, row: &Twice, failing: Failing) -> bool
-    requires { IsAlwaysCallable run }
-{
+fn ends(writing: Writing, alloc: Global, row: &Twice, failing: Failing) -> bool {
     let (text, status, written, told) = *row;
     let (out, err) = failing_pages(alloc, failing);
-    run(false, whole(text), whole(text), out, err).is(status, written, told)
+    run_by(writing, whole(text), whole(text), out, err).is(status, written, told)
 }
 
 /// Runs of which each flush fails: only the first fault is reported.
@@ -336,11 +334,9 @@ fn silent() -> &'static [Twice] {
     SILENT
 }
 
-fn end_all(rt: &impl Abort, run: Run, alloc: Global, rows: &[Twice], failing: Failing)
-    requires { IsAlwaysCallable run }
-{
+fn end_all(rt: &impl Abort, writing: Writing, alloc: Global, rows: &[Twice], failing: Failing) {
     for row in rows {
-        holds_at(rt, ends(run, alloc, row, failing), &row.0);
+        holds_at(rt, ends(writing, alloc, row, failing), &row.0);
     }
 }
 
@@ -348,21 +344,27 @@ fn end_all(rt: &impl Abort, run: Run, alloc: Global, rows: &[Twice], failing: Fa
 fn tells_a_flush_that_fails_after_two(rt: HostRuntime) {
     end_all(
         &rt,
-        run,
+        Writing::Buffered,
         rt.alloc(),
         unflushed(),
         (usize::MAX, true, usize::MAX),
     );
-    end_all(&rt, run, rt.alloc(), silent(), (usize::MAX, false, 0));
+    end_all(
+        &rt,
+        Writing::Buffered,
+        rt.alloc(),
+        silent(),
+        (usize::MAX, false, 0),
+    );
 }
 
 #[test]
 fn runs_twice_over_a_writer_alone(rt: HostRuntime) {
-    leave_all(&rt, run_unbuffered, rt.alloc(), rows());
-    leave_all(&rt, run_unbuffered, rt.alloc(), different());
+    leave_all(&rt, Writing::Unbuffered, rt.alloc(), rows());
+    leave_all(&rt, Writing::Unbuffered, rt.alloc(), different());
     end_all(
         &rt,
-        run_unbuffered,
+        Writing::Unbuffered,
         rt.alloc(),
         unflushed(),
         (usize::MAX, true, usize::MAX),

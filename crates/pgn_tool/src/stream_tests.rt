@@ -283,41 +283,48 @@ pub fn failing_pages(alloc: Global, failing: Failing) -> (Page, Page) {
     (out, err)
 }
 
-/// A way to run a task over these devices.
-type Run = fn(Job, Reader, Page, Page) -> Ran;
-
-// Whether a run leaves what the row says, where this fails.
-fn leaves(run: Run, alloc: Global, row: &Row, failing: Failing) -> bool
-    requires { IsAlwaysCallable run }
-{
-    let (job, text, status, written, told) = *row;
-    let (out, err) = failing_pages(alloc, failing);
-    run(job, whole(text), out, err).is(status, written, told)
+/// Whether a task writes through the program's buffer, or to its writer alone.
+#[derive(Clone, Copy)]
+pub enum Writing {
+    Buffered,
+    Unbuffered,
 }
 
-fn leave_all(rt: &impl Abort, run: Run, alloc: Global, rows: &[Row], failing: Failing)
-    requires { IsAlwaysCallable run }
-{
+fn run_by(writing: Writing, job: Job, reader: Reader, out: Page, err: Page) -> Ran {
+    match writing {
+        Writing::Buffered => run(job, reader, out, err),
+        Writing::Unbuffered => run_unbuffered(job, reader, out, err),
+    }
+}
+
+// Whether a run leaves what the row says, where this fails.
+fn leaves(writing: Writing, alloc: Global, row: &Row, failing: Failing) -> bool {
+    let (job, text, status, written, told) = *row;
+    let (out, err) = failing_pages(alloc, failing);
+    run_by(writing, job, whole(text), out, err).is(status, written, told)
+}
+
+fn leave_all(rt: &impl Abort, writing: Writing, alloc: Global, rows: &[Row], failing: Failing) {
     for row in rows {
-        holds_at(rt, leaves(run, alloc, row, failing), &(row.0, row.1));
+        holds_at(rt, leaves(writing, alloc, row, failing), &(row.0, row.1));
     }
 }
 
 #[test]
 fn writes_what_is_asked_for(rt: HostRuntime) {
-    leave_all(&rt, run, rt.alloc(), exports(), NONE);
-    leave_all(&rt, run, rt.alloc(), checks(), NONE);
-    leave_all(&rt, run, rt.alloc(), lists(), NONE);
+    leave_all(&rt, Writing::Buffered, rt.alloc(), exports(), NONE);
+    leave_all(&rt, Writing::Buffered, rt.alloc(), checks(), NONE);
+    leave_all(&rt, Writing::Buffered, rt.alloc(), lists(), NONE);
 }
 
 #[test]
 fn runs_over_a_writer_alone(rt: HostRuntime) {
-    leave_all(&rt, run_unbuffered, rt.alloc(), exports(), NONE);
-    leave_all(&rt, run_unbuffered, rt.alloc(), checks(), NONE);
-    leave_all(&rt, run_unbuffered, rt.alloc(), lists(), NONE);
+    leave_all(&rt, Writing::Unbuffered, rt.alloc(), exports(), NONE);
+    leave_all(&rt, Writing::Unbuffered, rt.alloc(), checks(), NONE);
+    leave_all(&rt, Writing::Unbuffered, rt.alloc(), lists(), NONE);
     leave_all(
         &rt,
-        run_unbuffered,
+        Writing::Unbuffered,
         rt.alloc(),
         unflushed(),
         (usize::MAX, true, usize::MAX),
@@ -457,15 +464,27 @@ fn silent() -> &'static [Row] {
 
 #[test]
 fn ends_at_the_first_device_that_fails(rt: HostRuntime) {
-    leave_all(&rt, run, rt.alloc(), unwritable(), (0, false, usize::MAX));
     leave_all(
         &rt,
-        run,
+        Writing::Buffered,
+        rt.alloc(),
+        unwritable(),
+        (0, false, usize::MAX),
+    );
+    leave_all(
+        &rt,
+        Writing::Buffered,
         rt.alloc(),
         unflushed(),
         (usize::MAX, true, usize::MAX),
     );
-    leave_all(&rt, run, rt.alloc(), silent(), (usize::MAX, false, 0));
+    leave_all(
+        &rt,
+        Writing::Buffered,
+        rt.alloc(),
+        silent(),
+        (usize::MAX, false, 0),
+    );
 }
 
 fn first() -> &'static [u8] {
