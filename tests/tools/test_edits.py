@@ -322,15 +322,21 @@ class Verdicts(unittest.TestCase):
 
     def test_only_a_proof_names_what_is_gone(self):
         gone = "./proofs/A.antt:4:2: error: `returns`: `x` is not in scope"
-        cites = "./proofs/C.antt:1:1: error: `A` was not admitted"
-        self.check("refused, but", 1, gone, cites, "logic=not-proved")
+        cites = ("./proofs/A.antt:9:1: error: 1 declaration that depends on `returns`, which was "
+                 "rejected, was not checked: b",
+                 "./proofs/C.antt:1:1: error: 2 declarations that depend on `b`, which was not "
+                 "admitted, were not checked: c, d")
+        self.check("refused, but", 1, gone, *cites, "logic=not-proved")
         note = "note: src/a.rt:3:1: it is not proved that the index is in range"
-        self.check("refused", 1, gone, cites, note, "logic=not-proved")
+        self.check("refused", 1, gone, *cites, note, "logic=not-proved")
+        other = "./proofs/A.antt:4:2: error: `a`: expected type `b`, but this has type `c`"
+        self.check("refused", 1, other, *cites, "logic=not-proved")
 
     def test_a_message_goes_on_on_indented_lines(self):
         gone = ("./proofs/A.antt:4:2: error: `returns`: the record `a → (b : c) × d` of",
                 "  `in-B` has no field", "    `step`")
-        cites = ("./proofs/C.antt:1:1: error: `A`", "  was not admitted")
+        cites = ("./proofs/C.antt:1:1: error: 1 declaration that depends on `A`, which",
+                 "  was not admitted, was not checked: b")
         self.check("refused, but", 1, *gone, *cites, "logic=not-proved")
         note = ("note: src/a.rt:3:1: it is not proved that", "  the index is in range")
         self.check("refused", 1, *gone, *cites, *note, "logic=not-proved")
