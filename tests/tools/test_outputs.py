@@ -24,6 +24,7 @@ OTHERS = {
     "picture.png": b"\x89PNG\r\n\x1a\n\0\0\0\rIHDR\0\0\1\0",
     "games.7z": b"7z\xbc\xaf\x27\x1c\0\4" + bytes(range(256)),
     "games.tar": b"games.pgn".ljust(257, b"\0") + b"ustar\0" + SOUND,
+    "page.html": b"\xef\xbb\xbf\r\n<!DOCTYPE html>\n<html><body>404 Not Found</body></html>\n",
 }
 
 
@@ -151,6 +152,9 @@ class Sieve(Kept):
         self.assertEqual(self.call("pgn_sieve", "utf-16.pgn", "g", "b").stderr, (
             b"pgn_sieve: utf-16.pgn: is not a text of games: UTF-16 has to be converted, and "
             b"another archive unpacked; nothing was written\n"))
+        self.assertEqual(self.call("pgn_sieve", "page.html", "g", "b").stderr, (
+            b"pgn_sieve: page.html: is a page of HTML or XML, and no text of games; nothing was "
+            b"written\n"))
         # a file that is damaged further down has games
         self.put("torn.pgn", SOUND + b"\0" * 600 + b"\n\n" + SOUND)
         ran = self.call("pgn_sieve", "torn.pgn", "g", "b")
