@@ -1,4 +1,4 @@
-//! The condition of `Lexer::next`, `scan` and `whole_token`. Written for Cargo.
+//! The condition of `Lexer::next` and `next_past_numbers`. Written for Cargo.
 
 use super::Lexer;
 use crate::Outcome;
@@ -27,13 +27,6 @@ fn the_last_byte_of_2_to_62_is_read() {
 #[test]
 #[should_panic(expected = "a text has at most 2^62 bytes")]
 #[cfg(debug_assertions)]
-fn a_byte_after_2_to_62_is_refused_by_scan() {
-    lexer_at((1 << 62) - 3).scan(b"Nf3 ");
-}
-
-#[test]
-#[should_panic(expected = "a text has at most 2^62 bytes")]
-#[cfg(debug_assertions)]
-fn a_byte_after_2_to_62_is_refused_by_whole_token() {
-    lexer_at((1 << 62) - 3).whole_token(b"Nf3 ", false);
+fn a_byte_after_2_to_62_is_refused_past_numbers() {
+    lexer_at((1 << 62) - 3).next_past_numbers(b"Nf3 ");
 }

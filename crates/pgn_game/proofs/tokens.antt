@@ -24,5 +24,3 @@ pub mod StepsAtEnd
 pub mod StepsInPiece
 pub mod TextEndsGame
 pub mod WholeInput
-pub mod RunsInPiece
-pub mod RunsOverTokens

@@ -8,9 +8,8 @@ ghost use Rattle.pgn_lexer.specs.WhiteSpace.{white_space};
 ghost use Rattle.pgn_game.specs.declared.converter.Fed.TheVariants as fed;
 ghost use Rattle.pgn_game.specs.declared.converter.Reached.TheVariants as reached;
 ghost use Rattle.pgn_game.specs.declared.reason.Reason.TheVariants.{InputTooLong, Lexical, ReadFault};
-ghost use Rattle.pgn_game.specs.declared.stage.Stage.TheVariants.{InMovetext};
 ghost use Rattle.pgn_game.specs.ConverterSteps.{FeedsFront, FeedsToMarker, Steps, StepsAtEnd};
-ghost use Rattle.pgn_game.specs.ConverterSteps.{Runs, StepGoes, TakesSteps};
+ghost use Rattle.pgn_game.specs.ConverterSteps.{PassesNumbers, TakesSteps};
 ghost use Rattle.pgn_game.specs.ConverterSteps.{StepAdvances, StepAtEndAdvances, AdvancesTo};
 ghost use Rattle.pgn_game.specs.ConverterSteps.{AdvancesAtEnd, EndsGame, EndsToMarker, IsReady};
 ghost use Rattle.pgn_game.specs.ConverterSteps.{IsReadyAfter, IsReadyAt, fault_of_step, game_ended, games_ended};
@@ -607,74 +606,152 @@ impl<const T: usize, const L: usize> Converter<T, L> {
         requires some { 0 < length piece.now }
         requires none_just_finished { self.old.just_finished ≡ None }
         requires not_finished { self.old.is_finished ≡ false }
+        ensures used { result.used ≤ length piece.now }
         ensures after { TakesSteps self.old piece.now self.new result.used result.outcome
             (device W.taken W.failures out.old out.new) }
+        ensures count { self.new.lexer.count ≡ self.old.lexer.count + result.used }
         ensures advances { StepAdvances self.old.lexer piece.now self.new.lexer result.used
             result.outcome }
-        ensures goes { StepGoes self.old piece.now self.new result.used result.outcome
+        ensures ready { IsReadyAfter self.new result.outcome }
+        ensures written { as_written self.new.reading ≡ as_written self.old.reading }
+        ensures fault { self.new.fault ≡ fault_of_step result.outcome }
+        ensures games { self.new.games ≡ self.old.games }
+        ensures probes { self.old.reading.most_probes ≤ self.new.reading.most_probes }
+        ensures none_just_finished { self.new.just_finished ≡ None }
+        ensures not_finished { self.new.is_finished ≡ false }
+        ensures counted { CountsFault result.outcome
             (device W.taken W.failures out.old out.new) }
     {
-        let run = self.run(piece, out);
-        match run.outcome {
-            Ok(Some(Met::Token)) => {}
-            _ => return run,
+        let (used, outcome) = self.steps_past_numbers(piece, out);
+        if used == 0 {
+            return self.step_any(piece, out);
         }
-        if run.used == piece.len() {
-            return run;
-        }
-        let step = self.step_any(&piece[run.used..], out);
-        Step {
-            used: run.used + step.used,
-            outcome: step.outcome,
+        match outcome {
+            Ok(()) => Step {
+                used,
+                outcome: Ok(Some(Met::Token)),
+            },
+            Err(fault) => Step {
+                used,
+                outcome: Err(fault),
+            },
         }
     }
 
-    /// In movetext, takes one token after another while they lie whole in the piece. A short piece
-    /// is left: most of its tokens go on behind it, and would be looked at twice.
+    /// In movetext, takes one token after another as `step_past_numbers` does, until it takes none.
+    /// A short piece is left: most of its tokens go on behind it, and would be looked at twice.
     #[inline(always)]
-    fn run<W: Sink>(&mut self, piece: &[u8], out: &mut W) -> Step
+    fn steps_past_numbers<W: Sink>(
+        &mut self,
+        piece: &[u8],
+        out: &mut W,
+    ) -> (usize, Result<(), Fault>)
         requires no_fault { self.old.fault ≡ None }
         requires short { self.old.lexer.count + length piece.now ≤ 2 ^ 62 }
         requires none_just_finished { self.old.just_finished ≡ None }
         requires not_finished { self.old.is_finished ≡ false }
-        ensures { Runs self.old piece.now self.new result.used result.outcome
+        ensures used { result.0 ≤ length piece.now }
+        ensures nothing { result.0 ≡ 0 → (self.new ≡ self.old) × (out.new ≡ out.old) }
+        ensures after { PassesNumbers self.old piece.now self.new result.0 result.1
             (device W.taken W.failures out.old out.new) }
+        ensures count { self.new.lexer.count ≡ self.old.lexer.count + result.0 }
+        ensures advances { 0 < result.0
+            → waiting self.new.lexer < 2 * result.0 + waiting self.old.lexer }
+        ensures written { as_written self.new.reading ≡ as_written self.old.reading }
+        ensures fault { KeepsFault self.new result.1 }
+        ensures games { self.new.games ≡ self.old.games }
+        ensures probes { self.old.reading.most_probes ≤ self.new.reading.most_probes }
+        ensures none_just_finished { self.new.just_finished ≡ None }
+        ensures not_finished { self.new.is_finished ≡ false }
+        ensures counted { CountsFault result.1 (device W.taken W.failures out.old out.new) }
     {
         if piece.len() < SHORTEST_PIECE || !self.reader.is_in_movetext() {
-            return Step {
-                used: 0,
-                outcome: Ok(Some(Met::Token)),
-            };
+            return (0, Ok(()));
         }
-        self.run_movetext(piece, out)
+        self.run_past_numbers(piece, out)
     }
 
-    /// The loop of `run`. It passes numbers and periods, which add nothing in movetext. It is not
-    /// inlined, so that it has the registers to itself.
+    /// The loop of `steps_past_numbers`. It is not inlined, so that it has the registers to itself.
     #[inline(never)]
-    fn run_movetext<W: Sink>(&mut self, piece: &[u8], out: &mut W) -> Step
-        requires stage { self.old.reading.stage ≡ InMovetext }
+    fn run_past_numbers<W: Sink>(&mut self, piece: &[u8], out: &mut W) -> (usize, Result<(), Fault>)
         requires no_fault { self.old.fault ≡ None }
         requires short { self.old.lexer.count + length piece.now ≤ 2 ^ 62 }
         requires none_just_finished { self.old.just_finished ≡ None }
         requires not_finished { self.old.is_finished ≡ false }
-        ensures { Runs self.old piece.now self.new result.used result.outcome
+        ensures used { result.0 ≤ length piece.now }
+        ensures nothing { result.0 ≡ 0 → (self.new ≡ self.old) × (out.new ≡ out.old) }
+        ensures after { PassesNumbers self.old piece.now self.new result.0 result.1
             (device W.taken W.failures out.old out.new) }
+        ensures count { self.new.lexer.count ≡ self.old.lexer.count + result.0 }
+        ensures advances { 0 < result.0
+            → waiting self.new.lexer < 2 * result.0 + waiting self.old.lexer }
+        ensures written { as_written self.new.reading ≡ as_written self.old.reading }
+        ensures fault { KeepsFault self.new result.1 }
+        ensures games { self.new.games ≡ self.old.games }
+        ensures probes { self.old.reading.most_probes ≤ self.new.reading.most_probes }
+        ensures none_just_finished { self.new.just_finished ≡ None }
+        ensures not_finished { self.new.is_finished ≡ false }
+        ensures counted { CountsFault result.1 (device W.taken W.failures out.old out.new) }
     {
-        let mut used = 0;
-        while used < piece.len() {
-            let (count, token) = self.lexer.whole_token(&piece[used..], true);
-            used += count;
-            let Some(token) = token else { break };
-            let met = self.reader.accept_entry::<W, true>(token.kind, out);
-            let Ok(None) = met else {
-                let outcome = settle(token.at, met, &mut self.fault);
-                return Step { used, outcome };
-            };
+        let mut end = 0;
+        while end < piece.len() {
+            let (used, outcome) = self.step_past_numbers(&piece[end..], out);
+            if used == 0 {
+                return (end, Ok(()));
+            }
+            end += used;
+            match outcome {
+                Ok(()) => {}
+                Err(fault) => return (end, Err(fault)),
+            }
         }
-        Step {
-            used,
-            outcome: Ok(Some(Met::Token)),
+        (end, Ok(()))
+    }
+
+    /// In movetext, passes move numbers and periods, which add nothing, and takes the token behind
+    /// them, where `Lexer::next_past_numbers` gives it. If no byte was used, nothing has changed.
+    #[inline(always)]
+    fn step_past_numbers<W: Sink>(
+        &mut self,
+        piece: &[u8],
+        out: &mut W,
+    ) -> (usize, Result<(), Fault>)
+        requires no_fault { self.old.fault ≡ None }
+        requires short { self.old.lexer.count + length piece.now ≤ 2 ^ 62 }
+        requires none_just_finished { self.old.just_finished ≡ None }
+        requires not_finished { self.old.is_finished ≡ false }
+        ensures used { result.0 ≤ length piece.now }
+        ensures nothing { result.0 ≡ 0 → (self.new ≡ self.old) × (out.new ≡ out.old) }
+        ensures after { PassesNumbers self.old piece.now self.new result.0 result.1
+            (device W.taken W.failures out.old out.new) }
+        ensures count { self.new.lexer.count ≡ self.old.lexer.count + result.0 }
+        ensures advances { 0 < result.0
+            → waiting self.new.lexer < 2 * result.0 + waiting self.old.lexer }
+        ensures written { as_written self.new.reading ≡ as_written self.old.reading }
+        ensures fault { KeepsFault self.new result.1 }
+        ensures games { self.new.games ≡ self.old.games }
+        ensures probes { self.old.reading.most_probes ≤ self.new.reading.most_probes }
+        ensures none_just_finished { self.new.just_finished ≡ None }
+        ensures not_finished { self.new.is_finished ≡ false }
+        ensures counted { CountsFault result.1 (device W.taken W.failures out.old out.new) }
+    {
+        if !self.reader.is_in_movetext() {
+            return (0, Ok(()));
+        }
+        let (used, token) = self.lexer.next_past_numbers(piece);
+        let Some(token) = token else {
+            return (used, Ok(()));
+        };
+        match self.reader.accept_past_numbers(token.kind, out) {
+            Ok(()) => (used, Ok(())),
+            Err(reason) => {
+                let fault = Fault {
+                    at: token.at,
+                    reason,
+                };
+                self.fault = Some(fault);
+                (used, Err(fault))
+            }
         }
     }
 
@@ -686,14 +763,23 @@ impl<const T: usize, const L: usize> Converter<T, L> {
         requires some { 0 < length piece.now }
         requires none_just_finished { self.old.just_finished ≡ None }
         requires not_finished { self.old.is_finished ≡ false }
+        ensures used { result.used ≤ length piece.now }
         ensures after { Steps self.old piece.now self.new result.used result.outcome
             (device W.taken W.failures out.old out.new) }
+        ensures count { self.new.lexer.count ≡ self.old.lexer.count + result.used }
         ensures advances { StepAdvances self.old.lexer piece.now self.new.lexer result.used
             result.outcome }
-        ensures goes { StepGoes self.old piece.now self.new result.used result.outcome
+        ensures ready { IsReadyAfter self.new result.outcome }
+        ensures written { as_written self.new.reading ≡ as_written self.old.reading }
+        ensures fault { self.new.fault ≡ fault_of_step result.outcome }
+        ensures games { self.new.games ≡ self.old.games }
+        ensures probes { self.old.reading.most_probes ≤ self.new.reading.most_probes }
+        ensures none_just_finished { self.new.just_finished ≡ None }
+        ensures not_finished { self.new.is_finished ≡ false }
+        ensures counted { CountsFault result.outcome
             (device W.taken W.failures out.old out.new) }
     {
-        let scan = self.lexer.scan(piece);
+        let scan = self.lexer.next(piece);
         let used = scan.used;
         match scan.outcome {
             Outcome::NeedMore => Step {

@@ -11,4 +11,3 @@ pub mod RunOfBytes
 pub mod StandsAfterCalls
 pub mod StepGives
 pub mod WholeRuns
-pub mod PassesToScans

@@ -2,6 +2,7 @@
 pub mod Bytes
 pub mod Decided
 pub mod PartialToken
+pub mod PastNumbers
 pub mod Laws
 pub mod Lexes
 pub mod RunResult
@@ -16,4 +17,3 @@ pub mod Tokens
 pub mod TokensOf
 pub mod WhiteSpace
 pub mod Written
-pub mod WholeTokens

@@ -2,6 +2,7 @@
 
 ghost use Rattle.std.specs.Prelude.{◌≡◌};
 ghost use Rattle.pgn_lexer.specs.Bytes as bytes;
+ghost use Rattle.pgn_lexer.specs.Lexes as lexes;
 ghost use Rattle.pgn_lexer.specs.Spelling as spelling;
 
 use crate::token::LexReason;
@@ -224,6 +225,12 @@ pub(crate) fn continues_symbol(byte: u8) -> bool
     CONTINUES[byte as usize]
 }
 
+pub(crate) fn is_letter(byte: u8) -> bool
+    ensures { result ≡ bytes.is_letter byte }
+{
+    byte.is_ascii_alphabetic()
+}
+
 pub(crate) fn is_digit(byte: u8) -> bool
     ensures { result ≡ bytes.is_digit byte }
 {
@@ -234,6 +241,13 @@ pub(crate) fn is_suffix(byte: u8) -> bool
     ensures { result ≡ bytes.is_suffix byte }
 {
     byte == b'!' || byte == b'?'
+}
+
+/// Whether a backslash before the byte escapes it.
+pub(crate) fn is_escaped(byte: u8) -> bool
+    ensures { result ≡ lexes.is_escaped byte }
+{
+    byte == b'"' || byte == b'\\'
 }
 
 pub(crate) fn is_line_end(byte: u8) -> bool

@@ -94,7 +94,7 @@ reads_end p old given t l new d has_read is_e takes between =
     let at_start = end_at old.reading.profile part.stage part.pairs part.name part.items (rw k_is at h.free) in
     let none = subst (λ k. gain (as_written old.reading) part k ≡ []) (sym k_is) (gain_end old.reading (end_part has_read.agrees at_start)) in
     let wrote : Appends d.before d.after [] = subst (λ text. Appends d.before d.after text) none h.appended in
-    rw (takes.stays.0 between) (record {
+    rw (takes.stays between) (record {
       more = [];
       extends = sym (append-nil given);
       has_read = read_at p old given l true has_read;
@@ -129,7 +129,7 @@ closes_end p old u given t l new d (Ok None) is_e ok has_read left takes =
         has_read = more;
         between = between;
       },
-      takes.stays.0,
+      takes.stays,
     )
 closes_end p old u given t l new d (Ok (Some marker)) is_e ok has_read left meets =
     absurd (no_marker_at_end t.kind is_e (rw meets.is refl))
@@ -143,7 +143,7 @@ pub closes_token : (p : Profile) (old : Converter) (u : List ℕ) (given : List 
 closes_token p old u given t l new finished d true (Ok None) not_ok has_read left takes = absurd (false≢true (sym not_ok))
 closes_token p old u given t l new finished d true (Ok (Some marker)) not_ok has_read left takes = absurd (false≢true (sym not_ok))
 closes_token p old u given t l new finished d false (Ok None) not_ok has_read left takes =
-    (t, left, reads_token p old given t l new finished d has_read takes, takes.stays.0)
+    (t, left, reads_token p old given t l new finished d has_read takes, takes.stays)
 closes_token p old u given t l new finished d false (Ok (Some marker)) not_ok has_read left meets =
     (t, left, meets_marker p old given t marker l new finished d has_read meets)
 closes_token p old u given t l new finished d e (Err why) not_ok has_read left takes =

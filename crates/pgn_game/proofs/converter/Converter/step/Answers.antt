@@ -1,19 +1,22 @@
-use Rattle.pgn_game.specs.declared.converter.Met.TheVariants.{Token as Other}
-use Rattle.pgn_game.proofs.Words.{◌≡◌, ◌+◌, ◌<◌, ◌≤◌, ◌^◌, length, arith, ap, subst, ◌∙◌, Ok, Some, take_rest, first}
-use Rattle.pgn_game.proofs.tokens.StepsInPiece.{after_step, stands_here}
+use Rattle.pgn_game.proofs.Words.{ℕ, ◌<◌, List, Option, arith, sym, ap, subst, first, Converter, Reaches}
+use Rattle.pgn_game.specs.ConverterSteps.{AfterSteps}
+use Rattle.pgn_game.proofs.tokens.StepsInPiece.{one_of_steps}
 use Rattle.pgn_game.proofs.converter.Converter.step.Goals as goal
 
-pub returns-clause-after : goal.returns-clause-after
-returns-clause-after g c = λ p u given reaches.
-    let read : c.run-run.result.outcome ≡ Ok c.in-Ok-Some-Token.field-0 = c.in-Ok-Some-Token.is in
-    let some : c.in-Ok-Some-Token.field-0 ≡ Some c.in-Ok-Some-Token.field-0-0 = rw read at c.in-Ok-Some-Token.field-0-is in
-    let is : c.run-run.result.outcome ≡ Ok (Some Other) =
-    read ∙ ap Ok (some ∙ ap Some (rw (read, some) at c.in-Ok-Some-Token.field-0-0-is)) in
-    let on = (rw is at c.run-run.ensures.after) p u given reaches in
-    let within : c.run-run.result.used < length c.args.piece.now = omega (arith, c.run-run.ensures.goes.within, c.if-run-piece.false) in
-    let step = c.step_any-step.ensures in
-    let after = rw take_rest at step.after in
-    after_step p u given c.args.piece.now c.run-run.result.used c.run-run.new.self _ _ _ on within c.step_any-step.new.self step.goes.keeps.written
-    c.step_any-step.result.used c.step_any-step.result.outcome
-    (subst (λ n. n + length c.args.piece.now ≤ 2 ^ 62) reaches.lexer.count c.requires.short)
-    (after p _ _ (stands_here p u (first c.args.piece.now) given c.args.piece.now c.run-run.result.used c.run-run.new.self _ _ on.so within))
+pub returns-then-used-eq0-clause-after : goal.returns-then-used-eq0-clause-after
+returns-then-used-eq0-clause-after g c = λ p u given reaches.
+    let same = c.steps_past_numbers-used.ensures.nothing c.if-used-eq0.true in
+    let here = subst (λ (s : Converter). Reaches p s u (first c.args.piece.now) given) (sym same.0) reaches in
+    let step = c.step_any in
+    subst (λ (o : Option (List ℕ)). AfterSteps p u given c.args.piece.now step.new.self step.result.used step.result.outcome o (g.W.Sink.taken step.new.out))
+    (ap g.W.Sink.taken same.1)
+    (one_of_steps p u given c.args.piece.now step.new.self step.result.used step.result.outcome _ _ c.requires.some (step.ensures.after p u given here))
+
+pub returns-in-Ok-clause-after : goal.returns-in-Ok-clause-after
+returns-in-Ok-clause-after g c = λ p u given reaches.
+    let some : 0 < c.steps_past_numbers-used.result.0 = omega (arith, c.if-used-eq0.false) in
+    let so = (rw c.in-Ok.is at c.steps_past_numbers-used.ensures.after) p u given reaches in
+    (so, so.decided some)
+
+pub returns-in-Err-clause-after : goal.returns-in-Err-clause-after
+returns-in-Err-clause-after g c = rw c.in-Err.is at c.steps_past_numbers-used.ensures.after

@@ -1,0 +1,12 @@
+use Rattle.pgn_lexer.proofs.Words.{◌≤◌, ◌-◌, length, PartialToken, IsOutside, Ran}
+use Rattle.pgn_lexer.proofs.partial_token.PartialToken.run_outside.Given as goal
+
+abbrev pub invariant-loop-used : goal.invariant-loop-used
+invariant-loop-used l = record {
+  within : l.used ≤ length l.piece;
+  outside : IsOutside l.self.mode;
+  ran : (old : PartialToken) → Ran l.place old l.piece l.fn.self 0 → Ran l.place old l.piece l.self l.used;
+}
+
+abbrev pub decreases-loop-used : goal.decreases-loop-used
+decreases-loop-used l = length l.piece - l.used

@@ -1,0 +1,31 @@
+use Rattle.pgn_lexer.proofs.Words.{refl, sym, ◌∙◌, ◌<◌, length, arith, take_more_set, length-set, length-take-le}
+use Rattle.pgn_lexer.proofs.stepping.PieceByByte.{ran_all, ran_uses, ran_ends, takes_plain, takes_quote}
+use Rattle.pgn_lexer.proofs.partial_token.PartialToken.run_string.Goals as goal
+
+pub returns-in-Quote : goal.returns-in-Quote
+returns-in-Quote c = λ old ran.
+    let here = c.loop-used.invariant in
+    ran_ends _ old _ _ _ _ (omega arith) refl (here.ran old ran) _ _
+    (takes_quote _ _ _ _ here.string (sym c.string_class_of.ensures ∙ c.in-Quote.is) refl)
+
+pub loop-used-preserved : goal.loop-used-preserved
+loop-used-preserved c =
+    let here = c.loop-used.invariant in
+    let place : c.loop-used.length < length c.loop-used.self-inside.buffer = omega (arith, here.whole) in
+    record {
+      within = omega arith;
+      piece = here.piece;
+      whole = length-set _ _ _ ∙ here.whole;
+      room = omega arith;
+      string = here.string;
+      ran = λ old ran. ran_uses _ old _ _ _ _ (omega arith) refl (here.ran old ran) _
+          (takes_plain _ _ _ _ here.string (sym c.string_class_of.ensures ∙ c.in-Plain.is)
+          (omega (arith, length-take-le c.loop-used.length c.loop-used.self-inside.buffer, place))
+          (rw (take_more_set _ _ _ place) refl));
+    }
+
+pub returns-then-used-piece : goal.returns-then-used-piece
+returns-then-used-piece c = λ old ran. c.run_on.ensures old (c.loop-used.invariant.ran old ran)
+
+pub returns : goal.returns
+returns c = ran_all _ _ _ _ _ _ (omega arith) c.loop-used.invariant.ran
