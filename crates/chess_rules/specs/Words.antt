@@ -62,15 +62,13 @@ words b = record { straight = word straight_of b; diagonal = word diagonal_of b;
 
 -- A rank in four lanes of eight bits.
 
--- the lanes with this content on file a alone
-abbrev pub lanes_of : Option Piece → ℕ
-lanes_of cell =
-    (if straight_of cell then 1 else 0) + 256 * (if diagonal_of cell then 1 else 0)
-    + 65536 * (if is_near cell then 1 else 0) + 16777216 * (if has_colour Black cell then 1 else 0)
-
 -- the lanes of eight cells or fewer, from file a on
 unfoldable pub lanes : List (Option Piece) → ℕ
 lanes b = word straight_of b + 256 * word diagonal_of b + 65536 * word is_near b + 16777216 * word (has_colour Black) b
+
+-- the lanes with this content on file a alone
+abbrev pub lanes_of : Option Piece → ℕ
+lanes_of cell = lanes (cell ∷ [])
 
 -- the lanes of some eight cells
 pub record AreLanes (n : ℕ) : Type 0 where

@@ -9,6 +9,7 @@ ghost use Rattle.chess_rules.specs.Words as words;
 ghost use Rattle.chess_rules.specs.declared.piece.Colour.TheVariants.{Black};
 
 use crate::piece::{Colour, Kind, Piece};
+use crate::rank_words;
 use crate::square::Square;
 use crate::squares::Squares;
 use crate::tables::{BYTES_OF_BITS, BYTES_OF_RUNS};
@@ -21,12 +22,13 @@ use std::marker::Model;
 /// # Examples
 ///
 /// ```
-/// use chess_rules::{Board, Colour, Kind, Piece, Position, PositionFault, Rights};
+/// use chess_rules::rank_words::{BLACK_KING, WHITE_KING};
+/// use chess_rules::{Board, Colour, Position, PositionFault, Rights};
 ///
 /// // A white king on e8, a black one on e7, and no other piece.
 /// let mut board = Board::empty();
-/// board.push_rank(0x0010_1000);
-/// board.push_rank(0x1010_1000);
+/// board.push_rank(WHITE_KING << 4);
+/// board.push_rank(BLACK_KING << 4);
 /// for _ in 0..6 {
 ///     board.push_rank(0);
 /// }
@@ -251,10 +253,8 @@ impl Board {
 
     /// Puts a rank below the others, as rank 1. Each other goes up by one, and rank 8 is dropped.
     ///
-    /// The word has four lanes of eight bits. In each lane the lowest bit is for file a, and the
-    /// highest one for file h. The lowest lane has rooks, queens and knights, the next one bishops,
-    /// queens and kings, the third one pawns, knights and kings, and the highest one black pieces.
-    /// So no bit may be set in the three lower lanes at once, or in the highest one alone.
+    /// The word is that of a rank: the sum of those of its pieces, each shifted left by its file.
+    /// `rank_words` has them, and says what each bit means.
     #[inline(always)]
     pub fn push_rank(&mut self, lanes: u32)
         requires { words.AreLanes lanes }
@@ -305,8 +305,8 @@ fn bytes_of_runs(bits: usize) -> u64
     BYTES_OF_RUNS[bits]
 }
 
-// The sets of a rank in four lanes of eight bits, one for each file. From the lowest lane on these
-// are `straight`, `diagonal`, `near` and `black`.
+// The word of a rank. Its lanes are the sets of its squares: from the lowest one on `straight`,
+// `diagonal`, `near` and `black`.
 fn lanes_of_rank(contents: &[Option<Piece>; 64], rank: usize) -> u32
     requires { rank < 8 }
     ensures { result ≡ words.lanes (take 8 (drop (8 * rank) contents.now)) }
@@ -319,26 +319,27 @@ fn lanes_of_rank(contents: &[Option<Piece>; 64], rank: usize) -> u32
     lanes
 }
 
-// For each number of a content: the lanes of a rank with this content on file a alone.
+// For each number of a content: the word of a rank with this content on file a alone.
 static LANES: [u32; 13] = [
-    0x0001_0100,
-    0x0000_0101,
-    0x0000_0001,
-    0x0000_0100,
-    0x0001_0001,
-    0x0001_0000,
-    0x0101_0100,
-    0x0100_0101,
-    0x0100_0001,
-    0x0100_0100,
-    0x0101_0001,
-    0x0101_0000,
-    0x0000_0000,
+    rank_words::WHITE_KING,
+    rank_words::WHITE_QUEEN,
+    rank_words::WHITE_ROOK,
+    rank_words::WHITE_BISHOP,
+    rank_words::WHITE_KNIGHT,
+    rank_words::WHITE_PAWN,
+    rank_words::BLACK_KING,
+    rank_words::BLACK_QUEEN,
+    rank_words::BLACK_ROOK,
+    rank_words::BLACK_BISHOP,
+    rank_words::BLACK_KNIGHT,
+    rank_words::BLACK_PAWN,
+    0,
 ];
 
-// The lanes of a rank with this content on file a alone.
+// The word of a rank with this content on file a alone.
 //
-// They come from a table. A branch for each square would mostly be mispredicted.
+// It comes from a table. A branch for each square would mostly be mispredicted.
+#[tactic(auto, unfolding(crate::specs::Words::lanes, crate::specs::Words::word))]
 fn lanes_of(content: Option<Piece>) -> u32
     ensures { result ≡ words.lanes_of content }
 {

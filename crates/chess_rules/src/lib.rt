@@ -13,6 +13,7 @@ mod pairs;
 mod piece;
 mod position;
 mod probes;
+pub mod rank_words;
 mod square;
 mod squares;
 mod step;

@@ -3,8 +3,10 @@
 ghost use Rattle.std.specs.Prelude.{◌≡◌};
 ghost use Rattle.chess_text.specs.Items as spec;
 
+use chess_rules::rank_words;
+
 // What a byte means: the first square, and how many squares there are. Those behind the first are
-// empty. The word for the first one is that of a rank with it on file a alone (`Board::push_rank`).
+// empty. The word for the first one is that of a rank with it on file a alone.
 #[derive(Clone, Copy)]
 pub(crate) struct Item {
     pub(crate) lanes: u32,
@@ -23,7 +25,7 @@ macro_rules! run {
 
 // The letter of a piece.
 macro_rules! piece {
-    ($lanes:literal) => {
+    ($lanes:expr) => {
         Item {
             lanes: $lanes,
             width: 1,
@@ -49,29 +51,29 @@ const RU7: Item = run!(7);
 
 const RU8: Item = run!(8);
 
-const WKI: Item = piece!(0x0001_0100);
+const WKI: Item = piece!(rank_words::WHITE_KING);
 
-const WQU: Item = piece!(0x0000_0101);
+const WQU: Item = piece!(rank_words::WHITE_QUEEN);
 
-const WRO: Item = piece!(0x0000_0001);
+const WRO: Item = piece!(rank_words::WHITE_ROOK);
 
-const WBI: Item = piece!(0x0000_0100);
+const WBI: Item = piece!(rank_words::WHITE_BISHOP);
 
-const WKN: Item = piece!(0x0001_0001);
+const WKN: Item = piece!(rank_words::WHITE_KNIGHT);
 
-const WPA: Item = piece!(0x0001_0000);
+const WPA: Item = piece!(rank_words::WHITE_PAWN);
 
-const BKI: Item = piece!(0x0101_0100);
+const BKI: Item = piece!(rank_words::BLACK_KING);
 
-const BQU: Item = piece!(0x0100_0101);
+const BQU: Item = piece!(rank_words::BLACK_QUEEN);
 
-const BRO: Item = piece!(0x0100_0001);
+const BRO: Item = piece!(rank_words::BLACK_ROOK);
 
-const BBI: Item = piece!(0x0100_0100);
+const BBI: Item = piece!(rank_words::BLACK_BISHOP);
 
-const BKN: Item = piece!(0x0101_0001);
+const BKN: Item = piece!(rank_words::BLACK_KNIGHT);
 
-const BPA: Item = piece!(0x0101_0000);
+const BPA: Item = piece!(rank_words::BLACK_PAWN);
 
 const BAD: Item = run!(9);
 

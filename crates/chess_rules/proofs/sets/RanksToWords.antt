@@ -18,14 +18,7 @@ lanes_nil = refl
 -- one content more, to the left of the others
 lanes-cons : (x : Option Piece) (b : Board) → lanes (x ∷ b) ≡ lanes_of x + 2 * lanes b
 unfolding lanes word
-lanes-cons x b =
-    parts (if straight_of x then 1 else 0) (if diagonal_of x then 1 else 0) (if is_near x then 1 else 0) (if has_colour Black x then 1 else 0)
-    (word straight_of b) (word diagonal_of b) (word is_near b) (word (has_colour Black) b)
-  where
-    parts : (s d n c v w x y : ℕ)
-        → (s + 2 * v) + 256 * (d + 2 * w) + 65536 * (n + 2 * x) + 16777216 * (c + 2 * y)
-        ≡ (s + 256 * d + 65536 * n + 16777216 * c) + 2 * (v + 256 * w + 65536 * x + 16777216 * y)
-    parts s d n c v w x y = omega arith
+lanes-cons x b = omega arith
 
 -- the content before those that are read
 pub next_lanes : (b : Board) (i n read : ℕ) → i < length b → read ≡ lanes (take n (drop (suc i) b))

@@ -32,11 +32,11 @@ none_there test none zero h = refl
 none_there test none (suc k) h = ap₂ (λ t n. (if t then 1 else 0) + 2 * n) h (none_there test none k h)
 
 with_item : {X : Type 0} (test : X → Bool) (b : List X) (x none : X) (k : ℕ) → test none ≡ false
-    → word test (b ++ (x ∷ replicate k none)) ≡ word test b + 2 ^ length b * (if test x then 1 else 0)
+    → word test (b ++ (x ∷ replicate k none)) ≡ word test b + 2 ^ length b * word test (x ∷ [])
 unfolding word
 with_item test [] x none k h = ap (λ n. (if test x then 1 else 0) + 2 * n) (none_there test none k h) ∙ omega arith
 with_item test (y ∷ b) x none k h =
-    longer (if test y then 1 else 0) (word test b) (word test (b ++ (x ∷ replicate k none))) (if test x then 1 else 0) (2 ^ length b) (2 ^ suc (length b))
+    longer (if test y then 1 else 0) (word test b) (word test (b ++ (x ∷ replicate k none))) (word test (x ∷ [])) (2 ^ length b) (2 ^ suc (length b))
     (with_item test b x none k h) (pow-suc 2 (length b))
   where
     longer : (first a whole e p q : ℕ) → whole ≡ a + p * e → q ≡ p * 2 → first + 2 * whole ≡ first + 2 * a + q * e
@@ -45,7 +45,7 @@ with_item test (y ∷ b) x none k h =
 pub lanes_with_item : (b : Board) (x : Option Piece) (k : ℕ) → lanes (b ++ (x ∷ replicate k None)) ≡ lanes b + lanes_of x * 2 ^ length b
 unfolding lanes
 lanes_with_item b x k =
-    parts (if straight_of x then 1 else 0) (if diagonal_of x then 1 else 0) (if is_near x then 1 else 0) (if has_colour Black x then 1 else 0)
+    parts (word straight_of (x ∷ [])) (word diagonal_of (x ∷ [])) (word is_near (x ∷ [])) (word (has_colour Black) (x ∷ []))
     (word straight_of b) (word diagonal_of b) (word is_near b) (word (has_colour Black) b) (2 ^ length b) _ _ _ _
     (with_item straight_of b x None k refl) (with_item diagonal_of b x None k refl) (with_item is_near b x None k refl) (with_item (has_colour Black) b x None k refl)
   where

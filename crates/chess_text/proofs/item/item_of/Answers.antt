@@ -1,6 +1,8 @@
 use Rattle.std.proofs.Common.{refl}
+unfoldable use Rattle.chess_rules.specs.Words.{lanes, word}
 use Rattle.chess_text.specs.Items.{item}
 use Rattle.chess_text.proofs.item.item_of.Goals as goal
 
 pub returns : goal.returns
+unfolding lanes word
 returns c = Rattle.chess_text.proofs.positions.TableOfItems.table_at item _ _ _ refl c.ranges.byte.fits

@@ -1,4 +1,3 @@
-use Rattle.chess_rules.specs.declared.piece.Kind.TheVariants.{King}
 use Rattle.chess_text.proofs.Words.{◌≡◌, sym, ◌∙◌, ap, is_some, not, is_castling, false≢true}
 use Rattle.chess_text.proofs.forms.CastlingMoves.{castles_by_king, fits_by_kind, legal_is_step}
 use Rattle.chess_text.proofs.resolution.agrees.Goals as goal
