@@ -1,6 +1,6 @@
 //! What Rust's users expect of the types. **Not proved**: written for Cargo.
 
-use crate::{write_fen, FenFault, Played, SanFault};
+use crate::{write_fen, FenFault, Played, SanFault, UciFault};
 use chess_rules::{try_pair, Position, Probes};
 use std::error::Error;
 use std::fmt::{self, Debug, Display, Formatter};
@@ -25,6 +25,18 @@ impl Display for SanFault {
 }
 
 impl Error for SanFault {}
+
+impl Display for UciFault {
+    /// Writes the words that the program reports for such a move.
+    fn fmt(&self, out: &mut Formatter<'_>) -> fmt::Result {
+        out.write_str(match self {
+            UciFault::NotAMove => "not a move",
+            UciFault::IllegalMove => "move is not legal",
+        })
+    }
+}
+
+impl Error for UciFault {}
 
 impl Debug for Played {
     fn fmt(&self, out: &mut Formatter<'_>) -> fmt::Result {

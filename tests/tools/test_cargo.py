@@ -42,7 +42,7 @@ fn main() {
 # Calls each function that counts pairs with too little room, and then with enough. Only chess_rules
 # can make such a count, so this does what the libraries forbid.
 SAMPLE_OF_ROOM = """use chess_rules::{has_legal_move, try_pair, Position, Probes};
-use chess_text::{origins_of_form, read_form, resolve, resolve_move, write_san};
+use chess_text::{origins_of_form, read_form, read_uci, resolve, resolve_move, write_san};
 use std::panic::{catch_unwind, set_hook};
 fn with_room_for(pairs: u32) -> Probes {
     unsafe { std::mem::transmute(u32::MAX - pairs) }
@@ -63,8 +63,10 @@ fn main() {
                 .is_err(),
             catch_unwind(|| write_san(&position, &played, &mut with_room_for(1024 + room)))
                 .is_err(),
+            catch_unwind(|| read_uci(&position, b"e2e4", &mut with_room_for(room - 7)).is_ok())
+                .is_err(),
         ];
-        assert_eq!(is_refused, [room == 7; 6]);
+        assert_eq!(is_refused, [room == 7; 7]);
     }
 }
 """
@@ -175,7 +177,7 @@ class Built(unittest.TestCase):
                  for it in re.finditer(r"catch_unwind\(\|\|", SAMPLE_OF_ROOM)]
         self.assertEqual(re.findall(r"sample\.rs:(\d+):", said), [str(it) for it in lines])
         rooms = re.findall(r"the count of Probes has room for ([\d,]+) more", said)
-        self.assertEqual(rooms, ["1", "1,024", "8", "8", "8", "1,032"])
+        self.assertEqual(rooms, ["1", "1,024", "8", "8", "8", "1,032", "1"])
 
     def build_libraries(self):
         ran = cargo("build", "--lib", *("--package=" + it for it in LIBRARIES))

@@ -107,6 +107,12 @@ fn a_fen_and_a_move_have_the_words_of_the_converter() {
     ] {
         assert_eq!(fault.to_string(), reason.to_string());
     }
+    for (fault, reason) in [
+        (chess_text::UciFault::NotAMove, Reason::NotAMove),
+        (chess_text::UciFault::IllegalMove, Reason::IllegalMove),
+    ] {
+        assert_eq!(fault.to_string(), reason.to_string());
+    }
 }
 
 #[test]

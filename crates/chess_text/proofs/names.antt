@@ -2,5 +2,6 @@
 pub mod OneMoveAgrees
 pub mod RivalsAreCandidates
 pub mod TextsToMoves
+pub mod UciToMove
 pub mod WrittenMoveIsRead
 pub mod WrittenToForm

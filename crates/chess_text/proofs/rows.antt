@@ -6,3 +6,4 @@ pub mod MovesOfPieces
 pub mod ResolveRows
 pub mod SanRows
 pub mod TextLawRows
+pub mod UciRows

@@ -10,3 +10,4 @@ pub mod FormOrigins
 pub mod San
 pub mod Laws
 pub mod WrittenMove
+pub mod Uci

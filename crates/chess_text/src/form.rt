@@ -226,7 +226,7 @@ fn target_at_end(text: &[u8]) -> Option<Square>
 }
 
 // The square that a file's letter and a rank's digit name.
-fn square_of(file: u8, rank: u8) -> Option<Square>
+pub(crate) fn square_of(file: u8, rank: u8) -> Option<Square>
     ensures { result ≡ spec.square_of (spec.file_of file) (spec.rank_of rank) }
 {
     let file = file_of(file)?;

@@ -3,6 +3,7 @@
 
 ghost use Rattle.chess_text.specs.Laws.{CanonicalFits, CanonicalIsShortest, CanonicalSpells, FaultIsLowest, FenOnce, FieldsAreSpellings, FormOnce, NoMoveIsRead, ReadingAFormIsSpelling, ReadingIsSpelling, ShorterIsAmbiguous, SingleReading, TheOneMoveIsRead, TwoMovesAreAmbiguous};
 ghost use Rattle.chess_text.specs.FormOrigins.{LegalOriginsDecide};
+ghost use Rattle.chess_text.specs.Uci.{UciIsExact, UciTextsDiffer, WrittenUciIsRead};
 ghost use Rattle.chess_text.specs.WrittenMove.{WrittenMoveIsRead, WrittenMoveIsSymbol};
 
 use chess_rules::laws::one_king_a_side;
@@ -107,3 +108,21 @@ pub fn a_written_move_is_read_as_itself()
 {
     one_king_a_side();
 }
+
+/// Reading UCI gives the legal move whose text it is, with the position after it.
+///
+/// The error is `IllegalMove` exactly if it is the text of a move that is not legal, and `NotAMove`
+/// exactly if it is that of no move.
+pub fn uci_is_exact()
+    ensures { UciIsExact }
+{}
+
+/// Two different legal moves of a position have different texts in UCI.
+pub fn uci_texts_differ()
+    ensures { UciTextsDiffer }
+{}
+
+/// The text of a legal move in UCI is read as this move, with the position after it.
+pub fn a_written_uci_is_read_as_itself()
+    ensures { WrittenUciIsRead }
+{}

@@ -1,4 +1,4 @@
-//! Positions and moves as text: FEN and standard algebraic notation, read and written.
+//! Positions and moves as text: FEN, standard algebraic notation and UCI, read and written.
 //!
 //! No call allocates.
 #![tactic(auto)]
@@ -15,9 +15,11 @@ mod resolution;
 mod san;
 #[cfg(test)]
 mod tests;
+mod uci;
 
 pub use fen::{FenFault, read_fen, write_fen};
 pub use form::{Form, read_form};
 pub use form_origins::{OriginKind, origins_of_form};
 pub use resolution::{Played, SanFault, resolve, resolve_move};
 pub use san::write_san;
+pub use uci::{UciFault, read_uci, write_uci};

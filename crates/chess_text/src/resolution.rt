@@ -207,7 +207,7 @@ fn agrees(position: &Position, kind: Kind, hints: Hints, mv: &Move, probes: &mut
 }
 
 // The legal move, with the position after it.
-fn play(position: &Position, mv: Move) -> Played
+pub(crate) fn play(position: &Position, mv: Move) -> Played
     requires { IsTrue (is_legal position.now mv) }
     ensures { spec.with_next mv (legal position.now mv) ≡ Some result }
 {

@@ -11,7 +11,7 @@ ghost use Rattle.chess_text.specs.Letter as letters;
 ghost use Rattle.chess_text.specs.San as spec;
 ghost use Rattle.chess_text.specs.San.{MarkPairs};
 
-use crate::letter::letter;
+use crate::letter::{letter, push_square};
 use crate::resolution::{Played, is_castling};
 use arrayvec::ArrayVec;
 use chess_rules::laws::candidates_are_complete;
@@ -313,14 +313,6 @@ fn push_capture(text: &mut ArrayVec<u8, 7>, takes: bool)
     if takes {
         text.push(b'x');
     }
-}
-
-fn push_square(text: &mut ArrayVec<u8, 7>, square: Square)
-    requires { length text.old.items ≤ 5 }
-    ensures { text.new.items ≡ text.old.items ++ letters.square_text square }
-{
-    text.push(b'a' + square.file());
-    text.push(b'1' + square.rank());
 }
 
 fn promotion_letter(promotion: Promotion) -> u8

@@ -4,6 +4,7 @@
 mod form_origins;
 mod resolution;
 mod san;
+mod uci;
 
 use crate::fen::{FenFault, read_fen, write_fen};
 use chess_rules::Position;

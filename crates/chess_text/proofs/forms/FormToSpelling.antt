@@ -76,7 +76,7 @@ target_spelled s to h =
     )
 
 -- what is found passes the test
-found : {X : Type 0} (p : X → Bool) (xs : List X) (x : X) → find p xs ≡ Some x → p x ≡ true
+pub found : {X : Type 0} (p : X → Bool) (xs : List X) (x : X) → find p xs ≡ Some x → p x ≡ true
 found p [] x h = cc
 found p (y ∷ xs) x h = grind (arith, found p xs x)
 

@@ -17,7 +17,7 @@ abbrev parts_or_initial : Result Parts FenFault → Parts
 parts_or_initial (Ok p) = p
 parts_or_initial (Err fault) = initial
 
-abbrev drawn : String → Parts
+abbrev pub drawn : String → Parts
 drawn s = parts_or_initial (parts_read (codes s))
 
 -- The knight on c3 is pinned.
