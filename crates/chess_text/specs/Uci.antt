@@ -1,5 +1,5 @@
--- **Definition**: moves in UCI, the Universal Chess Interface: the text of a move, and the legal
--- move that a text names. At the end: the laws of these texts.
+-- **Definition**: moves in UCI, the Universal Chess Interface (its protocol, "Move format"): the
+-- text of a move, and the legal move that a text names. At the end: the laws of these texts.
 use Rattle.std.specs.Prelude.{◌≡◌, ◌≢◌, ◌↔◌, List, [], ◌∷◌, ◌++◌, ℕ, Option, None, Some, Result, Ok, Err, find, bytes_eq, codes, IsTrue, IsFalse}
 use Rattle.std.specs.Option.{ok_or}
 use Rattle.chess_rules.specs.declared.piece.Promotion.{Promotion}

@@ -1,4 +1,5 @@
-//! Moves in UCI, the Universal Chess Interface, in which engines and test sets write moves.
+//! Moves in UCI, the Universal Chess Interface, in which engines and test sets write moves. (Its
+//! protocol, "Move format")
 
 ghost use Rattle.std.specs.Prelude.{◌≡◌, ◌≢◌, ◌+◌, ◌<◌, ◌≤◌, ◌^◌, [], ◌∷◌, Err, IfOk, Some, length};
 ghost use Rattle.chess_rules.specs.Legal.{legal};
@@ -21,7 +22,7 @@ pub enum UciFault {
     IllegalMove,
 }
 
-/// Writes UCI: returns the text of a move, 4 or 5 bytes, as `e2e4` or `a7a8q`.
+/// Writes UCI: returns the text of a move, 4 or 5 bytes, as `e2e4` or `a7a8q`. (UCI, Move format)
 ///
 /// That is the origin, the target, and for a promotion `q`, `r`, `b` or `n`. Castling is the king's
 /// move, as `e1g1`. A capture, a check and mate have no sign.
@@ -68,7 +69,7 @@ fn small_letter(promotion: Promotion) -> u8
     }
 }
 
-/// Reads UCI: returns the legal move that the text names, and the position after it.
+/// Reads UCI: returns the legal move with this text, and the position after it. (UCI, Move format)
 ///
 /// The text is exactly that of [`write_uci`]: the origin, the target, and the letter of a
 /// promotion. All letters are small. Castling is the king's move, as `e1g1`. With another piece on
