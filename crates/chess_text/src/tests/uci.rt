@@ -11,12 +11,14 @@ const ROOKS: &str = "r3k2r/8/8/8/8/8/8/R3K2R w KQkq - 0 1";
 
 const ROOKS_OF_BLACK: &str = "r3k2r/8/8/8/8/8/8/R3K2R b KQkq - 0 1";
 
+const WITHOUT_RIGHTS: &str = "r3k2r/8/8/8/8/8/8/R3K2R w - - 0 1";
+
 const PROMOTING: &str = "1r6/P6k/8/8/8/8/8/K7 w - - 0 1";
 
 const PINNED: &str = "4k3/8/8/8/1b6/2N5/8/4K1N1 w - - 0 1";
 
 // A position, the text of a move in it, and the position after the move.
-const MOVES: [(&str, &str, &str); 18] = [
+const MOVES: [(&str, &str, &str); 6] = [
     (
         FIRST,
         "e2e4",
@@ -32,7 +34,19 @@ const MOVES: [(&str, &str, &str); 18] = [
         "g1f3",
         "rnbqkbnr/pppppppp/8/8/8/5N2/PPPPPPPP/RNBQKB1R b KQkq - 1 1",
     ),
-    // promotions, without a capture and with one
+    // the other knight is pinned
+    (PINNED, "g1e2", "4k3/8/8/8/1b6/2N5/4N3/4K3 b - - 1 1"),
+    // a capture, and en passant
+    (ROOKS, "a1a8", "R3k2r/8/8/8/8/8/8/4K2R b Kk - 0 1"),
+    (
+        "4k3/8/8/8/3pP3/8/8/4K3 b - e3 0 1",
+        "d4e3",
+        "4k3/8/8/8/8/4p3/8/4K3 w - - 0 2",
+    ),
+];
+
+// Without a capture, and with one.
+const PROMOTIONS: [(&str, &str, &str); 5] = [
     (PROMOTING, "a7a8q", "Qr6/7k/8/8/8/8/8/K7 b - - 0 1"),
     (PROMOTING, "a7a8r", "Rr6/7k/8/8/8/8/8/K7 b - - 0 1"),
     (PROMOTING, "a7b8b", "1B6/7k/8/8/8/8/8/K7 b - - 0 1"),
@@ -42,34 +56,22 @@ const MOVES: [(&str, &str, &str); 18] = [
         "a2b1q",
         "k7/8/8/8/8/8/7K/1q6 w - - 0 2",
     ),
-    // en passant
-    (
-        "4k3/8/8/8/3pP3/8/8/4K3 b - e3 0 1",
-        "d4e3",
-        "4k3/8/8/8/8/4p3/8/4K3 w - - 0 2",
-    ),
-    // castling
+];
+
+// Castling, and moves from e1 that are none.
+const CASTLING: [(&str, &str, &str); 7] = [
     (ROOKS, "e1g1", "r3k2r/8/8/8/8/8/8/R4RK1 b kq - 1 1"),
     (ROOKS, "e1c1", "r3k2r/8/8/8/8/8/8/2KR3R b kq - 1 1"),
     (ROOKS_OF_BLACK, "e8g8", "r4rk1/8/8/8/8/8/8/R3K2R w KQ - 1 2"),
     (ROOKS_OF_BLACK, "e8c8", "2kr3r/8/8/8/8/8/8/R3K2R w KQ - 1 2"),
-    // the text of castling for a rook on e1, and a king's step from e1
+    // the same text for a rook
     (
         "3k4/8/8/8/8/8/8/K3R3 w KQ - 0 1",
         "e1g1",
         "3k4/8/8/8/8/8/8/K5R1 b - - 1 1",
     ),
     (ROOKS, "e1f1", "r3k2r/8/8/8/8/8/8/R4K1R b kq - 1 1"),
-    // a king on e1 without rights
-    (
-        "r3k2r/8/8/8/8/8/8/R3K2R w - - 0 1",
-        "e1d2",
-        "r3k2r/8/8/8/8/8/3K4/R6R b - - 1 1",
-    ),
-    // the other knight is pinned
-    (PINNED, "g1e2", "4k3/8/8/8/1b6/2N5/4N3/4K3 b - - 1 1"),
-    // a capture
-    (ROOKS, "a1a8", "R3k2r/8/8/8/8/8/8/4K2R b Kk - 0 1"),
+    (WITHOUT_RIGHTS, "e1d2", "r3k2r/8/8/8/8/8/3K4/R6R b - - 1 1"),
 ];
 
 // A position, and the text of a move that is not legal in it.
@@ -79,8 +81,8 @@ const ILLEGAL_MOVES: [(&str, &str); 15] = [
     (FIRST, "e4e5"),
     (FIRST, "e2e2"),
     // castling without rights, across an attacked square, and onto the rook's square
-    ("r3k2r/8/8/8/8/8/8/R3K2R w - - 0 1", "e1g1"),
-    ("r3k2r/8/8/8/8/8/8/R3K2R w - - 0 1", "e1c1"),
+    (WITHOUT_RIGHTS, "e1g1"),
+    (WITHOUT_RIGHTS, "e1c1"),
     ("4k3/8/8/8/8/5r2/8/4K2R w K - 0 1", "e1g1"),
     (ROOKS, "e1h1"),
     // no letter at the last rank, and a letter where nothing is promoted
@@ -141,6 +143,20 @@ fn is_refused(rt: &impl Abort, fen: &str, text: &str, wanted: UciFault, pairs: u
 #[test]
 fn reads_and_writes_uci(rt: HostRuntime) {
     for (fen, text, after) in MOVES {
+        is_read(&rt, fen, text, after);
+    }
+}
+
+#[test]
+fn reads_and_writes_promotions_of_uci(rt: HostRuntime) {
+    for (fen, text, after) in PROMOTIONS {
+        is_read(&rt, fen, text, after);
+    }
+}
+
+#[test]
+fn reads_and_writes_castling_of_uci(rt: HostRuntime) {
+    for (fen, text, after) in CASTLING {
         is_read(&rt, fen, text, after);
     }
 }
