@@ -1,7 +1,9 @@
 -- **Definition**: the next game of a text, as C gets it.
--- Letters: p is the profile, s the text, in which the bytes before the place are white space, and
--- `piece` its bytes from the place on. `before` and `after` are the bytes that were written, before
--- the call and after it, if they are kept.
+-- Letters: p is the profile, f a fault. `text` is the text of a call, and `from` the place where it
+-- is read from. s is that text with white space in place of the bytes before this place, and
+-- `piece` has its bytes from the place on. `found` is the result before its bytes written are
+-- counted. `before` and `after` are the bytes that were written, before the call and after it, if
+-- they are kept; from `ConvertsNext` on they are the bytes of the buffer.
 use Rattle.std.specs.Prelude.{◌≡◌, ◌≢◌, ℕ, ◌+◌, ◌-◌, ◌^◌, ◌<◌, ◌≤◌, ◌==◌, ◌||◌, ◌&&◌, ◌⊎◌, Bool, List, [], ◌∷◌, ◌++◌, length, take, drop, slice_index_or, decimal, Option, Some, None}
 use Rattle.std.specs.Io.KnownBytes.{Appends}
 use Rattle.chess_rules.specs.declared.position.Parts.{Parts}
@@ -32,60 +34,63 @@ use Rattle.pgn_c.specs.Results.{IsFilled, padded, profile_in}
 
 -- ---- the text from a place on
 
--- Whether a percent sign at this place begins an escape line (PGN 6). So it does at the start of
--- the text, behind a line end, and behind a byte order mark at the start.
+-- Whether this place is in the first column, where a percent sign begins an escape line (PGN 6): at
+-- the start of the text, after a line end, or after a byte order mark at the start.
 abbrev pub in_first_column : List ℕ → ℕ → Bool
 in_first_column text from =
     (from == 0) || is_line_end (slice_index_or text (from - 1) 0) || ((from == 3) && has_mark text)
 
--- The text from the place on. The bytes before it count as white space, so that places count from
--- the first byte of the text.
+-- The text with white space in place of the bytes before the place, so that places count from the
+-- first byte of the text.
 abbrev pub text_from : List ℕ → ℕ → List ℕ
 text_from text from = white_space from (in_first_column text from) ++ drop from text
 
 -- ---- results
 
--- the position's FEN, or zeros alone
+-- the FEN of the position, and zeros after it; without a position zeros alone
 abbrev pub fen_bytes : Option Parts → List ℕ
 fen_bytes (Some position) = padded 96 (fen_text position)
 fen_bytes None = padded 96 []
 
--- the number of a marker
+-- the number of a marker in C
 abbrev pub marker_number : Marker → ℕ
 marker_number WhiteWins = 1
 marker_number BlackWins = 2
 marker_number Draw = 3
 marker_number Unknown = 4
 
--- 2 where the buffer is full, and else this status
+-- the status of a fault: 2 if the buffer is full, and else the one that is passed
 abbrev pub status_for : ℕ → Reason → ℕ
 status_for status WriteFault = 2
 status_for status _ = status
 
--- a status alone
+-- the result that has this status, and nothing else
 abbrev pub nothing : ℕ → PgnGame
 nothing status =
     record { status = status; fault = 0; place = 0; written = 0; end = 0; marker_at = 0; plies = 0; reason_at = 0; marker = 0; message = padded 104 []; fen = padded 96 [] }
 
--- a game, with the place of its marker and the place behind it
+-- the result for a game, with the place of its marker and the place after it; no bytes written are
+-- counted
 abbrev pub game_result : Game → Marker → ℕ → ℕ → PgnGame
 game_result game marker at end =
     record { status = 0; fault = 0; place = 0; written = 0; end = end; marker_at = at; plies = plies_of game; reason_at = 0; marker = marker_number marker; message = padded 104 []; fen = fen_bytes (Some (last_position game)) }
 
--- a fault, and the position in which a move was rejected
+-- The result for a fault, with the position in which a move was rejected, if one was. No bytes
+-- written are counted. The message is the line of the fault, in which the reason comes after
+-- `byte N: `.
 abbrev pub fault_result : ℕ → Fault → Option Parts → PgnGame
 fault_result status f position =
     record { status = status; fault = number_of f.reason; place = f.at; written = 0; end = 0; marker_at = 0; plies = 0; reason_at = 7 + length (decimal f.at); marker = 0; message = padded 104 (line_of f); fen = fen_bytes position }
 
 -- ---- what is found
 
--- whatever comes behind these bytes, the text begins with these tokens
+-- the bytes decide these tokens: whatever comes after them, the tokens of the text begin with these
 abbrev pub AreKnown : List ℕ → List Token → Type 0
 AreKnown bytes tokens = (more : List ℕ) → (later : List Token) × (tokens_of (bytes ++ more) ≡ tokens ++ later)
 
--- A game: the first tokens of the text, up to its marker, are read into this one. No byte behind
--- the one after the marker decides that, and no byte at place 2^62 or behind it. The export text of
--- the game is written.
+-- A game: the first tokens of the text, of which `at` is its marker, are read into it. The bytes
+-- before place 2^62 show them. If the text goes on after the marker, its bytes up to the one after
+-- the marker decide them. The export text of the game is written. The status is 0.
 pub record IsGame (p : Profile) (s : List ℕ) (result : PgnGame) (before after : Option (List ℕ)) : Type 0 where
   pub tokens : List Token
   pub at : Token
@@ -101,8 +106,8 @@ pub record IsGame (p : Profile) (s : List ℕ) (result : PgnGame) (before after 
   pub wrote : Appends before after (game_text p game)
   pub is_result : result ≡ game_result game marker at.at result.end
 
--- No game is left, no token is rejected, and the text has no byte at place 2^62. Nothing is
--- written.
+-- No game is left, and no token is rejected. The text has at most 2^62 bytes. Nothing is written.
+-- The status is 4.
 pub record HasNoGame (p : Profile) (s : List ℕ) (result : PgnGame) (before after : Option (List ℕ)) : Type 0 where
   pub short : length s ≤ 2 ^ 62
   pub passes : (read p (tokens_of s)).fault ≡ None
@@ -110,8 +115,8 @@ pub record HasNoGame (p : Profile) (s : List ℕ) (result : PgnGame) (before aft
   pub wrote : Appends before after []
   pub is_result : result ≡ nothing 4
 
--- A token of the first game is rejected, whatever comes behind the bytes before place 2^62. What is
--- due for the tokens before it is written.
+-- A token of the first game is rejected, and the bytes before place 2^62 decide it. What is due for
+-- the tokens before it is written. The status is 1, since `WriteFault` is the reason of no token.
 pub record IsRejected (p : Profile) (s : List ℕ) (result : PgnGame) (before after : Option (List ℕ)) : Type 0 where
   pub fault : Fault
   pub tokens : List Token
@@ -121,8 +126,10 @@ pub record IsRejected (p : Profile) (s : List ℕ) (result : PgnGame) (before af
   pub wrote : Appends before after (due p tokens)
   pub is_result : result ≡ fault_result (status_for 1 fault.reason) fault (position_at_fault (read p tokens))
 
--- No token of the text so far is rejected. It has no game and no byte at place 2^62, but its end is
--- a fault. If the piece has a byte, all tokens that the text decides were read.
+-- The text has at most 2^62 bytes. They decide `tokens`, of which none is rejected, and none
+-- finishes a game. These are all that they decide, if the piece has a byte. But if the text ends
+-- here, one of its tokens is rejected with the fault, before any game is finished. What is due for
+-- the tokens before that one is written. The status is 5.
 pub record NeedsMore (p : Profile) (s piece : List ℕ) (result : PgnGame) (before after : Option (List ℕ)) : Type 0 where
   pub short : length s ≤ 2 ^ 62
   pub fault : Fault
@@ -136,8 +143,8 @@ pub record NeedsMore (p : Profile) (s piece : List ℕ) (result : PgnGame) (befo
   pub wrote : Appends before after (due p (tokens_of s))
   pub is_result : result ≡ fault_result (status_for 5 fault.reason) fault (position_at_fault (read p (tokens_of s)))
 
--- The buffer is full: more is due for the token at this place and those before it. These are of the
--- first game, and the bytes before place 2^62 show them.
+-- The buffer is full: more is due for the token at the place `at` and those before it. They are
+-- tokens of the first game, and the bytes before place 2^62 show them. The status is 2.
 pub record IsFull (p : Profile) (s : List ℕ) (result : PgnGame) (before after : Option (List ℕ)) : Type 0 where
   pub at : ℕ
   pub tokens : List Token
@@ -146,8 +153,9 @@ pub record IsFull (p : Profile) (s : List ℕ) (result : PgnGame) (before after 
   pub no_game : games_read p stops.front ≡ []
   pub is_result : result ≡ fault_result 2 (record { at = at; reason = WriteFault }) None
 
--- The text has a byte at place 2^62, and those before it neither decide a game nor reject a token.
--- All tokens that they decide were read, if a byte of the piece is among them.
+-- The text has a byte at place 2^62. Those before it, `bytes`, decide `tokens`, and these are all
+-- that they decide, if one of the bytes is of the piece. None of these is rejected, and they finish
+-- no game. What is due for them is written. The status is 1.
 pub record IsTooLong (p : Profile) (s piece : List ℕ) (result : PgnGame) (before after : Option (List ℕ)) : Type 0 where
   pub bytes : List ℕ
   pub rest : List ℕ
@@ -162,7 +170,13 @@ pub record IsTooLong (p : Profile) (s piece : List ℕ) (result : PgnGame) (befo
   pub wrote : Appends before after (due p tokens)
   pub is_result : result ≡ fault_result 1 (record { at = 2 ^ 62; reason = InputTooLong }) None
 
--- what is found in the text, and written
+-- What is found in the text, and written.
+-- - `game`: a game.
+-- - `no_game`: no game is left.
+-- - `rejected`: a token of the game is rejected, whatever comes after the text.
+-- - `needs_more`: the game has no end in the text, but may have one if the text goes on.
+-- - `full`: the buffer is full.
+-- - `too_long`: the text has a byte at place 2^62, and those before it hold no game.
 pub data NextOf (p : Profile) (s piece : List ℕ) (result : PgnGame) (before after : Option (List ℕ)) : Type 0 where
   game : IsGame p s result before after → NextOf p s piece result before after
   no_game : HasNoGame p s result before after → NextOf p s piece result before after
@@ -173,12 +187,13 @@ pub data NextOf (p : Profile) (s piece : List ℕ) (result : PgnGame) (before af
 
 -- ---- the calls
 
--- a missing Result counts as this marker
+-- the profile of a call in which a missing Result counts as this marker
 abbrev pub profile_counting : Mode → Marker → Profile
 profile_counting mode missing = counting (profile_in mode) (marker_text missing)
 
 -- The next game from the place on is converted into the buffer. What is written is at its front,
--- and its other bytes are as they were. The result says how many bytes are written.
+-- and its other bytes are as they were. If the status is 2, all of the buffer is written. The
+-- result counts the bytes written.
 pub record ConvertsNext (p : Profile) (text : List ℕ) (from : ℕ) (before after : List ℕ) (result : PgnGame) : Type 0 where
   pub found : PgnGame
   pub written : List ℕ
@@ -191,16 +206,17 @@ pub record ConvertsNext (p : Profile) (text : List ℕ) (from : ℕ) (before aft
 abbrev pub ReadsNext : Mode → Marker → List ℕ → ℕ → PgnGame → Type 0
 ReadsNext mode marker text from found = NextOf (profile_counting mode marker) (text_from text from) (drop from text) found None None
 
--- it is rejected then, because its Result is not its marker (41)
+-- the next game is rejected then, because its Result is not its marker (41)
 abbrev pub IsOtherResult : Mode → Marker → List ℕ → ℕ → Type 0
 IsOtherResult mode marker text from = (found : PgnGame) × ReadsNext mode marker text from found × (found.fault ≡ 41)
 
--- the profile in which a missing Result takes the marker
+-- the profile of a call in which a missing Result takes the marker
 abbrev pub profile_taking : Mode → Profile
 profile_taking mode = checked_profile 64 32 mode
 
--- A missing Result takes the marker: the first tokens of the text, up to its marker, are read into
--- this game, and the buffer begins with its export text. The bytes before place 2^62 show them.
+-- A game in which a missing Result takes the marker: the first tokens of the text, of which `at` is
+-- its marker, are read into it. The bytes before place 2^62 show them. The buffer begins with the
+-- export text of the game, and its other bytes are as they were.
 pub record TakesMarker (mode : Mode) (s : List ℕ) (before after : List ℕ) (result : PgnGame) : Type 0 where
   pub tokens : List Token
   pub at : Token
@@ -215,8 +231,13 @@ pub record TakesMarker (mode : Mode) (s : List ℕ) (before after : List ℕ) (r
   pub is_result : result
       ≡ record (game_result game marker at.at result.end) { written = length (game_text (profile_taking mode) game) }
 
--- A missing Result takes the marker: it counts as one with which the Result of the game is its
--- marker, if there is one. A game is converted into the buffer; without a game nothing is written.
+-- A missing Result takes the marker. So the game is first read, with a missing Result that counts
+-- as `marker`, and nothing is written.
+-- - If that finds a game, it is converted into the buffer in the same way. With the status 0 it is
+--   the game of `TakesMarker`.
+-- - If not, nothing is written, and the result is that of the reading.
+-- - If its fault is that the Result is not the marker (41), it is so whichever marker a missing
+--   Result counts as.
 pub record ChecksNext (mode : Mode) (text : List ℕ) (from : ℕ) (before after : List ℕ) (result : PgnGame) : Type 0 where
   pub marker : Marker
   pub found : PgnGame
@@ -229,8 +250,8 @@ pub record ChecksNext (mode : Mode) (text : List ℕ) (from : ℕ) (before after
   pub by_each : found.fault ≡ 41 → (other : Marker) → IsOtherResult mode other text from
 
 -- The next game in a mode. If `missing_result` is 0, a missing Result counts as `*`; if it is 1, it
--- takes the marker. With another number, or a place outside the text or above 2^62, nothing is read
--- or written.
+-- takes the marker. With another number the status is 3. With a place after the end of the text or
+-- above 2^62 it is 6. In both cases nothing is written.
 pub record NextGame (mode : Mode) (missing_result : ℕ) (text : List ℕ) (from : ℕ) (before after : List ℕ) (result : PgnGame) : Type 0 where
   pub no_mode : 1 < missing_result → (after ≡ before) × (result ≡ nothing 3)
   pub bad_place : missing_result ≤ 1 → (length text < from) ⊎ (2 ^ 62 < from)
@@ -240,6 +261,7 @@ pub record NextGame (mode : Mode) (missing_result : ℕ) (text : List ℕ) (from
   pub takes_the_marker : missing_result ≡ 1 → from ≤ length text → from ≤ 2 ^ 62
       → ChecksNext mode text from before after result
 
+-- the same for a mode, if there is one; without one the status is 3, and nothing is written
 abbrev pub NextGameIn : Option Mode → ℕ → List ℕ → ℕ → List ℕ → List ℕ → PgnGame → Type 0
 NextGameIn (Some mode) missing_result text from before after result = NextGame mode missing_result text from before after result
 NextGameIn None missing_result text from before after result = (after ≡ before) × (result ≡ nothing 3)

@@ -5,8 +5,9 @@ use Rattle.pgn_layout.specs.TagLine.{escaped, tag_line}
 use Rattle.pgn_game.specs.FaultTable.{in_name}
 use Rattle.pgn_c.specs.declared.tag.PgnTag.{PgnTag}
 
--- The text begins with the line of the tag pair. Its name is 1 to 255 letters, digits and
--- underscores. In its value any byte may be, with a backslash before each quote and backslash.
+-- The text begins with the line of this tag pair. Its name is 1 to 255 letters, digits and
+-- underscores. Its value may have any bytes, and the line has a backslash before each quote and
+-- backslash of it.
 pub record BeginsWithTag (text name value : List ℕ) : Type 0 where
   pub rest : List ℕ
   pub line : text ≡ tag_line name value ++ rest
@@ -26,11 +27,12 @@ tag_of at name value =
       next = at + length (tag_line name value);
     }
 
+-- the result that no such line begins there
 abbrev pub no_tag : PgnTag
 no_tag = record { status = 1; name_at = 0; name_length = 0; value_at = 0; value_length = 0; next = 0 }
 
--- The line of each tag pair is found. Nothing else is: either the result says that there is none,
--- or a pair's line begins there.
+-- If the line of a tag pair begins at the place, the result has it. If the result is not that there
+-- is none, such a line begins there.
 pub record TagResult (text : List ℕ) (at : ℕ) (result : PgnTag) : Type 0 where
   pub found : (name value : List ℕ) → BeginsWithTag (drop at text) name value → result ≡ tag_of at name value
   pub only : (result ≡ no_tag) ⊎ ((name : List ℕ) × (value : List ℕ) × BeginsWithTag (drop at text) name value)

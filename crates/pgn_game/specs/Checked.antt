@@ -1,8 +1,9 @@
 -- **Definition**: what an input gives that is read twice, as `convert_checked` reads it.
--- It is read from `first` and from `second`. The games of `second` are written, each after `first`
--- has read a game to that marker. A missing Result takes the marker.
--- Letters: p is the profile, b the progress, t a token, ts are tokens, s is a text, m a mark and ms
--- are marks, f is a fault, u are bytes.
+-- It is read from two sources, `first` and `second`. The games of `second` are written, each after
+-- `first` has read a game to that marker. A missing Result takes the marker.
+-- Letters: p is the profile, b the progress, g a game, t a token, m a mark, ms are marks. s is the
+-- text of `first` and r that of `second`, ts are tokens of `first` and us tokens of `second`. f is
+-- a comparison.
 use Rattle.std.specs.Prelude.{ℕ, ◌==◌, Bool, true, false, ◌||◌, ◌&&◌, not, bytes_eq, is_some, List, [], ◌∷◌, ◌++◌, Option, None, Some}
 use Rattle.pgn_lexer.specs.Tokens.{Token}
 use Rattle.pgn_lexer.specs.TokensOf.{tokens_of}
@@ -15,7 +16,7 @@ use Rattle.pgn_game.specs.FaultTable.{refusal, is_end}
 use Rattle.pgn_game.specs.Text.{text_of, torn}
 use Rattle.pgn_game.specs.Progress.{Next, going, whole, next, Progress, no_progress, progress_after, read, Verdict, verdict_of}
 
--- the profile of both readings, for at most so many pairs of a game, and variations so deep
+-- the profile of both readings, for at most so many pairs of a game, and variations at most so deep
 abbrev pub checked_profile : ℕ → ℕ → Mode → Profile
 checked_profile most depth mode = record { tags = most; depth = depth; mode = mode; missing_result = takes_the_marker }
 
@@ -24,7 +25,7 @@ pub record Mark : Type 0 where
   pub text : List ℕ
   pub at : ℕ
 
--- the mark of a token at this place: one, if it finishes a game
+-- the mark of a token at this place, if it finishes a game
 abbrev pub mark_at : ℕ → Next → List Mark
 mark_at at (going part) = []
 mark_at at (whole g) = record { text = g.marker; at = at } ∷ []
@@ -38,6 +39,7 @@ marks_from p b (t ∷ ts) =
       | None ↦ mark_at t.at (next b.part t.kind) ++ marks_from p (progress_after b t) ts
     ]
 
+-- the marks of tokens that are read from the start on
 abbrev pub marks : Profile → List Token → List Mark
 marks p ts = marks_from p no_progress ts
 
@@ -47,12 +49,13 @@ abbrev pub is_other : Mark → Next → Token → Bool
 is_other m (going part) t = is_end t.kind
 is_other m (whole g) t = not (bytes_eq g.marker m.text && (t.at == m.at))
 
--- a token of `second` at which the inputs are seen to differ: it shows this, or it is rejected
+-- a token of `second` at which the inputs differ: it is rejected, or it shows that `second` is not
+-- at the mark m
 abbrev pub is_changed : Profile → Mark → Part → Token → Bool
 is_changed p m part t = is_some (refusal p part t.kind) || is_other m (next part t.kind) t
 
--- How far `second` is read: its progress, the marks of `first` that it has not read yet, and the
--- fault of a token at which the inputs differ.
+-- How far `second` is read: its progress, the marks of `first` that are still to come, and the
+-- fault of the token at which the inputs differ, if one does.
 pub record Comparison : Type 0 where
   pub progress : Progress
   pub marks_left : List Mark
@@ -64,7 +67,7 @@ marks_after (going part) m ms = m ∷ ms
 marks_after (whole g) m ms = ms
 
 -- The tokens of `second` are read up to the last mark, or up to the first token at which the inputs
--- differ.
+-- differ, or all of them.
 abbrev pub compared_from : Profile → List Mark → Progress → List Token → Comparison
 compared_from p ms b [] = record { progress = b; marks_left = ms; fault = None }
 compared_from p [] b (t ∷ ts) = record { progress = b; marks_left = []; fault = None }
@@ -74,25 +77,28 @@ compared_from p (m ∷ ms) b (t ∷ ts) =
       | false ↦ compared_from p (marks_after (next b.part t.kind) m ms) (progress_after b t) ts
     ]
 
--- the tokens of `second`, after these of `first`
+-- the tokens us of `second`, compared with the marks of the tokens ts of `first`
 abbrev pub compared : Profile → List Token → List Token → Comparison
 compared p ts us = compared_from p (marks p ts) no_progress us
 
--- the same profile, where a missing Result counts as this mark
+-- the same profile, in which a missing Result counts as the marker of this mark
 abbrev pub with_mark : Profile → Mark → Profile
 with_mark p m = record { tags = p.tags; depth = p.depth; mode = p.mode; missing_result = counts_as m.text }
 
 -- What is written of the current game of `second`: its tag section and all lines but the last. A
--- missing Result counts as the marker that `first` has for this game.
+-- missing Result counts as the marker that `first` has for this game. After the last mark nothing
+-- is written.
 abbrev pub torn_before : Profile → List Mark → Part → List ℕ
 torn_before p [] part = []
 torn_before p (m ∷ ms) part = torn (with_mark p m) part
 
--- what is written by then
+-- what is written by a comparison: the games of `second` that are whole, and of the current game
+-- what `torn_before` says
 abbrev pub written_by : Profile → Comparison → List ℕ
 written_by p f = text_of p f.progress.games ++ torn_before p f.marks_left f.progress.part
 
--- the fault of `second` comes before that of `first`, which is read no further then
+-- The fault of a difference comes before that of `first`: each game is compared before `first` is
+-- read further.
 abbrev pub earlier_fault : Option Fault → Option Fault → Option Fault
 earlier_fault (Some changed) other = Some changed
 earlier_fault None other = other
@@ -103,6 +109,6 @@ checked_verdict p s r =
     let f = compared p (tokens_of s) (tokens_of r) in
     verdict_of (record { progress = f.progress; fault = earlier_fault f.fault (read p (tokens_of s)).fault })
 
--- and their output
+-- the output for two texts
 abbrev pub checked_output : Profile → List ℕ → List ℕ → List ℕ
 checked_output p s r = written_by p (compared p (tokens_of s) (tokens_of r))

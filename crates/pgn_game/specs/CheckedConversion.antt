@@ -1,7 +1,9 @@
 -- **Definition**: what a conversion does whose input is read twice, from two sources.
--- Letters: p is the profile, s the text of `first`, r the text of `second`, t the totals, f a
--- fault. u are the bytes that a source has given so far, ts and us the tokens of `first` and of
--- `second`. `first`, `second` and `sink` are the devices, before the call and after it.
+-- Letters: p is the profile, s the text of `first`, r the text of `second`, v a verdict, t are the
+-- totals, f is a fault, m a mark, ms are marks. u are the bytes that a source has given so far, ts
+-- are tokens of `first`, and us tokens of `second`. n is the most pairs of an origin and a target
+-- that were tried for one move. `first`, `second` and `sink` are the devices, before the call and
+-- after it.
 use Rattle.std.specs.Prelude.{◌≡◌, ℕ, ◌^◌, ◌<◌, ◌≤◌, ◌⊎◌, max, IsTrue, List, [], ◌∷◌, ◌++◌, length, take, None, Some, Result, Ok, Err, IfSome}
 use Rattle.std.specs.Io.KnownBytes.{Appends, Consumes}
 use Rattle.pgn_layout.specs.Device.{Device, FailsOnce, IsStill}
@@ -19,7 +21,7 @@ use Rattle.pgn_game.specs.ConverterCalls.{AreShown, play_moves}
 use Rattle.pgn_game.specs.MostTried.{MostTried}
 use Rattle.pgn_game.specs.Checked.{Mark, compared, written_by, earlier_fault, checked_verdict, checked_output}
 
--- the sink has taken this text, and no more
+-- the sink has taken this text in the call, and no more
 abbrev pub HasTaken : Device → List ℕ → Type 0
 HasTaken sink text = Appends sink.before sink.after text
 
@@ -27,8 +29,9 @@ HasTaken sink text = Appends sink.before sink.after text
 abbrev pub AreConverted : Profile → List ℕ → List ℕ → Verdict → Device → Type 0
 AreConverted p s r v sink = (checked_verdict p s r ≡ v) × HasTaken sink (checked_output p s r)
 
--- The most pairs tried for one move of one of the readings: of `first` all tokens are read, of
--- `second` those up to the last mark, `front`.
+-- n is the most pairs tried for one move in both readings. All tokens of `first` are read. Of those
+-- of `second` the tokens `front` are read: none is rejected, and they make the progress that the
+-- comparison makes.
 pub record MostOfBoth (p : Profile) (ts us : List Token) (n : ℕ) : Type 0 where
   pub front : List Token
   pub rest : List Token
@@ -41,14 +44,15 @@ pub record MostOfBoth (p : Profile) (ts us : List Token) (n : ℕ) : Type 0 wher
   pub second_tried : MostTried p front most_of_second
   pub greater : n ≡ max most_of_first most_of_second
 
--- That number is at most 1,040, and at least one if a game that is written has a move.
+-- That number is at most 1,040, and at least 1 if a game that is written has a move.
 pub record ProbesBoth (p : Profile) (s r : List ℕ) (n : ℕ) : Type 0 where
   pub most : n ≤ 1040
   pub some : IsTrue (play_moves (compared p (tokens_of s) (tokens_of r)).progress.games) → 0 < n
   pub tried : MostOfBoth p (tokens_of s) (tokens_of r) n
 
--- The fault f is the earlier one of the tokens ts of `first` and us of `second`, which the bytes of
--- each before place 2^62 show. That no token behind these has an earlier one, `AreConverted` says.
+-- The fault f is the first difference, or if there is none the fault of `first`. The tokens ts of
+-- `first` and us of `second` have it, and the bytes of each text before place 2^62 show them.
+-- `AreConverted` says that the whole texts have the same fault.
 pub record AreRefused (p : Profile) (s r : List ℕ) (f : Fault) : Type 0 where
   pub ts : List Token
   pub us : List Token
@@ -56,8 +60,9 @@ pub record AreRefused (p : Profile) (s r : List ℕ) (f : Fault) : Type 0 where
   pub second_shown : AreShown r us
   pub fault : earlier_fault (compared p ts us).fault (read p ts).fault ≡ Some f
 
--- Both were converted, with these numbers. `first` has no byte at place 2^62, and the bytes of
--- `second` before that place show it up to the last mark.
+-- Both texts are converted, with the totals t. The text of `first` has at most 2^62 bytes. In the
+-- text of `second` the bytes before place 2^62 show the tokens us, which match all marks of
+-- `first`.
 pub record AreTotalled (p : Profile) (s r : List ℕ) (t : Totals) (sink : Device) : Type 0 where
   pub short : length s ≤ 2 ^ 62
   pub us : List Token
@@ -66,21 +71,22 @@ pub record AreTotalled (p : Profile) (s r : List ℕ) (t : Totals) (sink : Devic
   pub converted : AreConverted p s r (verdict_in t) sink
   pub probes : ProbesBoth p s r t.most_probes
 
--- `second` was read up to the last mark of these tokens of `first`, without a difference, and the
--- games up to there are written.
+-- The tokens us of `second` match all marks of the tokens ts of `first`, without a difference. The
+-- games up to the last mark are written.
 pub record MatchesAllMarks (p : Profile) (ts us : List Token) (sink : Device) : Type 0 where
   pub fault : (compared p ts us).fault ≡ None
   pub no_mark_left : (compared p ts us).marks_left ≡ []
   pub appended : HasTaken sink (written_by p (compared p ts us))
 
--- In `first` nothing is rejected that the bytes u decide, and `second` was read up to the last mark
--- of these tokens.
+-- `first` is read no further than the bytes u, and no token that they decide is rejected. The text
+-- of `second` matches all marks of these tokens, and its games up to the last mark are written.
 pub record FirstStops (p : Profile) (u : List ℕ) (second sink : Device) : Type 0 where
   pub passes : (read p (decided u)).fault ≡ None
   pub matched : IfSome second.before (λ r. MatchesAllMarks p (decided u) (tokens_of r) sink)
 
--- `second` has given the bytes u, which show no difference, and is read no further, before a mark
--- of tokens that `first` has given.
+-- `second` is read no further than the bytes u. The tokens that they decide show no difference from
+-- the marks of `tokens`, which the bytes that `first` has given decide. One of these marks is still
+-- to come. What is due for the tokens of `second` is written.
 pub record SecondStops (p : Profile) (first : Device) (u : List ℕ) (sink : Device) : Type 0 where
   pub tokens : List Token
   pub decided_by : Decides first.before first.after tokens
@@ -88,9 +94,10 @@ pub record SecondStops (p : Profile) (first : Device) (u : List ℕ) (sink : Dev
   pub next_mark : (m : Mark) × (ms : List Mark) × ((compared p tokens (decided u)).marks_left ≡ m ∷ ms)
   pub appended : HasTaken sink (written_by p (compared p tokens (decided u)))
 
--- Where a write failed: the tokens of `second` up to `token`, which its bytes before place 2^62
--- show, show no difference from the marks of tokens that `first` has given. Of what is written for
--- them, a front was, not all, and at least what is written for those before it.
+-- A write failed at `token` of `second`, which is at the place `at`. The bytes of `second` before
+-- place 2^62 show the tokens up to it. These show no difference from the marks of `tokens`, which
+-- the bytes that `first` has given decide. Of what is due for them a prefix of `count` bytes is
+-- written: not all, but at least what is due for those before `token`.
 pub record WriteStops (p : Profile) (first : Device) (r : List ℕ) (at : ℕ) (sink : Device) : Type 0 where
   pub tokens : List Token
   pub decided_by : Decides first.before first.after tokens
@@ -104,10 +111,14 @@ pub record WriteStops (p : Profile) (first : Device) (r : List ℕ) (at : ℕ) (
   pub short : count < length (written_by p (compared p tokens (front ++ token ∷ [])))
   pub appended : HasTaken sink (take count (written_by p (compared p tokens (front ++ token ∷ []))))
 
--- How a conversion fails: by the texts' own verdict, a fault of `first` or the first difference,
--- which the bytes before place 2^62 show; because a read of either failed, or a write; or since the
--- byte at place 2^62 came. In `second` that is a difference, since `first` has finished this game
--- before its own place 2^62.
+-- How a conversion fails.
+-- - `refused`: by the verdict on the texts, which is a fault of `first` or the first difference.
+--   Their bytes before place 2^62 show it.
+-- - `first_unread`, `second_unread`: a read of this source failed, after the bytes u.
+-- - `first_too_long`: `first` has given a byte at place 2^62.
+-- - `second_too_long`: `second` has given one. That is a difference, since the mark to come is
+--   before this place in `first`.
+-- - `unwritten`: a write failed.
 pub data TwoReadingsFail (p : Profile) (first second sink : Device) : Fault → Type 0 where
   refused : (f : Fault) → IfSome first.before (λ s. IfSome second.before (λ r. AreRefused p s r f × AreConverted p s r (is_refused f) sink))
       → TwoReadingsFail p first second sink f
@@ -122,7 +133,8 @@ pub data TwoReadingsFail (p : Profile) (first second sink : Device) : Fault → 
   unwritten : (at : ℕ) → IfSome second.before (λ r. WriteStops p first r at sink)
       → TwoReadingsFail p first second sink (record { at = at; reason = WriteFault })
 
--- What the sources have left is converted, `first` up to its end.
+-- What a conversion of two sources results in. Without a fault it converts what they have left,
+-- `first` up to its end.
 abbrev pub TwoReadingsConvert : Profile → (first second sink : Device) → Result Totals Fault → Type 0
 TwoReadingsConvert p first second sink (Ok t) = IfSome first.before (λ s. IfSome second.before (λ r. AreTotalled p s r t sink))
 TwoReadingsConvert p first second sink (Err f) = TwoReadingsFail p first second sink f
@@ -131,13 +143,14 @@ TwoReadingsConvert p first second sink (Err f) = TwoReadingsFail p first second 
 abbrev pub OneFails : (first second : Device) → Type 0
 OneFails first second = (FailsOnce first × IsStill second) ⊎ (IsStill first × FailsOnce second)
 
--- 50 is answered where one of the sources counts one failure more, 51 where the sink does, and
--- nowhere else does one count.
+-- If the reason is `ReadFault`, one of the sources counts one failure more. If it is `WriteFault`,
+-- the sink does. No other count rises.
 abbrev pub CountsThree : Reason → (first second sink : Device) → Type 0
 CountsThree ReadFault first second sink = OneFails first second × IsStill sink
 CountsThree WriteFault first second sink = IsStill first × IsStill second × FailsOnce sink
 CountsThree _ first second sink = IsStill first × IsStill second × IsStill sink
 
+-- the same for a result: without a fault no count rises
 abbrev pub TwoReadingsCount : (first second sink : Device) → Result Totals Fault → Type 0
 TwoReadingsCount first second sink (Ok t) = IsStill first × IsStill second × IsStill sink
 TwoReadingsCount first second sink (Err f) = CountsThree f.reason first second sink

@@ -1,7 +1,9 @@
 -- **Definition**: what a conversion of a whole input does.
--- Letters: p is the profile, s a text, v a verdict, t the totals, f a fault, u the bytes read so
--- far. `source` and `sink` are the devices before the call and after it. `before` and `after` are
--- the bytes that the sink has taken, `left_old` and `left_new` those that the source has left.
+-- Letters: p is the profile, s a text, v a verdict, t are the totals, f is a fault, u are the bytes
+-- read so far, ts are tokens. n is the most pairs of an origin and a target that were tried for one
+-- move. `source` and `sink` are the devices before the call and after it. `before` and `after` are
+-- the bytes that the sink has taken, `left_old` and `left_new` those that the source has left, if
+-- they report them.
 use Rattle.std.specs.Prelude.{◌≡◌, ℕ, ◌^◌, ◌<◌, ◌≤◌, IsTrue, List, [], ◌++◌, length, Option, None, Result, Ok, Err, IfSome}
 use Rattle.std.specs.Io.KnownBytes.{Appends, Consumes}
 use Rattle.pgn_layout.specs.Device.{Device, FailsOnce, IsStill, one_more}
@@ -26,28 +28,31 @@ verdict_in t = totals (record { games = t.games; plies = t.plies })
 abbrev pub IsConverted : Profile → List ℕ → Verdict → Option (List ℕ) → Option (List ℕ) → Type 0
 IsConverted p s v before after = (verdict p s ≡ v) × Appends before after (output p s)
 
--- The most pairs tried for one move of the input: at most 1,040, which is 8 for the candidates of
--- its piece, 8 for their rivals, and 1,024 for an answer to a check; and at least one, if any move
--- was played.
+-- n is the most pairs tried for one move of the text. It is at most 1,040: 8 for the candidates of
+-- the piece, 8 for their rivals, and 1,024 for an answer to a check. It is at least 1 if one of the
+-- games has a move.
 pub record MostProbes (p : Profile) (s : List ℕ) (n : ℕ) : Type 0 where
   pub most : n ≤ 1040
   pub some : IsTrue (play_moves (read p (tokens_of s)).progress.games) → 0 < n
   pub tried : MostTried p (tokens_of s) n
 
--- The text s, which has no byte at place 2^62, is converted. These are the numbers of its verdict,
+-- The text s is converted, and has at most 2^62 bytes. The totals have the numbers of its verdict,
 -- and the most pairs tried.
 pub record IsTotalled (p : Profile) (s : List ℕ) (t : Totals) (before after : Option (List ℕ)) : Type 0 where
   pub short : length s ≤ 2 ^ 62
   pub converted : IsConverted p s (verdict_in t) before after
   pub probes : MostProbes p s t.most_probes
 
--- After the bytes u, of which nothing is rejected, no more are read: what they decide is written.
+-- Reading ends after the bytes u. They decide no token that is rejected, and what is due for the
+-- tokens that they decide is written.
 pub record ReadsNoMore (p : Profile) (u : List ℕ) (before after : Option (List ℕ)) : Type 0 where
   pub passes : (read p (decided u)).fault ≡ None
   pub appended : Appends before after (due p (decided u))
 
--- How a conversion of a slice fails: by the text's own fault, or because a write failed for one of
--- the tokens, both of which its bytes before place 2^62 show; or since the slice is too long.
+-- How a conversion of a slice fails.
+-- - `refused`: by the fault of the text. Its bytes before place 2^62 show it.
+-- - `unwritten`: a write failed at one of the tokens that these bytes show.
+-- - `too_long`: the slice has a byte at place 2^62, and those before it were read.
 pub data FailsOn (p : Profile) (text : List ℕ) (before after : Option (List ℕ)) : Fault → Type 0 where
   refused : (f : Fault) → IsRefused p text f → IsConverted p text (is_refused f) before after → FailsOn p text before after f
   unwritten : (tokens : List Token) (at : ℕ) → AreShown text tokens → StopsWriting p [] tokens at before after
@@ -55,6 +60,7 @@ pub data FailsOn (p : Profile) (text : List ℕ) (before after : Option (List �
   too_long : (u rest : List ℕ) → text ≡ u ++ rest → length u ≡ 2 ^ 62 → 0 < length rest → ReadsNoMore p u before after
       → FailsOn p text before after (record { at = length u; reason = InputTooLong })
 
+-- what a conversion of a slice results in: the text is converted, or the conversion fails
 abbrev pub AfterSlice : Profile → List ℕ → Result Totals Fault → Option (List ℕ) → Option (List ℕ) → Type 0
 AfterSlice p text (Ok t) before after = IsTotalled p text t before after
 AfterSlice p text (Err f) before after = FailsOn p text before after f
@@ -67,17 +73,20 @@ ConvertsSlice p text result sink = AfterSlice p text result sink.before sink.aft
 abbrev pub IsTokenPrefix : List Token → List Token → Type 0
 IsTokenPrefix ts tokens = (rest : List Token) × (tokens ≡ ts ++ rest)
 
--- The bytes that a source has given decide these tokens: some of those before place 2^62, from the
--- first on, do so. Or it has ended, without a byte at that place, and the tokens of its text begin
--- with them.
+-- The bytes that a source has given decide the tokens ts.
+-- - `so_far`: some of those before place 2^62, from the first on, decide them.
+-- - `at_end`: the source has ended, its text has no byte at that place, and its tokens begin with
+--   ts.
 pub data Decides (left_old left_new : Option (List ℕ)) (ts : List Token) : Type 0 where
   so_far : (u more : List ℕ) → Consumes left_old left_new (u ++ more) → length u ≤ 2 ^ 62 → AreNext u ts → Decides left_old left_new ts
   at_end : (u : List ℕ) → Consumes left_old left_new u → length u ≤ 2 ^ 62 → IfSome left_old (λ s. s ≡ u) → IsTokenPrefix ts (tokens_of u)
       → Decides left_old left_new ts
 
--- How a conversion fails: by the input's own fault, which its bytes before place 2^62 show; because
--- a read failed behind the bytes u; because a write failed for one of the tokens that the bytes
--- read by then decide; or since the byte at place 2^62 came.
+-- How a conversion fails.
+-- - `refused`: by the fault of the input. Its bytes before place 2^62 show it.
+-- - `unread`: a read failed, after the bytes u.
+-- - `unwritten`: a write failed at one of the tokens that the bytes read by then decide.
+-- - `too_long`: the source has given a byte at place 2^62, and those before it were read.
 pub data Fails (p : Profile) (left_old left_new : Option (List ℕ)) (before after : Option (List ℕ)) : Fault → Type 0 where
   refused : (f : Fault) → IfSome left_old (λ s. IsRefused p s f × IsConverted p s (is_refused f) before after) → Fails p left_old left_new before after f
   unread : (u : List ℕ) → Consumes left_old left_new u → length u ≤ 2 ^ 62 → ReadsNoMore p u before after
@@ -87,7 +96,8 @@ pub data Fails (p : Profile) (left_old left_new : Option (List ℕ)) (before aft
   too_long : (u rest : List ℕ) → Consumes left_old left_new (u ++ rest) → length u ≡ 2 ^ 62 → 0 < length rest → ReadsNoMore p u before after
       → Fails p left_old left_new before after (record { at = length u; reason = InputTooLong })
 
--- What the source has left is converted, up to its end.
+-- What a conversion results in: what the source had left is converted, up to its end, or the
+-- conversion fails.
 abbrev pub AfterConversion : Profile → Option (List ℕ) → Option (List ℕ) → Result Totals Fault → Option (List ℕ) → Option (List ℕ) → Type 0
 AfterConversion p left_old left_new (Ok t) before after = IfSome left_old (λ s. IsTotalled p s t before after)
 AfterConversion p left_old left_new (Err f) before after = Fails p left_old left_new before after f
@@ -97,28 +107,31 @@ abbrev pub Converts : Profile → Device → Result Totals Fault → Device → 
 Converts p source result sink =
     AfterConversion p source.before source.after result sink.before sink.after
 
--- 50 is answered where the source counts one failure more, 51 where the sink does, and nowhere else
--- does one count.
+-- If the reason is `ReadFault`, the source counts one failure more. If it is `WriteFault`, the sink
+-- does. No other count rises.
 abbrev pub CountsDevices : Reason → ℕ → ℕ → ℕ → ℕ → Type 0
 CountsDevices ReadFault source_old source_new sink_old sink_new = (source_new ≡ one_more source_old) × (sink_new ≡ sink_old)
 CountsDevices WriteFault source_old source_new sink_old sink_new = (source_new ≡ source_old) × (sink_new ≡ one_more sink_old)
 CountsDevices _ source_old source_new sink_old sink_new = (source_new ≡ source_old) × (sink_new ≡ sink_old)
 
+-- the same for a result: without a fault no count rises
 abbrev pub CountsResult : Result Totals Fault → Device → Device → Type 0
 CountsResult (Ok t) source sink = IsStill source × IsStill sink
 CountsResult (Err f) source sink =
     CountsDevices f.reason source.failures source.failures_after sink.failures sink.failures_after
 
--- the same where there is no source
+-- If the reason is `WriteFault`, the sink counts one failure more, and for any other reason none.
 abbrev pub CountsWriting : Reason → Device → Type 0
 CountsWriting WriteFault sink = FailsOnce sink
 CountsWriting _ sink = IsStill sink
 
+-- the same for a result: without a fault the count stays
 abbrev pub CountsSink : {A : Type 0} → Result A Fault → Device → Type 0
 CountsSink (Ok t) sink = IsStill sink
 CountsSink (Err f) sink = CountsWriting f.reason sink
 
--- How a conversion ends behind the bytes u, which are then the whole input.
+-- How a conversion ends after the bytes u, which are then the whole input: all tokens were read, or
+-- reading stopped.
 abbrev pub AfterEnd : Profile → List ℕ → List Token → Result Totals Fault → Option (List ℕ) → Option (List ℕ) → Type 0
 AfterEnd p u given (Ok t) before after = (verdict p u ≡ verdict_in t) × MostProbes p u t.most_probes × Gains p given (tokens_of u) before after
 AfterEnd p u given (Err f) before after = Stops p given (tokens_of u) before after f

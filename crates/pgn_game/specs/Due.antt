@@ -9,7 +9,8 @@ use Rattle.pgn_game.specs.Game.{Part}
 use Rattle.pgn_game.specs.Text.{game_text, torn}
 use Rattle.pgn_game.specs.Progress.{Next, going, whole, next, due}
 
--- what is written of a game when a token has led so far
+-- what is written of a game after a token: of the part that it leaves, or of the game that it
+-- finishes
 abbrev pub text_next : Profile → Next → List ℕ
 text_next p (going part) = torn p part
 text_next p (whole g) = game_text p g
@@ -19,7 +20,7 @@ text_next p (whole g) = game_text p g
 abbrev pub gain : Profile → Part → Kind → List ℕ
 gain p part k = drop (length (torn p part)) (text_next p (next part k))
 
--- What was appended is the output for the tokens `new` without the output for `old`.
+-- What was appended is the output for the tokens `new` without that for `old`.
 pub record Gains (p : Profile) (old new : List Token) (before after : Option (List ℕ)) : Type 0 where
   pub text : List ℕ
   pub due_for : due p new ≡ due p old ++ text

@@ -1,6 +1,8 @@
 -- **Definition**: the laws of an input that is the same at both readings.
--- Letters: p is the profile, s a text. u are the bytes that a source has given before it is read no
--- further, as after a failed read, and x the bytes after them.
+-- Letters: p is the profile, s a text, m a mark, ms are marks, f is a comparison. `first` and
+-- `second` are the two sources, and ts the tokens that `first` has given. u are the bytes that a
+-- source has given before it is read no further, as after a failed read, and x the bytes after
+-- them.
 use Rattle.std.specs.Prelude.{◌≡◌, ℕ, List, [], ◌∷◌, ◌++◌, take, None}
 use Rattle.pgn_lexer.specs.Tokens.{Token}
 use Rattle.pgn_lexer.specs.TokensOf.{tokens_of}
@@ -10,29 +12,30 @@ use Rattle.pgn_game.specs.Progress.{due, output, verdict}
 use Rattle.pgn_game.specs.Checked.{Mark, Comparison, compared, written_by, checked_output, checked_verdict}
 use Rattle.pgn_game.specs.Laws.{IsPrefix}
 
--- Where both readings give the same text, its verdict and its output are those of one reading.
+-- If both readings give the same text, its verdict and its output are those of one reading.
 abbrev pub EqualReadings : Type 0
 EqualReadings = (p : Profile) (s : List ℕ) → p.missing_result ≡ takes_the_marker
     → (checked_verdict p s s ≡ verdict p s) × (checked_output p s s ≡ output p s)
 
--- Nothing shows a difference, all marks are read, and what is written is this text.
+-- The comparison shows no difference, no mark is still to come, and what is written by it is this
+-- text.
 pub record AreWritten (p : Profile) (f : Comparison) (text : List ℕ) : Type 0 where
   pub fault : f.fault ≡ None
   pub no_mark_left : f.marks_left ≡ []
   pub written : written_by p f ≡ text
 
--- Nothing shows a difference. What is written begins with `front`, and is a prefix of `whole`.
+-- The comparison shows no difference. What is written by it begins with `front`, and is a prefix of
+-- `whole`.
 pub record AreWrittenWithin (p : Profile) (f : Comparison) (front whole : List ℕ) : Type 0 where
   pub fault : f.fault ≡ None
   pub least : IsPrefix front (written_by p f)
   pub most : IsPrefix (written_by p f) whole
 
--- Where the readings give the same text, but one is read no further or a write fails. ts are the
--- tokens that `first` has given by then.
--- - If `first` gives u alone, what is written is what one reading has written after u.
--- - If `second` gives u alone, and a mark of ts is still to come, at least that is written, and a
---   prefix of the output of the text.
--- - If a write fails at a token of `second`, a prefix of the output of the text is written.
+-- What is written if both sources give the same text, but one is read no further or a write fails.
+-- - `first_stops`: `first` gives u alone. It is what one reading has written after u.
+-- - `second_stops`: `second` gives u alone, and a mark of ts is still to come. It begins with what
+--   one reading has written after u, and is a prefix of the output of the text.
+-- - `write_fails`: a write fails at a token of `second`. It is a prefix of the output of the text.
 pub record InterruptedReadings : Type 0 where
   pub first_stops : (p : Profile) (u x : List ℕ) → p.missing_result ≡ takes_the_marker
       → AreWritten p (compared p (decided u) (tokens_of (u ++ x))) (due p (decided u))

@@ -1,4 +1,6 @@
 -- **Definition**: the fault table: which token is rejected after which part of a game, and why.
+-- Letters: p is the profile, k the kind of a token, s the text of a symbol, ps are pairs. In the
+-- tests of texts p is a test, and in `is_at_limit` a position.
 use Rattle.std.specs.Prelude.{ℕ, ◌+◌, Bool, true, false, ◌||◌, ◌&&◌, not, List, [], ◌∷◌, length, nat_lt, nat_le, ◌==◌, Option, None, Some, Result, Ok, Err, bytes_eq, unwrap_or, is_some, codes}
 use Rattle.chess_rules.specs.declared.position.Parts.{Parts}
 use Rattle.chess_text.specs.declared.fen.FenFault.{FenFault}
@@ -51,7 +53,7 @@ abbrev pub is_end : Kind → Bool
 is_end tokens.end = true
 is_end _ = false
 
--- a symbol with a text that passes, a string with data that pass
+-- a symbol whose text passes the test, and a string whose data pass it
 abbrev pub is_symbol_with : (List ℕ → Bool) → Kind → Bool
 is_symbol_with p (tokens.symbol text) = p text
 is_symbol_with p _ = false
@@ -76,7 +78,7 @@ stage_number AfterValue = 3
 stage_number AfterTags = 4
 stage_number InMovetext = 5
 
--- the part is at the stage
+-- whether the part is at this stage
 abbrev pub is_at : Stage → Part → Bool
 is_at stage part = stage_number stage == stage_number part.stage
 
@@ -98,9 +100,11 @@ is_score s =
     bytes_eq s (marker_text WhiteWins) || bytes_eq s (marker_text BlackWins)
     || bytes_eq s (marker_text Draw)
 
+-- the text of a marker, which a Result has as its value
 abbrev pub is_result : List ℕ → Bool
 is_result s = is_score s || bytes_eq s (marker_text Unknown)
 
+-- the text of the marker that a token is
 abbrev pub marker_of : Kind → Option (List ℕ)
 marker_of tokens.asterisk = Some (marker_text Unknown)
 marker_of (tokens.symbol s) = elim (is_score s) [ true ↦ Some s | false ↦ None ]
@@ -115,14 +119,16 @@ is_marker k = is_some (marker_of k)
 abbrev pub is_number : List ℕ → Bool
 is_number s = list_all is_digit s
 
--- the levels that the items so far leave, and the position there
+-- the levels after the items so far
 abbrev pub levels_of_part : Part → Levels
 levels_of_part part = levels_of part.items
 
+-- the position after the items so far
 abbrev pub position_in : Part → Parts
 position_in part = here (start_of part.pairs) (levels_of_part part)
 
--- it is none of the texts of a move; no legal move agrees; more than one does; one does
+-- Tests of what a symbol means as a move: its text is not that of a move; no legal move agrees;
+-- more than one does; one does.
 abbrev pub is_no_form : Option (Result Played SanFault) → Bool
 is_no_form None = true
 is_no_form _ = false
@@ -155,9 +161,11 @@ abbrev pub fen_fault_field : Result Parts FenFault → Option ℕ
 fen_fault_field (Ok p) = None
 fen_fault_field (Err fault) = Some fault.field
 
+-- that field of a value, if it is no FEN
 abbrev pub fen_field : List ℕ → Option ℕ
 fen_field value = fen_fault_field (position_of value)
 
+-- the same for a string, and 0 where there is no such field
 abbrev pub fen_field_of : Kind → ℕ
 fen_field_of (tokens.str value) = unwrap_or (fen_field value) 0
 fen_field_of _ = 0
@@ -223,6 +231,7 @@ rows p part k =
     ∷ row UnexpectedEnd ((is_at AfterTags part || is_at InMovetext part) && is_end k)
     ∷ []
 
+-- the reason of the first row that holds
 abbrev pub first_holding : List Row → Option Reason
 first_holding [] = None
 first_holding (r ∷ rs) = elim r.holds [ true ↦ Some r.reason | false ↦ first_holding rs ]

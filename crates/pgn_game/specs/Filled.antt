@@ -10,8 +10,8 @@ use Rattle.pgn_game.specs.TagSection.{exported}
 use Rattle.pgn_game.specs.Text.{placed_from, written_items}
 use Rattle.pgn_game.specs.Spells.{by_name}
 
--- The pairs of the tag section. A missing Result is the marker of the game, which is `*` unless the
--- marker may replace it.
+-- The pairs of the tag section. A missing Result is written as the marker of the game. If it counts
+-- as a text, the marker of a game that is read is that text.
 abbrev pub exported_pairs : Mode → Game → List Pair
 exported_pairs mode g = exported mode g.marker g.pairs
 

@@ -57,13 +57,13 @@ IsWrittenAgain p gs t before after =
     (t.games ≡ length gs) × (t.plies ≡ sum (map plies_of gs)) × Appends before after (text_of p gs)
 
 -- A conversion of the export text of games, with the numbers and the mode that it was made with,
--- writes the same text. It fails only where a write fails.
+-- writes the same text. It fails only if a write fails.
 abbrev pub SliceIsKept : Profile → List Game → Result Totals Fault → Option (List ℕ)
     → Option (List ℕ) → Type 0
 SliceIsKept p gs (Ok t) before after = IsWrittenAgain p gs t before after
 SliceIsKept p gs (Err f) before after = f.reason ≡ WriteFault
 
--- the same, from a source: it may fail where a read fails too
+-- the same, from a source: it may also fail if a read fails
 abbrev pub SourceIsKept : Profile → List Game → Result Totals Fault → Option (List ℕ)
     → Option (List ℕ) → Type 0
 SourceIsKept p gs (Ok t) before after = IsWrittenAgain p gs t before after

@@ -12,15 +12,15 @@ use Rattle.pgn_game.specs.declared.reason.Reason.{Reason}
 use Rattle.pgn_game.specs.declared.reason.Reason.TheVariants.{NotAMove, IllegalMove, AmbiguousMove, MoveLimit}
 use Rattle.pgn_game.specs.FaultTable.{is_at_limit}
 
--- The result for what a text means in this position: the move, unless a number above 99,999 would
--- follow.
+-- the result for what a text means in this position: the move, unless a number above 99,999 would
+-- follow, or the reason why it is rejected
 abbrev pub found_in : Parts → Option (Result Played SanFault) → Result Played Reason
 found_in p None = Err NotAMove
 found_in p (Some (Err NoMove)) = Err IllegalMove
 found_in p (Some (Err Ambiguous)) = Err AmbiguousMove
 found_in p (Some (Ok played)) = elim (is_at_limit p) [ true ↦ Err MoveLimit | false ↦ Ok played ]
 
--- the answer of a function that makes no position: the same, with the position after the move
+-- the result of a search that makes no position, with the position after the move
 abbrev pub with_position : Parts → Result Move Reason → Result Played Reason
 with_position p (Ok m) = ok_or (with_next m (legal p m)) IllegalMove
 with_position p (Err reason) = Err reason

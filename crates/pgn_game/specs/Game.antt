@@ -31,5 +31,6 @@ pub record Part : Type 0 where
   pub name : List ℕ
   pub items : List Item
 
+-- no game is begun
 abbrev pub no_part : Part
 no_part = record { stage = Between; pairs = []; name = []; items = [] }

@@ -15,21 +15,22 @@ use Rattle.pgn_game.specs.Progress.{read, due}
 use Rattle.pgn_game.specs.ConverterCalls.{Converter, Stands}
 use Rattle.pgn_game.specs.GamesRestart.{games_read, FinishesGame}
 
--- The token that finishes a game is its marker, which is the Result of its tag section. Behind it
--- the output is that of whole games.
+-- The token that finishes a game is its marker, which is the Result of its tag section. After it
+-- the output is that of finished games.
 pub record EndsByMarker (p : Profile) (given : List Token) (marker : Token) (game : Game) : Type 0 where
   pub is_marker : marker_of marker.kind ≡ Some game.marker
   pub result : value_of (exported p.mode (result_for p.missing_result game.marker) game.pairs) (codes "Result")
       ≡ Some game.marker
   pub whole : due p (given ++ marker ∷ []) ≡ text_of p (games_read p (given ++ marker ∷ []))
 
+-- Each token that finishes a game is such a marker.
 abbrev pub GamesEndByMarker : Type 0
 GamesEndByMarker =
     (p : Profile) (given : List Token) (marker : Token) (finishes : FinishesGame p given marker)
     → EndsByMarker p given marker finishes.game
 
--- The end of the text u finishes a game: its marker is the last token, and ends where the text
--- does. No token is rejected, and there is no other game behind the tokens given.
+-- The end of the text u finishes a game: its marker is the last token before the end, and ends
+-- where the text does. No token is rejected, and no game comes after it.
 pub record LastGame (p : Profile) (u : List ℕ) (given : List Token) : Type 0 where
   pub marker : Token
   pub finishes : FinishesGame p given marker
@@ -38,14 +39,15 @@ pub record LastGame (p : Profile) (u : List ℕ) (given : List Token) : Type 0 w
   pub same : games_read p (tokens_of u) ≡ games_read p (given ++ marker ∷ [])
   pub ends : EndsAt marker.kind marker.at (length u)
 
--- so it is if a converter has read all tokens but those that the end of the text gives
+-- That holds if a converter stands after the text u, and the text has more games than the tokens
+-- given.
 abbrev pub TextsEndBehindMarker : Type 0
 TextsEndBehindMarker =
     (p : Profile) (c : Converter) (u : List ℕ) (given : List Token)
     → Stands p c u None given → length (games_read p given) < length (games_read p (tokens_of u))
     → LastGame p u given
 
--- A text without a fault ends between games: its output is that of whole games.
+-- A text without a fault ends between games: its output is that of finished games.
 abbrev pub TextsEndBetweenGames : Type 0
 TextsEndBetweenGames =
     (p : Profile) (u : List ℕ) → (read p (tokens_of u)).fault ≡ None

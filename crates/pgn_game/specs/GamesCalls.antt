@@ -1,9 +1,9 @@
 -- **Definition**: what a contract sees of `Games`, and what each call does to them.
--- Letters: p is the profile, f a fault, u the bytes that the source has given so far, `more` those
--- that it gives during a call. `given` are the tokens read so far. `left` are the bytes that the
--- source has left, if it reports them; `left_old` and `left_new` are these before a call and after
--- it. `source` and `sink` are the devices before a call and after it, `before` and `after` the
--- bytes that the sink has taken.
+-- Letters: p is the profile, f a fault, u are the bytes that the source has given before a call,
+-- and `more` those that it gives during it. `given` are the tokens read before a call, and `tokens`
+-- those read when it ends. `left` are the bytes that the source has left, if it reports them;
+-- `left_old` and `left_new` are these before a call and after it. `source` and `sink` are the
+-- devices before a call and after it, `before` and `after` the bytes that the sink has taken.
 use Rattle.std.specs.Prelude.{◌≡◌, ℕ, ◌+◌, ◌-◌, ◌^◌, ◌<◌, ◌≤◌, Bool, true, false, List, [], ◌∷◌, ◌++◌, length, Option, None, Some, Result, Ok, Err}
 use Rattle.std.specs.Io.KnownBytes.{Consumes, IsAtEnd}
 use Rattle.pgn_layout.specs.Device.{Device, IsStill}
@@ -28,11 +28,12 @@ pub record Games : Type 0 where
   pub converter : Converter
   pub unused : List ℕ
 
+-- the same, of its parts
 abbrev pub games_of : Converter → List ℕ → Games
 games_of converter unused = record { converter = converter; unused = unused }
 
 -- The converter stands after the bytes `used`, and the other bytes that the source gave are not
--- used yet. The tokens read are those that are decided then.
+-- used yet. The tokens read are those that are decided then. The end of the text was not read.
 pub record ReadsOn (p : Profile) (u : List ℕ) (games : Games) (given : List Token) : Type 0 where
   pub used : List ℕ
   pub bytes : u ≡ used ++ games.unused
@@ -41,8 +42,8 @@ pub record ReadsOn (p : Profile) (u : List ℕ) (games : Games) (given : List To
   pub decided : IsDecided used games.unused given
   pub not_finished : games.converter.is_finished ≡ false
 
--- The source is at its end, so u is the whole text, and all its tokens were read. They leave no
--- game begun: all that is due is the text of whole games.
+-- The source is at its end, so u is the whole text. It has at most 2^62 bytes, and all its tokens
+-- were read. No game is begun after them: all that is due is the text of finished games.
 pub record HasReadAll (p : Profile) (left : Option (List ℕ)) (u : List ℕ) (games : Games) (given : List Token) : Type 0 where
   pub at_end : IsAtEnd left
   pub short : length u ≤ 2 ^ 62
@@ -67,8 +68,8 @@ pub record ReadSoFar (p : Profile) (left_old left_now : Option (List ℕ)) (now 
 
 -- ---- what a call of `next` does
 
--- A game more was read. All its text is written, and nothing of a game after it. The bytes before
--- place 2^62 decide its marker, or the source has ended.
+-- One game more was read. All its text is written, and nothing of a game after it. The bytes before
+-- place 2^62 decide the tokens up to its marker, or the source has ended.
 pub record NextGame (p : Profile) (u : List ℕ) (given : List Token) (left_old left_new : Option (List ℕ)) (new : Games) (before after : Option (List ℕ)) : Type 0 where
   pub more : List ℕ
   pub consumed : Consumes left_old left_new more
@@ -90,7 +91,8 @@ pub record NoGame (p : Profile) (u : List ℕ) (given : List Token) (left_old le
   pub none_just_finished : new.converter.just_finished ≡ None
   pub gains : Gains p given (tokens_of (u ++ more)) before after
 
--- A token that these bytes decide is rejected, or a write failed. No game was finished before.
+-- One of the tokens that these bytes decide is rejected, or a write failed. No game was finished
+-- before. `most` is the most pairs tried for one token.
 pub record StopsAtToken (p : Profile) (bytes : List ℕ) (given : List Token) (most : ℕ) (f : Fault) (before after : Option (List ℕ)) : Type 0 where
   pub tokens : List Token
   pub next : AreNext bytes tokens
@@ -98,20 +100,23 @@ pub record StopsAtToken (p : Profile) (bytes : List ℕ) (given : List Token) (m
   pub no_game : games_before stops ≡ (read p given).progress.games
   pub counts : ProbesAtStop stops most
 
--- The same at the end of the text u.
+-- The same for the tokens of the text u, whose end was read.
 pub record StopsAtEnd (p : Profile) (u : List ℕ) (given : List Token) (most : ℕ) (f : Fault) (before after : Option (List ℕ)) : Type 0 where
   pub stops : Stops p given (tokens_of u) before after f
   pub no_game : games_before stops ≡ (read p given).progress.games
   pub counts : ProbesAtStop stops most
 
--- All tokens that the bytes u decide were read, none is rejected, none finished a game, and what
+-- All tokens that the bytes u decide were read. None is rejected, none finished a game, and what
 -- they gain was written.
 pub record ReadsNoGame (p : Profile) (given : List Token) (u : List ℕ) (before after : Option (List ℕ)) : Type 0 where
   pub reads : ReadsUpTo p given u before after
   pub no_game : (read p reads.tokens).progress.games ≡ (read p given).progress.games
 
--- How a call stops: at a token that the bytes before place 2^62 decide; at the end of the text,
--- which has no byte there; because a read failed; or since the byte at place 2^62 came.
+-- How a call stops.
+-- - `at_token`: at a token that the bytes before place 2^62 decide.
+-- - `at_end`: at a token of the whole text, which has at most 2^62 bytes.
+-- - `unread`: a read failed.
+-- - `too_long`: the source has given the byte at place 2^62.
 pub data NextStops (p : Profile) (u : List ℕ) (given : List Token) (left_old left_new : Option (List ℕ)) (most : ℕ) (before after : Option (List ℕ)) : Fault → Type 0 where
   at_token : (f : Fault) (more : List ℕ) → Consumes left_old left_new more → StopsAtToken p (within_limit (u ++ more)) given most f before after
       → NextStops p u given left_old left_new most before after f
@@ -124,6 +129,7 @@ pub data NextStops (p : Profile) (u : List ℕ) (given : List Token) (left_old l
       → ReadsNoGame p given front before after
       → NextStops p u given left_old left_new most before after (record { at = 2 ^ 62; reason = InputTooLong })
 
+-- What `next` results in: a game was read (`true`), no game was left (`false`), or reading stopped.
 abbrev pub AfterNext : Profile → List ℕ → List Token → Option (List ℕ) → Option (List ℕ) → Games → Result Bool Fault → Option (List ℕ) → Option (List ℕ) → Type 0
 AfterNext p u given left_old left_new new (Ok true) before after = NextGame p u given left_old left_new new before after
 AfterNext p u given left_old left_new new (Ok false) before after = NoGame p u given left_old left_new new before after
@@ -135,7 +141,8 @@ ReadsNext old new result source sink =
     (p : Profile) (u : List ℕ) (given : List Token) → HaveRead p source.before u old given
     → AfterNext p u given source.before source.after new result sink.before sink.after
 
--- Behind the end each call finds it again, and touches neither device; no game is just finished.
+-- After the end of the source each call returns `false` again and touches neither device. No game
+-- is just finished then.
 abbrev pub NextAtEnd : {R W : Type 0} → Games → Games → Result Bool Fault → R → R → W → W → Type 0
 NextAtEnd old new result source_old source_new out_old out_new =
     old.converter.fault ≡ None → old.converter.is_finished ≡ true
@@ -147,8 +154,8 @@ NextAgain old new result source_old source_new out_old out_new =
     (f : Fault) → old.converter.fault ≡ Some f
     → (result ≡ Err f) × (new ≡ old) × (source_new ≡ source_old) × (out_new ≡ out_old)
 
--- ReadFault is returned if the source counts one failure more, WriteFault if the sink does, and
--- otherwise neither counts one.
+-- If the fault is `ReadFault`, the source counts one failure more. If it is `WriteFault`, the sink
+-- does. Otherwise no count rises.
 abbrev pub CountsNext : Result Bool Fault → Device → Device → Type 0
 CountsNext (Ok is_game) source sink = IsStill source × IsStill sink
 CountsNext (Err f) source sink = CountsDevices f.reason source.failures source.failures_after sink.failures sink.failures_after

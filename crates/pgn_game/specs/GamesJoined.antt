@@ -17,7 +17,7 @@ use Rattle.pgn_game.specs.GamesCalls.{Games, HaveRead, ReadsNext}
 use Rattle.pgn_game.specs.GamesRestart.{games_read}
 
 -- Calls of `next` one after another, which all returned `true`. Each gets the source and the sink
--- as the call before left them.
+-- as the call before left them. After each its game is just finished.
 pub data TakesGames (left before : Option (List ℕ)) (first : Games) : List FinishedGame → Games → Option (List ℕ) → Option (List ℕ) → Type 0 where
   none : TakesGames left before first [] first left before
   one_more : (taken : List FinishedGame) (game : FinishedGame) (old new : Games) (source sink : Device)
@@ -25,8 +25,8 @@ pub data TakesGames (left before : Option (List ℕ)) (first : Games) : List Fin
       → ReadsNext old new (Ok true) source sink → new.converter.just_finished ≡ Some game
       → TakesGames left before first (taken ++ game ∷ []) new source.after sink.after
 
--- The source has given the bytes `read` so far. The tokens read are the first ones of its text. The
--- games taken are those of the tokens read, and their export text is written, and nothing else.
+-- The source has given the bytes `bytes`. The tokens read are the first ones of its text. The games
+-- taken are those of the tokens read. Their export text is written, and nothing else.
 pub record TookGames (p : Profile) (left left_new : Option (List ℕ)) (taken : List FinishedGame) (before after : Option (List ℕ)) : Type 0 where
   pub bytes : List ℕ
   pub consumed : Consumes left left_new bytes
@@ -35,7 +35,7 @@ pub record TookGames (p : Profile) (left left_new : Option (List ℕ)) (taken : 
   pub games : taken ≡ map finished_game_of (games_read p tokens)
   pub written : Appends before after (text_of p (games_read p tokens))
 
--- The text has no byte at place 2^62. The games taken are all its games, their numbers are its
+-- The text s has at most 2^62 bytes. The games taken are all its games, their numbers are its
 -- verdict, and its output is written.
 pub record TookAll (p : Profile) (s : List ℕ) (taken : List FinishedGame) (before after : Option (List ℕ)) : Type 0 where
   pub short : length s ≤ 2 ^ 62
@@ -50,7 +50,7 @@ AfterCalls p left left_new taken new (Ok true) before after =
 AfterCalls p left left_new taken new (Ok false) before after = IfSome left (λ s. TookAll p s taken before after)
 AfterCalls p left left_new taken new (Err f) before after = Fails p left left_new before after f
 
--- So it is after any number of calls, if the first one got games that had read nothing.
+-- That holds after any number of calls, if the first one got games that had read nothing.
 abbrev pub GamesJoin : Type 0
 GamesJoin =
     (p : Profile) (left before : Option (List ℕ)) (first old new : Games) (taken : List FinishedGame)

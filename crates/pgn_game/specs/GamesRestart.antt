@@ -14,21 +14,21 @@ use Rattle.pgn_game.specs.Progress.{read, output, Verdict, refused, totals, verd
 abbrev pub games_read : Profile → List Token → List Game
 games_read p ts = (read p ts).progress.games
 
--- These tokens and the marker are read without a fault, and the marker finishes a game.
+-- These tokens and the marker are read without a fault, and the marker finishes the game.
 pub record FinishesGame (p : Profile) (given : List Token) (marker : Token) : Type 0 where
   pub passes : (read p (given ++ marker ∷ [])).fault ≡ None
   pub game : Game
   pub one_more : games_read p (given ++ marker ∷ []) ≡ games_read p given ++ game ∷ []
 
--- a verdict on the rest, with the games before it counted too; a fault stays as it is
+-- the verdict on the rest of a text, with the games before it counted too; a fault stays as it is
 abbrev pub counting_also : List Game → Verdict → Verdict
 counting_also games (refused f) = refused f
 counting_also games (totals more) =
     totals (record { games = length games + more.games; plies = sum (map plies_of games) + more.plies })
 
--- The text u and s is read from the end of the earlier games on. Its games are these and those of
--- the rest, and its output is their text and the output of the rest. The verdict is that of the
--- rest, with these games counted.
+-- The text u ++ s is read on from the end of u, where the earlier games end. Its games are these
+-- and those of the rest, and its output is their text and the output of the rest. Its verdict is
+-- that of the rest, with these games counted. In the rest white space is in the place of u.
 pub record ReadsOnBehind (p : Profile) (u s : List ℕ) (earlier : List Game) : Type 0 where
   pub same_games : games_read p (tokens_of (u ++ s))
       ≡ earlier ++ games_read p (tokens_of (white_space (length u) false ++ s))
@@ -37,7 +37,7 @@ pub record ReadsOnBehind (p : Profile) (u s : List ℕ) (earlier : List Game) : 
   pub same_verdict : verdict p (u ++ s)
       ≡ counting_also earlier (verdict p (white_space (length u) false ++ s))
 
--- so it is if the last byte of u ends a game
+-- That holds if the last byte of u is the last one of a marker that finishes a game.
 abbrev pub GamesRestart : Type 0
 GamesRestart =
     (p : Profile) (u s : List ℕ) (given rest : List Token) (marker : Token)

@@ -1,6 +1,7 @@
 -- **Bookkeeping**: the parts of a call of `Games::next`: what is stored on the way, and what is
 -- read up to a marker.
--- Letters: as in `GamesCalls` and `ConverterSteps`.
+-- Letters: as in `GamesCalls` and `ConverterSteps`. `left_now` are the bytes that the source has
+-- left, and `now` is the state, at some time during a call.
 use Rattle.std.specs.Prelude.{◌≡◌, ℕ, ◌^◌, ◌<◌, ◌≤◌, Bool, true, false, List, [], ◌∷◌, ◌++◌, length, drop, Option, None, Some, Result, Ok, Err}
 use Rattle.std.specs.Io.KnownBytes.{Consumes, IsAtEnd, Keeps}
 use Rattle.pgn_layout.specs.Device.{Device, IsStill}
@@ -18,26 +19,28 @@ use Rattle.pgn_game.specs.Conversion.{CountsDevices}
 use Rattle.pgn_game.specs.ConverterSteps.{NotTaken, FeedsToMarker, Meets, ReadsMore}
 use Rattle.pgn_game.specs.GamesCalls.{Games}
 
--- what a read puts into the buffer
+-- what a read puts into the empty buffer: bytes, or none at the end of the source (`false`) or if
+-- it fails
 abbrev pub FillResult : Option (List ℕ) → Option (List ℕ) → List ℕ → Result Bool ReadFailed → Type 0
 FillResult left_old left_new new (Ok true) = (0 < length new) × Consumes left_old left_new new
 FillResult left_old left_new new (Ok false) = (new ≡ []) × Consumes left_old left_new [] × IsAtEnd left_new
 FillResult left_old left_new new (Err failed) = Keeps left_old left_new
 
--- the same for a converter: a failed read is its fault
+-- The same for a converter. A failed read is its fault, at the number of bytes used. Its reader
+-- stays as it was.
 abbrev pub MoreResult : Option (List ℕ) → Option (List ℕ) → Converter → Converter → List ℕ → Result Bool Fault → Type 0
 MoreResult left_old left_new old new unused (Ok true) = (new ≡ old) × (0 < length unused) × Consumes left_old left_new unused
 MoreResult left_old left_new old new unused (Ok false) = (new ≡ old) × (unused ≡ []) × Consumes left_old left_new [] × IsAtEnd left_new
 MoreResult left_old left_new old new unused (Err f) = (f ≡ record { at = old.lexer.count; reason = ReadFault }) × (new.reading ≡ old.reading) × Keeps left_old left_new
 
--- The bytes not used yet are fed: up to a marker, or all.
+-- The bytes not used yet are fed: up to a marker, all of them, or up to a fault.
 abbrev pub RestResult : Games → Games → Result (Option Mark) Fault → Device → Type 0
 RestResult old new (Ok (Some m)) sink = (used : ℕ) × (new.unused ≡ drop used old.unused) × FeedsToMarker old.converter old.unused new.converter (Ok (ToMarker used m)) sink
 RestResult old new (Ok None) sink = (new.unused ≡ []) × FeedsToMarker old.converter old.unused new.converter (Ok All) sink
 RestResult old new (Err f) sink = FeedsToMarker old.converter old.unused new.converter (Err f) sink
 
 -- The lexer stands after the bytes `used`, and the other bytes that the source gave are not used
--- yet. The tokens given are those that are decided then; at place 2^62, by the bytes before it.
+-- yet. The tokens given are those that are decided then; if 2^62 bytes are used, by these alone.
 pub record StandsWithin (u : List ℕ) (games : Games) (given : List Token) : Type 0 where
   pub used : List ℕ
   pub bytes : u ≡ used ++ games.unused
@@ -45,7 +48,7 @@ pub record StandsWithin (u : List ℕ) (games : Games) (given : List Token) : Ty
   pub at_limit : length used ≡ 2 ^ 62 → given ≡ decided used
   pub decided : IsDecided used games.unused given
 
--- What was read since the call began, of which no token is a marker that ends a game.
+-- What was read since the call began: none of its tokens is a marker that may end a game.
 pub record MoreSoFar (p : Profile) (u : List ℕ) (given : List Token) (left_old left_now : Option (List ℕ)) (now : Games) (before after : Option (List ℕ)) : Type 0 where
   pub more : List ℕ
   pub consumed : Consumes left_old left_now more
@@ -53,7 +56,7 @@ pub record MoreSoFar (p : Profile) (u : List ℕ) (given : List Token) (left_old
   pub stands : StandsWithin (u ++ more) now tokens
   pub reads : ReadsMore p given tokens now.converter before after
 
--- A marker was met. The bytes before place 2^62 decide it.
+-- A marker was met: it is `token`, after the tokens read. The bytes before place 2^62 decide it.
 pub record MeetsNext (p : Profile) (u : List ℕ) (given : List Token) (left_old left_new : Option (List ℕ)) (m : Mark) (new : Games) (before after : Option (List ℕ)) : Type 0 where
   pub more : List ℕ
   pub consumed : Consumes left_old left_new more
@@ -63,21 +66,23 @@ pub record MeetsNext (p : Profile) (u : List ℕ) (given : List Token) (left_old
   pub next : AreNext (within_limit (u ++ more)) (tokens ++ token ∷ [])
   pub meets : Meets p given tokens token m new.converter before after
 
--- The source has ended, and its bytes are used.
+-- The source has ended, all its bytes are used, and no marker was met.
 pub record UsesAll (p : Profile) (u : List ℕ) (given : List Token) (left_old left_new : Option (List ℕ)) (new : Games) (before after : Option (List ℕ)) : Type 0 where
   pub so_far : MoreSoFar p u given left_old left_new new before after
   pub none_left : new.unused ≡ []
   pub at_end : IsAtEnd left_new
 
--- All tokens that the bytes u decide were read.
+-- All tokens that the bytes u decide were read, by the converter `now`. `new` still has its reader.
 pub record ReadsAllOf (p : Profile) (given : List Token) (u : List ℕ) (new : Converter) (before after : Option (List ℕ)) : Type 0 where
   pub now : Converter
   pub same : new.reading ≡ now.reading
   pub left : HasLeft now.lexer u (decided u)
   pub reads : ReadsMore p given (decided u) now before after
 
--- How reading stops before a marker: at a token that the bytes before place 2^62 decide; because a
--- read failed; or since the byte at that place came.
+-- How reading stops before a marker.
+-- - `at_token`: at a token that the bytes before place 2^62 decide.
+-- - `unread`: a read failed.
+-- - `too_long`: the source has given the byte at place 2^62.
 pub data StopsBefore (p : Profile) (u : List ℕ) (given : List Token) (left_old left_new : Option (List ℕ)) (new : Converter) (before after : Option (List ℕ)) : Fault → Type 0 where
   at_token : (f : Fault) (more : List ℕ) (tokens : List Token) (t : Token) → Consumes left_old left_new more → AreNext (within_limit (u ++ more)) (tokens ++ t ∷ [])
       → NotTaken p given tokens t f new.reading before after
@@ -88,6 +93,7 @@ pub data StopsBefore (p : Profile) (u : List ℕ) (given : List Token) (left_old
       → ReadsAllOf p given front new before after
       → StopsBefore p u given left_old left_new new before after (record { at = 2 ^ 62; reason = InputTooLong })
 
+-- What `next_marker` results in: a marker was met, the source has ended, or reading stopped.
 abbrev pub AfterToMarker : Profile → List ℕ → List Token → Option (List ℕ) → Option (List ℕ) → Games → Result (Option Mark) Fault → Option (List ℕ) → Option (List ℕ) → Type 0
 AfterToMarker p u given left_old left_new new (Ok (Some m)) before after = MeetsNext p u given left_old left_new m new before after
 AfterToMarker p u given left_old left_new new (Ok None) before after = UsesAll p u given left_old left_new new before after
@@ -99,12 +105,14 @@ ReadsToMarker old new result source sink =
     (p : Profile) (u : List ℕ) (given : List Token) → StandsWithin u old given → HasRead p old.converter given
     → AfterToMarker p u given source.before source.after new result sink.before sink.after
 
+-- what was read from the state `old` on, while `next_marker` runs
 abbrev pub ReadsSoFar : Games → Games → Device → Device → Type 0
 ReadsSoFar old now source sink =
     (p : Profile) (u : List ℕ) (given : List Token) → StandsWithin u old given → HasRead p old.converter given
     → MoreSoFar p u given source.before source.after now sink.before sink.after
 
--- ReadFault is returned if the source counts one failure more, WriteFault if the sink does.
+-- If the fault is `ReadFault`, the source counts one failure more. If it is `WriteFault`, the sink
+-- does. Otherwise no count rises.
 abbrev pub CountsReading : {A : Type 0} → Result A Fault → Device → Device → Type 0
 CountsReading (Ok x) source sink = IsStill source × IsStill sink
 CountsReading (Err f) source sink = CountsDevices f.reason source.failures source.failures_after sink.failures sink.failures_after

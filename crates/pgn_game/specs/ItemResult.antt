@@ -16,7 +16,8 @@ use Rattle.pgn_game.specs.Text.{is_move, number_before, tokens_at, full_text}
 use Rattle.pgn_game.specs.Movetext.{Movetext, StoredLevels, HoldsItems, ClosesLevel, level_at}
 use Rattle.pgn_game.specs.MostTried.{CostsToWrite}
 
--- tokens are put in turn: what goes out, and the line that is held then
+-- Tokens are put on a line one after another: what is written, the line after that, and the
+-- failures. Each has 1 to 79 bytes.
 pub record PutsTokens {A E : Type 0} (tokens : List (List ℕ)) (line new_line : List ℕ)
     (result : Result A E) (d : Device) : Type 0 where
   pub text : Writes d.before d.after result (laid_from line (map Put tokens)).written
@@ -30,35 +31,39 @@ abbrev pub writes : Mode → ℕ → Item → Bool
 writes Full depth i = true
 writes Reduced depth i = is_move i && (depth == 0)
 
--- the number of the move that comes, where one is due
+-- the number before the next move, if it needs one
 abbrev pub number_due : Movetext → List (List ℕ)
 number_due text =
     let here = text.levels.present.present in
     number_before text.is_after_move (is_black_to_move here) here.full
 
--- the tokens of the item that comes, and those of them that are written
+-- the tokens of the next item
 abbrev pub tokens_due : Movetext → Item → List (List ℕ)
 tokens_due text i = tokens_at text.is_after_move text.levels.present.present i
 
+-- those of them that are written: all or none
 abbrev pub tokens_if : Bool → Movetext → Item → List (List ℕ)
 tokens_if written text i = elim written [ true ↦ tokens_due text i | false ↦ [] ]
 
--- whether a move was written last, once the item is written or left out
+-- whether the last item written is a move, after this item is written or left out
 abbrev pub after_move_if : Bool → Movetext → Item → Bool
 after_move_if written text i = elim written [ true ↦ is_move i | false ↦ text.is_after_move ]
 
+-- the movetext after that; its levels are not moved yet
 abbrev pub written_text : Mode → Movetext → Item → Movetext
 written_text mode text i =
     record text { is_after_move = after_move_if (writes mode (length text.levels.around) i) text i }
 
--- how many moves outside variations an item at this depth is
+-- what a move at this depth adds to the number of moves outside variations
 abbrev pub counted_at : ℕ → ℕ
 counted_at depth = elim (depth == 0) [ true ↦ 1 | false ↦ 0 ]
 
+-- what an item at this depth adds to it
 abbrev pub plies_in : Item → ℕ → ℕ
 plies_in i depth = elim (is_move i) [ true ↦ counted_at depth | false ↦ 0 ]
 
--- the levels that it leads to
+-- The levels after an annotation. No claim if no move is before a variation that opens, or if no
+-- level is around one that closes.
 abbrev pub LeadsLevels : Annotation → StoredLevels → StoredLevels → Type 0
 LeadsLevels Open old new =
     IfSome old.present.before
@@ -66,23 +71,23 @@ LeadsLevels Open old new =
 LeadsLevels Close old new = ClosesLevel old.around new
 LeadsLevels _ old new = new ≡ old
 
--- An item is written, or left out. Where a write failed, nothing changes.
+-- An item is written, or left out. If a write failed, the movetext is the same as before.
 pub record WritesItem {A E : Type 0} (mode : Mode) (i : Item) (text : Movetext) (line : List ℕ)
     (new_text : Movetext) (new_line : List ℕ) (result : Result A E) (d : Device) : Type 0 where
   pub puts : PutsTokens (tokens_if (writes mode (length text.levels.around) i) text i)
       line new_line result d
   pub ends : MatchResult result (λ _. new_text ≡ written_text mode text i) (λ _. new_text ≡ text)
 
--- how many pairs are tried to write an item
+-- the number of pairs tried before an item is written, and after
 abbrev pub TriesItem : Mode → Movetext → Item → ℕ → ℕ → Type 0
 TriesItem mode text i old new =
     CostsToWrite (writes mode (length text.levels.around) i) text.levels.present.present i old new
 
--- and at most
+-- the number of pairs rises by at most 1,032
 abbrev pub Rises : ℕ → ℕ → Type 0
 Rises old new = (old ≤ new) × (new ≤ old + 1032)
 
--- Movetext goes on with a legal move, which may be written before.
+-- Movetext goes on with a legal move, whose text may be written by then.
 pub record Plays (x : Played) (old new : Movetext) : Type 0 where
   pub levels : new.levels ≡ record {
     present = record { present = x.next; before = Some old.levels.present.present };
@@ -91,19 +96,19 @@ pub record Plays (x : Played) (old new : Movetext) : Type 0 where
   pub plies : new.plies ≡ old.plies + counted_at (length old.levels.around)
   pub is_after_move : new.is_after_move ≡ old.is_after_move
 
--- Movetext goes on with another item, which may be written before.
+-- Movetext goes on with an annotation, whose text may be written by then.
 pub record GoesOn (i : Annotation) (old new : Movetext) : Type 0 where
   pub levels : LeadsLevels i old.levels new.levels
   pub plies : new.plies ≡ old.plies
   pub is_after_move : new.is_after_move ≡ old.is_after_move
 
--- what an item adds to the lines that are full
+-- what an item adds to the text of the lines that are full
 abbrev pub item_text : Mode → Parts → List Item → Item → List ℕ
 item_text mode start items i =
     drop (length (full_text mode start items)) (full_text mode start (items ++ i ∷ []))
 
--- One item more: it is held, and what it adds was appended, or a front of that where a write
--- failed.
+-- One item more: it is held, and what it adds was appended, or if a write failed a prefix of that
+-- and not all.
 abbrev pub AddsItem : {A E : Type 0} → Mode → Parts → List Item → Item → Movetext → List ℕ
     → Result A E → Device → Type 0
 AddsItem mode start items i text line result d =
@@ -112,7 +117,7 @@ AddsItem mode start items i text line result d =
     × Appends d.before d.after (item_text mode start items i))
     (λ _. AppendsFront d.before d.after (item_text mode start items i))
 
--- so for all items that are held
+-- The same for any items that are held before. The number of moves rises by at most one.
 pub record Adds {A E : Type 0} (mode : Mode) (i : Item) (text : Movetext) (line : List ℕ)
     (new_text : Movetext) (new_line : List ℕ) (result : Result A E) (d : Device) : Type 0 where
   pub adds : (start : Parts) (items : List Item) → HoldsItems mode start items text line

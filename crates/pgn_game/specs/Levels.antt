@@ -1,4 +1,6 @@
 -- **Definition**: which moves lead to an item of movetext, and the position after them (PGN 8.2.5).
+-- Letters: m is a move, l a level, g a game, ms are moves, the last one first, ls are levels, ps
+-- are pairs.
 use Rattle.std.specs.Prelude.{ℕ, Bool, true, false, List, [], ◌∷◌, fold, length, Option, None, Some, Result, Ok, Err, codes}
 use Rattle.chess_rules.specs.declared.position.Move.{Move}
 use Rattle.chess_rules.specs.declared.position.Parts.{Parts}
@@ -12,6 +14,7 @@ abbrev pub position_or_first : Result Parts FenFault → Parts
 position_or_first (Ok p) = p
 position_or_first (Err fault) = first_position
 
+-- the first position of a game, by the value of its FEN, if it has one
 abbrev pub start_by : Option (List ℕ) → Parts
 start_by None = first_position
 start_by (Some text) = position_or_first (position_of text)
@@ -31,13 +34,16 @@ pub record Levels : Type 0 where
   pub present : Level
   pub around : List Level
 
+-- no move is played
 abbrev pub first_level : Levels
 first_level = record { present = record { trail = []; has_own_move = false }; around = [] }
 
+-- the moves without the last one
 abbrev pub without_last : List Move → List Move
 without_last [] = []
 without_last (m ∷ ms) = ms
 
+-- the nearest of the levels around is the current one again
 abbrev pub back_to : List Level → Levels → Levels
 back_to [] ls = ls
 back_to (l ∷ around) ls = record { present = l; around = around }
@@ -51,6 +57,7 @@ levels_after ls open_variation =
 levels_after ls close_variation = back_to ls.around ls
 levels_after ls _ = ls
 
+-- the levels after these items
 abbrev pub levels_of : List Item → Levels
 levels_of items = fold levels_after first_level items
 
@@ -68,6 +75,7 @@ replayed start (m ∷ ms) = play (replayed start ms) m
 abbrev pub here : Parts → Levels → Parts
 here start ls = replayed start ls.present.trail
 
+-- the level around all others, which is that of the main line
 abbrev pub outermost : Level → List Level → Level
 outermost l [] = l
 outermost l (k ∷ ks) = outermost k ks

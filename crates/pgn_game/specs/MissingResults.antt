@@ -13,25 +13,26 @@ use Rattle.pgn_game.specs.FaultTable.{marker_of}
 use Rattle.pgn_game.specs.Text.{text_of}
 use Rattle.pgn_game.specs.Progress.{read}
 
--- a marker is rejected, since it is not the Result
+-- the reason that a marker is not the Result
 abbrev pub is_about_result : Reason → Bool
 is_about_result ResultDiffers = true
 is_about_result _ = false
 
+-- the fault is that a marker is not the Result
 abbrev pub rejects_marker : Option Fault → Bool
 rejects_marker None = false
 rejects_marker (Some f) = is_about_result f.reason
 
--- Reading by a profile where a missing Result counts as this text gives the same games, the same
--- fault and the same export text.
+-- Reading by the profile in which a missing Result counts as this text gives the same games, the
+-- same fault and the same export text.
 pub record IsReadAlike (p : Profile) (text : List ℕ) (ts : List Token) : Type 0 where
   pub same : read p ts ≡ read (counting p text) ts
   pub written : text_of p (read p ts).progress.games
       ≡ text_of (counting p text) (read (counting p text) ts).progress.games
 
--- The rejected token at this place is a marker. A missing Result that takes it and one that counts
--- as this marker give the same up to this token. They also give the same for all tokens, unless the
--- second reading finishes a game.
+-- The token at this place is a marker. Two readings are compared: in one a missing Result takes the
+-- marker, in the other it counts as this marker. They are alike for the tokens up to this one. If
+-- the second finishes no game, they are alike for all tokens.
 pub record IsReadByItsMarker (p : Profile) (ts : List Token) (at : ℕ) : Type 0 where
   pub front : List Token
   pub token : Token
@@ -44,9 +45,9 @@ pub record IsReadByItsMarker (p : Profile) (ts : List Token) (at : ℕ) : Type 0
   pub rejected : (read (counting p (marker_text marker)) ts).progress.games ≡ []
       → IsReadAlike p (marker_text marker) ts
 
--- Tokens that are read by a profile where a missing Result counts as a text.
--- - Unless a marker is rejected there, they are read alike.
--- - If one is rejected before a game was finished, they are read by this marker.
+-- Tokens that are read by a profile in which a missing Result counts as a text.
+-- - `alike`: if no marker is rejected because it is not the Result, they are read alike.
+-- - `by_its_marker`: if one is, before a game was finished, `IsReadByItsMarker` holds at its place.
 pub record MissingResults : Type 0 where
   pub alike : (p : Profile) (text : List ℕ) (ts : List Token) → p.missing_result ≡ takes_the_marker
       → rejects_marker (read (counting p text) ts).fault ≡ false → IsReadAlike p text ts

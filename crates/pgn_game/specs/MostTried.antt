@@ -2,8 +2,10 @@
 -- are tried for one token of an input.
 --
 -- No order of search is stated. `Costs` says how many pairs find the move of a text, and
--- `MarkPairs` of `chess_text` how many find the mark of its SAN: both are exact, but where a form
--- has more moves than one, and where a check is no mate.
+-- `MarkPairs` of `chess_text` how many find the mark of its SAN. Both are exact, unless a form has
+-- more than one legal move, or a check is no mate.
+-- Letters: p is the profile, b the progress, k the kind of a token, s the text of a symbol, i an
+-- item, t a token, ts are tokens, n and m are numbers of pairs.
 use Rattle.std.specs.Prelude.{◌≡◌, ℕ, ◌+◌, max, Bool, true, false, ◌&&◌, ◌||◌, not, List, [], ◌∷◌, ◌==◌, length, drop, Option, None, Some}
 use Rattle.chess_rules.specs.declared.position.Parts.{Parts}
 use Rattle.chess_text.specs.San.{MarkPairs, disambiguation_pairs}
@@ -22,8 +24,8 @@ use Rattle.pgn_game.specs.FaultTable.{refusal, is_at, is_number, is_outside_tag_
 use Rattle.pgn_game.specs.Progress.{Next, going, whole, next, Progress, no_progress, progress_after}
 use Rattle.pgn_game.specs.Tried.{Costs}
 
--- The move of a symbol is sought where movetext can begin or goes on, unless the symbol is a marker
--- or a number; also if another row of the table rejects the symbol.
+-- The move of a symbol is sought where movetext can begin or go on, unless the symbol is a marker
+-- or a number. It is also sought if another row of the table rejects the symbol.
 abbrev pub is_sought : Part → List ℕ → Bool
 is_sought part s = is_outside_tag_pairs part && not (is_score s || is_number s)
 
@@ -32,7 +34,7 @@ abbrev pub CostsIf : Bool → Parts → List ℕ → ℕ → Type 0
 CostsIf true here s n = Costs here s n
 CostsIf false here s n = n ≡ 0
 
--- n pairs are tried for the move of a token, also where it is rejected then
+-- n pairs are tried to find the move of a token, also if the token is rejected then
 abbrev pub CostsToFind : Part → Kind → ℕ → Type 0
 CostsToFind part (tokens.symbol s) n = CostsIf (is_sought part s) (position_in part) s n
 CostsToFind part k n = n ≡ 0
@@ -43,8 +45,8 @@ abbrev pub is_written : Mode → ℕ → Item → Bool
 is_written Full deep i = true
 is_written Reduced deep i = is_move i && (deep == 0)
 
--- With n pairs tried before an item is written, there are m after it. A move that is written takes
--- one for each candidate of its piece, unless this is a king or a pawn, and those of its mark.
+-- n pairs are tried before an item is written, and m once it is. A move that is written takes one
+-- for each candidate of its piece, unless this is a king or a pawn, and those of its mark.
 abbrev pub CostsToWrite : Bool → Parts → Item → ℕ → ℕ → Type 0
 CostsToWrite true here (move mv) n m = MarkPairs (play here mv) (n + disambiguation_pairs here mv) m
 CostsToWrite _ here i n m = m ≡ n
@@ -54,12 +56,12 @@ abbrev pub added : Part → Next → List Item
 added part (going to) = drop (length part.items) to.items
 added part (whole g) = []
 
--- the pairs tried before these are written, and after, at this depth and in this position
+-- the same for the items that a token adds, at this depth and in this position
 abbrev pub CostsToAdd : Mode → ℕ → Parts → List Item → ℕ → ℕ → Type 0
 CostsToAdd mode deep here [] n m = m ≡ n
 CostsToAdd mode deep here (i ∷ more) n m = CostsToWrite (is_written mode deep i) here i n m
 
--- of a token that is rejected nothing is written
+-- the same, unless the token is rejected: then nothing is written
 abbrev pub CostsUnlessRefused : Option Reason → Mode → ℕ → Parts → List Item → ℕ → ℕ → Type 0
 CostsUnlessRefused None mode deep here items n m = CostsToAdd mode deep here items n m
 CostsUnlessRefused (Some reason) mode deep here items n m = m ≡ n
@@ -72,15 +74,15 @@ pub record Tries (p : Profile) (part : Part) (k : Kind) (n : ℕ) : Type 0 where
   pub writes : CostsUnlessRefused (refusal p part k) p.mode (depth (levels_of_part part))
       (position_in part) (added part (next part k)) found n
 
--- The same for a token whose text could not be written: its pairs were tried before. But where
--- movetext begins with it, the tag section comes first, and the failed write may be one of those.
--- There both numbers are allowed.
+-- The same for a token whose text could not be written: its pairs were tried before that. But if
+-- movetext begins with it, the tag section is written first, and that may be what failed. Then no
+-- pair was tried to write the token, so two numbers are possible.
 pub data TriesUnwritten (p : Profile) (part : Part) (k : Kind) (n : ℕ) : Type 0 where
   at_token : Tries p part k n → TriesUnwritten p part k n
   in_section : is_at InMovetext part ≡ false → CostsToFind part k n → TriesUnwritten p part k n
 
--- The most pairs that are tried for one of these tokens, which are read from here on. No token is
--- read behind the first that is rejected.
+-- The most pairs that are tried for one of these tokens, which are read after this progress. No
+-- token is read after the first that is rejected.
 pub data MostFrom (p : Profile) : Progress → List Token → ℕ → Type 0 where
   none : (b : Progress) → MostFrom p b [] 0
   refused : (b : Progress) (t : Token) (ts : List Token) (n : ℕ) (reason : Reason)
@@ -89,11 +91,11 @@ pub data MostFrom (p : Profile) : Progress → List Token → ℕ → Type 0 whe
       → Tries p b.part t.kind n → MostFrom p (progress_after b t) ts most
       → MostFrom p b (t ∷ ts) (max n most)
 
--- the most for one token of an input
+-- the most pairs that are tried for one of these tokens, which are read from the start on
 abbrev pub MostTried : Profile → List Token → ℕ → Type 0
 MostTried p ts most = MostFrom p no_progress ts most
 
--- The most before a token, and with it.
+-- `old` is the most before a token, and `new` with it
 pub record Raises (IsTried : ℕ → Type 0) (old new : ℕ) : Type 0 where
   pub tried : ℕ
   pub allowed : IsTried tried

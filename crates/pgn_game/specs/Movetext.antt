@@ -10,7 +10,7 @@ use Rattle.pgn_game.specs.Game.{Item}
 use Rattle.pgn_game.specs.Levels.{Level as ModelLevel, Levels as ModelLevels, levels_of, first_level, replayed, without_last, main_moves}
 use Rattle.pgn_game.specs.Text.{Placed, placed_from, is_move, written_items, tokens_out}
 
--- a level: the present position, and the one before its last move, if it has one
+-- a level: the current position, and the one before its last move, if it has a move of its own
 pub record StoredLevel : Type 0 where
   pub present : Parts
   pub before : Option Parts
@@ -20,36 +20,41 @@ pub record StoredLevels : Type 0 where
   pub present : StoredLevel
   pub around : List StoredLevel
 
+-- a level that begins with this position, with no move of its own yet
 abbrev pub level_at : Parts → StoredLevel
 level_at start = record { present = start; before = None }
 
+-- the main line of a game that begins with this position, with no move yet
 abbrev pub only_level : Parts → StoredLevels
 only_level start = record { present = level_at start; around = [] }
 
--- The levels as the code stores them: a list with the main line first and the current level last.
--- A place of the list that is empty counts for nothing.
+-- a level of the code, as a contract sees it
 abbrev pub level_of : CodeLevel → StoredLevel
 level_of l = record { present = l.present; before = l.before }
 
+-- The code stores the levels in a list of places: the main line is first, the current level last,
+-- and an empty place counts for nothing. These are the levels of such places, put inside the levels
+-- ls: the nearest first.
 abbrev pub inside : List StoredLevel → List (Option CodeLevel) → List StoredLevel
 inside ls [] = ls
 inside ls (Some l ∷ more) = inside (level_of l ∷ ls) more
 inside ls (None ∷ more) = inside ls more
 
--- the nearest first; there is always one
+-- these levels, of which the nearest is first; if there is none, a main line alone
 abbrev pub nearest_first : List StoredLevel → StoredLevels
 nearest_first [] = only_level first_position
 nearest_first (l ∷ around) = record { present = l; around = around }
 
+-- the levels that the code stores in these places
 abbrev pub code_levels : List (Option CodeLevel) → StoredLevels
 code_levels places = nearest_first (inside [] places)
 
--- the places of these levels, the nearest of which is the first here and the last there
+-- the places of these levels, of which the nearest is first here, and last there
 abbrev pub places_of : List CodeLevel → List (Option CodeLevel)
 places_of [] = []
 places_of (l ∷ around) = places_of around ++ Some l ∷ []
 
--- No place is empty, and there is a current level.
+-- No place is empty, there is a current level, and there are at most so many levels.
 pub record FitsLevelStore (most : ℕ) (places : List (Option CodeLevel)) : Type 0 where
   pub current : CodeLevel
   pub around : List CodeLevel
@@ -61,7 +66,8 @@ abbrev pub ClosesLevel : List StoredLevel → StoredLevels → Type 0
 ClosesLevel [] new = Unit {0}
 ClosesLevel (l ∷ around) new = new ≡ record { present = l; around = around }
 
--- What a contract sees of the current movetext.
+-- What a contract sees of the current movetext: its levels, its number of moves outside variations,
+-- and whether the last item written is a move.
 pub record Movetext : Type 0 where
   pub levels : StoredLevels
   pub plies : ℕ
@@ -76,23 +82,25 @@ abbrev pub movetext_after_fen : Option Parts → Movetext → Movetext
 movetext_after_fen None text = text
 movetext_after_fen (Some start) text = movetext_from start
 
--- The levels of the definitions, as they are held: positions for moves.
+-- the position before the last move of a level, if it has a move of its own
 abbrev pub before_last : Parts → ModelLevel → Option Parts
 before_last start l = elim l.has_own_move [ true ↦ Some (replayed start (without_last l.trail)) | false ↦ None ]
 
+-- a level of the definitions as it is stored, with positions in place of moves
 abbrev pub stored_level : Parts → ModelLevel → StoredLevel
 stored_level start l = record { present = replayed start l.trail; before = before_last start l }
 
+-- all levels of the definitions as they are stored
 abbrev pub stored_levels : Parts → ModelLevels → StoredLevels
 stored_levels start ls = record { present = stored_level start ls.present; around = map (stored_level start) ls.around }
 
--- whether the last item that is written is a move
+-- whether the last of these items is a move; without one, the Bool
 abbrev pub ends_in_move : Bool → List Placed → Bool
 ends_in_move is_after_move [] = is_after_move
 ends_in_move is_after_move (i ∷ is) = ends_in_move (is_move i.item) is
 
--- The current movetext is that of these items, of a game that begins there; and the line that is
--- held is their last one.
+-- The current movetext is that of these items, of a game that begins with this position. The line
+-- held is the last one of their tokens.
 pub record HoldsItems (mode : Mode) (start : Parts) (items : List Item) (text : Movetext) (line : List ℕ) : Type 0 where
   pub levels : text.levels ≡ stored_levels start (levels_of items)
   pub plies : text.plies ≡ length (main_moves items)

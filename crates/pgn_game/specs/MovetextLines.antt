@@ -40,8 +40,8 @@ pub record PartIsOnLines (p : Profile) (part : Part) : Type 0 where
   pub on : AreOnLines (part_tokens p part) lines
   pub text : full_text p.mode (start_of part.pairs) part.items ≡ text_of_lines (full_lines lines)
 
--- So is each game that is read of a text, and the part of a game after them: of these the output
--- is made.
+-- Each game that is read of a text is on such lines, and so is the part of a game after them. The
+-- output is their text.
 abbrev pub MovetextIsOnLines : Type 0
 MovetextIsOnLines = (p : Profile) (s : List ℕ)
     → AllByRecursion (GameIsOnLines p) (read p (tokens_of s)).progress.games

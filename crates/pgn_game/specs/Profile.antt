@@ -21,9 +21,10 @@ pub record Profile : Type 0 where
   pub mode : Mode
   pub missing_result : Missing
 
--- the same profile with another missing Result, and where it counts as this text
+-- the same profile with another missing Result
 abbrev pub with_missing : Profile → Missing → Profile
 with_missing p missing = record { tags = p.tags; depth = p.depth; mode = p.mode; missing_result = missing }
 
+-- the same profile, in which a missing Result counts as this text
 abbrev pub counting : Profile → List ℕ → Profile
 counting p text = with_missing p (counts_as text)

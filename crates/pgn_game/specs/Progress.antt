@@ -1,8 +1,8 @@
 -- **Definition**: the games that tokens are read into, and the output and the verdict of a text.
--- `Progress` is progress: the finished games, and the part of a game after them. `written` is the
--- output for such progress, `due` the output for tokens, and `output` the output for the bytes of a
--- text.
--- Letters: p is the profile, b the progress, t a token, ts are tokens, s is a text.
+-- `Progress` has the finished games, and the part of the game after them. `written` is the output
+-- for such progress, `due` the output for tokens, and `output` the output for the bytes of a text.
+-- Letters: p is the profile, b the progress, k the kind of a token, t a token, ts are tokens, g is
+-- a game, s a text or that of a symbol, r what was read.
 use Rattle.std.specs.Prelude.{ℕ, true, false, List, [], ◌∷◌, ◌++◌, length, map, sum, Option, None, Some, Result, Ok, Err}
 use Rattle.chess_rules.specs.declared.position.Parts.{Parts}
 use Rattle.chess_text.specs.declared.resolution.Played.{Played}
@@ -27,16 +27,17 @@ pub data Next : Type 0 where
   going : Part → Next
   whole : Game → Next
 
+-- the part at this stage
 abbrev pub at_stage : Stage → Part → Part
 at_stage stage part = record { stage = stage; pairs = part.pairs; name = part.name; items = part.items }
 
--- the one move that a symbol names; a symbol that names none is rejected
+-- the one move that a symbol names; there is none if the symbol is rejected
 abbrev pub move_item : Option (Result Played SanFault) → List Item
 move_item None = []
 move_item (Some (Err fault)) = []
 move_item (Some (Ok played)) = games.move played.mv ∷ []
 
--- what a token of movetext adds: numbers and periods nothing (PGN 8.2.2.1)
+-- the items that a token of movetext adds; a number or a period adds none (PGN 8.2.2.1)
 abbrev pub items_of : Part → Kind → List Item
 items_of part (tokens.symbol s) = elim (is_number s) [ true ↦ [] | false ↦ move_item (move_of (position_in part) s) ]
 items_of part (tokens.glyph n) = games.glyph n ∷ []
@@ -84,21 +85,26 @@ pub record Progress : Type 0 where
   pub games : List Game
   pub part : Part
 
+-- nothing is read yet
 abbrev pub no_progress : Progress
 no_progress = record { games = []; part = no_part }
 
+-- the progress with the part that a token leaves, or with the game that it finishes
 abbrev pub progress_with : List Game → Next → Progress
 progress_with games (going part) = record { games = games; part = part }
 progress_with games (whole g) = record { games = games ++ g ∷ []; part = no_part }
 
+-- the progress after a token
 abbrev pub progress_after : Progress → Token → Progress
 progress_after b t = progress_with b.games (next b.part t.kind)
 
--- the progress that a list of tokens makes, and the fault of the first that is rejected
+-- what tokens are read into: the progress before the first that is rejected, and its fault, if one
+-- is
 pub record Read : Type 0 where
   pub progress : Progress
   pub fault : Option Fault
 
+-- tokens that are read after this progress
 abbrev pub read_from : Profile → Progress → List Token → Read
 read_from p b [] = record { progress = b; fault = None }
 read_from p b (t ∷ ts) =
@@ -107,12 +113,12 @@ read_from p b (t ∷ ts) =
       | None ↦ read_from p (progress_after b t) ts
     ]
 
--- a list of tokens from the start on
+-- tokens that are read from the start on
 abbrev pub read : Profile → List Token → Read
 read p ts = read_from p no_progress ts
 
--- The position in which a move was rejected, if the fault is such: the one after all tokens before
--- it, also inside a variation.
+-- The position in which a move was rejected, if the fault is about a move. It is the one after all
+-- tokens before the move, also inside a variation.
 abbrev pub position_at_fault : Read → Option Parts
 position_at_fault r = elim r.fault [ None ↦ None | Some f ↦ position_if_move f.reason (position_in r.progress.part) ]
 
@@ -133,14 +139,15 @@ pub record Counted : Type 0 where
   pub games : ℕ
   pub plies : ℕ
 
--- the fault, or the numbers
+-- the first fault, or the numbers if there is none
 pub data Verdict : Type 0 where
   refused : Fault → Verdict
   totals : Counted → Verdict
 
+-- the verdict on what was read
 abbrev pub verdict_of : Read → Verdict
 verdict_of r = elim r.fault [ Some f ↦ refused f | None ↦ totals (record { games = length r.progress.games; plies = sum (map plies_of r.progress.games) }) ]
 
--- how a text ends
+-- the verdict on a text
 abbrev pub verdict : Profile → List ℕ → Verdict
 verdict p s = verdict_of (read p (tokens_of s))

@@ -1,4 +1,6 @@
--- **Bookkeeping**: what the reader answers to a token of one stage, and what putting one does.
+-- **Bookkeeping**: what the reader returns for a token of one stage, and what putting one does.
+-- Letters: k is the kind of a token, s the text of a symbol, r the result of a call, d the sink
+-- before the call and after it. `old` and `new` are the reader before a call and after it.
 use Rattle.std.specs.Prelude.{◌≡◌, ℕ, ◌+◌, ◌≤◌, ◌<◌, max, IsTrue, List, [], length, drop, Option, None, Some, Result, Ok, Err, IfOk, OnOk}
 use Rattle.std.specs.Io.KnownBytes.{Appends}
 use Rattle.chess_rules.specs.declared.position.Move.{Move}
@@ -39,31 +41,32 @@ at_game_start old = record old {
   earlier_plies = old.earlier_plies + old.text.plies;
 }
 
--- What a call leaves as it was, or nearly.
+-- What a call leaves as it was, or nearly: the profile, the marker that `tell` gave, the number of
+-- moves, but for one more, and the most pairs tried, which does not fall.
 pub record Keeps (old new : ReaderState) : Type 0 where
   pub profile : new.profile ≡ old.profile
   pub told : new.told ≡ old.told
   pub plies : new.earlier_plies + new.text.plies ≤ old.earlier_plies + old.text.plies + 1
   pub probes : old.most_probes ≤ new.most_probes
 
--- what a part that a token leads to adds to what stands written
+-- what the part or the game that a token leads to adds to the text written of the game
 abbrev pub gain_to : Profile → Part → Next → List ℕ
 gain_to p part to = drop (length (torn p part)) (text_next p to)
 
--- the reader goes there, and what that adds was appended
+-- the reader holds the part or the game that a token leads to, and what that adds was appended
 pub record Goes (old : ReaderState) (part : Part) (to : Next) (new : ReaderState) (accepted : Accepted)
     (d : Device) : Type 0 where
   pub leads : Leads to accepted new
   pub plies : whole_plies new ≡ whole_plies old + plies_next to
   pub appended : Appends d.before d.after (gain_to (as_written old) part to)
 
--- or a write failed, and a front of it was
+-- the same, or a write failed, and a prefix of it was appended and not all
 abbrev pub GoesTo : ReaderState → Part → Next → ReaderState → Result Accepted Reason → Device → Type 0
 GoesTo old part to new (Ok accepted) d = Goes old part to new accepted d
 GoesTo old part to new (Err reason) d =
     (reason ≡ WriteFault) × AppendsFront d.before d.after (gain_to (as_written old) part to)
 
--- What putting results in, for each of these parts.
+-- What putting a token results in, for each part that `IsOf` allows.
 pub record PutResult (old : ReaderState) (IsOf : Part → Type 0) (to : Part → Next) (new : ReaderState)
     (r : Result Accepted Reason) (d : Device) : Type 0 where
   pub goes : (part : Part) → IsOf part → GoesTo old part (to part) new r d
@@ -71,29 +74,30 @@ pub record PutResult (old : ReaderState) (IsOf : Part → Type 0) (to : Part →
   pub stays : Stays old new r
   pub counted : CountsWrites r d
 
--- The result of a token, where a call answers only that the game goes on, or only that it ended.
+-- The result for a token, of a call that returns only that the game goes on.
 abbrev pub continued : Result Unit Reason → Result Accepted Reason
 continued (Ok done) = Ok More
 continued (Err reason) = Err reason
 
+-- the same of a call that returns only that the game was finished
 abbrev pub ended : Result Unit Reason → Result Accepted Reason
 ended (Ok done) = Ok Finished
 ended (Err reason) = Err reason
 
--- a game goes on, or a write failed
+-- the game goes on, or there was an error
 abbrev pub FinishesNone : Result Accepted Reason → Type 0
 FinishesNone (Ok More) = Unit {0}
 FinishesNone (Ok Finished) = ⊥
 FinishesNone (Err reason) = Unit {0}
 
--- Items other than moves are put, or none: for them no pair is tried.
+-- Items other than moves are put, or none. No pair is tried for them.
 pub record PutsItems (old : ReaderState) (items : List Item) (new : ReaderState)
     (r : Result Accepted Reason) (d : Device) : Type 0 where
   pub puts : PutResult old (IsOpen old) (λ part. going (with_items part items)) new r d
   pub goes_on : FinishesNone r
   pub probes : new.most_probes ≡ old.most_probes
 
--- What the reader answers to a token, after each of these parts.
+-- What the reader returns for a token, after each part that `IsOf` allows.
 pub record Takes (old : ReaderState) (IsOf : Part → Type 0) (k : Kind) (new : ReaderState)
     (r : Result Accepted Reason) (d : Device) : Type 0 where
   pub accepts : (part : Part) → IsOf part → Answers old part k new r d.before d.after
@@ -102,14 +106,15 @@ pub record Takes (old : ReaderState) (IsOf : Part → Type 0) (k : Kind) (new : 
   pub finished : FinishesAtMarker k new r
   pub counted : CountsWrites r d
 
--- a token at the stage of the reader, and one of movetext
+-- what the reader returns for a token after a part with which it agrees
 abbrev pub TakesToken : ReaderState → Kind → ReaderState → Result Accepted Reason → Device → Type 0
 TakesToken old k new r d = Takes old (Agrees old) k new r d
 
+-- the same for a token of movetext
 abbrev pub TakesEntry : ReaderState → Kind → ReaderState → Result Accepted Reason → Device → Type 0
 TakesEntry old k new r d = Takes old (IsEntry old k) k new r d
 
--- A marker is left, and nothing has changed.
+-- The token is this marker, and was not taken: nothing has changed.
 pub record LeavesMarker (old : ReaderState) (k : Kind) (marker : Marker) (new : ReaderState) (d : Device) : Type 0 where
   pub is : marker_of k ≡ Some (marker_text marker)
   pub same : new ≡ old
@@ -128,16 +133,18 @@ MeetsEntry old k new (Ok (Some marker)) d = LeavesMarker old k marker new d
 MeetsEntry old k new (Ok None) d = TakesOther old k new (Ok More) d
 MeetsEntry old k new (Err reason) d = TakesOther old k new (Err reason) d
 
--- a sink in which nothing is written, and a token for which nothing is
+-- a sink to which nothing is written in the call
 abbrev pub unused : Option (List ℕ) → ℕ → Device
 unused taken failures =
     record { before = taken; after = taken; failures = failures; failures_after = failures }
 
+-- what the reader returns for a token for which nothing is written
 abbrev pub TakesUnwritten : ReaderState → Kind → ReaderState → Result Accepted Reason → Type 0
 TakesUnwritten old k new r =
     (taken : Option (List ℕ)) (failures : ℕ) → TakesToken old k new r (unused taken failures)
 
--- A token belongs to movetext, and the reader is ready to take it so.
+-- A token belongs to movetext, and `ready` is a reader that can take it as such. That is the same
+-- as to take it by `old`.
 pub record EntersMovetext (old : ReaderState) (k : Kind) (ready : ReaderState) : Type 0 where
   pub stage : IsTrue (may_have_movetext ready.stage)
   pub profile : ready.profile ≡ old.profile
@@ -152,14 +159,14 @@ abbrev pub TakesOutside : ReaderState → Kind → ReaderState → Option (Resul
 TakesOutside old k new (Some r) = TakesUnwritten old k new r
 TakesOutside old k new None = EntersMovetext old k new
 
--- The token is a marker that is left, after which the reader is ready to take it.
+-- The token is this marker, and was not taken: the reader is ready to take it in movetext.
 pub record MeetsMarker (old : ReaderState) (k : Kind) (marker : Marker) (ready : ReaderState) (d : Device) : Type 0 where
   pub is : marker_of k ≡ Some (marker_text marker)
   pub enters : EntersMovetext old k ready
   pub unwritten : d.after ≡ d.before
   pub still : IsStill d
 
--- A token is taken, unless it is a marker that may end the game. A write fails for no marker.
+-- A token is taken, unless it is a marker that may end the game. No write fails at a marker.
 abbrev pub TakesUnlessMarker : ReaderState → Kind → ReaderState → Result (Option Marker) Reason → Device → Type 0
 TakesUnlessMarker old k new (Ok (Some marker)) d = MeetsMarker old k marker new d
 TakesUnlessMarker old k new (Ok None) d = TakesToken old k new (Ok More) d
@@ -168,7 +175,7 @@ TakesUnlessMarker old k new (Err reason) d =
 
 -- Moves.
 
--- the count of probes has risen to so many, if it was lower
+-- the reader with so many as the most pairs tried, unless there were more before
 abbrev pub counting_probes : ReaderState → ℕ → ReaderState
 counting_probes old n = record old { most_probes = max old.most_probes n }
 
@@ -183,7 +190,8 @@ pub record Finds (old : ReaderState) (s : List ℕ) (new : ReaderState) (r : Res
   pub few : n ≤ 8
   pub some : OnOk r (0 < n)
 
--- It was sought for a token that another row rejects.
+-- The move of a token that another row rejects was sought, if it has one, and the pairs that were
+-- tried are counted.
 pub record CountsMove (old : ReaderState) (k : Kind) (new : ReaderState) : Type 0 where
   pub pairs : ℕ
   pub counted : new ≡ counting_probes old pairs
@@ -197,11 +205,11 @@ abbrev pub section_due : Stage → Mode → List ℕ → List Pair → List ℕ
 section_due InMovetext mode result ps = []
 section_due _ mode result ps = tag_section mode result ps
 
--- the same, for a reader
+-- the same, of a reader
 abbrev pub section_due_of : ReaderState → List ℕ
 section_due_of r = section_due r.stage r.profile.mode (known_of r) r.tags.held
 
--- The tag section was written, where it was due, and nothing else has changed.
+-- The tag section was written, if movetext begins here, and nothing else has changed.
 pub record BeginsText {A E : Type 0} (old new : ReaderState) (r : Result A E)
     (d : Device) : Type 0 where
   pub text : Writes d.before d.after r (section_due_of old)

@@ -1,6 +1,7 @@
 -- **Bookkeeping**: what a contract sees of the reader of games, and what it does with one token.
--- Letters: k is the kind of a token, g a game, r the answer of a call. `before` and `after` are the
--- bytes that the sink has taken, before the call and after it, if it reports them.
+-- Letters: k is the kind of a token, g a game, p a profile. `old` and `new` are the reader before a
+-- call and after it. `before` and `after` are the bytes that the sink has taken then, if it reports
+-- them.
 use Rattle.std.specs.Prelude.{◌≡◌, ℕ, ◌+◌, ◌<◌, ◌≤◌, nat_le, false, IsTrue, is_some, Bool, true, List, [], length, Option, None, Some, IsSomeAnd, Result, Ok, Err}
 use Rattle.std.specs.Io.KnownBytes.{Appends}
 use Rattle.pgn_layout.specs.Device.{AppendsFront, Device, IsStill, one_more}
@@ -22,9 +23,9 @@ use Rattle.pgn_game.specs.Progress.{Next, going, whole, next}
 use Rattle.pgn_game.specs.Due.{gain}
 use Rattle.pgn_game.specs.MostTried.{Raises, Tries, TriesUnwritten}
 
--- What is asked for, the marker that was told for the game, if one was, how far the game is, its
--- pairs, its movetext, how many moves outside variations the games before it have, the most pairs
--- tried for a move, and the line of movetext.
+-- The profile, the marker that `tell` gave for the game (`told`), if it gave one, the stage of the
+-- game, its pairs, its movetext, the number of moves outside variations of the games before it, the
+-- most pairs tried for a move, and the line of movetext.
 pub record ReaderState : Type 0 where
   pub profile : Profile
   pub told : Option (List ℕ)
@@ -35,37 +36,38 @@ pub record ReaderState : Type 0 where
   pub most_probes : ℕ
   pub line : List ℕ
 
--- What holds of the pairs at a stage: a name has begun after a name alone, and after a `[` there is
--- room for one.
+-- What always holds of the pairs at a stage. After a name, and nowhere else, a name waits for its
+-- value, and it has at most 249 bytes. After a `[` there is room for one pair more.
 abbrev pub AreSound : ℕ → Stage → TagPairs → Type 0
 AreSound most AfterLeftBracket tags = (tags.pending_name ≡ None) × (length tags.held < most)
 AreSound most AfterName tags = IsSomeAnd tags.pending_name (λ name. length name ≤ 249)
 AreSound most _ tags = tags.pending_name ≡ None
 
--- The pairs held are those of the part, and none has the name whose value is to come. Between games
--- they may be those of the game before.
+-- The pairs held are those of the part, and none has the name that waits for its value. Between
+-- games they may be those of the game before.
 abbrev pub HoldsPairs : Stage → TagPairs → Part → Type 0
 HoldsPairs Between tags part = part ≡ no_part
 HoldsPairs AfterName tags part = (tags ≡ record { held = part.pairs; pending_name = Some part.name }) × (has_pair part.pairs part.name ≡ false)
 HoldsPairs _ tags part = tags ≡ record { held = part.pairs; pending_name = None }
 
--- The movetext held is that of the part, which before its stage has no item. Between games it may
--- be that of the game before.
+-- The movetext held is that of the part, which has no item before its movetext begins. Once it has
+-- a move, a pair was tried. Between games it may be that of the game before, but for the line,
+-- which is empty.
 abbrev pub HoldsText : Stage → ReaderState → Part → Type 0
 HoldsText Between reading part = reading.line ≡ []
 HoldsText InMovetext reading part =
     HoldsItems reading.profile.mode (start_of part.pairs) part.items reading.text reading.line × (IsTrue (has_move part.items) → 0 < reading.most_probes)
 HoldsText _ reading part = (part.items ≡ []) × (reading.text ≡ movetext_from (start_of part.pairs)) × (reading.line ≡ [])
 
--- The reader agrees with a part: its fields follow from it, but for what was left from the game
--- before.
+-- The reader agrees with a part: its stage, its pairs and its movetext are those of the part.
+-- Between games it may still hold the game before.
 pub record Agrees (reading : ReaderState) (part : Part) : Type 0 where
   pub stage : reading.stage ≡ part.stage
   pub pairs : HoldsPairs reading.stage reading.tags part
   pub text : HoldsText reading.stage reading part
 
--- The reader stands behind a whole game, and still has its pairs, its count of moves and its last
--- position.
+-- The reader has just finished the game g, and still holds its pairs, its number of moves and its
+-- last position.
 pub record IsBehind (reading : ReaderState) (g : Game) : Type 0 where
   pub agrees : Agrees reading no_part
   pub pairs : reading.tags.held ≡ g.pairs
@@ -73,49 +75,55 @@ pub record IsBehind (reading : ReaderState) (g : Game) : Type 0 where
   pub position : reading.text.levels.present.present ≡ last_position g
   pub probed : IsTrue (has_move g.items) → 0 < reading.most_probes
 
--- how many moves outside variations the whole games have that were read
+-- the number of moves outside variations of the finished games; between games the reader still
+-- holds that of the last one
 abbrev pub plies_behind : Stage → ℕ → ℕ → ℕ
 plies_behind Between earlier plies = earlier + plies
 plies_behind _ earlier plies = earlier
 
+-- the same, of a reader
 abbrev pub whole_plies : ReaderState → ℕ
 whole_plies reading = plies_behind reading.stage reading.earlier_plies reading.text.plies
 
--- and how many a token adds to them
+-- how many moves a token adds to them: those of the game that it finishes
 abbrev pub plies_next : Next → ℕ
 plies_next (going part) = 0
 plies_next (whole g) = plies_of g
 
--- A token that is not rejected finishes no game, or its own, as a marker does.
+-- What a token does that is not rejected: the game goes on, or the token finished it.
 pub data Accepted : Type 0 where
   More : Accepted
   Finished : Accepted
 
--- where it leads
+-- the reader after a token: it agrees with the part that the token leaves, or has just finished the
+-- game
 abbrev pub Leads : Next → Accepted → ReaderState → Type 0
 Leads (going part) More new = Agrees new part
 Leads (going part) Finished new = ⊥
 Leads (whole g) More new = ⊥
 Leads (whole g) Finished new = IsBehind new g
 
--- What a reader knows of a missing Result before the marker: its text; or, if it takes the marker,
--- the one that was told, or nothing. Where it writes, a missing Result counts as that.
+-- The value by which a reader writes a missing Result: the text that it counts as. If it takes the
+-- marker, it is the marker that `tell` gave, or empty if none was given.
 abbrev pub known_text : Missing → Option (List ℕ) → List ℕ
 known_text (counts_as text) told = text
 known_text takes_the_marker None = []
 known_text takes_the_marker (Some marker) = marker
 
+-- the same, of a reader
 abbrev pub known_of : ReaderState → List ℕ
 known_of reading = known_text reading.profile.missing_result reading.told
 
+-- the profile by which a reader writes: a missing Result counts as that value
 abbrev pub as_written : ReaderState → Profile
 as_written reading = counting reading.profile (known_of reading)
 
--- a missing Result counts as a text
+-- a missing Result counts as a text, so it is known before the marker
 abbrev pub IsKnown : Profile → Type 0
 IsKnown p = p.missing_result ≡ counts_as (known_result p.missing_result)
 
--- A token is accepted: it leads on, and what it adds was appended.
+-- A token is accepted: it leads on, what it adds was appended, and the pairs tried for it are
+-- counted.
 pub record IsAccepted (old : ReaderState) (part : Part) (k : Kind) (new : ReaderState) (accepted : Accepted) (before after : Option (List ℕ)) : Type 0 where
   pub free : refusal old.profile part k ≡ None
   pub leads : Leads (next part k) accepted new
@@ -123,9 +131,10 @@ pub record IsAccepted (old : ReaderState) (part : Part) (k : Kind) (new : Reader
   pub appended : Appends before after (gain (as_written old) part k)
   pub tried : Raises (Tries old.profile part k) old.most_probes new.most_probes
 
--- A token is not accepted: a row of the fault table rejects it, and nothing is appended; or a write
--- failed, and a prefix of what the token adds was appended, and not all. A reader that rejects a
--- move still holds the position before it.
+-- A token is not accepted. The pairs tried for it are counted.
+-- - `refused`: a row of the fault table rejects it, and nothing is appended. If it is rejected as a
+--   move, the reader still holds the position before it.
+-- - `unwritten`: a write failed. A prefix of what the token adds was appended, and not all.
 pub data IsStopped (old : ReaderState) (part : Part) (k : Kind) (new : ReaderState)
     (before after : Option (List ℕ)) : Reason → Type 0 where
   refused : (reason : Reason) → refusal old.profile part k ≡ Some reason → Appends before after []
@@ -137,7 +146,8 @@ pub data IsStopped (old : ReaderState) (part : Part) (k : Kind) (new : ReaderSta
       → Raises (TriesUnwritten old.profile part k) old.most_probes new.most_probes
       → IsStopped old part k new before after WriteFault
 
--- What the reader answers to a token after a part that it agrees with.
+-- What the reader returns for a token after a part that it agrees with: the token is accepted, or
+-- it is not.
 abbrev pub Answers : ReaderState → Part → Kind → ReaderState → Result Accepted Reason → Option (List ℕ)
     → Option (List ℕ) → Type 0
 Answers old part k new (Ok accepted) before after = IsAccepted old part k new accepted before after
@@ -155,16 +165,18 @@ FinishesAtMarker k new (Ok More) = Unit {0}
 FinishesAtMarker k new (Ok Finished) = IsTrue (is_some (marker_of k)) × (new.stage ≡ Between)
 FinishesAtMarker k new (Err reason) = Unit {0}
 
--- a reason that no token has: 50 to 53 are about a device, the input's length, or a second reading
+-- a reason that is no row of the fault table: 50 to 53 are about a device, the length of the input
+-- or a second reading
 abbrev pub is_outside_the_table : Reason → Bool
 is_outside_the_table reason = nat_le 50 (number_of reason)
 
--- An error counts a failure exactly if it is a write that failed, and no other reason is outside
--- the table.
+-- If the reason is outside the table, it is `WriteFault`, and the sink counts one failure more.
+-- Otherwise the count stays.
 abbrev pub CountsStop : Bool → Reason → ℕ → ℕ → Type 0
 CountsStop false reason old new = new ≡ old
 CountsStop true reason old new = (reason ≡ WriteFault) × (new ≡ one_more old)
 
+-- the same for a result: without an error the count stays
 abbrev pub CountsWrites : Result Accepted Reason → Device → Type 0
 CountsWrites (Ok accepted) sink = IsStill sink
 CountsWrites (Err reason) sink =

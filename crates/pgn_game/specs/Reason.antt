@@ -6,6 +6,7 @@ use Rattle.pgn_game.specs.declared.reason.Reason.{Reason}
 use Rattle.pgn_game.specs.declared.reason.Reason.TheVariants.{Lexical, ExpectedName, BadTagName, DuplicateTag, TooManyTags, ExpectedValue, BadResult, BadFen, TagLineTooLong, ExpectedBracket, SetUpWithoutFen, ReducedFen, TagInMovetext, NotAMove, IllegalMove, AmbiguousMove, MoveLimit, NoMoveBefore, TooDeep, UnmatchedClose, MarkerInVariation, ResultDiffers, UnexpectedEnd, ReadFault, WriteFault, InputTooLong, Changed}
 use Rattle.pgn_game.specs.declared.reason.Fault.{Fault}
 
+-- the number of each reason of the lexer
 abbrev pub lexical_number_of : LexReason → ℕ
 lexical_number_of lex_reasons.StrayByte = 1
 lexical_number_of lex_reasons.ControlByte = 2
@@ -50,6 +51,7 @@ number_of WriteFault = 51
 number_of InputTooLong = 52
 number_of Changed = 53
 
+-- the words of each reason of the lexer
 abbrev pub lexical_words_of : LexReason → List ℕ
 lexical_words_of lex_reasons.StrayByte = codes "stray byte"
 lexical_words_of lex_reasons.ControlByte = codes "control byte"
@@ -94,7 +96,7 @@ words_of WriteFault = codes "output cannot be written"
 words_of InputTooLong = codes "input is too long"
 words_of Changed = codes "second reading differs"
 
--- the field of a FEN value that is none
+-- the number of the field that makes a value no FEN
 abbrev pub words_of_field : Reason → List ℕ
 words_of_field (BadFen field) = decimal field
 words_of_field _ = []

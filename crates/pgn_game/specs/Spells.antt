@@ -37,9 +37,10 @@ pub data SpellsPairs : List Kind → List Pair → Type 0 where
   no_pair : SpellsPairs [] []
   next_pair : (ks ls : List Kind) (q : Pair) (qs : List Pair) → SpellsPair ks q → SpellsPairs ls qs → SpellsPairs (ks ++ ls) (q ∷ qs)
 
--- Letters, digits and _ make a name, at least one, as every symbol has. Name and escaped value have
--- at most 249 bytes together, so that the line of the pair has at most 255. A Result is a marker; a
--- FEN is one (PGN 16.1), and in the reduced format there is none.
+-- Letters, digits and _ make a name; it has at least one byte, as every symbol. Name and escaped
+-- value have at most 249 bytes together, so that the line of the pair has at most 255. The value of
+-- a Result is a marker. The value of a FEN is a FEN (PGN 16.1), and in the reduced format there is
+-- none.
 pub record IsPair (mode : Mode) (q : Pair) : Type 0 where
   pub name : IsTrue (list_all in_name q.name)
   pub room : length q.name + length (escaped q.value) ≤ 249
@@ -51,6 +52,8 @@ abbrev pub AreDistinct : List Pair → Type 0
 AreDistinct [] = Unit {0}
 AreDistinct (q ∷ qs) = IsFalse (has_pair qs q.name) × AreDistinct qs
 
+-- The pairs are at most as many as the profile allows, each keeps to the rules for a pair, and no
+-- name is given twice.
 pub record KeepsTags (p : Profile) (qs : List Pair) : Type 0 where
   pub count : length qs ≤ p.tags
   pub each : AllByRecursion (IsPair p.mode) qs
@@ -89,12 +92,13 @@ pub record Names (at : Parts) (s : List ℕ) (played : Played) : Type 0 where
 abbrev pub new_level : List Move → Level
 new_level trail = record { trail = trail; has_own_move = false }
 
+-- a level after a move, which is its own
 abbrev pub level_after_move : Move → List Move → Level
 level_after_move m trail = record { trail = m ∷ trail; has_own_move = true }
 
--- The tokens of a game, or of one variation, from one place in it to its end: so many variations
--- are open there, and these moves lead there from the first position. A variation comes after a
--- move, and is movetext itself (PGN 8.2.5).
+-- The tokens of a game, or of one variation, from one place in it to its end. There so many
+-- variations are open, and the moves of the level lead there from the first position. A variation
+-- comes after a move, and is movetext itself (PGN 8.2.5).
 pub data SpellsText (p : Profile) (first : Parts) : ℕ → Level → List Kind → List Item → Type 0 where
   no_more : (deep : ℕ) (l : Level) → SpellsText p first deep l [] []
   token : (deep : ℕ) (l : Level) (k : Kind) (ks : List Kind) (item items : List Item) → StandsFor k item → SpellsText p first deep l ks items
@@ -137,10 +141,11 @@ pub record SpellsGame (p : Profile) (ks : List Kind) (g : Game) : Type 0 where
   pub marker : marker_of last ≡ Some g.marker
   pub result : IsResult p.missing_result (value_of g.pairs (codes "Result")) g.marker
 
--- games, then comments that are dropped, and the end
+-- games, then comments that are dropped, and the end of the text
 pub data SpellsGames (p : Profile) : List Kind → List Game → Type 0 where
   no_game : (ks : List Kind) → AreDropped ks → SpellsGames p (ks ++ tokens.end ∷ []) []
   next_game : (ks ls : List Kind) (g : Game) (gs : List Game) → SpellsGame p ks g → SpellsGames p ls gs → SpellsGames p (ks ++ ls) (g ∷ gs)
 
+-- the tokens spell the games, by their kinds alone
 abbrev pub Spells : Profile → List Token → List Game → Type 0
 Spells p ts gs = SpellsGames p (map (λ t. t.kind) ts) gs

@@ -7,7 +7,7 @@ use Rattle.std.specs.List.{AllByRecursion}
 use Rattle.pgn_layout.specs.TagLine.{escaped}
 use Rattle.pgn_game.specs.Pairs.{Pair, comes_before, has_pair}
 
--- what a contract sees: the pairs that are whole, and the name whose value is still to come
+-- what a contract sees: the complete pairs, and the name that waits for its value
 pub record TagPairs : Type 0 where
   pub held : List Pair
   pub pending_name : Option (List ℕ)
@@ -20,7 +20,7 @@ pair_at ps i = slice_index_or ps i (record { name = []; value = [] })
 abbrev pub placed : List Pair → List ℕ → List Pair
 placed ps order = map (pair_at ps) order
 
--- with the pair behind them, if it has begun
+-- what a contract sees of these pairs, and of the pair p after them, if it has begun
 abbrev pub pairs_seen : List Pair → Pair → Bool → TagPairs
 pairs_seen held p true = record { held = held; pending_name = Some p.name }
 pairs_seen held p false = record { held = held; pending_name = None }
@@ -30,25 +30,26 @@ abbrev pub index_of : List ℕ → List Pair → ℕ
 index_of name [] = 0
 index_of name (p ∷ ps) = elim (comes_before name p.name) [ true ↦ 0 | false ↦ 1 + index_of name ps ]
 
--- pairs whose names come after this one
+-- the names of these pairs come after this one
 abbrev pub AllAfter : List ℕ → List Pair → Type 0
 AllAfter name qs = AllByRecursion (λ q. comes_before name q.name ≡ true) qs
 
--- pairs in the order of their names, no name twice
+-- the pairs are in the order of their names, and no name is there twice
 abbrev pub InOrder : List Pair → Type 0
 InOrder [] = Unit {0}
 InOrder (q ∷ qs) = AllAfter q.name qs × InOrder qs
 
--- places that are below this one
+-- the places are below this one
 abbrev pub AllBelow : ℕ → List ℕ → Type 0
 AllBelow n order = AllByRecursion (λ i. i < n) order
 
--- the places of pairs, in the order of their names
+-- these are places of pairs, in the order of the names there
 pub record AreInOrder (ps : List Pair) (order : List ℕ) : Type 0 where
   pub within : AllBelow (length ps) order
   pub in_order : InOrder (placed ps order)
 
--- a pair that has begun: it is stored, and is new at its place among the others
+-- the pair after the complete ones has begun: its name is new among theirs, and `place` is its
+-- index in their order
 pub record HasBegun (ps : List Pair) (order : List ℕ) (place : ℕ) : Type 0 where
   pub within : length order < length ps
   pub new : has_pair (placed ps order) (pair_at ps (length order)).name ≡ false
@@ -63,7 +64,7 @@ pub record FitsPairStore (most : ℕ) (ps : List Pair) (order : List ℕ) (place
   pub in_order : InOrder (placed ps order)
   pub begun : IsTrue has_pending_name → HasBegun ps order place
 
--- the bytes of one pair, its name first: the name's length, and both fit on their line
+-- the bytes of one pair are its name, of this length, and its value; both fit on their line
 pub record FitsOnLine (name_length : ℕ) (text : List ℕ) : Type 0 where
   pub named : name_length ≤ length text
   pub short : name_length + length (escaped (drop name_length text)) ≤ 249

@@ -37,8 +37,8 @@ with_set_up ps =
 abbrev pub other_pairs : List Pair → List Pair
 other_pairs ps = filter (λ p. not (in_roster p.name)) ps
 
--- The pairs that are written, of pairs in ASCII order: the roster, and in full mode the others
--- after it (PGN 8.1.1). `result` is the value of a missing Result.
+-- The pairs that are written, if those of the game are in ASCII order: the roster, and in full mode
+-- the others after it (PGN 8.1.1). `result` is the value of a missing Result.
 abbrev pub exported : Mode → List ℕ → List Pair → List Pair
 exported Full result ps = roster_pairs result ps ++ other_pairs (with_set_up ps)
 exported Reduced result ps = roster_pairs result ps

@@ -1,4 +1,6 @@
 -- **Definition**: the export text of games, and of a part of one (PGN 3.2, 8.2).
+-- Letters: p is the profile, and in `tokens_at` a position; m is a move, i an item, n a number, g a
+-- game, ls are levels, is are items, gs are games.
 use Rattle.std.specs.Prelude.{ℕ, Bool, true, false, ◌&&◌, List, [], ◌∷◌, ◌++◌, filter, ◌==◌, codes, decimal}
 use Rattle.std.specs.List.{list_any}
 use Rattle.chess_rules.specs.declared.position.Parts.{Parts}
@@ -14,16 +16,19 @@ use Rattle.pgn_game.specs.Levels.{Levels, levels_after, first_level, start_of, d
 use Rattle.pgn_game.specs.TagSection.{tag_section}
 use Rattle.pgn_game.specs.FaultTable.{result_for}
 
--- an item with its position and its depth
+-- an item, with the position and the depth of variations just before it
 pub record Placed : Type 0 where
   pub position : Parts
   pub depth : ℕ
   pub item : Item
 
+-- items one after another, of which the first is at these levels, in a game that begins with this
+-- position
 abbrev pub placed_from : Parts → Levels → List Item → List Placed
 placed_from start ls [] = []
 placed_from start ls (i ∷ is) = record { position = here start ls; depth = depth ls; item = i } ∷ placed_from start (levels_after ls i) is
 
+-- the item is a move
 abbrev pub is_move : Item → Bool
 is_move (move m) = true
 is_move _ = false
@@ -32,6 +37,7 @@ is_move _ = false
 abbrev pub has_move : List Item → Bool
 has_move items = list_any is_move items
 
+-- a move outside variations
 abbrev pub is_main_move : Placed → Bool
 is_main_move i = is_move i.item && (i.depth == 0)
 
@@ -48,8 +54,8 @@ number_before is_after_move false n = (decimal n ++ codes ".") ∷ []
 number_before false true n = (decimal n ++ codes "...") ∷ []
 number_before true true n = []
 
--- the tokens of an item: a move with its number, `$` and a number (PGN 8.2.4), a comment's brace or
--- word, a parenthesis
+-- the tokens of an item: a move with its number, `$` and the number of a NAG (PGN 8.2.4), a brace
+-- or a word of a comment, a parenthesis
 abbrev pub tokens_at : Bool → Parts → Item → List (List ℕ)
 tokens_at is_after_move p (move m) = number_before is_after_move (is_black_to_move p) p.full ++ text_of_move p m ∷ []
 tokens_at is_after_move p (glyph n) = (codes "$" ++ decimal n) ∷ []
@@ -59,12 +65,12 @@ tokens_at is_after_move p comment_close = codes "}" ∷ []
 tokens_at is_after_move p open_variation = codes "(" ∷ []
 tokens_at is_after_move p close_variation = codes ")" ∷ []
 
--- the tokens of items, one after another
+-- the tokens of items, one after another; the Bool says whether a move is just before them
 abbrev pub tokens_from : Bool → List Placed → List (List ℕ)
 tokens_from is_after_move [] = []
 tokens_from is_after_move (i ∷ is) = tokens_at is_after_move i.position i.item ++ tokens_from (is_move i.item) is
 
--- the movetext tokens of the items of a game that begins there
+-- the movetext tokens of the items of a game that begins with this position
 abbrev pub tokens_out : Mode → Parts → List Item → List (List ℕ)
 tokens_out mode start items = tokens_from false (written_items mode (placed_from start first_level items))
 
@@ -83,11 +89,12 @@ text_of p (g ∷ gs) = game_text p g ++ text_of p gs
 abbrev pub full_text : Mode → Parts → List Item → List ℕ
 full_text mode start items = text_of_lines (full_lines (lines_of (tokens_out mode start items)))
 
--- `result` is the value of a missing Result
+-- what is written of a part at this stage; `result` is the value of a missing Result
 abbrev pub torn_at : Stage → Mode → List ℕ → Part → List ℕ
 torn_at InMovetext mode result part = tag_section mode result part.pairs ++ full_text mode (start_of part.pairs) part.items
 torn_at _ mode result part = []
 
+-- the same, by what a missing Result is
 abbrev pub torn_for : Missing → Mode → Part → List ℕ
 torn_for (counts_as text) mode part = torn_at part.stage mode text part
 torn_for takes_the_marker mode part = []

@@ -23,11 +23,12 @@ use Rattle.pgn_game.specs.Movetext.{Movetext, HoldsItems}
 use Rattle.pgn_game.specs.Text.{has_move}
 use Rattle.pgn_game.specs.ReaderState.{ReaderState}
 
--- the part with more items, and the game of a part and a marker
+-- the part with these items more
 abbrev pub with_items : Part → List Item → Part
 with_items part more =
     record { stage = InMovetext; pairs = part.pairs; name = part.name; items = part.items ++ more }
 
+-- the game of this part and this marker
 abbrev pub game_of : Part → List ℕ → Game
 game_of part marker = record { pairs = part.pairs; items = part.items; marker = marker }
 
@@ -64,8 +65,8 @@ fen_position name value = elim (bytes_eq name (codes "FEN")) [
 abbrev pub IsLegal : Parts → Played → Type 0
 IsLegal here played = legal here played.mv ≡ Some played.next
 
--- An item can be put on movetext of at most so many levels: a token, a variation that can open or
--- close.
+-- The item can be put on movetext of at most so many levels: a word is a token, a variation that
+-- opens has room and a move before it, and one that closes is open.
 abbrev pub ItemFits : ℕ → Movetext → Annotation → Type 0
 ItemFits most text (Word word) = IsToken word.now
 ItemFits most text Open =
@@ -75,7 +76,7 @@ ItemFits most text _ = Unit {0}
 
 -- Movetext.
 
--- The reader holds a part after whose pairs movetext begins, or in which it goes on.
+-- The reader holds a part whose movetext it reads, or after whose pairs movetext can begin.
 pub record IsOpen (reading : ReaderState) (part : Part) : Type 0 where
   pub stage : reading.stage ≡ part.stage
   pub pairs : reading.tags ≡ record { held = part.pairs; pending_name = None }
@@ -93,7 +94,7 @@ abbrev pub is_other_result : Profile → Part → Kind → Bool
 is_other_result p part k =
     has_other_result p.missing_result part k && (depth (levels_of_part part) == 0)
 
--- What a token is rejected for in movetext, by its kind, each test before the next.
+-- Why a token is rejected in movetext, by its kind. Each test comes before the next.
 abbrev pub text_refusal : Profile → Part → Kind → Option Reason
 text_refusal p part tokens.left_bracket = Some TagInMovetext
 text_refusal p part tokens.end = Some UnexpectedEnd
@@ -116,7 +117,8 @@ text_refusal p part (tokens.symbol s) =
     (or_else (is_other_result p part (tokens.symbol s)) ResultDiffers None)))))
 text_refusal p part k = None
 
--- The part is open, and its table and its step are those of movetext for a token of this kind.
+-- The part is open. A token of this kind is rejected by the rows for movetext, and leads on as in
+-- movetext.
 pub record IsEntry (reading : ReaderState) (k : Kind) (part : Part) : Type 0 where
   pub is_open : IsOpen reading part
   pub row : refusal reading.profile part k ≡ text_refusal reading.profile part k

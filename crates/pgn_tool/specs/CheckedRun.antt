@@ -1,5 +1,7 @@
 -- **Definition**: what a run does that reads its file twice, and the status that it ends with.
--- Letters: s is the text of the first source, r that of the second.
+-- Letters: s is the text of the first source, r that of the second, f a fault, t are totals.
+-- `first` and `second` are the sources, `out` is standard output, and `err` standard error, before
+-- the run and after it.
 use Rattle.std.specs.Prelude.{◌≡◌, ℕ, ◌⊎◌, Bool, true, false, List, Some, Result, Ok, Err}
 use Rattle.std.specs.Io.KnownBytes.{Appends}
 use Rattle.pgn_layout.specs.Device.{Device, IsStill}
@@ -25,24 +27,26 @@ abbrev pub is_checked : Task → Bool
 is_checked (Checked reduced file) = true
 is_checked _ = false
 
--- the mode of such a task; nothing is said of another one
+-- the mode of such a task; for another one it has no meaning
 abbrev pub checked_mode : Task → Mode
 checked_mode (Checked reduced file) = mode_for reduced
 checked_mode _ = Full
 
--- 64 tag pairs of a game, variations to depth 32, and a missing Result takes the marker
+-- the profile of both readings: 64 tag pairs of a game, variations to depth 32, and a missing
+-- Result takes the marker
 abbrev pub profile_twice : Mode → Profile
 profile_twice mode = checked_profile 64 32 mode
 
 -- ---- if no device fails
 
--- The run of two texts: its status, what standard output has then, and what standard error has.
+-- The run of two texts: its status, what standard output has taken, and what is reported on
+-- standard error.
 pub record AnswersTwice (mode : Mode) (s r : List ℕ) (out err : Device) (status : ℕ) : Type 0 where
   pub ends : status ≡ status_of (checked_verdict (profile_twice mode) s r)
   pub written : Appends out.before out.after (checked_output (profile_twice mode) s r)
   pub told : TellsVerdict err (checked_verdict (profile_twice mode) s r)
 
--- Where both sources give the text s: the verdict and the output are those of one reading.
+-- The same if both sources give the text s: the verdict and the output are those of one reading.
 pub record AnswersSame (mode : Mode) (s : List ℕ) (out err : Device) (status : ℕ) : Type 0 where
   pub ends : status ≡ status_of (verdict (profile_twice mode) s)
   pub written : Appends out.before out.after (output (profile_twice mode) s)
@@ -50,41 +54,43 @@ pub record AnswersSame (mode : Mode) (s : List ℕ) (out err : Device) (status :
 
 -- ---- whatever the devices do
 
--- ReadFault is reported only if one of the sources failed, WriteFault only if standard output did
+-- if the reason is `ReadFault`, one of the sources has failed; if it is `WriteFault`, standard
+-- output has
 abbrev pub BlamesTwice : Reason → (first second out : Device) → Type 0
 BlamesTwice ReadFault first second out = HasFailed first ⊎ HasFailed second
 BlamesTwice WriteFault first second out = HasFailed out
 BlamesTwice _ first second out = Unit {0}
 
--- there was a fault, which is reported
+-- there was a fault, which is reported: the status is 1
 pub record RefusesTwice (f : Fault) (first second out err : Device) (status : ℕ) : Type 0 where
   pub ends : status ≡ 1
   pub told : Tells err (line (line_of f))
   pub blames : BlamesTwice f.reason first second out
 
+-- how a run ends by the result of its conversion
 abbrev pub EndsTwice : Result Totals Fault → (first second out err : Device) → ℕ → Type 0
 EndsTwice (Ok t) first second out err status = Concludes first out err status × IsStill second
 EndsTwice (Err f) first second out err status = RefusesTwice f first second out err status
 
--- The devices count what the conversion reports, and nothing after it but the flush.
+-- The devices count the failures that the conversion reports. After it the flush may add one.
 pub record CountsBothReadings (answer : Result Totals Fault) (first second out : Device) : Type 0 where
   pub converted : Device
   pub failures : converted.failures ≡ out.failures
   pub conversion : TwoReadingsCount first second converted answer
   pub flush : FlushCounts converted.failures_after out.failures_after
 
--- A run that reads two sources: a conversion with its result, what it wrote to standard output, and
--- how the run ends.
+-- A run that reads two sources: a conversion with its result, what the devices count, and how the
+-- run ends.
 pub record RunsTwice (mode : Mode) (first second out err : Device) (status : ℕ) : Type 0 where
   pub answer : Result Totals Fault
   pub works : TwoReadingsConvert (profile_twice mode) first second out answer
   pub counted : CountsBothReadings answer first second out
   pub ends : EndsTwice answer first second out err status
 
--- the source gives the text s, up to a failure
+-- the source has the text s to give, even if a read fails
 abbrev pub Gives : List ℕ → Device → Type 0
 Gives s source = source.before ≡ Some s
 
--- Where both sources give the text s: a prefix of the output of one reading is written.
+-- a prefix of the output of one reading of the text s is written, and nothing else
 abbrev pub WritesFront : Mode → List ℕ → Device → Type 0
 WritesFront mode s out = HasFront out (output (profile_twice mode) s)

@@ -1,7 +1,7 @@
 -- **Definition**: the lines that a list has, and what writing them results in.
--- Letters: u are the bytes read so far, s is a text, c a converter, f a fault. `before` and `after`
--- (or `now`) are the bytes that the sink has taken, before a call and after it; `left_old` and
--- `left_new` are those that the source has left.
+-- Letters: p is a profile, g a game, gs are games, u the bytes read so far, ts tokens, s is a text,
+-- c a converter, f a fault. `before` and `after` are the bytes that the sink has taken, before a
+-- call and after it; `left_old` and `left_new` are those that the source has left.
 use Rattle.std.specs.Prelude.{◌≡◌, ℕ, ◌+◌, ◌^◌, ◌<◌, ◌≤◌, List, [], ◌∷◌, ◌++◌, length, take, codes, decimal, unwrap_or, Option, None, Some, Result, Ok, Err, IfSome}
 use Rattle.std.specs.Io.KnownBytes.{Appends, Consumes}
 use Rattle.chess_text.specs.Fen.{fen_text}
@@ -25,11 +25,12 @@ use Rattle.pgn_tool.specs.declared.list.Stopped.TheVariants.{Refused, Unwritten}
 
 -- ---- lines
 
--- what is listed is read in full, with at most 64 tag pairs of a game and variations to depth 32
+-- the profile of a list: games are read in full, with at most 64 tag pairs and variations to depth
+-- 32, and a missing Result counts as `*`
 abbrev pub list_profile : Profile
 list_profile = profile_of 64 32 Full
 
--- the value of a name in the tag section of a game with these pairs, its defaults included
+-- the value of a name in the tag section of a game with these pairs, defaults included
 abbrev pub listed_value : Profile → List Pair → List ℕ → List ℕ
 listed_value p pairs name = unwrap_or (value_of (exported p.mode (known_result p.missing_result) pairs) name) []
 
@@ -53,7 +54,7 @@ finished_game_line number p finished =
 abbrev pub game_line : ℕ → Game → List ℕ
 game_line number g = finished_game_line number list_profile (finished_game_of g)
 
--- the lines of games, one after another, numbered from there
+-- the lines of games, one after another, of which the first has this number
 abbrev pub lines_from : ℕ → List Game → List ℕ
 lines_from number [] = []
 lines_from number (g ∷ gs) = game_line number g ++ lines_from (number + 1) gs
@@ -62,7 +63,7 @@ lines_from number (g ∷ gs) = game_line number g ++ lines_from (number + 1) gs
 abbrev pub lines_of : List Token → List ℕ
 lines_of ts = lines_from 1 (read list_profile ts).progress.games
 
--- the same of a text
+-- the same for a text
 abbrev pub list_text : List ℕ → List ℕ
 list_text s = lines_of (tokens_of s)
 
@@ -72,13 +73,14 @@ line_just_finished c = elim c.just_finished [ None ↦ [] | Some finished ↦ fi
 
 -- ---- how a list ends
 
--- the first fault of the text s, or none, and the lines of the games before it are written
+-- the first fault of the text s is `found`, or there is none, and the lines of the games before it
+-- are written
 pub record IsListed (s : List ℕ) (found : Option Fault) (before after : Option (List ℕ)) : Type 0 where
   pub fault : (read list_profile (tokens_of s)).fault ≡ found
   pub written : Appends before after (list_text s)
 
--- After the bytes u, of which nothing is rejected, no more are read: the lines of the games that
--- they decide are written.
+-- Reading ends after the bytes u. They decide no token that is rejected. The lines of the games
+-- that they decide are written.
 pub record ListsNoMore (u : List ℕ) (before after : Option (List ℕ)) : Type 0 where
   pub passes : (read list_profile (decided u)).fault ≡ None
   pub written : Appends before after (lines_of (decided u))
@@ -89,9 +91,11 @@ pub record CutsLine (tokens : List Token) (before after : Option (List ℕ)) : T
   pub short : count < length (lines_of tokens)
   pub front : Appends before after (take count (lines_of tokens))
 
--- How a list stops: at the input's own fault, which its bytes before place 2^62 show; because a
--- read failed after the bytes u; because the input has a byte at that place; or because a line
--- could not be written of a game that the bytes read by then decide.
+-- How a list stops.
+-- - `refused`: by the fault of the input. Its bytes before place 2^62 show it.
+-- - `unread`: a read failed, after the bytes u.
+-- - `too_long`: the source has given a byte at place 2^62, and those before it were read.
+-- - `unwritten`: a line could not be written of a game that the bytes read by then decide.
 pub data ListStops (left_old left_new : Option (List ℕ)) (before after : Option (List ℕ)) : Stopped → Type 0 where
   refused : (f : Fault) → IfSome left_old (λ s. IsRefused list_profile s f × IsListed s (Some f) before after)
       → ListStops left_old left_new before after (Refused f)
@@ -101,24 +105,26 @@ pub data ListStops (left_old left_new : Option (List ℕ)) (before after : Optio
       → ListStops left_old left_new before after (Refused (record { at = length u; reason = InputTooLong }))
   unwritten : (tokens : List Token) → Decides left_old left_new tokens → CutsLine tokens before after → ListStops left_old left_new before after Unwritten
 
--- What the source has left is listed, up to its end, and has no byte at place 2^62. Or the list
--- stops.
+-- What a list results in. What the source had left is listed, up to its end, and has at most 2^62
+-- bytes. Or the list stops.
 abbrev pub ListResult : Option (List ℕ) → Option (List ℕ) → Result Unit Stopped → Option (List ℕ) → Option (List ℕ) → Type 0
 ListResult left_old left_new (Ok done) before after = IfSome left_old (λ s. (length s ≤ 2 ^ 62) × IsListed s None before after)
 ListResult left_old left_new (Err stopped) before after = ListStops left_old left_new before after stopped
 
--- ReadFault is reported if the source counts one failure more, and WriteFault never
+-- If the reason is `ReadFault`, the source counts one failure more. It is never `WriteFault`. For
+-- any other reason the count stays.
 abbrev pub CountsReadFault : Reason → ℕ → ℕ → Type 0
 CountsReadFault ReadFault old new = new ≡ one_more old
 CountsReadFault WriteFault old new = ⊥
 CountsReadFault _ old new = new ≡ old
 
--- the same of a list, which ends at a line if the sink counts one failure more; otherwise no count
--- rises
+-- The same for a list that stops. If a line could not be written, the sink counts one failure more.
+-- No other count rises.
 abbrev pub CountsStopped : Stopped → ℕ → ℕ → ℕ → ℕ → Type 0
 CountsStopped (Refused f) source_old source_new sink_old sink_new = CountsReadFault f.reason source_old source_new × (sink_new ≡ sink_old)
 CountsStopped Unwritten source_old source_new sink_old sink_new = (source_new ≡ source_old) × (sink_new ≡ one_more sink_old)
 
+-- the same for a result: without an error no count rises
 abbrev pub CountsList : Result Unit Stopped → ℕ → ℕ → ℕ → ℕ → Type 0
 CountsList (Ok done) source_old source_new sink_old sink_new = (source_new ≡ source_old) × (sink_new ≡ sink_old)
 CountsList (Err stopped) source_old source_new sink_old sink_new = CountsStopped stopped source_old source_new sink_old sink_new

@@ -12,39 +12,41 @@ use Rattle.pgn_tool.specs.TaskRun.{IsUntouched}
 
 -- ---- why words or a file are not given
 
--- what an error of this kind means: only a lack of memory is one
+-- what an error of this kind is to a run: a lack of memory, or any other reason
 abbrev pub fault_of_kind : ErrorKind → SystemFault
 fault_of_kind OutOfMemory = NoMemory
 fault_of_kind _ = Refused
 
 -- ---- files to read
 
--- What there is under a name: nothing that can be read, or a file, with its bytes where the machine
+-- What there is under a name: nothing that can be read, or a file, with its bytes if the machine
 -- reports them.
 pub data Holding : Type 0 where
   missing : Holding
   holds : Option (List ℕ) → Holding
 
--- the file is opened: all its bytes are left, and no read has failed
+-- a file was opened, so it is there: all its bytes are left, and no read has failed
 abbrev pub IsOpened : Holding → Device → Type 0
 IsOpened missing input = ⊥
 IsOpened (holds text) input = (input.after ≡ text) × (input.failures_after ≡ 0)
 
--- A file that is opened is there. One that is there may also be refused, for the reasons for which
--- the machine refuses it; what was read until then stays as it is.
+-- What opening a file results in. If it is refused, that is for a reason for which the machine
+-- refuses it, even if it is there, and the input stays as it is.
 abbrev pub Opens : Holding → (SystemFault → Bool) → Device → Result Unit SystemFault → Type 0
 Opens holding refuses input (Ok done) = IsOpened holding input
 Opens holding refuses input (Err fault) = (refuses fault ≡ true) × IsUntouched input
 
 -- ---- the devices of a run
 
--- Standard input at the beginning, and what is read at the end: the bytes that are left and the
--- count of failures; what there is under each name; for which reasons its file may be refused.
+-- What is read in a run. `standard` is standard input before the run, and after it what is read by
+-- then, which may be a file. `holding` is what there is under each name, and `refuses` says for
+-- which reasons the file of a name may be refused.
 pub record Reading : Type 0 where
   pub standard : Device
   pub holding : List ℕ → Holding
   pub refuses : List ℕ → SystemFault → Bool
 
+-- the same, of the states before the run and after it
 abbrev pub reading : {S : Type 0} → (S → Option (List ℕ)) → (S → ℕ) → (S → List ℕ → Holding)
     → (S → List ℕ → SystemFault → Bool) → S → S → Reading
 reading left failures holding refuses old new = record {
@@ -53,15 +55,16 @@ reading left failures holding refuses old new = record {
   refuses = refuses old;
 }
 
--- Standard output was as at first, and did not lack memory for its buffer.
+-- There is a state of standard output with the bytes taken and the failures of the first one, in
+-- which memory for its buffer is not lacking.
 abbrev pub HasRoom : {S : Type 0} → (S → Option (List ℕ)) → (S → ℕ) → (S → Bool) → S → Type 0
 HasRoom {S} taken failures lacks_memory old =
     (reserved : S) × (taken reserved ≡ taken old) × (failures reserved ≡ failures old)
     × (lacks_memory reserved ≡ false)
 
--- The devices at the beginning and the end of a run. `second` reads a file that is opened twice.
--- There was no memory for the buffer of standard output, if it is short. `has_room` says that there
--- was.
+-- The devices before a run and after it. `second` reads a file that is opened once more.
+-- `lacks_memory` says that there was no memory for the buffer of standard output, and `has_room`
+-- that there was. `files` are the steps with files, if they are reported.
 pub record Machine : Type 1 where
   pub input : Reading
   pub second : Reading
@@ -72,6 +75,7 @@ pub record Machine : Type 1 where
   pub files_after : Option (List FileStep)
   pub err : Device
 
+-- a machine of these devices
 abbrev pub machine : Reading → Reading → Device → Bool → Type 0 → Option (List FileStep)
     → Option (List FileStep) → Device → Machine
 machine input second out lacks_memory has_room files files_after err = record {

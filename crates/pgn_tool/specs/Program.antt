@@ -21,7 +21,7 @@ use Rattle.pgn_tool.specs.SplitFiles.{RunsSplit}
 
 -- ---- what is read
 
--- what opening the file of a task results in: where it names none, standard input stays as it is
+-- What opening the file of a task results in. If it names none, standard input stays as it is.
 abbrev pub StartsFrom : Option (List ℕ) → (List ℕ → Holding) → (List ℕ → SystemFault → Bool)
     → Device → Result Unit SystemFault → Type 0
 StartsFrom (Some name) holding refuses input answer =
@@ -29,7 +29,7 @@ StartsFrom (Some name) holding refuses input answer =
 StartsFrom None holding refuses input (Ok done) = IsUntouched input
 StartsFrom None holding refuses input (Err fault) = ⊥
 
--- the file that is read from its first byte on, if it is there
+-- the file that is read, from its first byte on, if it is there
 abbrev pub file_source : Holding → Reading → Option Device
 file_source missing r = None
 file_source (holds text) r =
@@ -40,31 +40,33 @@ file_source (holds text) r =
       failures_after = r.standard.failures_after;
     })
 
--- The source of a task: the file that it names, from its first byte on; where it names none,
--- standard input.
+-- The source of a task: the file that it names, from its first byte on, or standard input if it
+-- names none.
 abbrev pub source_of : Option (List ℕ) → Reading → Option Device
 source_of None r = Some r.standard
 source_of (Some name) r = file_source (r.holding name) r
 
 -- ---- how a task ends
 
--- a text is reported, with this status
+-- a text is reported on standard error, and this is the status
 abbrev pub Reports : List ℕ → ℕ → Device → ℕ → Type 0
 Reports text code err status = (status ≡ code) × Tells err (line text)
 
--- a file that cannot be opened is a read that fails at byte 0
+-- how a run ends if the file cannot be opened: as if a read failed at byte 0, or for a lack of
+-- memory
 abbrev pub EndsUnopened : SystemFault → Device → ℕ → Type 0
 EndsUnopened Refused err status =
     Reports (line_of (record { at = 0; reason = ReadFault })) 1 err status
 EndsUnopened NoMemory err status = Reports (codes "out of memory") 3 err status
 
--- the reason is reported, and nothing is written
+-- a file could not be opened, which is reported, and nothing is written to standard output
 abbrev pub IsMissing : (out err : Device) (status : ℕ) → Type 0
 IsMissing out err status = (fault : SystemFault) × EndsUnopened fault err status × IsUntouched out
 
--- A task that writes to standard output. Without memory for its buffer, nothing is read or written.
--- Otherwise there was room for it, and the task runs. If no device fails, `Answers` says what it
--- does with the text read.
+-- A task that writes to standard output.
+-- - `unbuffered`: there is no memory for its buffer, and nothing is read or written.
+-- - `streams`: there was room for it, and the task runs. If no device fails, `Answers` says what it
+--   does with the text read.
 pub data RunsStream (job : Job) (source out : Device) (lacks_memory : Bool) (has_room : Type 0)
     (err : Device) (status : ℕ) : Type 0 where
   unbuffered : lacks_memory ≡ true → IsUntouched source → IsUntouched out
@@ -74,7 +76,7 @@ pub data RunsStream (job : Job) (source out : Device) (lacks_memory : Bool) (has
       → Answers job s out err status)
       → RunsStream job source out lacks_memory has_room err status
 
--- A task that reads two sources, which needs the buffer too. If no device fails, `AnswersTwice`
+-- A task that reads two sources, which needs that buffer too. If no device fails, `AnswersTwice`
 -- says what it does, and if both texts are the same, `AnswersSame` says more.
 pub data RunsBoth (mode : Mode) (first second out : Device) (lacks_memory : Bool)
     (has_room : Type 0) (err : Device) (status : ℕ) : Type 0 where
@@ -88,8 +90,10 @@ pub data RunsBoth (mode : Mode) (first second out : Device) (lacks_memory : Bool
       → AnswersSame mode s out err status)
       → RunsBoth mode first second out lacks_memory has_room err status
 
--- The file that is read by now is opened once more. It is refused, for a reason for which the
--- machine refuses the file of this name, and nothing is read or written. Or it is read twice.
+-- The file that is read by now is opened once more.
+-- - `unopened_again`: it is refused, for a reason for which the machine refuses the file of this
+--   name. Nothing is read or written.
+-- - `opened_again`: it is read twice.
 pub data RunsAgain (mode : Mode) (name : List ℕ) (first : Device) (second : Reading) (out : Device)
     (lacks_memory : Bool) (has_room : Type 0) (err : Device) (status : ℕ) : Type 0 where
   unopened_again : (fault : SystemFault) → second.refuses name fault ≡ true
@@ -113,7 +117,8 @@ RunsToOutput (Checked reduced file) source second out lacks_memory has_room err 
 RunsToOutput task source second out lacks_memory has_room err status =
     RunsStream (job_of task) source out lacks_memory has_room err status × IsUntouched second.standard
 
--- the task, on what is read: only `split` makes files, in its folder, and it writes nothing else
+-- The task, on what is read. Only `split` makes files, in its folder, and it writes nothing to
+-- standard output.
 abbrev pub RunsOpened : Task → Device → Reading → Device → Bool → Type 0 → Option (List FileStep)
     → Option (List FileStep) → Device → ℕ → Type 0
 RunsOpened (Split dir file) source second out lacks_memory has_room files files_after err status =
@@ -127,8 +132,10 @@ abbrev pub IsIdle : Machine → Type 0
 IsIdle m =
     IsUntouched m.input.standard × IsUntouched m.second.standard × (m.files_after ≡ m.files)
 
--- How a task is carried out. If its file cannot be opened, nothing is read or written, and the
--- machine has a reason to refuse this name. Otherwise the task runs on what is read.
+-- How a task is carried out.
+-- - `unopened`: its file cannot be opened, for a reason for which the machine refuses this name.
+--   Nothing is read or written.
+-- - `opened`: the task runs on what is read.
 pub data Carries (task : Task) (m : Machine) (status : ℕ) : Type 0 where
   unopened : (name : List ℕ) (fault : SystemFault) → file_of (request_of task) ≡ Some name
       → m.input.refuses name fault ≡ true
@@ -141,23 +148,26 @@ pub data Carries (task : Task) (m : Machine) (status : ℕ) : Type 0 where
 
 -- ---- by the words
 
--- the words are a task; or they are not, or there was no memory to parse them
+-- A run with these words of a command line.
+-- - `by_task`: they are a task, which is carried out.
+-- - `by_fault`: they are none, or there was no memory to parse them.
 pub data RunsWords (words : List (List ℕ)) (m : Machine) (status : ℕ) : Type 0 where
   by_task : (task : Task) → request_in words ≡ Some (request_of task) → refusals words ≡ []
       → Carries task m status → RunsWords words m status
   by_fault : (fault : ParseFault) → AnswersBy words (Err fault)
       → AnswersFault fault m.out m.err status → IsIdle m → RunsWords words m status
 
--- what the words were parsed to: a task, or why they are none
+-- how a run goes on when the words are parsed: to a task, or why they are none
 abbrev pub RunsAnswer : Result Task ParseFault → Machine → ℕ → Type 0
 RunsAnswer (Ok task) m status = Carries task m status
 RunsAnswer (Err fault) m status = AnswersFault fault m.out m.err status × IsIdle m
 
--- the words are not read
+-- how a run ends if the words cannot be read
 abbrev pub EndsUnread : SystemFault → Device → ℕ → Type 0
 EndsUnread Refused err status = Reports (codes "arguments cannot be read") 2 err status
 EndsUnread NoMemory err status = Reports (codes "out of memory") 3 err status
 
+-- what a run does, with the words of its command line or without
 abbrev pub Ran : Result (Vec (String Global) Global) SystemFault → Machine → ℕ → Type 0
 Ran (Ok words) m status = RunsWords (map string_bytes words.items) m status
 Ran (Err fault) m status = EndsUnread fault m.err status × IsUntouched m.out × IsIdle m

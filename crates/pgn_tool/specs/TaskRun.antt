@@ -1,4 +1,7 @@
 -- **Definition**: what a run of a task does to its devices, and the status that it ends with.
+-- Letters: s is a text, f a fault, t are totals, c are the numbers of games and plies, d is a
+-- device. `source`, `out` and `err` are the devices that are read and written, before the run and
+-- after it: `out` is standard output, and `err` standard error.
 use Rattle.std.specs.Prelude.{◌≡◌, ℕ, ◌-◌, ◌^◌, ◌<◌, ◌≤◌, ◌⊎◌, Bool, true, false, List, [], ◌∷◌, ◌++◌, length, take, codes, decimal, Option, Some, Result, Ok, Err}
 use Rattle.std.specs.Io.KnownBytes.{Appends, Keeps}
 use Rattle.pgn_layout.specs.Device.{Device, IsStill, NoneUnflushed, nowhere, one_more}
@@ -21,12 +24,14 @@ use Rattle.pgn_tool.specs.ListLines.{CountsList, ListResult, list_text}
 
 -- ---- what is asked for
 
--- to write the games in a mode, to count them, or to write a line for each
+-- what a task does with its source: it writes the games in a mode, counts them, or writes a line
+-- for each
 pub data Job : Type 0 where
   exporting : Mode → Job
   checking : Job
   listing : Job
 
+-- the mode of an export, which is reduced or not
 abbrev pub mode_for : Bool → Mode
 mode_for true = Reduced
 mode_for false = Full
@@ -37,7 +42,8 @@ is_for_stream (Checked reduced file) = false
 is_for_stream (Split dir file) = false
 is_for_stream _ = true
 
--- what is asked for; nothing is said of a task that reads two sources or writes files
+-- The job of a task that reads one source and writes to standard output alone. For another task it
+-- has no meaning.
 abbrev pub job_of : Task → Job
 job_of (Export reduced file) = exporting (mode_for reduced)
 job_of (Checked reduced file) = checking
@@ -45,13 +51,14 @@ job_of (Check file) = checking
 job_of (ListGames file) = listing
 job_of (Split dir file) = checking
 
--- what is checked or listed is read in full
+-- the mode of a job; what is checked or listed is read in full
 abbrev pub mode_of : Job → Mode
 mode_of (exporting mode) = mode
 mode_of checking = Full
 mode_of listing = Full
 
--- 64 tag pairs of a game, and variations to depth 32
+-- the profile of a job: 64 tag pairs of a game, variations to depth 32, and a missing Result counts
+-- as `*`
 abbrev pub profile_for : Job → Profile
 profile_for job = profile_of 64 32 (mode_of job)
 
@@ -65,7 +72,7 @@ line text = text ++ 10 ∷ []
 abbrev pub counting_line : ℕ → ℕ → List ℕ
 counting_line games plies = line (codes "games: " ++ decimal games ++ codes ", plies: " ++ decimal plies)
 
--- the counts if there is no fault, else nothing
+-- the line of the counts, or nothing for a fault
 abbrev pub counting_of : Verdict → List ℕ
 counting_of (refused f) = []
 counting_of (totals c) = counting_line c.games c.plies
@@ -76,26 +83,26 @@ text_for (exporting mode) s = output (profile_of 64 32 mode) s
 text_for checking s = counting_of (verdict (profile_of 64 32 Full) s)
 text_for listing s = list_text s
 
--- the status is 1 exactly for a fault
+-- the status is 1 for a fault, and else 0
 abbrev pub status_of : Verdict → ℕ
 status_of (refused f) = 1
 status_of (totals c) = 0
 
 -- ---- devices
 
--- the count rose, or was at its maximum
+-- a call failed: the count of failures rose, or was and is at its maximum
 abbrev pub HasFailed : Device → Type 0
 HasFailed d = one_more d.failures ≤ d.failures_after
 
--- no call failed
+-- no call failed: the count of failures stayed, and it was below its maximum
 abbrev pub IsCalm : Device → Type 0
 IsCalm d = IsStill d × (d.failures < 2 ^ 64 - 1)
 
--- nothing was done to the device
+-- the bytes of the device and its count of failures stayed
 abbrev pub IsUntouched : Device → Type 0
 IsUntouched d = (d.after ≡ d.before) × (d.failures_after ≡ d.failures)
 
--- the sink has taken this text, if no call of it failed
+-- if no call of it failed, the sink has taken this text, and no more
 abbrev pub Tells : Device → List ℕ → Type 0
 Tells d text = IsCalm d → Appends d.before d.after text
 
@@ -103,26 +110,26 @@ Tells d text = IsCalm d → Appends d.before d.after text
 abbrev pub HasFront : Device → List ℕ → Type 0
 HasFront d text = (count : ℕ) × Appends d.before d.after (take count text)
 
--- Nothing that the sink took is unflushed, if it reports that, or a call of it failed and the
+-- No byte that the sink took is unflushed, if it reports which are. Or a call of it failed, and the
 -- status is 1.
 abbrev pub IsFlushed : Device → Option (List ℕ) → ℕ → Type 0
 IsFlushed d unflushed status = NoneUnflushed unflushed ⊎ (HasFailed d × (status ≡ 1))
 
 -- ---- if no device fails
 
--- a fault is reported, and nothing else is
+-- a fault is reported on standard error; without one nothing is
 abbrev pub TellsVerdict : Device → Verdict → Type 0
 TellsVerdict err (refused f) = Tells err (line (line_of f))
 TellsVerdict err (totals c) = IsUntouched err
 
--- The run of a text s: its status, what standard output has then, and what standard error has.
+-- The run of a text s: its status, what standard output has taken, and what is reported on standard
+-- error.
 pub record Answers (job : Job) (s : List ℕ) (out err : Device) (status : ℕ) : Type 0 where
   pub ends : status ≡ status_of (verdict (profile_for job) s)
   pub written : Appends out.before out.after (text_for job s)
   pub told : TellsVerdict err (verdict (profile_for job) s)
 
--- What the source gives is the text s, short enough for its places, and neither it nor standard
--- output fails.
+-- The source gives the text s, which has at most 2^62 bytes. Neither it nor standard output fails.
 pub record IsSmooth (s : List ℕ) (source out : Device) : Type 0 where
   pub gives : source.before ≡ Some s
   pub short : length s ≤ 2 ^ 62
@@ -131,85 +138,89 @@ pub record IsSmooth (s : List ℕ) (source out : Device) : Type 0 where
 
 -- ---- whatever the devices do
 
--- ReadFault is reported only if the source failed, WriteFault only if standard output did
+-- if the reason is `ReadFault`, the source has failed; if it is `WriteFault`, standard output has
 abbrev pub Blames : Reason → Device → Device → Type 0
 Blames ReadFault source out = HasFailed source
 Blames WriteFault source out = HasFailed out
 Blames _ source out = Unit {0}
 
--- there was a fault, which is reported
+-- there was a fault, which is reported: the status is 1
 pub record Refuses (f : Fault) (source out err : Device) (status : ℕ) : Type 0 where
   pub ends : status ≡ 1
   pub told : Tells err (line (line_of f))
   pub blames : Blames f.reason source out
 
--- there was no fault: the status says whether all was written
+-- There was no fault, and no read failed. The status says whether all was written, and if not, that
+-- is reported.
 pub record Concludes (source out err : Device) (status : ℕ) : Type 0 where
   pub read : IsStill source
   pub ends : status ≤ 1
   pub well : status ≡ 0 → IsStill out × IsUntouched err
   pub ill : status ≡ 1 → HasFailed out × Tells err (line (codes "output cannot be written"))
 
+-- how a run ends by the result of its conversion
 abbrev pub Ends : Result Totals Fault → Device → Device → Device → ℕ → Type 0
 Ends (Ok t) source out err status = Concludes source out err status
 Ends (Err f) source out err status = Refuses f source out err status
 
--- the line of a check, or if it cannot be written a prefix of it; and on a fault nothing
+-- the line of a check is written, or if a write fails a prefix of it; on a fault nothing is
 abbrev pub WritesCountingLine : Result Totals Fault → Device → Type 0
 WritesCountingLine (Ok t) out = Tells out (counting_line t.games t.plies) × HasFront out (counting_line t.games t.plies)
 WritesCountingLine (Err f) out = Keeps out.before out.after
 
--- what is converted, and where to
+-- The conversion of a job. An export converts to standard output. A check converts to nowhere, and
+-- then writes its line. A list is no conversion.
 abbrev pub Works : Job → Result Totals Fault → Device → Device → Type 0
 Works (exporting mode) answer source out = Converts (profile_of 64 32 mode) source answer out
 Works checking answer source out = Converts (profile_of 64 32 Full) source answer nowhere × WritesCountingLine answer out
 Works listing answer source out = ⊥
 
--- the flush at the end of a run may fail once, and is not called again
+-- the count of failures around one call that may fail, as around the flush at the end of a run
 abbrev pub FlushCounts : ℕ → ℕ → Type 0
 FlushCounts old new = (new ≡ old) ⊎ (new ≡ one_more old)
 
--- The line of the counts and the flush behind it may each fail once. On a fault only the flush is
--- called.
+-- After the conversion of a check, the line of the counts and the flush may each fail once. On a
+-- fault only the flush may.
 abbrev pub CountsCheck : Result Totals Fault → Device → Type 0
 CountsCheck (Ok t) out =
     (written : ℕ) × FlushCounts out.failures written × FlushCounts written out.failures_after
 CountsCheck (Err f) out = FlushCounts out.failures out.failures_after
 
--- The devices count what the conversion reports, and nothing after it but the flush.
+-- The devices count the failures that the conversion reports. After it the flush may add one, and
+-- in a check the line of the counts another one.
 abbrev pub CountsWork : Job → Result Totals Fault → Device → Device → Type 0
 CountsWork (exporting mode) answer source out =
     (converted : ℕ) × CountsResult answer source (record out { failures_after = converted }) × FlushCounts converted out.failures_after
 CountsWork checking answer source out = CountsResult answer source nowhere × CountsCheck answer out
 CountsWork listing answer source out = ⊥
 
--- A run that converts: a conversion with its result, and how it ends. For an export, standard
--- output has what the conversion wrote.
+-- A run that converts: a conversion with its result, what the devices count, and how the run ends.
 pub record RunsConversion (job : Job) (source out err : Device) (status : ℕ) : Type 0 where
   pub answer : Result Totals Fault
   pub works : Works job answer source out
   pub counted : CountsWork job answer source out
   pub ends : Ends answer source out err status
 
--- a line could not be written, which is reported
+-- a line could not be written, which is reported: the status is 1
 pub record Breaks (out err : Device) (status : ℕ) : Type 0 where
   pub ends : status ≡ 1
   pub failed : HasFailed out
   pub told : Tells err (line (codes "output cannot be written"))
 
+-- how a run ends by the result of its list
 abbrev pub EndsList : Result Unit Stopped → Device → Device → Device → ℕ → Type 0
 EndsList (Ok done) source out err status = Concludes source out err status
 EndsList (Err (stopped.Refused f)) source out err status = Refuses f source out err status
 EndsList (Err stopped.Unwritten) source out err status = Breaks out err status
 
--- A run that lists: how the list ended, and how the run ends.
+-- A run that lists: a list with its result, what the devices count, and how the run ends.
 pub record RunsList (source out err : Device) (status : ℕ) : Type 0 where
   pub answer : Result Unit Stopped
   pub lists : ListResult source.before source.after answer out.before out.after
   pub counted : (listed : ℕ) × CountsList answer source.failures source.failures_after out.failures listed × FlushCounts listed out.failures_after
   pub ends : EndsList answer source out err status
 
--- what a run of a job is
+-- the run of a job: a list, or a conversion
 abbrev pub Runs : Job → Device → Device → Device → ℕ → Type 0
 Runs listing source out err status = RunsList source out err status
 Runs job source out err status = RunsConversion job source out err status
