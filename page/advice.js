@@ -4,13 +4,18 @@
 // button of the page does.
 import { DRAW, RESULTS } from "./text.js";
 
+// A button that a fault may have.
+export const MARKERS_TOO = "Write missing results, and mend what has one reading";
+
 const BUTTON = " The button “Mend what has one reading” does it.";
 const UNSAFE = " pgn_lint --fix --unsafe-fixes does it.";
+const WRITE_MARKER = "It has to end with " + RESULTS + ". The button “" + MARKERS_TOO +
+  "” writes what the Result tag says, or * without one.";
 const WRITE_DRAW = "Write a draw as " + DRAW + "." + BUTTON;
 const NUMBER_APART = "Put a period or a blank between the number and the move." + BUTTON;
 
-// `offer` names a button: "fromMarker" takes missing results from the markers, "full" converts in
-// full.
+// `offer` names a button: "fromMarker" takes missing results from the markers, "results" writes
+// missing markers, "full" converts in full.
 const ADVICE = [
   [(it) => it.number === 1 && it.near.startsWith("--") || it.number === 33 && it.symbol === "Z0" ||
       it.number === 33 && it.symbol.startsWith("--"),
@@ -31,11 +36,10 @@ const ADVICE = [
     "end of its game instead. The button “Mend what has one reading” writes the tag.",
     "fromMarker"],
   [(it) => it.number === 41, "Correct the Result tag or the result at the end of the game."],
-  [(it) => it.number === 32,
-    "The game before has no result at its end, or a comment is between two tags. Add the result " +
-    "(" + RESULTS + "), or move the comment below the tags." + UNSAFE],
-  [(it) => it.number === 42,
-    "The last game has no result at its end: " + RESULTS + "." + UNSAFE],
+  [(it) => it.number === 32 && !it.hasMovetext,
+    "A comment is between two tags. Move it below the tags." + UNSAFE],
+  [(it) => it.number === 32, "The game before has no result at its end. " + WRITE_MARKER, "results"],
+  [(it) => it.number === 42, "The last game has no result at its end. " + WRITE_MARKER, "results"],
   [(it) => it.number === 28,
     "Write \\\" for a quote inside a value: \"The \\\"Open\\\"\"." + BUTTON],
   [(it) => it.number === 11, "A value ends with a quote on the line where it begins."],
@@ -61,6 +65,8 @@ const ADVICE = [
   [(it) => it.number === 22,
     "A game has one pair of each name: take out the second one. The button “Mend what has one " +
     "reading” does it if both values are equal."],
+  [(it) => it.number === 25 && it.note,
+    "Write 1-0, 0-1 or * alone, and the reason into a Termination tag."],
   [(it) => it.number === 25,
     "A Result is one of " + RESULTS + ". The button “Mend what has one reading” writes it if the " +
     "value is empty, a question mark, or another spelling of a result."],

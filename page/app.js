@@ -1,16 +1,22 @@
 // The page: takes files or pasted games, lets a worker convert them, and shows what it answers.
 import { MISSING_RESULTS, MODES, loadModule } from "./module.js";
 import { decodedLines } from "./text.js";
-import { faultView, placeOf } from "./fault_view.js";
+import { otherKind } from "./kinds.js";
+import { reasonOfRead, whyItFailed } from "./failures.js";
+import { PastedGames } from "./pasted.js";
+import { FaultList } from "./fault_list.js";
 import { PositionFields } from "./position.js";
 import { GameList } from "./game_list.js";
 import { EditList } from "./edit_list.js";
-import { button, byId, counted } from "./elements.js";
+import { showNotes } from "./notes.js";
+import { NO_MARKER } from "./fixes.js";
+import { byId, counted, item } from "./elements.js";
 
 // So much of an export is shown as text; all of it can be downloaded.
 const MOST_SHOWN = 100000;
 const MEGABYTE = 1e6;
-const PASTED = "pasted games";
+// So many files are named.
+const MOST_NAMES = 5;
 
 function plies(count) {
   return count.toLocaleString("en") + (count === 1 ? " ply" : " plies");
@@ -31,24 +37,33 @@ class Page {
     this.workerAddress = URL.createObjectURL(script);
     this.worker = null;
     this.mender = null;
+    // the files whose first bytes were read, and what was made of them
+    this.wereRead = new WeakSet();
     this.list = new GameList((message) => this.worker.postMessage(message));
     this.edits = new EditList();
+    this.pasted = new PastedGames((isByKey) => this.beginPasted(isByKey));
+    this.faults = new FaultList(this.pasted, (offer) => this.take(offer));
     this.listen();
   }
 
   listen() {
-    byId("files").addEventListener("change", (event) => this.begin(event.target.files));
-    byId("convert-paste").addEventListener("click", () => this.beginPasted());
+    byId("open").addEventListener("click", () => byId("files").click());
+    byId("files").addEventListener("change", (event) => {
+      this.choose(Array.from(event.target.files));
+      // the browser says nothing of the same file that is chosen again, unless the field is empty
+      event.target.value = "";
+    });
     byId("stop").addEventListener("click", () => this.worker.postMessage({ kind: "stop" }));
     byId("go-on-once").addEventListener("click", () => this.goOn(false));
     byId("go-on-always").addEventListener("click", () => this.goOn(true));
-    byId("mend").addEventListener("click", () => this.mend());
+    byId("mend").addEventListener("click", () => this.mend([]));
     byId("apply").addEventListener("click", () => this.applyEdits());
     byId("download").addEventListener("click", () => this.ask("exported", "download"));
     byId("copy").addEventListener("click", () => this.ask("exported", "copy"));
     byId("download-bad").addEventListener("click", () => this.ask("badGames", "download"));
+    byId("download-faults").addEventListener("click", () => this.ask("faultList", "download"));
     for (const id of ["mode", "missing"]) {
-      byId(id).addEventListener("change", () => this.again());
+      byId(id).addEventListener("change", () => this.again(false));
     }
     this.listenToDrops();
   }
@@ -68,39 +83,80 @@ class Page {
       mark(false);
       if (hasFiles(event)) {
         event.preventDefault();
-        this.begin(event.dataTransfer.files);
+        this.choose(Array.from(event.dataTransfer.files));
       }
     });
   }
 
-  beginPasted() {
-    this.begin([new File([byId("paste").value], PASTED)]);
+  beginPasted(isByKey) {
+    this.begin({ files: [this.pasted.file()], pasted: byId("paste").value, staysInField: isByKey });
   }
 
-  // Converts the same files with other options.
-  again() {
-    if (this.files) {
-      this.begin(this.files, this.applied);
-    }
-  }
-
-  // Converts files, in which so many edits were applied.
-  begin(files, applied = 0) {
+  // Converts the files that a person has chosen, but for those that are no text of games.
+  async choose(files) {
     if (!files.length) {
       return;
     }
-    this.files = Array.from(files);
-    this.applied = applied;
-    this.faults = [];
+    this.chosen = files;
+    const kinds = await Promise.all(files.map((it) => this.kindOf(it)));
+    // other files may have been chosen, or games pasted, while these were looked at
+    if (this.chosen === files) {
+      this.begin({
+        files: files.filter((_, index) => !kinds[index]), leftOut: kinds.filter((it) => it),
+      });
+    }
+  }
+
+  // What is said of a file that is no text of games, or an empty text.
+  async kindOf(file) {
+    try {
+      const kind = await otherKind(file);
+      this.wereRead.add(file);
+      return kind;
+    } catch (error) {
+      // the conversion meets it too, and says so
+      return "";
+    }
+  }
+
+  // Converts the same files with other options.
+  again(movesFocus) {
+    if (this.job) {
+      this.begin({ ...this.job, staysInField: false }, movesFocus);
+    }
+  }
+
+  // Begins a job: `files`, in which so many edits were `applied`, sentences about those that were
+  // `leftOut`, and the text if it was `pasted`.
+  begin(job, movesFocus = true) {
+    this.job = { applied: 0, leftOut: [], pasted: null, ...job };
+    this.files = this.job.files;
+    this.chosen = null;
+    this.faults.begin();
+    this.pasted.begin(this.job.pasted);
     for (const worker of [this.worker, this.mender]) {
       if (worker) {
         worker.terminate();
       }
     }
     this.mender = null;
-    this.begun = performance.now();
-    this.showWork();
-    this.worker = this.startWorker(this, {});
+    this.showWork(movesFocus);
+    this.showChosen();
+    if (this.files.length) {
+      this.worker = this.startWorker(this, {});
+    } else {
+      this.failed({ reason: "none" });
+    }
+  }
+
+  showChosen() {
+    const names = this.files.slice(0, MOST_NAMES).map((it) => it.name);
+    const more = this.files.length - names.length;
+    byId("chosen").hidden = !names.length || this.job.pasted !== null;
+    byId("chosen").textContent =
+      "Chosen: " + names.join(", ") + (more ? " and " + counted(more, "more file") : "") + ".";
+    byId("left-out").hidden = !this.job.leftOut.length;
+    byId("left-out").replaceChildren(...this.job.leftOut.map((it) => item(it)));
   }
 
   // Lets a worker go through the files. `hearer` has a function for each kind of its messages.
@@ -115,32 +171,37 @@ class Page {
       options: {
         mode: MODES[byId("mode").value], missingResult: MISSING_RESULTS[byId("missing").value],
       },
+      fixes: byId("fixes").textContent,
       ...more,
     });
     return worker;
   }
 
-  // Lets another worker look for the edits that mend the bad games of all files.
-  mend() {
+  // Lets another worker look for the edits that mend the bad games of all files, by the safe fixes
+  // and others of these names.
+  mend(others) {
     if (this.mender) {
       this.mender.terminate();
     }
     this.edits.begin();
-    this.mender = this.startWorker(this.edits, { fixes: byId("fixes").textContent });
+    this.mender = this.startWorker(this.edits, { mends: { others } });
   }
 
   // Puts the edits into the files, and converts them again.
   async applyEdits() {
     const { edits } = this.edits;
     const files = this.files.map((file, index) => this.edits.applied(file, index));
-    if (files[0].name === PASTED) {
+    files.forEach((it) => this.wereRead.add(it));
+    const job = { ...this.job, files, applied: edits.length, staysInField: false };
+    if (job.pasted !== null) {
       byId("paste").value = await files[0].text();
+      Object.assign(job, { files: [this.pasted.file()], pasted: byId("paste").value });
     }
-    this.begin(files, edits.length);
+    this.begin(job);
   }
 
   goOn(every) {
-    this.showWork();
+    this.showWork(true);
     this.worker.postMessage({ kind: "goOn", every });
   }
 
@@ -149,12 +210,28 @@ class Page {
     this.worker.postMessage({ kind });
   }
 
-  showWork() {
+  // `movesFocus`: the focus goes to the heading of what the work results in. A field of an option
+  // keeps it, since the arrow keys change that.
+  showWork(movesFocus) {
     byId("work").hidden = byId("stop").hidden = byId("work-bar").hidden = false;
     byId("work-bar").value = 0;
     byId("work-text").textContent = "Begins.";
+    this.movesFocus = movesFocus;
+    if (["result", "faults"].some((id) => byId(id).contains(document.activeElement))) {
+      byId("work-title").focus();
+    }
+    this.focusAtBegin = document.activeElement;
     byId("result").hidden = byId("faults").hidden = byId("game").hidden = true;
     byId("mending").hidden = true;
+  }
+
+  // Moves the focus to a heading, unless the person has moved it since the work began.
+  focusOn(id) {
+    const at = document.activeElement;
+    const isWhereItWas = at === document.body || at === this.focusAtBegin;
+    if (this.movesFocus && (isWhereItWas || byId("work").contains(at))) {
+      byId(id).focus();
+    }
   }
 
   // ---- What the worker tells
@@ -162,11 +239,13 @@ class Page {
   // Reads a part of a file for the worker. Not every browser lets the worker of a page that is on a
   // disk read the files of that page.
   async read({ index, begin, end }, worker) {
+    const file = this.files[index];
     try {
-      const bytes = await this.files[index].slice(begin, end).arrayBuffer();
+      const bytes = await file.slice(begin, end).arrayBuffer();
       worker.postMessage({ kind: "part", bytes }, [bytes]);
     } catch (error) {
-      worker.postMessage({ kind: "part", refusal: error.name });
+      const reason = reasonOfRead(error.name, this.wereRead.has(file));
+      worker.postMessage({ kind: "part", reason });
     }
   }
 
@@ -178,25 +257,28 @@ class Page {
 
   fault({ fault }) {
     if (fault) {
-      this.faults.push(fault);
+      this.faults.add(fault);
     }
   }
 
   done(state) {
     this.showEnd(state, "Done");
-    if (this.applied) {
-      byId("result-title").focus();
-    }
+    this.focusOn("result-title");
   }
 
   stopped(state) {
     const place = state.place.toLocaleString("en");
     this.showEnd(state, "Stopped at byte " + place + " of " + state.file);
+    this.focusOn("result-title");
   }
 
   refused(state) {
     this.showEnd(state, "Stopped at a fault");
-    byId("faults-title").focus();
+    if (this.job.staysInField && document.activeElement === byId("paste")) {
+      this.pasted.show();
+    } else {
+      this.focusOn("faults-title");
+    }
   }
 
   showEnd(state, what) {
@@ -205,7 +287,7 @@ class Page {
     byId("work-text").textContent = what + ", after " +
       (state.milliseconds / 1000).toFixed(1) + " s" +
       (state.waiting ? "; " + counted(state.waiting, "file") + " not read yet." : ".") +
-      (this.applied ? " " + counted(this.applied, "edit") + " applied." : "");
+      (this.job.applied ? " " + counted(this.job.applied, "edit") + " applied." : "");
     byId("result").hidden = false;
     byId("counts").textContent = counted(state.games, "game") + ", " + plies(state.plies) +
       (state.bad ? "; " + counted(state.bad, "bad game") + " set aside" : "") + ".";
@@ -213,40 +295,20 @@ class Page {
     byId("download-bad").hidden = !state.bad;
     byId("copied").textContent = "";
     byId("work").dataset.state = state.kind;
-    this.showFaults(state);
+    this.faults.show(state.faults, state.kind === "refused");
+    showNotes(state.noted, state.notes, (index) => this.list.ask({ kind: "game", index }));
     this.list.begin(state.games);
     this.worker.postMessage({ kind: "head", most: MOST_SHOWN });
   }
 
-  showFaults(state) {
-    byId("faults").hidden = !this.faults.length;
-    byId("go-on").hidden = byId("guess").hidden = state.kind !== "refused";
-    if (this.faults.length) {
-      this.showFault(this.faults.length - 1);
-    }
-    const others = this.faults.length < 2 ? [] : this.faults.map((fault, index) => {
-      const item = document.createElement("li");
-      item.append(button(placeOf(fault) + ": " + fault.reason, () => {
-        this.showFault(index);
-        byId("faults-title").focus();
-      }));
-      return item;
-    });
-    const list = document.createElement("ol");
-    list.append(...others);
-    byId("other-faults").replaceChildren(...(others.length ? [list] : []));
-  }
-
-  showFault(index) {
-    byId("faults-title").textContent =
-      this.faults.length < 2 ? "Fault" : "Fault " + (index + 1) + " of " + this.faults.length;
-    byId("fault").replaceChildren(faultView(this.faults[index], (offer) => this.take(offer)));
-  }
-
-  // Takes the option that the advice offers, and converts again.
+  // Takes what the advice offers: looks for edits, or converts again with an option.
   take(offer) {
+    if (offer === "results") {
+      this.mend([NO_MARKER]);
+      return;
+    }
     byId(offer === "full" ? "mode" : "missing").value = offer;
-    this.again();
+    this.again(true);
   }
 
   head({ bytes }) {
@@ -285,9 +347,13 @@ class Page {
     this.download(blob, this.outputName("bad"));
   }
 
-  outputName(what) {
+  faultList({ blob }) {
+    this.download(blob, this.outputName("faults", "txt"));
+  }
+
+  outputName(what, kind = "pgn") {
     const name = this.files.length === 1 ? this.files[0].name.replace(/\.[^.]*$/, "") : "games";
-    return name.replace(/[^\w-]+/g, "-") + "." + what + ".pgn";
+    return name.replace(/[^\w-]+/g, "-") + "." + what + "." + kind;
   }
 
   download(blob, name) {
@@ -298,13 +364,11 @@ class Page {
     setTimeout(() => URL.revokeObjectURL(link.href), 60000);
   }
 
-  failed({ reason, file, text }) {
+  failed(failure) {
     byId("stop").hidden = byId("work-bar").hidden = true;
     byId("work").dataset.state = byId("work").dataset.shown = "failed";
-    byId("work-text").textContent =
-      reason === "memory" ? file + " does not fit into the memory that the browser gives to a " +
-        "page. Convert it in parts, or with the program pgn_tool, which takes under 3 MiB for any size."
-      : reason === "read" ? file + " cannot be read." : "The conversion has failed: " + text + ".";
+    byId("work-text").textContent = whyItFailed(failure);
+    this.focusOn("work-title");
   }
 }
 

@@ -6,20 +6,42 @@ import {
 } from "./text.js";
 import { nextSection } from "./next_section.js";
 import { spellings } from "./spellings.js";
+import { noteOnResult, terminationsIn } from "./forfeits.js";
 
 // The room for export text in the module's memory, from where it is moved into a chunk of its own.
 const ROOM = 1 << 22;
 // How much of the game at fault is read for its tag pairs.
 const TAGS_SIZE = 1 << 16;
+// So much of a tag's value is looked at.
+const VALUE_SIZE = 1 << 10;
 const LINE_WIDTH = 76;
 const UNCLOSED_COMMENT = 12;
+const BAD_RESULT = 25;
+const TAG_IN_MOVETEXT = 32;
 const OPENING_BRACE = 123;
 const CLOSING_BRACE = 125;
 
+// The index of the last of some places, in order, that is not behind a place.
+function lastUpTo(places, place) {
+  let low = 0;
+  let high = places.length;
+  while (high - low > 1) {
+    const middle = (low + high) >> 1;
+    if (places[middle] <= place) {
+      low = middle;
+    } else {
+      high = middle;
+    }
+  }
+  return low;
+}
+
 export class Conversion {
-  constructor(module, options) {
+  constructor(module, options, fixes) {
     this.module = module;
     this.options = options;
+    // what reads the tags of a bad game
+    this.fixes = fixes;
     this.chunks = [];
     this.chunkStarts = [];
     // how much of the export text is in the chunks, and how much is still in the module's memory
@@ -30,6 +52,8 @@ export class Conversion {
     this.plies = [];
     this.allPlies = 0;
     this.bad = [];
+    // the games whose Termination tells of a forfeit in other words than the standard's
+    this.forfeits = [];
   }
 
   get games() {
@@ -124,11 +148,26 @@ export class Conversion {
   // Moves the export text from the module's memory into a chunk.
   move() {
     if (this.used) {
+      const chunk = this.module.bytes.slice(this.buffer, this.buffer + this.used);
+      this.noteForfeits(chunk, this.moved);
       this.chunkStarts.push(this.moved);
-      this.chunks.push(this.module.bytes.slice(this.buffer, this.buffer + this.used));
+      this.chunks.push(chunk);
       this.moved += this.used;
     }
     this.used = 0;
+  }
+
+  // Notes the games of a chunk of the export text that tell of a forfeit in other words. A chunk has
+  // whole games.
+  noteForfeits(chunk, begin) {
+    for (const at of terminationsIn(chunk)) {
+      const index = lastUpTo(this.starts, begin + at);
+      const start = this.starts[index] - begin;
+      // an empty line ends the tags
+      if (!latin1(chunk.subarray(start, at)).includes("\n\n")) {
+        this.forfeits.push(index);
+      }
+    }
   }
 
   // What is known of the fault that the last call has answered.
@@ -145,10 +184,15 @@ export class Conversion {
       file: this.name, number, place, message, reason, fen, line: this.lineOf(place),
       symbol: symbolAt(bytes, place), game: this.inFile + 1, tags, hasResult: "Result" in tags,
       near: latin1(bytes.subarray(place, place + 4)), isAtEnd: place === this.length,
+      note: number === BAD_RESULT
+        ? noteOnResult(latin1(bytes.subarray(place, place + VALUE_SIZE))) : "",
       ...lineAround(bytes, place, LINE_WIDTH),
     };
     if (number === UNCLOSED_COMMENT) {
       fault.openedLine = this.lineOf(this.openBrace(bytes));
+    }
+    if (number === TAG_IN_MOVETEXT) {
+      fault.hasMovetext = this.fixes.hasMovetext(latin1(bytes.subarray(this.from, place)));
     }
     if (fen) {
       Object.assign(fault, this.explanation(fen, fault.symbol));
@@ -215,7 +259,7 @@ export class Conversion {
     this.move();
     const text = new Uint8Array(end - begin);
     let at = 0;
-    for (let index = this.chunkOf(begin); at < text.length; index++) {
+    for (let index = lastUpTo(this.chunkStarts, begin); at < text.length; index++) {
       const chunk = this.chunks[index];
       const from = begin + at - this.chunkStarts[index];
       const part = chunk.subarray(from, Math.min(chunk.length, end - this.chunkStarts[index]));
@@ -223,20 +267,6 @@ export class Conversion {
       at += part.length;
     }
     return text;
-  }
-
-  chunkOf(place) {
-    let low = 0;
-    let high = this.chunkStarts.length;
-    while (high - low > 1) {
-      const middle = (low + high) >> 1;
-      if (this.chunkStarts[middle] <= place) {
-        low = middle;
-      } else {
-        high = middle;
-      }
-    }
-    return low;
   }
 
   // The first games of the export text, of at most so many bytes, but one game at least.
@@ -260,12 +290,18 @@ export class Conversion {
   rows(first, count) {
     const rows = [];
     for (let index = first; index < Math.min(first + count, this.games); index++) {
-      const row = { number: index + 1, plies: this.plies[index] };
-      for (const [name, value] of this.module.tags(this.game(index))) {
-        row[latin1(name)] = decoded(value).replace(/\\(["\\])/g, "$1");
-      }
-      rows.push(row);
+      rows.push(this.row(index));
     }
     return rows;
+  }
+
+  // Number, plies and tags of a game.
+  row(index) {
+    const row = {};
+    for (const [name, value] of this.module.tags(this.game(index))) {
+      row[latin1(name)] = decoded(value).replace(/\\(["\\])/g, "$1");
+    }
+    // a tag may have one of these names
+    return Object.assign(row, { number: index + 1, plies: this.plies[index] });
   }
 }

@@ -1,5 +1,6 @@
 // The list of edits that mend the bad games, before they are applied.
-import { byId, counted } from "./elements.js";
+import { byId, counted, item } from "./elements.js";
+import { whyItFailed } from "./failures.js";
 import { decoded, printable } from "./text.js";
 
 // So many edits are listed; all are applied.
@@ -38,10 +39,8 @@ export class EditList {
     byId("mending-title").focus();
   }
 
-  failed({ reason, file, text }) {
-    byId("mending-text").textContent =
-      "The edits were not found" + (file ? " in " + file : "") + ": " +
-      (reason === "memory" ? "the page has too little memory" : text) + ".";
+  failed(failure) {
+    byId("mending-text").textContent = "The edits were not found. " + whyItFailed(failure);
     byId("mending").dataset.state = "failed";
   }
 
@@ -58,10 +57,8 @@ export class EditList {
 }
 
 function editItem({ file, line, column, name, old, text }) {
-  const item = document.createElement("li");
-  item.textContent = file + ": line " + line + ", column " + column + ", " + name + ": " +
-    shown(old) + " → " + shown(text);
-  return item;
+  return item(file + ": line " + line + ", column " + column + ", " + name + ": " + shown(old) +
+    " → " + shown(text));
 }
 
 // A text in a line: without the line ends around it, if it has more.

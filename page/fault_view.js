@@ -1,10 +1,11 @@
 // A fault: its message, its line with a caret, its game, the board, and what to try next.
 import { boardView } from "./board_view.js";
-import { button, paragraph } from "./elements.js";
+import { buttonLine, paragraph } from "./elements.js";
 import { explained } from "./explanation.js";
-import { adviceFor } from "./advice.js";
+import { MARKERS_TOO, adviceFor } from "./advice.js";
+import { printable } from "./text.js";
 
-export function placeOf(fault) {
+function placeOf(fault) {
   return fault.file + ": line " + fault.line + ", column " + fault.column +
     " (byte " + fault.place + (fault.isAtEnd ? ", the end of the text)" : ")");
 }
@@ -13,8 +14,11 @@ export function placeOf(fault) {
 export function faultView(fault, offer) {
   const view = document.createElement("div");
   view.append(
-    paragraph(fault.reason[0].toUpperCase() + fault.reason.slice(1), "problem"),
+    paragraph(capitalized(fault.reason), "problem"),
     paragraph(placeOf(fault) + ": " + fault.reason), lineView(fault), paragraph(gameOf(fault)));
+  if (fault.note) {
+    view.append(paragraph(capitalized(fault.note) + "."));
+  }
   if (fault.fen) {
     explained(fault).forEach((sentence) => view.append(paragraph(sentence)));
     view.append(boardView(fault.fen, fault.explanation));
@@ -23,7 +27,7 @@ export function faultView(fault, offer) {
   if (advice) {
     view.append(paragraph("Try this: " + advice.text));
     if (advice.offer) {
-      view.append(offerButton(advice.offer, offer));
+      view.append(buttonLine(OFFERS[advice.offer], () => offer(advice.offer)));
     }
   }
   return view;
@@ -42,18 +46,24 @@ function lineView(fault) {
   return line;
 }
 
+function capitalized(text) {
+  return text[0].toUpperCase() + text.slice(1);
+}
+
 function gameOf(fault) {
   const names = ["White", "Black", "Event"].map((it) => it + " “" + (fault.tags[it] || "?") + "”");
   return "Game " + fault.game + ": " + names.join(", ");
 }
 
+// The number of a game and its players, as far as they are known.
+export function gameAndPlayers({ game, tags }) {
+  const names = ["White", "Black"].map((it) => printable(tags[it] || "?"));
+  return "Game " + game +
+    (names.some((it) => it !== "?") ? ", “" + names.join("” against “") + "”" : "");
+}
+
 const OFFERS = {
   fromMarker: "Take missing results from the end of the games, and convert again",
   full: "Convert again in full",
+  results: MARKERS_TOO,
 };
-
-function offerButton(name, offer) {
-  const around = document.createElement("p");
-  around.append(button(OFFERS[name], () => offer(name)));
-  return around;
-}

@@ -1,7 +1,7 @@
 // The fixes of pgn_lint that have their patterns in fixes.json, which pgn_lint reads too: each
 // proposes one edit for a fault, or none. Text is a string here, with a character for each byte.
 import { OK } from "./module.js";
-import { encoded } from "./text.js";
+import { RESULT_VALUES, encoded } from "./text.js";
 import { piecesOf } from "./board.js";
 
 // The reasons at which the spelling of a move can be at fault.
@@ -10,6 +10,8 @@ const REASONS_OF_MOVES = [1, 33, 34, 37, 39];
 const BEHIND_MOVE = 160;
 const BEFORE_FAULT = 512;
 const NUMBER = /^[0-9]+\. $/;
+// The fix that writes a missing termination marker.
+export const NO_MARKER = "no marker";
 // How many marks a drawing command gets.
 const MARKS = 12;
 // No FEN is longer.
@@ -23,8 +25,8 @@ export function edited(text, edit) {
 }
 
 export class Fixes {
-  // `data` is what fixes.json has. Only safe fixes are taken.
-  constructor(data, module) {
+  // `data` is what fixes.json has. Safe fixes are taken, and of the others those with the names.
+  constructor(data, module, others = []) {
     this.macros = data.macros;
     this.module = module;
     const steps = (row, flags) =>
@@ -35,7 +37,7 @@ export class Fixes {
     this.functions = data.functions.map((row) => ({
       ...row, pattern: this.pattern(row.pattern, FLAGS[row.name] || "g"),
       propose: FUNCTIONS[row.name],
-    }));
+    })).concat(OTHERS.filter((it) => others.includes(it.name)));
     const part = (name, flags) => this.pattern(data.parts[name], flags);
     this.space = part("space", "y");
     this.rest = part("rest", "y");
@@ -121,6 +123,12 @@ export class Fixes {
       const value = end - pair[0].length + pair[0].indexOf("\"" + pair[2]) + 1;
       pairs.push({ name: pair[1], value: pair[2], valueAt: value, start: pair.index, end });
     }
+  }
+
+  // Whether a text has more than tag pairs, comments and white space.
+  hasMovetext(text) {
+    const pairs = this.head({ text, begin: 0 });
+    return !this.isRest(text, pairs.length ? pairs[pairs.length - 1].end : 0);
   }
 
   // The marker that a text ends with, or an empty text.
@@ -321,6 +329,18 @@ const FUNCTIONS = {
       ? { start: match.index, stop: endOf(match), text: commands.join(" ") } : null;
   },
 };
+
+// Fixes that are not safe, since they choose what no text says. pgn_lint has more.
+const OTHERS = [
+  // Adds the value of the Result tag, or *, behind the last word of a game.
+  { name: NO_MARKER, reasons: [32, 42], propose(fixes, here) {
+    const pair = fixes.head(here).find((it) => it.name === "Result");
+    const end = here.text.replace(/[\t-\r ]+$/, "").length;
+    const isInComment = /;[^\r\n}]*$/.test(here.text.slice(0, end));
+    const marker = pair && RESULT_VALUES.includes(pair.value) ? pair.value : "*";
+    return { start: end, stop: end, text: (isInComment ? "\n" : " ") + marker };
+  } },
+];
 
 // The match of a sticky pattern at a place, or null.
 function matchAt(pattern, text, place) {

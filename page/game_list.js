@@ -24,6 +24,9 @@ export class GameList {
     byId("pages").hidden = this.games <= ROWS;
     byId("previous").disabled = this.first === 0;
     byId("next").disabled = this.first + ROWS >= this.games;
+    if (step && document.activeElement.disabled) {
+      byId("list-title").focus();
+    }
     this.ask({ kind: "rows", first: this.first, count: ROWS });
   }
 

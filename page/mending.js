@@ -2,7 +2,7 @@
 // reads the game to its end, or if fewer bytes are behind its first fault than before.
 import { FULL, MISSING_RESULTS, MODES, NO_GAME, OK } from "./module.js";
 import { DRAW, latin1, lineAround, startsWithByteOrderMark } from "./text.js";
-import { Fixes, edited } from "./fixes.js";
+import { edited } from "./fixes.js";
 import { nextSection } from "./next_section.js";
 
 const NOT_LEGAL = 34;
@@ -211,10 +211,10 @@ function openBraces(text) {
 
 // Mends the bad games of a conversion, in their order.
 export class Mender {
-  // `module` is another one than that of the conversion, and `data` what fixes.json has.
-  constructor(module, data, missingResult) {
+  // `module` is another one than that of the conversion, and `fixes` are those to try.
+  constructor(module, fixes, missingResult) {
     this.reader = new TextReader(module);
-    this.fixes = new Fixes(data, module);
+    this.fixes = fixes;
     this.missingResult = missingResult;
     this.edits = [];
     // how many games have edits, and how many are still bad after them

@@ -1,7 +1,8 @@
 // Bytes as text, and places in them as lines and columns.
 
-// A draw, and the results as a person reads them.
+// A draw, the results, and these as a person reads them.
 export const DRAW = "1/2-1/2";
+export const RESULT_VALUES = ["1-0", "0-1", DRAW, "*"];
 export const RESULTS = "1-0, 0-1, " + DRAW + " or *";
 
 const LF = 10;

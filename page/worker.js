@@ -4,13 +4,17 @@
 // how far it is.
 import { OutOfMemory, loadModule } from "./module.js";
 import { Conversion } from "./conversion.js";
+import { Fixes } from "./fixes.js";
 import { Mender } from "./mending.js";
+import { printable } from "./text.js";
 
 const WORK_MILLISECONDS = 50;
 // So much of a file is read at a time.
 const PART = 1 << 22;
 // So many faults are told in full; of more the page shows the number alone.
 const MOST_FAULTS = 500;
+// Of so many games the notes are told.
+const MOST_NOTES = 100;
 
 let conversion = null;
 // takes the bad games, in a worker that looks for edits alone
@@ -19,7 +23,8 @@ let files = [];
 let fileIndex = 0;
 let isStopped = false;
 let goesOnByItself = false;
-let faults = 0;
+// a line for each fault, as pgn_lint has it
+let faultLines = [];
 let workTime = 0;
 // the part of the file that is being read, and the reading of the whole
 let part = null;
@@ -47,10 +52,13 @@ const ANSWERS = {
   async begin(message) {
     files = message.files;
     const begin = performance.now();
-    conversion = new Conversion(await loadModule(message.module), message.options);
-    if (message.fixes) {
+    const data = JSON.parse(message.fixes);
+    const module = await loadModule(message.module);
+    conversion = new Conversion(module, message.options, new Fixes(data, module));
+    if (message.mends) {
+      const other = await loadModule(message.module);
       mender = new Mender(
-        await loadModule(message.module), JSON.parse(message.fixes), message.options.missingResult);
+        other, new Fixes(data, other, message.mends.others), message.options.missingResult);
     }
     await nextFile(begin);
   },
@@ -88,6 +96,10 @@ const ANSWERS = {
     report("exported", { blob: new Blob(conversion.chunks, { type: "application/x-chess-pgn" }) });
   },
 
+  faultList() {
+    report("faultList", { blob: new Blob(faultLines, { type: "text/plain" }) });
+  },
+
   badGames() {
     report("badGames", { blob: new Blob(conversion.bad, { type: "application/x-chess-pgn" }) });
   },
@@ -99,7 +111,7 @@ onmessage = async (event) => {
   } catch (error) {
     const isMemory = error instanceof OutOfMemory || error instanceof RangeError;
     report("failed", {
-      reason: isMemory ? "memory" : error.name === "NotReadableError" ? "read" : "other",
+      reason: isMemory ? "memory" : error.reason || "other",
       file: conversion && conversion.name, text: String(error && error.message || error),
     });
   }
@@ -130,8 +142,8 @@ async function readFile(file) {
 // Lets the page read a part of a file. A file that has changed since it was chosen cannot be read.
 function readPart(index, begin, end) {
   return new Promise((resolve, reject) => {
-    takePart = ({ bytes, refusal }) =>
-      bytes ? resolve(bytes) : reject(Object.assign(new Error(), { name: refusal }));
+    takePart = ({ bytes, reason }) =>
+      bytes ? resolve(bytes) : reject(Object.assign(new Error(), { reason }));
     postMessage({ kind: "read", index, begin, end });
   });
 }
@@ -169,13 +181,20 @@ function tellFault() {
     conversion.goOn(place);
     return true;
   }
-  faults++;
   conversion.lastFault = conversion.fault();
-  report("fault", { fault: faults <= MOST_FAULTS ? conversion.lastFault : null });
+  faultLines.push(lineOfFault(conversion.lastFault));
+  report("fault", { fault: faultLines.length <= MOST_FAULTS ? conversion.lastFault : null });
   if (goesOnByItself) {
     setAside(conversion.lastFault);
   }
   return goesOnByItself;
+}
+
+// The line of a fault, as pgn_lint writes it.
+function lineOfFault({ file, line, column, reason, note, game, tags }) {
+  const names = ["White", "Black"].map((it) => tags[it] === undefined ? "?" : tags[it]);
+  return printable(file + ":" + line + ":" + column + ": " + reason + (note ? ": " + note : "") +
+    " (game " + game + ", " + names.join(" – ") + ")") + "\n";
 }
 
 function setAside(fault) {
@@ -193,6 +212,8 @@ function end(kind, begin) {
   report(kind, {
     exportLength: conversion.exportLength, milliseconds: workTime,
     place: conversion.from, file: conversion.name, waiting: files.length,
+    faults: faultLines.length, noted: conversion.forfeits.length,
+    notes: conversion.forfeits.slice(0, MOST_NOTES).map((index) => conversion.row(index)),
   });
   isStopped = false;
 }

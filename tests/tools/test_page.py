@@ -17,7 +17,7 @@ sys.path.insert(0, os.path.dirname(os.path.realpath(__file__)))
 import programs
 from browser import Browser
 from documents import lines_of
-from programs import ROOT, need_program, run
+from programs import PACKERS, ROOT, need_program, run
 from spellings import LEFT, SAFE
 from test_fix import damaged, setUpModule as _set_up_fix
 from test_library import c_structs
@@ -27,6 +27,8 @@ PAGE = ROOT + "/page/out/gillspoon.html"
 PICTURES = ROOT + "/page/out/pictures"
 ARCHIVE_GAMES = 12500
 MEGABYTE = 1000000
+# Keys, as WebDriver names them.
+TAB, ENTER, CONTROL, UP, DOWN = "\ue004", "\ue007", "\ue009", "\ue013", "\ue015"
 INITIAL = "rnbqkbnr/pppppppp/8/8/8/8/PPPPPPPP/RNBQKBNR w KQkq - 0 1"
 
 # Scripts that the tests run in the page.
@@ -95,6 +97,14 @@ PLANT = """
     data.texts = [{name: 'planted', reasons: [33, 34], safe: true, steps: [[...arguments]]}];
     block.textContent = JSON.stringify(data);
 """
+# What is selected in the text field, and where.
+SELECTED = """
+    const field = document.getElementById('paste');
+    return [field.selectionStart, field.value.slice(field.selectionStart, field.selectionEnd)];
+"""
+# The button of a fault that writes missing results.
+MARKERS_TOO = ("[...document.querySelectorAll('#fault button')].find(it => it.innerText === "
+               "'Write missing results, and mend what has one reading')")
 # Notes the longest time in which the page did nothing else, while it is called.
 BEAT = """
     window.longest = 0;
@@ -137,6 +147,31 @@ class Case(unittest.TestCase):
         """Opens files, given as names and bytes, and waits for the end."""
         self.browser.run(OPEN, [[name, as_text(text)] for name, text in files])
         return self.browser.wait_for(IS_SHOWN)
+
+    def open_path(self, path):
+        """Opens a file by its path, as a person does by a dialog."""
+        self.browser.run("delete document.getElementById('work').dataset.shown")
+        field = self.browser.post("/element", {"using": "css selector", "value": "#files"})
+        self.browser.post("/element/%s/value" % next(iter(field.values())), {"text": path})
+
+    def paste(self, text):
+        self.browser.run("delete document.getElementById('work').dataset.shown")
+        self.set("paste", text)
+        self.browser.run(CLICK, "convert-paste")
+        return self.browser.wait_for(IS_SHOWN)
+
+    def press(self, *keys):
+        """Presses keys of the keyboard, in turn; those of a list together."""
+        actions = []
+        for key in keys:
+            chord = key if isinstance(key, list) else [key]
+            actions += [{"type": "keyDown", "value": it} for it in chord]
+            actions += [{"type": "keyUp", "value": it} for it in reversed(chord)]
+        self.browser.post("/actions", {"actions": [
+            {"type": "key", "id": "keys", "actions": actions}]})
+
+    def focused(self):
+        return self.browser.run("return document.activeElement.id")
 
     def set(self, field, value):
         """Sets a field, as a person who types does."""
@@ -293,6 +328,7 @@ class States(Case):
             "c2, d2, f2, g2, h2, e4. Black: king e8; queen d8; rooks a8, h8; bishops c8, f8; "
             "knights b8, g8; pawns e5, a7, b7, c7, d7, f7, g7, h7. White to move."))
         self.assertEqual(self.text("counts"), "1 game, 4 plies.")
+        self.assertEqual(self.text("go-on"), "Skip this game Skip every bad game")
         self.browser.run(CLICK, "go-on-once")
         self.browser.wait_for("return document.getElementById('work').dataset.shown === 'done'")
         self.assertEqual(self.text("counts"), "2 games, 5 plies; 1 bad game set aside.")
@@ -354,6 +390,35 @@ class States(Case):
             ".map(it => it.outerHTML.slice(0, 80))")
         self.assertEqual(wide, [])
 
+    def test_wide_table(self):
+        """At the width of a phone the table scrolls, and the page does not."""
+        self.page(size=(390, 844))
+        self.browser.command("Emulation.setDeviceMetricsOverride", width=390, height=844,
+                             deviceScaleFactor=1, mobile=True)
+        name = "Wolfeschlegelsteinhausenbergerdorff"
+        tags = '[White "%s, Hubert Blaine"]\n[Black "%s"]\n' % (name, name)
+        text = tags + '[Termination "forfeit"]\n\n1. e4 *\n\n' + 2 * (tags + "\n1. e2-e4 *\n\n")
+        file = "archive-of-%s-and-others.pgn" % (3 * name)
+        self.convert((file, text.encode()), ("a%s.zip" % file, b"PK\3\4"))
+        self.browser.run("delete document.getElementById('work').dataset.shown;"
+                         "document.getElementById('go-on-always').click()")
+        self.assertEqual(self.browser.wait_for(IS_SHOWN), "done")
+        self.browser.run(CLICK, "mend")
+        self.browser.wait_for(
+            "return document.getElementById('mending').dataset.state === 'listed'")
+        self.browser.run("document.querySelectorAll('details').forEach(it => it.open = true);"
+                         "document.querySelector('#list button').click()")
+        self.browser.wait_for("return !document.getElementById('game').hidden")
+        self.picture("phone-table")
+        for part in ("chosen", "left-out", "all-faults", "mending", "notes", "list", "game"):
+            self.assertTrue(self.browser.run(IS_VISIBLE, part), part)
+        page, table, shown, moved = self.browser.run(
+            "const it = document.querySelector('.wide'); it.scrollLeft = 20;"
+            "return [document.documentElement.scrollWidth, it.scrollWidth, it.clientWidth,"
+            " it.scrollLeft]")
+        self.assertEqual((page, moved), (390, 20))
+        self.assertGreater(table, shown)
+
 
 class Large(Case):
     """A file of some 20 MB."""
@@ -370,11 +435,6 @@ class Large(Case):
         if ran.returncode:
             raise AssertionError(ran.stderr.decode())
 
-    def open_archive(self):
-        """Opens the archive by its path, as a person does by a dialog."""
-        field = self.browser.post("/element", {"using": "css selector", "value": "#files"})
-        self.browser.post("/element/%s/value" % next(iter(field.values())), {"text": self.archive})
-
     def test_whole(self):
         """The same bytes as the program's, and the page stays alive."""
         program = need_program()
@@ -382,7 +442,7 @@ class Large(Case):
         self.assertGreater(size, 19 * MEGABYTE)
         self.page()
         self.browser.run(BEAT)
-        self.open_archive()
+        self.open_path(self.archive)
         self.browser.wait_for("return document.getElementById('work-bar').value > 0.3")
         self.picture("large-in-work")
         told = self.text("work-text")
@@ -405,11 +465,13 @@ class Large(Case):
 
     def test_stop(self):
         self.page()
-        self.open_archive()
+        self.open_path(self.archive)
         self.browser.wait_for("return document.getElementById('work-bar').value > 0.1 && "
                               "document.getElementById('work-text').innerText.startsWith('Conv')")
-        self.browser.run(CLICK, "stop")
+        self.browser.run("document.getElementById('stop').focus()")
+        self.press(ENTER)
         self.assertEqual(self.browser.wait_for(IS_SHOWN), "stopped")
+        self.assertEqual(self.focused(), "result-title")
         self.assertRegex(self.text("work-text"),
                          r"^Stopped at byte [\d,]+ of large\.pgn, after \d+\.\d s\.$")
         games = self.download("download")[1]
@@ -423,26 +485,11 @@ class Large(Case):
         with open(self.archive, "wb") as file:
             file.write(b"1. e4 {" + b"word " * 2000000 + b"} *\n1. d4 *\n")
         self.page()
-        self.open_archive()
+        self.open_path(self.archive)
         self.assertEqual(self.browser.wait_for(IS_SHOWN), "done")
         self.assertEqual(self.text("counts"), "2 games, 2 plies.")
         exported = run([need_program(), "export", self.archive]).stdout
         self.assertEqual(self.download("download")[1], exported)
-
-    def test_changed_file(self):
-        """A file that is another one by the time it is read again."""
-        self.archive = self.folder + "/changed.pgn"
-        with open(self.archive, "wb") as file:
-            file.write(b"1. e4 *\n")
-        self.page()
-        self.open_archive()
-        self.assertEqual(self.browser.wait_for(IS_SHOWN), "done")
-        with open(self.archive, "wb") as file:
-            file.write(b"1. e4 e5 *\n")
-        self.browser.run("delete document.getElementById('work').dataset.shown")
-        self.set("mode", "reduced")
-        self.assertEqual(self.browser.wait_for(IS_SHOWN), "failed")
-        self.assertEqual(self.text("work-text"), "changed.pgn cannot be read.")
 
     def test_no_memory(self):
         """A file that no memory of 32 bits holds."""
@@ -450,19 +497,160 @@ class Large(Case):
         with open(self.archive, "wb") as file:
             file.truncate(5000 * MEGABYTE)
         self.page()
-        self.open_archive()
+        self.open_path(self.archive)
         self.assertEqual(self.browser.wait_for(IS_SHOWN), "failed")
         self.assertEqual(self.text("work-text"), (
             "sparse.pgn does not fit into the memory that the browser gives to a page. Convert it "
             "in parts, or with the program pgn_tool, which takes under 3 MiB for any size."))
 
 
+class Files(Case):
+    """Files that are chosen."""
+
+    def setUp(self):
+        self.folder = tempfile.mkdtemp()
+        self.addCleanup(shutil.rmtree, self.folder)
+        self.path = self.folder + "/in.pgn"
+
+    def put(self, text):
+        with open(self.path, "wb") as file:
+            file.write(text)
+
+    def convert_again(self):
+        """Chooses another format, for which the file is read again."""
+        self.browser.run("delete document.getElementById('work').dataset.shown")
+        self.set("mode", "reduced")
+        return self.browser.wait_for(IS_SHOWN)
+
+    def test_same_file_again(self):
+        """A file that was mended, and is then chosen a second time."""
+        self.put(b"1. e4 e5 2. Bd4 *\n")
+        self.page()
+        self.open_path(self.path)
+        self.assertEqual(self.browser.wait_for(IS_SHOWN), "refused")
+        self.assertEqual(self.text("chosen"), "Chosen: in.pgn.")
+        self.put(b"1. e4 e5 2. Bc4 *\n")
+        self.open_path(self.path)
+        self.assertEqual(self.browser.wait_for(IS_SHOWN), "done")
+        self.assertEqual(self.text("counts"), "1 game, 3 plies.")
+        self.assertIn(b"2. Bc4 *", self.download("download")[1])
+
+    def test_chosen(self):
+        """The names of the first files."""
+        self.page()
+        self.convert(*(("%d.pgn" % it, b"1. e4 *") for it in range(7)))
+        self.assertEqual(
+            self.text("chosen"),
+            "Chosen: 0.pgn, 1.pgn, 2.pgn, 3.pgn, 4.pgn and 2 more files.")
+        self.convert(("0.pgn", b"1. e4 *"), ("1.pgn", b"1. e4 *"))
+        self.assertEqual(self.text("chosen"), "Chosen: 0.pgn, 1.pgn.")
+        self.paste("1. e4 *")
+        self.assertFalse(self.browser.run(IS_VISIBLE, "chosen"))
+
+    def test_changed_file(self):
+        """A file that is another one by the time it is read again."""
+        self.put(b"1. e4 *\n")
+        self.page()
+        self.open_path(self.path)
+        self.assertEqual(self.browser.wait_for(IS_SHOWN), "done")
+        self.put(b"1. e4 e5 *\n")
+        self.assertEqual(self.convert_again(), "failed")
+        self.assertEqual(self.text("work-text"),
+                         "in.pgn has changed since you chose it. Choose it again.")
+        self.open_path(self.path)
+        self.assertEqual(self.browser.wait_for(IS_SHOWN), "done")
+        self.assertEqual(self.text("counts"), "1 game, 2 plies.")
+
+    def test_file_that_has_gone(self):
+        self.put(b"1. e4 *\n")
+        self.page()
+        self.open_path(self.path)
+        self.assertEqual(self.browser.wait_for(IS_SHOWN), "done")
+        os.remove(self.path)
+        self.assertEqual(self.convert_again(), "failed")
+        self.assertEqual(self.text("work-text"),
+                         "in.pgn is no longer where it was when you chose it. Choose it again.")
+
+    def test_changed_before_it_is_mended(self):
+        """The search for edits reads the file too."""
+        self.put(b"1. e2-e4 *\n")
+        self.page()
+        self.open_path(self.path)
+        self.assertEqual(self.browser.wait_for(IS_SHOWN), "refused")
+        self.put(b"1. e2-e4 e5 *\n")
+        self.browser.run(CLICK, "mend")
+        self.browser.wait_for(
+            "return document.getElementById('mending').dataset.state === 'failed'")
+        self.assertEqual(self.text("mending-text"), (
+            "The edits were not found. in.pgn has changed since you chose it. Choose it again."))
+
+    def test_the_last_choice_counts(self):
+        """Games that are pasted while the page looks at files."""
+        self.page()
+        self.set("paste", "1. e4 e5 *")
+        self.browser.run(OPEN + "document.getElementById('convert-paste').click()",
+                         [["in.pgn", as_text(b"1. e4 e5 2. Bd4 *")]])
+        self.assertEqual(self.browser.wait_for(IS_SHOWN), "done")
+        self.browser.await_script("await new Promise((resolve) => setTimeout(resolve, 300))")
+        self.assertEqual(self.text("counts"), "1 game, 2 plies.")
+        self.assertFalse(self.browser.run(IS_VISIBLE, "chosen"))
+
+    def test_unreadable(self):
+        """A file that the browser has never read."""
+        self.page()
+        self.browser.run("Blob.prototype.arrayBuffer = async () => {"
+                         "throw new DOMException('no', 'NotReadableError'); }")
+        self.assertEqual(self.convert(("in.pgn", b"1. e4 *")), "failed")
+        self.assertEqual(self.text("work-text"), "in.pgn cannot be read.")
+
+    def test_other_kinds(self):
+        """Each is known by its first bytes, and the page says what to do."""
+        self.page()
+        game = b"1. e4 *\n"
+        compressed = ("a is compressed with %s. Unpack it and choose the file that comes out. The "
+                      "command pgn_fmt reads it as it is.")
+        unpack = "Unpack it and choose the PGN files in it"
+        rows = [
+            (PACKERS["gz"](game), compressed % "gzip"), (PACKERS["bz2"](game), compressed % "bzip2"),
+            (PACKERS["xz"](game), compressed % "xz"),
+            # RFC 8878, section 3.1.1: the magic number of a frame, in little-endian order
+            (0xFD2FB528.to_bytes(4, "little") + bytes(8), compressed % "zstd"),
+            (PACKERS["zip"](game), "a is a zip archive or an office document. " + unpack +
+             ", or paste the games as text."),
+            (b"PK\5\6" + bytes(18), "a is an empty zip archive."),
+            (b"7z\xbc\xaf\x27\x1c\0\4", "a is a 7z archive. " + unpack + "."),
+            (b"Rar!\x1a\7\1\0", "a is a RAR archive. " + unpack + "."),
+            (b"%PDF-1.7\n%\xe2\xe3\xcf\xd3\n", "a is a PDF, which has pages in place of PGN text. "
+             "Choose a PGN file, or paste the games as text."),
+        ]
+        for text, said in rows:
+            with self.subTest(said):
+                self.assertEqual(self.convert(("a", text)), "failed")
+                self.assertEqual(self.text("left-out"), said)
+                self.assertEqual(self.text("work-text"), "Nothing was converted.")
+                self.assertEqual(self.focused(), "work-title")
+                self.assertFalse(self.browser.run(IS_VISIBLE, "result"))
+        self.picture("other-kind")
+        # the others of several files are converted
+        self.assertEqual(self.convert(("a", rows[0][0]), ("b", game), ("a", rows[-1][0])), "done")
+        self.assertEqual(self.text("left-out").split("\n"), [rows[0][1], rows[-1][1]])
+        self.assertEqual(self.text("chosen"), "Chosen: b.")
+        self.assertEqual(self.text("counts"), "1 game, 1 ply.")
+        # an escape line, a move and a comment are none of these
+        for text in (b"%PDF\n1. e4 *", b"Rd1 *", b"{PK} *", b""):
+            self.convert(("a", text))
+            self.assertFalse(self.browser.run(IS_VISIBLE, "left-out"), text)
+
+
 class Mending(Case):
     """The button that mends what has one reading."""
 
-    def look(self):
-        """Clicks the button, and gives what is listed: each edit, and the sentence above."""
-        self.browser.run(CLICK, "mend")
+    def look(self, button="document.getElementById('mend')"):
+        """Clicks a button, and gives what is listed: each edit, and the sentence above."""
+        self.browser.run("%s.click()" % button)
+        return self.listed()
+
+    def listed(self):
         self.browser.wait_for(
             "return document.getElementById('mending').dataset.state === 'listed'")
         edits = self.browser.run("return [...document.querySelectorAll('#edits li')]"
@@ -472,12 +660,6 @@ class Mending(Case):
     def apply(self):
         self.browser.run("delete document.getElementById('work').dataset.shown;"
                          "document.getElementById('apply').click()")
-        return self.browser.wait_for(IS_SHOWN)
-
-    def paste(self, text):
-        self.browser.run("delete document.getElementById('work').dataset.shown")
-        self.set("paste", text)
-        self.browser.run(CLICK, "convert-paste")
         return self.browser.wait_for(IS_SHOWN)
 
     def test_spellings(self):
@@ -563,6 +745,58 @@ class Mending(Case):
         self.assertQuiet()
 
 
+    def test_missing_results(self):
+        """The button at such a fault writes them, as pgn_lint --fix --unsafe-fixes does."""
+        first = (b'[Event "a"]\n[Result "0-1"]\n\n1. e4 e5\n\n[Event "b"]\n\n1. e2-e4\n\n'
+                 b'[Event "c"]\n\n1. d4 *\n')
+        second = b'[Result "1/2-1/2"]\r\n\r\n1. d4 d5 ; the end\r\n'
+        self.page()
+        self.assertEqual(self.convert(("one.pgn", first), ("two.pgn", second)), "refused")
+        self.assertIn("Try this: The game before has no result at its end.", self.text("fault"))
+        listed, told = self.look(MARKERS_TOO)
+        self.assertEqual(listed, [
+            "one.pgn: line 4, column 9, no marker: nothing → “ 0-1”",
+            "one.pgn: line 8, column 4, long notation, no marker: “e2-e4” → “e2e4 *”",
+            "two.pgn: line 3, column 19, no marker: nothing → “1/2-1/2”"])
+        self.assertEqual(told, "3 edits in 3 games. All games are then sound.")
+        self.assertEqual(self.apply(), "done")
+        self.assertEqual(self.text("counts"), "4 games, 6 plies.")
+        text = self.download("download")[1]
+        self.assertIn(b"1. e4 e5 0-1\n", text)
+        self.assertIn(b"1. e4 *\n", text)
+        self.assertIn(b"1. d4 d5 { the end } 1/2-1/2\n", text)
+
+    def test_missing_results_are_those_of_pgn_lint(self):
+        """For texts whose markers are cut off at random places: each edit and its place."""
+        with open(ROOT + "/python/gillspoon/fixes.json", encoding="utf-8") as file:
+            data = json.load(file)
+        names = [it["name"] for it in data["moves"] + data["texts"] + data["functions"]
+                 if it.get("safe", True)]
+        rng = random.Random(78)
+        games = [b'[Event "a"]\n[Result "%s"]\n\n1. e4 e5 %s' % (it, it)
+                 for it in (b"1-0", b"0-1", b"1/2-1/2", b"*")]
+        games += [b"1. d4 {one} *", b"1. d4 (1. c4) *", b"1. e4 e5 ;x\n*", b'[White "b"]\n\n*',
+                  b'[Event "c"] {x} [Site "y"]\n\n1. e4 *']
+        self.page()
+        tried = 0
+        for _ in range(60):
+            text = b"\n\n".join(
+                it[:-rng.choice((0, 0, 1, 2, 3, 4, 5, 9))] or it for it in rng.choices(games, k=3))
+            if self.convert(("a.pgn", text)) != "refused":
+                continue
+            if not self.browser.run("return " + MARKERS_TOO):
+                continue
+            listed, _ = self.look(MARKERS_TOO)
+            ran = run([ROOT + "/bin/pgn_lint", "--fix", "--unsafe-fixes", "--select",
+                       ",".join([*names, "no marker"]), "-"], input=text)
+            wanted = re.findall(r"(?m)^<stdin>:(\d+:\d+): fixed(?: \(unsafe\))?: ([^:]*)",
+                                ran.stderr.decode())
+            self.assertEqual(
+                [re.match(r"a\.pgn: line (\d+), column (\d+), ([^:]*):", it).groups() for it in listed],
+                [(*place.split(":"), name) for place, name in wanted], text)
+            tried += any("no marker" in it for it in listed)
+        self.assertGreater(tried, 20)
+
     def test_line_ends_and_heads(self):
         """Rows with CR LF, and tags that no safe fix touches."""
         self.page()
@@ -609,6 +843,171 @@ def shown(text):
     return "“%s”" % text.strip("\r\n").replace("\x1a", "\u241a") if text else "nothing"
 
 
+class Keyboard(Case):
+    """Where the focus is, and what the keys do."""
+
+    def press_on(self, identity, *keys):
+        self.browser.run("delete document.getElementById('work').dataset.shown;"
+                         "document.getElementById(arguments[0]).focus()", identity)
+        self.press(*keys)
+        return self.browser.wait_for(IS_SHOWN)
+
+    def enter_on(self, script):
+        """Presses Enter on a button, and gives the state after the conversion."""
+        self.browser.run("delete document.getElementById('work').dataset.shown; %s.focus()" % script)
+        self.press(ENTER)
+        return self.browser.wait_for(IS_SHOWN)
+
+    def selected(self):
+        return self.browser.run(SELECTED)
+
+    def test_focus_after_each_button(self):
+        """It goes to the heading of what the button results in."""
+        self.page()
+        self.set("paste", "1. e4 *")
+        self.assertEqual(self.press_on("convert-paste", ENTER), "done")
+        self.assertEqual(self.focused(), "result-title")
+        bad = '[Event "x"]\n\n1. e2-e4 *\n\n'
+        self.set("paste", 3 * bad)
+        self.assertEqual(self.press_on("convert-paste", ENTER), "refused")
+        self.assertEqual(self.focused(), "faults-title")
+        self.assertEqual(self.press_on("go-on-once", ENTER), "refused")
+        self.assertEqual(self.focused(), "faults-title")
+        self.assertEqual(self.press_on("go-on-always", ENTER), "done")
+        self.assertEqual(self.focused(), "result-title")
+        self.browser.run("document.querySelector('#other-faults button').focus()")
+        self.press(ENTER)
+        self.assertEqual(self.focused(), "faults-title")
+        self.browser.run("document.getElementById('mend').focus()")
+        self.press(ENTER)
+        self.browser.wait_for(
+            "return document.getElementById('mending').dataset.state === 'listed'")
+        self.assertEqual(self.focused(), "mending-title")
+        self.assertEqual(self.press_on("apply", ENTER), "done")
+        self.assertEqual(self.focused(), "result-title")
+        self.set("paste", "1. e4 1-0")
+        self.assertEqual(self.press_on("convert-paste", ENTER), "refused")
+        self.assertEqual(self.enter_on("document.querySelector('#fault p button')"), "done")
+        self.assertEqual(self.focused(), "result-title")
+        self.browser.run("document.getElementById('open').focus()")
+        self.convert(("in.pgn", b"1. e4 *"))
+        self.assertEqual(self.focused(), "result-title")
+        self.browser.run("document.querySelector('#list button').focus()")
+        self.press(ENTER)
+        self.browser.wait_for("return document.activeElement.id === 'game-title'")
+
+    def test_what_is_seen(self):
+        """Below the heading that gets the focus is room for what it is about."""
+        self.page()
+        self.browser.command("Emulation.setDeviceMetricsOverride", width=1280, height=900,
+                             deviceScaleFactor=1, mobile=False)
+        self.set("paste", "1. e5 *")
+        self.assertEqual(self.press_on("convert-paste", ENTER), "refused")
+        top, style = self.browser.run(
+            "const it = document.activeElement; return [it.getBoundingClientRect().top / innerHeight,"
+            " getComputedStyle(it).outlineStyle]")
+        self.assertEqual((self.focused(), style), ("faults-title", "solid"))
+        self.assertGreater(top, 0)
+        self.assertLess(top, 0.6)
+
+    def test_focus_stays_in_an_option(self):
+        """Its value changes by the arrow keys, and each one converts again."""
+        self.page()
+        for text, state in ((b"1. e4 *", "done"), (b"1. e5 *", "refused")):
+            self.assertEqual(self.convert(("in.pgn", text)), state)
+            for key in (DOWN, UP):
+                self.assertEqual(self.press_on("mode", key), state)
+                self.assertEqual(self.focused(), "mode")
+
+    def test_focus_of_a_person_who_went_on(self):
+        """A conversion that ends takes it from no other field."""
+        self.page()
+        answer = self.browser.await_script(
+            OPEN + "while (document.getElementById('work').hidden) {"
+            "await new Promise((resolve) => setTimeout(resolve)); }"
+            "document.getElementById('fen').focus();"
+            "return document.getElementById('work').dataset.shown || 'in work'",
+            [["in.pgn", as_text(b"1. e4 *\n" * 20000)]])
+        self.assertEqual(answer, {"value": "in work"})
+        self.browser.wait_for(IS_SHOWN)
+        self.assertEqual(self.focused(), "fen")
+
+    def test_last_page_of_the_list(self):
+        """The button that is no longer of use gives the focus to the list."""
+        self.page()
+        self.convert(("in.pgn", b"1. e4 *\n" * 120))
+        for shown, focus in (("Games 51 to 100 of 120", "next"),
+                             ("Games 101 to 120 of 120", "list-title")):
+            self.browser.run("document.getElementById('next').focus()")
+            self.press(ENTER)
+            self.browser.wait_for("return document.getElementById('shown').innerText === "
+                                  "arguments[0]", shown)
+            self.assertEqual(self.focused(), focus)
+
+    def test_keys_in_the_text_field(self):
+        """Ctrl and Enter convert. A fault is selected, so that typing replaces it."""
+        self.page()
+        self.browser.run("document.getElementById('paste').focus()")
+        self.press(*"1. e4 e5 2. Bd4 *")
+        self.assertEqual(self.press_on("paste", [CONTROL, ENTER]), "refused")
+        self.assertEqual((self.focused(), self.selected()), ("paste", [12, "Bd4"]))
+        self.assertEqual(self.text("paste-fault"), "Line 1, column 13: move is not legal.")
+        self.picture("selected")
+        self.press(*"Bc4")
+        self.assertEqual(self.text("paste-fault"), "")
+        self.assertEqual(self.press_on("paste", [CONTROL, ENTER]), "done")
+        self.assertEqual(self.browser.run("return document.getElementById('paste').value"),
+                         "1. e4 e5 2. Bc4 *")
+        self.assertEqual(self.focused(), "result-title")
+        self.assertEqual(self.text("counts"), "1 game, 3 plies.")
+
+    def test_what_is_selected(self):
+        """The word at fault, or the character, in a text with characters of any length."""
+        self.page()
+        for text, selected in (
+                ("1. e4 {\u00e9 \U0001f600} e9 *", [13, "e9"]), ("1. e4 & *", [6, "&"]),
+                ("1. e4 \U0001f600 *", [6, "\U0001f600"]), ("1. e4\n\n1. \u265e *", [10, "\u265e"]),
+                ("1. e4", [5, ""]), ("\ufeff1. e9 *", [4, "e9"]),
+                ('[Result "won"] *', [8, '"'])):
+            with self.subTest(text):
+                self.assertEqual(self.paste(text), "refused")
+                self.assertEqual(self.selected(), selected)
+
+    def test_where_it_is_selected(self):
+        """A button goes to it, and its line is within the field."""
+        self.page()
+        text = "1. e4 *\n" * 300 + "1. e5 *\n" + "1. d4 *\n" * 300
+        self.assertEqual(self.paste(text), "refused")
+        self.browser.run("[...document.querySelectorAll('#fault button')].find(it => "
+                         "it.innerText === 'Show it in the text field').focus()")
+        self.press(ENTER)
+        self.assertEqual((self.focused(), self.selected()), ("paste", [300 * 8 + 3, "e5"]))
+        seen = self.browser.run(
+            "const field = document.getElementById('paste'), box = field.getBoundingClientRect(),"
+            " line = parseFloat(getComputedStyle(field).lineHeight);"
+            "return [300 * line - field.scrollTop, field.clientHeight - line, box.top,"
+            " innerHeight - box.bottom];")
+        self.assertGreater(seen[0], 0)
+        self.assertLess(seen[0], seen[1])
+        self.assertGreaterEqual(min(seen[2:]), 0)
+
+    def test_text_that_is_another_one(self):
+        """In it nothing is selected."""
+        self.page()
+        self.assertEqual(self.paste("1. e5 *"), "refused")
+        self.assertEqual(self.selected(), [3, "e5"])
+        self.set("paste", "1. d4 d5 2. c4 *")
+        self.browser.run("document.getElementById('paste').setSelectionRange(0, 1);"
+                         "delete document.getElementById('work').dataset.shown")
+        self.set("mode", "reduced")
+        self.assertEqual(self.browser.wait_for(IS_SHOWN), "refused")
+        self.assertEqual((self.selected(), self.text("paste-fault")), ([0, "1"], ""))
+        # a file may have the name that the page gives to the text
+        self.assertEqual(self.convert(("pasted games", b"1. e5 *")), "refused")
+        self.assertEqual((self.selected(), self.text("paste-fault")), ([0, "1"], ""))
+        self.assertNotIn("Show it", self.text("fault"))
+
+
 class Rest(Case):
     def test_worker_that_reads_no_file(self):
         """A browser that lets the page alone read its files, as WebKit does with one on a disk."""
@@ -624,6 +1023,13 @@ class Rest(Case):
                                       ("two.pgn", example("two-games"))), "done")
         self.assertEqual(self.text("counts"), "3 games, 7 plies.")
         self.assertIn(b"Qxf7#", self.download("download")[1])
+
+    def test_tags_with_other_names(self):
+        """The list has numbers and plies, whatever the tags are."""
+        self.page()
+        self.convert(("in.pgn", b'[number "x"] [plies "y"] 1. e4 e5 *'))
+        rows = self.browser.run("return document.querySelector('#list tr').innerText")
+        self.assertEqual(rows.split("\t"), ["1", "?", "?", "*", "2"])
 
     def test_any_bytes(self):
         """Latin-1 is shown as such, and the bytes stay."""
@@ -682,6 +1088,135 @@ class Rest(Case):
         self.browser.wait_for(IS_SHOWN)
         self.assertTrue(self.download("download")[1].decode().endswith(
             "\n\n1. e4 e5 2. Bc4 Nc6 3. Qh5 Nf6 4. Qxf7# 1-0\n\n"))
+
+    def told_by_pgn_lint(self, text, *words):
+        """What pgn_lint writes for a file a.pgn."""
+        with tempfile.TemporaryDirectory() as folder:
+            with open(folder + "/a.pgn", "wb") as file:
+                file.write(text)
+            ran = run([ROOT + "/bin/pgn_lint", *words, "a.pgn"], cwd=folder)
+        self.assertEqual(ran.stderr, b"")
+        return ran.stdout.decode()
+
+    def test_results_of_a_forfeit(self):
+        """The note of pgn_lint stands at the fault, and in the list."""
+        note = ("Of a forfeit PGN 8.1.1.7 has the result alone, * if there is no winner; a Termination "
+                "tag says why.")
+        self.page()
+        self.assertEqual(self.convert(("a.pgn", b'[Result "+:-"]\n\n*\n')), "refused")
+        self.assertIn(note, self.text("fault").split("\n"))
+        self.assertIn("Try this: Write 1-0, 0-1 or * alone, and the reason into a Termination tag.",
+                      self.text("fault"))
+        self.convert(("a.pgn", b'[Result "won"]\n\n*\n'))
+        self.assertNotIn("forfeit", self.text("fault"))
+        values = ("+:-", "-:+", "+ / -", "+-", "-:-", "1-0F", "0-1f", "1F-0F", "1 - 0 F", "0-0", "0:0",
+                  "1-0 forfeit", "Forfeit", "won by default", "won", "1/2", "?", "", "1-0-0", "0-1-0",
+                  " +:- ", "walkover", "W.O.", "0 - 1", "1F - 0", "F", "--", "++", "no show")
+        text = "".join('[Event "x"]\n[Result "%s"]\n\n1. e4 *\n\n' % it for it in values).encode()
+        self.convert(("a.pgn", text))
+        self.browser.run("delete document.getElementById('work').dataset.shown;"
+                         "document.getElementById('go-on-always').click()")
+        self.browser.wait_for(IS_SHOWN)
+        lines = self.download("download-faults")[1].decode()
+        self.assertEqual(lines.count("of a forfeit"), lines.count(note[3:-1]))
+        self.assertEqual(lines, self.told_by_pgn_lint(text, "--quiet"))
+
+    def test_terminations_of_a_forfeit(self):
+        """Sound games with other words for it are named, as pgn_lint does."""
+        self.page()
+        self.convert(("a.pgn", (
+            b'[White "Ada"]\n[Termination "won by forfeit"]\n\n*\n'
+            b'[Termination "time forfeit"]\n\n*\n')))
+        self.picture("forfeit")
+        self.assertEqual(self.text("notes"), (
+            "Notes\nIn 1 game the Termination is not time forfeit, or another word of the standard "
+            "(PGN 9.8.1).\nGame 1, “Ada” against “?” “won by forfeit”"))
+        self.browser.run("document.querySelector('#notes button').click()")
+        self.browser.wait_for("return !document.getElementById('game').hidden")
+        self.assertEqual(self.text("game-title"), "Game 1")
+        values = ("won by forfeit", "Forfeit", "time forfeit of both", "default", "no show", "noshow",
+                  r"a \"walkover\"", "walk-over", "abandoned", "adjudication", "death", "emergency",
+                  "normal", "rules infraction", "time forfeit", "unterminated", "Time forfeit",
+                  "Ada won by resignation", "", r"a \"draw\"", "DEFAULT", "forfait", "time forfeit ",
+                  "caf\u00e9 forfeit")
+        games = ['[Event "x"]\n[Termination "%s"]\n\n1. e4 *\n\n' % it for it in values]
+        # a line of a comment is no tag, and neither is one of another name
+        comment = "{" + " ".join(['[Termination "forfeit"]'] * 9) + "}"
+        games += ["1. e4 %s *\n\n" % comment, '[TERMINATION "forfeit"]\n\n*\n\n']
+        text = "".join(games).encode()
+        self.assertEqual(self.convert(("a.pgn", text)), "done")
+        self.assertIn('\n[Termination "forfeit"]',
+                      self.browser.run("return document.getElementById('export').textContent"))
+        listed = self.browser.run("return [...document.querySelectorAll('#notes button')]"
+                                  ".map(it => it.innerText)")
+        records = map(json.loads, self.told_by_pgn_lint(text, "--json").splitlines())
+        wanted = ["Game %d" % it["game"] for it in records
+                  if it["kind"] == "warning" and it["reason"].startswith("Termination is not time "
+                                                                         "forfeit")]
+        self.assertGreater(len(wanted), 8)
+        self.assertEqual(listed, wanted)
+        self.convert(("a.pgn", b"1. e4 *"))
+        self.assertFalse(self.browser.run(IS_VISIBLE, "notes"))
+
+    def test_many_terminations(self):
+        """They are counted through all parts of an export, and the first 100 games are listed."""
+        one, other = b"*\n" * 25000, b'[Termination "default"]\n\n*\n'
+        self.page()
+        self.assertEqual(self.convert(("a.pgn", one + other + one), ("b.pgn", other * 100)), "done")
+        self.assertGreater(self.browser.run("return document.getElementById('export-note').innerText"
+                                            ".match(/of ([0-9.]+) MB/)[1]"), "4.3")
+        self.assertEqual(self.text("notes-text"), (
+            "In 101 games the Termination is not time forfeit, or another word of the standard "
+            "(PGN 9.8.1). The first 100 are listed."))
+        listed = self.browser.run("return [...document.querySelectorAll('#notes button')]"
+                                  ".map(it => it.innerText)")
+        self.assertEqual(listed, ["Game 25001"] + ["Game %d" % it for it in range(50002, 50101)])
+
+    def test_list_of_faults(self):
+        """Each has its game and its players, and the download has the lines of pgn_lint."""
+        files = (
+            ("a.pgn", '[White "Silva, J."]\n[Black "Nowak, A."]\n\n1. e4 e5 2. Bd4 *\n\n'
+             '[Event "b"]\n\n1. e4 *\n\n[White "M\u00fcller"]\n\n1. e4 {\u00e9} e9 *\n'.encode()),
+            ("b.pgn", b'[Event "x"]\n\n1. e5 *\n\n[Result "+:-"]\n[Black "J\xf6rg \\"J\\""]\n\n*\n'))
+        self.page()
+        self.assertEqual(self.convert(*files), "refused")
+        self.assertFalse(self.browser.run(IS_VISIBLE, "all-faults"))
+        self.browser.run("delete document.getElementById('work').dataset.shown;"
+                         "document.getElementById('go-on-always').click()")
+        self.assertEqual(self.browser.wait_for(IS_SHOWN), "done")
+        self.picture("list-of-faults")
+        listed = self.browser.run("return [...document.querySelectorAll('#other-faults button')]"
+                                  ".map(it => it.innerText)")
+        self.assertEqual(listed, [
+            "Game 1, “Silva, J.” against “Nowak, A.”: a.pgn, line 4, column 13: move is not legal",
+            "Game 3, “Müller” against “?”: a.pgn, line 12, column 11: not a move",
+            "Game 1: b.pgn, line 3, column 4: move is not legal",
+            "Game 2, “?” against “Jörg \"J\"”: b.pgn, line 5, column 9: bad result value"])
+        self.assertEqual(self.text("all-faults-text"), "4 faults.")
+        name, lines = self.download("download-faults")
+        self.assertEqual(name, "games.faults.txt")
+        with tempfile.TemporaryDirectory() as folder:
+            for name, text in files:
+                with open(folder + "/" + name, "wb") as file:
+                    file.write(text)
+            told = run([ROOT + "/bin/pgn_lint", "--quiet", "a.pgn", "b.pgn"], cwd=folder)
+        self.assertEqual((told.returncode, told.stderr), (1, b""))
+        self.assertEqual(lines.decode().split("\n"), told.stdout.decode().split("\n"))
+
+    def test_many_faults(self):
+        """The first 500 are listed, and the download has all."""
+        self.page()
+        self.convert(("in.pgn", b'[Event "x"]\n\n1. e5 *\n\n' * 501))
+        self.browser.run("delete document.getElementById('work').dataset.shown;"
+                         "document.getElementById('go-on-always').click()")
+        self.assertEqual(self.browser.wait_for(IS_SHOWN), "done")
+        self.assertEqual(
+            self.browser.run("return document.querySelectorAll('#other-faults li').length"), 500)
+        self.assertEqual(self.text("all-faults-text"),
+                         "The first 500 of 501 faults are listed. The download has all.")
+        lines = self.download("download-faults")[1].decode().splitlines()
+        self.assertEqual(lines, ["in.pgn:%d:4: move is not legal (game %d, ? – ?)" % (4 * it + 3, it + 1)
+                                 for it in range(501)])
 
     def test_several_faults(self):
         """Each fault is listed, and opens."""
@@ -794,7 +1329,11 @@ class Rest(Case):
                 (b'[Site "a"][Site "a"] *', "take out the second one"),
                 (b'[Result "?"] 1. e4 1-0', "A Result is one of 1-0, 0-1, 1/2-1/2"),
                 (b'[FEN "4k3/8/8/8/8/8/8/4K3 w - - 0 1 "] *', "the field below"),
-                (b"1. e4 e5", "no result at its end"), (b'1. e4\n[Event "a"]', "no result"),
+                (b"1. e4 e5", "The last game has no result at its end. It has to end with 1-0, 0-1, "
+                 "1/2-1/2 or *. The button “Write missing results, and mend what has one reading” "
+                 "writes what the Result tag says, or * without one."),
+                (b'1. e4\n[Event "a"]', "The game before has no result at its end."),
+                (b'[White "a"] {c} [Black "b"] *', "A comment is between two tags."),
                 (b'[Event "The "Open""] *', "quote"), (b"\xff\xfee\x004\x00", "UTF-16"),
                 (b"1. e4 *\x1a", "byte 26"), (b"g1f3 *", "Ng1f3")):
             with self.subTest(text):
@@ -822,11 +1361,10 @@ class Rest(Case):
             "return [...document.querySelectorAll('button, input, select, textarea')]"
             ".filter(it => it.offsetParent && !it.disabled && it.id).map(it => it.id)"))
         self.browser.run("document.activeElement.blur(); scrollTo(0, 0)")
-        reached, key = set(), {"actions": [{"type": "key", "id": "keys", "actions": [
-            {"type": "keyDown", "value": "\ue004"}, {"type": "keyUp", "value": "\ue004"}]}]}
+        reached = set()
         for _ in range(60):
-            self.browser.post("/actions", key)
-            reached.add(self.browser.run("return document.activeElement.id"))
+            self.press(TAB)
+            reached.add(self.focused())
         self.assertEqual(wanted - reached, set())
         nameless = self.browser.run(
             "return [...document.querySelectorAll('button, input, select, textarea')].filter(it => "
@@ -878,6 +1416,23 @@ class Builder(unittest.TestCase):
                          {"http://www.w3.org/2000/svg"})
         elsewhere = r"<(?:link|img|iframe|object)\b|\bsrc=|@import|url\("
         self.assertEqual(re.findall(elsewhere, text), [])
+
+    def test_order(self):
+        """Each part of a script is behind those that it imports: constants are made of theirs."""
+        with open(self.folder + "/module", "wb") as file:
+            file.write(b"\0asm\1\0\0\0")
+        out = self.folder + "/page.html"
+        self.assertEqual(self.build("--module", self.folder + "/module", out)[0], 0)
+        with open(out, encoding="utf-8") as file:
+            scripts = re.findall(r'<script(?: type="text/plain" id="worker")?>(.*?)</script>',
+                                 file.read(), re.S)
+        orders = [re.findall(r"(?m)^// ---- (\w+)$", it) for it in scripts]
+        self.assertEqual([it[-1] for it in orders if it], ["worker", "app"])
+        for order in orders:
+            for at, name in enumerate(order):
+                with open("%s/page/%s.js" % (ROOT, name), encoding="utf-8") as file:
+                    imports = re.findall(r'(?m) from "\./(\w+)\.js";$', file.read())
+                self.assertLessEqual(set(imports), set(order[:at]), name)
 
     def test_structs(self):
         """Those of the JavaScript are those of the header."""
