@@ -66,7 +66,7 @@ const ADVICE = [
     "A game has one pair of each name: take out the second one. The button “Mend what has one " +
     "reading” does it if both values are equal."],
   [(it) => it.number === 25 && it.note,
-    "Write 1-0, 0-1 or * alone, and the reason into a Termination tag."],
+    "Write 1-0, 0-1 or * alone, and put the reason into a Termination tag."],
   [(it) => it.number === 25,
     "A Result is one of " + RESULTS + ". The button “Mend what has one reading” writes it if the " +
     "value is empty, a question mark, or another spelling of a result."],

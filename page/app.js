@@ -97,6 +97,7 @@ class Page {
     if (!files.length) {
       return;
     }
+    this.endWorkers();
     this.chosen = files;
     const kinds = await Promise.all(files.map((it) => this.kindOf(it)));
     // other files may have been chosen, or games pasted, while these were looked at
@@ -134,12 +135,7 @@ class Page {
     this.chosen = null;
     this.faults.begin();
     this.pasted.begin(this.job.pasted);
-    for (const worker of [this.worker, this.mender]) {
-      if (worker) {
-        worker.terminate();
-      }
-    }
-    this.mender = null;
+    this.endWorkers();
     this.showWork(movesFocus);
     this.showChosen();
     if (this.files.length) {
@@ -147,6 +143,15 @@ class Page {
     } else {
       this.failed({ reason: "none" });
     }
+  }
+
+  endWorkers() {
+    for (const worker of [this.worker, this.mender]) {
+      if (worker) {
+        worker.terminate();
+      }
+    }
+    this.mender = null;
   }
 
   showChosen() {

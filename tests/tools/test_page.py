@@ -1105,8 +1105,8 @@ class Rest(Case):
         self.page()
         self.assertEqual(self.convert(("a.pgn", b'[Result "+:-"]\n\n*\n')), "refused")
         self.assertIn(note, self.text("fault").split("\n"))
-        self.assertIn("Try this: Write 1-0, 0-1 or * alone, and the reason into a Termination tag.",
-                      self.text("fault"))
+        self.assertIn("Try this: Write 1-0, 0-1 or * alone, and put the reason into a Termination "
+                      "tag.", self.text("fault"))
         self.convert(("a.pgn", b'[Result "won"]\n\n*\n'))
         self.assertNotIn("forfeit", self.text("fault"))
         values = ("+:-", "-:+", "+ / -", "+-", "-:-", "1-0F", "0-1f", "1F-0F", "1 - 0 F", "0-0", "0:0",
