@@ -157,8 +157,8 @@ export class Conversion {
     this.used = 0;
   }
 
-  // Notes the games of a chunk of the export text that tell of a forfeit in other words. A chunk has
-  // whole games.
+  // Notes the games of a chunk of the export text that tell of a forfeit in other words. A chunk
+  // has whole games.
   noteForfeits(chunk, begin) {
     for (const at of terminationsIn(chunk)) {
       const index = lastUpTo(this.starts, begin + at);

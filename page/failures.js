@@ -1,15 +1,15 @@
 // Why a conversion has failed, in sentences.
 
 const SENTENCES = {
-  memory: " does not fit into the memory that the browser gives to a page. Convert it in parts, or " +
-    "with the program pgn_tool, which takes under 3 MiB for any size.",
+  memory: " does not fit into the memory that the browser gives to a page. Convert it in parts, " +
+    "or with the program pgn_tool, which takes under 3 MiB for any size.",
   read: " cannot be read.",
   changed: " has changed since you chose it. Choose it again.",
   gone: " is no longer where it was when you chose it. Choose it again.",
 };
 
-// The reason of a read that failed, by the error's name. Of a file that was read before, the browser
-// refuses what is not what the person chose.
+// The reason of a read that failed, by the error's name. What was read before, and is refused now,
+// is not what the person chose.
 export function reasonOfRead(name, wasRead) {
   return name === "NotFoundError" ? "gone" : wasRead ? "changed" : "read";
 }

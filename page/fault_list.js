@@ -3,7 +3,7 @@ import { button, buttonLine, byId, counted, item } from "./elements.js";
 import { faultView, gameAndPlayers } from "./fault_view.js";
 
 export class FaultList {
-  // `take` is called with the option that the advice names, and `pasted` has the games of the field.
+  // `pasted` has the games of the text field. `take` is called with what the advice offers.
   constructor(pasted, take) {
     this.pasted = pasted;
     this.take = take;

@@ -611,7 +611,8 @@ class Files(Case):
                       "command pgn_fmt reads it as it is.")
         unpack = "Unpack it and choose the PGN files in it"
         rows = [
-            (PACKERS["gz"](game), compressed % "gzip"), (PACKERS["bz2"](game), compressed % "bzip2"),
+            (PACKERS["gz"](game), compressed % "gzip"),
+            (PACKERS["bz2"](game), compressed % "bzip2"),
             (PACKERS["xz"](game), compressed % "xz"),
             # RFC 8878, section 3.1.1: the magic number of a frame, in little-endian order
             (0xFD2FB528.to_bytes(4, "little") + bytes(8), compressed % "zstd"),
@@ -792,7 +793,8 @@ class Mending(Case):
             wanted = re.findall(r"(?m)^<stdin>:(\d+:\d+): fixed(?: \(unsafe\))?: ([^:]*)",
                                 ran.stderr.decode())
             self.assertEqual(
-                [re.match(r"a\.pgn: line (\d+), column (\d+), ([^:]*):", it).groups() for it in listed],
+                [re.match(r"a\.pgn: line (\d+), column (\d+), ([^:]*):", it).groups()
+                 for it in listed],
                 [(*place.split(":"), name) for place, name in wanted], text)
             tried += any("no marker" in it for it in listed)
         self.assertGreater(tried, 20)
@@ -854,7 +856,8 @@ class Keyboard(Case):
 
     def enter_on(self, script):
         """Presses Enter on a button, and gives the state after the conversion."""
-        self.browser.run("delete document.getElementById('work').dataset.shown; %s.focus()" % script)
+        self.browser.run(
+            "delete document.getElementById('work').dataset.shown; %s.focus()" % script)
         self.press(ENTER)
         return self.browser.wait_for(IS_SHOWN)
 
@@ -904,7 +907,8 @@ class Keyboard(Case):
         self.set("paste", "1. e5 *")
         self.assertEqual(self.press_on("convert-paste", ENTER), "refused")
         top, style = self.browser.run(
-            "const it = document.activeElement; return [it.getBoundingClientRect().top / innerHeight,"
+            "const it = document.activeElement;"
+            "return [it.getBoundingClientRect().top / innerHeight,"
             " getComputedStyle(it).outlineStyle]")
         self.assertEqual((self.focused(), style), ("faults-title", "solid"))
         self.assertGreater(top, 0)
@@ -1100,8 +1104,8 @@ class Rest(Case):
 
     def test_results_of_a_forfeit(self):
         """The note of pgn_lint stands at the fault, and in the list."""
-        note = ("Of a forfeit PGN 8.1.1.7 has the result alone, * if there is no winner; a Termination "
-                "tag says why.")
+        note = ("Of a forfeit PGN 8.1.1.7 has the result alone, * if there is no winner; a "
+                "Termination tag says why.")
         self.page()
         self.assertEqual(self.convert(("a.pgn", b'[Result "+:-"]\n\n*\n')), "refused")
         self.assertIn(note, self.text("fault").split("\n"))
@@ -1109,10 +1113,11 @@ class Rest(Case):
                       "tag.", self.text("fault"))
         self.convert(("a.pgn", b'[Result "won"]\n\n*\n'))
         self.assertNotIn("forfeit", self.text("fault"))
-        values = ("+:-", "-:+", "+ / -", "+-", "-:-", "1-0F", "0-1f", "1F-0F", "1 - 0 F", "0-0", "0:0",
-                  "1-0 forfeit", "Forfeit", "won by default", "won", "1/2", "?", "", "1-0-0", "0-1-0",
-                  " +:- ", "walkover", "W.O.", "0 - 1", "1F - 0", "F", "--", "++", "no show")
-        text = "".join('[Event "x"]\n[Result "%s"]\n\n1. e4 *\n\n' % it for it in values).encode()
+        values = ("+:-", "-:+", "+ / -", "+-", "-:-", "1-0F", "0-1f", "1F-0F", "1 - 0 F", "0-0",
+                  "0:0", "1-0 forfeit", "Forfeit", "won by default", "won", "1/2", "?", "", "1-0-0",
+                  "0-1-0", " +:- ", "walkover", "W.O.", "0 - 1", "1F - 0", "F", "--", "++", "no show")
+        game = '[Event "x"]\n[Result "%s"]\n\n1. e4 *\n\n'
+        text = "".join(game % it for it in values).encode()
         self.convert(("a.pgn", text))
         self.browser.run("delete document.getElementById('work').dataset.shown;"
                          "document.getElementById('go-on-always').click()")
@@ -1134,11 +1139,11 @@ class Rest(Case):
         self.browser.run("document.querySelector('#notes button').click()")
         self.browser.wait_for("return !document.getElementById('game').hidden")
         self.assertEqual(self.text("game-title"), "Game 1")
-        values = ("won by forfeit", "Forfeit", "time forfeit of both", "default", "no show", "noshow",
-                  r"a \"walkover\"", "walk-over", "abandoned", "adjudication", "death", "emergency",
-                  "normal", "rules infraction", "time forfeit", "unterminated", "Time forfeit",
-                  "Ada won by resignation", "", r"a \"draw\"", "DEFAULT", "forfait", "time forfeit ",
-                  "caf\u00e9 forfeit")
+        values = ("won by forfeit", "Forfeit", "time forfeit of both", "default", "no show",
+                  "noshow", r"a \"walkover\"", "walk-over", "abandoned", "adjudication", "death",
+                  "emergency", "normal", "rules infraction", "time forfeit", "unterminated",
+                  "Time forfeit", "Ada won by resignation", "", r"a \"draw\"", "DEFAULT",
+                  "forfait", "time forfeit ", "caf\u00e9 forfeit")
         games = ['[Event "x"]\n[Termination "%s"]\n\n1. e4 *\n\n' % it for it in values]
         # a line of a comment is no tag, and neither is one of another name
         comment = "{" + " ".join(['[Termination "forfeit"]'] * 9) + "}"
@@ -1163,8 +1168,8 @@ class Rest(Case):
         one, other = b"*\n" * 25000, b'[Termination "default"]\n\n*\n'
         self.page()
         self.assertEqual(self.convert(("a.pgn", one + other + one), ("b.pgn", other * 100)), "done")
-        self.assertGreater(self.browser.run("return document.getElementById('export-note').innerText"
-                                            ".match(/of ([0-9.]+) MB/)[1]"), "4.3")
+        size = re.search(r"of ([0-9.]+) MB", self.text("export-note"))[1]
+        self.assertGreater(float(size), 4.3)
         self.assertEqual(self.text("notes-text"), (
             "In 101 games the Termination is not time forfeit, or another word of the standard "
             "(PGN 9.8.1). The first 100 are listed."))
@@ -1177,7 +1182,8 @@ class Rest(Case):
         files = (
             ("a.pgn", '[White "Silva, J."]\n[Black "Nowak, A."]\n\n1. e4 e5 2. Bd4 *\n\n'
              '[Event "b"]\n\n1. e4 *\n\n[White "M\u00fcller"]\n\n1. e4 {\u00e9} e9 *\n'.encode()),
-            ("b.pgn", b'[Event "x"]\n\n1. e5 *\n\n[Result "+:-"]\n[Black "J\xf6rg \\"J\\""]\n\n*\n'))
+            ("b.pgn", b'[Event "x"]\n\n1. e5 *\n\n'
+             b'[Result "+:-"]\n[Black "J\xf6rg \\"J\\""]\n\n*\n'))
         self.page()
         self.assertEqual(self.convert(*files), "refused")
         self.assertFalse(self.browser.run(IS_VISIBLE, "all-faults"))
@@ -1215,8 +1221,9 @@ class Rest(Case):
         self.assertEqual(self.text("all-faults-text"),
                          "The first 500 of 501 faults are listed. The download has all.")
         lines = self.download("download-faults")[1].decode().splitlines()
-        self.assertEqual(lines, ["in.pgn:%d:4: move is not legal (game %d, ? – ?)" % (4 * it + 3, it + 1)
-                                 for it in range(501)])
+        self.assertEqual(lines, [
+            "in.pgn:%d:4: move is not legal (game %d, ? – ?)" % (4 * it + 3, it + 1)
+            for it in range(501)])
 
     def test_several_faults(self):
         """Each fault is listed, and opens."""
