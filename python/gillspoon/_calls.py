@@ -3,32 +3,35 @@ import ctypes
 from typing import NamedTuple, Tuple
 
 from . import _library
+from ._described import described
 from ._faults import FenFault, MoveFault
 
 
 _san = _library.san
 
 
+@described(san="The move in SAN, with its mark of check or mate.",
+           fen="The FEN of the position after it.")
 class Played(NamedTuple):
-    """A move that was played: its SAN, and the FEN of the position after it."""
+    """A move that was played."""
 
     san: str
     fen: str
 
 
+@described(piece="The piece: `K`, `Q`, `R`, `B`, `N` or `P`.",
+           target="The square it goes to, such as `e4`; with castling that of the king.",
+           castling="`O-O` or `O-O-O` if the text says so, else empty.",
+           legal="The squares from which such a piece may go there.",
+           exposing="Those from which it could, but its own king would be in check.")
 class Explanation(NamedTuple):
     """What the text of a move means in a position, by the rules of movement."""
 
     piece: str
-    """The piece: `K`, `Q`, `R`, `B`, `N` or `P`."""
     target: str
-    """The square it goes to, such as `e4`; with castling that of the king."""
     castling: str
-    """`O-O` or `O-O-O` if the text says so, else empty."""
     legal: Tuple[str, ...]
-    """The squares from which such a piece may go there."""
     exposing: Tuple[str, ...]
-    """Those from which it could, but its own king would be in check."""
 
 
 def normalize_fen(fen: str) -> str:

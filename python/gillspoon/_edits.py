@@ -1,6 +1,7 @@
 """The edits that mend a source. What makes them is imported when there is something to mend."""
 from typing import TYPE_CHECKING, Callable, Iterator, List, NamedTuple, Optional, Sequence
 
+from ._described import described
 from ._faults import PgnFault
 from ._games import Game, Reader
 from ._sections import game_in_comment
@@ -14,25 +15,25 @@ UNCLOSED_COMMENT = 12
 STEP = 256
 
 
+@described(game="The number of the game, from 1.",
+           line="The line where the edit begins, from 1.",
+           column="The column where it begins, in characters from 1.",
+           offset="How many bytes of the source are before it.",
+           old="The bytes that are replaced.",
+           new="The bytes that are written in their place.",
+           name="The name of the fix; of several in one edit the names with commas.",
+           safe="Whether the text has one reading, and nothing is lost.")
 class Edit(NamedTuple):
     """An edit of a source, in which bytes are replaced."""
 
     game: int
-    """The number of the game, from 1."""
     line: int
-    """The line where the edit begins, from 1."""
     column: int
-    """Its column in characters, from 1."""
     offset: int
-    """How many bytes of the source are before it."""
     old: bytes
-    """What is replaced."""
     new: bytes
-    """What is written in its place."""
     name: str
-    """The name of the fix; of several in one edit the names with commas."""
     safe: bool
-    """Whether the text has one reading, and nothing is lost."""
 
 
 class Choice(NamedTuple):

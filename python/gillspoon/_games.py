@@ -8,6 +8,7 @@ from itertools import chain
 from typing import Callable, Deque, Iterator, List, Mapping, NamedTuple, Optional, Tuple
 
 from . import _calls, _library
+from ._described import described
 from ._faults import PgnFault
 from ._moves import Line, Ply, read_moves, read_tags, write_moves, write_tags
 from ._places import BYTE_ORDER_MARK
@@ -29,8 +30,10 @@ _EMPTY_LINES = re.compile(rb"[\t-\r ]*(?:\n|\r(?=[^\n]))")
 _TEXT = re.compile(rb"[^\t-\r ]")
 
 
+@described(games="How many games the source has.",
+           plies="How many plies these have, without variations.")
 class Totals(NamedTuple):
-    """How many games a source has, and how many plies these have without variations."""
+    """How many games a source has, and how many plies."""
 
     games: int
     plies: int
@@ -46,24 +49,23 @@ class Game:
     2 ? 1-0 1
     """
 
-    __slots__ = ("number", "offset", "end", "result", "plies", "fen", "text", "_tags", "_moves")
+    __slots__ = {
+        "number": "The number of the game in its source, from 1; bad games count too.",
+        "offset": "How many bytes of the source are before it. Comments just before it, and lines "
+                  "that begin with `%`, are its own.",
+        "end": "How many bytes of the source there are up to its end, with its termination marker.",
+        "result": "The result, which is the termination marker at its end.",
+        "plies": "How many plies the game has, without variations.",
+        "fen": "The FEN of its last position.",
+        "text": "The game in export format, as bytes, with an empty line at its end.",
+        "_tags": None,
+        "_moves": None,
+    }
 
     def __init__(self, number: int, offset: int, end: int, result: str, plies: int, fen: str,
                  text: bytes) -> None:
-        self.number = number
-        """The number of the game in its source, from 1; bad games count too."""
-        self.offset = offset
-        """How many bytes of the source are before it; comments just before it are its own."""
-        self.end = end
-        """How many bytes of the source there are up to its end, with its termination marker."""
-        self.result = result
-        """The result, which is the termination marker at its end."""
-        self.plies = plies
-        """How many plies the game has, without variations."""
-        self.fen = fen
-        """The FEN of its last position."""
-        self.text = text
-        """The game in export format, with an empty line at its end."""
+        self.number, self.offset, self.end = number, offset, end
+        self.result, self.plies, self.fen, self.text = result, plies, fen, text
         self._tags: "Optional[dict[str, str]]" = None
         self._moves: Optional[Line] = None
 

@@ -16,15 +16,18 @@ _WORD = re.compile("[^\t-\r ]+")
 class Ply:
     """A move of a game, with the position after it and what is noted behind it."""
 
-    __slots__ = ("number", "san", "notes", "_before", "_fen")
+    __slots__ = {
+        "number": "How many plies of its game it is, from 1; the first one of a variation has that "
+                  "of the move it replaces.",
+        "san": "The move in SAN, with its mark of check or mate: `Nf3`, `exd8=Q#`.",
+        "notes": "NAGs (int), comments (str) and variations (Line) behind the move, in order.",
+        "_before": None,
+        "_fen": None,
+    }
 
     def __init__(self, number: int, san: str, before: "Union[Ply, str]") -> None:
-        self.number = number
-        """How many plies of its game it is, from 1; in a variation that of the move it replaces."""
-        self.san = san
-        """The move in SAN, with its mark of check or mate: `Nf3`, `exd8=Q#`."""
+        self.number, self.san = number, san
         self.notes: List[Note] = []
-        """NAGs, comments and variations behind the move, in order."""
         self._before = before
         self._fen: Optional[str] = None
 
@@ -74,15 +77,16 @@ class Line:
     It is iterated over its plies.
     """
 
-    __slots__ = ("notes", "plies", "start")
+    __slots__ = {
+        "notes": "NAGs (int) and comments (str) before the first move.",
+        "plies": "The moves of this line: a list of Ply.",
+        "start": "The Ply before the line; where there is none, the FEN of its position.",
+    }
 
     def __init__(self, start: "Union[Ply, str]") -> None:
         self.notes: List[Note] = []
-        """NAGs and comments before the first move."""
         self.plies: List[Ply] = []
-        """The moves of this line."""
         self.start = start
-        """The move that comes before the line; where there is none, the FEN of its position."""
 
     def __iter__(self) -> Iterator[Ply]:
         return iter(self.plies)

@@ -11,6 +11,7 @@ import json
 import mmap
 import os
 import pickle
+import pydoc
 import random
 import re
 import shutil
@@ -996,6 +997,9 @@ class Wheel(Folder):
         self.assertEqual(ran.stdout.decode().count(self.folder + "/venv/lib/"), 2, ran.stderr)
         with open(ROOT + "/README.md", encoding="utf-8") as file:
             self.assertIn("import gillspoon\nfor game in gillspoon.games(", file.read())
+        text = "import gillspoon; print(gillspoon.__version__)"
+        ran = run([python, "-c", text], env=env, cwd=self.folder)
+        self.assertEqual(ran.stdout.decode(), gillspoon.__version__ + "\n", ran.stderr)
         text = "import gillspoon; print(gillspoon.check('examples/annotated.pgn'))"
         ran = run([python, "-c", text], env=env)
         self.assertEqual(ran.stdout, b"Totals(games=1, plies=7)\n")
@@ -1030,8 +1034,27 @@ class Typed(unittest.TestCase):
 
     def test_what_is_public_has_a_docstring(self):
         for name in gillspoon.__all__:
-            if name != "Note":
+            if name in ("Note", "OnFault", "Source"):
+                self.assertRegex(gillspoon.__doc__, r"\n    %s +[a-z]" % name)
+            else:
                 self.assertTrue(getattr(gillspoon, name).__doc__, name)
+
+    def test_help_says_what_each_attribute_is(self):
+        count = 0
+        for name in gillspoon.__all__:
+            it = getattr(gillspoon, name)
+            if isinstance(it, type):
+                shown = pydoc.plain(pydoc.render_doc(it))
+                for attribute in vars(it):
+                    if not attribute.startswith("_"):
+                        count += 1
+                        said = r"(?m)^ \|  %s(\(.*)?\n \|      [A-Z`].*\.$" % attribute
+                        self.assertRegex(shown, said)
+        self.assertGreater(count, 50)
+
+    def test_version(self):
+        said = run([need_program(), "--version"]).stdout.decode()
+        self.assertEqual("pgn_tool %s\n" % gillspoon.__version__, said)
 
 
 class Documents(Folder):
