@@ -1,6 +1,8 @@
 """Why a text is rejected."""
 from typing import Dict, Optional, Tuple, Type
 
+from ._texts import in_a_line, printable
+
 # The words of the faults that a single move can have, by their numbers in docs/PROFILE.md.
 MOVE_FAULTS = {
     33: "not a move",
@@ -14,11 +16,12 @@ class PgnFault(ValueError):
     """A game that is rejected: where, and why.
 
     >>> from gillspoon import check
-    >>> check(b"1. e4 e5 2. Ke3 *")
+    >>> check(b'[White "Ada"] [Black "Bob"] 1. e4 e5 2. Ke3 *')
     Traceback (most recent call last):
-    gillspoon.PgnFault: line 1, column 13: move is not legal
+    gillspoon.PgnFault: line 1, column 41: move is not legal: Ke3 (game 1, Ada - Bob)
 
-    The numbers, the reasons and the places are those of docs/PROFILE.md.
+    The numbers, the reasons and the places are those of docs/PROFILE.md. The text of the fault
+    begins with the name of the file, if the source has one: `games.pgn: line 1, column 41: ...`.
     """
 
     __slots__ = {
@@ -31,20 +34,35 @@ class PgnFault(ValueError):
         "fen": "The position in which a move was rejected; None with another fault.",
         "begin": "How many bytes of the source are before the game at fault.",
         "end": "With `on_fault` the offset where reading goes on; else None.",
+        "move": "The text that was rejected as a move: `Ke3`; None with another fault.",
+        "white": "White of the game at fault, by its tags; `?` if they have none.",
+        "black": "Black of the game at fault, by its tags; `?` if they have none.",
+        "file": "The path that was given, or the name of the open file; None without one.",
+        "text": "With `on_fault` the bytes that are skipped, from `begin` to `end`; else None.",
     }
 
     def __init__(self, number: int, reason: str, offset: int, line: int, column: int, game: int,
-                 fen: Optional[str], begin: int, end: Optional[int] = None) -> None:
+                 fen: Optional[str], begin: int, end: Optional[int] = None, *,
+                 move: Optional[str] = None, white: str = "?", black: str = "?",
+                 file: Optional[str] = None, text: Optional[bytes] = None) -> None:
         super().__init__(number, reason, offset, line, column, game, fen, begin)
         self.number, self.reason = number, reason
         self.offset, self.line, self.column = offset, line, column
         self.game, self.fen, self.begin, self.end = game, fen, begin, end
+        self.move, self.white, self.black = move, white, black
+        self.file, self.text = file, text
 
     def __reduce__(self) -> "Tuple[Type[PgnFault], Tuple[object, ...], Dict[str, object]]":
-        return type(self), (*self.args, self.end), self.__dict__
+        attributes = {name: getattr(self, name) for name in PgnFault.__slots__}
+        return type(self), self.args, {**self.__dict__, **attributes}
 
     def __str__(self) -> str:
-        return "line %d, column %d: %s" % (self.line, self.column, self.reason)
+        file = "" if self.file is None else in_a_line(self.file) + ": "
+        move = "" if self.move is None else ": " + self.move
+        players = "" if self.white == self.black == "?" else ", %s - %s" % (
+            printable(self.white), printable(self.black))
+        return "%sline %d, column %d: %s%s (game %d%s)" % (
+            file, self.line, self.column, self.reason, move, self.game, players)
 
 
 class FenFault(ValueError):

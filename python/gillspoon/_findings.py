@@ -4,29 +4,24 @@ All that is said of a text comes from the library: the faults and their places, 
 game, and whether a Result is missing, which is so if the game is accepted without one.
 """
 import re
-import unicodedata
 from typing import Callable, Iterator, List, NamedTuple, Optional, Tuple, Union
 
 from . import _calls, _library
+from ._bad_games import TAG_IN_MOVETEXT
 from ._edits import BadGames, Edit
 from ._faults import MoveFault, PgnFault
 from ._games import Game, Reader
-from ._moves import read_tags
 from ._places import LINE_END
-from ._reading import GameReader
 from ._sections import has_movetext
 from ._sources import Source, Window
+from ._texts import printable
 from ._warnings import Watcher
 
-# A symbol (PGN 7), which is what a text of a move is.
-SYMBOL = re.compile(rb"[\w+#=:/-]+", re.ASCII)
 # After how many games a step is reported.
 STEP = 256
 # How many bytes of a line are shown before a fault, and behind it.
 SHOWN = 60
-# How many lines of a bad game are searched for its tags.
-MOST_LINES = 64
-UNCLOSED_COMMENT, BAD_RESULT, TAG_IN_MOVETEXT, MOVE_LIMIT, RESULT_DIFFERS = 12, 25, 32, 36, 41
+UNCLOSED_COMMENT, BAD_RESULT, MOVE_LIMIT, RESULT_DIFFERS = 12, 25, 36, 41
 # What a message leaves out, by the number of the fault.
 NOTES = {
     42: "the last game has no result at its end",
@@ -113,7 +108,6 @@ class Linter(Reader):
         self.name, self._bad_games = name, bad_games
         self.found: List[Union[Finding, Warned]] = []
         self._watcher: Optional[Watcher] = None
-        self._reader = GameReader()
         self._bad = _BadGame("", 0, "?", "?", None, "")
 
     def findings(self, step: Callable[[int], None] = lambda number: None
@@ -176,10 +170,9 @@ class Linter(Reader):
         base, data = self.window.base, self.window.data
         at = fault.offset - base
         before, after = line_around(data, at)
-        white, black = self._names(fault)
-        symbol = SYMBOL.match(data, at) if fault.fen else None
-        return _BadGame(before + after, len(before), white, black,
-                        symbol[0].decode("ascii") if symbol else None, self._note(fault))
+        return _BadGame(before + after, len(before), printable(fault.white),
+                        printable(fault.black), fault.move if fault.fen else None,
+                        self._note(fault))
 
     def _note(self, fault: PgnFault) -> str:
         """What the reason leaves out."""
@@ -200,7 +193,7 @@ class Linter(Reader):
         base, data, begin = self.window.base, self.window.data, self.at - self.window.base
         at = data.find(b"{", max(data.rfind(b"}"), begin))
         while at >= 0:
-            found, _ = self._reader.read(data[begin:at + 1], 0)
+            found, _ = self.reader.read(data[begin:at + 1], 0)
             if found.fault == UNCLOSED_COMMENT:
                 return "it begins at line %d, column %d" % self.window.place(base + at)
             at = data.find(b"{", at + 1)
@@ -208,34 +201,8 @@ class Linter(Reader):
 
     def _passes_without_result(self) -> bool:
         begin = self.at - self.window.base
-        found, _ = self._reader.read(self.window.data, begin)
+        found, _ = self.reader.read(self.window.data, begin)
         return found.status == _library.OK
-
-    def _names(self, fault: PgnFault) -> Tuple[str, str]:
-        """White and Black of a bad game, if the library reads its tags, or each on its line."""
-        begin, end = self.at - self.window.base, fault.offset - self.window.base
-        before = self.window.data[begin:end] + b"\n*"
-        _, text = self._reader.read(before, 0, _library.RESULT_UNKNOWN)
-        if not text or fault.number == TAG_IN_MOVETEXT:
-            text = self._good_tag_lines(fault.begin - self.window.base)
-        tags = read_tags(text_of(text).partition("\n\n")[0])
-        return printable(tags.get("White", "?")), printable(tags.get("Black", "?"))
-
-    def _good_tag_lines(self, begin: int) -> bytes:
-        """The export of those lines of a tag section that are good by themselves."""
-        good = b""
-        is_behind_empty_line = False
-        for line in LINE_END.split(self.window.data[begin:begin + (1 << 14)])[:MOST_LINES]:
-            line = line.lstrip(b"\xef\xbb\xbf \t")
-            is_next_game = is_behind_empty_line and line.startswith(b"[Event ")
-            is_behind_empty_line = not line
-            if is_next_game or line and not line.startswith((b"[", b"%", b"{", b";")):
-                break
-            if not line.startswith(b"["):
-                continue
-            found, _ = self._reader.read(good + line + b"\n*", 0)
-            good += line + b"\n" if found.status == _library.OK else b""
-        return self._reader.read(good + b"*", 0)[1]
 
     def _add(self, fault: PgnFault) -> None:
         bad = self._bad
@@ -295,35 +262,6 @@ def _is_utf8(text: bytes) -> bool:
     except UnicodeDecodeError as error:
         return error.reason == "unexpected end of data"
     return True
-
-
-def text_of(text: bytes) -> str:
-    """The text of bytes of a file: UTF-8, or else Latin-1."""
-    try:
-        return text.decode("utf-8")
-    except UnicodeDecodeError:
-        return text.decode("latin-1")
-
-
-def shown(value: bytes) -> str:
-    """The text of a tag's value, without control characters.
-
-    >>> shown(b"M\\xfcller")
-    'M\xfcller'
-    """
-    return printable(text_of(value))
-
-
-def printable(text: str) -> str:
-    """The text with a mark for each control character, which a terminal could take as a command.
-
-    >>> printable("a\\x1b[2Jb")
-    'a\ufffd[2Jb'
-    """
-    if text.isprintable():
-        return text
-    return "".join(it if it == "\t" or unicodedata.category(it)[0] != "C" else "\ufffd"
-                   for it in text)
 
 
 # ---- the move

@@ -4,16 +4,19 @@ import io
 import os
 import re
 from collections import deque
+from functools import cached_property
 from itertools import chain
 from typing import Callable, Deque, Iterator, List, Mapping, NamedTuple, Optional, Tuple
 
 from . import _calls, _library
+from ._bad_games import move_at, players_of
 from ._described import described
 from ._faults import PgnFault
 from ._moves import Line, Ply, read_moves, read_tags, write_moves, write_tags
 from ._places import BYTE_ORDER_MARK
+from ._reading import GameReader
 from ._sections import BadGame, end_of
-from ._sources import Input, Source, Window, readable_again
+from ._sources import Input, Source, Window, name_of, readable_again
 
 INITIAL_FEN = "rnbqkbnr/pppppppp/8/8/8/8/PPPPPPPP/RNBQKBNR w KQkq - 0 1"
 OnFault = Callable[[PgnFault], object]
@@ -136,10 +139,11 @@ class Game:
 
 
 class Reader:
-    """Reads a source game by game."""
+    """Reads a source game by game. A bad one is in memory as a whole if a fault `keeps_text`."""
 
-    def __init__(self, window: Window, checked: bool, reduced: bool) -> None:
-        self.window = window
+    def __init__(self, window: Window, checked: bool, reduced: bool,
+                 keeps_text: bool = False) -> None:
+        self.window, self._keeps_text = window, keeps_text
         self.mode = _library.REDUCED_FORMAT if reduced else _library.FULL_FORMAT
         self.missing = _library.RESULT_FROM_MARKER if checked else _library.RESULT_UNKNOWN
         # the number of the next game, and the offset from where it is read
@@ -189,20 +193,32 @@ class Reader:
         found = _EMPTY_LINES.match(self.window.data, self.at - self.window.base)
         self.at = self.window.base + found.end() if found else self.at
 
+    @cached_property
+    def reader(self) -> GameReader:
+        """Reads a text that is in memory, such as a part of a bad game."""
+        return GameReader()
+
     def _fault(self, found: _library.NextGame) -> PgnFault:
-        offset = self.window.base + found.place
-        line, column = self.window.place(offset)
+        window, base, place = self.window, self.window.base, found.place
+        offset, begin = base + place, self._text_at()
+        line, column = window.place(offset)
+        move, before = move_at(window.data, place, found.fault), window.data[self.at - base:place]
+        lines = (it for _, it in window.lines(begin, lambda: self.at))
+        white, black = players_of(self.reader, before, lines, found.fault)
         reason = found.message[found.reason_at:].decode("ascii")
         return PgnFault(found.fault, reason, offset, line, column, self.number,
-                        found.fen.decode("ascii") or None, self._text_at())
+                        found.fen.decode("ascii") or None, begin, move=move, white=white,
+                        black=black, file=window.name)
 
     def _go_on(self, fault: PgnFault, on_fault: Optional[OnFault]) -> None:
         """Goes on behind the game at fault, or raises the fault."""
         if on_fault is None:
             raise fault
         window, bad = self.window, BadGame(fault.offset)
-        head = window.data[fault.begin - window.base:][:4]
-        end = end_of(bad, window.lines(self.at, lambda: bad.escapes_at))
+        begin = fault.begin - window.base
+        head = window.data[begin:begin + 4]
+        end = end_of(bad, window.lines(
+            self.at, lambda: fault.begin if self._keeps_text else bad.escapes_at))
         at = window.base + len(window.data) if end is None else end
         is_mark = window.data.startswith(BYTE_ORDER_MARK, at - window.base)
         if at <= self.at and end is not None and not is_mark:
@@ -212,6 +228,8 @@ class Reader:
             self.number += 1
         self.at = at
         fault.end = at
+        if self._keeps_text:
+            fault.text = window.data[fault.begin - window.base:at - window.base]
         on_fault(fault)
         if is_mark:
             self.at += 3
@@ -222,7 +240,7 @@ def games(source: Source, *, checked: bool = False, reduced: bool = False,
     """Reads the games of a source, one at a time.
 
     A source is a path (of a compressed file too: gz, bz2, xz, zst, zip), bytes or an mmap, or a binary
-    file. Memory grows with the longest game and the comments before it, not with the source.
+    file. Memory grows with the longest game, sound or bad, and not with the source.
 
     `checked`: a game without a Result tag takes its termination marker. Else a missing Result
     counts as `*`, and another marker is a fault.
@@ -232,7 +250,7 @@ def games(source: Source, *, checked: bool = False, reduced: bool = False,
 
     >>> text = b"1. e4 e5 2. Ke3 *\\n[White \\"Ada\\"] 1. d4 *"
     >>> [game.plies for game in games(text, on_fault=print)]
-    line 1, column 13: move is not legal
+    line 1, column 13: move is not legal: Ke3 (game 1)
     [1]
     """
     return _each(Window(source), checked, reduced, on_fault)
@@ -241,7 +259,7 @@ def games(source: Source, *, checked: bool = False, reduced: bool = False,
 def _each(window: Window, checked: bool, reduced: bool,
           on_fault: Optional[OnFault]) -> Iterator[Game]:
     try:
-        yield from Reader(window, checked, reduced).games(on_fault)
+        yield from Reader(window, checked, reduced, keeps_text=True).games(on_fault)
     finally:
         window.close()
 
@@ -267,12 +285,13 @@ def convert(source: Source, *, checked: bool = False, reduced: bool = False) -> 
     >>> print(convert(b"e4 e5 Nf3 *").decode().split("\\n\\n")[1])
     1. e4 e5 2. Nf3 *
     """
-    source = readable_again(source)
+    name, source = name_of(source), readable_again(source)
     export = None if checked else _export(source, reduced)
     if export is not None:
         return export
     # a fault is found again, with its game and its position
-    return b"".join(game.text for game in games(source, checked=checked, reduced=reduced))
+    found = _each(Window(source, name), checked, reduced, None)
+    return b"".join(game.text for game in found)
 
 
 def _export(source: Source, reduced: bool) -> Optional[bytes]:

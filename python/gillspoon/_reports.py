@@ -11,7 +11,8 @@ from typing import Dict, List, NamedTuple, Optional, TextIO, Tuple, Union
 from urllib.parse import quote
 
 from ._edits import Edit
-from ._findings import Finding, Warned, board, printable, text_of
+from ._findings import Finding, Warned, board
+from ._texts import in_a_line, printable, text_of
 
 VERSION_OF_SARIF = "2.1.0"
 SCHEMA_OF_SARIF = "https://json.schemastore.org/sarif-2.1.0.json"
@@ -62,18 +63,6 @@ class Summary(NamedTuple):
 def _count(number: int, what: str) -> str:
     """The number with commas, and the word for so many."""
     return "%s %s%s" % (format(number, ","), what, "" if number == 1 else "s")
-
-
-def in_a_line(name: str) -> str:
-    """The name of a file without line ends or other control characters.
-
-    >>> in_a_line("a\\nb.pgn")
-    'a\\\\nb.pgn'
-    """
-    if name.isprintable():
-        return name
-    return "".join(it if unicodedata.category(it) not in ("Cc", "Cf") else
-                   it.encode("unicode_escape").decode("ascii") for it in name)
 
 
 class OutputFault(Exception):

@@ -77,6 +77,14 @@ def readable_again(source: Source) -> Source:
         opened.close()
 
 
+def name_of(source: Source) -> Optional[str]:
+    """The path of a source, or the name of an open file; None if it has none."""
+    if isinstance(source, (str, os.PathLike)):
+        return os.fspath(source)
+    name = getattr(source, "name", None)
+    return name if isinstance(name, str) else None
+
+
 def _nothing() -> None:
     pass
 
@@ -194,14 +202,20 @@ def _spooled(source: Source) -> IO[bytes]:
 class Window:
     """The bytes of a source that are in memory: `data`, of which the first is at the offset `base`.
 
-    Offsets count from the first byte of the source.
+    Offsets count from the first byte of the source. Its name is that of the source, if none is
+    given.
     """
 
-    def __init__(self, source: Source) -> None:
-        self._input = Input(source)
+    def __init__(self, source: Source, name: Optional[str] = None) -> None:
+        self._input, self._source, self._name = Input(source), source, name
         # at the first byte in memory, and at the last place that was asked for
         self._counter, self._placed = LineCounter(), (0, LineCounter())
         self.data, self.base, self.is_whole = b"", 0, False
+
+    @property
+    def name(self) -> Optional[str]:
+        """The name of the source, or the one that was given."""
+        return self._name or name_of(self._source)
 
     def close(self) -> None:
         """Closes what the source opened."""

@@ -72,10 +72,13 @@ def archive(games, style, seed=()):
 
 
 def seen(source, **options):
-    """The games and the faults of a source, in the order in which they come."""
+    """The games and the faults of a source, in the order in which they come: 7 values and 13."""
     found = []
-    for game in gillspoon.games(source, on_fault=lambda it: found.append(it.args + (it.end,)),
-                                **options):
+
+    def on_fault(it):
+        found.append(it.args + (it.end, it.text, it.move, it.white, it.black))
+
+    for game in gillspoon.games(source, on_fault=on_fault, **options):
         found.append(tuple(getattr(game, it) for it in (
             "number", "offset", "end", "result", "plies", "fen", "text")))
     return found
@@ -224,10 +227,6 @@ class Games(unittest.TestCase):
         game = next(gillspoon.games(self.TEXT))
         copy = pickle.loads(pickle.dumps(game))
         self.assertEqual((copy.text, copy.fen, copy.tags), (game.text, game.fen, game.tags))
-        with self.assertRaises(gillspoon.PgnFault) as raised:
-            gillspoon.check(b"e4 e5 Ke3 *")
-        copy = pickle.loads(pickle.dumps(raised.exception))
-        self.assertEqual((str(copy), copy.fen), (str(raised.exception), raised.exception.fen))
 
     def test_long_game(self):
         """It is longer than a chunk, and its export than the first buffer."""
@@ -239,19 +238,95 @@ class Games(unittest.TestCase):
             self.assertEqual((other.number, other.offset), (2, data.rindex(b"1. d4")))
 
 
-class Faults(unittest.TestCase):
+class Faults(Folder):
     def test_attributes(self):
         with open(ROOT + "/examples/no-such-move.pgn", "rb") as file:
             data = file.read()
         with self.assertRaises(gillspoon.PgnFault) as raised:
             list(gillspoon.games(data))
         fault = raised.exception
-        self.assertEqual(str(fault), "line 4, column 37: move is not legal")
+        self.assertEqual(str(fault), "line 4, column 37: move is not legal: Bd4 "
+                                     "(game 1, Nowak, A. - Silva, J.)")
         self.assertEqual(
             (fault.number, fault.reason, fault.offset, fault.line, fault.column, fault.game,
              fault.begin, fault.end), (34, "move is not legal", 77, 4, 37, 1, 0, None))
+        self.assertEqual((fault.move, fault.white, fault.black, fault.file, fault.text),
+                         ("Bd4", "Nowak, A.", "Silva, J.", None, None))
         with self.assertRaises(gillspoon.MoveFault):
             gillspoon.san(fault.fen, data[77:].split()[0].decode())
+
+    def test_the_file(self):
+        """Its name is the path that was given, or that of an open file."""
+        path = self.put("a\n.pgn", b"1. e4 e9 *")
+        said = "%s: line 1, column 7: not a move: e9 (game 1)" % path.replace("\n", "\\n")
+        with open(path, "rb") as file, os.fdopen(os.open(path, os.O_RDONLY), "rb") as other:
+            named = type("P", (), {"__fspath__": lambda self: path})()
+            for source, name in ((named, path), (file, path), (other, None)):
+                for call in (gillspoon.check, gillspoon.convert):
+                    file.seek(0)
+                    other.seek(0)
+                    with self.assertRaises(gillspoon.PgnFault) as raised:
+                        call(source)
+                    self.assertEqual(raised.exception.file, name, (source, call))
+                    self.assertEqual(str(raised.exception),
+                                     said if name else said[said.index("line 1"):])
+
+    def test_the_move(self):
+        """It is the text of what was rejected as a move, and of nothing else."""
+        for text, move in ((b"1. e4 e2-e5!? *", "e2-e5"), (b"1. e4 (1. Nd2) *", "Nd2"),
+                           (b"e4 Ra1=Q+ *", "Ra1=Q+"), (b"e4 ] *", None), (b'e4 "e5" *', None),
+                           (b"e4 & *", None), (b"e4 )", None), (b"e4 1-0", None), (b"e4", None),
+                           (b"Nf3 e6 Nd4 e5 c3 e4 Na3 e3 Nc2 *", "Nc2")):
+            with self.assertRaises(gillspoon.PgnFault) as raised:
+                gillspoon.check(text)
+            self.assertEqual(raised.exception.move, move, text)
+            self.assertEqual(": %s (game 1)" % move in str(raised.exception), move is not None)
+
+    def test_the_players(self):
+        white, black = '[White "M\xfcller \\"x\\""]\n', '[Black "\x9b2J"]\n'
+        for text, names in ((white + black + "1. e5 *", ('M\xfcller "x"', "\x9b2J")),
+                            (white + "1. e5 *", ('M\xfcller "x"', "?")),
+                            ('[A-B "x"]\n' + black + "1. e5 *", ("?", "\x9b2J")),
+                            ('[A-B "x"]\n' + white + black, ('M\xfcller "x"', "\x9b2J")),
+                            ('[A-B "x"]\n\n[Event "y"]\n' + white + "1. e5 *", ("?", "?")),
+                            ("1. e5 * " + white, ("?", "?"))):
+            for end in ("\n", "\r\n", "\r"):
+                data = text.replace("\n", end).encode()
+                for source in (data, Pieces(cut(data, ever(1)))):
+                    with self.assertRaises(gillspoon.PgnFault) as raised:
+                        gillspoon.check(source)
+                    fault = raised.exception
+                    self.assertEqual((fault.white, fault.black), names, data)
+                    said = " - ".join(names).replace("\x9b", "\ufffd")
+                    self.assertEqual(", %s)" % said in str(fault), names != ("?", "?"), data)
+
+    def test_what_is_skipped(self):
+        """The texts of the games and of the faults are the source, but for white space."""
+        for name, text, _, _ in BAD:
+            faults, data = [], sound(b"a") + text + sound(b"b") + text
+            ends = [(it.offset, it.end) for it in gillspoon.games(data, on_fault=faults.append)]
+            for fault in faults:
+                self.assertEqual(fault.text, data[fault.begin:fault.end], name)
+                ends.append((fault.begin, fault.end))
+            left = bytearray(data)
+            for begin, end in ends:
+                left[begin:end] = b" " * (end - begin)
+            self.assertEqual(left.strip(), b"", name)
+
+    def test_pickle(self):
+        faults = []
+        path = self.put("a.pgn", b'[White "Ada"]\n1. e4 e9 *\n')
+        self.assertEqual(list(gillspoon.games(path, on_fault=faults.append)), [])
+        copy = pickle.loads(pickle.dumps(faults[0]))
+        for name in gillspoon.PgnFault.__slots__:
+            self.assertEqual(getattr(copy, name), getattr(faults[0], name), name)
+        self.assertEqual((copy.args, str(copy)), (faults[0].args, str(faults[0])))
+        for call, error in ((lambda: gillspoon.san(INITIAL, "e5"), gillspoon.MoveFault),
+                            (lambda: gillspoon.san("x", "e5"), gillspoon.FenFault)):
+            with self.assertRaises(error) as raised:
+                call()
+            copy = pickle.loads(pickle.dumps(raised.exception))
+            self.assertEqual((str(copy), copy.fen), (str(raised.exception), raised.exception.fen))
 
     def test_position_only_of_a_refused_move(self):
         for text, fen in ((b"1. e4 e5 (1... e6 2. Ke3) *",
@@ -552,6 +627,28 @@ class InPieces(unittest.TestCase):
     def test_a_gap_is_let_go(self):
         """Megabytes of empty lines between games do not stay in memory."""
         parts = [b"1. e4 *\n"] + [b" " * 1000 + b"\n\r"] * 9000 + [b"1. d4 *"]
+        self.assertLess(self.most_held(lambda: self.assertEqual(len(seen(Pieces(parts))), 2)),
+                        1 << 16)
+
+    def test_a_bad_game_is_let_go(self):
+        """That of pgn_lint, which does not need its text. For `on_fault` it stays as a whole."""
+        lines = [b"e9 " * 300 + b"\n"] * 3000
+        parts = [b"1. e4 e9\n", *lines, sound(b"b")]
+        findings = importlib.import_module("gillspoon._findings")
+
+        def lint():
+            found = list(findings.Linter(Pieces(parts), "a", False).findings())
+            self.assertEqual([it.end - it.begin for it in found], [len(b"".join(parts[:-1]))])
+
+        def read():
+            fault, game = seen(Pieces(parts))
+            self.assertTrue(fault[9] == b"".join(parts[:-1]) and game[4] == 3)
+
+        self.assertLess(self.most_held(lint), 1 << 16)
+        self.assertLess(self.most_held(read), 4 << 20)
+
+    def most_held(self, call):
+        """The most bytes of a source that are in memory during a call."""
         most = 0
         window = importlib.import_module("gillspoon._sources").Window
         more = window.more
@@ -562,21 +659,19 @@ class InPieces(unittest.TestCase):
             most = max(most, len(self.data))
             return got
 
-        window.more = watched
-        try:
-            self.assertEqual(len(seen(Pieces(parts))), 2)
-        finally:
-            window.more = more
-        self.assertLess(most, 1 << 16)
+        with mock.patch.object(window, "more", watched):
+            call()
+        return most
 
     def test_memory(self):
         """It stays within some MiB, also for a large input, and for one with bad games."""
-        text = ("import gillspoon, resource, sys\n"
+        # a child's resource.getrusage would have the memory of this process too
+        text = ("import gillspoon, re, sys\n"
                 "count = 0\n"
-                "for game in gillspoon.games(sys.stdin.buffer, on_fault=len.__class__):\n"
+                "for game in gillspoon.games(sys.stdin.buffer, on_fault=str):\n"
                 "    count += len(game.tags) > 0\n"
-                "print(count, resource.getrusage(resource.RUSAGE_SELF).ru_maxrss)\n")
-        text = text.replace("len.__class__", "str")
+                "with open('/proc/self/status') as file:\n"
+                "    print(count, re.search(r'VmHWM:\\s*([0-9]+) kB', file.read())[1])\n")
         data = archive(1000, "plain") + b"1. e4 e5 2. Ke3 *\n\n"
         peaks = []
         for rounds in (4, 60):
@@ -700,7 +795,7 @@ class Sieve(Folder):
         self.assertLessEqual(ran.returncode, 1, ran.stderr)
         found = seen(path)
         games = [it for it in found if len(it) == 7]
-        faults = [it for it in found if len(it) == 9]
+        faults = [it for it in found if len(it) == 13]
         with open(good, "rb") as kept:
             self.assertEqual(b"".join(it[6] for it in games), kept.read())
         with open(bad, "rb") as set_aside:
@@ -712,6 +807,8 @@ class Sieve(Folder):
         ours = [(it[2], it[1], it[3], it[7], it[8]) for it in faults
                 if data[it[7]:it[8]][:4] not in (b"", b"\xef\xbb\xbf")]
         self.assertEqual(ours, told)
+        for it in faults:
+            self.assertEqual(it[9], data[it[7]:it[8]])
         return len(games), len(faults)
 
     def test_bad_games(self):
@@ -731,7 +828,7 @@ class Sieve(Folder):
         for lines in (b"% one\n% two\n", b"% one\n\n% two\n\n", b"% one\nrest *\n% two\n"):
             data = sound(b"a") + bad + lines + sound(b"b")
             self.assertEqual(self.compare(data), (2, 1))
-            fault, = [it for it in seen(data) if len(it) == 9]
+            fault, = [it for it in seen(data) if len(it) == 13]
             own = lines[lines.index(b"% two"):] if b"rest" in lines else lines
             self.assertEqual(fault[8], data.index(own + sound(b"b")))
 
@@ -1057,6 +1154,10 @@ class Typed(unittest.TestCase):
         self.assertEqual("pgn_tool %s\n" % gillspoon.__version__, said)
 
 
+# What is said of the bad game of the samples.
+FAULT = "line 14, column 13: move is not legal: Bd4 (game 3, Okafor, Ben - Amaral, Rita)"
+
+
 class Documents(Folder):
     """The samples in Python of all documents, each in a folder with games.pgn."""
 
@@ -1078,12 +1179,15 @@ class Documents(Folder):
 
     def sample(self, heading, *words):
         """What the sample below a heading of docs/PYTHON.md prints, but the line of the fault."""
+        return self.whole_sample(heading, *words).replace("games.pgn: %s\n" % FAULT, "")
+
+    def whole_sample(self, heading, *words):
+        """All that it prints."""
         lines = lines_of("docs/PYTHON.md")
         at = next(number for number, it in enumerate(lines) if it.lstrip("# ") == heading)
         inner = next(inner for number, before, inner in blocks_of(lines)
                      if number > at and lines[number - 1] == "```python")
-        printed = self.run_sample("\n".join(inner) + "\n", *words)
-        return re.sub("(?m)^line 14, column 13: move is not legal\n", "", printed)
+        return self.run_sample("\n".join(inner) + "\n", *words).replace("pgn.zst: ", "pgn: ")
 
     def get(self, name):
         with open(os.path.join(self.folder, name), "rb") as file:
@@ -1110,7 +1214,7 @@ class Documents(Folder):
         lines = lines_of("docs/PYTHON.md")
         self.assertGreaterEqual(sum(it.startswith("### ") for it in lines), 10)
         with open(__file__, encoding="utf-8") as file:
-            tested = set(re.findall(r'self\.sample\("(.*?)"', file.read()))
+            tested = set(re.findall(r'self\.(?:whole_)?sample\("(.*?)"', file.read()))
         self.assertEqual({it[4:] for it in lines if it.startswith("### ")} - tested, set())
 
     def test_filter(self):
@@ -1140,9 +1244,11 @@ class Documents(Folder):
 
     def test_report(self):
         self.assertEqual(
-            self.sample("Report what is rejected"),
-            "game 3: line 14, column 13: move is not legal\n    in "
+            self.whole_sample("Report what is rejected"),
+            "games.pgn: " + FAULT + "\n    in "
             "rnbqkbnr/pppp1ppp/8/4p3/4P3/8/PPPP1PPP/RNBQKBNR w KQkq e6 0 2\n")
+        self.assertEqual(self.get("bad.pgn"), b'[White "Okafor, Ben"]\n[Black "Amaral, Rita"]\n\n'
+                                              b"1. e4 e5 2. Bd4 *\n\n")
 
     def test_pandas(self):
         if run([PYTHON, "-c", "import pandas"]).returncode:
