@@ -226,7 +226,9 @@ def package():
 
 
 class Part:
-    """The bytes of an open file between two offsets, as a source of gillspoon."""
+    """The bytes of an open file between two offsets, as a source of gillspoon: a text."""
+
+    is_unpacked = True
 
     def __init__(self, file, begin, end):
         self.file, self.at, self.end = file, begin, end

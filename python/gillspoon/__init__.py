@@ -11,7 +11,8 @@ accepts and writes is in docs/PROFILE.md, and docs/PYTHON.md has recipes.
 
 `help` of a class says what each attribute is. Three names are types, for annotations:
 
-    Source    what is read: a path (str or os.PathLike), bytes or an mmap, or an open binary file
+    Source    what is read: a path (str or os.PathLike), bytes or an mmap, or an open binary file;
+              each may be compressed: gz, bz2, xz, zst or zip
     OnFault   what is called with each fault: a function of a PgnFault
     Note      what may be beside a move: a NAG (int), a comment (str) or a variation (Line)
 

@@ -21,7 +21,7 @@ from ._sources import Input, Source, Window, name_of, readable_again
 INITIAL_FEN = "rnbqkbnr/pppppppp/8/8/8/8/PPPPPPPP/RNBQKBNR w KQkq - 0 1"
 OnFault = Callable[[PgnFault], object]
 # The first size of a buffer for the export text of a game.
-_CAPACITY = 1 << 16
+_CAPACITY = 1 << 14
 # How many bytes `convert` reads at once: with their export they stay in the processor's cache.
 _PIECE = 1 << 17
 # The most threads in which it converts: a call of the library lets others run.
@@ -239,8 +239,9 @@ def games(source: Source, *, checked: bool = False, reduced: bool = False,
           on_fault: Optional[OnFault] = None) -> Iterator[Game]:
     """Reads the games of a source, one at a time.
 
-    A source is a path (of a compressed file too: gz, bz2, xz, zst, zip), bytes or an mmap, or a binary
-    file. Memory grows with the longest game, sound or bad, and not with the source.
+    A source is a path, bytes or an mmap, or an open binary file. Each may be compressed: gz, bz2,
+    xz, zst or zip, known by its first bytes. Memory grows with the longest game, sound or bad, and
+    not with the source.
 
     `checked`: a game without a Result tag takes its termination marker. Else a missing Result
     counts as `*`, and another marker is a fault.

@@ -19,7 +19,7 @@ def opener_of(path: str) -> Optional[Opener]:
     begin = b""
     if os.path.isfile(path):
         with open(path, "rb", buffering=0) as file:
-            begin = file.read(_LONGEST_MARK)
+            begin = file.read(LONGEST_MARK)
     return _opener_of_mark(begin) or _NAMES.get(os.path.splitext(path)[1].lower())
 
 
@@ -27,16 +27,41 @@ def _opener_of_mark(begin: bytes) -> Optional[Opener]:
     return next((opener for mark, opener in _MARKS if begin.startswith(mark)), None)
 
 
+def is_packed(begin: bytes) -> bool:
+    """Whether a text is compressed that begins with these bytes: LONGEST_MARK, or all it has."""
+    return begin.startswith(_ALL_MARKS)
+
+
 def unpacked(read: Callable[[int], bytes]) -> Calls:
     """How the text of a stream is read, which can be read once alone: as it comes, if it is plain.
 
-    It is compressed if its first bytes say so. It is then held in a temporary file, since not all
-    kinds can be unpacked from front to back. An OSError about it names no file.
+    It is compressed if its first bytes say so, which are looked at when it is first read. It is
+    then held in a temporary file, since not all kinds can be unpacked from front to back. An
+    OSError about it names no file.
     """
+    opened: Optional[Calls] = None
+
+    def read_text(size: int) -> bytes:
+        nonlocal opened
+        if opened is None:
+            opened = _open_stream(read)
+        return opened[0](size)
+
+    def close() -> None:
+        if opened is not None:
+            opened[1]()
+
+    return read_text, close
+
+
+def _open_stream(read: Callable[[int], bytes]) -> Calls:
     begin = b""
-    # of no bytes none are read
-    for piece in iter(lambda: read(_LONGEST_MARK - len(begin)), b""):
+    # no more is waited for than what decides
+    while any(mark.startswith(begin) for mark in _ALL_MARKS):
+        piece = read(LONGEST_MARK - len(begin))
         begin += piece
+        if not piece:
+            break
     opener = _opener_of_mark(begin)
     if opener:
         return _open_held(opener, begin, read)
@@ -218,6 +243,7 @@ def _pieces_of_zip(archive: Any, names: "list[str]", path: str) -> Iterator[byte
 _MARKS: "tuple[tuple[bytes, Opener], ...]" = (
     (b"\x1f\x8b", _open_gzip), (b"BZh", _open_bzip2), (b"\xfd7zXZ\0", _open_xz),
     (b"\x28\xb5\x2f\xfd", _open_zstd), (b"PK\x03\x04", _open_zip))
-_LONGEST_MARK = max(len(mark) for mark, _ in _MARKS)
+_ALL_MARKS = tuple(mark for mark, _ in _MARKS)
+LONGEST_MARK = max(map(len, _ALL_MARKS))
 _NAMES: "dict[str, Opener]" = {
     ".gz": _open_gzip, ".bz2": _open_bzip2, ".xz": _open_xz, ".zst": _open_zstd, ".zip": _open_zip}

@@ -1,10 +1,10 @@
-"""The bytes of a source: a file, a compressed file, an open binary file, or bytes in memory."""
+"""The text of a source: a file, an open binary file or bytes in memory, compressed or not."""
 import io
 import mmap
 import os
 from typing import IO, Any, Callable, Iterator, Optional, Protocol, Tuple, Union
 
-from ._packed import Calls, opener_of, unpacked
+from ._packed import LONGEST_MARK, Calls, is_packed, opener_of, unpacked
 from ._places import LINE_END, NEAR, LineCounter
 
 CHUNK = 1 << 20
@@ -14,7 +14,11 @@ LONGEST_LINE = 1 << 20
 
 
 class Readable(Protocol):
-    """A binary file that is open for reading."""
+    """A binary file that is open for reading.
+
+    If its bytes are compressed, the text inside is read. If it has an attribute `is_unpacked` that
+    is true, they are taken as they are.
+    """
 
     def read(self, size: int, /) -> bytes:
         """At most so many bytes; none at the end."""
@@ -26,19 +30,11 @@ Source = Union[str, "os.PathLike[str]", Data, Readable]
 
 
 class Input:
-    """The bytes of a source, in turn. A file that it opened is closed at the end."""
+    """The text of a source, in turn. A file that it opened is closed at the end."""
 
     def __init__(self, source: Source) -> None:
         self._close: Callable[[], None] = _nothing
-        if isinstance(source, _DATA):
-            self._read, self._close = _open_data(source)
-        elif isinstance(source, (str, os.PathLike)):
-            path = os.fspath(source)
-            if source is path and "\n" in path:
-                raise TypeError("a str is a path: give the text itself as bytes, text.encode()")
-            self._read, self._close = (opener_of(path) or _open_plain)(path)
-        else:
-            self._read = _reader_of_file(source)
+        self._read, self._close = _open(source)
 
     def read(self, size: int) -> bytes:
         """At least one byte and mostly at most so many; none at the end."""
@@ -70,11 +66,11 @@ def readable_again(source: Source) -> Source:
         return source
     if isinstance(source, (str, os.PathLike)) and os.path.isfile(source):
         return source
-    opened = Input(source)
+    read, close = _open_as_it_is(source)
     try:
-        return b"".join(iter(lambda: opened.read(CHUNK), b""))
+        return b"".join(iter(lambda: read(CHUNK), b""))
     finally:
-        opened.close()
+        close()
 
 
 def name_of(source: Source) -> Optional[str]:
@@ -87,6 +83,40 @@ def name_of(source: Source) -> Optional[str]:
 
 def _nothing() -> None:
     pass
+
+
+def _open(source: Source) -> Calls:
+    """How the text of a source is read, and how what was opened for it is closed."""
+    if isinstance(source, _DATA):
+        is_text = not is_packed(source if isinstance(source, bytes) else
+                                bytes(memoryview(source).cast("B")[:LONGEST_MARK]))
+    elif isinstance(source, (str, os.PathLike)) and os.path.isfile(source):
+        path = os.fspath(source)
+        return (opener_of(path) or _open_plain)(path)
+    else:
+        is_text = getattr(source, "is_unpacked", False)
+    read, close = _open_as_it_is(source)
+    if is_text:
+        return read, close
+    read_text, close_text = unpacked(read)
+
+    def close_all() -> None:
+        close_text()
+        close()
+
+    return read_text, close_all
+
+
+def _open_as_it_is(source: Source) -> Calls:
+    """How the bytes of a source are read, which may be compressed."""
+    if isinstance(source, _DATA):
+        return _open_data(source)
+    if isinstance(source, (str, os.PathLike)):
+        path = os.fspath(source)
+        if source is path and "\n" in path:
+            raise TypeError("a str is a path: give the text itself as bytes, text.encode()")
+        return _open_plain(path)
+    return _reader_of_file(source), _nothing
 
 
 def _open_data(data: Data) -> Calls:
@@ -120,28 +150,15 @@ def _reader_of_file(file: Any) -> Callable[[int], bytes]:
     return read
 
 
-class Unpacked:
-    """An open file that is read once: if what it has is compressed, the text inside."""
-
-    def __init__(self, file: Readable) -> None:
-        self._read, self._close = unpacked(_reader_of_file(file))
-
-    def read(self, size: int) -> bytes:
-        """The next bytes of the text, at most so many; none at the end."""
-        return self._read(size)
-
-    def __del__(self) -> None:
-        close = getattr(self, "_close", _nothing)
-        close()
-
-
 def _open_plain(path: str) -> Calls:
     file = open(path, "rb", buffering=0)
     return _reader_of_file(file), file.close
 
 
 class Opened:
-    """A source whose bytes can be read again: a file, or a temporary file with what it has."""
+    """A source whose text can be read again: a file, or a temporary file with what it has."""
+
+    is_unpacked = True
 
     def __init__(self, source: Source) -> None:
         self._at = 0

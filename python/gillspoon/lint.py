@@ -15,7 +15,7 @@ from ._findings import Finding, Linter, Warned
 from ._replacement import STOPPING, Replacement
 from ._reports import (AnyReport, JsonReport, Output, OutputFault, Progress, Report, SarifReport,
                        Summary, Unread, has_colours, message)
-from ._sources import Opened, Source, Unpacked
+from ._sources import Opened, Source
 from ._version import add_version
 
 if TYPE_CHECKING:
@@ -213,12 +213,12 @@ class FilePath(os.PathLike[str]):
 
 
 def source_of(path: str) -> Source:
-    """What is read for a path, or for standard input, which may be compressed too."""
+    """What is read for a path, or for standard input."""
     if path != "-":
         return FilePath(path)
     if sys.stdin is None:
         raise OSError(errno.EBADF, os.strerror(errno.EBADF))
-    return Unpacked(sys.stdin.buffer)
+    return sys.stdin.buffer
 
 
 def linter_of(path: str, given: argparse.Namespace) -> Linter:

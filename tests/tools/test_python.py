@@ -10,6 +10,7 @@ import io
 import json
 import mmap
 import os
+import pathlib
 import pickle
 import pydoc
 import random
@@ -26,7 +27,7 @@ from unittest import mock
 sys.path.insert(0, os.path.dirname(os.path.realpath(__file__)))
 import programs
 from documents import blocks_of, lines_of, samples, table
-from programs import ROOT, need, need_program, not_tried, run, vectors
+from programs import PACKERS, ROOT, need, need_program, not_tried, run, vectors
 from test_sieve import BAD, sound
 
 PACKAGE = ROOT + "/python"
@@ -555,6 +556,71 @@ class Sources(Folder):
                 gillspoon.check(bad)
             self.assertIn(bad, str(raised.exception))
 
+    def test_each_source_may_be_compressed(self):
+        """It is known by its first bytes, whatever its name is, and by all calls that read it."""
+        wanted = gillspoon.convert(self.data)
+        bad = b"[White \"Ada\"]\n\n1. e2-e4 *\n"
+        edits = list(gillspoon.fixes(bad))
+        self.assertEqual(len(edits), 1)
+        for name, pack in PACKERS.items():
+            for source in self.sources(pack(self.data)):
+                self.assertEqual(seen(source), self.wanted, (name, type(source)))
+            for source in self.sources(pack(self.data)):
+                self.assertTrue(gillspoon.convert(source) == wanted, (name, type(source)))
+            for source in self.sources(pack(bad)):
+                self.assertEqual(list(gillspoon.fixes(source)), edits, (name, type(source)))
+            for source in self.sources(pack(self.data + bad)):
+                with self.assertRaises(gillspoon.PgnFault) as raised:
+                    gillspoon.convert(source)
+                self.assertEqual(raised.exception.offset, len(self.data) + bad.index(b"e2"))
+
+    def sources(self, data):
+        """Data as sources of each kind, which are closed after their use; none has a suffix."""
+        need("zstd")
+        path = self.put("packed", data)
+        yield from (path, pathlib.Path(path), data, bytearray(data), memoryview(data),
+                    io.BytesIO(data), Pieces(cut(data, ever(4000))))
+        with open(path, "rb") as file, open(path, "rb", buffering=0) as raw, \
+                mmap.mmap(file.fileno(), 0, access=mmap.ACCESS_READ) as mapped:
+            yield from (mapped, file, raw)
+        for source in (lambda pipe: pipe, lambda pipe: "/dev/fd/%d" % pipe.fileno()):
+            with subprocess.Popen(["cat", path], stdout=subprocess.PIPE) as child:
+                yield source(child.stdout)
+
+    def test_compressed_data_that_is_cut_off(self):
+        """The error names no temporary file, and none is left."""
+        need("zstd")
+        folder = self.folder + "/tmp"
+        os.mkdir(folder)
+        with mock.patch.object(tempfile, "tempdir", folder):
+            for name, pack in PACKERS.items():
+                data = pack(self.data)
+                half = data[:len(data) // 2]
+                for call in (gillspoon.check, gillspoon.convert):
+                    for source in (half, Pieces([half])):
+                        with self.assertRaises(OSError) as raised:
+                            call(source)
+                        self.assertNotIn("/", str(raised.exception), name)
+                # it can be left at any time
+                self.assertEqual(next(gillspoon.games(data)).number, 1)
+            self.assertEqual(os.listdir(folder), [])
+
+    def test_a_few_bytes(self):
+        """They are too few for a mark, or the beginning of one."""
+        for data in (b"", b"*", b"B", b"BZ", b"\x1f", b"PK\x03", b"(\xb5", b"\xfd7zXZ", b"Be2 *"):
+            for source in (data, io.BytesIO(data), Pieces(cut(data, ever(1)))):
+                found = [len(it) for it in seen(source)]
+                self.assertEqual(found, [] if not data else [7] if data == b"*" else [13], data)
+
+    def test_a_pipe_is_read_when_the_first_game_is_asked_for(self):
+        begin, end = os.pipe()
+        with os.fdopen(begin, "rb") as file:
+            games = gillspoon.games(file)
+            os.write(end, b"*\n")
+            self.assertEqual(next(games).plies, 0)
+            os.close(end)
+            self.assertEqual(list(games), [])
+
     def test_zstandard_in_place_of_the_program(self):
         ran = run([PYTHON, "-c", "import zstandard"])
         if ran.returncode:
@@ -816,6 +882,12 @@ class Sieve(Folder):
             with self.subTest(name):
                 _, faults = self.compare(sound(b"a") + text + sound(b"b") + sound(b"c"))
                 self.assertGreater(faults, 0)
+
+    def test_a_part_that_looks_compressed(self):
+        """What is behind a game is the text itself, whatever it begins with."""
+        for begin in (b"BZh9", b"PK\x03\x04", b"\x1f\x8b"):
+            data = sound(b"a").rstrip() + begin + b" e4 *\n" + sound(b"b")
+            self.assertEqual(self.compare(data), (2, 1))
 
     def test_joined_files(self):
         mark = b"\xef\xbb\xbf"
@@ -1118,6 +1190,32 @@ class Typed(unittest.TestCase):
         with tempfile.TemporaryDirectory() as cache:
             ran = run(["mypy", "--strict", "--cache-dir", cache, "gillspoon"], cwd=PACKAGE)
         self.assertEqual((ran.returncode, ran.stderr), (0, b""), ran.stdout)
+
+    def test_mypy_of_a_caller(self):
+        """Each kind of source has its type, and what is no source has none."""
+        need("mypy")
+        good = ("path", "pathlib.Path(path)", "b''", "bytearray()", "memoryview(b'')",
+                "mmap.mmap(0, 0)", "io.BytesIO()", "open(path, 'rb')", "gzip.open(path)",
+                "sys.stdin.buffer", "child.stdout")
+        bad = ("open(path)", "sys.stdin", "io.StringIO()", "7", "None", "['e4 *']")
+        lines = ["import gzip, io, mmap, pathlib, subprocess, sys",
+                 "import gillspoon",
+                 "from typing import Dict, List",
+                 "child = subprocess.Popen(['cat'], stdout=subprocess.PIPE)",
+                 "assert child.stdout",
+                 "def read(source: gillspoon.Source, on_fault: gillspoon.OnFault) -> List[bytes]:",
+                 "    return [it.text for it in gillspoon.games(source, on_fault=on_fault)]",
+                 "bad: List[gillspoon.PgnFault] = []",
+                 "path: str = gillspoon.__version__"]
+        lines += ["read(%s, bad.append)" % it for it in (*good, *bad)]
+        with tempfile.TemporaryDirectory() as folder:
+            with open(folder + "/caller.py", "w", encoding="utf-8") as file:
+                file.write("\n".join(lines) + "\n")
+            ran = run(["mypy", "--strict", "--cache-dir", folder + "/cache", folder + "/caller.py"],
+                      env=dict(os.environ, PATH=programs.PATH, MYPYPATH=PACKAGE))
+        told = re.findall(r"(?m)^.*caller\.py:(\d+): error", ran.stdout.decode())
+        refused = {len(lines) - it for it in range(len(bad))}
+        self.assertEqual({int(it) for it in told}, refused, ran.stdout)
 
     def test_examples_of_docstrings(self):
         names = ["gillspoon"] + ["gillspoon." + os.path.basename(it)[:-3]
