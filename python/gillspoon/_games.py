@@ -6,7 +6,8 @@ import re
 from collections import deque
 from functools import cached_property
 from itertools import chain
-from typing import Callable, Deque, Iterator, List, Mapping, NamedTuple, Optional, Tuple
+from typing import (Callable, Deque, Iterator, List, Mapping, NamedTuple, Optional, Tuple,
+                    Union)
 
 from . import _calls, _library
 from ._bad_games import move_at, players_of
@@ -322,10 +323,11 @@ class _Piece(NamedTuple):
 
 
 class _Export(NamedTuple):
-    """The export of a piece: the first bytes of a buffer."""
+    """The export of a piece: the first bytes of a buffer, and how many games it has."""
 
     buffer: _library.Buffer
     length: int
+    games: int
 
 
 class _Conversion:
@@ -346,7 +348,9 @@ class _Conversion:
         while found.status == _library.FULL:
             buffer = ctypes.create_string_buffer(2 * len(buffer))
             found = _library.convert(*piece, buffer, len(buffer), self._mode)
-        return _Export(buffer, found.written) if found.status == _library.OK else None
+        if found.status != _library.OK:
+            return None
+        return _Export(buffer, found.written, found.games)
 
 
 def _each_converted(conversion: _Conversion,
@@ -387,15 +391,38 @@ def _pieces(opened: Input) -> Iterator[_Piece]:
         size = max(_PIECE, len(data))
 
 
-def write_game(tags: Mapping[str, str], moves: Line, *, encoding: str = "utf-8") -> bytes:
-    """Returns a game in export format, of its tags and moves; raises PgnFault.
+def write_game(tags: Mapping[str, str], moves: Union[Line, str], *,
+               encoding: str = "utf-8") -> bytes:
+    """Returns a game in export format, of its tags and moves.
 
-    Its result is that of the Result tag, and `*` if there is none.
+    `moves` is a Line, or the text of the moves. This may have all that movetext has: numbers or
+    none, NAGs, comments and variations. The result is that of the Result tag; without one that at
+    the end of the text, else `*`.
 
-    >>> from gillspoon import games
+    Raises PgnFault if the library rejects the game, ValueError if the text has more than one game,
+    and TypeError for what is no text, such as a number as the value of a tag.
+
+    >>> write_game({"White": "Ada"}, "e4 e5 1-0").decode().splitlines()[-4:]
+    ['[Result "1-0"]', '', '1. e4 e5 1-0', '']
     >>> game = next(games(b'[White "Ada"] 1. e4 {best} (1. d4) e5 *'))
     >>> write_game(game.tags, game.moves()) == game.text
     True
     """
-    text = "%s\n%s %s\n" % (write_tags(tags), write_moves(moves), tags.get("Result", "*"))
-    return convert(text.encode(encoding))
+    if not isinstance(moves, (str, Line)):
+        raise TypeError("the moves are a Line, as game.moves() gives it, or a str such as '1. e4 "
+                        "e5', not %s: of a list of moves pass ' '.join(moves)"
+                        % type(moves).__name__)
+    section = write_tags(tags)
+    movetext = moves if isinstance(moves, str) else write_moves(moves)
+    text = ("%s\n%s\n" % (section, movetext)).encode(encoding)
+    whole = text + tags.get("Result", "*").encode(encoding)
+    export = _Conversion(_library.FULL_FORMAT)(_Piece(whole, len(whole)))
+    if export is not None and export.games == 1:
+        return ctypes.string_at(export.buffer, export.length)
+    # where the moves have a result at their end, the marker behind them is a game of its own
+    found = games(whole, checked=True)
+    game, other = next(found), next(found, None)
+    if other is not None and other.offset < len(text):
+        raise ValueError("the moves have more behind the result of the game: %r"
+                         % text[game.end:].decode(encoding).strip()[:40])
+    return game.text

@@ -1028,6 +1028,58 @@ class RandomGames:
                 self.random.choice(("utf-8", "utf-8", "cp1252")))
 
 
+class Written(unittest.TestCase):
+    """Games of tags and of the text of their moves."""
+
+    def check(self, moves, result, movetext, **tags):
+        text = gillspoon.write_game(tags, moves).decode()
+        self.assertEqual(text.count("[Event "), 1, moves)
+        self.assertEqual(text.partition("[Result ")[2], '"%s"]\n\n%s\n\n' % (result, movetext))
+
+    def test_moves_as_text(self):
+        self.check("1. e4 e5", "*", "1. e4 e5 *")
+        self.check("e2e4 (d4) $1 {best} e5!", "*", "1. e4 ( 1. d4 ) $1 { best } 1... e5 $1 *")
+        self.check("1. e4\n1... e5", "1-0", "1. e4 e5 1-0", Result="1-0")
+        self.check("", "1/2-1/2", "1/2-1/2", Result="1/2-1/2")
+        self.check("e4 ; all * of it", "*", "1. e4 { all * of it } *")
+
+    def test_a_result_at_the_end(self):
+        self.check("1. e4 e5 0-1", "0-1", "1. e4 e5 0-1")
+        self.check("1. e4 e5 0-1 \n", "0-1", "1. e4 e5 0-1", Result="0-1")
+        self.check("*", "*", "*")
+        for moves, number in (("e4 1-0", 41), ("e4 {", 12), ("e4 Ke3", 34), ("e4 [A", 32)):
+            with self.assertRaises(gillspoon.PgnFault) as raised:
+                gillspoon.write_game({"Result": "0-1", "White": "Ada"}, moves)
+            self.assertEqual((raised.exception.number, raised.exception.white), (number, "Ada"))
+
+    def test_one_game_alone(self):
+        line = next(gillspoon.games(b"e4 e5 *")).moves()
+        line.plies[1].san = "e5 * d4"
+        for moves in ("e4 * d4", "e4 * *", "e4 1-0 {end}", "* [White \"Bob\"]", line):
+            with self.assertRaisesRegex(ValueError, "more behind the result|not a move|input"):
+                gillspoon.write_game({}, moves)
+
+    def test_what_is_no_text(self):
+        """The TypeError says what to pass."""
+        line = next(gillspoon.games(b"e4 e5 *")).moves()
+        noted = next(gillspoon.games(b"e4 e5 *")).moves()
+        noted.plies[0].notes.append(3.5)
+        line.plies[1].san = b"e5"
+        for tags, moves, said in (
+                ({"WhiteElo": 2500}, "", "the tag WhiteElo is a str such as '2500', not int"),
+                ({"A": None}, "", "the tag A is a str, not None: leave the tag out"),
+                ({"A": b"x"}, "", r"the tag A is a str, not bytes: pass value.decode\(\)"),
+                ({7: "x"}, "", "the name of a tag is a str such as 'White', not int"),
+                ([("A", "x")], "", "the tags are a dict such as .*, not list"),
+                ({}, ["e4"], "a str such as '1. e4 e5', not list: .* pass ' '.join"),
+                ({}, b"e4", "game.moves.. gives it, or a str .*, not bytes"),
+                ({}, line.plies[0], "not Ply"),
+                ({}, line, "the san of a ply is a str such as 'Nf3', not bytes"),
+                ({}, noted, "a note is an int .*, a str .* or a Line .*, not float")):
+            with self.assertRaisesRegex(TypeError, said):
+                gillspoon.write_game(tags, moves)
+
+
 class WrittenAgain(unittest.TestCase):
     """The text of what was parsed and written again is the same bytes."""
 
@@ -1207,6 +1259,7 @@ class Typed(unittest.TestCase):
                  "    return [it.text for it in gillspoon.games(source, on_fault=on_fault)]",
                  "bad: List[gillspoon.PgnFault] = []",
                  "path: str = gillspoon.__version__"]
+        lines += ["gillspoon.write_game({'White': 'Ada'}, '1. e4').decode()"]
         lines += ["read(%s, bad.append)" % it for it in (*good, *bad)]
         with tempfile.TemporaryDirectory() as folder:
             with open(folder + "/caller.py", "w", encoding="utf-8") as file:
