@@ -9,8 +9,8 @@ from typing import Iterable, Optional, Tuple
 
 from . import _library
 from ._faults import MOVE_FAULTS
-from ._moves import read_tags
 from ._reading import GameReader
+from ._tags import read_tags
 from ._texts import text_of
 
 # A symbol (PGN 7), which is what a text of a move is.

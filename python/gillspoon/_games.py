@@ -13,11 +13,13 @@ from . import _calls, _library
 from ._bad_games import move_at, players_of
 from ._described import described
 from ._faults import PgnFault
-from ._moves import Line, Ply, read_moves, read_tags, write_moves, write_tags
+from ._moves import Line, Ply, read_moves, write_moves
 from ._places import BYTE_ORDER_MARK
 from ._reading import GameReader
 from ._sections import BadGame, end_of
 from ._sources import Input, Source, Window, name_of, readable_again
+from ._tags import Tags, read_tags, type_of, write_tags
+from ._texts import text_of
 
 INITIAL_FEN = "rnbqkbnr/pppppppp/8/8/8/8/PPPPPPPP/RNBQKBNR w KQkq - 0 1"
 OnFault = Callable[[PgnFault], object]
@@ -70,7 +72,7 @@ class Game:
                  text: bytes) -> None:
         self.number, self.offset, self.end = number, offset, end
         self.result, self.plies, self.fen, self.text = result, plies, fen, text
-        self._tags: "Optional[dict[str, str]]" = None
+        self._tags: Optional[Tags] = None
         self._moves: Optional[Line] = None
 
     def __repr__(self) -> str:
@@ -89,9 +91,13 @@ class Game:
 
     @property
     def tags(self) -> Mapping[str, str]:
-        """The tag pairs by their names, in the order of export format: the roster comes first."""
+        """The tag pairs by their names, in the order of export format: the roster comes first.
+
+        It is a dict that cannot be changed: give `write_game` a changed copy, as
+        `{**game.tags, "Annotator": "Ada"}`.
+        """
         if self._tags is None:
-            self._tags = read_tags(self._parts()[0])
+            self._tags = Tags(read_tags(self._parts()[0]))
         return self._tags
 
     def mainline(self) -> Iterator[Ply]:
@@ -135,7 +141,7 @@ class Game:
         return INITIAL_FEN if fen is None else _calls.normalize_fen(fen)
 
     def _parts(self) -> "Tuple[str, str]":
-        tags, _, moves = self.text.decode(self.encoding).partition("\n\n")
+        tags, _, moves = text_of(self.text).partition("\n\n")
         return tags, moves
 
 
@@ -410,8 +416,7 @@ def write_game(tags: Mapping[str, str], moves: Union[Line, str], *,
     """
     if not isinstance(moves, (str, Line)):
         raise TypeError("the moves are a Line, as game.moves() gives it, or a str such as '1. e4 "
-                        "e5', not %s: of a list of moves pass ' '.join(moves)"
-                        % type(moves).__name__)
+                        "e5', not %s: of a list of moves pass ' '.join(moves)" % type_of(moves))
     section = write_tags(tags)
     movetext = moves if isinstance(moves, str) else write_moves(moves)
     text = ("%s\n%s\n" % (section, movetext)).encode(encoding)

@@ -4,10 +4,10 @@ Export text is a normal form, and what is read here is that form alone: docs/PRO
 grammar. The library has checked every move, so nothing is checked again.
 """
 import re
-from collections import abc
-from typing import Iterator, List, Mapping, Optional, Tuple, Union
+from typing import Iterator, List, Optional, Tuple, Union
 
 from . import _calls
+from ._tags import type_of
 
 Note = Union[int, str, "Line"]
 """What may be beside a move: a NAG is an int, a comment is a str, a variation is a Line."""
@@ -150,12 +150,12 @@ def write_moves(line: Line) -> str:
     TypeError: a line is a Line, as game.moves() gives it, not str
     """
     if not isinstance(line, Line):
-        raise TypeError("a line is a Line, as game.moves() gives it, not %s" % _type_of(line))
+        raise TypeError("a line is a Line, as game.moves() gives it, not %s" % type_of(line))
     words: List[str] = []
     _put_notes(words, line.notes)
     for ply in line.plies:
         if not isinstance(ply.san, str):
-            raise TypeError("the san of a ply is a str such as 'Nf3', not %s" % _type_of(ply.san))
+            raise TypeError("the san of a ply is a str such as 'Nf3', not %s" % type_of(ply.san))
         words.append(ply.san)
         _put_notes(words, ply.notes)
     return " ".join(words)
@@ -173,47 +173,4 @@ def _put_notes(words: List[str], notes: List[Note]) -> None:
             words.extend(("(", write_moves(note), ")"))
         else:
             raise TypeError("a note is an int (NAG), a str (comment) or a Line (variation), not %s"
-                            % _type_of(note))
-
-
-def _type_of(value: object) -> str:
-    return "None" if value is None else type(value).__name__
-
-
-def read_tags(section: str) -> "dict[str, str]":
-    """The names and values of the tag pairs of a game in export format, in order."""
-    tags = {}
-    for line in section.split("\n"):
-        name, _, value = line[1:-2].partition(' "')
-        if "\\" in value:
-            value = re.sub(r"\\(.)", r"\1", value)
-        tags[name] = value
-    return tags
-
-
-def write_tags(tags: Mapping[str, str]) -> str:
-    """The tag pairs, a line each; raises TypeError for what is no text.
-
-    >>> write_tags({"WhiteElo": 2500})
-    Traceback (most recent call last):
-    TypeError: the value of the tag WhiteElo is a str such as '2500', not int
-    """
-    if not isinstance(tags, abc.Mapping):
-        raise TypeError("the tags are a dict such as {'White': 'Ada'}, not %s" % _type_of(tags))
-    lines = []
-    for name, value in tags.items():
-        if not isinstance(name, str):
-            raise TypeError("the name of a tag is a str such as 'White', not %s" % _type_of(name))
-        if not isinstance(value, str):
-            raise TypeError("the value of the tag %s is a str%s" % (name, _advice_of(value)))
-        lines.append('[%s "%s"]\n' % (name, re.sub(r'(["\\])', r"\\\1", value)))
-    return "".join(lines)
-
-
-def _advice_of(value: object) -> str:
-    """What to pass in place of a value that is no text."""
-    if value is None:
-        return ", not None: leave the tag out"
-    if isinstance(value, (bytes, bytearray)):
-        return ", not %s: pass value.decode()" % _type_of(value)
-    return " such as %r, not %s" % (str(value), _type_of(value))
+                            % type_of(note))

@@ -210,6 +210,34 @@ class Games(unittest.TestCase):
         self.assertEqual(next(gillspoon.games(data.decode("latin-1").encode())).moves().plies[0]
                          .comments, ["a\xa0b\x85c d"])
 
+    def test_tags_cannot_be_changed(self):
+        """Each call that would change them says what to do; a copy is a dict like any other."""
+        game = next(gillspoon.games(self.TEXT))
+        tags, wanted = game.tags, dict(game.tags)
+
+        def assign():
+            tags["A"] = "2"
+
+        def delete():
+            del tags["White"]
+
+        def add():
+            nonlocal tags
+            tags |= {"A": "2"}
+
+        for change in (assign, delete, add, tags.clear, tags.popitem, lambda: tags.pop("A"),
+                       lambda: tags.setdefault("B", "2"), lambda: tags.update(A="2")):
+            with self.assertRaisesRegex(TypeError, r"write_game a changed copy, as {\*\*game.tags"):
+                change()
+        self.assertEqual((game.tags, list(game.tags)), (wanted, list(wanted)))
+        changed = {**game.tags, "A": "2"}
+        for copy in (dict(tags), tags.copy(), tags | {}, json.loads(json.dumps(tags))):
+            copy["A"] = "2"
+            self.assertEqual((type(copy), copy), (dict, changed))
+        self.assertEqual(pickle.loads(pickle.dumps(tags)), wanted)
+        again = gillspoon.write_game(changed, game.moves())
+        self.assertEqual(again, game.text.replace(b'[A "1"]', b'[A "2"]'))
+
     def test_options(self):
         data = b"1. e4 (1. d4) e5 1-0"
         with self.assertRaises(gillspoon.PgnFault) as raised:
@@ -1244,7 +1272,7 @@ class Typed(unittest.TestCase):
         self.assertEqual((ran.returncode, ran.stderr), (0, b""), ran.stdout)
 
     def test_mypy_of_a_caller(self):
-        """Each kind of source has its type, and what is no source has none."""
+        """It checks the kinds of sources, and that what is no source and a change are refused."""
         need("mypy")
         good = ("path", "pathlib.Path(path)", "b''", "bytearray()", "memoryview(b'')",
                 "mmap.mmap(0, 0)", "io.BytesIO()", "open(path, 'rb')", "gzip.open(path)",
@@ -1261,13 +1289,14 @@ class Typed(unittest.TestCase):
                  "path: str = gillspoon.__version__"]
         lines += ["gillspoon.write_game({'White': 'Ada'}, '1. e4').decode()"]
         lines += ["read(%s, bad.append)" % it for it in (*good, *bad)]
+        lines += ["next(gillspoon.games(path)).tags['A'] = 'b'"]
         with tempfile.TemporaryDirectory() as folder:
             with open(folder + "/caller.py", "w", encoding="utf-8") as file:
                 file.write("\n".join(lines) + "\n")
             ran = run(["mypy", "--strict", "--cache-dir", folder + "/cache", folder + "/caller.py"],
                       env=dict(os.environ, PATH=programs.PATH, MYPYPATH=PACKAGE))
         told = re.findall(r"(?m)^.*caller\.py:(\d+): error", ran.stdout.decode())
-        refused = {len(lines) - it for it in range(len(bad))}
+        refused = {len(lines) - it for it in range(len(bad) + 1)}
         self.assertEqual({int(it) for it in told}, refused, ran.stdout)
 
     def test_examples_of_docstrings(self):
