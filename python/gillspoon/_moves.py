@@ -4,7 +4,7 @@ Export text is a normal form, and what is read here is that form alone: docs/PRO
 grammar. The library has checked every move, so nothing is checked again.
 """
 import re
-from typing import Iterator, List, Optional, Tuple, Union
+from typing import Any, Callable, Iterator, List, Optional, Tuple, Union
 
 from . import _calls
 from ._tags import type_of
@@ -15,7 +15,11 @@ _WORD = re.compile("[^\t-\r ]+")
 
 
 class Ply:
-    """A move of a game, with the position after it and what is noted behind it."""
+    """A move of a game, with the position after it and what is noted behind it.
+
+    A copy of it, or what pickle makes of it, has the position before it in place of the moves
+    before.
+    """
 
     __slots__ = {
         "number": "How many plies of its game it is, from 1; the first one of a variation has that "
@@ -34,6 +38,10 @@ class Ply:
 
     def __repr__(self) -> str:
         return "Ply(%d, %r)" % (self.number, self.san)
+
+    def __reduce__(self) -> "Tuple[Callable[..., Ply], _PackedPly]":
+        # each ply has the one before: a chain of them would be too deep for pickle
+        return _unpacked_ply, _packed_ply(self, None)
 
     @property
     def fen(self) -> str:
@@ -75,7 +83,8 @@ class Ply:
 class Line:
     """A line of play: the main line of a game, or a variation.
 
-    It is iterated over its plies.
+    It is iterated over its plies. A copy of a variation, or what pickle makes of it, has the
+    position before it in place of the moves before.
     """
 
     __slots__ = {
@@ -98,10 +107,65 @@ class Line:
     def __repr__(self) -> str:
         return "Line(%s)" % " ".join(it.san for it in self.plies)
 
+    def __reduce__(self) -> "Tuple[Callable[..., Line], _PackedLine]":
+        return _unpacked_line, _packed_line(self, None)
+
     @property
     def fen(self) -> str:
         """The FEN of the position that the line begins from."""
         return self.start if isinstance(self.start, str) else self.start.fen
+
+
+# ---- what pickle gets: no links between plies, which would be a chain
+
+
+_PackedPly = Tuple[Optional[str], int, str, Optional[str], "List[object]"]
+_PackedLine = Tuple[Optional[str], "List[object]", List[_PackedPly]]
+
+
+def _packed_ply(ply: Ply, link: "Union[Ply, str, None]") -> _PackedPly:
+    """The FEN before a ply, or None if `link` is before it; and what the ply has."""
+    before = ply._before
+    fen = None if before is link else before if isinstance(before, str) else before.fen
+    return fen, ply.number, ply.san, ply._fen, _packed_notes(ply.notes, before)
+
+
+def _packed_line(line: Line, link: "Union[Ply, str, None]") -> _PackedLine:
+    """The FEN before a line, or None if it starts from `link`; and what the line has."""
+    plies, before = [], line.start
+    for ply in line.plies:
+        plies.append(_packed_ply(ply, before))
+        before = ply
+    fen = None if line.start is link else line.fen
+    return fen, _packed_notes(line.notes, line.start), plies
+
+
+def _packed_notes(notes: List[Note], before: Union[Ply, str]) -> List[object]:
+    return [_packed_line(it, before) if isinstance(it, Line) else it for it in notes]
+
+
+def _unpacked_ply(fen: Optional[str], number: int, san: str, after: Optional[str],
+                  notes: List[object], *, link: Union[Ply, str] = "") -> Ply:
+    ply = Ply(number, san, link if fen is None else fen)
+    ply.notes, ply._fen = _unpacked_notes(notes, ply._before), after
+    return ply
+
+
+def _unpacked_line(fen: Optional[str], notes: List[object], plies: List[_PackedPly],
+                   *, link: Union[Ply, str] = "") -> Line:
+    line = Line(link if fen is None else fen)
+    line.notes, before = _unpacked_notes(notes, line.start), line.start
+    for packed in plies:
+        before = _unpacked_ply(*packed, link=before)
+        line.plies.append(before)
+    return line
+
+
+def _unpacked_notes(notes: List[Any], before: Union[Ply, str]) -> List[Note]:
+    return [_unpacked_line(*it, link=before) if isinstance(it, tuple) else it for it in notes]
+
+
+# ---- export text
 
 
 def read_moves(movetext: str, fen: str) -> Line:

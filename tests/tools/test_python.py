@@ -2,6 +2,7 @@
 """Tests of the Python package (python/gillspoon): its calls, its wheel, and docs/PYTHON.md."""
 import ast
 import bz2
+import copy as copies
 import doctest
 import glob
 import gzip
@@ -265,6 +266,81 @@ class Games(unittest.TestCase):
             one, other = gillspoon.games(Pieces(parts))
             self.assertEqual(one.moves().plies[0].comments, [comment])
             self.assertEqual((other.number, other.offset), (2, data.rindex(b"1. d4")))
+
+
+class Pickled(unittest.TestCase):
+    """Plies and lines that pickle and copy make again."""
+
+    def same(self, one, other):
+        """Whether two lines have the same moves, positions and notes."""
+        self.assertEqual((one.fen, len(one)), (other.fen, len(other)))
+        self.same_notes(one.notes, other.notes)
+        for ply, its in zip(one, other):
+            self.assertEqual((ply.number, ply.san, ply.fen), (its.number, its.san, its.fen))
+            self.same_notes(ply.notes, its.notes)
+
+    def same_notes(self, notes, others):
+        self.assertEqual(len(notes), len(others))
+        for note, other in zip(notes, others):
+            self.assertEqual(type(note), type(other))
+            if isinstance(note, gillspoon.Line):
+                self.same(note, other)
+            else:
+                self.assertEqual(note, other)
+
+    def test_a_long_game(self):
+        """It has more plies than Python's stack has frames."""
+        game = next(gillspoon.games(b"Nf3 Nf6 Ng1 Ng8 " * 400 + b"{end} (Ng4 h3) *"))
+        last = game.moves().plies[-1]
+        self.assertEqual((game.plies, last.number), (1600, 1600))
+        self.assertGreater(1600, sys.getrecursionlimit())
+        for copy in (pickle.loads(pickle.dumps(last)), copies.copy(last), copies.deepcopy(last)):
+            self.assertEqual((copy.number, copy.san, copy.fen, copy.comments),
+                             (1600, "Ng8", game.fen, ["end"]))
+            self.same(copy.variations[0], last.variations[0])
+        for copy in (pickle.loads(pickle.dumps(game.moves())), copies.deepcopy(game.moves()),
+                     pickle.loads(pickle.dumps(game)).moves()):
+            self.same(copy, game.moves())
+            # each begins with the move before, as the reader makes it
+            self.assertIs(copy.plies[-1].variations[0].start, copy.plies[-2])
+
+    def test_positions_that_were_not_asked_for(self):
+        game = next(gillspoon.games(b"e4 e5 (c5 Nf3 (c3)) Nf3 *"))
+        copy = pickle.loads(pickle.dumps(game.moves()))
+        self.same(copy, game.moves())
+        inner, = copy.plies[1].variations[0].plies[1].variations
+        self.assertIs(inner.start, copy.plies[1].variations[0].plies[0])
+
+    def test_a_variation(self):
+        """By itself it has the position before it."""
+        game = next(gillspoon.games(b"e4 e5 (c5 {good} Nf3 (c3)) Nf3 *"))
+        line = game.moves().plies[1].variations[0]
+        copy = pickle.loads(pickle.dumps(line))
+        self.same(copy, line)
+        self.assertEqual(copy.start, game.position_at(1))
+        self.assertIs(copy.plies[1].variations[0].start, copy.plies[0])
+
+    def test_a_changed_line(self):
+        """A ply whose predecessor is in no list of plies keeps its position."""
+        line = next(gillspoon.games(b"e4 e5 Nf3 (Nc3) Nc6 *")).moves()
+        wanted = [it.fen for it in line][2:]
+        del line.plies[:2]
+        copy = pickle.loads(pickle.dumps(line))
+        self.assertEqual([it.fen for it in copy], wanted)
+        self.assertEqual(copy.plies[0].variations[0].plies[0].fen.split()[0],
+                         "rnbqkbnr/pppp1ppp/8/4p3/4P3/2N5/PPPP1PPP/R1BQKBNR")
+
+    def test_archive(self):
+        count = 0
+        for game in gillspoon.games(archive(50, "annotated")):
+            copy = pickle.loads(pickle.dumps(game.moves()))
+            self.same(copy, game.moves())
+            self.assertEqual(gillspoon.write_game(game.tags, copy), game.text)
+            for ply in game.mainline():
+                for line in ply.variations:
+                    count += 1
+                    self.same(pickle.loads(pickle.dumps(line)), line)
+        self.assertGreater(count, 100)
 
 
 class Faults(Folder):
