@@ -19,6 +19,7 @@ accepts and writes is in docs/PROFILE.md, and docs/PYTHON.md has recipes.
 `__version__` is the version of the package, and that of `pgn_tool --version`.
 """
 from ._calls import Explanation, Played, explain, normalize_fen, san
+from ._commands import Arrow, Evaluation, MarkedSquare
 from ._edits import Edit, fixes
 from ._faults import FenFault, MoveFault, PgnFault
 from ._games import Game, OnFault, Totals, check, convert, games, write_game
@@ -28,7 +29,7 @@ from ._version import version
 
 __version__ = version()
 __all__ = [
-    "Edit", "Explanation", "FenFault", "Game", "Line", "MoveFault", "Note", "OnFault", "PgnFault",
-    "Played", "Ply", "Source", "Totals", "check", "convert", "explain", "fixes", "games",
-    "normalize_fen", "san", "write_game",
+    "Arrow", "Edit", "Evaluation", "Explanation", "FenFault", "Game", "Line", "MarkedSquare",
+    "MoveFault", "Note", "OnFault", "PgnFault", "Played", "Ply", "Source", "Totals", "check",
+    "convert", "explain", "fixes", "games", "normalize_fen", "san", "write_game",
 ]

@@ -7,6 +7,8 @@ import re
 from typing import Any, Callable, Iterator, List, Optional, Tuple, Union
 
 from . import _calls
+from ._commands import (CLOCK, ELAPSED, Arrow, Evaluation, MarkedSquare, arrows_of, evaluation_of,
+                        seconds_of, squares_of)
 from ._tags import type_of
 
 Note = Union[int, str, "Line"]
@@ -78,6 +80,31 @@ class Ply:
     def variations(self) -> "List[Line]":
         """The variations that replace the move."""
         return [it for it in self.notes if isinstance(it, Line)]
+
+    @property
+    def clock(self) -> Optional[float]:
+        """The seconds on the clock of who moved, by `[%clk 0:05:00]`; None without it."""
+        return seconds_of(CLOCK, self.comments)
+
+    @property
+    def emt(self) -> Optional[float]:
+        """The seconds that the move took, by `[%emt 0:00:02]`; None without it."""
+        return seconds_of(ELAPSED, self.comments)
+
+    @property
+    def eval(self) -> Optional[Evaluation]:
+        """The evaluation after the move, by `[%eval 0.17]` or `[%eval #3]`; None without it."""
+        return evaluation_of(self.comments)
+
+    @property
+    def arrows(self) -> List[Arrow]:
+        """The arrows on the board after the move, by `[%cal Ge2e4]`: colour, origin and target."""
+        return arrows_of(self.comments)
+
+    @property
+    def squares(self) -> List[MarkedSquare]:
+        """The marked squares of the board after the move, by `[%csl Gd4]`: colour and square."""
+        return squares_of(self.comments)
 
 
 class Line:

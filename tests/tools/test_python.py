@@ -268,6 +268,70 @@ class Games(unittest.TestCase):
             self.assertEqual((other.number, other.offset), (2, data.rindex(b"1. d4")))
 
 
+class Commands(unittest.TestCase):
+    """Clocks, evaluations, arrows and marked squares in comments."""
+
+    def ply(self, *comments):
+        """A ply with these comments behind it."""
+        text = "1. e4 %s *" % " ".join("{%s}" % it for it in comments)
+        return next(gillspoon.games(text.encode())).moves().plies[0]
+
+    def test_times(self):
+        for text, seconds in (
+                ("0:05:00", 300), ("1:02:03.5", 3723.5), ("0:00:09.", 9), ("12:00:00", 43200),
+                ("0:75:61", 4561), ("\n0:05:00", 300), ("5:00", None), ("300", None),
+                ("-0:05:00", None), ("0:05:00,1", None), ("0:0x:00", None), ("0:05:", None)):
+            ply = self.ply("good [%%clk %s] move[%%emt %s]" % (text, text))
+            self.assertEqual((ply.clock, ply.emt), (seconds, seconds), text)
+            self.assertIs(type(ply.clock), float if seconds else type(None))
+            self.assertEqual(self.ply("[%%emt %s]" % text).clock, None)
+            self.assertEqual(self.ply("[%%clk %s]" % text).emt, None)
+
+    def test_the_first_counts(self):
+        ply = self.ply("[%clk 0:00]", "[%clk 0:00:02][%clk 0:00:01]", "[%eval x] [%eval 1]",
+                       "[%eval 2]")
+        self.assertEqual((ply.clock, ply.eval), (2.0, (100, None, None)))
+
+    def test_evaluations(self):
+        for text, wanted in (
+                ("0.17", (17, None, None)), ("-1.5", (-150, None, None)), ("+.5", (50, None, None)),
+                ("3", (300, None, None)), ("3.", (300, None, None)), ("-0.29,18", (-29, None, 18)),
+                ("0.0", (0, None, None)), ("#3", (None, 3, None)), ("#-2,7", (None, -2, 7)),
+                ("#+1", (None, 1, None)), ("#0", (None, 0, None)), ("0.285", None), ("0.1,", None),
+                ("--1", None), ("1e5", None), ("", None), ("#", None), ("M3", None)):
+            self.assertEqual(self.ply("[%%eval %s]" % text).eval, wanted, text)
+        self.assertEqual(self.ply("[%eval 0.17,20]").eval._asdict(),
+                         {"centipawns": 17, "mate": None, "depth": 20})
+
+    def test_drawings(self):
+        for text, arrows, squares in (
+                ("[%cal Ge2e4,Rd1h5]", [("green", "e2", "e4"), ("red", "d1", "h5")], []),
+                ("[%csl Ya1,Bh8]", [], [("yellow", "a1"), ("blue", "h8")]),
+                ("[%csl Ya1] [%cal Bh8a1]x[%csl Gb2]", [("blue", "h8", "a1")],
+                 [("yellow", "a1"), ("green", "b2")]),
+                ("[%cal Ga1,Gb1b2,Gc1c1]", [("green", "b1", "b2")],
+                 [("green", "a1"), ("green", "c1")]),
+                ("[%csl Gb1b2]", [("green", "b1", "b2")], []),
+                ("[%cal Ge2e4,Xd1h5]", [], []), ("[%cal Ge2e9]", [], []),
+                ("[%cal Ge2e4, Gd2d4]", [], []), ("[%cal]", [], []), ("[%csl ga1]", [], []), ("[%cal Ge2e4e5]", [], [])):
+            ply = self.ply(text)
+            self.assertEqual((ply.arrows, ply.squares), (arrows, squares), text)
+        arrow, = self.ply("[%cal Ge2e4]").arrows
+        self.assertEqual((arrow.colour, arrow.origin, arrow.target), ("green", "e2", "e4"))
+        mark, = self.ply("[%csl Rh7]").squares
+        self.assertEqual((mark.colour, mark.square), ("red", "h7"))
+
+    def test_where_they_are(self):
+        """They are behind the move that they are about, also in a variation."""
+        game = next(gillspoon.games(b"{[%clk 0:00:09]} e4 (d4 {[%clk 0:00:03]}) {[%clk 0:00:02]} "
+                                    b"{[%csl Ga1]} e5 $1 *"))
+        e4, e5 = game.mainline()
+        self.assertEqual((e4.clock, e4.squares), (2.0, [("green", "a1")]))
+        self.assertEqual(e4.variations[0].plies[0].clock, 3.0)
+        self.assertEqual((e5.clock, e5.emt, e5.eval, e5.arrows, e5.squares),
+                         (None, None, None, [], []))
+
+
 class Pickled(unittest.TestCase):
     """Plies and lines that pickle and copy make again."""
 
