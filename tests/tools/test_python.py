@@ -203,6 +203,16 @@ class Games(unittest.TestCase):
         with self.assertRaises(gillspoon.PgnFault):
             gillspoon.write_game(tags, line)
 
+    def test_a_game_is_read_again_by_its_place(self):
+        """What is between `offset` and `end` is the game, and nothing else."""
+        data = b"\xef\xbb\xbf% a\n" + self.TEXT + b"\n% b\n{c} * ;d\n\n" + archive(30, "annotated")
+        games = list(gillspoon.games(data))
+        self.assertEqual(len(games), 33)
+        for game in games:
+            again, = gillspoon.games(data[game.offset:game.end])
+            self.assertEqual((again.offset, again.end), (0, game.end - game.offset))
+            self.assertEqual((again.text, again.fen), (game.text, game.fen))
+
     def test_latin_1_and_odd_spaces(self):
         data = '[White "M\xfcller"] 1. e4 {a\xa0b\x85c d} e5 *'.encode("latin-1")
         game = next(gillspoon.games(data))
@@ -1550,6 +1560,16 @@ class Documents(Folder):
         self.assertEqual(self.sample("Collect the positions in a set"), "12 positions\n")
         self.assertEqual(self.sample("Find the games that reach a position"),
                          "1 Silva, J. Nowak, A.\n")
+
+    def test_seek(self):
+        self.assertEqual(self.sample("Go back to a game by its place"), "Nowak, A. * 4\n")
+
+    def test_build(self):
+        lines = self.sample("Build a game of moves").splitlines()
+        self.assertEqual(lines[4:], [
+            '[White "Silva, J."]', '[Black "Nowak, A."]', '[Result "1-0"]', '[WhiteElo "1850"]', "",
+            "1. e4 e5 2. Bc4 Nc6 3. Qh5 Nf6 4. Qxf7# 1-0", "",
+            "e4 e5 Nf3 rnbqkbnr/pppp1ppp/8/4p3/4P3/5N2/PPPP1PPP/RNBQKB1R b KQkq - 1 2"])
 
     def test_comments(self):
         self.sample("Take out comments and variations")
