@@ -333,7 +333,8 @@ class Release(unittest.TestCase):
         workspace = "%s/gillspoon-%s" % (out, version)
         crates = os.listdir(workspace + "/crates")
         packages = ["%s-%s.crate" % (it, version) for it in crates]
-        self.assertEqual(sorted(os.listdir(out)), sorted([*packages, "gillspoon-" + version]))
+        ours = ["gillspoon-" + version, "gillspoon-%s.tar.gz" % version]
+        self.assertEqual(sorted(os.listdir(out)), sorted([*packages, *ours]))
         for name in crates:
             with tarfile.open("%s/%s-%s.crate" % (out, name, version)) as package:
                 names = {it.split("/", 1)[1] for it in package.getnames()}

@@ -19,6 +19,7 @@ import re
 import shutil
 import subprocess
 import sys
+import tarfile
 import tempfile
 import threading
 import time
@@ -1380,10 +1381,8 @@ class Wheel(Folder):
     """In a fresh virtual environment, without any index."""
 
     def test_install(self):
-        if not os.path.exists(PYTHON) or run([PYTHON, "-c", "import ensurepip"]).returncode:
-            not_tried("python3-venv is missing")
-        self.assertEqual(run([PYTHON, "-m", "venv", self.folder + "/venv"]).returncode, 0)
-        python, pip = self.folder + "/venv/bin/python", self.folder + "/venv/bin/pip"
+        programs_of = self.fresh()
+        python, pip = programs_of + "/python", programs_of + "/pip"
         before = run(["git", "status", "--short"]).stdout
         for words in (["--no-build-isolation"], ["--no-index", "--force-reinstall"]):
             ran = run([pip, "install", *words, "./python"],
@@ -1393,7 +1392,8 @@ class Wheel(Folder):
         env = {"PATH": "/usr/bin:/bin", "HOME": self.folder}
         text = "import gillspoon; print(gillspoon.__file__, gillspoon._library.path())"
         ran = run([python, "-c", text], env=env, cwd=self.folder)
-        self.assertEqual(ran.stdout.decode().count(self.folder + "/venv/lib/"), 2, ran.stderr)
+        folder = os.path.dirname(programs_of)
+        self.assertEqual(ran.stdout.decode().count(folder + "/lib/"), 2, ran.stderr)
         with open(ROOT + "/README.md", encoding="utf-8") as file:
             self.assertIn("import gillspoon\nfor game in gillspoon.games(", file.read())
         text = "import gillspoon; print(gillspoon.__version__)"
@@ -1402,8 +1402,56 @@ class Wheel(Folder):
         text = "import gillspoon; print(gillspoon.check('examples/annotated.pgn'))"
         ran = run([python, "-c", text], env=env)
         self.assertEqual(ran.stdout, b"Totals(games=1, plies=7)\n")
-        ran = run([self.folder + "/venv/bin/pgn_lint", "-"], env=env, input=b"1. e4 *\n1. d4 *\n")
+        ran = run([programs_of + "/pgn_lint", "-"], env=env, input=b"1. e4 *\n1. d4 *\n")
         self.assertEqual(ran.stdout, b"1 file, 2 games, 0 faults\n", ran.stderr)
+
+    def fresh(self):
+        """The folder of the programs of a new virtual environment."""
+        if not os.path.exists(PYTHON) or run([PYTHON, "-c", "import ensurepip"]).returncode:
+            not_tried("python3-venv is missing")
+        folder = tempfile.mkdtemp(dir=self.folder)
+        self.assertEqual(run([PYTHON, "-m", "venv", folder]).returncode, 0)
+        return folder + "/bin"
+
+    def sdist(self, package):
+        """Builds the source distribution of a folder, and gives its path."""
+        out = tempfile.mkdtemp(dir=self.folder)
+        text = "import build_wheel, sys; print(build_wheel.build_sdist(sys.argv[1]))"
+        ran = run([PYTHON, "-B", "-c", text, out], cwd=package)
+        self.assertEqual(ran.returncode, 0, ran.stderr)
+        self.assertEqual(os.listdir(out), [ran.stdout.decode().strip()])
+        return os.path.join(out, os.listdir(out)[0])
+
+    def test_source_distribution(self):
+        """It has all that its build needs: Cargo builds it outside the repository."""
+        programs.need_cargo()
+        programs_of, path = self.fresh(), self.sdist(PACKAGE)
+        python, pip = programs_of + "/python", programs_of + "/pip"
+        self.assertEqual(os.path.basename(path), "gillspoon-%s.tar.gz" % gillspoon.__version__)
+        with tarfile.open(path) as archive:
+            archive.extractall(self.folder)
+        unpacked = os.path.join(self.folder, os.path.basename(path)[:-7])
+        with open(path, "rb") as one, open(self.sdist(unpacked), "rb") as other:
+            self.assertTrue(one.read() == other.read())
+        env = dict(os.environ, PATH=programs.PATH, PIP_NO_INDEX="1", HOME=os.path.expanduser("~"))
+        del env["GILLSPOON_LIBRARY"]
+        ran = run([pip, "install", path], env=dict(env, PATH="/nowhere"), cwd=self.folder)
+        self.assertNotEqual(ran.returncode, 0)
+        self.assertIn(b"cargo is not on the PATH", ran.stdout + ran.stderr)
+        for words in ([path], ["--force-reinstall", "--editable", unpacked]):
+            ran = run([pip, "install", *words], env=env, cwd=self.folder, timeout=500)
+            self.assertEqual(ran.returncode, 0, ran.stderr)
+            text = ("import gillspoon, os\n"
+                    "print(gillspoon._library.path(), gillspoon.__version__)\n"
+                    "print(gillspoon.check(%r))\n"
+                    "print(*sorted(os.listdir(os.path.dirname(gillspoon.__file__))))\n"
+                    % (ROOT + "/examples/annotated.pgn"))
+            ran = run([python, "-B", "-c", text], env={"PATH": "/usr/bin:/bin"}, cwd=self.folder)
+            place, counts, names = ran.stdout.decode().splitlines()
+            self.assertRegex(place, "^%s/.*/libpgn_c.so %s$" % (self.folder, gillspoon.__version__))
+            self.assertEqual(counts, "Totals(games=1, plies=7)")
+            ours = {it for it in os.listdir(PACKAGE + "/gillspoon") if "." in it}
+            self.assertEqual(set(names.split()) - {"__pycache__"}, ours | {"VERSION", "libpgn_c.so"})
 
     def test_tag(self):
         ran = run([PYTHON, "-m", "pip", "wheel", "--no-index", "--no-deps", "-w", self.folder,
