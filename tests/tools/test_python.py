@@ -1550,10 +1550,13 @@ class Documents(Folder):
         shutil.copytree(ROOT + "/examples", self.folder + "/examples")
 
     def run_sample(self, text, *words):
-        path = self.put("sample.py", text.encode())
-        ran = run([PYTHON, path, *words], cwd=self.folder, env=environment())
+        ran = self.ran(text, *words)
         self.assertEqual((ran.returncode, ran.stderr), (0, b""), text)
         return ran.stdout.decode()
+
+    def ran(self, text, *words):
+        path = self.put("sample.py", text.encode())
+        return run([PYTHON, path, *words], cwd=self.folder, env=environment())
 
     def sample(self, heading, *words):
         """What the sample below a heading of docs/PYTHON.md prints, but the line of the fault."""
@@ -1561,11 +1564,15 @@ class Documents(Folder):
 
     def whole_sample(self, heading, *words):
         """All that it prints."""
+        return self.run_sample(self.text_of(heading), *words).replace("pgn.zst: ", "pgn: ")
+
+    def text_of(self, heading):
+        """The sample below a heading."""
         lines = lines_of("docs/PYTHON.md")
         at = next(number for number, it in enumerate(lines) if it.lstrip("# ") == heading)
         inner = next(inner for number, before, inner in blocks_of(lines)
                      if number > at and lines[number - 1] == "```python")
-        return self.run_sample("\n".join(inner) + "\n", *words).replace("pgn.zst: ", "pgn: ")
+        return "\n".join(inner) + "\n"
 
     def get(self, name):
         with open(os.path.join(self.folder, name), "rb") as file:
@@ -1599,6 +1606,26 @@ class Documents(Folder):
         self.sample("Filter by player")
         text = self.get("chosen.pgn")
         self.assertEqual((text.count(b"[Event "), text.count(b'[White "Silva, J."]')), (3, 2))
+
+    def test_an_older_output_is_kept(self):
+        """Every sample that writes a file does so when its input was read."""
+        with open(ROOT + "/docs/PYTHON.md", encoding="utf-8") as file:
+            parts = re.split(r"(?m)^### (.*)$", file.read())
+        writing = {head: re.findall(r'"(\w+\.pgn)"[,)]', text) for head, text
+                   in zip(parts[1::2], parts[2::2]) if '"wb"' in text}
+        self.assertGreater(len(writing), 2)
+        damaged = gzip.compress(self.get("games.pgn") * 1000)[:-100]
+        for head, names in writing.items():
+            for name in set(names) - {"games.pgn"}:
+                for data in (damaged, None):
+                    self.put(name, b"old")
+                    os.remove(self.put("games.pgn", b""))
+                    if data:
+                        self.put("games.pgn", data)
+                    ran = self.ran(self.text_of(head))
+                    self.assertNotEqual(ran.returncode, 0, head)
+                    self.assertIn(b"Error: ", ran.stderr)
+                    self.assertEqual(self.get(name), b"old", head)
 
     def test_openings(self):
         self.assertEqual(self.sample("Count the openings by their first moves"),
