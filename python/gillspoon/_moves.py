@@ -83,7 +83,7 @@ class Ply:
 
     @property
     def clock(self) -> Optional[float]:
-        """The seconds on the clock of who moved, by `[%clk 0:05:00]`; None without it."""
+        """The seconds that the mover has left, by `[%clk 0:05:00]`; None without it."""
         return seconds_of(CLOCK, self.comments)
 
     @property

@@ -26,7 +26,7 @@ class Readable(Protocol):
 
 Data = Union[bytes, bytearray, memoryview, mmap.mmap]
 _DATA = (bytes, bytearray, memoryview, mmap.mmap)
-Source = Union[str, "os.PathLike[str]", Data, Readable]
+Source = Union[str, os.PathLike[str], Data, Readable]
 
 
 class Input:
