@@ -1,4 +1,4 @@
-//! The condition of `Lexer::next` and `next_past_numbers`. Written for Cargo.
+//! The condition of `Lexer::next`, `whole_token` and `read_on`. Written for Cargo.
 
 use super::Lexer;
 use crate::Outcome;
@@ -27,6 +27,13 @@ fn the_last_byte_of_2_to_62_is_read() {
 #[test]
 #[should_panic(expected = "a text has at most 2^62 bytes")]
 #[cfg(debug_assertions)]
-fn a_byte_after_2_to_62_is_refused_past_numbers() {
-    lexer_at((1 << 62) - 3).next_past_numbers(b"Nf3 ");
+fn a_byte_after_2_to_62_is_refused_by_read_on() {
+    lexer_at((1 << 62) - 3).read_on(b"Nf3 ");
+}
+
+#[test]
+#[should_panic(expected = "a text has at most 2^62 bytes")]
+#[cfg(debug_assertions)]
+fn a_byte_after_2_to_62_is_refused_by_whole_token() {
+    lexer_at((1 << 62) - 3).whole_token(b"Nf3 ", false);
 }

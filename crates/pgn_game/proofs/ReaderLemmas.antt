@@ -16,4 +16,4 @@ pub use Rattle.pgn_game.proofs.refusals.RefusalsByStage.{close_next, close_refus
 pub use Rattle.pgn_game.proofs.refusals.RefusalsInMovetext.{depth_is, differs, holds_is, marker_differs, marker_free, marker_inside, none_around}
 pub use Rattle.pgn_game.proofs.refusals.RefusalsInMovetext.{number_free, number_leads, test_of}
 pub use Rattle.pgn_game.proofs.tokens.PairsTriedForToken.{adds_move, adds_same, marker_untried, number_untried}
-pub use Rattle.pgn_game.proofs.tokens.PutToAnswer.{comment_in_pair, counting_none, enters, entry_refused, item_entry, move_counted, move_refused, no_symbol_counted, passes_entry, passes_first, plain_counted, refused_after, refused_in_pair, step_in_pair, takes_marker, takes_move, takes_outside_first, takes_step}
+pub use Rattle.pgn_game.proofs.tokens.PutToAnswer.{comment_in_pair, counting_none, enters, entry_met, entry_refused, item_entry, move_counted, move_refused, no_symbol_counted, passes_entry, passes_first, plain_counted, refused_after, refused_in_pair, step_in_pair, takes_marker, takes_move, takes_outside_first, takes_step}

@@ -62,7 +62,7 @@ pub use Rattle.pgn_game.specs.TagSection.{exported, in_roster, other_pairs, rost
 unfoldable pub use Rattle.pgn_game.specs.TagSection.{roster}
 pub use Rattle.pgn_game.specs.Text.{Placed, full_text, game_text, has_move, is_main_move, is_move, number_before, placed_from, tokens_at, tokens_from}
 pub use Rattle.pgn_game.specs.Text.{tokens_out, torn, torn_at, torn_for, written_items, text_of as text_of_games}
-pub use Rattle.pgn_game.specs.TokenInMovetext.{IsEntry, IsOpen, ItemFits, fen_position, game_of, is_frequent, may_have_movetext, model_item, or_else}
+pub use Rattle.pgn_game.specs.TokenInMovetext.{IsEntry, IsOpen, ItemFits, fen_position, game_of, may_have_movetext, model_item, or_else}
 pub use Rattle.pgn_game.specs.TokenInMovetext.{text_refusal, with_items}
 pub use Rattle.pgn_game.specs.declared.marker.Marker.{Marker}
 pub use Rattle.pgn_game.specs.declared.marker.Marker.TheVariants.{BlackWins, Draw, Unknown, WhiteWins}

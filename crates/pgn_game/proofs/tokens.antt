@@ -24,3 +24,5 @@ pub mod StepsAtEnd
 pub mod StepsInPiece
 pub mod TextEndsGame
 pub mod WholeInput
+pub mod RunsInPiece
+pub mod StepsOverTokens

@@ -71,11 +71,11 @@ abbrev pub game_in_reader_if : Bool → ReaderState → Option FinishedGame
 game_in_reader_if true reading = Some (game_in_reader reading)
 game_in_reader_if false reading = None
 
--- What always holds of a converter. Before a fault at most 2^62 bytes are used, and the games and
--- the plies are at most twice as many, but for a few: a byte ends at most two tokens. While a game
--- is just finished, no game is begun, and there is no fault.
+-- What always holds of a converter. At most 2^62 bytes are used. Before a fault the games and the
+-- plies are at most twice as many, but for a few: a byte ends at most two tokens. While a game is
+-- just finished, no game is begun, and there is no fault.
 pub record IsSound (lexer : Standing) (reading : ReaderState) (games : ℕ) (has_finished_game is_finished : Bool) (fault : Option Fault) : Type 0 where
-  pub count : fault ≡ None → lexer.count ≤ 2 ^ 62
+  pub count : lexer.count ≤ 2 ^ 62
   pub few : fault ≡ None → games + waiting lexer ≤ 2 * lexer.count + 2
   pub few_plies : fault ≡ None → reading.earlier_plies + reading.text.plies + waiting lexer ≤ 2 * lexer.count + 3
   pub fewer_plies : fault ≡ None → is_finished ≡ false → reading.earlier_plies + reading.text.plies + waiting lexer ≤ 2 * lexer.count + 2

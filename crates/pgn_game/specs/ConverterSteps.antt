@@ -4,7 +4,7 @@
 -- `given` are the tokens given before a call, `tokens` those read when it ends. t is the token that
 -- comes then, m the mark of a marker, f a fault, g a game. `sink` is the sink before the call and
 -- after it, `before` and `after` are the bytes that it has taken, if it reports them.
-use Rattle.std.specs.Prelude.{◌≡◌, ℕ, ◌+◌, ◌*◌, ◌<◌, ◌≤◌, ◌^◌, ◌↔◌, Bool, true, false, IsTrue, List, [], ◌∷◌, ◌++◌, length, take, drop, Option, None, Some, Result, Ok, Err, MatchResult}
+use Rattle.std.specs.Prelude.{◌≡◌, ℕ, ◌+◌, ◌*◌, ◌<◌, ◌≤◌, ◌^◌, ◌↔◌, ◌⊎◌, Bool, true, false, IsTrue, List, [], ◌∷◌, ◌++◌, length, take, drop, Option, None, Some, Result, Ok, Err, MatchResult}
 use Rattle.std.specs.Io.KnownBytes.{Appends}
 use Rattle.pgn_layout.specs.Device.{Device}
 use Rattle.pgn_lexer.specs.Tokens.{Kind, Token, EndsAt}
@@ -32,7 +32,7 @@ use Rattle.pgn_game.specs.Due.{Gains}
 use Rattle.pgn_game.specs.ReaderState.{Accepted, Finished, ReaderState, IsStopped, as_written}
 use Rattle.pgn_game.specs.TokenInMovetext.{may_have_movetext}
 use Rattle.pgn_game.specs.PutResult.{EntersMovetext, TakesEntry}
-use Rattle.pgn_game.specs.ConverterCalls.{Converter, FinishedGame, game_in_reader, IsLast, HasRead, Stands, Stops, StopsIn, AreNext, within_limit, games_before, position_at_stop, reported_position, ProbesAtStop}
+use Rattle.pgn_game.specs.ConverterCalls.{Converter, CountsFault, FinishedGame, game_in_reader, IsLast, HasRead, Stands, Stops, StopsIn, AreNext, within_limit, games_before, position_at_stop, reported_position, ProbesAtStop}
 
 -- ---- what was read and written
 
@@ -140,12 +140,6 @@ AfterStep p u given piece new used (Ok (Some (AtMarker m))) before after =
 AfterStep p u given piece new used (Err f) before after =
     (t : Token) × AreNext (u ++ piece) (given ++ t ∷ []) × NotTaken p given given t f new.reading before after
 
--- What `step_any` does to a converter.
-abbrev pub Steps : Converter → List ℕ → Converter → ℕ → Result (Option Met) Fault → Device → Type 0
-Steps old piece new used outcome sink =
-    (p : Profile) (u : List ℕ) (given : List Token) → Reaches p old u (first piece) given
-    → AfterStep p u given piece new used outcome sink.before sink.after
-
 -- Where no game is begun after a token, nothing has changed with it.
 abbrev pub StaysBetween : Converter → Converter → Type 0
 StaysBetween old new = new.reading.stage ≡ Between → new.reading ≡ old.reading
@@ -186,12 +180,29 @@ StepsAtEnd old new result sink =
     (p : Profile) (u : List ℕ) (given : List Token) → HasLeft old.lexer u given → HasRead p old given
     → AfterStepAtEnd p u given old new result sink.before sink.after
 
--- A step without a token uses the whole piece; one with a token uses a byte, or the token was
+-- A step that asks for more bytes uses the whole piece; any other uses a byte, or a token was
 -- waiting.
 abbrev pub StepAdvances : Standing → List ℕ → Standing → ℕ → Result (Option Met) Fault → Type 0
 StepAdvances old piece new used (Ok None) = used ≡ length piece
 StepAdvances old piece new used (Ok (Some met)) = waiting new < 2 * used + waiting old
 StepAdvances old piece new used (Err f) = Unit {0}
+
+-- what reading in a piece leaves of a converter, whatever it reads
+pub record KeepsRest (old new : Converter) : Type 0 where
+  pub written : as_written new.reading ≡ as_written old.reading
+  pub games : new.games ≡ old.games
+  pub none_just_finished : new.just_finished ≡ None
+  pub not_finished : new.is_finished ≡ false
+  pub probes : old.reading.most_probes ≤ new.reading.most_probes
+
+-- How far a step gets, and what it keeps and counts.
+pub record StepGoes (old : Converter) (piece : List ℕ) (new : Converter) (used : ℕ) (outcome : Result (Option Met) Fault) (sink : Device) : Type 0 where
+  pub within : used ≤ length piece
+  pub count : new.lexer.count ≡ old.lexer.count + used
+  pub ready : IsReadyAfter new outcome
+  pub keeps : KeepsRest old new
+  pub fault : new.fault ≡ fault_of_step outcome
+  pub counted : CountsFault outcome sink
 
 -- behind the last piece a token was waiting
 abbrev pub StepAtEndAdvances : Standing → Standing → Result (Option Met) Fault → Type 0
@@ -295,38 +306,35 @@ FeedsSoFar old piece at now sink =
     → Reaches p old u b given → Follows b piece
     → SoFar p u b given piece at now sink.before sink.after
 
--- ---- past numbers and periods, and what a step results in then
+-- ---- more tokens than one in a piece
 
--- What was read of the piece, of which so many bytes were used, or the token that was not taken.
-abbrev pub AfterNumbers : Profile → List ℕ → List Token → List ℕ → Converter → ℕ → Result Unit Fault
-    → Option (List ℕ) → Option (List ℕ) → Type 0
-AfterNumbers p u given piece new used (Ok done) before after =
-    SoFar p u (first piece) given piece used new before after
-AfterNumbers p u given piece new used (Err f) before after =
-    FailsIn p (u ++ piece) given f new.reading before after
-
--- What `step_past_numbers` does to a converter.
-abbrev pub PassesNumbers : Converter → List ℕ → Converter → ℕ → Result Unit Fault → Device → Type 0
-PassesNumbers old piece new used outcome sink =
-    (p : Profile) (u : List ℕ) (given : List Token) → Reaches p old u (first piece) given
-    → AfterNumbers p u given piece new used outcome sink.before sink.after
+-- What was read of the piece, of which so many bytes were used. The tokens are decided, or nothing
+-- was read.
+pub record ReadsOn (p : Profile) (u : List ℕ) (given : List Token) (piece : List ℕ) (new : Converter) (used : ℕ) (before after : Option (List ℕ)) : Type 0 where
+  pub so : SoFar p u (first piece) given piece used new before after
+  pub decided : IsDecided (u ++ take used piece) (drop used piece) so.tokens ⊎ ((used ≡ 0) × (so.tokens ≡ given))
 
 -- What a step in a piece results in that may take more tokens than one.
 abbrev pub AfterSteps : Profile → List ℕ → List Token → List ℕ → Converter → ℕ
     → Result (Option Met) Fault → Option (List ℕ) → Option (List ℕ) → Type 0
-AfterSteps p u given piece new used (Ok (Some Other)) before after =
-    (so : SoFar p u (first piece) given piece used new before after)
-    × IsDecided (u ++ take used piece) (drop used piece) so.tokens
+AfterSteps p u given piece new used (Ok None) before after =
+    (used ≡ length piece) × ReadsPiece p u (first piece) given piece new before after
+AfterSteps p u given piece new used (Ok (Some Other)) before after = ReadsOn p u given piece new used before after
+AfterSteps p u given piece new used (Ok (Some (AtMarker m))) before after =
+    ReadsToMarker p u given piece used m new before after
 AfterSteps p u given piece new used (Err f) before after =
     FailsIn p (u ++ piece) given f new.reading before after
-AfterSteps p u given piece new used outcome before after =
-    AfterStep p u given piece new used outcome before after
 
--- What `step` does to a converter.
 abbrev pub TakesSteps : Converter → List ℕ → Converter → ℕ → Result (Option Met) Fault → Device → Type 0
 TakesSteps old piece new used outcome sink =
     (p : Profile) (u : List ℕ) (given : List Token) → Reaches p old u (first piece) given
     → AfterSteps p u given piece new used outcome sink.before sink.after
+
+-- What a step in a piece does to a converter.
+pub record Steps (old : Converter) (piece : List ℕ) (new : Converter) (used : ℕ) (outcome : Result (Option Met) Fault) (sink : Device) : Type 0 where
+  pub after : TakesSteps old piece new used outcome sink
+  pub advances : StepAdvances old.lexer piece new.lexer used outcome
+  pub goes : StepGoes old piece new used outcome sink
 
 -- ---- the marker
 

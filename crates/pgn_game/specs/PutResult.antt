@@ -133,6 +133,11 @@ MeetsEntry old k new (Ok (Some marker)) d = LeavesMarker old k marker new d
 MeetsEntry old k new (Ok None) d = TakesOther old k new (Ok More) d
 MeetsEntry old k new (Err reason) d = TakesOther old k new (Err reason) d
 
+-- the answer to a token that is no marker
+abbrev pub no_marker : Result Unit Reason → Result (Option Marker) Reason
+no_marker (Ok done) = Ok None
+no_marker (Err reason) = Err reason
+
 -- a sink to which nothing is written in the call
 abbrev pub unused : Option (List ℕ) → ℕ → Device
 unused taken failures =

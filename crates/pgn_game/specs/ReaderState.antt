@@ -153,9 +153,11 @@ abbrev pub Answers : ReaderState → Part → Kind → ReaderState → Result Ac
 Answers old part k new (Ok accepted) before after = IsAccepted old part k new accepted before after
 Answers old part k new (Err reason) before after = IsStopped old part k new before after reason
 
--- A token after which no game is begun, and that finished none, changes nothing.
+-- A token after which no game is begun, and that finished none, changes nothing. In movetext, one
+-- that finishes no game leaves the reader there.
 abbrev pub Stays : ReaderState → ReaderState → Result Accepted Reason → Type 0
-Stays old new (Ok More) = new.stage ≡ Between → new ≡ old
+Stays old new (Ok More) =
+    (new.stage ≡ Between → new ≡ old) × (old.stage ≡ InMovetext → new.stage ≡ InMovetext)
 Stays old new (Ok Finished) = Unit {0}
 Stays old new (Err reason) = Unit {0}
 

@@ -47,13 +47,6 @@ may_have_movetext AfterTags = true
 may_have_movetext InMovetext = true
 may_have_movetext _ = false
 
--- the tokens that movetext has most of: symbols, periods, and words of comments
-abbrev pub is_frequent : Kind → Bool
-is_frequent (tokens.symbol s) = true
-is_frequent tokens.period = true
-is_frequent (tokens.word s) = true
-is_frequent _ = false
-
 -- the position of a FEN tag with this value, or its field at fault; no position for another tag
 abbrev pub fen_position : List ℕ → List ℕ → Result (Option Parts) ℕ
 fen_position name value = elim (bytes_eq name (codes "FEN")) [

@@ -8,9 +8,9 @@ ghost use Rattle.pgn_lexer.specs.WhiteSpace.{white_space};
 ghost use Rattle.pgn_game.specs.declared.converter.Fed.TheVariants as fed;
 ghost use Rattle.pgn_game.specs.declared.converter.Reached.TheVariants as reached;
 ghost use Rattle.pgn_game.specs.declared.reason.Reason.TheVariants.{InputTooLong, Lexical, ReadFault};
+ghost use Rattle.pgn_game.specs.declared.stage.Stage.TheVariants.{InMovetext};
 ghost use Rattle.pgn_game.specs.ConverterSteps.{FeedsFront, FeedsToMarker, Steps, StepsAtEnd};
-ghost use Rattle.pgn_game.specs.ConverterSteps.{PassesNumbers, TakesSteps};
-ghost use Rattle.pgn_game.specs.ConverterSteps.{StepAdvances, StepAtEndAdvances, AdvancesTo};
+ghost use Rattle.pgn_game.specs.ConverterSteps.{StepAtEndAdvances, AdvancesTo};
 ghost use Rattle.pgn_game.specs.ConverterSteps.{AdvancesAtEnd, EndsGame, EndsToMarker, IsReady};
 ghost use Rattle.pgn_game.specs.ConverterSteps.{IsReadyAfter, IsReadyAt, fault_of_step, game_ended, games_ended};
 ghost use Rattle.pgn_game.specs.ConverterSteps.{taking_marker, told_of};
@@ -25,7 +25,7 @@ ghost use Rattle.pgn_game.specs.ReaderState.{as_written, whole_plies};
 
 use crate::marker::{Mark, Marker, MissingResult};
 use crate::mode::Mode;
-use crate::reader::Reader;
+use crate::reader::{MOVETEXT, Reader, WHOLE};
 use crate::reason::{Fault, Reason};
 use crate::token_tests::is_end;
 use chess_rules::Position;
@@ -234,7 +234,7 @@ impl<const T: usize, const L: usize> Converter<T, L> {
             self.new.lexer.count ≡ self.old.lexer.count + used_of fed piece.now) }
         ensures grows { self.old.lexer.count ≤ self.new.lexer.count }
         ensures within { self.new.lexer.count ≤ self.old.lexer.count + length piece.now }
-        ensures short { OnOk result (self.new.lexer.count ≤ 2 ^ 62) }
+        ensures short { self.new.lexer.count ≤ 2 ^ 62 }
         ensures advances { IfOk result (λ fed. Advances self.old.lexer self.new.lexer fed) }
         ensures not_finished { self.new.is_finished ≡ false }
         ensures fault { KeepsFault self.new result }
@@ -272,7 +272,7 @@ impl<const T: usize, const L: usize> Converter<T, L> {
             self.new.lexer.count ≡ self.old.lexer.count + used_to reached piece.now) }
         ensures grows { self.old.lexer.count ≤ self.new.lexer.count }
         ensures within { self.new.lexer.count ≤ self.old.lexer.count + length piece.now }
-        ensures short { OnOk result (self.new.lexer.count ≤ 2 ^ 62) }
+        ensures short { self.new.lexer.count ≤ 2 ^ 62 }
         ensures advances { IfOk result (λ reached.
             AdvancesTo self.old.lexer self.new.lexer reached) }
         ensures ready { IfOk result (IsReadyAt self.new) }
@@ -346,7 +346,7 @@ impl<const T: usize, const L: usize> Converter<T, L> {
             (device W.taken W.failures out.old out.new) }
         ensures count { OnOk result
             (self.new.lexer.count ≡ self.old.lexer.count + length piece.now) }
-        ensures short { OnOk result (self.new.lexer.count ≤ 2 ^ 62) }
+        ensures short { self.new.lexer.count ≤ 2 ^ 62 }
         ensures not_finished { self.new.is_finished ≡ false }
         ensures fault { KeepsFault self.new result }
         ensures counted { CountsFault result (device W.taken W.failures out.old out.new) }
@@ -598,7 +598,9 @@ impl<const T: usize, const L: usize> Converter<T, L> {
         Ok(Reached::All)
     }
 
-    /// Takes one token of the piece or more. A marker is met, and not taken.
+    /// Takes tokens of the piece, up to a marker, which is met and not taken. In movetext it takes
+    /// as many as lie whole in the piece, but one alone of a short piece: most of its tokens go on
+    /// behind it, and would be looked at twice.
     #[inline(always)]
     fn step<W: Sink>(&mut self, piece: &[u8], out: &mut W) -> Step
         requires no_fault { self.old.fault ≡ None }
@@ -606,180 +608,116 @@ impl<const T: usize, const L: usize> Converter<T, L> {
         requires some { 0 < length piece.now }
         requires none_just_finished { self.old.just_finished ≡ None }
         requires not_finished { self.old.is_finished ≡ false }
-        ensures used { result.used ≤ length piece.now }
-        ensures after { TakesSteps self.old piece.now self.new result.used result.outcome
+        ensures { Steps self.old piece.now self.new result.used result.outcome
             (device W.taken W.failures out.old out.new) }
-        ensures count { self.new.lexer.count ≡ self.old.lexer.count + result.used }
-        ensures advances { StepAdvances self.old.lexer piece.now self.new.lexer result.used
-            result.outcome }
-        ensures ready { IsReadyAfter self.new result.outcome }
-        ensures written { as_written self.new.reading ≡ as_written self.old.reading }
-        ensures fault { self.new.fault ≡ fault_of_step result.outcome }
-        ensures games { self.new.games ≡ self.old.games }
-        ensures probes { self.old.reading.most_probes ≤ self.new.reading.most_probes }
-        ensures none_just_finished { self.new.just_finished ≡ None }
-        ensures not_finished { self.new.is_finished ≡ false }
-        ensures counted { CountsFault result.outcome
-            (device W.taken W.failures out.old out.new) }
-    {
-        let (used, outcome) = self.steps_past_numbers(piece, out);
-        if used == 0 {
-            return self.step_any(piece, out);
-        }
-        match outcome {
-            Ok(()) => Step {
-                used,
-                outcome: Ok(Some(Met::Token)),
-            },
-            Err(fault) => Step {
-                used,
-                outcome: Err(fault),
-            },
-        }
-    }
-
-    /// In movetext, takes one token after another as `step_past_numbers` does, until it takes none.
-    /// A short piece is left: most of its tokens go on behind it, and would be looked at twice.
-    #[inline(always)]
-    fn steps_past_numbers<W: Sink>(
-        &mut self,
-        piece: &[u8],
-        out: &mut W,
-    ) -> (usize, Result<(), Fault>)
-        requires no_fault { self.old.fault ≡ None }
-        requires short { self.old.lexer.count + length piece.now ≤ 2 ^ 62 }
-        requires none_just_finished { self.old.just_finished ≡ None }
-        requires not_finished { self.old.is_finished ≡ false }
-        ensures used { result.0 ≤ length piece.now }
-        ensures nothing { result.0 ≡ 0 → (self.new ≡ self.old) × (out.new ≡ out.old) }
-        ensures after { PassesNumbers self.old piece.now self.new result.0 result.1
-            (device W.taken W.failures out.old out.new) }
-        ensures count { self.new.lexer.count ≡ self.old.lexer.count + result.0 }
-        ensures advances { 0 < result.0
-            → waiting self.new.lexer < 2 * result.0 + waiting self.old.lexer }
-        ensures written { as_written self.new.reading ≡ as_written self.old.reading }
-        ensures fault { KeepsFault self.new result.1 }
-        ensures games { self.new.games ≡ self.old.games }
-        ensures probes { self.old.reading.most_probes ≤ self.new.reading.most_probes }
-        ensures none_just_finished { self.new.just_finished ≡ None }
-        ensures not_finished { self.new.is_finished ≡ false }
-        ensures counted { CountsFault result.1 (device W.taken W.failures out.old out.new) }
     {
         if piece.len() < SHORTEST_PIECE || !self.reader.is_in_movetext() {
-            return (0, Ok(()));
+            return self.step_token(piece, out);
         }
-        self.run_past_numbers(piece, out)
+        self.step_movetext(piece, out)
     }
 
-    /// The loop of `steps_past_numbers`. It is not inlined, so that it has the registers to itself.
-    #[inline(never)]
-    fn run_past_numbers<W: Sink>(&mut self, piece: &[u8], out: &mut W) -> (usize, Result<(), Fault>)
-        requires no_fault { self.old.fault ≡ None }
-        requires short { self.old.lexer.count + length piece.now ≤ 2 ^ 62 }
-        requires none_just_finished { self.old.just_finished ≡ None }
-        requires not_finished { self.old.is_finished ≡ false }
-        ensures used { result.0 ≤ length piece.now }
-        ensures nothing { result.0 ≡ 0 → (self.new ≡ self.old) × (out.new ≡ out.old) }
-        ensures after { PassesNumbers self.old piece.now self.new result.0 result.1
-            (device W.taken W.failures out.old out.new) }
-        ensures count { self.new.lexer.count ≡ self.old.lexer.count + result.0 }
-        ensures advances { 0 < result.0
-            → waiting self.new.lexer < 2 * result.0 + waiting self.old.lexer }
-        ensures written { as_written self.new.reading ≡ as_written self.old.reading }
-        ensures fault { KeepsFault self.new result.1 }
-        ensures games { self.new.games ≡ self.old.games }
-        ensures probes { self.old.reading.most_probes ≤ self.new.reading.most_probes }
-        ensures none_just_finished { self.new.just_finished ≡ None }
-        ensures not_finished { self.new.is_finished ≡ false }
-        ensures counted { CountsFault result.1 (device W.taken W.failures out.old out.new) }
-    {
-        let mut end = 0;
-        while end < piece.len() {
-            let (used, outcome) = self.step_past_numbers(&piece[end..], out);
-            if used == 0 {
-                return (end, Ok(()));
-            }
-            end += used;
-            match outcome {
-                Ok(()) => {}
-                Err(fault) => return (end, Err(fault)),
-            }
-        }
-        (end, Ok(()))
-    }
-
-    /// In movetext, passes move numbers and periods, which add nothing, and takes the token behind
-    /// them, where `Lexer::next_past_numbers` gives it. If no byte was used, nothing has changed.
+    /// What `run_movetext` does. Its result is taken apart, so that it needs room in memory here
+    /// alone, and the other steps need none.
     #[inline(always)]
-    fn step_past_numbers<W: Sink>(
-        &mut self,
-        piece: &[u8],
-        out: &mut W,
-    ) -> (usize, Result<(), Fault>)
-        requires no_fault { self.old.fault ≡ None }
-        requires short { self.old.lexer.count + length piece.now ≤ 2 ^ 62 }
-        requires none_just_finished { self.old.just_finished ≡ None }
-        requires not_finished { self.old.is_finished ≡ false }
-        ensures used { result.0 ≤ length piece.now }
-        ensures nothing { result.0 ≡ 0 → (self.new ≡ self.old) × (out.new ≡ out.old) }
-        ensures after { PassesNumbers self.old piece.now self.new result.0 result.1
-            (device W.taken W.failures out.old out.new) }
-        ensures count { self.new.lexer.count ≡ self.old.lexer.count + result.0 }
-        ensures advances { 0 < result.0
-            → waiting self.new.lexer < 2 * result.0 + waiting self.old.lexer }
-        ensures written { as_written self.new.reading ≡ as_written self.old.reading }
-        ensures fault { KeepsFault self.new result.1 }
-        ensures games { self.new.games ≡ self.old.games }
-        ensures probes { self.old.reading.most_probes ≤ self.new.reading.most_probes }
-        ensures none_just_finished { self.new.just_finished ≡ None }
-        ensures not_finished { self.new.is_finished ≡ false }
-        ensures counted { CountsFault result.1 (device W.taken W.failures out.old out.new) }
-    {
-        if !self.reader.is_in_movetext() {
-            return (0, Ok(()));
-        }
-        let (used, token) = self.lexer.next_past_numbers(piece);
-        let Some(token) = token else {
-            return (used, Ok(()));
-        };
-        match self.reader.accept_past_numbers(token.kind, out) {
-            Ok(()) => (used, Ok(())),
-            Err(reason) => {
-                let fault = Fault {
-                    at: token.at,
-                    reason,
-                };
-                self.fault = Some(fault);
-                (used, Err(fault))
-            }
-        }
-    }
-
-    /// Takes the next token of the piece, unless it is a marker.
-    #[inline(always)]
-    fn step_any<W: Sink>(&mut self, piece: &[u8], out: &mut W) -> Step
+    fn step_movetext<W: Sink>(&mut self, piece: &[u8], out: &mut W) -> Step
+        requires stage { self.old.reading.stage ≡ InMovetext }
         requires no_fault { self.old.fault ≡ None }
         requires short { self.old.lexer.count + length piece.now ≤ 2 ^ 62 }
         requires some { 0 < length piece.now }
         requires none_just_finished { self.old.just_finished ≡ None }
         requires not_finished { self.old.is_finished ≡ false }
-        ensures used { result.used ≤ length piece.now }
-        ensures after { Steps self.old piece.now self.new result.used result.outcome
-            (device W.taken W.failures out.old out.new) }
-        ensures count { self.new.lexer.count ≡ self.old.lexer.count + result.used }
-        ensures advances { StepAdvances self.old.lexer piece.now self.new.lexer result.used
-            result.outcome }
-        ensures ready { IsReadyAfter self.new result.outcome }
-        ensures written { as_written self.new.reading ≡ as_written self.old.reading }
-        ensures fault { self.new.fault ≡ fault_of_step result.outcome }
-        ensures games { self.new.games ≡ self.old.games }
-        ensures probes { self.old.reading.most_probes ≤ self.new.reading.most_probes }
-        ensures none_just_finished { self.new.just_finished ≡ None }
-        ensures not_finished { self.new.is_finished ≡ false }
-        ensures counted { CountsFault result.outcome
+        ensures { Steps self.old piece.now self.new result.used result.outcome
             (device W.taken W.failures out.old out.new) }
     {
-        let scan = self.lexer.next(piece);
+        let Step { used, outcome } = self.run_movetext(piece, out);
+        Step { used, outcome }
+    }
+
+    /// In movetext, takes one token after another while they lie whole in the piece, and the one
+    /// behind them. It passes numbers and periods, which add nothing in movetext. It is not
+    /// inlined, so that it has the registers to itself.
+    #[inline(never)]
+    fn run_movetext<W: Sink>(&mut self, piece: &[u8], out: &mut W) -> Step
+        requires stage { self.old.reading.stage ≡ InMovetext }
+        requires no_fault { self.old.fault ≡ None }
+        requires short { self.old.lexer.count + length piece.now ≤ 2 ^ 62 }
+        requires some { 0 < length piece.now }
+        requires none_just_finished { self.old.just_finished ≡ None }
+        requires not_finished { self.old.is_finished ≡ false }
+        ensures { Steps self.old piece.now self.new result.used result.outcome
+            (device W.taken W.failures out.old out.new) }
+    {
+        let mut used = 0;
+        while used < piece.len() {
+            let (count, token) = self.lexer.whole_token(&piece[used..], true);
+            used += count;
+            let Some(token) = token else { break };
+            let met = self.reader.accept_entry::<W, MOVETEXT>(token.kind, out);
+            let Ok(None) = met else {
+                let outcome = settle(token.at, met, &mut self.fault);
+                return Step { used, outcome };
+            };
+        }
+        if used == piece.len() {
+            return Step {
+                used,
+                outcome: Ok(Some(Met::Token)),
+            };
+        }
+        let step = self.step_on(&piece[used..], out);
+        Step {
+            used: used + step.used,
+            outcome: step.outcome,
+        }
+    }
+
+    /// Takes the next token of the piece, unless it is a marker.
+    #[inline(always)]
+    fn step_token<W: Sink>(&mut self, piece: &[u8], out: &mut W) -> Step
+        requires no_fault { self.old.fault ≡ None }
+        requires short { self.old.lexer.count + length piece.now ≤ 2 ^ 62 }
+        requires some { 0 < length piece.now }
+        requires none_just_finished { self.old.just_finished ≡ None }
+        requires not_finished { self.old.is_finished ≡ false }
+        ensures { Steps self.old piece.now self.new result.used result.outcome
+            (device W.taken W.failures out.old out.new) }
+    {
+        let (used, token) = self.lexer.whole_token(piece, false);
+        let Some(token) = token else {
+            if used == piece.len() {
+                return Step {
+                    used,
+                    outcome: Ok(Some(Met::Token)),
+                };
+            }
+            let rest = self.step_on(&piece[used..], out);
+            return Step {
+                used: used + rest.used,
+                outcome: rest.outcome,
+            };
+        };
+        let met = self
+            .reader
+            .accept_unless_marker::<W, WHOLE>(token.kind, out);
+        Step {
+            used,
+            outcome: settle(token.at, met, &mut self.fault),
+        }
+    }
+
+    /// Takes the next token of the piece as `step_token` does, but reads it byte by byte.
+    #[inline(always)]
+    fn step_on<W: Sink>(&mut self, piece: &[u8], out: &mut W) -> Step
+        requires no_fault { self.old.fault ≡ None }
+        requires short { self.old.lexer.count + length piece.now ≤ 2 ^ 62 }
+        requires some { 0 < length piece.now }
+        requires none_just_finished { self.old.just_finished ≡ None }
+        requires not_finished { self.old.is_finished ≡ false }
+        ensures { Steps self.old piece.now self.new result.used result.outcome
+            (device W.taken W.failures out.old out.new) }
+    {
+        let scan = self.lexer.read_on(piece);
         let used = scan.used;
         match scan.outcome {
             Outcome::NeedMore => Step {
@@ -788,7 +726,7 @@ impl<const T: usize, const L: usize> Converter<T, L> {
             },
             Outcome::Token(token) => {
                 let at = token.at;
-                let met = self.reader.accept_unless_marker(token.kind, out);
+                let met = self.reader.accept_copied(token.kind, out);
                 Step {
                     used,
                     outcome: settle(at, met, &mut self.fault),
@@ -826,7 +764,7 @@ impl<const T: usize, const L: usize> Converter<T, L> {
             Outcome::Token(token) => {
                 let at = token.at;
                 let is_end = is_end(token.kind);
-                let met = self.reader.accept_unless_marker(token.kind, out);
+                let met = self.reader.accept_copied(token.kind, out);
                 let outcome = settle(at, met, &mut self.fault);
                 if is_end && outcome.is_ok() {
                     self.is_finished = true;

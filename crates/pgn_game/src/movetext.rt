@@ -235,14 +235,15 @@ impl<const L: usize> Movetext<L> {
         ensures { PutsTokens (tokens_due self.now (model_item item.now)) line.old line.new
             result (device W.taken W.failures out.old out.new) }
     {
-        match item {
-            Annotation::Glyph(glyph) => put_glyph(*glyph, line, out),
-            Annotation::CommentOpen => line.put(b"{", out),
-            Annotation::Word(word) => line.put(word, out),
-            Annotation::CommentClose => line.put(b"}", out),
-            Annotation::Open => line.put(b"(", out),
-            Annotation::Close => line.put(b")", out),
-        }
+        let token: &[u8] = match item {
+            Annotation::Glyph(glyph) => return put_glyph(*glyph, line, out),
+            Annotation::CommentOpen => b"{",
+            Annotation::Word(word) => word,
+            Annotation::CommentClose => b"}",
+            Annotation::Open => b"(",
+            Annotation::Close => b")",
+        };
+        line.put(token, out)
     }
 
     // Writes the number of the next move, if it needs one (PGN 8.2.2.2).

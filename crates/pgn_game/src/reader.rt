@@ -3,7 +3,6 @@ ghost use Rattle.std.specs.Prelude.{◌≡◌, ◌+◌, ◌-◌, ◌≤◌, ◌<
 ghost use Rattle.std.specs.Prelude.{None, OnOk, Some, option_map, IsTrue, ◌↔◌, bytes_eq, codes, max};
 ghost use Rattle.std.specs.Option.{option_copied};
 ghost use Rattle.pgn_layout.specs.Device.{device};
-ghost use Rattle.pgn_lexer.specs.PastNumbers.{is_given};
 ghost use Rattle.pgn_lexer.specs.Tokens.{HasLength, Kind, left_paren, right_paren, symbol};
 ghost use Rattle.pgn_lexer.specs.Scanned.{kind_of};
 ghost use Rattle.pgn_game.specs.Pairs.{value_of};
@@ -15,11 +14,11 @@ ghost use Rattle.pgn_game.specs.Profile.{counts_as, known_result};
 ghost use Rattle.pgn_game.specs.Markers.{marker_text, missing_of};
 ghost use Rattle.pgn_game.specs.Movetext.{movetext_from};
 ghost use Rattle.pgn_game.specs.ReaderState.{CountsWrites, known_of, whole_plies};
-ghost use Rattle.pgn_game.specs.TokenInMovetext.{ItemFits, is_frequent, may_have_movetext, model_item};
+ghost use Rattle.pgn_game.specs.TokenInMovetext.{ItemFits, may_have_movetext, model_item};
 ghost use Rattle.pgn_game.specs.TokenInMovetext.{fen_position as position_in_fen};
 ghost use Rattle.pgn_game.specs.PutResult.{BeginsText, CountsMove, Finds, Keeps, MeetsEntry};
 ghost use Rattle.pgn_game.specs.PutResult.{PutsItems, TakesEntry, TakesOutside, TakesUnlessMarker};
-ghost use Rattle.pgn_game.specs.PutResult.{TakesToken, TakesUnwritten, at_game_start, continued, ended};
+ghost use Rattle.pgn_game.specs.PutResult.{TakesUnwritten, at_game_start, continued, ended, no_marker};
 ghost use Rattle.pgn_game.specs.FaultTable as spec;
 ghost use Rattle.pgn_game.specs.FaultTable.{is_reduced, marker_of};
 
@@ -42,6 +41,14 @@ use chess_text::read_fen;
 use pgn_layout::{CurrentLine, Sink, WriteFault, fits_tag_line};
 use pgn_lexer::TokenKind;
 use std::marker::Model;
+
+/// The callers of `accept_entry`: the loop of movetext, the step that takes one token whole, and
+/// `accept_copied`.
+pub const MOVETEXT: u8 = 0;
+
+pub const WHOLE: u8 = 1;
+
+const COPIED: u8 = 2;
 
 /// The current game: at most `T` tag pairs, at most `L` levels of movetext, and the line that is
 /// not full yet.
@@ -194,7 +201,7 @@ impl<const T: usize, const L: usize> Reader<T, L> {
     /// The row of the fault table that rejects the token, or `Reason::WriteFault` if a write
     /// failed. Do not call this again after an error.
     #[inline(always)]
-    pub fn accept_unless_marker<W: Sink>(
+    pub fn accept_unless_marker<W: Sink, const CALLER: u8>(
         &mut self,
         kind: TokenKind<'_>,
         out: &mut W,
@@ -209,40 +216,28 @@ impl<const T: usize, const L: usize> Reader<T, L> {
                 result?;
                 Ok(None)
             }
-            None => self.accept_entry(kind, out),
+            None => self.accept_entry::<W, CALLER>(kind, out),
         }
     }
 
-    /// Takes a token that `Lexer::next_past_numbers` gave, once movetext has begun. None of these
-    /// is a marker.
+    /// Takes one token as `accept_unless_marker` does, and is not inlined. Few tokens come here:
+    /// those that lie in no piece as a whole, and those that the end of the text ends.
     ///
     /// # Errors
     ///
-    /// Those of `accept_unless_marker`.
-    #[inline(always)]
-    pub fn accept_past_numbers<W: Sink>(
+    /// As `accept_unless_marker`.
+    #[inline(never)]
+    pub fn accept_copied<W: Sink>(
         &mut self,
         kind: TokenKind<'_>,
         out: &mut W,
-    ) -> Result<(), Reason>
+    ) -> Result<Option<Marker>, Reason>
         requires few { self.old.earlier_plies + self.old.text.plies < 2 ^ 64 - 1 }
-        requires stage { self.old.stage ≡ InMovetext }
         requires token { HasLength (kind_of kind) }
-        requires given { IsTrue (is_given (kind_of kind)) }
-        ensures takes { TakesToken self.old (kind_of kind.entry) self.new (continued result)
+        ensures { TakesUnlessMarker self.old (kind_of kind.entry) self.new result
             (device W.taken W.failures out.old out.new) }
-        ensures no_marker { marker_of (kind_of kind.entry) ≡ None }
     {
-        match kind {
-            TokenKind::Symbol(text) => self.accept_move(text, out),
-            TokenKind::Word(word) => self.put(Annotation::Word(word), out),
-            TokenKind::CommentOpen => self.put(Annotation::CommentOpen, out),
-            TokenKind::CommentClose => self.put(Annotation::CommentClose, out),
-            TokenKind::LeftParen => self.open_variation(out),
-            TokenKind::RightParen => self.close_variation(out),
-            // Never: these are all that are given.
-            _ => Ok(()),
-        }
+        self.accept_unless_marker::<W, COPIED>(kind, out)
     }
 
     // Takes a token outside movetext. `None` if it belongs to movetext, which begins or goes on.
@@ -414,10 +409,17 @@ impl<const T: usize, const L: usize> Reader<T, L> {
         let _ = self.find(text, &mut probes);
     }
 
-    // Takes a token of movetext, or the first one, unless it is a marker. The caller has taken the
-    // `[` of another pair.
+    /// Takes a token of movetext, or the first one, unless it is a marker. The caller has taken the
+    /// `[` of another pair.
+    ///
+    /// `CALLER` changes nothing but that each of the three callers has a function of its own, which
+    /// LLVM inlines there.
+    ///
+    /// # Errors
+    ///
+    /// Those of `accept_unless_marker`.
     #[inline(always)]
-    fn accept_entry<W: Sink>(
+    pub fn accept_entry<W: Sink, const CALLER: u8>(
         &mut self,
         kind: TokenKind<'_>,
         out: &mut W,
@@ -430,46 +432,18 @@ impl<const T: usize, const L: usize> Reader<T, L> {
     {
         match kind {
             TokenKind::Symbol(text) => self.accept_symbol(text, out),
-            TokenKind::Period => {
-                self.pass(out)?;
-                Ok(None)
-            }
-            TokenKind::Word(word) => {
-                self.put(Annotation::Word(word), out)?;
-                Ok(None)
-            }
             TokenKind::Asterisk => Ok(Some(Marker::Unknown)),
-            _ => {
-                self.accept_other(kind, out)?;
-                Ok(None)
-            }
-        }
-    }
-
-    // Takes a token of movetext that is no symbol, period, word or marker. It is not inlined, since
-    // few tokens are such.
-    #[inline(never)]
-    fn accept_other<W: Sink>(&mut self, kind: TokenKind<'_>, out: &mut W) -> Result<(), Reason>
-        requires stage { IsTrue (may_have_movetext self.old.stage) }
-        requires other { is_frequent (kind_of kind) ≡ false }
-        requires no_marker { marker_of (kind_of kind) ≡ None }
-        ensures { TakesEntry self.old (kind_of kind.entry) self.new (continued result)
-            (device W.taken W.failures out.old out.new) }
-    {
-        match kind {
-            TokenKind::Glyph(glyph) => self.put(Annotation::Glyph(glyph), out),
-            TokenKind::CommentOpen => self.put(Annotation::CommentOpen, out),
-            TokenKind::CommentClose => self.put(Annotation::CommentClose, out),
-            TokenKind::LeftParen => self.open_variation(out),
-            TokenKind::RightParen => self.close_variation(out),
+            TokenKind::Period => unmarked(self.pass(out)),
+            TokenKind::Word(word) => unmarked(self.put(Annotation::Word(word), out)),
+            TokenKind::CommentOpen => unmarked(self.put(Annotation::CommentOpen, out)),
+            TokenKind::CommentClose => unmarked(self.put(Annotation::CommentClose, out)),
+            TokenKind::Glyph(glyph) => unmarked(self.put(Annotation::Glyph(glyph), out)),
+            TokenKind::LeftParen => unmarked(self.open_variation(out)),
+            TokenKind::RightParen => unmarked(self.close_variation(out)),
             TokenKind::End => Err(Reason::UnexpectedEnd),
             TokenKind::LeftBracket => Err(Reason::TagInMovetext),
             TokenKind::RightBracket => Err(Reason::NotAMove),
             TokenKind::Str(_) => Err(Reason::NotAMove),
-            TokenKind::Asterisk => Err(Reason::NotAMove),
-            TokenKind::Symbol(_) => Err(Reason::NotAMove),
-            TokenKind::Period => Err(Reason::NotAMove),
-            TokenKind::Word(_) => Err(Reason::NotAMove),
         }
     }
 
@@ -636,6 +610,16 @@ impl<const T: usize, const L: usize> Reader<T, L> {
         if self.is_in_movetext() {
             return Ok(());
         }
+        self.write_tags(out)
+    }
+
+    // Writes the tag section, behind which movetext begins. It is not inlined: a game has one.
+    #[inline(never)]
+    fn write_tags<W: Sink>(&mut self, out: &mut W) -> Result<(), WriteFault>
+        requires stage { self.old.stage ≡ AfterTags }
+        ensures begins { BeginsText self.old self.new result
+            (device W.taken W.failures out.old out.new) }
+    {
         write_section(
             self.mode,
             self.known_missing_result(),
@@ -684,4 +668,15 @@ fn is_bad_result(name: &[u8], value: &[u8]) -> bool
     ensures { result ≡ (bytes_eq name.now (codes "Result") && not (spec.is_result value.now)) }
 {
     name == b"Result".as_slice() && !is_result(value)
+}
+
+// The answer to a token that is no marker.
+#[inline(always)]
+fn unmarked(taken: Result<(), Reason>) -> Result<Option<Marker>, Reason>
+    ensures { result ≡ no_marker taken }
+{
+    match taken {
+        Ok(()) => Ok(None),
+        Err(reason) => Err(reason),
+    }
 }

@@ -21,8 +21,8 @@ pub use Rattle.pgn_lexer.specs.Lexes.{Cuts, Data, IsAtLineEnd, IsRun, IsSingle, 
 pub use Rattle.pgn_lexer.specs.Lexes.{is_barred, is_escaped, is_plain, is_stray, lone, no_data, plain}
 pub use Rattle.pgn_lexer.specs.PartialToken.{HasNotFailed, IsSound, PartialToken, fault_met, kind_in, pending, pending_in, refusal, spelling}
 pub use Rattle.pgn_lexer.specs.PartialToken.{token_of, tokens_to_come, with_front}
-pub use Rattle.pgn_lexer.specs.PastNumbers.{Passes, ReadsBehind, is_passed, is_given, begins_with_letter, none, over_space, over_token}
-pub use Rattle.pgn_lexer.specs.RunResult.{EndsBeforeByte, EndsWithByte, IsOutside, Ran, RunGives, RunsOn, RunsOut, RunsToFault, RunsToToken, StoodAt}
+pub use Rattle.pgn_lexer.specs.WholeTokens.{Passes, ReadsBehind, none, over_space, over_token}
+pub use Rattle.pgn_lexer.specs.RunResult.{EndsBeforeByte, EndsWithByte, IsOutside, Ran, RunGives, RunsOut, RunsToFault, RunsToToken, StoodAt}
 pub use Rattle.pgn_lexer.specs.RunResult.{reached_after, used_after}
 pub use Rattle.pgn_lexer.specs.Runs.{IsNumberIn, IsSymbolIn, IsWordIn, standing_at}
 pub use Rattle.pgn_lexer.specs.Scanned.{Scanned, fault, more}

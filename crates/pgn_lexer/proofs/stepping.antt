@@ -11,3 +11,4 @@ pub mod RunOfBytes
 pub mod StandsAfterCalls
 pub mod StepGives
 pub mod WholeRuns
+pub mod PassesToScans

@@ -2,7 +2,6 @@
 pub mod Bytes
 pub mod Decided
 pub mod PartialToken
-pub mod PastNumbers
 pub mod Laws
 pub mod Lexes
 pub mod RunResult
@@ -17,3 +16,4 @@ pub mod Tokens
 pub mod TokensOf
 pub mod WhiteSpace
 pub mod Written
+pub mod WholeTokens

@@ -1,7 +1,7 @@
 -- **Bookkeeping**: what a lexer holds of the current token, and the tokens that it still gives.
 -- Letters: h is what is held, s the bytes that come. `place` is the number of bytes used, `at` the
 -- place of the current token, `text` its bytes so far. 239 187 191 is the byte order mark EF BB BF.
-use Rattle.std.specs.Prelude.{◌≡◌, ℕ, ◌+◌, ◌<◌, ◌≤◌, true, false, List, [], ◌∷◌, ◌++◌, take, take_while, length, codes}
+use Rattle.std.specs.Prelude.{◌≡◌, ℕ, ◌+◌, ◌<◌, ◌≤◌, true, false, List, [], ◌∷◌, ◌++◌, take_while, length, codes}
 use Rattle.pgn_lexer.specs.declared.token.LexFault.{LexFault}
 use Rattle.pgn_lexer.specs.declared.token.LexReason.{LexReason}
 use Rattle.pgn_lexer.specs.declared.token.LexReason.TheVariants.{StrayByte}
@@ -89,12 +89,6 @@ HasMore _ text = Unit {0}
 -- the text fits the buffer
 abbrev pub HasRoom : Mode → List ℕ → Type 0
 HasRoom mode text = (length text ≤ 255) × HasMore mode text
-
--- The text is the first bytes of the buffer, and fits it.
-pub record FitsBuffer (mode : Mode) (size : ℕ) (buffer : List ℕ) : Type 0 where
-  pub whole : length buffer ≡ 255
-  pub within : size ≤ 255
-  pub room : HasRoom mode (take size buffer)
 
 -- the partial token began before the place
 abbrev pub IsPlaced : Mode → ℕ → ℕ → List ℕ → Type 0

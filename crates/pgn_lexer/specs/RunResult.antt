@@ -84,10 +84,6 @@ pub record Ran (place : ℕ) (old : PartialToken) (piece : List ℕ) (h : Partia
   pub fresh : HasNotFailed old.mode
   pub comes : (s : List ℕ) → tokens_to_come place old (take i piece ++ s) ≡ tokens_to_come (place + i) h s
 
--- wherever a run came to hold h after i bytes of the piece, so it ends
-abbrev pub RunsOn : ℕ → List ℕ → ℕ → PartialToken → PartialToken → ℕ → Reached → Type 0
-RunsOn place piece i h new used end = (old : PartialToken) → Ran place old piece h i → RunGives place old piece new used end
-
 -- between tokens, and in no comment
 abbrev pub IsOutside : Mode → Type 0
 IsOutside LineStart = Unit {0}

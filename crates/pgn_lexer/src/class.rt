@@ -225,12 +225,6 @@ pub(crate) fn continues_symbol(byte: u8) -> bool
     CONTINUES[byte as usize]
 }
 
-pub(crate) fn is_letter(byte: u8) -> bool
-    ensures { result ≡ bytes.is_letter byte }
-{
-    byte.is_ascii_alphabetic()
-}
-
 pub(crate) fn is_digit(byte: u8) -> bool
     ensures { result ≡ bytes.is_digit byte }
 {

@@ -1,5 +1,5 @@
 //! The lexer.
-ghost use Rattle.std.specs.Prelude.{◌≡◌, ◌+◌, ◌≤◌, ◌^◌, [], length, None};
+ghost use Rattle.std.specs.Prelude.{◌≡◌, ◌+◌, ◌≤◌, ◌^◌, [], length, IfSome, None};
 ghost use Rattle.std.specs.Borrow.{sem};
 
 use crate::partial_token::{PartialToken, Reached};
@@ -47,8 +47,9 @@ impl Model for Lexer {
 
 impl Lexer {
     ghost use Rattle.pgn_lexer.specs.WhiteSpace.{white_space};
-    ghost use Rattle.pgn_lexer.specs.PastNumbers.{ReadsPastNumbers};
-    ghost use Rattle.pgn_lexer.specs.Scanned.{scanned};
+    ghost use Rattle.pgn_lexer.specs.WholeTokens.{ReadsWhole};
+    ghost use Rattle.pgn_lexer.specs.Runs.{IsInside};
+    ghost use Rattle.pgn_lexer.specs.Scanned.{kind_of, scanned};
     ghost use Rattle.pgn_lexer.specs.Standing.{fault_of};
     ghost use Rattle.pgn_lexer.specs.Stands.{StandsAfter, Scans, Finishes, Leaves};
 
@@ -87,7 +88,8 @@ impl Lexer {
         self.count
     }
 
-    /// Reads the piece up to the end of its first token, and returns that token.
+    /// Reads the piece up to the end of its first token, and returns that token. Its text is
+    /// borrowed from the lexer's buffer.
     ///
     /// After a token, pass the rest of the piece. If a byte after the token was not used, it must
     /// come next. The result is `NeedMore` if no token ends in the piece; the whole piece is then
@@ -98,8 +100,97 @@ impl Lexer {
     ///
     /// `Fault` as soon as the bytes show that the text is rejected. Each later call returns the
     /// same and uses no byte.
-    #[inline(always)]
     pub fn next(&mut self, piece: &[u8]) -> Scan<'_>
+        requires { self.old.count + length piece.now ≤ 2 ^ 62 }
+        ensures used { result.used ≤ length piece.now }
+        ensures* after { sem 𝓛 (Leaves self.entry
+            (λ new. Scans self.old piece.now new result.used (scanned result.outcome))) }
+    {
+        let (passed, token) = self.whole(piece, false);
+        match token {
+            Some(token) => {
+                let form = self.partial.hold(token);
+                Scan {
+                    used: passed,
+                    outcome: Outcome::Token(self.partial.token(form)),
+                }
+            }
+            None => {
+                let rest = self.read_on(&piece[passed..]);
+                Scan {
+                    used: passed + rest.used,
+                    outcome: rest.outcome,
+                }
+            }
+        }
+    }
+
+    /// Returns how many bytes were used, and the first token of the piece if it lies there as a
+    /// whole. Its text is borrowed from the piece.
+    ///
+    /// A symbol, a word of a comment, a NAG or a suffix ends where the byte behind it does not
+    /// continue it. So that byte has to be in the piece too; it is not used. If numbers are
+    /// skipped, symbols of digits alone and periods are passed as white space is.
+    ///
+    /// With `None` the bytes used were passed, and what comes is left to `read_on`. It began in an
+    /// earlier piece or may go on behind this one. Or it has an escape, is rejected, is an escape
+    /// line, or is the start of the text. `count` and the length of the piece must be together at
+    /// most 2^62.
+    ///
+    /// # Examples
+    ///
+    /// ```
+    /// use pgn_lexer::{Lexer, TokenKind};
+    ///
+    /// let text = b"12. e4 (1-0)";
+    /// let mut lexer = Lexer::begin_at(100, false);
+    /// let (used, token) = lexer.whole_token(text, true);
+    /// assert_eq!(used, 6);
+    /// assert_eq!(token.unwrap().at, 104);
+    /// assert_eq!(token.unwrap().kind, TokenKind::Symbol(b"e4"));
+    /// let (used, token) = lexer.whole_token(&text[6..], true);
+    /// assert_eq!(used, 2);
+    /// assert_eq!(token.unwrap().kind, TokenKind::LeftParen);
+    /// // A result is no number.
+    /// let (used, token) = lexer.whole_token(&text[8..], true);
+    /// assert_eq!(used, 3);
+    /// assert_eq!(token.unwrap().kind, TokenKind::Symbol(b"1-0"));
+    /// ```
+    #[inline(always)]
+    pub fn whole_token<'a>(
+        &mut self,
+        piece: &'a [u8],
+        skips_numbers: bool,
+    ) -> (usize, Option<Token<'a>>)
+        requires { self.old.count + length piece.now ≤ 2 ^ 62 }
+        ensures used { result.0 ≤ length piece.now }
+        ensures reads { ReadsWhole skips_numbers self.old piece.now self.new result.0 result.1 }
+    {
+        self.whole(piece, skips_numbers)
+    }
+
+    /// What `whole_token` does.
+    #[inline(always)]
+    fn whole<'a>(&mut self, piece: &'a [u8], skips_numbers: bool) -> (usize, Option<Token<'a>>)
+        requires { self.old.count + length piece.now ≤ 2 ^ 62 }
+        ensures used { result.0 ≤ length piece.now }
+        ensures token { IfSome result.1 (λ token.
+            IsInside self.new.held.mode (kind_of token.kind)) }
+        ensures reads { ReadsWhole skips_numbers self.old piece.now self.new result.0 result.1 }
+    {
+        let read = self.partial.whole_token(piece, self.count, skips_numbers);
+        self.count += read.0 as u64;
+        read
+    }
+
+    /// Reads the piece as `next` does, and gives the same, but byte by byte: for what `whole_token`
+    /// leaves. The text of a token is borrowed from the lexer's buffer.
+    ///
+    /// # Errors
+    ///
+    /// As `next`.
+    #[inline(always)]
+    pub fn read_on(&mut self, piece: &[u8]) -> Scan<'_>
         requires { self.old.count + length piece.now ≤ 2 ^ 62 }
         ensures used { result.used ≤ length piece.now }
         ensures* after { sem 𝓛 (Leaves self.entry
@@ -121,46 +212,6 @@ impl Lexer {
                 outcome: Outcome::Fault(self.partial.fault_met()),
             },
         }
-    }
-
-    /// Reads the piece past numbers and periods, up to the end of a token, and returns that token.
-    ///
-    /// This is quicker than `next`, but gives fewer tokens. Symbols of digits alone, periods and
-    /// the white space around them are passed: no call gives them. The token is a symbol that
-    /// begins with a letter, a parenthesis or a `{`, or, in a comment in braces, a word or the `}`.
-    /// It lies in the piece as a whole, and so does the byte behind a symbol or a word. Its text is
-    /// borrowed from the piece.
-    ///
-    /// The first number is how many bytes were used. With `None` the piece ends there, or what
-    /// comes is left to `next`. `count` and the length of the piece must be together at most
-    /// 2^62.
-    ///
-    /// # Examples
-    ///
-    /// ```
-    /// use pgn_lexer::{Lexer, TokenKind};
-    ///
-    /// let text = b"12. e4 (1-0)";
-    /// let mut lexer = Lexer::begin_at(100, false);
-    /// let (used, token) = lexer.next_past_numbers(text);
-    /// assert_eq!(used, 6);
-    /// assert_eq!(token.unwrap().at, 104);
-    /// assert_eq!(token.unwrap().kind, TokenKind::Symbol(b"e4"));
-    /// let (used, token) = lexer.next_past_numbers(&text[6..]);
-    /// assert_eq!(used, 2);
-    /// assert_eq!(token.unwrap().kind, TokenKind::LeftParen);
-    /// // A result is no number.
-    /// assert_eq!(lexer.next_past_numbers(&text[8..]), (0, None));
-    /// ```
-    #[inline(always)]
-    pub fn next_past_numbers<'a>(&mut self, piece: &'a [u8]) -> (usize, Option<Token<'a>>)
-        requires { self.old.count + length piece.now ≤ 2 ^ 62 }
-        ensures used { result.0 ≤ length piece.now }
-        ensures reads { ReadsPastNumbers self.old piece.now self.new result.0 result.1 }
-    {
-        let read = self.partial.run_past_numbers(piece, self.count);
-        self.count += read.0 as u64;
-        read
     }
 
     /// Ends the text: returns the tokens that are left, one a call, and then `End` at every call.

@@ -1,9 +1,9 @@
 //! The tokens of a Portable Game Notation text (PGN 7), in pieces of any length.
 //!
-//! A [`Lexer`] reads byte after byte. The text of a token is borrowed from the lexer's one buffer
-//! of 255 bytes, or from the piece (`next_past_numbers`), and no call allocates. White space (PGN
-//! 7), escape lines (PGN 6) and comments (PGN 5) are recognised. What the tokens mean is left to
-//! the caller.
+//! A [`Lexer`] gives one token a call, and no call allocates. The text of a token is borrowed from
+//! the lexer's one buffer of 255 bytes. `whole_token` alone borrows it from the piece: it gives a
+//! token that lies there as a whole. White space (PGN 7), escape lines (PGN 6) and comments (PGN 5)
+//! are recognised. What the tokens mean is left to the caller.
 #![tactic(auto)]
 
 mod class;

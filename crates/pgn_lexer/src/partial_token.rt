@@ -1,15 +1,23 @@
 //! The current token: its place, its mode, and what was read of it.
 
-ghost use Rattle.std.specs.Prelude.{◌≡◌, ◌==◌, [], if◌then◌else◌};
+ghost use Rattle.std.specs.Prelude.{◌≡◌, ◌==◌, ◌≤◌, [], if◌then◌else◌, length, MatchOption};
 ghost use Rattle.pgn_lexer.specs.ByteResult as byte_result;
+ghost use Rattle.pgn_lexer.specs.PartialToken.{PartialToken};
+ghost use Rattle.pgn_lexer.specs.Runs.{IsBetween};
+ghost use Rattle.pgn_lexer.specs.Scanned.{kind_of};
+ghost use Rattle.pgn_lexer.specs.Spelling as spelling;
+ghost use Rattle.pgn_lexer.specs.Tokens.{HasLength, end};
+ghost use Rattle.pgn_lexer.specs.declared.partial_token.SuffixRun.TheVariants as suffix_runs;
+ghost use Rattle.pgn_lexer.specs.declared.token.LexReason.TheVariants.{BadSuffix};
 
 mod byte;
 mod end;
-mod past_numbers;
 mod run;
+mod whole;
 
 use crate::class::Single;
 use crate::token::{LexFault, LexReason, Token, TokenKind};
+use arrayvec::ArrayVec;
 use std::marker::Model;
 
 /// The most bytes of a symbol, and the most data of a string (PGN 7).
@@ -104,27 +112,23 @@ pub(crate) enum Reached {
 /// The current token: its place, and what was read of it.
 #[derive(Drop)]
 pub(crate) struct PartialToken {
-    /// Its text, and behind that what is left of others.
-    buffer: [u8; LONGEST_TEXT],
-    length: usize,
+    buffer: ArrayVec<u8, LONGEST_TEXT>,
     mode: Mode,
     at: u64,
 }
 
 impl Model for PartialToken {
-    ghost use Rattle.std.specs.Prelude.{take};
-    ghost use Rattle.pgn_lexer.specs.PartialToken.{PartialToken, FitsBuffer};
+    ghost use Rattle.pgn_lexer.specs.PartialToken.{PartialToken, HasRoom};
 
     ghost Value = { PartialToken };
 
-    ghost view = { λ h. record { mode = h.mode; at = h.at; text = take h.length h.buffer } };
+    ghost view = { λ h. record { mode = h.mode; at = h.at; text = h.buffer.items } };
 
-    ghost invariant = { λ h. FitsBuffer h.mode h.length h.buffer };
+    ghost invariant = { λ h. HasRoom h.mode h.buffer.items };
 }
 
 impl PartialToken {
     ghost use Rattle.pgn_lexer.specs.PartialToken.{fault_met, kind_in};
-    ghost use Rattle.pgn_lexer.specs.Scanned.{kind_of};
 
     /// Returns the state outside all tokens, before the byte at this place.
     pub(crate) fn begin_at(place: u64, in_first_column: bool) -> PartialToken
@@ -143,8 +147,7 @@ impl PartialToken {
             Mode::Outside
         };
         PartialToken {
-            buffer: [0; LONGEST_TEXT],
-            length: 0,
+            buffer: ArrayVec::new(),
             mode,
             at: 0,
         }
@@ -170,14 +173,9 @@ impl PartialToken {
         ensures at { result.at ≡ self.now.at }
         ensures kind { kind_of result.kind ≡ kind_in form self.now.text }
     {
-        let text = &self.buffer[..self.length];
+        let text = self.buffer.as_slice();
         let kind = match form {
-            TokenForm::Single(Single::LeftBracket) => TokenKind::LeftBracket,
-            TokenForm::Single(Single::RightBracket) => TokenKind::RightBracket,
-            TokenForm::Single(Single::LeftParen) => TokenKind::LeftParen,
-            TokenForm::Single(Single::RightParen) => TokenKind::RightParen,
-            TokenForm::Single(Single::Period) => TokenKind::Period,
-            TokenForm::Single(Single::Asterisk) => TokenKind::Asterisk,
+            TokenForm::Single(single) => kind_of_single(single),
             TokenForm::Symbol => TokenKind::Symbol(text),
             TokenForm::Str => TokenKind::Str(text),
             TokenForm::Glyph(number) => TokenKind::Glyph(number),
@@ -187,6 +185,62 @@ impl PartialToken {
         };
         Token { at: self.at, kind }
     }
+
+    /// Stores the place of the token, and a copy of its text. Returns its form.
+    #[inline(always)]
+    pub(crate) fn hold(&mut self, token: Token<'_>) -> TokenForm
+        requires between { IsBetween self.old.mode }
+        requires length { HasLength (kind_of token.kind) }
+        requires no_end { kind_of token.kind ≡ end → ⊥ }
+        ensures mode { self.new.mode ≡ self.old.mode }
+        ensures room { length self.new.text ≤ 255 }
+        ensures at { self.new.at ≡ token.entry.at }
+        ensures kind { kind_in result self.new.text ≡ kind_of token.entry.kind }
+    {
+        self.at = token.at;
+        match token.kind {
+            TokenKind::LeftBracket => TokenForm::Single(Single::LeftBracket),
+            TokenKind::RightBracket => TokenForm::Single(Single::RightBracket),
+            TokenKind::LeftParen => TokenForm::Single(Single::LeftParen),
+            TokenKind::RightParen => TokenForm::Single(Single::RightParen),
+            TokenKind::Period => TokenForm::Single(Single::Period),
+            TokenKind::Asterisk => TokenForm::Single(Single::Asterisk),
+            TokenKind::Symbol(text) => {
+                copy(text, &mut self.buffer);
+                TokenForm::Symbol
+            }
+            TokenKind::Str(text) => {
+                copy(text, &mut self.buffer);
+                TokenForm::Str
+            }
+            TokenKind::Word(text) => {
+                copy(text, &mut self.buffer);
+                TokenForm::Word
+            }
+            TokenKind::Glyph(number) => TokenForm::Glyph(number),
+            TokenKind::CommentOpen => TokenForm::CommentOpen,
+            // Never the end: it lies in no piece.
+            TokenKind::CommentClose | TokenKind::End => TokenForm::CommentClose,
+        }
+    }
+}
+
+// Empties the buffer. Emptying writes a blank over each byte, so an empty one is left alone.
+fn clear(buffer: &mut ArrayVec<u8, LONGEST_TEXT>)
+    ensures { buffer.new.items ≡ [] }
+{
+    if !buffer.is_empty() {
+        buffer.clear();
+    }
+}
+
+// Copies the text into the buffer.
+fn copy(text: &[u8], buffer: &mut ArrayVec<u8, LONGEST_TEXT>)
+    requires { length text.now ≤ 255 }
+    ensures { buffer.new.items ≡ text.now }
+{
+    clear(buffer);
+    let _ = buffer.try_extend_from_slice(text);
 }
 
 /// The NAG of a suffix (PGN 8.2.3.8, 10).
@@ -200,5 +254,48 @@ pub(crate) fn glyph_of(run: SuffixRun) -> u8
         SuffixRun::VeryPoor => 4,
         SuffixRun::Speculative => 5,
         SuffixRun::Questionable => 6,
+    }
+}
+
+/// The suffix that begins with the byte, which is `!` or `?`.
+pub(crate) fn first_suffix(byte: u8) -> SuffixRun
+    ensures { result ≡ (if byte == 33 then suffix_runs.Good else suffix_runs.Poor) }
+{
+    if byte == b'!' {
+        SuffixRun::Good
+    } else {
+        SuffixRun::Poor
+    }
+}
+
+/// The suffix with the byte behind it, which is `!` or `?`. `None` if that is none of the six.
+pub(crate) fn longer_suffix(run: SuffixRun, byte: u8) -> Option<SuffixRun>
+    ensures { MatchOption result
+        ((h : PartialToken) → byte_result.second_suffix h run byte
+        ≡ byte_result.fails h h.at BadSuffix)
+        (λ longer. (h : PartialToken) → byte_result.second_suffix h run byte
+        ≡ byte_result.into h (Mode.Suffix longer) Step.Used) }
+{
+    match (run, byte) {
+        (SuffixRun::Good, b'!') => Some(SuffixRun::VeryGood),
+        (SuffixRun::Good, _) => Some(SuffixRun::Speculative),
+        (SuffixRun::Poor, b'!') => Some(SuffixRun::Questionable),
+        (SuffixRun::Poor, _) => Some(SuffixRun::VeryPoor),
+        _ => None,
+    }
+}
+
+/// The kind of a token of one byte.
+#[inline(always)]
+pub(crate) fn kind_of_single<'a>(single: Single) -> TokenKind<'a>
+    ensures { kind_of result ≡ spelling.kind_of_single single }
+{
+    match single {
+        Single::LeftBracket => TokenKind::LeftBracket,
+        Single::RightBracket => TokenKind::RightBracket,
+        Single::LeftParen => TokenKind::LeftParen,
+        Single::RightParen => TokenKind::RightParen,
+        Single::Period => TokenKind::Period,
+        Single::Asterisk => TokenKind::Asterisk,
     }
 }

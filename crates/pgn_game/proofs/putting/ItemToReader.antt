@@ -63,9 +63,9 @@ module _ (old new : ReaderState) (IsOf : Part → Type 0) (to : Part → Next) (
       → PutResult old IsOf to new (Err reasons.WriteFault) d
   unwritten counted front = search rules
 
-  pub more_comes : (new.stage ≡ Between → new ≡ old) → d.failures_after ≡ d.failures
+  pub more_comes : (new.stage ≡ Between → new ≡ old) → (old.stage ≡ InMovetext → new.stage ≡ InMovetext) → d.failures_after ≡ d.failures
       → ((part : Part) → IsOf part → Goes old part (to part) new More d) → PutResult old IsOf to new (Ok More) d
-  more_comes stays counted on = record { goes = on; keeps = keeps; stays = stays; counted = counted }
+  more_comes closed inside counted on = record { goes = on; keeps = keeps; stays = (closed, inside); counted = counted }
 
 -- a reader in movetext agrees with the part that it holds
 agrees_in_text : (r : ReaderState) (part : Part) → r.stage ≡ InMovetext
@@ -135,7 +135,8 @@ module _ (old begun new : ReaderState) (i : Item) (a b c : Option (List ℕ)) (n
         plies = omega (arith, next.earlier, begins.earlier, begins.plies, adds.plies);
         probes = most;
       })
-      (not_between new.stage (next.stage ∙ ap (λ r. r.stage) begins.begun)) (adds.counted ∙ begins.counted)
+      (not_between new.stage (next.stage ∙ ap (λ r. r.stage) begins.begun)) (λ before. next.stage ∙ ap (λ r. r.stage) begins.begun)
+      (adds.counted ∙ begins.counted)
       (λ part is.
       let added = adds.adds (start_of part.pairs) part.items (begun_held old begun part is begins.begun) in
       goes_with old begun new part (i ∷ []) (from_to a c n k) at is begins.begun next

@@ -28,11 +28,11 @@ pub record IsStep (old new : ReaderState) (part : Part) (next : Next) : Type 0 w
 -- The reader has new pairs, and perhaps a new first position.
 steps : (old new : ReaderState) (to : Part → Next) (from stage : Stage) (tags : TagPairs) (start : Option Parts) (o : Option (List ℕ)) (n : ℕ)
     → new ≡ record old { stage = stage; tags = tags; text = movetext_after_fen start old.text }
-    → old.stage ≡ from → (from ≡ Between → ⊥) → (stage ≡ Between → ⊥) → (stage ≡ InMovetext → ⊥)
+    → old.stage ≡ from → (from ≡ Between → ⊥) → (from ≡ InMovetext → ⊥) → (stage ≡ Between → ⊥) → (stage ≡ InMovetext → ⊥)
     → ((part : Part) → Agrees old part
     → IsStep old (record old { stage = stage; tags = tags; text = movetext_after_fen start old.text }) part (to part))
     → PutResult old (Agrees old) to new (Ok More) (from_to o o n n)
-steps old new to from stage tags start o n is at begun goes before each = search (rules, le_refl, from_to, more_comes, no_torn, adds_nothing)
+steps old new to from stage tags start o n is at begun unread goes before each = search (rules, le_refl, from_to, more_comes, no_torn, adds_nothing)
 
 -- where a game begins once the pair is held
 begins_with : (name value : List ℕ) (ps : List Pair) (start : Option Parts) (text : Movetext)

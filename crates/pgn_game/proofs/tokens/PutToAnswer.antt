@@ -14,6 +14,7 @@ use Rattle.pgn_game.proofs.putting.PairStepToReader.{puts_nothing, no_torn}
 use Rattle.pgn_game.proofs.tokens.PairsTriedForToken.{CostsToPut, TriesPut, adds_item, adds_none, adds_same, costs_found, marker_untried}
 use Rattle.pgn_game.proofs.tokens.PairsTriedForToken.{plain_untried, tries_put, untried_in_pair}
 use Rattle.pgn_game.specs.MostTried as most_tried
+use Rattle.pgn_game.specs.PutResult.{MeetsEntry, TakesUnlessMarker}
 
 pub counting_none : (old : ReaderState) → old ≡ counting_probes old 0
 counting_none old = let same : old.most_probes ≡ max old.most_probes 0 = omega arith in ap (λ (n : ℕ). record old { most_probes = n }) same
@@ -310,3 +311,11 @@ takes_outside_first old new k None at comment over t = record {
   probes = t.probes;
   takes = λ newer r d entry. takes_first old newer k r d at comment over (t.takes newer r d entry);
 }
+
+-- a token that enters movetext is met there
+pub entry_met : (old ready new : ReaderState) (k : Kind) (r : Result (Option Marker) Reason) (d : Device)
+    → EntersMovetext old k ready → MeetsEntry ready k new r d → TakesUnlessMarker old k new r d
+entry_met old ready new k (Ok (Some marker)) d enters h =
+    record { is = h.is; enters = subst (EntersMovetext old k) (sym h.same) enters; unwritten = h.unwritten; still = h.still }
+entry_met old ready new k (Ok None) d enters h = enters.takes new (Ok _) d h.takes
+entry_met old ready new k (Err reason) d enters h = (enters.takes new (Err reason) d h.takes, λ is. h.no_marker)

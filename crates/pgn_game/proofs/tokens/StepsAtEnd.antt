@@ -94,7 +94,7 @@ reads_end p old given t l new d has_read is_e takes between =
     let at_start = end_at old.reading.profile part.stage part.pairs part.name part.items (rw k_is at h.free) in
     let none = subst (λ k. gain (as_written old.reading) part k ≡ []) (sym k_is) (gain_end old.reading (end_part has_read.agrees at_start)) in
     let wrote : Appends d.before d.after [] = subst (λ text. Appends d.before d.after text) none h.appended in
-    rw (takes.stays between) (record {
+    rw (takes.stays.0 between) (record {
       more = [];
       extends = sym (append-nil given);
       has_read = read_at p old given l true has_read;
@@ -129,7 +129,7 @@ closes_end p old u given t l new d (Ok None) is_e ok has_read left takes =
         has_read = more;
         between = between;
       },
-      takes.stays,
+      takes.stays.0,
     )
 closes_end p old u given t l new d (Ok (Some marker)) is_e ok has_read left meets =
     absurd (no_marker_at_end t.kind is_e (rw meets.is refl))
@@ -143,7 +143,7 @@ pub closes_token : (p : Profile) (old : Converter) (u : List ℕ) (given : List 
 closes_token p old u given t l new finished d true (Ok None) not_ok has_read left takes = absurd (false≢true (sym not_ok))
 closes_token p old u given t l new finished d true (Ok (Some marker)) not_ok has_read left takes = absurd (false≢true (sym not_ok))
 closes_token p old u given t l new finished d false (Ok None) not_ok has_read left takes =
-    (t, left, reads_token p old given t l new finished d has_read takes, takes.stays)
+    (t, left, reads_token p old given t l new finished d has_read takes, takes.stays.0)
 closes_token p old u given t l new finished d false (Ok (Some marker)) not_ok has_read left meets =
     (t, left, meets_marker p old given t marker l new finished d has_read meets)
 closes_token p old u given t l new finished d e (Err why) not_ok has_read left takes =
@@ -238,16 +238,17 @@ counts_token old new k at (Ok None) sink takes = takes.counted
 counts_token old new k at (Ok (Some marker)) sink meets = meets.still
 counts_token old new k at (Err reason) sink takes = counts_reason reason sink takes.0.counted
 
--- after a fault a converter owes nothing
-pub sound_behind_fault : (lexer : Standing) (reading : ReaderState) (games : ℕ) (is_finished : Bool) (f : Fault)
+-- after a fault a converter owes no more than that few bytes are used
+pub sound_behind_fault : (lexer : Standing) (reading : ReaderState) (games : ℕ) (is_finished : Bool) (f : Fault) → lexer.count ≤ 2 ^ 62
     → IsSound lexer reading games false is_finished (Some f)
-sound_behind_fault lexer reading games is_finished f = search rules
+sound_behind_fault lexer reading games is_finished f count = search rules
 
 pub sound_if_not_ok : (lexer : Standing) (reading : ReaderState) (games : ℕ) (is_finished : Bool) (at : ℕ) (r : Result (Option Marker) Reason)
-    → is_ok (outcome_at at r) ≡ false → IsSound lexer reading games false is_finished (fault_of_step (outcome_at at r))
-sound_if_not_ok lexer reading games is_finished at (Ok None) not_ok = absurd (false≢true (sym not_ok))
-sound_if_not_ok lexer reading games is_finished at (Ok (Some marker)) not_ok = absurd (false≢true (sym not_ok))
-sound_if_not_ok lexer reading games is_finished at (Err why) not_ok = sound_behind_fault lexer reading games is_finished _
+    → is_ok (outcome_at at r) ≡ false → lexer.count ≤ 2 ^ 62
+    → IsSound lexer reading games false is_finished (fault_of_step (outcome_at at r))
+sound_if_not_ok lexer reading games is_finished at (Ok None) not_ok count = absurd (false≢true (sym not_ok))
+sound_if_not_ok lexer reading games is_finished at (Ok (Some marker)) not_ok count = absurd (false≢true (sym not_ok))
+sound_if_not_ok lexer reading games is_finished at (Err why) not_ok count = sound_behind_fault lexer reading games is_finished _ count
 
 -- a token behind the last piece keeps the counts small
 pub sound_behind : (old new : Standing) (before after : ReaderState) (games : ℕ) {finished : Bool} {fault : Option Fault}
@@ -255,7 +256,7 @@ pub sound_behind : (old new : Standing) (before after : ReaderState) (games : �
     → before.earlier_plies + before.text.plies + waiting old ≤ 2 * old.count + 2
     → Keeps before after → IsSound new after games false finished fault
 sound_behind old new before after games near count few plies keeps = record {
-  count = λ is. omega (arith, count, near.1);
+  count = omega (arith, count, near.1);
   few = λ is. omega (arith, few, near.0, near.1);
   few_plies = λ is. omega (arith, plies, near.0, near.1, keeps.plies);
   fewer_plies = λ is not_over. omega (arith, plies, near.0, near.1, keeps.plies);
@@ -269,7 +270,7 @@ pub sound_at_end : (old new : Standing) (before after : ReaderState) (games : �
     → before.earlier_plies + before.text.plies + waiting old ≤ 2 * old.count + 2
     → Keeps before after → IsSound new after games false true fault
 sound_at_end old new before after games near count few plies keeps = rw near (record {
-  count = λ is. count;
+  count = count;
   few = λ is. few;
   few_plies = λ is. omega (arith, plies, keeps.plies);
   fewer_plies = λ is over. absurd (false≢true (sym over));
@@ -284,7 +285,7 @@ pub sound_in_piece : (old new : Standing) (before after : ReaderState) (games us
     → before.earlier_plies + before.text.plies + waiting old ≤ 2 * old.count + 2
     → Keeps before after → IsSound new after games false finished fault
 sound_in_piece old new before after games used size sooner count within short few plies keeps = record {
-  count = λ is. omega (arith, count, within, short);
+  count = omega (arith, count, within, short);
   few = λ is. omega (arith, few, sooner, count);
   few_plies = λ is. omega (arith, plies, sooner, count, keeps.plies);
   fewer_plies = λ is not_over. omega (arith, plies, sooner, count, keeps.plies);

@@ -3,10 +3,10 @@ use Rattle.std.proofs.Common.{length-take-le, take_all}
 use Rattle.pgn_game.specs.declared.marker.Mark.{Mark}
 use Rattle.pgn_game.specs.declared.converter.Met.TheVariants.{Token as Other, Marker as AtMarker}
 use Rattle.pgn_game.specs.declared.converter.Met.{Met}
-use Rattle.pgn_game.specs.ConverterSteps.{AfterSteps, ReadsPiece, ReadsToMarker, FailsIn}
+use Rattle.pgn_game.specs.ConverterSteps.{AfterSteps, ReadsOn, ReadsPiece, ReadsToMarker, FailsIn}
 use Rattle.pgn_game.proofs.Words.{Reason, InputTooLong, Fault, Profile, take-append-drop, take-take, drop-take, drop-drop, Token, decided, Follows, IsDecided, first, still, Standing, StandsAfter, ReaderState, as_written, Converter, Stands, Reaches, EndsWithin, StopsIn, within_limit, too_long, CountsReason, ◌≡◌, ℕ, ◌+◌, ◌-◌, ◌<◌, ◌≤◌, ◌^◌, zero, suc, List, [], ◌∷◌, ◌++◌, length, take, drop, Option, None, Some, refl, sym, ap, subst, ◌∙◌, append_assoc, append-nil, length-append, length-drop, length-take, le_refl, drop_of_length-le, inl, inr, arith, Result, Ok, Err, take-add, AfterStep, next_at, SoFar, EndsAt}
 use Rattle.pgn_game.proofs.tokens.MarkerToGame.{reads_none, reads_more, meets_more, not_taken_more}
-use Rattle.pgn_game.proofs.tokens.AcceptedToConverter.{next_in_piece, still_none}
+use Rattle.pgn_game.proofs.tokens.AcceptedToConverter.{follows_own, next_in_piece, still_none}
 use Rattle.pgn_game.proofs.tokens.BytesWithinLimit.{all_within, front_within}
 
 pub lets_go : (p : Profile) (old : Converter) (u : List ℕ) (b : Option ℕ) (given : List Token)
@@ -125,21 +125,64 @@ module _ (p : Profile) (u : List ℕ) (b : Option ℕ) (given : List Token) (pie
       }
 
   -- more was read of the rest
-  pub so_far_on : (used : ℕ) (more : SoFar p (u ++ take at piece) (first (drop at piece)) so.tokens (drop at piece) used new c d)
-      → IsDecided ((u ++ take at piece) ++ take used (drop at piece)) (drop used (drop at piece)) more.tokens
-      → SoFar p u b given piece (at + used) new a d
-  so_far_on used more is_decided =
+  known_there : (used : ℕ) → next_at (first (drop at piece)) (drop at piece) used ≡ next_at b piece (at + used)
+  known_there used =
       let rest : 0 < length (drop at piece) = omega (arith, within, length-drop at piece) in
-      let known : next_at (first (drop at piece)) (drop at piece) used ≡ next_at b piece (at + used) =
-      next_within (first (drop at piece)) (drop at piece) used rest ∙ ap first (drop-drop used at piece) ∙ sym (next_within b piece (at + used) some) in
+      next_within (first (drop at piece)) (drop at piece) used rest ∙ ap first (drop-drop used at piece) ∙ sym (next_within b piece (at + used) some)
+
+  decided_further : (used : ℕ) (ts : List Token) → IsDecided ((u ++ take at piece) ++ take used (drop at piece)) (drop used (drop at piece)) ts
+      → IsDecided (u ++ take (at + used) piece) (drop (at + used) piece) ts
+  decided_further used ts h =
+      subst (λ xs. IsDecided (u ++ take (at + used) piece) xs ts) (drop-drop used at piece) (rw (further u piece at used) at h)
+
+  pub so_far_on : (used : ℕ) → ReadsOn p (u ++ take at piece) so.tokens (drop at piece) new used c d → SoFar p u b given piece (at + used) new a d
+  so_far_on used on =
+      let more = on.so in
       record {
         tokens = more.tokens;
-        stands = subst (λ k. StandsAfter new.lexer (u ++ take (at + used) piece) k more.tokens) known
+        stands = subst (λ k. StandsAfter new.lexer (u ++ take (at + used) piece) k more.tokens) (known_there used)
             (rw (further u piece at used) at more.stands);
-        decided = λ h. subst (λ xs. IsDecided (u ++ take (at + used) piece) xs more.tokens) (drop-drop used at piece)
-            (rw (further u piece at used) at is_decided);
+        decided = λ h. elim on.decided [
+          | inl is_decided ↦ decided_further used more.tokens is_decided
+          | inr nothing ↦
+              let here : at + used ≡ at = omega (arith, nothing.0) in
+              rw (here, nothing.1) (so.decided (omega (arith, h, nothing.0)))
+        ];
         empty = λ none. absurd (omega (arith, none, within));
         reads = reads_more p given so.tokens now a c so.reads more.tokens new d more.reads written;
+      }
+
+  -- all of the rest was read
+  pub all_on : ReadsPiece p (u ++ take at piece) (first (drop at piece)) so.tokens (drop at piece) new c d → ReadsPiece p u b given piece new a d
+  all_on reads =
+      let rest : 0 < length (drop at piece) = omega (arith, within, length-drop at piece) in
+      record {
+        tokens = reads.tokens;
+        stands = rw (still_none b piece some) (rw (whole_piece u piece at, still_none (first (drop at piece)) (drop at piece) rest) at reads.stands);
+        decided = λ h. reads.decided rest ∙ ap decided (whole_piece u piece at);
+        empty = λ none. absurd (omega (arith, none, within));
+        reads = reads_more p given so.tokens now a c so.reads reads.tokens new d reads.reads written;
+      }
+
+  -- a marker ends in the rest
+  pub marker_on : (used : ℕ) (m : Mark) → ReadsToMarker p (u ++ take at piece) so.tokens (drop at piece) used m new c d
+      → ReadsToMarker p u given piece (at + used) m new a d
+  marker_on used m to =
+      let place : length (u ++ take at piece) + used ≡ length u + (at + used) =
+      omega (arith, length-append u (take at piece), length-take-le at piece (omega (arith, within))) in
+      let ts = to.tokens ++ to.token ∷ [] in
+      record {
+        tokens = to.tokens;
+        token = to.token;
+        ends = record {
+          stands = subst (λ xs. StandsAfter new.lexer (u ++ take (at + used) piece) (first xs) ts) (drop-drop used at piece)
+              (rw (further u piece at used) at to.ends.stands);
+          decided = decided_further used ts to.ends.decided;
+          ends = subst (EndsAt to.token.kind to.token.at) place to.ends.ends;
+        };
+        at_limit = rw (further u piece at used) at to.at_limit;
+        next = rw (whole_piece u piece at) at to.next;
+        meets = meets_more p given so.tokens now a c so.reads to.tokens to.token m new d to.meets written;
       }
 
   pub fails_on : (f : Fault) → FailsIn p ((u ++ take at piece) ++ drop at piece) so.tokens f new.reading c d
@@ -191,24 +234,71 @@ module _ (p : Profile) (u : List ℕ) (b : Option ℕ) (given : List Token) (pie
         fails = not_taken_more p given so.tokens now a c so.reads so.tokens t f new.reading d fails written;
       }
 
--- one token is at most one more
-pub one_of_steps : (p : Profile) (u : List ℕ) (given : List Token) (piece : List ℕ) (new : Converter) (used : ℕ)
-    (outcome : Result (Option Met) Fault) (a c : Option (List ℕ)) → 0 < length piece → AfterStep p u given piece new used outcome a c
-    → AfterSteps p u given piece new used outcome a c
-one_of_steps p u given piece new used (Ok None) a c some after = after
-one_of_steps p u given piece new used (Ok (Some (AtMarker m))) a c some after = after
-one_of_steps p u given piece new used (Ok (Some Other)) a c some (t, ends, reads) = (
-  record {
-    tokens = given ++ t ∷ [];
-    stands = rw (next_within (first piece) piece used some) ends.stands;
-    decided = λ h. ends.decided;
-    empty = λ none. absurd (omega (arith, none, some));
-    reads = reads;
-  },
-  ends.decided,
-)
-one_of_steps p u given piece new used (Err f) a c some (t, next, fails) =
-    record { tokens = given; token = t; next = next; fails = fails }
+-- ---- from the first byte of the piece on
+
+-- no byte was used
+pub reads_on_none : (p : Profile) (old : Converter) (u : List ℕ) (given : List Token) (piece : List ℕ) (o : Option (List ℕ))
+    → Reaches p old u (first piece) given → ReadsOn p u given piece old 0 o o
+unfolding so_far_none
+reads_on_none p old u given piece o reaches =
+    record { so = so_far_none p old u (first piece) given piece o reaches (follows_own piece); decided = inr (refl, refl) }
+
+module _ (p : Profile) (u : List ℕ) (given : List Token) (piece : List ℕ) (at : ℕ) (now : Converter)
+    (a c d : Option (List ℕ)) (on : ReadsOn p u given piece now at a c) (within : at < length piece)
+    (new : Converter) (written : as_written new.reading ≡ as_written now.reading) (used : ℕ) where
+  -- one token more
+  pub after_step : (outcome : Result (Option Met) Fault) → length u + length piece ≤ 2 ^ 62
+      → AfterStep p (u ++ take at piece) on.so.tokens (drop at piece) new used outcome c d
+      → AfterSteps p u given piece new (at + used) outcome a d
+  unfolding so_far_more
+  after_step (Ok None) short after = (
+    omega (arith, after.0, length-drop at piece, within),
+    reads_all p u (first piece) given piece at now a c d on.so within new written used after,
+  )
+  after_step (Ok (Some Other)) short after =
+      record {
+        so = so_far_more p u (first piece) given piece at now a c d on.so within new written used after;
+        decided = inl (ends_further p u (first piece) given piece at now a c d on.so within new written used after.1).decided;
+      }
+  after_step (Ok (Some (AtMarker m))) short after =
+      reads_to_marker p u (first piece) given piece at now a c d on.so within new written used m short after
+  after_step (Err f) short after = fails_in p u (first piece) given piece at now a c d on.so within new written used f after
+
+  -- more tokens
+  pub after_steps : (outcome : Result (Option Met) Fault)
+      → AfterSteps p (u ++ take at piece) on.so.tokens (drop at piece) new used outcome c d
+      → AfterSteps p u given piece new (at + used) outcome a d
+  unfolding so_far_on
+  after_steps (Ok None) after = (
+    omega (arith, after.0, length-drop at piece, within),
+    all_on p u (first piece) given piece at now a c d on.so within new written after.1,
+  )
+  after_steps (Ok (Some Other)) after =
+      record {
+        so = so_far_on p u (first piece) given piece at now a c d on.so within new written used after;
+        decided = elim after.decided [
+          | inl is_decided ↦ inl (decided_further p u (first piece) given piece at now a c d on.so within new written used after.so.tokens is_decided)
+          | inr nothing ↦
+              let here : at + used ≡ at = omega (arith, nothing.0) in
+              rw (here, nothing.1) on.decided
+        ];
+      }
+  after_steps (Ok (Some (AtMarker m))) after =
+      marker_on p u (first piece) given piece at now a c d on.so within new written used m after
+  after_steps (Err f) after = fails_on p u (first piece) given piece at now a c d on.so within new written f after
+
+-- one token, from the first byte of the piece on
+pub after_token : (p : Profile) (old : Converter) (u : List ℕ) (given : List Token) (piece : List ℕ) (o : Option (List ℕ))
+    → Reaches p old u (first piece) given → 0 < length piece → (new : Converter) → as_written new.reading ≡ as_written old.reading
+    → (used : ℕ) (outcome : Result (Option Met) Fault) (after : Option (List ℕ)) → length u + length piece ≤ 2 ^ 62
+    → AfterStep p u given piece new used outcome o after → AfterSteps p u given piece new used outcome o after
+unfolding reads_on_none so_far_none
+after_token p old u given piece o reaches some new written used outcome after short step =
+    let on = reads_on_none p old u given piece o reaches in
+    let all : 0 + used ≡ used = omega arith in
+    subst (λ n. AfterSteps p u given piece new n outcome o after) all
+    (after_step p u given piece 0 old o o after on some new written used outcome short
+    (subst (λ v. AfterStep p v given piece new used outcome o after) (sym (append-nil u)) step))
 
 -- ---- a front of the piece
 

@@ -1,6 +1,10 @@
 -- A run over a piece, byte by byte.
-use Rattle.pgn_lexer.proofs.Words.{◌≡◌, ℕ, suc, ◌+◌, ◌*◌, ◌<◌, ◌≤◌, inl, inr, List, [], ◌∷◌, ◌++◌, length, get_or, take, drop, refl, sym, ap, ◌∙◌, add-one, arith, ◌⊎◌, true, false, Some, take_all, drop-cons, LexFault, Mode, LexReason, Class, CommentClass, StringClass, LineStart, Outside, Symbol, Str, AfterBackslash, Brace, BraceWord, Failed, continues_symbol, is_escaped, class, comment_class, string_class, TokenForm, Step, Used, Ends, EndsBefore, Fault, PartialToken, tokens_to_come, token_of, IsSound, HasNotFailed, pending, fault_met, fault_in_mode, begin, begin_line, string, into, after_byte, IsAfterByte, IsOutside, Ran, RunsOn, StoodAt, RunGives, RunsToToken, RunsToFault, used_after, reached_after, Reached, common_steps}
-use Rattle.pgn_lexer.specs.ByteResult.{brace, word, symbol}
+use Rattle.std.proofs.lemmas.Bool.{le-leb, true≢false}
+use Rattle.pgn_lexer.specs.ByteResult.{AfterByte, brace, glyph_of, line, second_suffix, symbol, word}
+use Rattle.pgn_lexer.specs.Runs.{comment_mode}
+use Rattle.pgn_lexer.specs.declared.partial_token.SuffixRun.{SuffixRun}
+use Rattle.pgn_lexer.specs.declared.partial_token.Mode.TheVariants.{Dollar, Glyph, LineWord, Suffix}
+use Rattle.pgn_lexer.proofs.Words.{AfterBackslash, is_escaped, ◌≡◌, Bool, ℕ, suc, ◌+◌, ◌-◌, ◌*◌, ◌<◌, ◌≤◌, inl, inr, List, [], ◌∷◌, ◌++◌, length, get_or, take, drop, refl, sym, ap, ◌∙◌, add-one, arith, ◌⊎◌, true, false, Some, take_all, drop-cons, LexFault, Mode, LexReason, Class, CommentClass, StringClass, LineStart, Outside, Symbol, Str, BraceWord, Failed, continues_symbol, is_digit, is_suffix, class, comment_class, string_class, TokenForm, Step, Used, Ends, EndsBefore, Fault, PartialToken, tokens_to_come, token_of, IsSound, HasNotFailed, pending, fault_met, fault_in_mode, begin, begin_line, string, into, after_byte, IsAfterByte, IsOutside, Ran, RunsOut, StoodAt, RunGives, RunsToToken, RunsToFault, used_after, reached_after, common_steps}
 use Rattle.pgn_lexer.proofs.stepping.StepGives.{StepGives, front_of}
 use Rattle.pgn_lexer.proofs.stepping.ByteGives.{step_gives}
 
@@ -11,10 +15,10 @@ takes_gives place h b new answer sound t = grind (arith, step_gives)
 pub ran_none : (place : ℕ) (h : PartialToken) (piece : List ℕ) → IsSound place h → HasNotFailed h.mode → Ran place h piece h 0
 ran_none place h piece sound not_failed = grind arith
 
-pub ran_all : (place : ℕ) (piece : List ℕ) (i : ℕ) (h new : PartialToken) (used : ℕ) → used ≡ length piece
-    → ((old : PartialToken) → Ran place old piece h i → Ran place old piece new used) → RunsOn place piece i h new used Reached.End
-ran_all place piece i h new used all goes old ran =
-    let r = goes old ran in
+-- the whole piece was used, and no token ended in it
+pub ran_out : (place : ℕ) (old : PartialToken) (piece : List ℕ) (new : PartialToken) (used : ℕ) → used ≡ length piece
+    → Ran place old piece new used → RunsOut place old piece new used
+ran_out place old piece new used all r =
     record {
       all = all;
       fresh = r.fresh;
@@ -143,12 +147,6 @@ takes_outside place b h new answer c outside e same t = grind arith
 pub unless_failed : (m : Mode) → ((reason : LexReason) → m ≡ Failed reason → ⊥) → HasNotFailed m
 unless_failed m h1 = grind arith
 
-pub in_mode : (m n : Mode) → HasNotFailed n → m ≡ n → HasNotFailed m
-in_mode m n not_failed e = rw e not_failed
-
-pub between_tokens : (m : Mode) → (m ≡ LineStart) ⊎ (m ≡ Outside) → HasNotFailed m
-between_tokens m h1 = grind arith
-
 taken_string : (place b : ℕ) (h : PartialToken) (c : StringClass) → h.mode ≡ Str → string_class b ≡ c
     → after_byte place h b ≡ string false place h b c
 unfolding after_byte
@@ -175,32 +173,91 @@ pub takes_quote : (place b : ℕ) (h new : PartialToken) → h.mode ≡ Str → 
     → new ≡ record { mode = Outside; at = h.at; text = h.text } → IsAfterByte (after_byte place h b) new (Ends TokenForm.Str)
 takes_quote place b h new e same ends = rw (taken_string _ b h _ e same) (record { held = ends; step = refl })
 
--- a byte between the words of a comment in braces
-pub takes_brace : (place b : ℕ) (h new : PartialToken) (answer : Step) (c : CommentClass) → h.mode ≡ Brace → comment_class b ≡ c
-    → IsAfterByte (brace place h b c) new answer → IsAfterByte (after_byte place h b) new answer
+-- a NAG
+pub takes_dollar : (place b : ℕ) (h new : PartialToken) → h.mode ≡ Dollar → is_digit b ≡ true
+    → new ≡ record { mode = Glyph (b - 48); at = h.at; text = h.text } → IsAfterByte (after_byte place h b) new Used
 unfolding after_byte
-takes_brace place b h new answer c e same t = grind arith
+takes_dollar place b h new e digit is = grind arith
 
-pub takes_gap : (place b : ℕ) (h new : PartialToken) (c : CommentClass) → h.mode ≡ Brace → comment_class b ≡ c
-    → (c ≡ CommentClass.LineEnd) ⊎ (c ≡ CommentClass.Space)
-    → new ≡ record { mode = Brace; at = place; text = h.text } → IsAfterByte (after_byte place h b) new Used
-takes_gap place b h new c e same gap goes = takes_brace _ b h new _ c e same (grind arith)
-
-takes_word : (place b : ℕ) (h new : PartialToken) (answer : Step) → h.mode ≡ BraceWord
-    → IsAfterByte (word Brace h b (comment_class b)) new answer → IsAfterByte (after_byte place h b) new answer
+pub takes_digit : (place b : ℕ) (h new : PartialToken) (n : ℕ) → h.mode ≡ Glyph n → is_digit b ≡ true → 10 * n + (b - 48) ≤ 255
+    → new ≡ record { mode = Glyph (10 * n + (b - 48)); at = h.at; text = h.text } → IsAfterByte (after_byte place h b) new Used
 unfolding after_byte
-takes_word place b h new answer e t = grind arith
+takes_digit place b h new n e digit small is = rw (e, digit, le-leb _ _ small) (record { held = is; step = refl })
 
-pub takes_word_byte : (place b : ℕ) (h new : PartialToken) → h.mode ≡ BraceWord
+pub takes_glyph_end : (place b : ℕ) (h new : PartialToken) (n : ℕ) → h.mode ≡ Glyph n → is_digit b ≡ false
+    → new ≡ record { mode = Outside; at = h.at; text = h.text } → IsAfterByte (after_byte place h b) new (EndsBefore (TokenForm.Glyph n))
+unfolding after_byte
+takes_glyph_end place b h new n e ends is = rw (e, ends) (record { held = is; step = refl })
+
+-- a suffix
+pub takes_second : (place b : ℕ) (h new : PartialToken) (first run : SuffixRun) → h.mode ≡ Suffix first → is_suffix b ≡ true
+    → ((g : PartialToken) → second_suffix g first b ≡ record { held = record { mode = Suffix run; at = g.at; text = g.text }; step = Used })
+    → new ≡ record { mode = Suffix run; at = h.at; text = h.text } → IsAfterByte (after_byte place h b) new Used
+unfolding after_byte
+takes_second place b h new first run e more second is = rw (e, more, second h) (record { held = is; step = refl })
+
+pub takes_suffix_end : (place b : ℕ) (h new : PartialToken) (run : SuffixRun) → h.mode ≡ Suffix run → is_suffix b ≡ false
+    → new ≡ record { mode = Outside; at = h.at; text = h.text } → IsAfterByte (after_byte place h b) new (EndsBefore (TokenForm.Glyph (glyph_of run)))
+unfolding after_byte
+takes_suffix_end place b h new run e ends is = rw (e, ends) (record { held = is; step = refl })
+
+-- ---- in a comment, to the end of its line or in braces
+
+-- in a word of it
+abbrev pub inside : Bool → Mode
+inside true = LineWord
+inside false = BraceWord
+
+abbrev between : Bool → ℕ → PartialToken → ℕ → CommentClass → AfterByte
+between true place h b c = line place h b c
+between false place h b c = brace place h b c
+
+takes_between : (l : Bool) (place b : ℕ) (h new : PartialToken) (answer : Step) → h.mode ≡ comment_mode l
+    → IsAfterByte (between l place h b (comment_class b)) new answer → IsAfterByte (after_byte place h b) new answer
+unfolding after_byte
+takes_between true place b h new answer e t = rw e t
+takes_between false place b h new answer e t = rw e t
+
+pub takes_gap : (l : Bool) (place b : ℕ) (h new : PartialToken) → h.mode ≡ comment_mode l
+    → (comment_class b ≡ CommentClass.Space) ⊎ ((comment_class b ≡ CommentClass.LineEnd) × (l ≡ false))
+    → new ≡ record { mode = comment_mode l; at = place; text = h.text } → IsAfterByte (after_byte place h b) new Used
+takes_gap true place b h new e (inl is) goes = takes_between true _ b h new _ e (rw is (record { held = goes; step = refl }))
+takes_gap false place b h new e (inl is) goes = takes_between false _ b h new _ e (rw is (record { held = goes; step = refl }))
+takes_gap true place b h new e (inr is) goes = absurd (true≢false is.1)
+takes_gap false place b h new e (inr is) goes = takes_between false _ b h new _ e (rw is.0 (record { held = goes; step = refl }))
+
+pub takes_word_start : (l : Bool) (place b : ℕ) (h new : PartialToken) → h.mode ≡ comment_mode l → comment_class b ≡ CommentClass.WordByte
+    → new ≡ record { mode = inside l; at = place; text = b ∷ [] } → IsAfterByte (after_byte place h b) new Used
+takes_word_start true place b h new e is goes = takes_between true _ b h new _ e (rw is (record { held = goes; step = refl }))
+takes_word_start false place b h new e is goes = takes_between false _ b h new _ e (rw is (record { held = goes; step = refl }))
+
+pub takes_close : (l : Bool) (place b : ℕ) (h new : PartialToken) (m : Mode) → h.mode ≡ comment_mode l
+    → ((comment_class b ≡ CommentClass.CloseBrace) × (l ≡ false) × (m ≡ Outside)) ⊎ ((comment_class b ≡ CommentClass.LineEnd) × (l ≡ true) × (m ≡ LineStart))
+    → new ≡ record { mode = m; at = place; text = h.text } → IsAfterByte (after_byte place h b) new (Ends TokenForm.CommentClose)
+takes_close true place b h new m e (inl is) goes = absurd (true≢false is.1)
+takes_close false place b h new m e (inl is) goes =
+    takes_between false _ b h new _ e (rw is.0 (record { held = goes ∙ ap (λ k. record { mode = k; at = place; text = h.text }) is.2; step = refl }))
+takes_close true place b h new m e (inr is) goes =
+    takes_between true _ b h new _ e (rw is.0 (record { held = goes ∙ ap (λ k. record { mode = k; at = place; text = h.text }) is.2; step = refl }))
+takes_close false place b h new m e (inr is) goes = absurd (true≢false (sym is.1))
+
+takes_word : (l : Bool) (place b : ℕ) (h new : PartialToken) (answer : Step) → h.mode ≡ inside l
+    → IsAfterByte (word (comment_mode l) h b (comment_class b)) new answer → IsAfterByte (after_byte place h b) new answer
+unfolding after_byte
+takes_word true place b h new answer e t = grind arith
+takes_word false place b h new answer e t = grind arith
+
+pub takes_word_byte : (l : Bool) (place b : ℕ) (h new : PartialToken) → h.mode ≡ inside l
     → comment_class b ≡ CommentClass.WordByte → length h.text < 79
     → new ≡ record { mode = h.mode; at = h.at; text = h.text ++ b ∷ [] } → IsAfterByte (after_byte place h b) new Used
-takes_word_byte place b h new e goes room grows = takes_word _ b h new _ e (rw goes (grind arith))
+takes_word_byte l place b h new e goes room grows = takes_word l _ b h new _ e (rw goes (grind arith))
 
 word_ends : (m : Mode) (h : PartialToken) (b : ℕ) (c : CommentClass) → (c ≡ CommentClass.WordByte → ⊥)
     → word m h b c ≡ into h m (EndsBefore TokenForm.Word)
 word_ends m h b c h1 = grind arith
 
-pub takes_word_end : (place b : ℕ) (h new : PartialToken) (c : CommentClass) → h.mode ≡ BraceWord → comment_class b ≡ c
-    → (c ≡ CommentClass.WordByte → ⊥) → new ≡ record { mode = Brace; at = h.at; text = h.text }
+pub takes_word_end : (l : Bool) (place b : ℕ) (h new : PartialToken) → h.mode ≡ inside l
+    → (comment_class b ≡ CommentClass.WordByte → ⊥) → new ≡ record { mode = comment_mode l; at = h.at; text = h.text }
     → IsAfterByte (after_byte place h b) new (EndsBefore TokenForm.Word)
-takes_word_end place b h new c e same other is = takes_word _ b h new _ e (rw (same, word_ends _ h b c other) (record { held = is; step = refl }))
+takes_word_end l place b h new e other is =
+    takes_word l _ b h new _ e (rw (word_ends (comment_mode l) h b (comment_class b) other) (record { held = is; step = refl }))

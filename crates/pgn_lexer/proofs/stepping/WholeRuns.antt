@@ -1,32 +1,32 @@
 -- Tokens and white space that lie in a piece as a whole: byte after byte gives the same.
 use Rattle.std.proofs.Math.Seq.{take-suc}
 use Rattle.std.proofs.lemmas.List.{get_or-take, get_or-drop, length-drop}
-use Rattle.pgn_lexer.specs.declared.class.CommentClass.TheVariants as comment_classes
-use Rattle.pgn_lexer.specs.declared.class.Single.TheVariants.{LeftParen, Period, RightParen}
-use Rattle.pgn_lexer.specs.PartialToken.{tokens_to_come_in}
-use Rattle.pgn_lexer.specs.Scanned.{token as token_scanned}
-use Rattle.std.specs.Prelude.{IsTrue}
+use Rattle.std.specs.Prelude.{IsTrue, if◌then◌else◌, ◌==◌}
 use Rattle.std.specs.List.{list_all}
-use Rattle.pgn_lexer.proofs.Words.{◌≡◌, Bool, ℕ, zero, suc, ◌+◌, ◌<◌, ◌≤◌, ◌⊎◌, inl, inr, List, [], ◌∷◌, ◌++◌, length, get_or, take, drop, refl, sym, ap, subst, ◌∙◌, add-one, arith, true, false, take_all, length-take-le, Mode, Class, LineEnd, Space, SymbolStart, OpenBrace, Alone, LineStart, Outside, Symbol, Brace, BraceWord, is_digit, is_letter, is_line_end, is_space, class, comment_class, symbol, left_paren, right_paren, comment_open, comment_close, word, Token, TokenForm, Ends, PartialToken, tokens_to_come, token_of, IsSound, HasNotFailed, pending, begin, begin_line, IsOutside, Ran, RunsOut, RunsToToken, Standing, standing_at, Scans, Passes, none, over_space, over_token, ReadsBehind, is_passed, is_given, begins_with_letter, IsSymbolIn, IsNumberIn, IsWordIn}
-use Rattle.pgn_lexer.proofs.stepping.PieceByByte.{ran_none, ran_uses, ran_ends, ran_ends_before, takes_outside, takes_symbol_byte, takes_symbol_end, takes_brace, takes_gap, takes_word_byte, takes_word_end}
+use Rattle.pgn_lexer.specs.ByteResult.{glyph_of, into, second_suffix}
+use Rattle.pgn_lexer.specs.declared.class.CommentClass.TheVariants as comment_classes
+use Rattle.pgn_lexer.specs.declared.class.Class.TheVariants as classes
+use Rattle.pgn_lexer.specs.declared.class.Single.TheVariants.{Period}
+use Rattle.pgn_lexer.specs.declared.partial_token.SuffixRun.{SuffixRun}
+use Rattle.pgn_lexer.specs.declared.partial_token.SuffixRun.TheVariants as suffix_runs
+use Rattle.pgn_lexer.specs.declared.partial_token.Mode.TheVariants as modes
+use Rattle.pgn_lexer.specs.PartialToken.{kind_in, tokens_to_come_in, pending_in}
+use Rattle.pgn_lexer.specs.Tokens.{end}
+use Rattle.pgn_lexer.specs.Scanned.{token as token_scanned}
+use Rattle.pgn_lexer.specs.Runs.{IsBetween, IsWhole, IsStringIn, comment_mode}
+use Rattle.pgn_lexer.specs.WholeTokens.{Passes, ReadsBehind, is_passed, none, over_space, over_token}
+use Rattle.pgn_lexer.proofs.Words.{◌≡◌, Bool, ℕ, zero, suc, ◌+◌, ◌-◌, ◌*◌, ◌<◌, ◌≤◌, ◌⊎◌, inl, inr, List, [], ◌∷◌, ◌++◌, length, get_or, take, drop, refl, sym, ap, subst, ◌∙◌, add-one, arith, true, false, take_all, length-take-le, Mode, Class, LineEnd, Space, SymbolStart, Alone, LineStart, Outside, Symbol, is_digit, is_suffix, is_space, class, comment_class, symbol, str, glyph, comment_close, word, Token, TokenForm, Step, Ends, Kind, PartialToken, tokens_to_come, token_of, IsSound, HasNotFailed, begin, begin_line, IsOutside, Ran, RunsOut, RunsToToken, Standing, standing_at, Scans, IsSymbolIn, IsNumberIn, IsWordIn}
+use Rattle.pgn_lexer.proofs.bytes.ClassToTest.{ClassSays, class_says}
+use Rattle.pgn_lexer.proofs.stepping.PieceByByte.{ran_none, ran_uses, ran_ends, ran_ends_before, takes_outside, takes_symbol_byte, takes_symbol_end, takes_plain, takes_quote, takes_dollar, takes_digit, takes_glyph_end, takes_second, takes_suffix_end, takes_gap, takes_word_start, takes_close, takes_word_byte, takes_word_end, inside}
 use Rattle.pgn_lexer.proofs.stepping.StandsAfterCalls.{scans_nothing, scans_token}
 
--- ---- between tokens, and between the words of a comment in braces
-
-abbrev pub IsBetween : Mode → Type 0
-IsBetween LineStart = Unit {0}
-IsBetween Outside = Unit {0}
-IsBetween Brace = Unit {0}
-IsBetween _ = ⊥
+-- ---- between tokens, and between the words of a comment
 
 -- the stored place and text say nothing there
-same_between : (m : Mode) → IsBetween m → (place a b : ℕ) (x y s : List ℕ) → tokens_to_come_in m place a x s ≡ tokens_to_come_in m place b y s
+pub same_between : (m : Mode) → IsBetween m → (place a b : ℕ) (x y s : List ℕ) → tokens_to_come_in m place a x s ≡ tokens_to_come_in m place b y s
 same_between m h place a b x y s = grind arith
 
-none_pending : (m : Mode) → IsBetween m → (a : ℕ) (x : List ℕ) → pending (record { mode = m; at = a; text = x }) ≡ 0
-none_pending m h a x = grind arith
-
-sound_between : (m : Mode) → IsBetween m → (place a : ℕ) (x : List ℕ) → length x ≤ 255 → IsSound place (record { mode = m; at = a; text = x })
+pub sound_between : (m : Mode) → IsBetween m → (place a : ℕ) (x : List ℕ) → length x ≤ 255 → IsSound place (record { mode = m; at = a; text = x })
 sound_between m h place a x room = grind arith
 
 not_failed_between : (m : Mode) → IsBetween m → HasNotFailed m
@@ -34,6 +34,9 @@ not_failed_between m h = grind arith
 
 outside_between : (m : Mode) → IsOutside m → IsBetween m
 outside_between m h = grind arith
+
+comment_between : (l : Bool) → IsBetween (comment_mode l)
+comment_between l = grind arith
 
 module _ (place : ℕ) (old : PartialToken) (piece : List ℕ) (used : ℕ) (m : Mode) (between : IsBetween m) (a b : ℕ) (x y : List ℕ)
     (room : length y ≤ 255) where
@@ -48,9 +51,6 @@ module _ (place : ℕ) (old : PartialToken) (piece : List ℕ) (used : ℕ) (m :
 
   token_alike : (t : Token) → RunsToToken place old piece t this used → RunsToToken place old piece t that used
   token_alike t r =
-      let this_pends = none_pending m between a x in
-      let that_pends = none_pending m between b y in
-      let advances = r.advances in
       record {
         within = r.within;
         some = r.some;
@@ -60,7 +60,7 @@ module _ (place : ℕ) (old : PartialToken) (piece : List ℕ) (used : ℕ) (m :
         lengths = r.lengths;
         ends_at = r.ends_at;
         before = r.before;
-        advances = omega arith;
+        advances = r.advances;
         ends = elim r.ends [
           | inl e ↦ inl (record {
             some = e.some;
@@ -162,113 +162,264 @@ module _ (place : ℕ) (old : PartialToken) (piece : List ℕ) (sound : IsSound 
         (ran_ends place old piece old 0 (get_or piece 0 0) some refl at_start form _
         (takes_outside _ _ _ _ _ c outside is same (rw begins (record { held = refl; step = refl })))))
 
-  module _ (in_brace : old.mode ≡ Brace) where
-    standing_brace : HasNotFailed old.mode
-    standing_brace = rw in_brace tt
+    -- a string without an escape
+    in_string : (n : ℕ) → IsStringIn piece n → class (get_or piece 0 0) ≡ classes.Quote → (k : ℕ) → k < n
+        → Ran place old piece (record { mode = modes.Str; at = place + 0; text = take k (drop 1 piece) }) (suc k)
+    in_string n is quote zero h =
+        let within = is.within in
+        ran_uses place old piece old 0 (get_or piece 0 0) (omega arith) refl at_start _
+        (takes_outside _ _ _ _ _ classes.Quote outside quote refl (record { held = refl; step = refl }))
+    in_string n is quote (suc k) h =
+        let within = is.within in
+        let few = is.few in
+        let more : take (suc k) (drop 1 piece) ≡ take k (drop 1 piece) ++ get_or (drop 1 piece) k 0 ∷ [] =
+        take-suc (drop 1 piece) k 0 (omega (arith, length-drop 1 piece)) in
+        let next : get_or (drop 1 piece) k 0 ≡ get_or piece (suc k) 0 = get_or-drop 1 piece k 0 ∙ ap (λ i. get_or piece i 0) (omega arith) in
+        let long : length (take k (drop 1 piece)) ≡ k = length-take-le k (drop 1 piece) (omega (arith, length-drop 1 piece)) in
+        let grown : PartialToken = record { mode = modes.Str; at = place + 0; text = take (suc k) (drop 1 piece) } in
+        subst (Ran place old piece grown) (add-one (suc k))
+        (ran_uses place old piece _ (suc k) (get_or piece (suc k) 0) (omega arith) refl (in_string n is quote k (omega arith)) grown
+        (takes_plain _ _ _ _ refl (is.all (suc k) (omega arith) h) (omega (arith, long)) (rw (more, next) refl)))
 
-    at_start_brace : Ran place old piece old 0
-    at_start_brace = ran_none place old piece sound standing_brace
+    string_runs : (k : ℕ) → IsStringIn piece (suc k) → class (get_or piece 0 0) ≡ classes.Quote → (b : ℕ) (y : List ℕ) → length y ≤ 255
+        → RunsToToken place old piece (record { at = place; kind = str (take k (drop 1 piece)) }) (record { mode = Outside; at = b; text = y }) (suc k + 1)
+    string_runs k is quote b y room =
+        rw begun at (token_alike place old piece (suc k + 1) Outside tt (place + 0) b (take k (drop 1 piece)) y room _
+        (ran_ends place old piece _ (suc k) (get_or piece (suc k) 0) is.within refl (in_string (suc k) is quote k (omega arith)) TokenForm.Str _
+        (takes_quote _ _ _ _ refl is.ends refl)))
 
-    ran_gap : 0 < length piece → (comment_class (get_or piece 0 0) ≡ comment_classes.LineEnd) ⊎ (comment_class (get_or piece 0 0) ≡ comment_classes.Space)
-        → Ran place old piece (record { mode = Brace; at = place + 0; text = old.text }) 1
-    ran_gap some is = ran_uses place old piece old 0 (get_or piece 0 0) some refl at_start_brace _ (takes_gap _ _ _ _ _ in_brace refl is refl)
+    -- a NAG
+    ran_dollar : 1 < length piece → class (get_or piece 0 0) ≡ classes.Dollar → is_digit (get_or piece 1 0) ≡ true
+        → Ran place old piece (record { mode = modes.Glyph (get_or piece 1 0 - 48); at = place + 0; text = old.text }) 2
+    ran_dollar long dollar digit =
+        ran_uses place old piece _ 1 (get_or piece 1 0) long refl
+        (ran_uses place old piece old 0 (get_or piece 0 0) (omega arith) refl at_start (record { mode = modes.Dollar; at = place + 0; text = old.text })
+        (takes_outside _ _ _ _ _ classes.Dollar outside dollar refl (record { held = refl; step = refl }))) _
+        (takes_dollar _ _ _ _ refl digit refl)
+
+    glyph_runs : (n number : ℕ) → n < length piece → is_digit (get_or piece n 0) ≡ false
+        → Ran place old piece (record { mode = modes.Glyph number; at = place + 0; text = old.text }) n → (b : ℕ) (y : List ℕ) → length y ≤ 255
+        → RunsToToken place old piece (record { at = place; kind = glyph number }) (record { mode = Outside; at = b; text = y }) n
+    glyph_runs n number within ends ran b y room =
+        rw begun at (token_alike place old piece n Outside tt (place + 0) b old.text y room _
+        (ran_ends_before place old piece _ n (get_or piece n 0) within refl ran (TokenForm.Glyph number) _ (takes_glyph_end _ _ _ _ number refl ends refl)))
+
+    -- a suffix
+    ran_suffix : 0 < length piece → class (get_or piece 0 0) ≡ classes.Suffix
+        → Ran place old piece (record { mode = modes.Suffix (if get_or piece 0 0 == 33 then suffix_runs.Good else suffix_runs.Poor); at = place + 0; text = old.text }) 1
+    ran_suffix some is =
+        ran_uses place old piece old 0 (get_or piece 0 0) some refl at_start _
+        (takes_outside _ _ _ _ _ classes.Suffix outside is refl (record { held = refl; step = refl }))
+
+    suffix_runs_to : (n : ℕ) (run : SuffixRun) → n < length piece → is_suffix (get_or piece n 0) ≡ false
+        → Ran place old piece (record { mode = modes.Suffix run; at = place + 0; text = old.text }) n → (b : ℕ) (y : List ℕ) → length y ≤ 255
+        → RunsToToken place old piece (record { at = place; kind = glyph (glyph_of run) }) (record { mode = Outside; at = b; text = y }) n
+    suffix_runs_to n run within ends ran b y room =
+        rw begun at (token_alike place old piece n Outside tt (place + 0) b old.text y room _
+        (ran_ends_before place old piece _ n (get_or piece n 0) within refl ran (TokenForm.Glyph (glyph_of run)) _ (takes_suffix_end _ _ _ _ run refl ends refl)))
+
+  module _ (l : Bool) (in_comment : old.mode ≡ comment_mode l) where
+    standing_comment : HasNotFailed old.mode
+    standing_comment = rw in_comment (not_failed_between (comment_mode l) (comment_between l))
+
+    at_start_comment : Ran place old piece old 0
+    at_start_comment = ran_none place old piece sound standing_comment
+
+    ran_gap : 0 < length piece → (comment_class (get_or piece 0 0) ≡ comment_classes.Space) ⊎ ((comment_class (get_or piece 0 0) ≡ comment_classes.LineEnd) × (l ≡ false))
+        → Ran place old piece (record { mode = comment_mode l; at = place + 0; text = old.text }) 1
+    ran_gap some is = ran_uses place old piece old 0 (get_or piece 0 0) some refl at_start_comment _ (takes_gap l _ _ _ _ in_comment is refl)
 
     in_word : (n : ℕ) → IsWordIn piece n → (k : ℕ) → k < n
-        → Ran place old piece (record { mode = BraceWord; at = place + 0; text = take (suc k) piece }) (suc k)
+        → Ran place old piece (record { mode = inside l; at = place + 0; text = take (suc k) piece }) (suc k)
     in_word n is zero h =
         let within = is.within in
         let one : take 1 piece ≡ get_or piece 0 0 ∷ [] = take-suc piece 0 0 (omega arith) in
-        ran_uses place old piece old 0 (get_or piece 0 0) (omega arith) refl at_start_brace _
-        (takes_brace _ _ _ _ _ comment_classes.WordByte in_brace (is.all 0 h) (record { held = rw one refl; step = refl }))
+        ran_uses place old piece old 0 (get_or piece 0 0) (omega arith) refl at_start_comment _
+        (takes_word_start l _ _ _ _ in_comment (is.all 0 h) (rw one refl))
     in_word n is (suc k) h =
         let within = is.within in
         let few = is.few in
         let more : take (suc (suc k)) piece ≡ take (suc k) piece ++ get_or piece (suc k) 0 ∷ [] = take-suc piece (suc k) 0 (omega arith) in
         let long : length (take (suc k) piece) ≡ suc k = length-take-le (suc k) piece (omega arith) in
-        let grown : PartialToken = record { mode = BraceWord; at = place + 0; text = take (suc (suc k)) piece } in
+        let grown : PartialToken = record { mode = inside l; at = place + 0; text = take (suc (suc k)) piece } in
         subst (Ran place old piece grown) (add-one (suc k))
         (ran_uses place old piece _ (suc k) (get_or piece (suc k) 0) (omega arith) refl (in_word n is k (omega arith)) grown
-        (takes_word_byte _ _ _ _ refl (is.all (suc k) h) (omega (arith, long)) (rw more refl)))
+        (takes_word_byte l _ _ _ _ refl (is.all (suc k) h) (omega (arith, long)) (rw more refl)))
 
     word_runs : (n : ℕ) → IsWordIn piece n → (b : ℕ) (y : List ℕ) → length y ≤ 255
-        → RunsToToken place old piece (record { at = place; kind = word (take n piece) }) (record { mode = Brace; at = b; text = y }) n
+        → RunsToToken place old piece (record { at = place; kind = word (take n piece) }) (record { mode = comment_mode l; at = b; text = y }) n
     word_runs n is b y room =
         let last = last_of n is.some in
-        let ran : Ran place old piece (record { mode = BraceWord; at = place + 0; text = take n piece }) n =
-        subst (λ j. Ran place old piece (record { mode = BraceWord; at = place + 0; text = take j piece }) j) (sym last.1) (in_word n is last.0 (omega (arith, last.1))) in
-        rw begun at (token_alike place old piece n Brace tt (place + 0) b (take n piece) y room _
-        (ran_ends_before place old piece _ n (get_or piece n 0) is.within refl ran TokenForm.Word _ (takes_word_end _ _ _ _ _ refl refl is.ends refl)))
+        let ran : Ran place old piece (record { mode = inside l; at = place + 0; text = take n piece }) n =
+        subst (λ j. Ran place old piece (record { mode = inside l; at = place + 0; text = take j piece }) j) (sym last.1) (in_word n is last.0 (omega (arith, last.1))) in
+        rw begun at (token_alike place old piece n (comment_mode l) (comment_between l) (place + 0) b (take n piece) y room _
+        (ran_ends_before place old piece _ n (get_or piece n 0) is.within refl ran TokenForm.Word _ (takes_word_end l _ _ _ _ refl is.ends refl)))
 
-    close_runs : 0 < length piece → comment_class (get_or piece 0 0) ≡ comment_classes.CloseBrace → (b : ℕ) (y : List ℕ) → length y ≤ 255
-        → RunsToToken place old piece (record { at = place; kind = comment_close }) (record { mode = Outside; at = b; text = y }) 1
-    close_runs some is b y room =
-        rw begun at (token_alike place old piece 1 Outside tt (place + 0) b old.text y room _
-        (ran_ends place old piece old 0 (get_or piece 0 0) some refl at_start_brace TokenForm.CommentClose _
-        (takes_brace _ _ _ _ _ comment_classes.CloseBrace in_brace is (record { held = refl; step = refl }))))
+    close_runs : (m : Mode) → 0 < length piece
+        → ((comment_class (get_or piece 0 0) ≡ comment_classes.CloseBrace) × (l ≡ false) × (m ≡ Outside)) ⊎ ((comment_class (get_or piece 0 0) ≡ comment_classes.LineEnd) × (l ≡ true) × (m ≡ LineStart))
+        → (between : IsBetween m) (b : ℕ) (y : List ℕ) → length y ≤ 255
+        → RunsToToken place old piece (record { at = place; kind = comment_close }) (record { mode = m; at = b; text = y }) 1
+    close_runs m some is between b y room =
+        rw begun at (token_alike place old piece 1 m between (place + 0) b old.text y room _
+        (ran_ends place old piece old 0 (get_or piece 0 0) some refl at_start_comment TokenForm.CommentClose _
+        (takes_close l _ _ _ _ m in_comment is refl)))
 
 pub one_more : (p : ℕ → Bool) (xs : List ℕ) (n : ℕ) → ((i : ℕ) → i < n → p (get_or xs i 0) ≡ true) → p (get_or xs n 0) ≡ true
     → (i : ℕ) → i < n + 1 → p (get_or xs i 0) ≡ true
 one_more p xs n h last i less = grind arith
 
--- ---- what the bytes of a run say of its text
+-- ---- the tokens that a piece begins with, outside comments
+
+no_end_form : (form : TokenForm) (text : List ℕ) → kind_in form text ≡ end → ⊥
+no_end_form form text e = grind arith
+
+module _ (piece : List ℕ) where
+  pub whole_symbol : (n : ℕ) → IsSymbolIn piece n → IsWhole piece n Outside (symbol (take n piece))
+  whole_symbol n is =
+      let within = is.within in
+      record {
+        some = is.some;
+        within = omega arith;
+        inside = record { between = tt; no_end = λ e. cc };
+        runs = λ place old sound outside at text room. symbol_runs place old piece sound outside n is at text room;
+      }
+
+  string_of : (n k : ℕ) → n ≡ suc k → IsStringIn piece n → class (get_or piece 0 0) ≡ classes.Quote
+      → IsWhole piece (n + 1) Outside (str (take (n - 1) (drop 1 piece)))
+  string_of n k e is quote =
+      let within = is.within in
+      let one_less : n - 1 ≡ k = omega arith in
+      record {
+        some = omega arith;
+        within = omega arith;
+        inside = record { between = tt; no_end = λ e. cc };
+        runs = λ place old sound outside at text room. rw one_less (subst
+            (λ j. RunsToToken place old piece (record { at = place; kind = str (take k (drop 1 piece)) }) (record { mode = Outside; at = at; text = text }) (j + 1)) (sym e)
+            (string_runs place old piece sound outside k (subst (IsStringIn piece) e is) quote at text room));
+      }
+
+  pub whole_string : (n : ℕ) → IsStringIn piece n → class (get_or piece 0 0) ≡ classes.Quote
+      → IsWhole piece (n + 1) Outside (str (take (n - 1) (drop 1 piece)))
+  whole_string n is quote = let last = last_of n is.some in string_of n last.0 last.1 is quote
+
+  pub whole_single : (c : Class) (m : Mode) (form : TokenForm) → 0 < length piece → class (get_or piece 0 0) ≡ c → IsBetween m
+      → ((place : ℕ) (old : PartialToken) → begin place old (get_or piece 0 0) c ≡ record { held = record { mode = m; at = place; text = old.text }; step = Ends form })
+      → ((place : ℕ) (old : PartialToken) → begin_line place old (get_or piece 0 0) c ≡ begin place old (get_or piece 0 0) c)
+      → (k : Kind) → ((at : ℕ) (text : List ℕ) → token_of form (record { mode = m; at = at; text = text }) ≡ record { at = at; kind = k }) → IsWhole piece 1 m k
+  whole_single c m form some is between begins same k kind =
+      record {
+        some = omega arith;
+        within = omega arith;
+        inside = record { between = between; no_end = λ e. no_end_form form [] (ap (λ (t : Token). t.kind) (kind 0 []) ∙ e) };
+        runs = λ place old sound outside at text room. rw (kind place old.text) at
+            (single_runs place old piece sound outside c m form some is between (begins (place + 0) old) (same (place + 0) old) at text room);
+      }
+
+  -- the digits of a NAG so far
+  pub record GlyphSoFar (n number : ℕ) : Type 0 where
+    pub ran : (place : ℕ) (old : PartialToken) → IsSound place old → IsOutside old.mode
+        → Ran place old piece (record { mode = modes.Glyph number; at = place + 0; text = old.text }) n
+
+  pub glyph_first : 1 < length piece → class (get_or piece 0 0) ≡ classes.Dollar → is_digit (get_or piece 1 0) ≡ true
+      → GlyphSoFar 2 (get_or piece 1 0 - 48)
+  glyph_first long dollar digit = record { ran = λ place old sound outside. ran_dollar place old piece sound outside long dollar digit }
+
+  pub glyph_more : (n number : ℕ) → n < length piece → is_digit (get_or piece n 0) ≡ true → 10 * number + (get_or piece n 0 - 48) ≤ 255
+      → GlyphSoFar n number → GlyphSoFar (n + 1) (10 * number + (get_or piece n 0 - 48))
+  glyph_more n number within digit small so =
+      record {
+        ran = λ place old sound outside. ran_uses place old piece _ n (get_or piece n 0) within refl (so.ran place old sound outside) _
+            (takes_digit _ _ _ _ number refl digit small refl);
+      }
+
+  pub whole_glyph : (n number : ℕ) → 0 < n → n < length piece → is_digit (get_or piece n 0) ≡ false → GlyphSoFar n number
+      → IsWhole piece n Outside (glyph number)
+  whole_glyph n number some within ends so =
+      record {
+        some = some;
+        within = omega arith;
+        inside = record { between = tt; no_end = λ e. cc };
+        runs = λ place old sound outside at text room. glyph_runs place old piece sound outside n number within ends (so.ran place old sound outside) at text room;
+      }
+
+  abbrev pub first_run : SuffixRun
+  first_run = if get_or piece 0 0 == 33 then suffix_runs.Good else suffix_runs.Poor
+
+  pub whole_suffix : 1 < length piece → class (get_or piece 0 0) ≡ classes.Suffix → is_suffix (get_or piece 1 0) ≡ false
+      → (run : SuffixRun) → first_run ≡ run → IsWhole piece 1 Outside (glyph (glyph_of run))
+  whole_suffix long is ends run same =
+      record {
+        some = omega arith;
+        within = omega arith;
+        inside = record { between = tt; no_end = λ e. cc };
+        runs = λ place old sound outside at text room. suffix_runs_to place old piece sound outside 1 run long ends
+            (rw same at (ran_suffix place old piece sound outside (omega arith) is)) at text room;
+      }
+
+  pub whole_suffix_of_two : 2 < length piece → class (get_or piece 0 0) ≡ classes.Suffix → is_suffix (get_or piece 1 0) ≡ true → is_suffix (get_or piece 2 0) ≡ false
+      → (run : SuffixRun)
+      → ((h : PartialToken) → second_suffix h first_run (get_or piece 1 0) ≡ into h (modes.Suffix run) Step.Used)
+      → IsWhole piece 2 Outside (glyph (glyph_of run))
+  whole_suffix_of_two long is more ends run second =
+      record {
+        some = omega arith;
+        within = omega arith;
+        inside = record { between = tt; no_end = λ e. cc };
+        runs = λ place old sound outside at text room. suffix_runs_to place old piece sound outside 2 run long ends
+            (ran_uses place old piece _ 1 (get_or piece 1 0) (omega arith) refl (ran_suffix place old piece sound outside (omega arith) is) _
+            (takes_second _ _ _ _ first_run run refl more second refl)) at text room;
+      }
+
+-- ---- what the bytes of a number say of its text
 
 all_digits : (n : ℕ) (xs : List ℕ) → ((i : ℕ) → i < n → is_digit (get_or xs i 0) ≡ true) → list_all is_digit (take n xs) ≡ true
 all_digits zero xs h = refl
 all_digits (suc n) [] h = refl
 all_digits (suc n) (x ∷ xs) h = rw (h 0 (omega arith)) (all_digits n xs (λ i less. h (suc i) (omega arith)))
 
-first_letter : (n : ℕ) (xs : List ℕ) → 0 < n → 0 < length xs → is_letter (get_or xs 0 0) ≡ true → begins_with_letter (take n xs) ≡ true
-first_letter zero xs h some is = absurd (omega arith)
-first_letter (suc n) [] h some is = absurd (omega arith)
-first_letter (suc n) (x ∷ xs) h some is = is
-
-pub white_line_end : (b : ℕ) → is_line_end b ≡ true → is_space b ≡ true
-white_line_end b is = grind arith
-
-white_in_comment : (b : ℕ) → (comment_class b ≡ comment_classes.LineEnd) ⊎ (comment_class b ≡ comment_classes.Space) → is_space b ≡ true
-white_in_comment b is = grind arith
-
-pub class_line_end : (b : ℕ) → is_letter b ≡ false → is_digit b ≡ false → is_line_end b ≡ true → class b ≡ LineEnd
-class_line_end b h1 h2 h3 = grind arith
-
 -- ---- what is passed, and the token behind it
 
 pub sound_outside : (place : ℕ) (h : PartialToken) → IsOutside h.mode → length h.text ≤ 255 → IsSound place h
 sound_outside place h outside room = sound_between h.mode (outside_between h.mode outside) place h.at h.text room
 
-pub sound_in_brace : (place : ℕ) (h : PartialToken) → h.mode ≡ Brace → length h.text ≤ 255 → IsSound place h
-sound_in_brace place h in_brace room = sound_between h.mode (rw in_brace tt) place h.at h.text room
+pub sound_in_comment : (l : Bool) (place : ℕ) (h : PartialToken) → h.mode ≡ comment_mode l → length h.text ≤ 255 → IsSound place h
+sound_in_comment l place h in_comment room = sound_between h.mode (rw in_comment (comment_between l)) place h.at h.text room
 
-pub passes_none : (place : ℕ) (h new : PartialToken) (piece : List ℕ) → new ≡ h → Passes (standing_at place h) piece (standing_at (place + 0) new) 0
-passes_none place h new piece same =
-    subst (λ l. Passes (standing_at place h) piece l 0) (ap (λ k. standing_at k h) (omega arith) ∙ ap (standing_at (place + 0)) (sym same)) none
+white_line_end : (b : ℕ) → class b ≡ LineEnd → is_space b ≡ true
+white_line_end b is = let e = subst (ClassSays b) is (class_says b) in rw e refl
+
+white_blank : (b : ℕ) → class b ≡ Space → is_space b ≡ true
+white_blank b is = let e = subst (ClassSays b) is (class_says b) in rw (e.0, e.1) refl
+
+white_in_comment : (b : ℕ) → (comment_class b ≡ comment_classes.Space) ⊎ (comment_class b ≡ comment_classes.LineEnd) → is_space b ≡ true
+white_in_comment b is = grind arith
+
+gap_is_white : (l : Bool) (b : ℕ) → (comment_class b ≡ comment_classes.Space) ⊎ ((comment_class b ≡ comment_classes.LineEnd) × (l ≡ false)) → is_space b ≡ true
+gap_is_white l b (inl is) = white_in_comment b (inl is)
+gap_is_white l b (inr is) = white_in_comment b (inr is.0)
+
+-- no token waits outside comments
+none_waits : (m : Mode) → IsOutside m → pending_in m ≡ 0
+none_waits m outside = grind arith
+
+pub passes_none : (skips : Bool) (place : ℕ) (h new : PartialToken) (piece : List ℕ) → new ≡ h → Passes skips (standing_at place h) piece (standing_at (place + 0) new) 0
+passes_none skips place h new piece same =
+    subst (λ l. Passes skips (standing_at place h) piece l 0) (ap (λ k. standing_at k h) (omega arith) ∙ ap (standing_at (place + 0)) (sym same)) none
 
 abbrev pub into_mode : PartialToken → Mode → PartialToken
 into_mode h mode = record { mode = mode; at = h.at; text = h.text }
 
-module _ (before : Standing) (place : ℕ) (h : PartialToken) (piece : List ℕ) (m : ℕ) (passes : Passes before piece (standing_at (place + m) h) m)
-    (within : m < length piece) (room : length h.text ≤ 255) where
+module _ (skips : Bool) (before : Standing) (place : ℕ) (h : PartialToken) (piece : List ℕ) (m : ℕ)
+    (passes : Passes skips before piece (standing_at (place + m) h) m) where
   abbrev rest : List ℕ
   rest = drop m piece
-
-  here : get_or rest 0 0 ≡ get_or piece m 0
-  here = get_or-drop m piece 0 0 ∙ ap (λ i. get_or piece i 0) (omega arith)
-
-  some : 0 < length rest
-  some = omega (arith, length-drop m piece)
 
   further : (n : ℕ) → (place + m) + n ≡ place + (m + n)
   further n = omega arith
 
-  over : (n : ℕ) (t : Token) (mode : Mode) → 0 < n → RunsToToken (place + m) h rest t (into_mode h mode) n → IsTrue (is_passed t.kind)
-      → Passes before piece (standing_at (place + (m + n)) (into_mode h mode)) (m + n)
-  over n t mode more runs passed =
-      subst (λ k. Passes before piece (standing_at k (into_mode h mode)) (m + n)) (further n)
-      (over_token _ _ m n t passes within more (scans_token _ _ _ rest n t runs) passed)
-
-  behind : (n : ℕ) (t : Token) (mode : Mode) → 0 < n → RunsToToken (place + m) h rest t (into_mode h mode) n → IsTrue (is_given t.kind)
-      → ReadsBehind before piece (standing_at (place + (m + n)) (into_mode h mode)) (m + n) t
-  behind n t mode more runs given =
+  behind : m < length piece → (n : ℕ) (t : Token) (mode : Mode) → 0 < n → RunsToToken (place + m) h rest t (into_mode h mode) n
+      → ReadsBehind skips before piece (standing_at (place + (m + n)) (into_mode h mode)) (m + n) t
+  behind within n t mode more runs =
       record {
         mid = standing_at (place + m) h;
         passed = m;
@@ -279,82 +430,91 @@ module _ (before : Standing) (place : ℕ) (h : PartialToken) (piece : List ℕ)
         passes = passes;
         reads = subst (λ k. Scans (standing_at (place + m) h) rest (standing_at k (into_mode h mode)) n (token_scanned t)) (further n)
             (scans_token _ _ _ rest n t runs);
-        is_given = given;
       }
 
-  -- one byte of white space
-  abbrev one : List ℕ
-  one = take 1 rest
+  -- a token outside comments
+  pub reads_whole : IsOutside h.mode → length h.text ≤ 255 → (n : ℕ) (mode : Mode) (k : Kind) → IsWhole rest n mode k
+      → ReadsBehind skips before piece (standing_at (place + (m + n)) (into_mode h mode)) (m + n) (record { at = place + m; kind = k })
+  reads_whole outside room n mode k is =
+      let some = is.some in
+      let within = is.within in
+      behind (omega (arith, length-drop m piece)) n _ mode is.some
+      (is.runs (place + m) h (sound_outside (place + m) h outside room) outside h.at h.text room)
 
-  one_long : length one ≡ 1
-  one_long = length-take-le 1 rest (omega (arith, some))
+  module _ (within : m < length piece) (room : length h.text ≤ 255) where
+    here : get_or rest 0 0 ≡ get_or piece m 0
+    here = get_or-drop m piece 0 0 ∙ ap (λ i. get_or piece i 0) (omega arith)
 
-  one_here : get_or one 0 0 ≡ get_or piece m 0
-  one_here = get_or-take 1 rest 0 0 (omega arith) ∙ here
+    some : 0 < length rest
+    some = omega (arith, length-drop m piece)
 
-  space : (mode : Mode) → IsBetween mode → is_space (get_or piece m 0) ≡ true → RunsOut (place + m) h one (into_mode h mode) 1 → Passes before piece (standing_at (place + (m + 1)) (into_mode h mode)) (m + 1)
-  space mode between is_white out =
-      subst (λ k. Passes before piece (standing_at k (into_mode h mode)) (m + 1)) (further 1)
-      (over_space _ _ m passes within is_white (scans_nothing _ _ _ one 1 out) (none_pending mode between h.at h.text))
+    over : (n : ℕ) (t : Token) (mode : Mode) → 0 < n → RunsToToken (place + m) h rest t (into_mode h mode) n → IsTrue skips → IsTrue (is_passed t.kind)
+        → Passes skips before piece (standing_at (place + (m + n)) (into_mode h mode)) (m + n)
+    over n t mode more runs skipped passed =
+        subst (λ k. Passes skips before piece (standing_at k (into_mode h mode)) (m + n)) (further n)
+        (over_token _ _ m n t passes within more (scans_token _ _ _ rest n t runs) skipped passed)
 
-  module _ (outside : IsOutside h.mode) where
-    sound : IsSound (place + m) h
-    sound = sound_outside (place + m) h outside room
+    -- one byte of white space
+    abbrev one : List ℕ
+    one = take 1 rest
 
-    pub passes_space : (c : Class) (mode : Mode) → class (get_or piece m 0) ≡ c → (c ≡ LineEnd) × (mode ≡ LineStart) ⊎ (c ≡ Space) × (mode ≡ Outside)
-        → IsBetween mode → is_space (get_or piece m 0) ≡ true → Passes before piece (standing_at (place + (m + 1)) (into_mode h mode)) (m + 1)
-    passes_space c mode is to between is_white =
-        space mode between is_white (out_alike (place + m) h one 1 mode between _ h.at _ h.text room (sym one_long) (omega arith)
-        (ran_space (place + m) h one sound outside c mode (omega (arith, one_long)) (ap class one_here ∙ is) to))
+    one_long : length one ≡ 1
+    one_long = length-take-le 1 rest (omega (arith, some))
 
-    pub passes_period : get_or piece m 0 ≡ 46 → Passes before piece (standing_at (place + (m + 1)) (into_mode h Outside)) (m + 1)
-    passes_period is =
-        over 1 _ Outside (omega arith) (single_runs (place + m) h rest sound outside (Alone Period) Outside (TokenForm.Single Period) some
-        (rw (here ∙ is) refl) tt refl refl h.at h.text room) refl
+    one_here : get_or one 0 0 ≡ get_or piece m 0
+    one_here = get_or-take 1 rest 0 0 (omega arith) ∙ here
 
-    pub passes_number : (n : ℕ) → IsNumberIn rest n → Passes before piece (standing_at (place + (m + n)) (into_mode h Outside)) (m + n)
-    passes_number n is =
-        over n _ Outside is.is_symbol.some (symbol_runs (place + m) h rest sound outside n is.is_symbol h.at h.text room) (all_digits n rest is.digits)
+    space : (mode : Mode) → pending_in mode ≤ pending_in h.mode → is_space (get_or piece m 0) ≡ true → RunsOut (place + m) h one (into_mode h mode) 1
+        → Passes skips before piece (standing_at (place + (m + 1)) (into_mode h mode)) (m + 1)
+    space mode waits is_white out =
+        subst (λ k. Passes skips before piece (standing_at k (into_mode h mode)) (m + 1)) (further 1)
+        (over_space _ _ m passes within is_white (scans_nothing _ _ _ one 1 out) waits)
 
-    pub reads_symbol : (n : ℕ) → IsSymbolIn rest n → is_letter (get_or piece m 0) ≡ true
-        → ReadsBehind before piece (standing_at (place + (m + n)) (into_mode h Outside)) (m + n) (record { at = place + m; kind = symbol (take n rest) })
-    reads_symbol n is letter =
-        behind n _ Outside is.some (symbol_runs (place + m) h rest sound outside n is h.at h.text room)
-        (first_letter n rest is.some some (ap is_letter here ∙ letter))
+    module _ (outside : IsOutside h.mode) where
+      sound : IsSound (place + m) h
+      sound = sound_outside (place + m) h outside room
 
-    pub reads_left_paren : get_or piece m 0 ≡ 40
-        → ReadsBehind before piece (standing_at (place + (m + 1)) (into_mode h Outside)) (m + 1) (record { at = place + m; kind = left_paren })
-    reads_left_paren is =
-        behind 1 _ Outside (omega arith) (single_runs (place + m) h rest sound outside (Alone LeftParen) Outside (TokenForm.Single LeftParen) some
-        (rw (here ∙ is) refl) tt refl refl h.at h.text room) refl
+      passes_into : (c : Class) (mode : Mode) → class (get_or piece m 0) ≡ c → (c ≡ LineEnd) × (mode ≡ LineStart) ⊎ (c ≡ Space) × (mode ≡ Outside)
+          → IsOutside mode → is_space (get_or piece m 0) ≡ true → Passes skips before piece (standing_at (place + (m + 1)) (into_mode h mode)) (m + 1)
+      passes_into c mode is to into is_white =
+          let new_waits = none_waits mode into in
+          let old_waits = none_waits h.mode outside in
+          space mode (omega arith) is_white
+          (out_alike (place + m) h one 1 mode (outside_between mode into) _ h.at _ h.text room (sym one_long) (omega arith)
+          (ran_space (place + m) h one sound outside c mode (omega (arith, one_long)) (ap class one_here ∙ is) to))
 
-    pub reads_right_paren : get_or piece m 0 ≡ 41
-        → ReadsBehind before piece (standing_at (place + (m + 1)) (into_mode h Outside)) (m + 1) (record { at = place + m; kind = right_paren })
-    reads_right_paren is =
-        behind 1 _ Outside (omega arith) (single_runs (place + m) h rest sound outside (Alone RightParen) Outside (TokenForm.Single RightParen) some
-        (rw (here ∙ is) refl) tt refl refl h.at h.text room) refl
+      pub passes_line_end : class (get_or piece m 0) ≡ LineEnd → Passes skips before piece (standing_at (place + (m + 1)) (into_mode h LineStart)) (m + 1)
+      passes_line_end is = passes_into LineEnd LineStart is (inl (refl, refl)) tt (white_line_end (get_or piece m 0) is)
 
-    pub reads_open : get_or piece m 0 ≡ 123
-        → ReadsBehind before piece (standing_at (place + (m + 1)) (into_mode h Brace)) (m + 1) (record { at = place + m; kind = comment_open })
-    reads_open is =
-        behind 1 _ Brace (omega arith) (single_runs (place + m) h rest sound outside OpenBrace Brace TokenForm.CommentOpen some
-        (rw (here ∙ is) refl) tt refl refl h.at h.text room) refl
+      pub passes_space : class (get_or piece m 0) ≡ Space → Passes skips before piece (standing_at (place + (m + 1)) (into_mode h Outside)) (m + 1)
+      passes_space is = passes_into Space Outside is (inr (refl, refl)) tt (white_blank (get_or piece m 0) is)
 
-  module _ (in_brace : h.mode ≡ Brace) where
-    sound_there : IsSound (place + m) h
-    sound_there = sound_in_brace (place + m) h in_brace room
+      pub passes_period : IsTrue skips → get_or piece m 0 ≡ 46 → Passes skips before piece (standing_at (place + (m + 1)) (into_mode h Outside)) (m + 1)
+      passes_period skipped is =
+          over 1 _ Outside (omega arith) (single_runs (place + m) h rest sound outside (Alone Period) Outside (TokenForm.Single Period) some
+          (rw (here ∙ is) refl) tt refl refl h.at h.text room) skipped refl
 
-    pub passes_gap : (comment_class (get_or piece m 0) ≡ comment_classes.LineEnd) ⊎ (comment_class (get_or piece m 0) ≡ comment_classes.Space)
-        → Passes before piece (standing_at (place + (m + 1)) (into_mode h Brace)) (m + 1)
-    passes_gap is =
-        space Brace tt (white_in_comment (get_or piece m 0) is) (out_alike (place + m) h one 1 Brace tt _ h.at _ h.text room (sym one_long) (omega arith)
-        (ran_gap (place + m) h one sound_there in_brace (omega (arith, one_long)) (rw (sym one_here) at is)))
+      pub passes_number : IsTrue skips → (n : ℕ) → IsNumberIn rest n → Passes skips before piece (standing_at (place + (m + n)) (into_mode h Outside)) (m + n)
+      passes_number skipped n is =
+          over n _ Outside is.is_symbol.some (symbol_runs (place + m) h rest sound outside n is.is_symbol h.at h.text room) skipped (all_digits n rest is.digits)
 
-    pub reads_word : (n : ℕ) → IsWordIn rest n
-        → ReadsBehind before piece (standing_at (place + (m + n)) (into_mode h Brace)) (m + n) (record { at = place + m; kind = word (take n rest) })
-    reads_word n is = behind n _ Brace is.some (word_runs (place + m) h rest sound_there in_brace n is h.at h.text room) refl
+    module _ (l : Bool) (in_comment : h.mode ≡ comment_mode l) where
+      sound_there : IsSound (place + m) h
+      sound_there = sound_in_comment l (place + m) h in_comment room
 
-    pub reads_close : comment_class (get_or piece m 0) ≡ comment_classes.CloseBrace
-        → ReadsBehind before piece (standing_at (place + (m + 1)) (into_mode h Outside)) (m + 1) (record { at = place + m; kind = comment_close })
-    reads_close is =
-        behind 1 _ Outside (omega arith) (close_runs (place + m) h rest sound_there in_brace some (ap comment_class here ∙ is) h.at h.text room) refl
+      pub passes_gap : (comment_class (get_or piece m 0) ≡ comment_classes.Space) ⊎ ((comment_class (get_or piece m 0) ≡ comment_classes.LineEnd) × (l ≡ false))
+          → Passes skips before piece (standing_at (place + (m + 1)) (into_mode h (comment_mode l))) (m + 1)
+      passes_gap is =
+          space (comment_mode l) (rw in_comment (omega arith)) (gap_is_white l (get_or piece m 0) is)
+          (out_alike (place + m) h one 1 (comment_mode l) (comment_between l) _ h.at _ h.text room (sym one_long) (omega arith)
+          (ran_gap (place + m) h one sound_there l in_comment (omega (arith, one_long)) (rw (sym one_here) at is)))
+
+      pub reads_word : (n : ℕ) → IsWordIn rest n
+          → ReadsBehind skips before piece (standing_at (place + (m + n)) (into_mode h (comment_mode l))) (m + n) (record { at = place + m; kind = word (take n rest) })
+      reads_word n is = behind within n _ (comment_mode l) is.some (word_runs (place + m) h rest sound_there l in_comment n is h.at h.text room)
+
+      pub reads_close : (mode : Mode)
+          → ((comment_class (get_or piece m 0) ≡ comment_classes.CloseBrace) × (l ≡ false) × (mode ≡ Outside)) ⊎ ((comment_class (get_or piece m 0) ≡ comment_classes.LineEnd) × (l ≡ true) × (mode ≡ LineStart))
+          → IsBetween mode → ReadsBehind skips before piece (standing_at (place + (m + 1)) (into_mode h mode)) (m + 1) (record { at = place + m; kind = comment_close })
+      reads_close mode is between =
+          behind within 1 _ mode (omega arith) (close_runs (place + m) h rest sound_there l in_comment mode some (rw (sym here) at is) between h.at h.text room)

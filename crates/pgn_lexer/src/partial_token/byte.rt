@@ -1,6 +1,6 @@
 //! What one byte does to the current token, mode by mode.
 
-ghost use Rattle.std.specs.Prelude.{◌≡◌, ◌<◌, true, false, [], ◌∷◌, ◌++◌, length};
+ghost use Rattle.std.specs.Prelude.{◌≡◌, true, false, [], ◌∷◌};
 ghost use Rattle.pgn_lexer.specs.ByteResult as byte_result;
 
 use crate::class::{
@@ -8,8 +8,8 @@ use crate::class::{
     is_line_end, is_suffix, string_class_of,
 };
 use crate::partial_token::{
-    LARGEST_GLYPH, LONGEST_TEXT, LONGEST_WORD, Mode, PartialToken, Step, SuffixRun, TokenForm,
-    glyph_of,
+    LARGEST_GLYPH, LONGEST_WORD, Mode, PartialToken, Step, SuffixRun, TokenForm, clear,
+    first_suffix, glyph_of, longer_suffix,
 };
 use crate::token::LexReason;
 
@@ -19,6 +19,7 @@ impl PartialToken {
     ghost use Rattle.pgn_lexer.specs.PartialToken.{HasMore};
 
     /// Takes the byte at the place: gives it to the handler of the mode.
+    #[inline(always)]
     #[tactic(auto, unfolding(crate::specs::ByteResult::after_byte))]
     pub(crate) fn take(&mut self, byte: u8, place: u64) -> Step
         ensures { IsAfterByte (byte_result.after_byte place self.old byte) self.new result }
@@ -97,14 +98,7 @@ impl PartialToken {
             Class::SymbolStart => self.begin_text(Mode::Symbol, byte),
             Class::Quote => self.begin_string(),
             Class::Dollar => self.go(Mode::Dollar),
-            Class::Suffix => {
-                let run = if byte == b'!' {
-                    SuffixRun::Good
-                } else {
-                    SuffixRun::Poor
-                };
-                self.go(Mode::Suffix(run))
-            }
+            Class::Suffix => self.go(Mode::Suffix(first_suffix(byte))),
             Class::OpenBrace => self.end(Mode::Brace, TokenForm::CommentOpen),
             Class::Semicolon => self.end(Mode::Line, TokenForm::CommentOpen),
             Class::Alone(single) => self.end(Mode::Outside, TokenForm::Single(single)),
@@ -130,10 +124,10 @@ impl PartialToken {
             self.mode = Mode::Outside;
             return Step::EndsBefore(TokenForm::Symbol);
         }
-        if self.length >= LONGEST_TEXT {
+        if self.buffer.is_full() {
             return self.fail(self.at, LexReason::SymbolTooLong);
         }
-        self.push(byte);
+        self.buffer.push(byte);
         Step::Used
     }
 
@@ -170,24 +164,12 @@ impl PartialToken {
             self.mode = Mode::Outside;
             return Step::EndsBefore(TokenForm::Glyph(glyph_of(run)));
         }
-        match run {
-            SuffixRun::Good => {
-                self.mode = Mode::Suffix(if byte == b'!' {
-                    SuffixRun::VeryGood
-                } else {
-                    SuffixRun::Speculative
-                });
+        match longer_suffix(run, byte) {
+            Some(longer) => {
+                self.mode = Mode::Suffix(longer);
                 Step::Used
             }
-            SuffixRun::Poor => {
-                self.mode = Mode::Suffix(if byte == b'!' {
-                    SuffixRun::Questionable
-                } else {
-                    SuffixRun::VeryPoor
-                });
-                Step::Used
-            }
-            _ => self.fail(self.at, LexReason::BadSuffix),
+            None => self.fail(self.at, LexReason::BadSuffix),
         }
     }
 
@@ -205,17 +187,17 @@ impl PartialToken {
             StringClass::LineEnd => self.fail(self.at, LexReason::UnclosedString),
             StringClass::Control => self.fail(place, LexReason::ControlByte),
             StringClass::Backslash => {
-                if self.length >= LONGEST_TEXT {
+                if self.buffer.is_full() {
                     return self.fail(self.at, LexReason::StringTooLong);
                 }
                 self.mode = Mode::AfterBackslash;
                 Step::Used
             }
             StringClass::Plain => {
-                if self.length >= LONGEST_TEXT {
+                if self.buffer.is_full() {
                     return self.fail(self.at, LexReason::StringTooLong);
                 }
-                self.push(byte);
+                self.buffer.push(byte);
                 Step::Used
             }
         }
@@ -228,19 +210,19 @@ impl PartialToken {
     {
         match string_class_of(byte) {
             StringClass::Quote | StringClass::Backslash => {
+                self.buffer.push(byte);
                 self.mode = Mode::Str;
-                self.push(byte);
                 Step::Used
             }
             StringClass::LineEnd => self.fail(self.at, LexReason::UnclosedString),
             StringClass::Control => self.fail(place, LexReason::ControlByte),
             StringClass::Plain => {
-                if self.length + 1 >= LONGEST_TEXT {
+                if self.buffer.remaining_capacity() < 2 {
                     return self.fail(self.at, LexReason::StringTooLong);
                 }
+                self.buffer.push(b'\\');
+                self.buffer.push(byte);
                 self.mode = Mode::Str;
-                self.push(b'\\');
-                self.push(byte);
                 Step::Used
             }
         }
@@ -281,10 +263,10 @@ impl PartialToken {
     {
         match comment_class_of(byte) {
             CommentClass::WordByte => {
-                if self.length >= LONGEST_WORD {
+                if self.buffer.len() >= LONGEST_WORD {
                     return self.fail(self.at, LexReason::WordTooLong);
                 }
-                self.push(byte);
+                self.buffer.push(byte);
                 Step::Used
             }
             _ => {
@@ -292,14 +274,6 @@ impl PartialToken {
                 Step::EndsBefore(TokenForm::Word)
             }
         }
-    }
-
-    pub(crate) fn pass(&mut self, mode: Mode, place: u64)
-        requires { HasMore mode self.old.text }
-        ensures { self.new ≡ record { mode = mode; at = place; text = self.old.text } }
-    {
-        self.mode = mode;
-        self.at = place;
     }
 
     fn go(&mut self, mode: Mode) -> Step
@@ -318,36 +292,22 @@ impl PartialToken {
         Step::Ends(form)
     }
 
-    /// One byte more of the text.
-    fn push(&mut self, byte: u8)
-        requires room { length self.old.text < 255 }
-        requires more { HasMore self.old.mode (self.old.text ++ byte ∷ []) }
-        ensures { self.new ≡ record {
-          mode = self.old.mode;
-          at = self.old.at;
-          text = self.old.text ++ byte ∷ [];
-        } }
-    {
-        self.buffer[self.length] = byte;
-        self.length += 1;
-    }
-
-    pub(crate) fn begin_text(&mut self, mode: Mode, byte: u8) -> Step
+    fn begin_text(&mut self, mode: Mode, byte: u8) -> Step
         requires { HasMore mode (byte ∷ []) }
         ensures { IsAfterByte (byte_result.set_at mode self.old.at (byte ∷ []) Step.Used) self.new
             result }
     {
-        self.buffer[0] = byte;
-        self.length = 1;
+        clear(&mut self.buffer);
+        self.buffer.push(byte);
         self.mode = mode;
         Step::Used
     }
 
-    pub(crate) fn begin_string(&mut self) -> Step
+    fn begin_string(&mut self) -> Step
         ensures { IsAfterByte (byte_result.set_at Mode.Str self.old.at [] Step.Used) self.new
             result }
     {
-        self.length = 0;
+        clear(&mut self.buffer);
         self.mode = Mode::Str;
         Step::Used
     }

@@ -27,7 +27,7 @@ returns-in-Err g c =
       not_finished = ap (λ (s : Converter). s.is_finished) c.self.view_is ∙ c.requires.not_finished;
       fault = refl;
       games = ap (λ (s : Converter). s.games) c.self.view_is;
-      few = omega (arith, c.self.invariant.count none, ap (λ (s : Converter). s.lexer.count) c.self.view_is, c.requires.ready.few);
+      few = omega (arith, c.self.invariant.count, ap (λ (s : Converter). s.lexer.count) c.self.view_is, c.requires.ready.few);
       just_finished = ap (λ b. game_in_reader_if b c.end_game.new.self) flag;
       written = written_same c.self.inside.reader c.end_game.new.self keeps.profile keeps.told ∙ ap (λ (s : Converter). as_written s.reading) c.self.view_is;
       probes = omega (arith, ap (λ (s : Converter). s.reading.most_probes) c.self.view_is, keeps.probes);
@@ -52,7 +52,7 @@ returns-in-Ok g c =
       not_finished = ap (λ (s : Converter). s.is_finished) c.self.view_is ∙ c.requires.not_finished;
       fault = none;
       games = ap (λ (s : Converter). s.games + 1) c.self.view_is;
-      few = omega (arith, c.self.invariant.count none, ap (λ (s : Converter). s.lexer.count) c.self.view_is, c.requires.ready.few);
+      few = omega (arith, c.self.invariant.count, ap (λ (s : Converter). s.lexer.count) c.self.view_is, c.requires.ready.few);
       just_finished = refl;
       written = written_same c.self.inside.reader c.end_game.new.self keeps.profile keeps.told ∙ ap (λ (s : Converter). as_written s.reading) c.self.view_is;
       probes = omega (arith, ap (λ (s : Converter). s.reading.most_probes) c.self.view_is, keeps.probes);
@@ -62,7 +62,7 @@ returns-in-Ok g c =
 pub invariant_of-self : goal.invariant_of-self
 invariant_of-self g c =
     let flag = not_just_finished _ _ (ap (λ (s : Converter). s.just_finished) c.self.view_is ∙ c.requires.none_just_finished) in
-    rw flag (sound_behind_fault c.self.inside.lexer c.end_game.new.self c.self.inside.games c.self.inside.is_finished _)
+    rw flag (sound_behind_fault c.self.inside.lexer c.end_game.new.self c.self.inside.games c.self.inside.is_finished _ c.self.invariant.count)
 
 pub invariant_of-self-in-Ok : goal.invariant_of-self-in-Ok
 invariant_of-self-in-Ok g c =
@@ -86,7 +86,7 @@ overflow_add-self g c =
     let none = ap (λ (s : Converter). s.fault) c.self.view_is ∙ c.requires.no_fault in
     omega (
       arith,
-      c.self.invariant.count none,
+      c.self.invariant.count,
       ap (λ (s : Converter). s.lexer.count) c.self.view_is,
       ap (λ (s : Converter). s.games) c.self.view_is,
       c.requires.ready.few,

@@ -25,7 +25,7 @@ returns-in_err-feed g c =
           all_stops p u given c.args.piece.now c.loop-used.at _ _ _ _ so c.feed.new.self _
           ((rw take_rest at c.in_err-feed.ensures.feeds) p _ _ _ so.stands (follows_own (drop c.loop-used.at c.args.piece.now))));
       count = rw e.1 tt;
-      short = rw e.1 tt;
+      short = c.feed.ensures.short;
       not_finished = c.feed.ensures.not_finished;
       fault = rw (e.1, e.2) c.in_err-feed.ensures.fault;
       counted = rw (e.1, e.2, ← c.loop-used.invariant.counted) (c.in_err-feed.ensures.counted c.loop-used.invariant.fault);
@@ -42,7 +42,7 @@ returns-in-All g c =
       count =
           let count = rw (c.in-All.is, take_rest) at c.in_ok-feed.ensures.count in
           omega (arith, count, c.loop-used.invariant.count, length-drop c.loop-used.at c.args.piece.now, c.loop-used.invariant.within);
-      short = c.in_ok-feed.ensures.short;
+      short = c.feed.ensures.short;
       not_finished = c.feed.ensures.not_finished;
       fault = c.in_ok-feed.ensures.fault;
       counted = c.in_ok-feed.ensures.counted c.loop-used.invariant.fault ∙ c.loop-used.invariant.counted;
@@ -78,7 +78,7 @@ pub overflow_add-at : goal.overflow_add-at
 overflow_add-at g c =
     let used = rw (c.in-Game.is, take_rest) at c.in_ok-feed.ensures.used in
     let count = rw c.in-Game.is at c.in_ok-feed.ensures.count in
-    omega (arith, used, count, c.in_ok-feed.ensures.short, c.loop-used.invariant.count, length-drop c.loop-used.at c.args.piece.now, c.loop-used.invariant.within)
+    omega (arith, used, count, c.feed.ensures.short, c.loop-used.invariant.count, length-drop c.loop-used.at c.args.piece.now, c.loop-used.invariant.within)
 
 pub slice_bounds-feed-count : goal.slice_bounds-feed-count
 slice_bounds-feed-count g c = c.loop-used.invariant.within

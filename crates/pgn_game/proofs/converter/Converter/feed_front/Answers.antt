@@ -1,9 +1,9 @@
 use Rattle.pgn_game.specs.declared.converter.Met.TheVariants.{Token as Other, Marker as AtMarker}
-use Rattle.pgn_game.proofs.Words.{◌≡◌, ℕ, ◌+◌, ◌-◌, ◌^◌, ◌<◌, List, [], length, take, drop, arith, refl, sym, ap, subst, ◌∙◌, as_written}
-use Rattle.pgn_game.proofs.Words.{length-drop, le_refl, Ok, None, Some, take_rest, waiting, Converter, Reaches, ◌≤◌}
+use Rattle.pgn_game.proofs.Words.{◌≡◌, ℕ, ◌-◌, ◌<◌, List, [], length, take, drop, arith, refl, sym, ap, subst, ◌∙◌, as_written}
+use Rattle.pgn_game.proofs.Words.{length-drop, le_refl, Ok, None, Some, take_rest, waiting, Converter, Reaches}
 use Rattle.pgn_game.proofs.ReaderFitsInMemory.{fits_alike}
 use Rattle.pgn_game.proofs.tokens.StepsAtEnd.{sound_at_none}
-use Rattle.pgn_game.proofs.tokens.StepsInPiece.{lets_go, so_far_none, reads_behind, stands_here, so_far_on, reads_all, reads_to_marker, fails_on, counts_step}
+use Rattle.pgn_game.proofs.tokens.StepsInPiece.{lets_go, so_far_none, reads_behind, stands_here, so_far_on, all_on, marker_on, fails_on, counts_step}
 use Rattle.pgn_game.proofs.converter.Converter.feed_front.Goals as goal
 
 none_before : (piece : List ℕ) (at : ℕ) → piece ≡ [] → at < length piece → ⊥
@@ -53,26 +53,26 @@ returns-in-Ok-None g c =
     let step = c.step-step.ensures in
     let after = rw (is, take_rest) at step.after in
     let advances = rw (is, take_rest) at step.advances in
-    let counted = rw is at step.counted in
-    let used = rw take_rest at step.used in
+    let counted = rw is at step.goes.counted in
+    let used = rw take_rest at step.goes.within in
     record {
       used = le_refl _;
       feeds = λ p u b given reaches follows.
           let here = so.feeds p u b given reaches follows in
-          reads_all p u b given c.args.piece.now c.loop-at.at _ _ _ _ here c.loop-at-test.true _ step.written _
-          (after p _ _ (stands_here p u b given c.args.piece.now c.loop-at.at _ _ _ here c.loop-at-test.true));
+          all_on p u b given c.args.piece.now c.loop-at.at _ _ _ _ here c.loop-at-test.true _ step.goes.keeps.written
+          (after p _ _ (stands_here p u b given c.args.piece.now c.loop-at.at _ _ _ here c.loop-at-test.true)).1;
       empty = λ is. refl;
-      count = omega (arith, advances, step.count, so.count, length-drop c.loop-at.at c.args.piece.now, c.loop-at-test.true);
-      grows = omega (arith, step.count, so.count);
-      within = omega (arith, used, step.count, so.count, length-drop c.loop-at.at c.args.piece.now, c.loop-at-test.true);
+      count = omega (arith, advances, step.goes.count, so.count, length-drop c.loop-at.at c.args.piece.now, c.loop-at-test.true);
+      grows = omega (arith, step.goes.count, so.count);
+      within = omega (arith, used, step.goes.count, so.count, length-drop c.loop-at.at c.args.piece.now, c.loop-at-test.true);
       advances = tt;
       ready = tt;
-      written = step.written ∙ so.written;
-      not_finished = step.not_finished;
-      fault = rw is at step.fault;
-      games = step.games ∙ so.games;
-      none_just_finished = step.none_just_finished;
-      probes = omega (arith, step.probes, so.probes);
+      written = step.goes.keeps.written ∙ so.written;
+      not_finished = step.goes.keeps.not_finished;
+      fault = rw is at step.goes.fault;
+      games = step.goes.keeps.games ∙ so.games;
+      none_just_finished = step.goes.keeps.none_just_finished;
+      probes = omega (arith, step.goes.keeps.probes, so.probes);
       counted = counted ∙ so.counted;
     }
 
@@ -83,7 +83,7 @@ loop-at-smaller g c =
     let is : c.step-step.result.outcome ≡ Ok (Some Other) =
     read ∙ ap Ok (some ∙ ap Some (rw (read, some) at c.in-Ok-Some-Token.field-0-0-is)) in
     let advances = rw is at c.step-step.ensures.advances in
-    let used = rw take_rest at c.step-step.ensures.used in
+    let used = rw take_rest at c.step-step.ensures.goes.within in
     omega (arith, advances, used, length-drop c.loop-at.at c.args.piece.now, c.loop-at-test.true)
 
 pub loop-at-preserved : goal.loop-at-preserved
@@ -95,24 +95,24 @@ loop-at-preserved g c =
     let so = c.loop-at.invariant in
     let step = c.step-step.ensures in
     let advances = rw is at step.advances in
-    let used = rw take_rest at step.used in
-    let counted = rw is at step.counted in
+    let used = rw take_rest at step.goes.within in
+    let counted = rw is at step.goes.counted in
     let after = rw (is, take_rest) at step.after in
     record {
       within = omega (arith, used, length-drop c.loop-at.at c.args.piece.now, c.loop-at-test.true);
-      count = omega (arith, step.count, so.count);
+      count = omega (arith, step.goes.count, so.count);
       goes = omega (arith, advances, so.goes);
-      written = step.written ∙ so.written;
-      fault = rw is at step.fault;
-      games = step.games ∙ so.games;
-      none_just_finished = step.none_just_finished;
-      not_finished = step.not_finished;
-      probes = omega (arith, step.probes, so.probes);
+      written = step.goes.keeps.written ∙ so.written;
+      fault = rw is at step.goes.fault;
+      games = step.goes.keeps.games ∙ so.games;
+      none_just_finished = step.goes.keeps.none_just_finished;
+      not_finished = step.goes.keeps.not_finished;
+      probes = omega (arith, step.goes.keeps.probes, so.probes);
       counted = counted ∙ so.counted;
       feeds = λ p u b given reaches follows.
           let here = so.feeds p u b given reaches follows in
           let more = after p _ _ (stands_here p u b given c.args.piece.now c.loop-at.at _ _ _ here c.loop-at-test.true) in
-          so_far_on p u b given c.args.piece.now c.loop-at.at _ _ _ _ here c.loop-at-test.true _ step.written _ more.0 more.1;
+          so_far_on p u b given c.args.piece.now c.loop-at.at _ _ _ _ here c.loop-at-test.true _ step.goes.keeps.written _ more;
     }
 
 pub returns-in-Ok-Some-Marker : goal.returns-in-Ok-Some-Marker
@@ -125,27 +125,26 @@ returns-in-Ok-Some-Marker g c =
     let step = c.step-step.ensures in
     let after = rw (is, take_rest) at step.after in
     let advances = rw is at step.advances in
-    let used = rw take_rest at step.used in
-    let counted = rw is at step.counted in
+    let used = rw take_rest at step.goes.within in
+    let counted = rw is at step.goes.counted in
     record {
       used = omega (arith, used, length-drop c.loop-at.at c.args.piece.now, c.loop-at-test.true);
       feeds = λ p u b given reaches follows.
           let here = so.feeds p u b given reaches follows in
-          reads_to_marker p u b given c.args.piece.now c.loop-at.at _ _ _ _ here c.loop-at-test.true _ step.written _ _
-          (subst (λ n. n + length c.args.piece.now ≤ 2 ^ 62) reaches.lexer.count c.requires.short)
+          marker_on p u b given c.args.piece.now c.loop-at.at _ _ _ _ here c.loop-at-test.true _ step.goes.keeps.written _ _
           (after p _ _ (stands_here p u b given c.args.piece.now c.loop-at.at _ _ _ here c.loop-at-test.true));
       empty = λ is. absurd (none_before c.args.piece.now c.loop-at.at is c.loop-at-test.true);
-      count = omega (arith, step.count, so.count);
-      grows = omega (arith, step.count, so.count);
-      within = omega (arith, used, step.count, so.count, length-drop c.loop-at.at c.args.piece.now, c.loop-at-test.true);
+      count = omega (arith, step.goes.count, so.count);
+      grows = omega (arith, step.goes.count, so.count);
+      within = omega (arith, used, step.goes.count, so.count, length-drop c.loop-at.at c.args.piece.now, c.loop-at-test.true);
       advances = omega (arith, advances, so.goes);
-      ready = rw is at step.ready;
-      written = step.written ∙ so.written;
-      not_finished = step.not_finished;
-      fault = rw is at step.fault;
-      games = step.games ∙ so.games;
-      none_just_finished = step.none_just_finished;
-      probes = omega (arith, step.probes, so.probes);
+      ready = rw is at step.goes.ready;
+      written = step.goes.keeps.written ∙ so.written;
+      not_finished = step.goes.keeps.not_finished;
+      fault = rw is at step.goes.fault;
+      games = step.goes.keeps.games ∙ so.games;
+      none_just_finished = step.goes.keeps.none_just_finished;
+      probes = omega (arith, step.goes.keeps.probes, so.probes);
       counted = counted ∙ so.counted;
     }
 
@@ -154,27 +153,27 @@ returns-in-Err g c =
     let so = c.loop-at.invariant in
     let step = c.step-step.ensures in
     let after = rw (c.in-Err.is, take_rest) at step.after in
-    let counted = rw c.in-Err.is at step.counted in
-    let used = rw take_rest at step.used in
+    let counted = rw c.in-Err.is at step.goes.counted in
+    let used = rw take_rest at step.goes.within in
     record {
       used = tt;
       feeds = λ p u b given reaches follows.
           let here = so.feeds p u b given reaches follows in
           fails_on p u b given c.args.piece.now c.loop-at.at _ _ _ _ here c.loop-at-test.true
-          c.step-step.new.self step.written c.in-Err.fault
+          c.step-step.new.self step.goes.keeps.written c.in-Err.fault
           (after p _ _ (stands_here p u b given c.args.piece.now c.loop-at.at _ _ _ here c.loop-at-test.true));
       empty = λ is. absurd (none_before c.args.piece.now c.loop-at.at is c.loop-at-test.true);
       count = tt;
-      grows = omega (arith, step.count, so.count);
-      within = omega (arith, used, step.count, so.count, length-drop c.loop-at.at c.args.piece.now, c.loop-at-test.true);
+      grows = omega (arith, step.goes.count, so.count);
+      within = omega (arith, used, step.goes.count, so.count, length-drop c.loop-at.at c.args.piece.now, c.loop-at-test.true);
       advances = tt;
       ready = tt;
-      written = step.written ∙ so.written;
-      not_finished = step.not_finished;
-      fault = rw c.in-Err.is at step.fault;
-      games = step.games ∙ so.games;
-      none_just_finished = step.none_just_finished;
-      probes = omega (arith, step.probes, so.probes);
+      written = step.goes.keeps.written ∙ so.written;
+      not_finished = step.goes.keeps.not_finished;
+      fault = rw c.in-Err.is at step.goes.fault;
+      games = step.goes.keeps.games ∙ so.games;
+      none_just_finished = step.goes.keeps.none_just_finished;
+      probes = omega (arith, step.goes.keeps.probes, so.probes);
       counted = counts_step c.in-Err.fault.reason _ _ _ so.counted counted;
     }
 
@@ -208,7 +207,7 @@ invariant_of-self g c =
 
 pub overflow_add-at : goal.overflow_add-at
 overflow_add-at g c =
-    let used = rw take_rest at c.step-step.ensures.used in
+    let used = rw take_rest at c.step-step.ensures.goes.within in
     omega (arith, used, c.requires.short, length-drop c.loop-at.at c.args.piece.now, c.loop-at-test.true)
 
 pub slice_bounds-step-count : goal.slice_bounds-step-count

@@ -17,9 +17,10 @@ in_piece n k piece within = omega (arith, within, length-take k piece)
 whole_count : (new old k : ℕ) (piece : List ℕ) → new ≡ old + length (take k piece) → length piece ≤ k → new ≡ old + length piece
 whole_count new old k piece count whole = omega (arith, count, whole, length-take k piece)
 
-stays_short : (new old used now held : ℕ) → new ≡ old + used → used ≤ 2 ^ 62 - now
+stays_short : {new old now held : ℕ} (piece : List ℕ) {front : List ℕ} → front ≡ take (2 ^ 62 - now) piece → new ≤ old + length front
     → now ≡ held → held ≤ 2 ^ 62 → held ≡ old → new ≤ 2 ^ 62
-stays_short new old used now held count room is within view = omega (arith, count, room, is, within, view)
+stays_short {now = now} piece is within count room view =
+    omega (arith, within, count, room, view, ap (length {A = ℕ}) is, length-take (2 ^ 62 - now) piece)
 
 within_front : (new old k : ℕ) (piece front : List ℕ) → front ≡ take k piece → new ≤ old + length front → new ≤ old + length piece
 within_front new old k piece front is within = omega (arith, within, ap (length {A = ℕ}) is, length-take k piece)
@@ -30,6 +31,9 @@ limit_at is view count within = omega arith
 pub returns-in-Some-clause-feeds : goal.returns-in-Some-clause-feeds
 returns-in-Some-clause-feeds g c = λ p u b given reaches follows.
     absurd (none-some _ (sym reaches.has_read.no_fault ∙ ap (λ (s : Converter). s.fault) (sym c.self.view_is) ∙ c.in-Some.is))
+
+pub returns-in-Some-clause-short : goal.returns-in-Some-clause-short
+returns-in-Some-clause-short g c = omega (arith, ap (λ (s : Converter). s.lexer.count) c.self.view_is, c.self.invariant.count)
 
 pub returns-in-Some-clause-none_just_finished : goal.returns-in-Some-clause-none_just_finished
 returns-in-Some-clause-none_just_finished g c =
@@ -50,13 +54,14 @@ returns-in_err-used g c =
       feeds = λ p u b given reaches follows.
           at_token _ (front_fault p u b given c.args.piece.now _ _ _ _ _
           (limit_at reaches.lexer.count (ap (λ (s : Converter). s.lexer.count) c.self.view_is) c.count.ensures
-          (c.self.invariant.count c.in_default.is))
+          c.self.invariant.count)
           (feeds p u b given reaches (follows_front b c.args.piece.now _ follows)));
       empty = λ is free. fed.empty (no_front _ _ _ c.within_limit-front.ensures is);
       count = tt;
       grows = c.feed_front.ensures.grows;
       within = within_front _ _ (2 ^ 62 - c.count.result) c.args.piece.now _ c.within_limit-front.ensures c.feed_front.ensures.within;
-      short = tt;
+      short = stays_short c.args.piece.now c.within_limit-front.ensures c.feed_front.ensures.within c.count.ensures c.self.invariant.count
+          (ap (λ (s : Converter). s.lexer.count) c.self.view_is);
       advances = tt;
       ready = tt;
       written = c.feed_front.ensures.written;
@@ -83,15 +88,14 @@ returns-in-Marker g c =
       feeds = λ p u b given reaches follows.
           front_marker p u b given piece _ _ _ c.feed_front.new.self _ _ room
           (limit_at reaches.lexer.count (ap (λ (s : Converter). s.lexer.count) c.self.view_is) c.count.ensures
-          (c.self.invariant.count c.in_default.is))
+          c.self.invariant.count)
           (feeds p u b given reaches (follows_front b piece _ follows));
       empty = λ is free. rw c.in-Marker.is at (fed.empty (no_front _ _ _ c.within_limit-front.ensures is));
       count = count;
       grows = c.feed_front.ensures.grows;
       within = within_front _ _ (2 ^ 62 - c.count.result) c.args.piece.now _ c.within_limit-front.ensures c.feed_front.ensures.within;
-      short = stays_short c.feed_front.new.self.lexer.count c.args.self.now.lexer.count
-          used c.count.result c.self.inside.lexer.count count room c.count.ensures
-          (c.self.invariant.count c.in_default.is) (ap (λ (s : Converter). s.lexer.count) c.self.view_is);
+      short = stays_short c.args.piece.now c.within_limit-front.ensures c.feed_front.ensures.within c.count.ensures c.self.invariant.count
+          (ap (λ (s : Converter). s.lexer.count) c.self.view_is);
       advances = rw c.in-Marker.is at fed.advances;
       ready = rw c.in-Marker.is at fed.ready;
       written = c.feed_front.ensures.written;
@@ -115,7 +119,7 @@ returns-then-front-piece g c =
       feeds = λ p u b given reaches follows.
           rw c.too_long.ensures.fault (front_too_long p u b given piece _ _ _ c.feed_front.new.self _ _
           (limit_at reaches.lexer.count (ap (λ (s : Converter). s.lexer.count) c.self.view_is) c.count.ensures
-          (c.self.invariant.count c.in_default.is))
+          c.self.invariant.count)
           (limit_left piece _ more) (ap (λ (s : Converter). s.reading) c.self-2.view_is)
           (feeds p u b given reaches (follows_front b piece _ follows)));
       empty = λ is free. absurd (omega (arith, more, ap (length {A = ℕ}) is));
@@ -126,7 +130,12 @@ returns-then-front-piece g c =
         ap (λ (s : Converter). s.lexer.count) c.self-2.view_is,
         within_front _ _ (2 ^ 62 - c.count.result) c.args.piece.now _ c.within_limit-front.ensures c.feed_front.ensures.within,
       );
-      short = tt;
+      short = omega (
+        arith,
+        ap (λ (s : Converter). s.lexer.count) c.self-2.view_is,
+        stays_short c.args.piece.now c.within_limit-front.ensures c.feed_front.ensures.within c.count.ensures c.self.invariant.count
+            (ap (λ (s : Converter). s.lexer.count) c.self.view_is),
+      );
       advances = tt;
       ready = tt;
       written = ap (λ (s : Converter). as_written s.reading) c.self-2.view_is ∙ c.feed_front.ensures.written;
@@ -161,9 +170,8 @@ returns-else-front-piece g c =
       count = all;
       grows = c.feed_front.ensures.grows;
       within = within_front _ _ (2 ^ 62 - c.count.result) c.args.piece.now _ c.within_limit-front.ensures c.feed_front.ensures.within;
-      short = stays_short c.feed_front.new.self.lexer.count c.args.self.now.lexer.count
-          (length piece) c.count.result c.self.inside.lexer.count all whole c.count.ensures
-          (c.self.invariant.count c.in_default.is) (ap (λ (s : Converter). s.lexer.count) c.self.view_is);
+      short = stays_short c.args.piece.now c.within_limit-front.ensures c.feed_front.ensures.within c.count.ensures c.self.invariant.count
+          (ap (λ (s : Converter). s.lexer.count) c.self.view_is);
       advances = tt;
       ready = tt;
       written = c.feed_front.ensures.written;
@@ -177,7 +185,7 @@ returns-else-front-piece g c =
     }
 
 pub within_limit-front-requires : goal.within_limit-front-requires
-within_limit-front-requires g c = omega (arith, c.count.ensures, c.self.invariant.count c.in_default.is)
+within_limit-front-requires g c = omega (arith, c.count.ensures, c.self.invariant.count)
 
 pub feed_front-requires : goal.feed_front-requires
 feed_front-requires g c =
@@ -192,7 +200,7 @@ feed_front-requires g c =
             front,
             length-take (2 ^ 62 - c.count.result) c.args.piece.now,
             c.count.ensures,
-            c.self.invariant.count c.in_default.is,
+            c.self.invariant.count,
             ap (λ (s : Converter). s.lexer.count) c.self.view_is,
           ),
         ),
@@ -203,4 +211,4 @@ pub invariant_of-self : goal.invariant_of-self
 invariant_of-self g c =
     let flag = not_just_finished _ _ (ap (λ (s : Converter). s.just_finished) c.self-2.view_is ∙ c.feed_front.ensures.none_just_finished) in
     rw (c.too_long.ensures.kept, flag) (sound_behind_fault c.self-2.inside.lexer c.self-2.inside.reader
-    c.self-2.inside.games c.self-2.inside.is_finished c.too_long.result)
+    c.self-2.inside.games c.self-2.inside.is_finished c.too_long.result c.self-2.invariant.count)

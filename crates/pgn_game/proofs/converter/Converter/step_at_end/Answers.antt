@@ -6,11 +6,11 @@ use Rattle.pgn_game.proofs.ReaderFitsInMemory.{fits_reader}
 use Rattle.pgn_game.proofs.converter.Converter.step_at_end.Goals as goal
 use Rattle.pgn_game.proofs.converter.Converter.step_at_end.Goals.{else-is_end-via-then-is_end+else-is_ok, else-is_end-via-else-is_end}
 
-pub accept_unless_marker-met-requires : goal.accept_unless_marker-met-requires
-accept_unless_marker-met-requires g c =
+pub accept_copied-met-requires : goal.accept_copied-met-requires
+accept_copied-met-requires g c =
     let none = ap (λ (s : Converter). s.fault) c.self.view_is ∙ c.requires.no_fault in (
       search fits_reader,
-      (omega (arith, c.self.invariant.few_plies none, c.self.invariant.count none), rw c.in-Token.is at c.finish.follows.holds-at-none.lengths),
+      (omega (arith, c.self.invariant.few_plies none, c.self.invariant.count), rw c.in-Token.is at c.finish.follows.holds-at-none.lengths),
     )
 
 pub settle-outcome-requires : goal.settle-outcome-requires
@@ -25,7 +25,7 @@ returns-then-is_ok g c =
     let t : Token = record { at = c.in-Token.token.at; kind = kind_of c.in-Token.token.kind } in
     let is_e : is_end t.kind ≡ true = sym c.is_end-is_end.ensures ∙ c.if-is_end.true in
     let l = c.finish.follows.lender-at-none in
-    let met = c.accept_unless_marker-met in
+    let met = c.accept_copied-met in
     let r = met.result in
     let ok : is_ok (outcome_at t.at r) ≡ true = ap is_ok (sym c.settle-outcome.ensures.outcome) ∙ sym c.is_ok.ensures.value ∙ c.if-is_ok.true in
     let keeps : Keeps c.self.inside.reader met.new.self = kept _ _ _ _ r met.ensures in
@@ -76,9 +76,9 @@ returns-in-Fault g c =
 
 -- not the end, or a token that was not taken
 not_ended : (g : _) (c : goal.Joined-else-is_end g)
-    → (c.is_end-is_end.result && is_ok (outcome_at c.in-Token.token.at c.accept_unless_marker-met.result)) ≡ false
+    → (c.is_end-is_end.result && is_ok (outcome_at c.in-Token.token.at c.accept_copied-met.result)) ≡ false
 not_ended g c =
-    let ok : is_ok c.settle-outcome.result ≡ is_ok (outcome_at c.in-Token.token.at c.accept_unless_marker-met.result) =
+    let ok : is_ok c.settle-outcome.result ≡ is_ok (outcome_at c.in-Token.token.at c.accept_copied-met.result) =
     ap is_ok c.settle-outcome.ensures.outcome in
     elim c.else-is_end.branch [
       | else-is_end-via-then-is_end+else-is_ok w ↦ rw (w.if-is_end.true, ← ok, ← w.is_ok.ensures.value) w.if-is_ok.false
@@ -87,9 +87,9 @@ not_ended g c =
 
 now_is : (g : _) (c : goal.Joined-else-is_end g) → c.else-is_end.self ≡ record {
   lexer = c.finish.follows.lender-at-none;
-  reading = c.accept_unless_marker-met.new.self;
+  reading = c.accept_copied-met.new.self;
   games = c.self.inside.games;
-  just_finished = game_in_reader_if c.self.inside.has_finished_game c.accept_unless_marker-met.new.self;
+  just_finished = game_in_reader_if c.self.inside.has_finished_game c.accept_copied-met.new.self;
   is_finished = c.self.inside.is_finished;
   fault = c.settle-outcome.new.fault;
 }
@@ -106,7 +106,7 @@ returns-else-is_end g c =
     let flag = not_just_finished _ _ (ap (λ (s : Converter). s.just_finished) c.self.view_is ∙ c.requires.none_just_finished) in
     let t : Token = record { at = c.in-Token.token.at; kind = kind_of c.in-Token.token.kind } in
     let l = c.finish.follows.lender-at-none in
-    let met = c.accept_unless_marker-met in
+    let met = c.accept_copied-met in
     let r = met.result in
     let e = c.is_end-is_end.result in
     let now = now_is g c in
@@ -148,19 +148,20 @@ invariant_of-self-else-is_end g c =
     let flag = not_just_finished _ _ (ap (λ (s : Converter). s.just_finished) c.self.view_is ∙ c.requires.none_just_finished) in
     let t : Token = record { at = c.in-Token.token.at; kind = kind_of c.in-Token.token.kind } in
     let l = c.finish.follows.lender-at-none in
-    let r = c.accept_unless_marker-met.result in
+    let r = c.accept_copied-met.result in
     let near = subst (λ e. Nearer e c.self.inside.lexer l) (sym c.is_end-is_end.ensures ∙ c.if-is_end.false)
     (nearer_by t.kind c.self.inside.lexer l t c.finish.follows.holds-at-none.count gives) in
     rw flag
-    (sound_behind c.self.inside.lexer l c.self.inside.reader c.accept_unless_marker-met.new.self c.self.inside.games near
-    (c.self.invariant.count none) (c.self.invariant.few none) (c.self.invariant.fewer_plies none not_over)
-    (kept c.self.inside.reader c.accept_unless_marker-met.new.self t.kind _ r c.accept_unless_marker-met.ensures))
+    (sound_behind c.self.inside.lexer l c.self.inside.reader c.accept_copied-met.new.self c.self.inside.games near
+    c.self.invariant.count (c.self.invariant.few none) (c.self.invariant.fewer_plies none not_over)
+    (kept c.self.inside.reader c.accept_copied-met.new.self t.kind _ r c.accept_copied-met.ensures))
 
 pub invariant_of-self-in-Fault : goal.invariant_of-self-in-Fault
 invariant_of-self-in-Fault g c =
     let flag = not_just_finished _ _ (ap (λ (s : Converter). s.just_finished) c.self.view_is ∙ c.requires.none_just_finished) in
     rw (c.fail.ensures.kept, flag)
-    (sound_behind_fault c.finish.follows.lender-at-none c.self.inside.reader c.self.inside.games c.self.inside.is_finished c.lexical.result)
+    (sound_behind_fault c.finish.follows.lender-at-none c.self.inside.reader c.self.inside.games c.self.inside.is_finished c.lexical.result
+    (omega (arith, c.finish.follows.holds-at-none.count, c.self.invariant.count)))
 
 pub invariant_of-self : goal.invariant_of-self
 invariant_of-self g c = absurd (rw c.in-NeedMore.is at c.finish.follows.holds-at-none.closes)
@@ -172,17 +173,17 @@ invariant_of-self-then-is_ok g c =
     let flag = not_just_finished _ _ (ap (λ (s : Converter). s.just_finished) c.self.view_is ∙ c.requires.none_just_finished) in
     let t : Token = record { at = c.in-Token.token.at; kind = kind_of c.in-Token.token.kind } in
     let l = c.finish.follows.lender-at-none in
-    let met = c.accept_unless_marker-met in
+    let met = c.accept_copied-met in
     let near = subst (λ e. Nearer e c.self.inside.lexer l) (sym c.is_end-is_end.ensures ∙ c.if-is_end.true)
     (nearer_by t.kind c.self.inside.lexer l t c.finish.follows.holds-at-none.count (rw c.in-Token.is at c.finish.follows.holds-at-none.closes)) in
     rw flag
     (sound_at_end c.self.inside.lexer l c.self.inside.reader met.new.self c.self.inside.games near
-    (c.self.invariant.count none) (c.self.invariant.few none) (c.self.invariant.fewer_plies none not_over) (kept _ _ _ _ met.result met.ensures))
+    c.self.invariant.count (c.self.invariant.few none) (c.self.invariant.fewer_plies none not_over) (kept _ _ _ _ met.result met.ensures))
 
 pub invariant_of-self-else-is_ok : goal.invariant_of-self-else-is_ok
 invariant_of-self-else-is_ok g c =
     let flag = not_just_finished _ _ (ap (λ (s : Converter). s.just_finished) c.self.view_is ∙ c.requires.none_just_finished) in
     let not_ok = ap is_ok (sym c.settle-outcome.ensures.outcome) ∙ sym c.is_ok.ensures.value ∙ c.if-is_ok.false in
     rw (flag, c.settle-outcome.ensures.fault, c.settle-outcome.ensures.outcome)
-    (sound_if_not_ok c.finish.follows.lender-at-none c.accept_unless_marker-met.new.self c.self.inside.games c.self.inside.is_finished
-    c.in-Token.token.at c.accept_unless_marker-met.result not_ok)
+    (sound_if_not_ok c.finish.follows.lender-at-none c.accept_copied-met.new.self c.self.inside.games c.self.inside.is_finished
+    c.in-Token.token.at c.accept_copied-met.result not_ok (omega (arith, c.finish.follows.holds-at-none.count, c.self.invariant.count)))

@@ -1,4 +1,4 @@
-use Rattle.pgn_game.proofs.Words.{◌≡◌, List, ◌<◌, length, length-append, length-map, map, option_to_list, Option, StoredLevel, ap, sym, ◌∙◌, arith, StoredLevels, level_of}
+use Rattle.pgn_game.proofs.Words.{◌≡◌, length, length-append, length-map, map, option_to_list, Option, StoredLevel, ap, arith, StoredLevels, level_of}
 use Rattle.pgn_game.specs.declared.levels.Level.{Level as CodeLevel}
 use Rattle.pgn_game.proofs.putting.CodeLevelsToStored.{closes, fits_front, held, popped}
 use Rattle.pgn_game.proofs.levels.Levels.close.Goals as goal

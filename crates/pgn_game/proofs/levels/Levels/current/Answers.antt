@@ -1,5 +1,4 @@
-use Rattle.pgn_game.proofs.Words.{◌≡◌, ◌-◌, ◌∙◌, Some, Option, sym, ap, get_or, length, List}
-use Rattle.pgn_game.specs.declared.levels.Level.{Level as CodeLevel}
+use Rattle.pgn_game.proofs.Words.{◌≡◌, ◌-◌, Some, get_or, length}
 use Rattle.pgn_game.proofs.putting.CodeLevelsToStored.{current_at}
 use Rattle.pgn_game.proofs.levels.Levels.current.Goals as goal
 

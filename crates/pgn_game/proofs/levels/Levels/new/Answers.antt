@@ -1,4 +1,4 @@
-use Rattle.pgn_game.proofs.Words.{ap, first_position, only_level, ◌∙◌, code_levels}
+use Rattle.pgn_game.proofs.Words.{ap, first_position, only_level}
 use Rattle.pgn_game.proofs.levels.Levels.new.Goals as goal
 
 pub returns : goal.returns

@@ -1,54 +1,72 @@
-use Rattle.pgn_game.proofs.Words.{◌≡◌, ℕ, List, Bor, Err, None, false, refl, ap, ◌∙◌, err_from_is_err_and, kind_of, TokenKind}
-use Rattle.pgn_game.proofs.Words.{marker_of, is_frequent}
+use Rattle.pgn_game.proofs.Words.{◌≡◌, None, Result, Ok, Err, refl, Kind, Device, Reason, ReaderState, TagInMovetext, UnexpectedEnd, NotAMove, marker_of}
 use Rattle.pgn_lexer.specs.Tokens as tokens
-use Rattle.pgn_lexer.specs.declared.token.TokenKind.TheVariants as token_kinds
-use Rattle.pgn_game.specs.declared.annotation.Annotation.TheVariants.{Word}
-use Rattle.pgn_game.proofs.ReaderLemmas.{reader_alike, item_entry, passes_entry}
+use Rattle.pgn_game.specs.PutResult.{MeetsEntry, TakesEntry, continued, no_marker}
+use Rattle.pgn_game.specs.declared.annotation.Annotation.TheVariants.{Word, Glyph, CommentOpen, CommentClose}
+use Rattle.pgn_game.proofs.ReaderLemmas.{entry_refused, item_entry, passes_entry}
 use Rattle.pgn_game.proofs.reader.Reader.accept_entry.Goals as goal
 
--- what is left is not frequent, and no marker
-other : (k : TokenKind) → ((s : Bor (List ℕ)) → k ≡ token_kinds.Symbol s → ⊥)
-    → (k ≡ token_kinds.Period → ⊥) → ((s : Bor (List ℕ)) → k ≡ token_kinds.Word s → ⊥)
-    → (k ≡ token_kinds.Asterisk → ⊥) → (is_frequent (kind_of k) ≡ false) × (marker_of (kind_of k) ≡ None)
-other (token_kinds.Symbol s) symbol period word asterisk = absurd (symbol s refl)
-other token_kinds.Period symbol period word asterisk = absurd (period refl)
-other (token_kinds.Word s) symbol period word asterisk = absurd (word s refl)
-other token_kinds.Asterisk symbol period word asterisk = absurd (asterisk refl)
-other _ symbol period word asterisk = (refl, refl)
-
-pub accept_other-requires : goal.accept_other-requires
-accept_other-requires g c =
-    let is = other c.args.kind c.in_default.not-Symbol c.in_default.not-Period c.in_default.not-Word c.in_default.not-Asterisk in
-    (search reader_alike, (c.requires.stage, (is.0, is.1)))
+-- a token that is no marker is taken
+taken : (old new : ReaderState) (k : Kind) (r : Result Unit Reason) (d : Device) → marker_of k ≡ None → TakesEntry old k new (continued r) d
+    → MeetsEntry old k new (no_marker r) d
+taken old new k (Ok done) d none takes = record { no_marker = none; takes = takes }
+taken old new k (Err reason) d none takes = record { no_marker = none; takes = takes }
 
 pub returns-in-Symbol : goal.returns-in-Symbol
 returns-in-Symbol g c = rw c.in-Symbol.is c.accept_symbol.ensures
 
-pub returns-in_err-pass-in-Period : goal.returns-in_err-pass-in-Period
-returns-in_err-pass-in-Period g c =
-    let p = err_from_is_err_and c.from_residual.result c.from_residual.ensures.1 in
-    let takes = passes_entry c.args.self.now _ tokens.period _ _ c.in_err-pass-in-Period.ensures (λ part is. (refl, refl)) (λ part. refl) in
-    rw c.in-Period.is (rw (p.1 ∙ ap Err p.2) (record { no_marker = refl; takes = takes }))
-
-pub returns-in_ok-pass-in-Period : goal.returns-in_ok-pass-in-Period
-returns-in_ok-pass-in-Period g c =
-    let takes = passes_entry c.args.self.now _ tokens.period _ _ c.in_ok-pass-in-Period.ensures (λ part is. (refl, refl)) (λ part. refl) in
-    rw c.in-Period.is (record { no_marker = refl; takes = takes })
-
-pub returns-in_err-put-in-Word : goal.returns-in_err-put-in-Word
-returns-in_err-put-in-Word g c =
-    let p = err_from_is_err_and c.from_residual-in_err-put-in-Word.result c.from_residual-in_err-put-in-Word.ensures.1 in
-    let word = c.in-Word.word in
-    let takes =
-    item_entry c.args.self.now _ (tokens.word word.now) (Word word) _ _ c.in_err-put-in-Word.ensures (λ part is. (refl, refl)) (λ part. refl) in
-    rw c.in-Word.is (rw (p.1 ∙ ap Err p.2) (record { no_marker = refl; takes = takes }))
-
-pub returns-in_ok-put-in-Word : goal.returns-in_ok-put-in-Word
-returns-in_ok-put-in-Word g c =
-    let word = c.in-Word.word in
-    let takes =
-    item_entry c.args.self.now _ (tokens.word word.now) (Word word) _ _ c.in_ok-put-in-Word.ensures (λ part is. (refl, refl)) (λ part. refl) in
-    rw c.in-Word.is (record { no_marker = refl; takes = takes })
-
 pub returns-in-Asterisk : goal.returns-in-Asterisk
 returns-in-Asterisk g c = rw c.in-Asterisk.is (record { is = refl; same = refl; unwritten = refl; still = refl })
+
+pub returns-in-Period : goal.returns-in-Period
+returns-in-Period g c =
+    let takes = passes_entry c.args.self.now _ tokens.period _ _ c.pass.ensures (λ part is. (refl, refl)) (λ part. refl) in
+    rw (c.in-Period.is, c.unmarked.ensures) (taken c.args.self.now _ tokens.period c.pass.result _ refl takes)
+
+pub returns-in-Word : goal.returns-in-Word
+returns-in-Word g c =
+    let takes = item_entry c.args.self.now _ (tokens.word c.in-Word.word.now) (Word c.in-Word.word) _ _ c.put.ensures (λ part is. (refl, refl)) (λ part. refl) in
+    rw (c.in-Word.is, c.unmarked-in-Word.ensures) (taken c.args.self.now _ (tokens.word c.in-Word.word.now) c.put.result _ refl takes)
+
+pub returns-in-CommentOpen : goal.returns-in-CommentOpen
+returns-in-CommentOpen g c =
+    let takes = item_entry c.args.self.now _ tokens.comment_open CommentOpen _ _ c.put-in-CommentOpen.ensures (λ part is. (refl, refl)) (λ part. refl) in
+    rw (c.in-CommentOpen.is, c.unmarked-in-CommentOpen.ensures) (taken c.args.self.now _ tokens.comment_open c.put-in-CommentOpen.result _ refl takes)
+
+pub returns-in-CommentClose : goal.returns-in-CommentClose
+returns-in-CommentClose g c =
+    let takes = item_entry c.args.self.now _ tokens.comment_close CommentClose _ _ c.put-in-CommentClose.ensures (λ part is. (refl, refl)) (λ part. refl) in
+    rw (c.in-CommentClose.is, c.unmarked-in-CommentClose.ensures) (taken c.args.self.now _ tokens.comment_close c.put-in-CommentClose.result _ refl takes)
+
+pub returns-in-Glyph : goal.returns-in-Glyph
+returns-in-Glyph g c =
+    let takes = item_entry c.args.self.now _ (tokens.glyph c.in-Glyph.glyph) (Glyph c.in-Glyph.glyph) _ _ c.put-in-Glyph.ensures (λ part is. (refl, refl)) (λ part. refl) in
+    rw (c.in-Glyph.is, c.unmarked-in-Glyph.ensures) (taken c.args.self.now _ (tokens.glyph c.in-Glyph.glyph) c.put-in-Glyph.result _ refl takes)
+
+pub returns-in-LeftParen : goal.returns-in-LeftParen
+returns-in-LeftParen g c =
+    rw (c.in-LeftParen.is, c.unmarked-in-LeftParen.ensures) (taken c.args.self.now _ tokens.left_paren c.open_variation.result _ refl c.open_variation.ensures)
+
+pub returns-in-RightParen : goal.returns-in-RightParen
+returns-in-RightParen g c =
+    rw (c.in-RightParen.is, c.unmarked-in-RightParen.ensures)
+    (taken c.args.self.now _ tokens.right_paren c.close_variation.result _ refl c.close_variation.ensures)
+
+pub returns-in-End : goal.returns-in-End
+returns-in-End g c =
+    rw c.in-End.is
+    (record { no_marker = refl; takes = entry_refused c.args.self.now tokens.end UnexpectedEnd _ _ refl (λ part is. refl) (λ part. refl) })
+
+pub returns-in-LeftBracket : goal.returns-in-LeftBracket
+returns-in-LeftBracket g c =
+    rw c.in-LeftBracket.is
+    (record { no_marker = refl; takes = entry_refused c.args.self.now tokens.left_bracket TagInMovetext _ _ refl (λ part is. refl) (λ part. refl) })
+
+pub returns-in-RightBracket : goal.returns-in-RightBracket
+returns-in-RightBracket g c =
+    rw c.in-RightBracket.is
+    (record { no_marker = refl; takes = entry_refused c.args.self.now tokens.right_bracket NotAMove _ _ refl (λ part is. refl) (λ part. refl) })
+
+pub returns-in-Str : goal.returns-in-Str
+returns-in-Str g c =
+    rw c.in-Str.is
+    (record { no_marker = refl; takes = entry_refused c.args.self.now _ NotAMove _ _ refl (λ part is. refl) (λ part. refl) })

@@ -1,6 +1,5 @@
-use Rattle.pgn_game.proofs.Words.{◌≡◌, ℕ, IsTrue, List, refl, sym, ap, ◌∙◌, Ok, Err, Appends-nil, false≢true, err_from_is_err_and, Device, device, Stage, AfterTags, InMovetext, Pair, known_of, tag_section, ReaderState, may_have_movetext, BeginsText, section_due_of, WritesText}
-use Rattle.pgn_layout.specs.declared.sink.WriteFault.{WriteFault}
-use Rattle.pgn_game.proofs.ReaderLemmas.{reader_alike, tags_fit, begun_before, no_name}
+use Rattle.pgn_game.proofs.Words.{◌≡◌, refl, IsTrue, sym, ◌∙◌, Appends-nil, false≢true, device, Stage, AfterTags, InMovetext, may_have_movetext}
+use Rattle.pgn_game.proofs.ReaderLemmas.{reader_alike, begun_before}
 use Rattle.pgn_game.proofs.reader.Reader.begin_movetext.Goals as goal
 
 -- movetext has not begun
@@ -9,66 +8,16 @@ after_tags AfterTags may before = refl
 after_tags InMovetext may before = absurd (before refl)
 after_tags _ may before = absurd (cc)
 
--- The section is that of the reader, whose fields are `held`.
-module _ (old held : ReaderState) (pairs : List Pair) (result : List ℕ) (d : Device) (is : held ≡ old)
-    (at : old.stage ≡ AfterTags) (same : pairs ≡ held.tags.held) (known : result ≡ known_of old) where
-  section_is : tag_section held.profile.mode result pairs ≡ section_due_of old
-  section_is = cc (same, known, is, at)
-
-  fails : (f : WriteFault) → WritesText {A = Unit} d (Err f) (tag_section held.profile.mode result pairs)
-      → BeginsText {A = Unit} old old (Err f) d
-  fails f writes = record {
-    text = rw (sym section_is) writes.written;
-    begun = tt;
-    profile = refl;
-    told = refl;
-    earlier = refl;
-    plies = refl;
-    probes = refl;
-    counted = writes.counted;
-  }
-
-  begins : WritesText {A = Unit} {E = WriteFault} d (Ok tt) (tag_section held.profile.mode result pairs)
-      → BeginsText {A = Unit} {E = WriteFault} old (record held { stage = InMovetext }) (Ok tt) d
-  begins writes = record {
-    text = rw (sym section_is) writes.written;
-    begun = ap (λ (r : ReaderState). record r { stage = InMovetext }) is;
-    profile = ap (λ (r : ReaderState). r.profile) is;
-    told = ap (λ (r : ReaderState). r.told) is;
-    earlier = ap (λ (r : ReaderState). r.earlier_plies) is;
-    plies = ap (λ (r : ReaderState). r.text.plies) is;
-    probes = ap (λ (r : ReaderState). r.most_probes) is;
-    counted = writes.counted;
-  }
-
 pub is_in_movetext-requires : goal.is_in_movetext-requires
 is_in_movetext-requires g c = search reader_alike
 
-pub pairs-requires : goal.pairs-requires
-pairs-requires g c = (search tags_fit, no_name g.row.T _ _ c.self.view_is c.requires.stage c.self.invariant.0)
-
-pub invariant_of-self : goal.invariant_of-self
-invariant_of-self g c = (no_name g.row.T _ _ c.self.view_is c.requires.stage c.self.invariant.0, c.self.invariant.1)
+pub write_tags-requires : goal.write_tags-requires
+write_tags-requires g c = (
+  search reader_alike,
+  after_tags c.args.self.now.stage c.requires.stage (λ e. false≢true (sym c.if-is_in_movetext.false ∙ c.is_in_movetext.ensures.1 e)),
+)
 
 pub returns-then-is_in_movetext : goal.returns-then-is_in_movetext
 returns-then-is_in_movetext g c =
     let d = device g.W.Sink.taken g.W.Sink.failures c.args.out.now c.args.out.now in
     record { begins = begun_before c.args.self.now d (c.is_in_movetext.ensures.0 c.if-is_in_movetext.true) (Appends-nil _) refl }
-
-pub returns-in_err-write_section : goal.returns-in_err-write_section
-returns-in_err-write_section g c =
-    let old = c.args.self.now in
-    let p = err_from_is_err_and c.from_residual.result c.from_residual.ensures.1 in
-    let at = after_tags old.stage c.requires.stage (λ e. false≢true (sym c.if-is_in_movetext.false ∙ c.is_in_movetext.ensures.1 e)) in
-    rw p.1
-    (record {
-      begins = fails old _ c.pairs.result _ _ c.self.view_is at c.pairs.ensures c.known_missing_result.ensures _ c.in_err-write_section.ensures;
-    })
-
-pub returns : goal.returns
-returns g c =
-    let old = c.args.self.now in
-    let at = after_tags old.stage c.requires.stage (λ e. false≢true (sym c.if-is_in_movetext.false ∙ c.is_in_movetext.ensures.1 e)) in
-    record {
-      begins = begins old _ c.pairs.result _ _ c.self.view_is at c.pairs.ensures c.known_missing_result.ensures c.in_ok-write_section.ensures;
-    }

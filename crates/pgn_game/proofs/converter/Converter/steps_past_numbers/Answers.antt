@@ -1,5 +1,0 @@
-use Rattle.pgn_game.proofs.ReaderFitsInMemory.{fits_reader}
-use Rattle.pgn_game.proofs.converter.Converter.steps_past_numbers.Goals as goal
-
-pub is_in_movetext-requires : goal.is_in_movetext-requires
-is_in_movetext-requires g c = search fits_reader

@@ -1,0 +1,196 @@
+-- What a step does over one call of the lexer, and over what is passed before a token.
+use Rattle.pgn_lexer.specs.Scanned.{fault, more, token}
+use Rattle.pgn_lexer.specs.Stands.{Scans}
+use Rattle.pgn_lexer.specs.WholeTokens.{Passes, ReadsBehind}
+use Rattle.pgn_game.specs.declared.converter.Met.TheVariants.{Token as Other}
+use Rattle.pgn_game.specs.ConverterSteps.{Steps, fault_of_step, outcome_at}
+use Rattle.pgn_game.specs.PutResult.{TakesUnlessMarker}
+use Rattle.pgn_game.proofs.Words.{LexFault, Lexical, Fault, Bool, IsTrue, false, ◌≡◌, ℕ, ◌+◌, ◌-◌, ◌<◌, ◌≤◌, ◌^◌, List, length, drop, length-drop, first, Option, None, Some, Result, Ok, Err, refl, subst, arith, Marker, Token, InMovetext, Reason, ReaderState, Converter, Device, IsSound, Standing, Keeps}
+use Rattle.pgn_game.proofs.tokens.AcceptedToConverter.{follows_own, now_at, took, took_fault, took_none, written_same}
+use Rattle.pgn_game.proofs.tokens.PastNumbers.{passes_count, passes_few, passes_sooner, reads_past}
+use Rattle.pgn_game.proofs.tokens.RunsInPiece.{Runs, between, steps_behind}
+use Rattle.pgn_game.proofs.tokens.SoundAtStart.{few_waiting}
+use Rattle.pgn_game.proofs.tokens.StepsAtEnd.{advances_token, counts_token, kept, ready_in_piece, sound_in_piece}
+use Rattle.pgn_game.proofs.tokens.StepsInPiece.{after_token}
+
+-- A reader in a converter without a fault, before a piece that ends before place 2^62.
+module _ (lexer : Standing) (reading : ReaderState) (games : ℕ) (piece : List ℕ)
+    (sound : IsSound lexer reading games false false None) (short : lexer.count + length piece ≤ 2 ^ 62) where
+  abbrev here : Converter
+  here = now_at lexer reading games false
+
+  -- ---- a call of the lexer that reads the piece
+
+  module _ {l : Standing} {used : ℕ} (within : used ≤ length piece) (some : 0 < length piece) where
+    -- no token ends in the piece
+    pub steps_more : Scans lexer piece l used more → (o : Option (List ℕ)) (failures : ℕ)
+        → Steps here piece (now_at l reading games false) used (Ok None) (between o o failures failures)
+    steps_more scans o failures =
+        record {
+          after = λ p u given reaches.
+              after_token p here u given piece o reaches some (now_at l reading games false) refl used (Ok None) o
+              (subst (λ n. n + length piece ≤ 2 ^ 62) reaches.lexer.count short)
+              (took_none p here u given piece used l o some reaches (scans.carries u (first piece) given reaches.lexer (follows_own piece)));
+          advances = scans.reads.0;
+          goes = record {
+            within = within;
+            count = scans.count;
+            ready = tt;
+            keeps = record { written = refl; games = refl; none_just_finished = refl; not_finished = refl; probes = omega arith };
+            fault = refl;
+            counted = refl;
+          };
+        }
+
+    pub sound_more : Scans lexer piece l used more → IsSound l reading games false false None
+    sound_more scans =
+        let waits = few_waiting l in
+        record {
+          count = omega (arith, scans.count, within, short);
+          few = λ is. omega (arith, sound.few is, scans.count, scans.reads.0, some, waits);
+          few_plies = λ is. omega (arith, sound.few_plies is, scans.count, scans.reads.0, some, waits);
+          fewer_plies = λ is not_over. omega (arith, sound.fewer_plies is not_over, scans.count, scans.reads.0, some, waits);
+          between = sound.between;
+          no_fault = sound.no_fault;
+        }
+
+    -- the text is rejected
+    pub steps_fault : (f : LexFault) → Scans lexer piece l used (fault f) → (o : Option (List ℕ)) (failures : ℕ)
+        → Steps here piece (record (now_at l reading games false) { fault = Some (record { at = f.at; reason = Lexical f.reason }) }) used
+        (Err (record { at = f.at; reason = Lexical f.reason })) (between o o failures failures)
+    steps_fault f scans o failures =
+        let why : Fault = record { at = f.at; reason = Lexical f.reason } in
+        let new : Converter = record (now_at l reading games false) { fault = Some why } in
+        record {
+          after = λ p u given reaches.
+              after_token p here u given piece o reaches some new refl used (Err why) o
+              (subst (λ n. n + length piece ≤ 2 ^ 62) reaches.lexer.count short)
+              (took_fault p here u given piece used f l new o some reaches
+              (scans.carries u (first piece) given reaches.lexer (follows_own piece)) refl);
+          advances = tt;
+          goes = record {
+            within = within;
+            count = scans.count;
+            ready = tt;
+            keeps = record { written = refl; games = refl; none_just_finished = refl; not_finished = refl; probes = omega arith };
+            fault = refl;
+            counted = refl;
+          };
+        }
+
+    -- a token is read, which the reader meets
+    module _ {t : Token} (scans : Scans lexer piece l used (token t)) (new : ReaderState) (met : Result (Option Marker) Reason) (sink : Device)
+        (takes : TakesUnlessMarker reading t.kind new met sink) where
+      keeps : Keeps reading new
+      keeps = kept reading new t.kind sink met takes
+
+      pub steps_met : Steps here piece (record {
+        lexer = l;
+        reading = new;
+        games = games;
+        just_finished = None;
+        is_finished = false;
+        fault = fault_of_step (outcome_at t.at met);
+      }) used (outcome_at t.at met) sink
+      steps_met =
+          record {
+            after = λ p u given reaches.
+                after_token p here u given piece sink.before reaches some _ (written_same reading new keeps.profile keeps.told) used (outcome_at t.at met)
+                sink.after (subst (λ n. n + length piece ≤ 2 ^ 62) reaches.lexer.count short)
+                (took p here u given piece used t l new false sink met reaches
+                (scans.carries u (first piece) given reaches.lexer (follows_own piece)) scans.ends scans.count takes);
+            advances = advances_token lexer piece l used t.at met scans.advances;
+            goes = record {
+              within = within;
+              count = scans.count;
+              ready = ready_in_piece lexer l reading new games t.at used t.kind sink None false (fault_of_step (outcome_at t.at met)) met scans.advances
+                  scans.count takes (sound.few refl) (sound.fewer_plies refl refl);
+              keeps = record {
+                written = written_same reading new keeps.profile keeps.told;
+                games = refl;
+                none_just_finished = refl;
+                not_finished = refl;
+                probes = keeps.probes;
+              };
+              fault = refl;
+              counted = counts_token reading new t.kind t.at met sink takes;
+            };
+          }
+
+      pub sound_met : {finished : _} {fault : _} → IsSound l new games false finished fault
+      sound_met =
+          sound_in_piece lexer l reading new games used (length piece) scans.advances scans.count within short
+          (sound.few refl) (sound.fewer_plies refl refl) keeps
+
+  -- ---- a call that passes white space, and numbers in movetext
+
+  module _ {skips : Bool} (at : IsTrue skips → reading.stage ≡ InMovetext) where
+    pub runs_past : {l : Standing} {used : ℕ} → Passes skips lexer piece l used → used ≤ length piece → (o : Option (List ℕ)) (failures : ℕ)
+        → Runs here piece (now_at l reading games false) used (Ok (Some Other)) (between o o failures failures)
+    runs_past passes within o failures =
+        record {
+          after = λ p u given reaches. reads_past p here u given piece o reaches at passes;
+          advances = (passes_few passes, λ some. passes_sooner passes some);
+          goes = record {
+            within = within;
+            count = passes_count passes;
+            ready = tt;
+            keeps = record { written = refl; games = refl; none_just_finished = refl; not_finished = refl; probes = omega arith };
+            fault = refl;
+            counted = refl;
+          };
+        }
+
+    pub sound_past : {l : Standing} {used : ℕ} → Passes skips lexer piece l used → used ≤ length piece → IsSound l reading games false false None
+    sound_past passes within =
+        let few = passes_few passes in
+        let count = passes_count passes in
+        record {
+          count = omega (arith, count, within, short);
+          few = λ is. omega (arith, sound.few is, count, few);
+          few_plies = λ is. omega (arith, sound.few_plies is, count, few);
+          fewer_plies = λ is not_over. omega (arith, sound.fewer_plies is not_over, count, few);
+          between = sound.between;
+          no_fault = sound.no_fault;
+        }
+
+-- and the token behind them
+module _ (lexer : Standing) (reading : ReaderState) (games : ℕ) (piece : List ℕ)
+    (sound : IsSound lexer reading games false false None) (short : lexer.count + length piece ≤ 2 ^ 62)
+    {skips : Bool} (at : IsTrue skips → reading.stage ≡ InMovetext)
+    {l : Standing} {used : ℕ} {t : Token} (behind : ReadsBehind skips lexer piece l used t) (within : used ≤ length piece)
+    (new : ReaderState) (met : Result (Option Marker) Reason) (sink : Device) (takes : TakesUnlessMarker reading t.kind new met sink) where
+  abbrev rest : List ℕ
+  rest = drop behind.passed piece
+
+  long : length rest ≡ length piece - behind.passed
+  long = length-drop behind.passed piece
+
+  there : IsSound behind.mid reading games false false None
+  there = sound_past lexer reading games piece sound short at behind.passes (omega (arith, behind.within))
+
+  room : behind.mid.count + length rest ≤ 2 ^ 62
+  room = omega (arith, passes_count behind.passes, short, long, behind.within)
+
+  inside : behind.count ≤ length rest
+  inside = omega (arith, within, behind.all, long, behind.within)
+
+  more_left : 0 < length rest
+  more_left = omega (arith, long, behind.within)
+
+  pub steps_met_behind : Steps (now_at lexer reading games false) piece (record {
+    lexer = l;
+    reading = new;
+    games = games;
+    just_finished = None;
+    is_finished = false;
+    fault = fault_of_step (outcome_at t.at met);
+  }) used (outcome_at t.at met) sink
+  steps_met_behind =
+      rw behind.all (steps_behind _ (now_at behind.mid reading games false) _ piece behind.passed behind.count (outcome_at t.at met)
+      sink.before sink.before sink.after sink.failures sink.failures sink.failures_after behind.within
+      (runs_past lexer reading games piece sound short at behind.passes (omega (arith, behind.within)) sink.before sink.failures)
+      (steps_met behind.mid reading games rest there room inside more_left behind.reads new met sink takes))
+
+  pub sound_met_behind : {finished : _} {fault : _} → IsSound l new games false finished fault
+  sound_met_behind = sound_met behind.mid reading games rest there room inside more_left behind.reads new met sink takes

@@ -1,0 +1,22 @@
+use Rattle.pgn_lexer.proofs.Words.{refl, arith}
+use Rattle.pgn_lexer.proofs.stepping.StandsAfterCalls.{scans_nothing, scans_form, scans_told, scans_of}
+use Rattle.pgn_lexer.proofs.lexer.Lexer.read_on.Goals as goal
+
+pub returns-in-End : goal.returns-in-End
+returns-in-End c =
+    let ran = rw c.in-End.is at c.run-used.ensures in
+    ((refl, λ _. tt, scans_of _ _ _ _ _ _ c.self.view_is (scans_nothing _ _ _ _ _ ran)), record { used = omega arith; after = tt })
+
+pub returns-in-Token : goal.returns-in-Token
+returns-in-Token c =
+    let ran = rw c.in-Token.is at c.run-used.ensures in (
+      (refl, λ _. tt, scans_of _ _ _ _ _ _ c.self.view_is (scans_form _ _ _ _ _ _ _ c.token.ensures.at c.token.ensures.kind ran)),
+      record { used = ran.within; after = tt },
+    )
+
+pub returns-in-Fault : goal.returns-in-Fault
+returns-in-Fault c =
+    let ran = rw c.in-Fault.is at c.run-used.ensures in (
+      (refl, λ _. tt, scans_of _ _ _ _ _ _ c.self.view_is (scans_told _ _ _ _ _ _ _ c.fault_met.ensures ran)),
+      record { used = ran.within; after = tt },
+    )

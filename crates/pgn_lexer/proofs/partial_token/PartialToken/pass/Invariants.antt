@@ -1,0 +1,14 @@
+use Rattle.pgn_lexer.proofs.Words.{◌+◌, ◌-◌, ◌≤◌, length, IsOutside, Passes, standing_at}
+use Rattle.pgn_lexer.proofs.partial_token.PartialToken.pass.Given as goal
+
+abbrev pub invariant-loop-used : goal.invariant-loop-used
+invariant-loop-used l = record {
+  within : l.used ≤ length l.piece;
+  room : length l.self-inside.buffer.items ≤ 255;
+  outside : IsOutside l.self-inside.mode;
+  passes : Passes l.skips_numbers (standing_at l.place l.fn.self) l.piece
+      (standing_at (l.place + l.used) (record { mode = l.self-inside.mode; at = l.self-inside.at; text = l.self-inside.buffer.items })) l.used;
+}
+
+abbrev pub decreases-loop-used : goal.decreases-loop-used
+decreases-loop-used l = length l.piece - l.used

@@ -1,0 +1,388 @@
+//! Reads a token that lies in the piece as a whole, without a copy of its text.
+
+ghost use Rattle.std.specs.Prelude.{◌≡◌, Bool, ℕ, ◌+◌, ◌<◌, ◌≤◌, ◌^◌, length, get_or, IsTrue, IfSome};
+ghost use Rattle.pgn_lexer.specs.Bytes as bytes;
+ghost use Rattle.pgn_lexer.specs.Runs.{IsInside, IsNumberIn, IsStringIn, IsSymbolIn, IsWhole, IsWordIn};
+ghost use Rattle.pgn_lexer.specs.Runs.{comment_mode, standing_at};
+ghost use Rattle.pgn_lexer.specs.Scanned.{kind_of};
+ghost use Rattle.pgn_lexer.specs.Spelling as spelling;
+ghost use Rattle.pgn_lexer.specs.Tokens.{glyph};
+ghost use Rattle.pgn_lexer.specs.declared.class.Class.TheVariants as classes;
+ghost use Rattle.pgn_lexer.specs.declared.class.CommentClass.TheVariants.{WordByte};
+
+use crate::class::{
+    Class, CommentClass, StringClass, class_of, comment_class_of, continues_symbol, is_digit,
+    is_suffix, string_class_of,
+};
+use crate::partial_token::{
+    LARGEST_GLYPH, LONGEST_TEXT, LONGEST_WORD, Mode, PartialToken, first_suffix, glyph_of,
+    kind_of_single, longer_suffix,
+};
+use crate::token::{Token, TokenKind};
+
+/// No byte of white space, of a number or of a period is above this one.
+const LAST_PASSED: u8 = b'9';
+
+/// A token with which the bytes begin, how many of them it has, and the mode behind it.
+#[derive(Clone, Copy)]
+struct Whole<'a> {
+    length: usize,
+    mode: Mode,
+    kind: TokenKind<'a>,
+}
+
+impl PartialToken {
+    ghost use Rattle.pgn_lexer.specs.PartialToken.{IsSound};
+    ghost use Rattle.pgn_lexer.specs.RunResult.{IsOutside};
+    ghost use Rattle.pgn_lexer.specs.WholeTokens.{Passes, ReadsWhole};
+
+    /// Uses the piece, which begins at the place, up to the end of its first token: past the white
+    /// space before it, and past numbers and periods if these are skipped. The text of the token is
+    /// borrowed from the piece.
+    ///
+    /// `None` if what comes then may go on behind the piece, has an escape, or is rejected. It is
+    /// not used.
+    #[inline(always)]
+    pub(crate) fn whole_token<'a>(
+        &mut self,
+        piece: &'a [u8],
+        place: u64,
+        skips_numbers: bool,
+    ) -> (usize, Option<Token<'a>>)
+        requires room { place + length piece.now ≤ 2 ^ 62 }
+        requires sound { IsSound place self.old }
+        ensures used { result.0 ≤ length piece.now }
+        ensures sound { IsSound (place + result.0) self.new }
+        ensures token { IfSome result.1 (λ token. IsInside self.new.mode (kind_of token.kind)) }
+        ensures reads { ReadsWhole skips_numbers (standing_at place self.old) piece.now
+            (standing_at (place + result.0) self.new) result.0 result.1 }
+    {
+        match self.mode {
+            Mode::LineStart | Mode::Outside => self.whole_outside(piece, place, skips_numbers),
+            Mode::Brace => self.whole_in_comment(piece, place, false),
+            Mode::Line => self.whole_in_comment(piece, place, true),
+            _ => (0, None),
+        }
+    }
+
+    /// Reads outside comments.
+    #[inline(always)]
+    fn whole_outside<'a>(
+        &mut self,
+        piece: &'a [u8],
+        place: u64,
+        skips_numbers: bool,
+    ) -> (usize, Option<Token<'a>>)
+        requires room { place + length piece.now ≤ 2 ^ 62 }
+        requires sound { IsSound place self.old }
+        requires outside { IsOutside self.old.mode }
+        ensures used { result.0 ≤ length piece.now }
+        ensures sound { IsSound (place + result.0) self.new }
+        ensures token { IfSome result.1 (λ token. IsInside self.new.mode (kind_of token.kind)) }
+        ensures reads { ReadsWhole skips_numbers (standing_at place self.old) piece.now
+            (standing_at (place + result.0) self.new) result.0 result.1 }
+    {
+        let passed = self.pass(piece, place, skips_numbers);
+        let Some(whole) = whole_at(&piece[passed..]) else {
+            return (passed, None);
+        };
+        self.mode = whole.mode;
+        let token = Token {
+            at: place + passed as u64,
+            kind: whole.kind,
+        };
+        (passed + whole.length, Some(token))
+    }
+
+    /// Passes white space, and numbers and periods if these are skipped. Returns how many bytes
+    /// they have.
+    #[inline(always)]
+    fn pass(&mut self, piece: &[u8], place: u64, skips_numbers: bool) -> usize
+        requires room { place + length piece.now ≤ 2 ^ 62 }
+        requires sound { IsSound place self.old }
+        requires outside { IsOutside self.old.mode }
+        ensures used { result ≤ length piece.now }
+        ensures outside { IsOutside self.new.mode }
+        ensures room { length self.new.text ≤ 255 }
+        ensures passes { Passes skips_numbers (standing_at place self.old) piece.now
+            (standing_at (place + result) self.new) result }
+    {
+        let mut used = 0;
+        while used < piece.len() {
+            let byte = piece[used];
+            if byte > LAST_PASSED {
+                break;
+            }
+            if byte == b' ' || (skips_numbers && byte == b'.') {
+                self.mode = Mode::Outside;
+                used += 1;
+            } else if skips_numbers && is_digit(byte) {
+                let Some(length) = number_length(&piece[used..]) else {
+                    break;
+                };
+                self.mode = Mode::Outside;
+                used += length;
+            } else {
+                match class_of(byte) {
+                    Class::LineEnd => self.mode = Mode::LineStart,
+                    Class::Space => self.mode = Mode::Outside,
+                    _ => break,
+                }
+                used += 1;
+            }
+        }
+        used
+    }
+
+    /// Reads in a comment, in braces or to the end of its line: past white space, to the end of a
+    /// word, or to that of the comment.
+    #[inline(always)]
+    fn whole_in_comment<'a>(
+        &mut self,
+        piece: &'a [u8],
+        place: u64,
+        is_line: bool,
+    ) -> (usize, Option<Token<'a>>)
+        requires room { place + length piece.now ≤ 2 ^ 62 }
+        requires sound { IsSound place self.old }
+        requires comment { self.old.mode ≡ comment_mode is_line }
+        ensures used { result.0 ≤ length piece.now }
+        ensures sound { IsSound (place + result.0) self.new }
+        ensures token { IfSome result.1 (λ token. IsInside self.new.mode (kind_of token.kind)) }
+        ensures reads { (skips : Bool) → ReadsWhole skips (standing_at place self.old) piece.now
+            (standing_at (place + result.0) self.new) result.0 result.1 }
+    {
+        let mut used = 0;
+        while used < piece.len() {
+            let at = place + used as u64;
+            match comment_class_of(piece[used]) {
+                CommentClass::Space => used += 1,
+                CommentClass::WordByte => {
+                    let Some(length) = word_length(&piece[used..]) else {
+                        break;
+                    };
+                    let kind = TokenKind::Word(&piece[used..used + length]);
+                    return (used + length, Some(Token { at, kind }));
+                }
+                CommentClass::LineEnd => {
+                    if is_line {
+                        self.mode = Mode::LineStart;
+                        let kind = TokenKind::CommentClose;
+                        return (used + 1, Some(Token { at, kind }));
+                    }
+                    used += 1;
+                }
+                CommentClass::CloseBrace => {
+                    if is_line {
+                        break;
+                    }
+                    self.mode = Mode::Outside;
+                    let kind = TokenKind::CommentClose;
+                    return (used + 1, Some(Token { at, kind }));
+                }
+                CommentClass::Control => break,
+            }
+        }
+        (used, None)
+    }
+}
+
+// The token with which the bytes begin, outside comments. `None` if it may go on behind them, has
+// an escape, or is rejected.
+#[inline(always)]
+fn whole_at(piece: &[u8]) -> Option<Whole<'_>>
+    ensures { IfSome result (λ whole. IsWhole piece.now whole.length whole.mode
+        (kind_of whole.kind)) }
+{
+    if piece.is_empty() {
+        return None;
+    }
+    match class_of(piece[0]) {
+        Class::SymbolStart => {
+            let length = symbol_length(piece)?;
+            let kind = TokenKind::Symbol(&piece[..length]);
+            Some(Whole {
+                length,
+                mode: Mode::Outside,
+                kind,
+            })
+        }
+        Class::Quote => {
+            let end = string_end(piece)?;
+            let kind = TokenKind::Str(&piece[1..end]);
+            Some(Whole {
+                length: end + 1,
+                mode: Mode::Outside,
+                kind,
+            })
+        }
+        Class::Dollar => {
+            let (length, number) = glyph_in(piece)?;
+            let kind = TokenKind::Glyph(number);
+            Some(Whole {
+                length,
+                mode: Mode::Outside,
+                kind,
+            })
+        }
+        Class::Suffix => {
+            let (length, number) = suffix_in(piece)?;
+            let kind = TokenKind::Glyph(number);
+            Some(Whole {
+                length,
+                mode: Mode::Outside,
+                kind,
+            })
+        }
+        Class::OpenBrace => {
+            let kind = TokenKind::CommentOpen;
+            Some(Whole {
+                length: 1,
+                mode: Mode::Brace,
+                kind,
+            })
+        }
+        Class::Semicolon => {
+            let kind = TokenKind::CommentOpen;
+            Some(Whole {
+                length: 1,
+                mode: Mode::Line,
+                kind,
+            })
+        }
+        Class::Alone(single) => {
+            let kind = kind_of_single(single);
+            Some(Whole {
+                length: 1,
+                mode: Mode::Outside,
+                kind,
+            })
+        }
+        Class::LineEnd | Class::Space | Class::Percent | Class::Refused(_) => None,
+    }
+}
+
+// The length of the symbol with which the bytes begin. `None` if it may go on behind them, or is
+// too long.
+#[inline(always)]
+fn symbol_length(piece: &[u8]) -> Option<usize>
+    requires some { 0 < length piece.now }
+    requires first { IsTrue (bytes.starts_symbol (get_or piece.now 0 0)) }
+    ensures { IfSome result (λ n. IsSymbolIn piece.now n) }
+{
+    let end = piece.len().min(LONGEST_TEXT + 1);
+    let mut length = 1;
+    while length < end {
+        if !continues_symbol(piece[length]) {
+            return Some(length);
+        }
+        length += 1;
+    }
+    None
+}
+
+// The length of the number with which the bytes begin. `None` if it may go on behind them, is no
+// number but a symbol that begins with digits, or is too long.
+#[inline(always)]
+fn number_length(piece: &[u8]) -> Option<usize>
+    requires some { 0 < length piece.now }
+    requires first { IsTrue (bytes.is_digit (get_or piece.now 0 0)) }
+    ensures { IfSome result (λ n. IsNumberIn piece.now n) }
+{
+    let end = piece.len().min(LONGEST_TEXT + 1);
+    let mut length = 1;
+    while length < end {
+        let byte = piece[length];
+        if !is_digit(byte) {
+            return (!continues_symbol(byte)).then_some(length);
+        }
+        length += 1;
+    }
+    None
+}
+
+// The index of the quote that ends the string with which the bytes begin. `None` if they have no
+// such quote, or the string has an escape or a byte that is rejected, or is too long.
+#[inline(always)]
+fn string_end(piece: &[u8]) -> Option<usize>
+    requires { 0 < length piece.now }
+    ensures { IfSome result (λ n. IsStringIn piece.now n) }
+{
+    let end = piece.len().min(LONGEST_TEXT + 2);
+    let mut at = 1;
+    while at < end {
+        match string_class_of(piece[at]) {
+            StringClass::Plain => at += 1,
+            StringClass::Quote => return Some(at),
+            _ => return None,
+        }
+    }
+    None
+}
+
+// The length of the word of a comment with which the bytes begin. `None` if it may go on behind
+// them, or is too long.
+#[inline(always)]
+fn word_length(piece: &[u8]) -> Option<usize>
+    requires some { 0 < length piece.now }
+    requires first { spelling.comment_class (get_or piece.now 0 0) ≡ WordByte }
+    ensures { IfSome result (λ n. IsWordIn piece.now n) }
+{
+    let end = piece.len().min(LONGEST_WORD + 1);
+    let mut length = 1;
+    while length < end {
+        match comment_class_of(piece[length]) {
+            CommentClass::WordByte => length += 1,
+            _ => return Some(length),
+        }
+    }
+    None
+}
+
+// The length and the number of the NAG with which the bytes begin. `None` if it may go on behind
+// them, has no digit, or is too large.
+fn glyph_in(piece: &[u8]) -> Option<(usize, u8)>
+    requires some { 0 < length piece.now }
+    requires first { spelling.class (get_or piece.now 0 0) ≡ classes.Dollar }
+    ensures { IfSome result (λ r. IsWhole piece.now r.0 Mode.Outside (glyph r.1)) }
+{
+    if piece.len() < 2 || !is_digit(piece[1]) {
+        return None;
+    }
+    let mut number = piece[1] - b'0';
+    let mut length = 2;
+    while length < piece.len() {
+        let byte = piece[length];
+        if !is_digit(byte) {
+            return Some((length, number));
+        }
+        let longer = 10 * u16::from(number) + u16::from(byte - b'0');
+        if longer > LARGEST_GLYPH {
+            return None;
+        }
+        number = longer as u8;
+        length += 1;
+    }
+    None
+}
+
+// The length and the NAG of the suffix with which the bytes begin. `None` if it may go on behind
+// them, or is none of the six.
+fn suffix_in(piece: &[u8]) -> Option<(usize, u8)>
+    requires some { 0 < length piece.now }
+    requires first { spelling.class (get_or piece.now 0 0) ≡ classes.Suffix }
+    ensures { IfSome result (λ r. IsWhole piece.now r.0 Mode.Outside (glyph r.1)) }
+{
+    if piece.len() < 2 {
+        return None;
+    }
+    let first = first_suffix(piece[0]);
+    if !is_suffix(piece[1]) {
+        return Some((1, glyph_of(first)));
+    }
+    let longer = longer_suffix(first, piece[1])?;
+    if piece.len() < 3 || is_suffix(piece[2]) {
+        return None;
+    }
+    Some((2, glyph_of(longer)))
+}
