@@ -24,7 +24,7 @@ returns-in-Ok-true-clause-next g c =
     (game_at_end c.args.mode c.args.missing _ _ _ c.games_end_by_marker.ensures
     c.texts_end_between_games.ensures _ _ c.feed.new.self _ fed c.finish.new.self _
     c.texts_end_behind_marker.ensures
-    (rw (c.in-Ok-All.is ∙ ap Ok c.in-Ok-All.field-0-is) at c.feed.ensures.short)
+    c.feed.ensures.short
     (omega (
       arith,
       begun.count,
@@ -43,7 +43,7 @@ returns-in-Ok-false-clause-next g c =
     rw (← c.is_first_column-place.ensures)
     (none_at_end c.args.mode c.args.missing _ _ _ c.games_end_by_marker.ensures
     c.texts_end_between_games.ensures _ _ c.feed.new.self _ fed c.finish.new.self
-    (rw (c.in-Ok-All.is ∙ ap Ok c.in-Ok-All.field-0-is) at c.feed.ensures.short)
+    c.feed.ensures.short
     (ends _ _ _ _ fed.stands) c.no_game.ensures)
 
 pub returns-in-Err-finish-clause-next : goal.returns-in-Err-finish-clause-next
@@ -56,7 +56,7 @@ returns-in-Err-finish-clause-next g c =
     rw (← c.is_first_column-place.ensures)
     (fault_at_end c.args.mode c.args.missing _ _ _ c.games_end_by_marker.ensures
     c.texts_end_between_games.ensures _ _ c.feed.new.self _ fed c.finish.new.self _
-    (rw (c.in-Ok-All.is ∙ ap Ok c.in-Ok-All.field-0-is) at c.feed.ensures.short)
+    c.feed.ensures.short
     (ends _ _ _ _ fed.stands) kept c.refused_game.ensures)
 
 pub returns-in-Err-clause-next : goal.returns-in-Err-clause-next
