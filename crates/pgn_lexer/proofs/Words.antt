@@ -42,7 +42,7 @@ pub use Rattle.pgn_lexer.specs.declared.class.CommentClass.{CommentClass}
 pub use Rattle.pgn_lexer.specs.declared.class.Single.{Single}
 pub use Rattle.pgn_lexer.specs.declared.class.StringClass.{StringClass}
 pub use Rattle.pgn_lexer.specs.declared.partial_token.Mode.{Mode}
-pub use Rattle.pgn_lexer.specs.declared.partial_token.Mode.TheVariants.{AfterBackslash, Brace, BraceWord, Failed, LineStart, Outside, Start, Str, Symbol}
+pub use Rattle.pgn_lexer.specs.declared.partial_token.Mode.TheVariants.{AfterBackslash, Brace, BraceWord, Failed, LineStart, LineWord, Outside, Start, Str, Symbol}
 pub use Rattle.pgn_lexer.specs.declared.partial_token.Step.{Step}
 pub use Rattle.pgn_lexer.specs.declared.partial_token.Step.TheVariants.{Ends, EndsBefore, Fault, Used}
 pub use Rattle.pgn_lexer.specs.declared.partial_token.TokenForm.{TokenForm}

@@ -252,6 +252,12 @@ pub takes_word_byte : (l : Bool) (place b : ℕ) (h new : PartialToken) → h.mo
     → new ≡ record { mode = h.mode; at = h.at; text = h.text ++ b ∷ [] } → IsAfterByte (after_byte place h b) new Used
 takes_word_byte l place b h new e goes room grows = takes_word l _ b h new _ e (rw goes (grind arith))
 
+pub takes_word_on : (place b : ℕ) (h new : PartialToken) → (h.mode ≡ BraceWord) ⊎ (h.mode ≡ LineWord)
+    → comment_class b ≡ CommentClass.WordByte → length h.text < 79
+    → new ≡ record { mode = h.mode; at = h.at; text = h.text ++ b ∷ [] } → IsAfterByte (after_byte place h b) new Used
+takes_word_on place b h new (inl e) goes room grows = takes_word_byte false _ b h new e goes room grows
+takes_word_on place b h new (inr e) goes room grows = takes_word_byte true _ b h new e goes room grows
+
 word_ends : (m : Mode) (h : PartialToken) (b : ℕ) (c : CommentClass) → (c ≡ CommentClass.WordByte → ⊥)
     → word m h b c ≡ into h m (EndsBefore TokenForm.Word)
 word_ends m h b c h1 = grind arith

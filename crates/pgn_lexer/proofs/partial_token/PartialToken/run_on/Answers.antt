@@ -12,8 +12,8 @@ returns-in_default c = λ old ran.
 
 pub loop-used-preserved : goal.loop-used-preserved
 loop-used-preserved c = record {
-  within = c.copy_string-used.ensures.within;
-  ran = λ old ran. c.copy_string-used.ensures.ran old
+  within = c.copy_text-used.ensures.within;
+  ran = λ old ran. c.copy_text-used.ensures.ran old
       (ran_uses _ old _ _ _ _ (omega arith) refl (c.loop-used.invariant.ran old ran) _ c.in-Used.ensures);
 }
 

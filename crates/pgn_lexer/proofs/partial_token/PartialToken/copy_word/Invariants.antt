@@ -1,0 +1,17 @@
+use Rattle.pgn_lexer.proofs.Words.{◌≡◌, ◌<◌, ◌≤◌, ◌+◌, ◌-◌, ◌⊎◌, length, BraceWord, LineWord, PartialToken, Ran}
+use Rattle.pgn_lexer.proofs.partial_token.PartialToken.copy_word.Given as goal
+
+abbrev pub invariant-loop-used : goal.invariant-loop-used
+invariant-loop-used l = record {
+  from : l.from ≤ l.used;
+  within : l.used ≤ l.end;
+  piece : l.end ≤ length l.piece;
+  room : length l.self-inside.buffer.items + (l.end - l.used) ≤ 79;
+  some : 0 < length l.self-inside.buffer.items;
+  word : (l.self-inside.mode ≡ BraceWord) ⊎ (l.self-inside.mode ≡ LineWord);
+  ran : (old : PartialToken) → Ran l.place old l.piece l.fn.self l.from
+      → Ran l.place old l.piece (record { mode = l.self-inside.mode; at = l.self-inside.at; text = l.self-inside.buffer.items }) l.used;
+}
+
+abbrev pub decreases-loop-used : goal.decreases-loop-used
+decreases-loop-used l = l.end - l.used
