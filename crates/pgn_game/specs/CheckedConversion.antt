@@ -4,7 +4,7 @@
 -- are tokens of `first`, and us tokens of `second`. n is the most pairs of an origin and a target
 -- that were tried for one move. `first`, `second` and `sink` are the devices, before the call and
 -- after it.
-use Rattle.std.specs.Prelude.{◌≡◌, ℕ, ◌^◌, ◌<◌, ◌≤◌, ◌⊎◌, max, IsTrue, List, [], ◌∷◌, ◌++◌, length, take, None, Some, Result, Ok, Err, IfSome}
+use Rattle.std.specs.Prelude.{◌≡◌, ℕ, ◌^◌, ◌<◌, ◌≤◌, ◌⊎◌, max, true, false, IsTrue, List, [], ◌∷◌, ◌++◌, length, take, None, Some, Result, Ok, Err, IfSome}
 use Rattle.std.specs.Io.KnownBytes.{Appends, Consumes}
 use Rattle.pgn_layout.specs.Device.{Device, FailsOnce, IsStill}
 use Rattle.pgn_lexer.specs.Tokens.{Token}
@@ -29,7 +29,8 @@ HasTaken sink text = Appends sink.before sink.after text
 abbrev pub AreConverted : Profile → List ℕ → List ℕ → Verdict → Device → Type 0
 AreConverted p s r v sink = (checked_verdict p s r ≡ v) × HasTaken sink (checked_output p s r)
 
--- n is the most pairs tried for one move in both readings. All tokens of `first` are read. Of those
+-- n is the most pairs tried for one move in both readings. The first writes nothing, and tries pairs
+-- only to find moves. All tokens of `first` are read. Of those
 -- of `second` the tokens `front` are read: none is rejected, and they make the progress that the
 -- comparison makes.
 pub record MostOfBoth (p : Profile) (ts us : List Token) (n : ℕ) : Type 0 where
@@ -40,8 +41,8 @@ pub record MostOfBoth (p : Profile) (ts us : List Token) (n : ℕ) : Type 0 wher
   pub same : (read p front).progress ≡ (compared p ts us).progress
   pub most_of_first : ℕ
   pub most_of_second : ℕ
-  pub first_tried : MostTried p ts most_of_first
-  pub second_tried : MostTried p front most_of_second
+  pub first_tried : MostTried true p ts most_of_first
+  pub second_tried : MostTried false p front most_of_second
   pub greater : n ≡ max most_of_first most_of_second
 
 -- That number is at most 1,040, and at least 1 if a game that is written has a move.

@@ -1,10 +1,10 @@
 -- **Definition**: what a conversion of a whole input does.
--- Letters: p is the profile, s a text, v a verdict, t are the totals, f is a fault, u are the bytes
+-- Letters: q says whether the reader is silent, which then only reads; p is the profile, s a text, v a verdict, t are the totals, f is a fault, u are the bytes
 -- read so far, ts are tokens. n is the most pairs of an origin and a target that were tried for one
 -- move. `source` and `sink` are the devices before the call and after it. `before` and `after` are
 -- the bytes that the sink has taken, `left_old` and `left_new` those that the source has left, if
 -- they report them.
-use Rattle.std.specs.Prelude.{◌≡◌, ℕ, ◌^◌, ◌<◌, ◌≤◌, IsTrue, List, [], ◌++◌, length, Option, None, Result, Ok, Err, IfSome}
+use Rattle.std.specs.Prelude.{◌≡◌, ℕ, ◌^◌, ◌<◌, ◌≤◌, Bool, true, false, IsTrue, List, [], ◌++◌, length, Option, None, Result, Ok, Err, IfSome}
 use Rattle.std.specs.Io.KnownBytes.{Appends, Consumes}
 use Rattle.pgn_layout.specs.Device.{Device, FailsOnce, IsStill, one_more}
 use Rattle.pgn_lexer.specs.Tokens.{Token}
@@ -31,17 +31,17 @@ IsConverted p s v before after = (verdict p s ≡ v) × Appends before after (ou
 -- n is the most pairs tried for one move of the text. It is at most 1,040: 8 for the candidates of
 -- the piece, 8 for their rivals, and 1,024 for an answer to a check. It is at least 1 if one of the
 -- games has a move.
-pub record MostProbes (p : Profile) (s : List ℕ) (n : ℕ) : Type 0 where
+pub record MostProbes (q : Bool) (p : Profile) (s : List ℕ) (n : ℕ) : Type 0 where
   pub most : n ≤ 1040
   pub some : IsTrue (play_moves (read p (tokens_of s)).progress.games) → 0 < n
-  pub tried : MostTried p (tokens_of s) n
+  pub tried : MostTried q p (tokens_of s) n
 
 -- The text s is converted, and has at most 2^62 bytes. The totals have the numbers of its verdict,
 -- and the most pairs tried.
-pub record IsTotalled (p : Profile) (s : List ℕ) (t : Totals) (before after : Option (List ℕ)) : Type 0 where
+pub record IsTotalled (q : Bool) (p : Profile) (s : List ℕ) (t : Totals) (before after : Option (List ℕ)) : Type 0 where
   pub short : length s ≤ 2 ^ 62
   pub converted : IsConverted p s (verdict_in t) before after
-  pub probes : MostProbes p s t.most_probes
+  pub probes : MostProbes q p s t.most_probes
 
 -- Reading ends after the bytes u. They decide no token that is rejected, and what is due for the
 -- tokens that they decide is written.
@@ -61,13 +61,13 @@ pub data FailsOn (p : Profile) (text : List ℕ) (before after : Option (List �
       → FailsOn p text before after (record { at = length u; reason = InputTooLong })
 
 -- what a conversion of a slice results in: the text is converted, or the conversion fails
-abbrev pub AfterSlice : Profile → List ℕ → Result Totals Fault → Option (List ℕ) → Option (List ℕ) → Type 0
-AfterSlice p text (Ok t) before after = IsTotalled p text t before after
-AfterSlice p text (Err f) before after = FailsOn p text before after f
+abbrev pub AfterSlice : Bool → Profile → List ℕ → Result Totals Fault → Option (List ℕ) → Option (List ℕ) → Type 0
+AfterSlice q p text (Ok t) before after = IsTotalled q p text t before after
+AfterSlice q p text (Err f) before after = FailsOn p text before after f
 
 -- What `convert_slice` does to its sink.
 abbrev pub ConvertsSlice : Profile → List ℕ → Result Totals Fault → Device → Type 0
-ConvertsSlice p text result sink = AfterSlice p text result sink.before sink.after
+ConvertsSlice p text result sink = AfterSlice false p text result sink.before sink.after
 
 -- the tokens begin with ts
 abbrev pub IsTokenPrefix : List Token → List Token → Type 0
@@ -98,14 +98,28 @@ pub data Fails (p : Profile) (left_old left_new : Option (List ℕ)) (before aft
 
 -- What a conversion results in: what the source had left is converted, up to its end, or the
 -- conversion fails.
-abbrev pub AfterConversion : Profile → Option (List ℕ) → Option (List ℕ) → Result Totals Fault → Option (List ℕ) → Option (List ℕ) → Type 0
-AfterConversion p left_old left_new (Ok t) before after = IfSome left_old (λ s. IsTotalled p s t before after)
-AfterConversion p left_old left_new (Err f) before after = Fails p left_old left_new before after f
+abbrev pub AfterConversion : Bool → Profile → Option (List ℕ) → Option (List ℕ) → Result Totals Fault → Option (List ℕ) → Option (List ℕ) → Type 0
+AfterConversion q p left_old left_new (Ok t) before after = IfSome left_old (λ s. IsTotalled q p s t before after)
+AfterConversion q p left_old left_new (Err f) before after = Fails p left_old left_new before after f
 
 -- What `convert` does to its source and its sink.
 abbrev pub Converts : Profile → Device → Result Totals Fault → Device → Type 0
 Converts p source result sink =
-    AfterConversion p source.before source.after result sink.before sink.after
+    AfterConversion false p source.before source.after result sink.before sink.after
+
+-- no write failed
+abbrev pub NoWriteFails : {A : Type 0} → Result A Fault → Type 0
+NoWriteFails (Ok t) = Unit {0}
+NoWriteFails (Err f) = f.reason ≡ WriteFault → ⊥
+
+-- What `check` does to its source. It reads as `convert` does, and has no sink: nothing is written,
+-- and no write can fail.
+abbrev pub Checks : Profile → Device → Result Totals Fault → Type 0
+Checks p source result = AfterConversion true p source.before source.after result None None × NoWriteFails result
+
+-- What `check_slice` says of its text.
+abbrev pub ChecksSlice : Profile → List ℕ → Result Totals Fault → Type 0
+ChecksSlice p text result = AfterSlice true p text result None None × NoWriteFails result
 
 -- If the reason is `ReadFault`, the source counts one failure more. If it is `WriteFault`, the sink
 -- does. No other count rises.
@@ -132,12 +146,12 @@ CountsSink (Err f) sink = CountsWriting f.reason sink
 
 -- How a conversion ends after the bytes u, which are then the whole input: all tokens were read, or
 -- reading stopped.
-abbrev pub AfterEnd : Profile → List ℕ → List Token → Result Totals Fault → Option (List ℕ) → Option (List ℕ) → Type 0
-AfterEnd p u given (Ok t) before after = (verdict p u ≡ verdict_in t) × MostProbes p u t.most_probes × Gains p given (tokens_of u) before after
-AfterEnd p u given (Err f) before after = Stops p given (tokens_of u) before after f
+abbrev pub AfterEnd : Bool → Profile → List ℕ → List Token → Result Totals Fault → Option (List ℕ) → Option (List ℕ) → Type 0
+AfterEnd q p u given (Ok t) before after = (verdict p u ≡ verdict_in t) × MostProbes q p u t.most_probes × Gains p given (tokens_of u) before after
+AfterEnd q p u given (Err f) before after = Stops p given (tokens_of u) before after f
 
 -- What the end of the input does to a converter and its sink.
 abbrev pub Concludes : Converter → Result Totals Fault → Device → Type 0
 Concludes old result sink =
     (p : Profile) (u : List ℕ) (given : List Token)
-    → Stands p old u None given → AfterEnd p u given result sink.before sink.after
+    → Stands p old u None given → AfterEnd old.reading.writing.is_silent p u given result sink.before sink.after

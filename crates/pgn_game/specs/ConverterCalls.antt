@@ -34,7 +34,7 @@ use Rattle.pgn_game.specs.MostTried.{MostTried, Raises, TriesUnwritten}
 use Rattle.pgn_game.specs.Due.{Gains}
 use Rattle.pgn_game.specs.Levels.{plies_of, last_position}
 use Rattle.pgn_game.specs.Text.{has_move}
-use Rattle.pgn_game.specs.ReaderState.{ReaderState, Agrees, IsKnown, whole_plies}
+use Rattle.pgn_game.specs.ReaderState.{ReaderState, Agrees, IsKnown, silenced, whole_plies}
 
 -- what can be asked of the game just finished: its pairs, the number of its moves outside
 -- variations, and the position after these
@@ -126,7 +126,7 @@ pub record HasRead (p : Profile) (c : Converter) (given : List Token) : Type 0 w
   pub games : c.games ≡ length (read p given).progress.games
   pub plies : whole_plies c.reading ≡ sum (map plies_of (read p given).progress.games)
   pub probed : IsTrue (has_played_move (read p given).progress) → 0 < c.reading.most_probes
-  pub tried : MostTried p given c.reading.most_probes
+  pub tried : MostTried c.reading.writing.is_silent p given c.reading.most_probes
   pub just_finished : IsLast c.just_finished (read p given).progress.games
 
 -- The converter stands after the bytes u: the lexer has given these tokens, and the reader has read
@@ -234,16 +234,16 @@ position_at_stop {p} {given} {tokens} (refused f fault gains) = position_at_faul
 position_at_stop (unwritten at writing) = None
 
 -- `most` is the most pairs that were tried for one token, up to the one at which reading stopped
-abbrev pub MostAtStop : {p : Profile} {given tokens : List Token} {before after : Option (List ℕ)} {f : Fault} → Stops p given tokens before after f → ℕ → Type 0
-MostAtStop {p} {given} {tokens} (refused f fault gains) most = MostTried p tokens most
-MostAtStop {p} (unwritten at writing) most =
-    (least : ℕ) × MostTried p writing.front least
-    × Raises (TriesUnwritten p (read p writing.front).progress.part writing.token.kind) least most
+abbrev pub MostAtStop : Bool → {p : Profile} {given tokens : List Token} {before after : Option (List ℕ)} {f : Fault} → Stops p given tokens before after f → ℕ → Type 0
+MostAtStop q {p} {given} {tokens} (refused f fault gains) most = MostTried q p tokens most
+MostAtStop q {p} (unwritten at writing) most =
+    (least : ℕ) × MostTried q p writing.front least
+    × Raises (TriesUnwritten q p (read p writing.front).progress.part writing.token.kind) least most
 
 -- `most` is that number, and at least 1 if a move was played before
-pub record ProbesAtStop {p : Profile} {given tokens : List Token} {before after : Option (List ℕ)} {f : Fault}
+pub record ProbesAtStop (q : Bool) {p : Profile} {given tokens : List Token} {before after : Option (List ℕ)} {f : Fault}
     (stops : Stops p given tokens before after f) (most : ℕ) : Type 0 where
-  pub tried : MostAtStop stops most
+  pub tried : MostAtStop q stops most
   pub probed : IsTrue (has_played_move (progress_before stops)) → 0 < most
 
 -- A fault, as `FedFault` says. Before it no game was finished. If a move was rejected, the reader
@@ -251,7 +251,7 @@ pub record ProbesAtStop {p : Profile} {given tokens : List Token} {before after 
 pub record FedToFault (p : Profile) (bytes : List ℕ) (given : List Token) (f : Fault) (reading : ReaderState) (before after : Option (List ℕ)) : Type 0 where
   pub fed : FedFault p bytes given f before after
   pub no_game : games_before fed.stops ≡ (read p given).progress.games
-  pub counts : ProbesAtStop fed.stops reading.most_probes
+  pub counts : ProbesAtStop reading.writing.is_silent fed.stops reading.most_probes
   pub position : reported_position reading f.reason ≡ position_at_stop fed.stops
 
 -- How reading stops in a piece that comes after the bytes u.
@@ -349,7 +349,7 @@ pub record FinishesToFault (p : Profile) (u : List ℕ) (given : List Token) (ne
   pub stops : Stops p given (tokens_of u) before after f
   pub no_game : games_before stops ≡ (read p given).progress.games
   pub games : new.games ≡ length (games_before stops)
-  pub counts : ProbesAtStop stops new.reading.most_probes
+  pub counts : ProbesAtStop new.reading.writing.is_silent stops new.reading.most_probes
   pub position : reported_position new.reading f.reason ≡ position_at_stop stops
 
 -- What `finish` results in: the text has ended, or reading stopped.
@@ -374,6 +374,17 @@ abbrev pub CountsMissingAs : Marker → Converter → Converter → Type 0
 CountsMissingAs marker old new =
     (p : Profile) (u : List ℕ) (b : Option ℕ)
     → Stands p old u b [] → Stands (counting p (marker_text marker)) new u b []
+
+-- the same converter, but it writes nothing from now on
+abbrev pub writing_nothing : Converter → Converter
+writing_nothing c = record c { reading = silenced c.reading }
+
+-- What `write_nothing` does to a converter that has read no token yet: it stands after the same
+-- bytes as before.
+abbrev pub WritesNothing : Converter → Converter → Type 0
+WritesNothing old new =
+    (p : Profile) (u : List ℕ) (b : Option ℕ)
+    → Stands p old u b [] → Stands p new u b []
 
 -- The fault that a call returns is kept. After any other result there is none.
 abbrev pub KeepsFault : {A : Type 0} → Converter → Result A Fault → Type 0

@@ -90,7 +90,7 @@ pub record NotTaken (p : Profile) (given tokens : List Token) (t : Token) (f : F
   pub no_marker : f.reason ≡ WriteFault → marker_of t.kind ≡ None
   pub stopped : IsStopped now.reading (part_after p tokens) t.kind new mid after f.reason
   pub profile : new.profile ≡ now.reading.profile
-  pub told : new.told ≡ now.reading.told
+  pub writing : new.writing ≡ now.reading.writing
   pub probes : now.reading.most_probes ≤ new.most_probes
 
 -- What is asked for a marker: movetext may have it, and counts have room for its game.
@@ -444,7 +444,7 @@ FeedsAllSoFar old piece at now sink =
 pub record FaultAtEnd (p : Profile) (given tokens : List Token) (f : Fault) (reading : ReaderState) (before after : Option (List ℕ)) : Type 0 where
   pub stops : Stops p given tokens before after f
   pub no_game : games_before stops ≡ (read p given).progress.games
-  pub counts : ProbesAtStop stops reading.most_probes
+  pub counts : ProbesAtStop reading.writing.is_silent stops reading.most_probes
   pub position : reported_position reading f.reason ≡ position_at_stop stops
 
 -- ---- an input that is read twice
@@ -455,4 +455,4 @@ taking_marker c =
     record c { reading = record c.reading { profile = with_missing c.reading.profile takes_the_marker } }
 
 abbrev pub told_of : Marker → Converter → Converter
-told_of marker c = record c { reading = record c.reading { told = Some (marker_text marker) } }
+told_of marker c = record c { reading = telling (marker_text marker) c.reading }

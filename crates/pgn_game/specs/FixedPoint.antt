@@ -73,14 +73,14 @@ SourceIsKept p gs (Err f) before after = (f.reason ≡ ReadFault) ⊎ (f.reason 
 abbrev pub ExportIsKept : Type 0
 ExportIsKept = (p : Profile) (gs : List Game) (r : Result Totals Fault)
     (before after : Option (List ℕ)) → AreExportable p gs → length (text_of p gs) ≤ 2 ^ 62
-    → AfterSlice p (text_of p gs) r before after → SliceIsKept p gs r before after
+    → AfterSlice false p (text_of p gs) r before after → SliceIsKept p gs r before after
 
 -- What follows from the contract of `convert` if the source still has such a text to give.
 abbrev pub ExportIsKeptOfSource : Type 0
 ExportIsKeptOfSource = (p : Profile) (gs : List Game) (r : Result Totals Fault)
     (left_old left_new before after : Option (List ℕ))
     → AreExportable p gs → length (text_of p gs) ≤ 2 ^ 62 → left_old ≡ Some (text_of p gs)
-    → AfterConversion p left_old left_new r before after → SourceIsKept p gs r before after
+    → AfterConversion false p left_old left_new r before after → SourceIsKept p gs r before after
 
 -- The same, said of inputs.
 

@@ -19,6 +19,7 @@ use Rattle.pgn_game.specs.Text.{text_of}
 use Rattle.pgn_game.specs.Progress.{read, due}
 use Rattle.pgn_game.specs.Due.{Gains}
 use Rattle.pgn_game.specs.ConverterCalls.{Converter, finished_game_of, HasRead, Stands, AreNext, within_limit, Stops, games_before, ProbesAtStop, ReadsUpTo}
+use Rattle.pgn_game.specs.ReaderState.{ReaderState}
 use Rattle.pgn_game.specs.Conversion.{CountsDevices}
 
 -- ---- what was read so far
@@ -66,6 +67,11 @@ pub record ReadSoFar (p : Profile) (left_old left_now : Option (List ℕ)) (now 
   pub have_read : HaveRead p left_now bytes now tokens
   pub gains : Gains p [] tokens before after
 
+-- What `write_nothing` does to games of which none is read yet: none is read yet then.
+abbrev pub WritesNoGame : Games → Games → Type 0
+WritesNoGame old new =
+    (p : Profile) (left : Option (List ℕ)) (u : List ℕ) → HaveRead p left u old [] → HaveRead p left u new []
+
 -- ---- what a call of `next` does
 
 -- One game more was read. All its text is written, and nothing of a game after it. The bytes before
@@ -92,19 +98,19 @@ pub record NoGame (p : Profile) (u : List ℕ) (given : List Token) (left_old le
   pub gains : Gains p given (tokens_of (u ++ more)) before after
 
 -- One of the tokens that these bytes decide is rejected, or a write failed. No game was finished
--- before. `most` is the most pairs tried for one token.
-pub record StopsAtToken (p : Profile) (bytes : List ℕ) (given : List Token) (most : ℕ) (f : Fault) (before after : Option (List ℕ)) : Type 0 where
+-- before. r is the reader, which has counted the pairs tried.
+pub record StopsAtToken (p : Profile) (bytes : List ℕ) (given : List Token) (r : ReaderState) (f : Fault) (before after : Option (List ℕ)) : Type 0 where
   pub tokens : List Token
   pub next : AreNext bytes tokens
   pub stops : Stops p given tokens before after f
   pub no_game : games_before stops ≡ (read p given).progress.games
-  pub counts : ProbesAtStop stops most
+  pub counts : ProbesAtStop r.writing.is_silent stops r.most_probes
 
 -- The same for the tokens of the text u, whose end was read.
-pub record StopsAtEnd (p : Profile) (u : List ℕ) (given : List Token) (most : ℕ) (f : Fault) (before after : Option (List ℕ)) : Type 0 where
+pub record StopsAtEnd (p : Profile) (u : List ℕ) (given : List Token) (r : ReaderState) (f : Fault) (before after : Option (List ℕ)) : Type 0 where
   pub stops : Stops p given (tokens_of u) before after f
   pub no_game : games_before stops ≡ (read p given).progress.games
-  pub counts : ProbesAtStop stops most
+  pub counts : ProbesAtStop r.writing.is_silent stops r.most_probes
 
 -- All tokens that the bytes u decide were read. None is rejected, none finished a game, and what
 -- they gain was written.
@@ -117,23 +123,23 @@ pub record ReadsNoGame (p : Profile) (given : List Token) (u : List ℕ) (before
 -- - `at_end`: at a token of the whole text, which has at most 2^62 bytes.
 -- - `unread`: a read failed.
 -- - `too_long`: the source has given the byte at place 2^62.
-pub data NextStops (p : Profile) (u : List ℕ) (given : List Token) (left_old left_new : Option (List ℕ)) (most : ℕ) (before after : Option (List ℕ)) : Fault → Type 0 where
-  at_token : (f : Fault) (more : List ℕ) → Consumes left_old left_new more → StopsAtToken p (within_limit (u ++ more)) given most f before after
-      → NextStops p u given left_old left_new most before after f
+pub data NextStops (p : Profile) (u : List ℕ) (given : List Token) (left_old left_new : Option (List ℕ)) (r : ReaderState) (before after : Option (List ℕ)) : Fault → Type 0 where
+  at_token : (f : Fault) (more : List ℕ) → Consumes left_old left_new more → StopsAtToken p (within_limit (u ++ more)) given r f before after
+      → NextStops p u given left_old left_new r before after f
   at_end : (f : Fault) (more : List ℕ) → Consumes left_old left_new more → IsAtEnd left_new → length (u ++ more) ≤ 2 ^ 62
-      → StopsAtEnd p (u ++ more) given most f before after
-      → NextStops p u given left_old left_new most before after f
+      → StopsAtEnd p (u ++ more) given r f before after
+      → NextStops p u given left_old left_new r before after f
   unread : (more : List ℕ) → Consumes left_old left_new more → length (u ++ more) ≤ 2 ^ 62 → ReadsNoGame p given (u ++ more) before after
-      → NextStops p u given left_old left_new most before after (record { at = length (u ++ more); reason = ReadFault })
+      → NextStops p u given left_old left_new r before after (record { at = length (u ++ more); reason = ReadFault })
   too_long : (more front rest : List ℕ) → Consumes left_old left_new more → u ++ more ≡ front ++ rest → length front ≡ 2 ^ 62 → 0 < length rest
       → ReadsNoGame p given front before after
-      → NextStops p u given left_old left_new most before after (record { at = 2 ^ 62; reason = InputTooLong })
+      → NextStops p u given left_old left_new r before after (record { at = 2 ^ 62; reason = InputTooLong })
 
 -- What `next` results in: a game was read (`true`), no game was left (`false`), or reading stopped.
 abbrev pub AfterNext : Profile → List ℕ → List Token → Option (List ℕ) → Option (List ℕ) → Games → Result Bool Fault → Option (List ℕ) → Option (List ℕ) → Type 0
 AfterNext p u given left_old left_new new (Ok true) before after = NextGame p u given left_old left_new new before after
 AfterNext p u given left_old left_new new (Ok false) before after = NoGame p u given left_old left_new new before after
-AfterNext p u given left_old left_new new (Err f) before after = NextStops p u given left_old left_new new.converter.reading.most_probes before after f
+AfterNext p u given left_old left_new new (Err f) before after = NextStops p u given left_old left_new new.converter.reading before after f
 
 -- What `next` does to games that have read any bytes of the source.
 abbrev pub ReadsNext : Games → Games → Result Bool Fault → Device → Device → Type 0

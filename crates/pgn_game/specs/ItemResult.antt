@@ -1,5 +1,5 @@
 -- **Bookkeeping**: what putting an item of movetext does to the levels, the line and the sink.
-use Rattle.std.specs.Prelude.{◌≡◌, ℕ, ◌+◌, ◌≤◌, Bool, true, false, ◌&&◌, List, [], ◌∷◌, ◌++◌, ◌==◌, map, length, drop, Some, IfSome, Result, MatchResult, OnOk, All}
+use Rattle.std.specs.Prelude.{◌≡◌, ℕ, ◌+◌, ◌≤◌, Bool, true, false, ◌&&◌, List, [], ◌∷◌, ◌++◌, ◌==◌, map, length, drop, Option, None, Some, IfSome, Result, MatchResult, OnOk, All}
 use Rattle.std.specs.Io.KnownBytes.{Appends}
 use Rattle.chess_rules.specs.declared.position.Parts.{Parts}
 use Rattle.chess_text.specs.declared.resolution.Played.{Played}
@@ -14,7 +14,7 @@ use Rattle.pgn_game.specs.Chess.{is_black_to_move}
 use Rattle.pgn_game.specs.Game.{Item}
 use Rattle.pgn_game.specs.Text.{is_move, number_before, tokens_at, full_text}
 use Rattle.pgn_game.specs.Movetext.{Movetext, StoredLevels, HoldsItems, ClosesLevel, level_at}
-use Rattle.pgn_game.specs.MostTried.{CostsToWrite}
+use Rattle.pgn_game.specs.MostTried.{CostsToWrite, is_written}
 
 -- Tokens are put on a line one after another: what is written, the line after that, and the
 -- failures. Each has 1 to 79 bytes.
@@ -24,12 +24,6 @@ pub record PutsTokens {A E : Type 0} (tokens : List (List ℕ)) (line new_line :
   pub held : OnOk result (new_line ≡ (laid_from line (map Put tokens)).line)
   pub each : All IsToken tokens
   pub counted : Counts result d.failures d.failures_after
-
--- whether an item is written at this depth: in reduced mode only a move outside variations (PGN
--- 3.2.4)
-abbrev pub writes : Mode → ℕ → Item → Bool
-writes Full depth i = true
-writes Reduced depth i = is_move i && (depth == 0)
 
 -- the number before the next move, if it needs one
 abbrev pub number_due : Movetext → List (List ℕ)
@@ -50,9 +44,9 @@ abbrev pub after_move_if : Bool → Movetext → Item → Bool
 after_move_if written text i = elim written [ true ↦ is_move i | false ↦ text.is_after_move ]
 
 -- the movetext after that; its levels are not moved yet
-abbrev pub written_text : Mode → Movetext → Item → Movetext
+abbrev pub written_text : Option Mode → Movetext → Item → Movetext
 written_text mode text i =
-    record text { is_after_move = after_move_if (writes mode (length text.levels.around) i) text i }
+    record text { is_after_move = after_move_if (is_written mode (length text.levels.around) i) text i }
 
 -- what a move at this depth adds to the number of moves outside variations
 abbrev pub counted_at : ℕ → ℕ
@@ -72,16 +66,20 @@ LeadsLevels Close old new = ClosesLevel old.around new
 LeadsLevels _ old new = new ≡ old
 
 -- An item is written, or left out. If a write failed, the movetext is the same as before.
-pub record WritesItem {A E : Type 0} (mode : Mode) (i : Item) (text : Movetext) (line : List ℕ)
+pub record WritesItem {A E : Type 0} (mode : Option Mode) (i : Item) (text : Movetext) (line : List ℕ)
     (new_text : Movetext) (new_line : List ℕ) (result : Result A E) (d : Device) : Type 0 where
-  pub puts : PutsTokens (tokens_if (writes mode (length text.levels.around) i) text i)
+  pub puts : PutsTokens (tokens_if (is_written mode (length text.levels.around) i) text i)
       line new_line result d
   pub ends : MatchResult result (λ _. new_text ≡ written_text mode text i) (λ _. new_text ≡ text)
 
+-- if the game is not written, the sink stays as it is
+abbrev pub LeavesSink : {S : Type 0} → Option Mode → S → S → Type 0
+LeavesSink mode sink_old sink_new = mode ≡ None → sink_new ≡ sink_old
+
 -- the number of pairs tried before an item is written, and after
-abbrev pub TriesItem : Mode → Movetext → Item → ℕ → ℕ → Type 0
+abbrev pub TriesItem : Option Mode → Movetext → Item → ℕ → ℕ → Type 0
 TriesItem mode text i old new =
-    CostsToWrite (writes mode (length text.levels.around) i) text.levels.present.present i old new
+    CostsToWrite (is_written mode (length text.levels.around) i) text.levels.present.present i old new
 
 -- the number of pairs rises by at most 1,032
 abbrev pub Rises : ℕ → ℕ → Type 0
@@ -103,13 +101,14 @@ pub record GoesOn (i : Annotation) (old new : Movetext) : Type 0 where
   pub is_after_move : new.is_after_move ≡ old.is_after_move
 
 -- what an item adds to the text of the lines that are full
-abbrev pub item_text : Mode → Parts → List Item → Item → List ℕ
-item_text mode start items i =
+abbrev pub item_text : Option Mode → Parts → List Item → Item → List ℕ
+item_text None start items i = []
+item_text (Some mode) start items i =
     drop (length (full_text mode start items)) (full_text mode start (items ++ i ∷ []))
 
 -- One item more: it is held, and what it adds was appended, or if a write failed a prefix of that
 -- and not all.
-abbrev pub AddsItem : {A E : Type 0} → Mode → Parts → List Item → Item → Movetext → List ℕ
+abbrev pub AddsItem : {A E : Type 0} → Option Mode → Parts → List Item → Item → Movetext → List ℕ
     → Result A E → Device → Type 0
 AddsItem mode start items i text line result d =
     MatchResult result
@@ -118,7 +117,7 @@ AddsItem mode start items i text line result d =
     (λ _. AppendsFront d.before d.after (item_text mode start items i))
 
 -- The same for any items that are held before. The number of moves rises by at most one.
-pub record Adds {A E : Type 0} (mode : Mode) (i : Item) (text : Movetext) (line : List ℕ)
+pub record Adds {A E : Type 0} (mode : Option Mode) (i : Item) (text : Movetext) (line : List ℕ)
     (new_text : Movetext) (new_line : List ℕ) (result : Result A E) (d : Device) : Type 0 where
   pub adds : (start : Parts) (items : List Item) → HoldsItems mode start items text line
       → AddsItem mode start items i new_text new_line result d

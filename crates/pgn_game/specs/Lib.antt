@@ -7,6 +7,7 @@ pub mod PutResult
 pub mod StoredPairs
 pub mod Markers
 pub mod Profile
+pub mod Written
 pub mod Chess
 pub mod Game
 pub mod Levels

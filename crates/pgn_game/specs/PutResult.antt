@@ -41,11 +41,10 @@ at_game_start old = record old {
   earlier_plies = old.earlier_plies + old.text.plies;
 }
 
--- What a call leaves as it was, or nearly: the profile, the marker that `tell` gave, the number of
--- moves, but for one more, and the most pairs tried, which does not fall.
+-- What a call leaves as it was, or nearly: the profile, how the reader writes, the number of moves, but for one more, and the most pairs tried, which does not fall.
 pub record Keeps (old new : ReaderState) : Type 0 where
   pub profile : new.profile ≡ old.profile
-  pub told : new.told ≡ old.told
+  pub writing : new.writing ≡ old.writing
   pub plies : new.earlier_plies + new.text.plies ≤ old.earlier_plies + old.text.plies + 1
   pub probes : old.most_probes ≤ new.most_probes
 
@@ -153,7 +152,7 @@ TakesUnwritten old k new r =
 pub record EntersMovetext (old : ReaderState) (k : Kind) (ready : ReaderState) : Type 0 where
   pub stage : IsTrue (may_have_movetext ready.stage)
   pub profile : ready.profile ≡ old.profile
-  pub told : ready.told ≡ old.told
+  pub writing : ready.writing ≡ old.writing
   pub plies : ready.earlier_plies + ready.text.plies ≤ old.earlier_plies + old.text.plies
   pub probes : old.most_probes ≤ ready.most_probes
   pub takes : (new : ReaderState) (r : Result Accepted Reason) (d : Device) → TakesEntry ready k new r d
@@ -220,7 +219,7 @@ pub record BeginsText {A E : Type 0} (old new : ReaderState) (r : Result A E)
   pub text : Writes d.before d.after r (section_due_of old)
   pub begun : OnOk r (new ≡ record old { stage = InMovetext })
   pub profile : new.profile ≡ old.profile
-  pub told : new.told ≡ old.told
+  pub writing : new.writing ≡ old.writing
   pub earlier : new.earlier_plies ≡ old.earlier_plies
   pub plies : new.text.plies ≡ old.text.plies
   pub probes : new.most_probes ≡ old.most_probes

@@ -4,12 +4,14 @@
 -- them.
 use Rattle.std.specs.Prelude.{◌≡◌, ℕ, ◌+◌, ◌<◌, ◌≤◌, nat_le, false, IsTrue, is_some, Bool, true, List, [], length, Option, None, Some, IsSomeAnd, Result, Ok, Err}
 use Rattle.std.specs.Io.KnownBytes.{Appends}
-use Rattle.pgn_layout.specs.Device.{AppendsFront, Device, IsStill, one_more}
+use Rattle.pgn_layout.specs.Device.{AppendsFront, Device, IsStill, device, one_more}
 use Rattle.pgn_lexer.specs.Tokens.{Kind}
 use Rattle.pgn_game.specs.declared.reason.Reason.{Reason}
 use Rattle.pgn_game.specs.declared.reason.Reason.TheVariants.{WriteFault}
 use Rattle.pgn_game.specs.declared.stage.Stage.{Stage}
 use Rattle.pgn_game.specs.declared.stage.Stage.TheVariants.{Between, AfterLeftBracket, AfterName, InMovetext}
+use Rattle.pgn_game.specs.declared.mode.Mode.{Mode}
+use Rattle.pgn_game.specs.Written.{mode_unless, seen}
 use Rattle.pgn_game.specs.Profile.{Missing, Profile, counting, counts_as, known_result, takes_the_marker}
 use Rattle.pgn_game.specs.Pairs.{has_pair}
 use Rattle.pgn_game.specs.StoredPairs.{TagPairs}
@@ -23,18 +25,45 @@ use Rattle.pgn_game.specs.Progress.{Next, going, whole, next}
 use Rattle.pgn_game.specs.Due.{gain}
 use Rattle.pgn_game.specs.MostTried.{Raises, Tries, TriesUnwritten}
 
--- The profile, the marker that `tell` gave for the game (`told`), if it gave one, the stage of the
--- game, its pairs, its movetext, the number of moves outside variations of the games before it, the
+-- How a reader writes: with the marker that `tell` gave for a missing Result of the game, if it gave
+-- one (`told`), or nothing at all.
+pub record Writing : Type 0 where
+  pub told : Option (List ℕ)
+  pub is_silent : Bool
+
+-- The profile, how the reader writes, the stage of the game, its pairs, its movetext, the number of moves outside variations of the games before it, the
 -- most pairs tried for a move, and the line of movetext.
 pub record ReaderState : Type 0 where
   pub profile : Profile
-  pub told : Option (List ℕ)
+  pub writing : Writing
   pub stage : Stage
   pub tags : TagPairs
   pub text : Movetext
   pub earlier_plies : ℕ
   pub most_probes : ℕ
   pub line : List ℕ
+
+-- the mode by which the reader writes; none if it is silent
+abbrev pub mode_written : ReaderState → Option Mode
+mode_written reading = mode_unless reading.writing.is_silent reading.profile.mode
+
+-- the reader with a marker that was told
+abbrev pub telling : List ℕ → ReaderState → ReaderState
+telling marker reading = record reading { writing = record reading.writing { told = Some marker } }
+
+-- the reader that writes nothing from now on
+abbrev pub silenced : ReaderState → ReaderState
+silenced reading = record reading { writing = record reading.writing { is_silent = true } }
+
+-- the sink of a reader, before a call and after it
+abbrev pub sink_of : {S : Type 0} → ReaderState → (S → Option (List ℕ)) → (S → ℕ) → S → S → Device
+sink_of reading bytes failures old new = seen (mode_written reading) (device bytes failures old new)
+
+-- A call leaves how much is written as it was. A silent reader leaves the sink as it is.
+pub record StaysSilent {S : Type 0} (old new : ReaderState) (sink_old sink_new : S) : Type 0 where
+  pub mode : mode_written new ≡ mode_written old
+  pub silent : new.writing.is_silent ≡ old.writing.is_silent
+  pub untouched : IsTrue old.writing.is_silent → sink_new ≡ sink_old
 
 -- What always holds of the pairs at a stage. After a name, and nowhere else, a name waits for its
 -- value, and it has at most 249 bytes. After a `[` there is room for one pair more.
@@ -56,7 +85,7 @@ HoldsPairs _ tags part = tags ≡ record { held = part.pairs; pending_name = Non
 abbrev pub HoldsText : Stage → ReaderState → Part → Type 0
 HoldsText Between reading part = reading.line ≡ []
 HoldsText InMovetext reading part =
-    HoldsItems reading.profile.mode (start_of part.pairs) part.items reading.text reading.line × (IsTrue (has_move part.items) → 0 < reading.most_probes)
+    HoldsItems (mode_written reading) (start_of part.pairs) part.items reading.text reading.line × (IsTrue (has_move part.items) → 0 < reading.most_probes)
 HoldsText _ reading part = (part.items ≡ []) × (reading.text ≡ movetext_from (start_of part.pairs)) × (reading.line ≡ [])
 
 -- The reader agrees with a part: its stage, its pairs and its movetext are those of the part.
@@ -112,7 +141,7 @@ known_text takes_the_marker (Some marker) = marker
 
 -- the same, of a reader
 abbrev pub known_of : ReaderState → List ℕ
-known_of reading = known_text reading.profile.missing_result reading.told
+known_of reading = known_text reading.profile.missing_result reading.writing.told
 
 -- the profile by which a reader writes: a missing Result counts as that value
 abbrev pub as_written : ReaderState → Profile
@@ -129,7 +158,7 @@ pub record IsAccepted (old : ReaderState) (part : Part) (k : Kind) (new : Reader
   pub leads : Leads (next part k) accepted new
   pub plies : whole_plies new ≡ whole_plies old + plies_next (next part k)
   pub appended : Appends before after (gain (as_written old) part k)
-  pub tried : Raises (Tries old.profile part k) old.most_probes new.most_probes
+  pub tried : Raises (Tries old.writing.is_silent old.profile part k) old.most_probes new.most_probes
 
 -- A token is not accepted. The pairs tried for it are counted.
 -- - `refused`: a row of the fault table rejects it, and nothing is appended. If it is rejected as a
@@ -138,12 +167,12 @@ pub record IsAccepted (old : ReaderState) (part : Part) (k : Kind) (new : Reader
 pub data IsStopped (old : ReaderState) (part : Part) (k : Kind) (new : ReaderState)
     (before after : Option (List ℕ)) : Reason → Type 0 where
   refused : (reason : Reason) → refusal old.profile part k ≡ Some reason → Appends before after []
-      → Raises (Tries old.profile part k) old.most_probes new.most_probes
+      → Raises (Tries old.writing.is_silent old.profile part k) old.most_probes new.most_probes
       → position_if_move reason new.text.levels.present.present ≡ position_if_move reason (position_in part)
       → IsStopped old part k new before after reason
   unwritten : refusal old.profile part k ≡ None
       → AppendsFront before after (gain (as_written old) part k)
-      → Raises (TriesUnwritten old.profile part k) old.most_probes new.most_probes
+      → Raises (TriesUnwritten old.writing.is_silent old.profile part k) old.most_probes new.most_probes
       → IsStopped old part k new before after WriteFault
 
 -- What the reader returns for a token after a part that it agrees with: the token is accepted, or

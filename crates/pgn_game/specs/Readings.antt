@@ -65,6 +65,11 @@ pub record HasGiven (q : Profile) (left_old left_now : Option (List ℕ)) (r : R
   pub come : HasCome left_old left_now r given
   pub has_read : HasRead q r.converter given
 
+-- What `write_nothing` does to a reading that has read no token yet: it still has read none.
+abbrev pub WritesNoneOfReading : Reading → Reading → Type 0
+WritesNoneOfReading old new =
+    (q : Profile) (left_old left_now : Option (List ℕ)) → HasGiven q left_old left_now old [] → HasGiven q left_old left_now new []
+
 -- The reading has met no fault, and has not read the end of the text.
 pub record IsGoing (r : Reading) : Type 0 where
   pub not_finished : r.converter.is_finished ≡ false

@@ -21,7 +21,7 @@ use Rattle.pgn_game.specs.FaultTable.{refusal, is_marker, has_other_result, is_m
 use Rattle.pgn_game.specs.Progress.{next, in_text}
 use Rattle.pgn_game.specs.Movetext.{Movetext, HoldsItems}
 use Rattle.pgn_game.specs.Text.{has_move}
-use Rattle.pgn_game.specs.ReaderState.{ReaderState}
+use Rattle.pgn_game.specs.ReaderState.{ReaderState, mode_written}
 
 -- the part with these items more
 abbrev pub with_items : Part → List Item → Part
@@ -74,7 +74,7 @@ pub record IsOpen (reading : ReaderState) (part : Part) : Type 0 where
   pub stage : reading.stage ≡ part.stage
   pub pairs : reading.tags ≡ record { held = part.pairs; pending_name = None }
   pub fresh : reading.stage ≡ AfterTags → part.items ≡ []
-  pub held : HoldsItems reading.profile.mode (start_of part.pairs) part.items
+  pub held : HoldsItems (mode_written reading) (start_of part.pairs) part.items
       reading.text reading.line
   pub probed : IsTrue (has_move part.items) → 0 < reading.most_probes
 

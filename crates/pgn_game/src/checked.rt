@@ -1,5 +1,5 @@
 //! Converts an input that is read twice, so that a missing Result takes the marker.
-ghost use Rattle.std.specs.Prelude.{◌≡◌, ◌-◌, ◌≤◌, ◌&&◌, ◌==◌, bytes_eq, not, max, [], ℕ, List};
+ghost use Rattle.std.specs.Prelude.{◌≡◌, ◌-◌, ◌≤◌, ◌&&◌, ◌==◌, bytes_eq, not, true, false, max, [], ℕ, List};
 ghost use Rattle.std.specs.Prelude.{Option, OnOk, IfOk, IfSome};
 ghost use Rattle.pgn_layout.specs.Device.{device};
 ghost use Rattle.pgn_game.specs.declared.reason.Reason.TheVariants.{Changed};
@@ -7,9 +7,10 @@ ghost use Rattle.pgn_game.specs.Checked.{checked_profile};
 ghost use Rattle.pgn_game.specs.CheckedConversion.{TwoReadingsConvert, TwoReadingsCount};
 ghost use Rattle.pgn_game.specs.GamesSteps.{CountsReading};
 ghost use Rattle.pgn_game.specs.Markers.{marker_text};
-ghost use Rattle.pgn_game.specs.Readings.{GoesOn, HasGiven, IsGoing, IsReadyToEnd, ReadsGame};
+ghost use Rattle.pgn_game.specs.Readings.{GoesOn, HasGiven, IsGoing, IsReadyToEnd, ReadsGame, WritesNoneOfReading};
 ghost use Rattle.pgn_game.specs.Readings.{ReadsUpToMarker, WritesGame, as_changed, no_sink};
-ghost use Rattle.pgn_game.specs.ReaderState.{as_written, whole_plies};
+ghost use Rattle.pgn_game.specs.ReaderState.{StaysSilent, as_written, mode_written, sink_of, whole_plies};
+ghost use Rattle.pgn_game.specs.Written.{bytes_seen};
 ghost use Rattle.pgn_game.specs.Size.{HoldsTwice};
 
 use crate::conversion::Totals;
@@ -74,6 +75,7 @@ pub fn convert_checked<const T: usize, const L: usize, Q: Source, R: Source, W: 
         (device W.taken W.failures writer.old writer.new) result }
 {
     let mut ahead = Reading::<T, L>::new(mode);
+    ahead.write_nothing();
     let mut behind = Reading::<T, L>::new(mode);
     while let Some(mark) = ahead.read_game(first)? {
         behind.write_game(second, mark, writer)?;
@@ -109,6 +111,7 @@ impl<const T: usize, const L: usize> Reading<T, L> {
         ensures given { (left : Option (List ℕ))
             → HasGiven (checked_profile T (L - 1) mode) left left result [] }
         ensures going { IsGoing result }
+        ensures writes { result.converter.reading.writing.is_silent ≡ false }
     {
         let mut converter = Converter::new(mode);
         converter.take_marker_for_missing_result();
@@ -117,6 +120,16 @@ impl<const T: usize, const L: usize> Reading<T, L> {
             buffer: ReadBuffer::new(),
             has_ended: false,
         }
+    }
+
+    // From now on nothing is written.
+    fn write_nothing(&mut self)
+        requires going { IsGoing self.old }
+        ensures given { WritesNoneOfReading self.old self.new }
+        ensures going { IsGoing self.new }
+        ensures silent { self.new.converter.reading.writing.is_silent ≡ true }
+    {
+        self.converter.write_nothing();
     }
 
     // Returns the counts of what was written, where the other reading tried at most so many pairs
@@ -152,6 +165,8 @@ impl<const T: usize, const L: usize> Reading<T, L> {
         ensures reads { ReadsGame (R.left source.old) (R.left source.new) self.old self.new
             result }
         ensures going { GoesOn self.old self.new result }
+        ensures silent { self.new.converter.reading.writing.is_silent
+            ≡ self.old.converter.reading.writing.is_silent }
         ensures counted { CountsReading result (device R.left R.failures source.old source.new)
             no_sink }
     {
@@ -173,10 +188,13 @@ impl<const T: usize, const L: usize> Reading<T, L> {
     ) -> Result<(), Fault>
         requires going { IsGoing self.old }
         ensures writes { WritesGame (R.left source.old) (R.left source.new) self.old mark self.new
-            result (W.taken out.old) (W.taken out.new) }
+            result (bytes_seen (mode_written self.old.converter.reading) (W.taken out.old))
+            (bytes_seen (mode_written self.old.converter.reading) (W.taken out.new)) }
         ensures going { OnOk result (IsGoing self.new) }
         ensures counted { CountsReading result (device R.left R.failures source.old source.new)
-            (device W.taken W.failures out.old out.new) }
+            (sink_of self.old.converter.reading W.taken W.failures out.old out.new) }
+        ensures silent { StaysSilent self.old.converter.reading self.new.converter.reading out.old
+            out.new }
     {
         tokens_rise();
         self.converter.tell(mark.marker);
@@ -203,7 +221,8 @@ impl<const T: usize, const L: usize> Reading<T, L> {
     ) -> Result<Option<Mark>, Fault>
         requires going { IsGoing self.old }
         ensures reads { ReadsUpToMarker (R.left source.old) (R.left source.new) self.old self.new
-            result (W.taken out.old) (W.taken out.new) }
+            result (bytes_seen (mode_written self.old.converter.reading) (W.taken out.old))
+            (bytes_seen (mode_written self.old.converter.reading) (W.taken out.new)) }
         ensures ready { IfOk result (λ marker. IfSome marker (λ mark. IsReadyToEnd self.new)) }
         ensures games { self.new.converter.games ≡ self.old.converter.games }
         ensures written { as_written self.new.converter.reading
@@ -211,7 +230,9 @@ impl<const T: usize, const L: usize> Reading<T, L> {
         ensures probes { self.old.converter.reading.most_probes
             ≤ self.new.converter.reading.most_probes }
         ensures counted { CountsReading result (device R.left R.failures source.old source.new)
-            (device W.taken W.failures out.old out.new) }
+            (sink_of self.old.converter.reading W.taken W.failures out.old out.new) }
+        ensures silent { StaysSilent self.old.converter.reading self.new.converter.reading out.old
+            out.new }
     {
         if self.has_ended {
             return self.converter.finish_to_marker(out);

@@ -1,10 +1,14 @@
 //! Converts a whole input.
-ghost use Rattle.std.specs.Prelude.{◌≡◌, ◌-◌, ◌≤◌, ◌^◌, length, false, None, OnOk, IfSome};
-ghost use Rattle.pgn_layout.specs.Device.{device};
+ghost use Rattle.std.specs.Prelude.{◌≡◌, ◌-◌, ◌≤◌, ◌^◌, [], length, false, None, OnOk, IfSome};
+ghost use Rattle.pgn_layout.specs.Device.{device, nowhere};
 ghost use Rattle.pgn_game.specs.ConverterCalls.{CountsFault, profile_of};
-ghost use Rattle.pgn_game.specs.ReaderState.{whole_plies};
+ghost use Rattle.pgn_game.specs.Profile.{Profile};
+ghost use Rattle.pgn_game.specs.ConverterCalls.{Stands};
+ghost use Rattle.pgn_game.specs.Written.{bytes_seen};
+ghost use Rattle.pgn_game.specs.ReaderState.{mode_written, sink_of, whole_plies};
 ghost use Rattle.pgn_game.specs.Size.{Holds};
-ghost use Rattle.pgn_game.specs.Conversion.{Converts, ConvertsSlice, Concludes, CountsResult, CountsSink};
+ghost use Rattle.pgn_game.specs.Conversion.{AfterConversion, AfterSlice, Checks, ChecksSlice, Converts, ConvertsSlice};
+ghost use Rattle.pgn_game.specs.Conversion.{Concludes, CountsResult, CountsSink};
 
 use crate::converter::Converter;
 use crate::games::next_game;
@@ -12,7 +16,7 @@ use crate::mode::Mode;
 use crate::read_buffer::ReadBuffer;
 use crate::reason::Fault;
 use crate::source::Source;
-use pgn_layout::Sink;
+use pgn_layout::{Nowhere, Sink};
 
 /// Counts of the games that were converted.
 #[derive(Clone, Copy, Debug, PartialEq, Eq)]
@@ -64,9 +68,60 @@ pub fn convert<const T: usize, const L: usize, R: Source, W: Sink>(
         (device W.taken W.failures writer.old writer.new) }
 {
     let mut converter = Converter::<T, L>::new(mode);
+    convert_all(&mut converter, reader, writer)
+}
+
+/// Reads the games that the source gives, as `convert` does, and writes nothing.
+///
+/// # Errors
+///
+/// Those of `convert`, but for `Reason::WriteFault`.
+///
+/// # Examples
+///
+/// ```
+/// use pgn_game::{Inlet, Mode, check};
+///
+/// let mut reader = Inlet::new(b"e4 e5 * d4 *".as_slice());
+/// let totals = check::<64, 33, _>(&mut reader, Mode::Full).unwrap();
+/// assert_eq!((totals.games, totals.plies), (2, 3));
+/// ```
+pub fn check<const T: usize, const L: usize, R: Source>(
+    reader: &mut R,
+    mode: Mode,
+) -> Result<Totals, Fault>
+    requires levels { 1 ≤ L }
+    requires memory { Holds T.row L.row }
+    ensures checks { Checks (profile_of T (L - 1) mode)
+        (device R.left R.failures reader.old reader.new) result }
+    ensures short { OnOk result (IfSome (R.left reader.old) (λ s. length s ≤ 2 ^ 62)) }
+    ensures counted { CountsResult result (device R.left R.failures reader.old reader.new)
+        nowhere }
+{
+    let mut converter = Converter::<T, L>::new(mode);
+    converter.write_nothing();
+    convert_all(&mut converter, reader, &mut Nowhere)
+}
+
+// Converts all games that the source gives.
+fn convert_all<const T: usize, const L: usize, R: Source, W: Sink>(
+    converter: &mut Converter<T, L>,
+    reader: &mut R,
+    writer: &mut W,
+) -> Result<Totals, Fault>
+    requires not_finished { converter.old.is_finished ≡ false }
+    requires no_fault { converter.old.fault ≡ None }
+    ensures converts { (p : Profile) → Stands p converter.old [] None []
+        → AfterConversion converter.old.reading.writing.is_silent p
+        (R.left reader.old) (R.left reader.new) result
+        (bytes_seen (mode_written converter.old.reading) (W.taken writer.old))
+        (bytes_seen (mode_written converter.old.reading) (W.taken writer.new)) }
+    ensures counted { CountsResult result (device R.left R.failures reader.old reader.new)
+        (sink_of converter.old.reading W.taken W.failures writer.old writer.new) }
+{
     let mut buffer = ReadBuffer::new();
-    while next_game(&mut converter, &mut buffer, reader, writer)? {}
-    Ok(totals_of(&converter))
+    while next_game(converter, &mut buffer, reader, writer)? {}
+    Ok(totals_of(converter))
 }
 
 /// Converts the games of a slice, as `convert` does.
@@ -97,8 +152,45 @@ pub fn convert_slice<const T: usize, const L: usize, W: Sink>(
     ensures counted { CountsSink result (device W.taken W.failures writer.old writer.new) }
 {
     let mut converter = Converter::<T, L>::new(mode);
+    convert_text(&mut converter, text, writer)
+}
+
+/// Reads the games of a slice, as `check` does.
+///
+/// # Errors
+///
+/// As `check`, except that no read can fail.
+pub fn check_slice<const T: usize, const L: usize>(
+    text: &[u8],
+    mode: Mode,
+) -> Result<Totals, Fault>
+    requires levels { 1 ≤ L }
+    requires memory { Holds T.row L.row }
+    ensures checks { ChecksSlice (profile_of T (L - 1) mode) text.now result }
+    ensures short { OnOk result (length text.now ≤ 2 ^ 62) }
+{
+    let mut converter = Converter::<T, L>::new(mode);
+    converter.write_nothing();
+    convert_text(&mut converter, text, &mut Nowhere)
+}
+
+// Converts all games of a text.
+fn convert_text<const T: usize, const L: usize, W: Sink>(
+    converter: &mut Converter<T, L>,
+    text: &[u8],
+    writer: &mut W,
+) -> Result<Totals, Fault>
+    requires not_finished { converter.old.is_finished ≡ false }
+    requires no_fault { converter.old.fault ≡ None }
+    ensures converts { (p : Profile) → Stands p converter.old [] None []
+        → AfterSlice converter.old.reading.writing.is_silent p text.now result
+        (bytes_seen (mode_written converter.old.reading) (W.taken writer.old))
+        (bytes_seen (mode_written converter.old.reading) (W.taken writer.new)) }
+    ensures counted { CountsSink result
+        (sink_of converter.old.reading W.taken W.failures writer.old writer.new) }
+{
     converter.feed_all(text, writer)?;
-    end(&mut converter, writer)
+    end(converter, writer)
 }
 
 // Ends the input, and counts what was converted.
@@ -108,8 +200,10 @@ fn end<const T: usize, const L: usize, W: Sink>(
 ) -> Result<Totals, Fault>
     requires not_finished { converter.old.is_finished ≡ false }
     requires no_fault { converter.old.fault ≡ None }
-    ensures ends { Concludes converter.old result (device W.taken W.failures out.old out.new) }
-    ensures counted { CountsFault result (device W.taken W.failures out.old out.new) }
+    ensures ends { Concludes converter.old result
+        (sink_of converter.old.reading W.taken W.failures out.old out.new) }
+    ensures counted { CountsFault result
+        (sink_of converter.old.reading W.taken W.failures out.old out.new) }
 {
     converter.finish(out)?;
     Ok(totals_of(converter))

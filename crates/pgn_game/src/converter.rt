@@ -21,7 +21,8 @@ ghost use Rattle.pgn_game.specs.ConverterCalls.{used_of, finished_game_value};
 ghost use Rattle.pgn_game.specs.ConverterCalls.{finished_game_plies, finished_game_position};
 ghost use Rattle.pgn_game.specs.ConverterCalls.{refused_position};
 ghost use Rattle.pgn_game.specs.ConverterCalls.{CountsMissingAs, counting_missing_as};
-ghost use Rattle.pgn_game.specs.ReaderState.{as_written, whole_plies};
+ghost use Rattle.pgn_game.specs.ReaderState.{StaysSilent, as_written, sink_of, whole_plies};
+ghost use Rattle.pgn_game.specs.ConverterCalls.{WritesNothing, writing_nothing};
 
 use crate::marker::{Mark, Marker, MissingResult};
 use crate::mode::Mode;
@@ -129,6 +130,7 @@ impl<const T: usize, const L: usize> Converter<T, L> {
         requires { 1 ≤ L }
         ensures stands { Stands (profile_of T (L - 1) mode) result [] None [] }
         ensures not_finished { result.is_finished ≡ false }
+        ensures writes { result.reading.writing.is_silent ≡ false }
     {
         Converter::begin_at(mode, 0, true)
     }
@@ -162,6 +164,7 @@ impl<const T: usize, const L: usize> Converter<T, L> {
             (white_space place in_first_column) None [] }
         ensures count { result.lexer.count ≡ place }
         ensures not_finished { result.is_finished ≡ false }
+        ensures writes { result.reading.writing.is_silent ≡ false }
     {
         Converter {
             lexer: Lexer::begin_at(place, in_first_column),
@@ -193,6 +196,32 @@ impl<const T: usize, const L: usize> Converter<T, L> {
     {
         self.reader
             .count_missing_result_as(MissingResult::CountsAs(marker));
+    }
+
+    /// From now on nothing is written: no call touches its sink.
+    ///
+    /// All else stays: games and plies, tags, positions, and faults with their places, but for
+    /// `Reason::WriteFault`, which no call returns. `most_probes` counts only the pairs that are
+    /// tried to find moves, at most 8 for each. Call this before the first byte is fed: nothing is
+    /// ensured of games that had begun by then.
+    ///
+    /// # Examples
+    ///
+    /// ```
+    /// use pgn_game::{Converter, Fed, Mode, Outlet};
+    ///
+    /// let mut out = Outlet::new(Vec::new());
+    /// let mut converter = Converter::<64, 33>::new(Mode::Full);
+    /// converter.write_nothing();
+    /// assert_eq!(converter.feed(b"1. e4 *", &mut out).unwrap(), Fed::Game(7));
+    /// assert_eq!(converter.plies(), 1);
+    /// assert!(out.into_inner().is_empty());
+    /// ```
+    pub fn write_nothing(&mut self)
+        ensures only_switch { self.new ≡ writing_nothing self.old }
+        ensures stands { WritesNothing self.old self.new }
+    {
+        self.reader.write_nothing();
     }
 
     /// From now on a missing Result takes the marker that ends its game.
@@ -228,7 +257,7 @@ impl<const T: usize, const L: usize> Converter<T, L> {
         requires not_finished { self.old.is_finished ≡ false }
         ensures used { IfOk result (λ fed. used_of fed piece.now ≤ length piece.now) }
         ensures feeds { Feeds self.old piece.now self.new result
-            (device W.taken W.failures out.old out.new) }
+            (sink_of self.old.reading W.taken W.failures out.old out.new) }
         ensures empty { piece.now ≡ [] → self.old.fault ≡ None → result ≡ Ok fed.All }
         ensures count { IfOk result (λ fed.
             self.new.lexer.count ≡ self.old.lexer.count + used_of fed piece.now) }
@@ -242,7 +271,8 @@ impl<const T: usize, const L: usize> Converter<T, L> {
         ensures probes { self.old.reading.most_probes ≤ self.new.reading.most_probes }
         ensures again { Again self.old self.new result out.old out.new }
         ensures counted { self.old.fault ≡ None
-            → CountsFault result (device W.taken W.failures out.old out.new) }
+            → CountsFault result (sink_of self.old.reading W.taken W.failures out.old out.new) }
+        ensures silent { StaysSilent self.old.reading self.new.reading out.old out.new }
     {
         match self.feed_to_marker(piece, out)? {
             Reached::All => Ok(Fed::All),
@@ -266,7 +296,7 @@ impl<const T: usize, const L: usize> Converter<T, L> {
         requires not_finished { self.old.is_finished ≡ false }
         ensures used { IfOk result (λ reached. used_to reached piece.now ≤ length piece.now) }
         ensures feeds { FeedsToMarker self.old piece.now self.new result
-            (device W.taken W.failures out.old out.new) }
+            (sink_of self.old.reading W.taken W.failures out.old out.new) }
         ensures empty { piece.now ≡ [] → self.old.fault ≡ None → result ≡ Ok reached.All }
         ensures count { IfOk result (λ reached.
             self.new.lexer.count ≡ self.old.lexer.count + used_to reached piece.now) }
@@ -284,7 +314,8 @@ impl<const T: usize, const L: usize> Converter<T, L> {
         ensures probes { self.old.reading.most_probes ≤ self.new.reading.most_probes }
         ensures again { Again self.old self.new result out.old out.new }
         ensures counted { self.old.fault ≡ None
-            → CountsFault result (device W.taken W.failures out.old out.new) }
+            → CountsFault result (sink_of self.old.reading W.taken W.failures out.old out.new) }
+        ensures silent { StaysSilent self.old.reading self.new.reading out.old out.new }
     {
         if let Some(fault) = self.fault {
             return Err(fault);
@@ -312,7 +343,7 @@ impl<const T: usize, const L: usize> Converter<T, L> {
         requires not_finished { self.old.is_finished ≡ false }
         requires none_just_finished { self.old.just_finished ≡ None }
         ensures ends { EndsGame self.old.reading mark self.new.reading result
-            (device W.taken W.failures out.old out.new) }
+            (sink_of self.old.reading W.taken W.failures out.old out.new) }
         ensures lexer { self.new.lexer ≡ self.old.lexer }
         ensures not_finished { self.new.is_finished ≡ false }
         ensures fault { KeepsFault self.new result }
@@ -321,7 +352,8 @@ impl<const T: usize, const L: usize> Converter<T, L> {
         ensures just_finished { self.new.just_finished ≡ game_ended result self.new.reading }
         ensures written { as_written self.new.reading ≡ as_written self.old.reading }
         ensures probes { self.old.reading.most_probes ≤ self.new.reading.most_probes }
-        ensures counted { CountsFault result (device W.taken W.failures out.old out.new) }
+        ensures counted { CountsFault result (sink_of self.old.reading W.taken W.failures out.old out.new) }
+        ensures silent { StaysSilent self.old.reading self.new.reading out.old out.new }
     {
         let Mark { marker, at } = mark;
         match self.reader.end_game(marker, out) {
@@ -343,13 +375,14 @@ impl<const T: usize, const L: usize> Converter<T, L> {
         requires not_finished { self.old.is_finished ≡ false }
         requires no_fault { self.old.fault ≡ None }
         ensures feeds { FeedsAll self.old piece.now self.new result
-            (device W.taken W.failures out.old out.new) }
+            (sink_of self.old.reading W.taken W.failures out.old out.new) }
         ensures count { OnOk result
             (self.new.lexer.count ≡ self.old.lexer.count + length piece.now) }
         ensures short { self.new.lexer.count ≤ 2 ^ 62 }
         ensures not_finished { self.new.is_finished ≡ false }
         ensures fault { KeepsFault self.new result }
-        ensures counted { CountsFault result (device W.taken W.failures out.old out.new) }
+        ensures counted { CountsFault result (sink_of self.old.reading W.taken W.failures out.old out.new) }
+        ensures silent { StaysSilent self.old.reading self.new.reading out.old out.new }
     {
         let mut at = 0;
         loop {
@@ -371,7 +404,7 @@ impl<const T: usize, const L: usize> Converter<T, L> {
     /// `Reason::ExpectedBracket`.
     pub fn finish<W: Sink>(&mut self, out: &mut W) -> Result<bool, Fault>
         requires not_finished { self.old.is_finished ≡ false }
-        ensures ends { Ends self.old self.new result (device W.taken W.failures out.old out.new) }
+        ensures ends { Ends self.old self.new result (sink_of self.old.reading W.taken W.failures out.old out.new) }
         ensures finished { self.new.is_finished ≡ is_ok result }
         ensures count { self.new.lexer.count ≡ self.old.lexer.count }
         ensures probes { self.old.reading.most_probes ≤ self.new.reading.most_probes }
@@ -379,7 +412,8 @@ impl<const T: usize, const L: usize> Converter<T, L> {
         ensures none_just_finished { OnErr result (self.new.just_finished ≡ None) }
         ensures again { Again self.old self.new result out.old out.new }
         ensures counted { self.old.fault ≡ None
-            → CountsFault result (device W.taken W.failures out.old out.new) }
+            → CountsFault result (sink_of self.old.reading W.taken W.failures out.old out.new) }
+        ensures silent { StaysSilent self.old.reading self.new.reading out.old out.new }
     {
         if let Some(fault) = self.fault {
             return Err(fault);
@@ -410,7 +444,7 @@ impl<const T: usize, const L: usize> Converter<T, L> {
         requires no_fault { self.old.fault ≡ None }
         requires not_finished { self.old.is_finished ≡ false }
         ensures ends { EndsToMarker self.old self.new result
-            (device W.taken W.failures out.old out.new) }
+            (sink_of self.old.reading W.taken W.failures out.old out.new) }
         ensures count { self.new.lexer.count ≡ self.old.lexer.count }
         ensures advances { IfOk result (λ marker.
             AdvancesAtEnd self.old.lexer self.new.lexer marker) }
@@ -421,7 +455,8 @@ impl<const T: usize, const L: usize> Converter<T, L> {
         ensures games { self.new.games ≡ self.old.games }
         ensures none_just_finished { self.new.just_finished ≡ None }
         ensures probes { self.old.reading.most_probes ≤ self.new.reading.most_probes }
-        ensures counted { CountsFault result (device W.taken W.failures out.old out.new) }
+        ensures counted { CountsFault result (sink_of self.old.reading W.taken W.failures out.old out.new) }
+        ensures silent { StaysSilent self.old.reading self.new.reading out.old out.new }
     {
         self.has_finished_game = false;
         loop {
@@ -566,7 +601,7 @@ impl<const T: usize, const L: usize> Converter<T, L> {
         requires short { self.old.lexer.count + length piece.now ≤ 2 ^ 62 }
         ensures used { IfOk result (λ reached. used_to reached piece.now ≤ length piece.now) }
         ensures feeds { FeedsFront self.old piece.now self.new result
-            (device W.taken W.failures out.old out.new) }
+            (sink_of self.old.reading W.taken W.failures out.old out.new) }
         ensures empty { piece.now ≡ [] → result ≡ Ok reached.All }
         ensures count { IfOk result (λ reached.
             self.new.lexer.count ≡ self.old.lexer.count + used_to reached piece.now) }
@@ -581,7 +616,8 @@ impl<const T: usize, const L: usize> Converter<T, L> {
         ensures games { self.new.games ≡ self.old.games }
         ensures none_just_finished { self.new.just_finished ≡ None }
         ensures probes { self.old.reading.most_probes ≤ self.new.reading.most_probes }
-        ensures counted { CountsFault result (device W.taken W.failures out.old out.new) }
+        ensures counted { CountsFault result (sink_of self.old.reading W.taken W.failures out.old out.new) }
+        ensures silent { StaysSilent self.old.reading self.new.reading out.old out.new }
     {
         self.has_finished_game = false;
         let mut at = 0;
@@ -608,8 +644,9 @@ impl<const T: usize, const L: usize> Converter<T, L> {
         requires some { 0 < length piece.now }
         requires none_just_finished { self.old.just_finished ≡ None }
         requires not_finished { self.old.is_finished ≡ false }
-        ensures { Steps self.old piece.now self.new result.used result.outcome
-            (device W.taken W.failures out.old out.new) }
+        ensures steps { Steps self.old piece.now self.new result.used result.outcome
+            (sink_of self.old.reading W.taken W.failures out.old out.new) }
+        ensures silent { StaysSilent self.old.reading self.new.reading out.old out.new }
     {
         if piece.len() < SHORTEST_PIECE || !self.reader.is_in_movetext() {
             return self.step_token(piece, out);
@@ -627,8 +664,9 @@ impl<const T: usize, const L: usize> Converter<T, L> {
         requires some { 0 < length piece.now }
         requires none_just_finished { self.old.just_finished ≡ None }
         requires not_finished { self.old.is_finished ≡ false }
-        ensures { Steps self.old piece.now self.new result.used result.outcome
-            (device W.taken W.failures out.old out.new) }
+        ensures steps { Steps self.old piece.now self.new result.used result.outcome
+            (sink_of self.old.reading W.taken W.failures out.old out.new) }
+        ensures silent { StaysSilent self.old.reading self.new.reading out.old out.new }
     {
         let Step { used, outcome } = self.run_movetext(piece, out);
         Step { used, outcome }
@@ -645,8 +683,9 @@ impl<const T: usize, const L: usize> Converter<T, L> {
         requires some { 0 < length piece.now }
         requires none_just_finished { self.old.just_finished ≡ None }
         requires not_finished { self.old.is_finished ≡ false }
-        ensures { Steps self.old piece.now self.new result.used result.outcome
-            (device W.taken W.failures out.old out.new) }
+        ensures steps { Steps self.old piece.now self.new result.used result.outcome
+            (sink_of self.old.reading W.taken W.failures out.old out.new) }
+        ensures silent { StaysSilent self.old.reading self.new.reading out.old out.new }
     {
         let mut used = 0;
         while used < piece.len() {
@@ -680,8 +719,9 @@ impl<const T: usize, const L: usize> Converter<T, L> {
         requires some { 0 < length piece.now }
         requires none_just_finished { self.old.just_finished ≡ None }
         requires not_finished { self.old.is_finished ≡ false }
-        ensures { Steps self.old piece.now self.new result.used result.outcome
-            (device W.taken W.failures out.old out.new) }
+        ensures steps { Steps self.old piece.now self.new result.used result.outcome
+            (sink_of self.old.reading W.taken W.failures out.old out.new) }
+        ensures silent { StaysSilent self.old.reading self.new.reading out.old out.new }
     {
         let (used, token) = self.lexer.whole_token(piece, false);
         let Some(token) = token else {
@@ -714,8 +754,9 @@ impl<const T: usize, const L: usize> Converter<T, L> {
         requires some { 0 < length piece.now }
         requires none_just_finished { self.old.just_finished ≡ None }
         requires not_finished { self.old.is_finished ≡ false }
-        ensures { Steps self.old piece.now self.new result.used result.outcome
-            (device W.taken W.failures out.old out.new) }
+        ensures steps { Steps self.old piece.now self.new result.used result.outcome
+            (sink_of self.old.reading W.taken W.failures out.old out.new) }
+        ensures silent { StaysSilent self.old.reading self.new.reading out.old out.new }
     {
         let scan = self.lexer.read_on(piece);
         let used = scan.used;
@@ -746,7 +787,7 @@ impl<const T: usize, const L: usize> Converter<T, L> {
         requires not_finished { self.old.is_finished ≡ false }
         requires none_just_finished { self.old.just_finished ≡ None }
         ensures after { StepsAtEnd self.old self.new result
-            (device W.taken W.failures out.old out.new) }
+            (sink_of self.old.reading W.taken W.failures out.old out.new) }
         ensures count { self.new.lexer.count ≡ self.old.lexer.count }
         ensures advances { StepAtEndAdvances self.old.lexer self.new.lexer result }
         ensures ready { IsReadyAfter self.new result }
@@ -756,7 +797,8 @@ impl<const T: usize, const L: usize> Converter<T, L> {
         ensures probes { self.old.reading.most_probes ≤ self.new.reading.most_probes }
         ensures none_just_finished { self.new.just_finished ≡ None }
         ensures finished { self.new.is_finished ≡ is_ended result }
-        ensures counted { CountsFault result (device W.taken W.failures out.old out.new) }
+        ensures counted { CountsFault result (sink_of self.old.reading W.taken W.failures out.old out.new) }
+        ensures silent { StaysSilent self.old.reading self.new.reading out.old out.new }
     {
         match self.lexer.finish() {
             // Never: `finish` gives a token or a fault.

@@ -4,10 +4,12 @@ ghost use Rattle.std.specs.Option.{option_copied};
 ghost use Rattle.pgn_layout.specs.Device.{Counts, device};
 ghost use Rattle.pgn_game.specs.ConverterCalls.{CountsFault, KeepsFault, profile_of};
 ghost use Rattle.pgn_game.specs.ConverterCalls.{finished_game_value, finished_game_plies, finished_game_position};
+ghost use Rattle.pgn_game.specs.ConverterCalls.{writing_nothing};
+ghost use Rattle.pgn_game.specs.GamesCalls.{WritesNoGame};
 ghost use Rattle.pgn_game.specs.GamesCalls.{HaveRead, ReadsNext, NextAgain, NextAtEnd, CountsNext, games_of, most_left};
 ghost use Rattle.pgn_game.specs.GamesSteps.{CountsReading, MoreResult, ReadsToMarker, RestResult};
 ghost use Rattle.pgn_game.specs.ConverterSteps.{IsReady};
-ghost use Rattle.pgn_game.specs.ReaderState.{as_written};
+ghost use Rattle.pgn_game.specs.ReaderState.{StaysSilent, as_written, sink_of};
 
 use crate::converter::{Converter, Reached};
 use crate::marker::Mark;
@@ -59,11 +61,22 @@ impl<const T: usize, const L: usize> Games<T, L> {
             → HaveRead (profile_of T (L - 1) mode) left [] result [] }
         ensures not_finished { result.converter.is_finished ≡ false }
         ensures no_fault { result.converter.fault ≡ None }
+        ensures writes { result.converter.reading.writing.is_silent ≡ false }
     {
         Games {
             converter: Converter::new(mode),
             buffer: ReadBuffer::new(),
         }
+    }
+
+    /// From now on nothing is written, as after `Converter::write_nothing`.
+    ///
+    /// Call this before the first game is read.
+    pub fn write_nothing(&mut self)
+        ensures only_switch { self.new ≡ games_of (writing_nothing self.old.converter) self.old.unused }
+        ensures begins { WritesNoGame self.old self.new }
+    {
+        self.converter.write_nothing();
     }
 
     /// Converts the next game of the source, and returns whether there was one.
@@ -83,14 +96,15 @@ impl<const T: usize, const L: usize> Games<T, L> {
     pub fn next<R: Source, W: Sink>(&mut self, source: &mut R, out: &mut W) -> Result<bool, Fault>
         ensures reads { ReadsNext self.old self.new result
             (device R.left R.failures source.old source.new)
-            (device W.taken W.failures out.old out.new) }
+            (sink_of self.old.converter.reading W.taken W.failures out.old out.new) }
         ensures fewer { result ≡ Ok true → most_left self.new < most_left self.old }
         ensures fault { KeepsFault self.new.converter result }
         ensures at_end { NextAtEnd self.old self.new result source.old source.new out.old out.new }
         ensures again { NextAgain self.old self.new result source.old source.new out.old out.new }
         ensures counted { self.old.converter.fault ≡ None
             → CountsNext result (device R.left R.failures source.old source.new)
-            (device W.taken W.failures out.old out.new) }
+            (sink_of self.old.converter.reading W.taken W.failures out.old out.new) }
+        ensures silent { StaysSilent self.old.converter.reading self.new.converter.reading out.old out.new }
     {
         next_game(&mut self.converter, &mut self.buffer, source, out)
     }
@@ -154,7 +168,7 @@ pub(crate) fn next_game<const T: usize, const L: usize, R: Source, W: Sink>(
     ensures reads { ReadsNext (games_of converter.old buffer.old)
         (games_of converter.new buffer.new) result
         (device R.left R.failures source.old source.new)
-        (device W.taken W.failures out.old out.new) }
+        (sink_of converter.old.reading W.taken W.failures out.old out.new) }
     ensures fewer { result ≡ Ok true → most_left (games_of converter.new buffer.new)
         < most_left (games_of converter.old buffer.old) }
     ensures fault { KeepsFault converter.new result }
@@ -164,7 +178,8 @@ pub(crate) fn next_game<const T: usize, const L: usize, R: Source, W: Sink>(
         (games_of converter.new buffer.new) result source.old source.new out.old out.new }
     ensures counted { converter.old.fault ≡ None
         → CountsNext result (device R.left R.failures source.old source.new)
-        (device W.taken W.failures out.old out.new) }
+        (sink_of converter.old.reading W.taken W.failures out.old out.new) }
+    ensures silent { StaysSilent converter.old.reading converter.new.reading out.old out.new }
 {
     if let Some(fault) = converter.fault() {
         return Err(fault);
@@ -188,12 +203,13 @@ fn read_game<const T: usize, const L: usize, R: Source, W: Sink>(
     ensures reads { ReadsNext (games_of converter.old buffer.old)
         (games_of converter.new buffer.new) result
         (device R.left R.failures source.old source.new)
-        (device W.taken W.failures out.old out.new) }
+        (sink_of converter.old.reading W.taken W.failures out.old out.new) }
     ensures fewer { result ≡ Ok true → most_left (games_of converter.new buffer.new)
         < most_left (games_of converter.old buffer.old) }
     ensures fault { KeepsFault converter.new result }
     ensures counted { CountsNext result (device R.left R.failures source.old source.new)
-        (device W.taken W.failures out.old out.new) }
+        (sink_of converter.old.reading W.taken W.failures out.old out.new) }
+    ensures silent { StaysSilent converter.old.reading converter.new.reading out.old out.new }
 {
     match next_marker(converter, buffer, source, out)? {
         Some(mark) => {
@@ -217,7 +233,7 @@ pub(crate) fn next_marker<const T: usize, const L: usize, R: Source, W: Sink>(
     ensures reads { ReadsToMarker (games_of converter.old buffer.old)
         (games_of converter.new buffer.new) result
         (device R.left R.failures source.old source.new)
-        (device W.taken W.failures out.old out.new) }
+        (sink_of converter.old.reading W.taken W.failures out.old out.new) }
     ensures ready { IfOk result (λ marker. IfSome marker (λ mark. IsReady converter.new)) }
     ensures short { OnOk result (converter.new.lexer.count ≤ 2 ^ 62) }
     ensures written { as_written converter.new.reading ≡ as_written converter.old.reading }
@@ -227,7 +243,8 @@ pub(crate) fn next_marker<const T: usize, const L: usize, R: Source, W: Sink>(
     ensures none_just_finished { OnOk result (converter.new.just_finished ≡ None) }
     ensures probes { converter.old.reading.most_probes ≤ converter.new.reading.most_probes }
     ensures counted { CountsReading result (device R.left R.failures source.old source.new)
-        (device W.taken W.failures out.old out.new) }
+        (sink_of converter.old.reading W.taken W.failures out.old out.new) }
+    ensures silent { StaysSilent converter.old.reading converter.new.reading out.old out.new }
 {
     loop {
         if let Some(mark) = feed_rest(converter, buffer, out)? {
@@ -249,7 +266,7 @@ fn feed_rest<const T: usize, const L: usize, W: Sink>(
     requires no_fault { converter.old.fault ≡ None }
     ensures feeds { RestResult (games_of converter.old buffer.old)
         (games_of converter.new buffer.new) result
-        (device W.taken W.failures out.old out.new) }
+        (sink_of converter.old.reading W.taken W.failures out.old out.new) }
     ensures used { result ≡ Ok None
         → converter.new.lexer.count ≡ converter.old.lexer.count + length buffer.old }
     ensures ready { IfOk result (λ marker. IfSome marker (λ mark. IsReady converter.new)) }
@@ -261,6 +278,7 @@ fn feed_rest<const T: usize, const L: usize, W: Sink>(
     ensures none_just_finished { OnOk result (converter.new.just_finished ≡ None) }
     ensures probes { converter.old.reading.most_probes ≤ converter.new.reading.most_probes }
     ensures counted { CountsFault result (device W.taken W.failures out.old out.new) }
+    ensures silent { StaysSilent converter.old.reading converter.new.reading out.old out.new }
 {
     match converter.feed_to_marker(buffer.unused(), out)? {
         Reached::All => {

@@ -30,7 +30,7 @@ mod tags;
 mod token_tests;
 
 pub use checked::convert_checked;
-pub use conversion::{Totals, convert, convert_slice};
+pub use conversion::{Totals, check, check_slice, convert, convert_slice};
 pub use converter::{Converter, Fed};
 pub use find::find_move;
 pub use games::Games;

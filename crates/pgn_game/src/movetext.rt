@@ -5,15 +5,16 @@ ghost use Rattle.pgn_game.specs.Chess.{first_position};
 ghost use Rattle.pgn_game.specs.Game as games;
 ghost use Rattle.pgn_game.specs.Movetext.{movetext_from, movetext_after_fen};
 ghost use Rattle.pgn_game.specs.TokenInMovetext.{IsLegal, ItemFits, model_item};
-ghost use Rattle.pgn_game.specs.MostTried.{CostsToWrite};
+ghost use Rattle.pgn_game.specs.Written.{mode_of_written, seen};
+ghost use Rattle.pgn_game.specs.MostTried.{CostsToWrite, is_written};
 ghost use Rattle.chess_rules.specs.declared.position.Move.{Move as MoveSeen};
 ghost use Rattle.chess_rules.specs.Legal.{is_legal};
-ghost use Rattle.pgn_game.specs.ItemResult.{Adds, GoesOn, Plays, PutsTokens, Rises, TriesItem, WritesItem};
-ghost use Rattle.pgn_game.specs.ItemResult.{number_due, tokens_due, writes};
+ghost use Rattle.pgn_game.specs.ItemResult.{Adds, GoesOn, LeavesSink, Plays, PutsTokens, Rises, TriesItem, WritesItem};
+ghost use Rattle.pgn_game.specs.ItemResult.{number_due, tokens_due};
 
 use crate::annotation::Annotation;
 use crate::levels::Levels;
-use crate::mode::Mode;
+use crate::mode::Written;
 use crate::number::{put_glyph, put_move_number};
 use chess_rules::{Colour, Move, Position, Probes, position_after};
 use chess_text::{Played, write_san};
@@ -101,12 +102,12 @@ impl<const L: usize> Movetext<L> {
         self.plies
     }
 
-    /// Plays a legal move: writes it with its number, if it needs one, and moves the levels. In
-    /// reduced mode a move is written only outside variations (PGN 3.2.4).
+    /// Plays a legal move: writes it with its number, if it needs one, and moves the levels. Reduced
+    /// mode writes a move only outside variations (PGN 3.2.4).
     #[inline(always)]
     pub fn put_move<W: Sink>(
         &mut self,
-        mode: Mode,
+        written: Written,
         mv: &Move,
         probes: &mut Probes,
         line: &mut CurrentLine,
@@ -115,42 +116,45 @@ impl<const L: usize> Movetext<L> {
         requires legal { IsTrue (is_legal self.old.levels.present.present mv.now) }
         requires few { self.old.plies < 2 ^ 64 - 1 }
         requires room { probes.old + 1032 < 2 ^ 32 }
-        ensures adds { Adds mode (games.move mv.now) self.old line.old self.new line.new
-            result (device W.taken W.failures out.old out.new) }
+        ensures adds { Adds (mode_of_written written) (games.move mv.now) self.old line.old self.new
+            line.new result (seen (mode_of_written written) (device W.taken W.failures out.old out.new)) }
+        ensures silent { LeavesSink (mode_of_written written) out.old out.new }
         ensures probes { Rises probes.old probes.new }
-        ensures tried { TriesItem mode self.old (games.move mv.now) probes.old probes.new }
+        ensures tried { TriesItem (mode_of_written written) self.old (games.move mv.now) probes.old
+            probes.new }
     {
         let next = position_after(self.levels.present(), mv);
         let played = Played { mv: *mv, next };
-        self.write_move(mode, &played, probes, line, out)?;
+        self.write_move(written, &played, probes, line, out)?;
         self.play(&played);
         Ok(())
     }
 
-    /// Writes an item other than a move, and moves the levels. In reduced mode it is left out
-    /// (PGN 3.2.4).
+    /// Writes an item other than a move, and moves the levels. Reduced mode leaves it out (PGN
+    /// 3.2.4).
     #[inline(always)]
     pub fn put<W: Sink>(
         &mut self,
-        mode: Mode,
+        written: Written,
         item: &Annotation<'_>,
         line: &mut CurrentLine,
         out: &mut W,
     ) -> Result<(), WriteFault>
         requires { ItemFits L self.old item.now }
-        ensures { Adds mode (model_item item.now) self.old line.old self.new line.new
-            result (device W.taken W.failures out.old out.new) }
+        ensures adds { Adds (mode_of_written written) (model_item item.now) self.old line.old self.new
+            line.new result (seen (mode_of_written written) (device W.taken W.failures out.old out.new)) }
+        ensures silent { LeavesSink (mode_of_written written) out.old out.new }
     {
-        self.write(mode, item, line, out)?;
+        self.write(written, item, line, out)?;
         self.go_on(item);
         Ok(())
     }
 
-    // Writes a legal move, unless the mode leaves it out.
+    // Writes a legal move, unless it is left out.
     #[inline(always)]
     fn write_move<W: Sink>(
         &mut self,
-        mode: Mode,
+        written: Written,
         played: &Played,
         probes: &mut Probes,
         line: &mut CurrentLine,
@@ -158,12 +162,14 @@ impl<const L: usize> Movetext<L> {
     ) -> Result<(), WriteFault>
         requires legal { IsLegal self.old.levels.present.present played.now }
         requires room { probes.old + 1032 < 2 ^ 32 }
-        ensures writes { WritesItem mode (games.move played.now.mv) self.old line.old self.new
-            line.new result (device W.taken W.failures out.old out.new) }
+        ensures writes { WritesItem (mode_of_written written) (games.move played.now.mv) self.old
+            line.old self.new line.new result (seen (mode_of_written written) (device W.taken W.failures out.old out.new)) }
+        ensures silent { LeavesSink (mode_of_written written) out.old out.new }
         ensures probes { Rises probes.old probes.new }
-        ensures tried { TriesItem mode self.old (games.move played.now.mv) probes.old probes.new }
+        ensures tried { TriesItem (mode_of_written written) self.old (games.move played.now.mv)
+            probes.old probes.new }
     {
-        if !self.writes_move(mode) {
+        if !self.writes_move(written) {
             return Ok(());
         }
         self.write_tokens_of_move(played, probes, line, out)?;
@@ -171,29 +177,34 @@ impl<const L: usize> Movetext<L> {
         Ok(())
     }
 
-    // Whether the mode writes a move here: in reduced mode only outside variations.
+    // Whether a move is written here: reduced mode writes it only outside variations.
     #[inline(always)]
-    fn writes_move(&self, mode: Mode) -> bool
-        ensures { (m : MoveSeen)
-            → result ≡ writes mode (length self.now.levels.around) (games.move m) }
+    fn writes_move(&self, written: Written) -> bool
+        ensures { (m : MoveSeen) → result ≡ is_written (mode_of_written written)
+            (length self.now.levels.around) (games.move m) }
     {
-        mode == Mode::Full || self.levels.depth() == 0
+        match written {
+            Written::All => true,
+            Written::Main => self.levels.depth() == 0,
+            Written::Nothing => false,
+        }
     }
 
-    // Writes an item, unless the mode leaves it out.
+    // Writes an item, unless it is left out.
     #[inline(always)]
     fn write<W: Sink>(
         &mut self,
-        mode: Mode,
+        written: Written,
         item: &Annotation<'_>,
         line: &mut CurrentLine,
         out: &mut W,
     ) -> Result<(), WriteFault>
         requires { ItemFits L self.old item.now }
-        ensures { WritesItem mode (model_item item.now) self.old line.old self.new
-            line.new result (device W.taken W.failures out.old out.new) }
+        ensures writes { WritesItem (mode_of_written written) (model_item item.now) self.old line.old
+            self.new line.new result (seen (mode_of_written written) (device W.taken W.failures out.old out.new)) }
+        ensures silent { LeavesSink (mode_of_written written) out.old out.new }
     {
-        if mode == Mode::Reduced {
+        if written != Written::All {
             return Ok(());
         }
         self.write_tokens(item, line, out)?;

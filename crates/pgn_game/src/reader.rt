@@ -13,7 +13,8 @@ ghost use Rattle.pgn_game.specs.declared.stage.Stage.TheVariants.{AfterValue, Af
 ghost use Rattle.pgn_game.specs.Profile.{counts_as, known_result};
 ghost use Rattle.pgn_game.specs.Markers.{marker_text, missing_of};
 ghost use Rattle.pgn_game.specs.Movetext.{movetext_from};
-ghost use Rattle.pgn_game.specs.ReaderState.{CountsWrites, known_of, whole_plies};
+ghost use Rattle.pgn_game.specs.ReaderState.{CountsWrites, StaysSilent, known_of, sink_of};
+ghost use Rattle.pgn_game.specs.ReaderState.{silenced, telling, whole_plies};
 ghost use Rattle.pgn_game.specs.TokenInMovetext.{ItemFits, may_have_movetext, model_item};
 ghost use Rattle.pgn_game.specs.TokenInMovetext.{fen_position as position_in_fen};
 ghost use Rattle.pgn_game.specs.PutResult.{BeginsText, CountsMove, Finds, Keeps, MeetsEntry};
@@ -25,7 +26,7 @@ ghost use Rattle.pgn_game.specs.FaultTable.{is_reduced, marker_of};
 use crate::annotation::Annotation;
 use crate::find::named_move;
 use crate::marker::{Marker, MissingResult};
-use crate::mode::Mode;
+use crate::mode::{Mode, Written};
 use crate::movetext::Movetext;
 use crate::pair::NAME_OR_VALUE_LENGTH;
 use crate::reason::Reason;
@@ -62,6 +63,7 @@ pub struct Reader<const T: usize, const L: usize> {
     earlier_plies: u64,
     most_probes: u32,
     mode: Mode,
+    written: Written,
     missing_result: MissingResult,
     told: Option<Marker>,
     stage: Stage,
@@ -71,6 +73,7 @@ impl<const T: usize, const L: usize> Model for Reader<T, L> {
     ghost use Rattle.std.specs.Prelude.{◌-◌, ◌≤◌, option_map};
     ghost use Rattle.pgn_game.specs.Markers.{marker_text, missing_of};
     ghost use Rattle.pgn_game.specs.ReaderState.{ReaderState, AreSound};
+    ghost use Rattle.pgn_game.specs.Written.{is_nothing, mode_of_written, mode_unless};
 
     ghost Value = { ReaderState };
 
@@ -81,7 +84,10 @@ impl<const T: usize, const L: usize> Model for Reader<T, L> {
         mode = r.mode;
         missing_result = missing_of r.missing_result;
       };
-      told = option_map marker_text r.told;
+      writing = record {
+        told = option_map marker_text r.told;
+        is_silent = is_nothing r.written;
+      };
       stage = r.stage;
       tags = r.tags;
       text = r.text;
@@ -90,7 +96,8 @@ impl<const T: usize, const L: usize> Model for Reader<T, L> {
       line = r.line;
     } };
 
-    ghost invariant = { λ r. AreSound T r.stage r.tags × (r.most_probes ≤ 1040) };
+    ghost invariant = { λ r. AreSound T r.stage r.tags × (r.most_probes ≤ 1040)
+        × (mode_of_written r.written ≡ mode_unless (is_nothing r.written) r.mode) };
 }
 
 impl<const T: usize, const L: usize> Reader<T, L> {
@@ -104,7 +111,7 @@ impl<const T: usize, const L: usize> Reader<T, L> {
             mode = mode;
             missing_result = counts_as (codes "*");
           };
-          told = None;
+          writing = record { told = None; is_silent = false };
           stage = Between;
           tags = record { held = []; pending_name = None };
           text = movetext_from first_position;
@@ -115,6 +122,7 @@ impl<const T: usize, const L: usize> Reader<T, L> {
     {
         Reader {
             mode,
+            written: Written::by(mode),
             missing_result: MissingResult::CountsAs(Marker::Unknown),
             told: None,
             stage: Stage::Between,
@@ -185,10 +193,17 @@ impl<const T: usize, const L: usize> Reader<T, L> {
         self.missing_result = missing;
     }
 
+    /// From now on nothing is written.
+    pub fn write_nothing(&mut self)
+        ensures { self.new ≡ silenced self.old }
+    {
+        self.written = Written::Nothing;
+    }
+
     /// Tells the marker that the next game ends with. A missing Result that takes it is written so,
     /// where it would be written as nothing.
     pub fn tell(&mut self, marker: Marker)
-        ensures { self.new ≡ record self.old { told = Some (marker_text marker) } }
+        ensures { self.new ≡ telling (marker_text marker) self.old }
     {
         self.told = Some(marker);
     }
@@ -208,8 +223,9 @@ impl<const T: usize, const L: usize> Reader<T, L> {
     ) -> Result<Option<Marker>, Reason>
         requires few { self.old.earlier_plies + self.old.text.plies < 2 ^ 64 - 1 }
         requires token { HasLength (kind_of kind) }
-        ensures { TakesUnlessMarker self.old (kind_of kind.entry) self.new result
-            (device W.taken W.failures out.old out.new) }
+        ensures takes { TakesUnlessMarker self.old (kind_of kind.entry) self.new result
+            (sink_of self.old W.taken W.failures out.old out.new) }
+        ensures silent { StaysSilent self.old self.new out.old out.new }
     {
         match self.accept_outside(kind) {
             Some(result) => {
@@ -234,8 +250,9 @@ impl<const T: usize, const L: usize> Reader<T, L> {
     ) -> Result<Option<Marker>, Reason>
         requires few { self.old.earlier_plies + self.old.text.plies < 2 ^ 64 - 1 }
         requires token { HasLength (kind_of kind) }
-        ensures { TakesUnlessMarker self.old (kind_of kind.entry) self.new result
-            (device W.taken W.failures out.old out.new) }
+        ensures takes { TakesUnlessMarker self.old (kind_of kind.entry) self.new result
+            (sink_of self.old W.taken W.failures out.old out.new) }
+        ensures silent { StaysSilent self.old self.new out.old out.new }
     {
         self.accept_unless_marker::<W, COPIED>(kind, out)
     }
@@ -427,8 +444,9 @@ impl<const T: usize, const L: usize> Reader<T, L> {
         requires few { self.old.text.plies < 2 ^ 64 - 1 }
         requires stage { IsTrue (may_have_movetext self.old.stage) }
         requires token { HasLength (kind_of kind) }
-        ensures { MeetsEntry self.old (kind_of kind.entry) self.new result
-            (device W.taken W.failures out.old out.new) }
+        ensures meets { MeetsEntry self.old (kind_of kind.entry) self.new result
+            (sink_of self.old W.taken W.failures out.old out.new) }
+        ensures silent { StaysSilent self.old self.new out.old out.new }
     {
         match kind {
             TokenKind::Symbol(text) => self.accept_symbol(text, out),
@@ -452,8 +470,9 @@ impl<const T: usize, const L: usize> Reader<T, L> {
     fn accept_symbol<W: Sink>(&mut self, text: &[u8], out: &mut W) -> Result<Option<Marker>, Reason>
         requires few { self.old.text.plies < 2 ^ 64 - 1 }
         requires stage { IsTrue (may_have_movetext self.old.stage) }
-        ensures { MeetsEntry self.old (symbol text.now) self.new result
-            (device W.taken W.failures out.old out.new) }
+        ensures meets { MeetsEntry self.old (symbol text.now) self.new result
+            (sink_of self.old W.taken W.failures out.old out.new) }
+        ensures silent { StaysSilent self.old self.new out.old out.new }
     {
         if may_be_score_or_number(text) {
             if is_number(text) {
@@ -475,8 +494,9 @@ impl<const T: usize, const L: usize> Reader<T, L> {
         requires stage { IsTrue (may_have_movetext self.old.stage) }
         requires number { spec.is_number text.now ≡ false }
         requires score { spec.is_score text.now ≡ false }
-        ensures { TakesEntry self.old (symbol text.now) self.new (continued result)
-            (device W.taken W.failures out.old out.new) }
+        ensures takes { TakesEntry self.old (symbol text.now) self.new (continued result)
+            (sink_of self.old W.taken W.failures out.old out.new) }
+        ensures silent { StaysSilent self.old self.new out.old out.new }
     {
         let mut probes = Probes::new();
         match self.find(text, &mut probes) {
@@ -485,7 +505,7 @@ impl<const T: usize, const L: usize> Reader<T, L> {
                 self.begin_movetext(out)?;
                 let put = self
                     .text
-                    .put_move(self.mode, &mv, &mut probes, &mut self.line, out);
+                    .put_move(self.written, &mv, &mut probes, &mut self.line, out);
                 self.count_probes(&probes);
                 put?;
                 Ok(())
@@ -518,8 +538,9 @@ impl<const T: usize, const L: usize> Reader<T, L> {
     // Takes a `(`, which begins a variation (PGN 8.2.5).
     fn open_variation<W: Sink>(&mut self, out: &mut W) -> Result<(), Reason>
         requires { IsTrue (may_have_movetext self.old.stage) }
-        ensures { TakesEntry self.old left_paren self.new (continued result)
-            (device W.taken W.failures out.old out.new) }
+        ensures takes { TakesEntry self.old left_paren self.new (continued result)
+            (sink_of self.old W.taken W.failures out.old out.new) }
+        ensures silent { StaysSilent self.old self.new out.old out.new }
     {
         if !self.text.has_own_move() {
             return Err(Reason::NoMoveBefore);
@@ -533,8 +554,9 @@ impl<const T: usize, const L: usize> Reader<T, L> {
     // Takes a `)`, which ends a variation (PGN 8.2.5).
     fn close_variation<W: Sink>(&mut self, out: &mut W) -> Result<(), Reason>
         requires { IsTrue (may_have_movetext self.old.stage) }
-        ensures { TakesEntry self.old right_paren self.new (continued result)
-            (device W.taken W.failures out.old out.new) }
+        ensures takes { TakesEntry self.old right_paren self.new (continued result)
+            (sink_of self.old W.taken W.failures out.old out.new) }
+        ensures silent { StaysSilent self.old self.new out.old out.new }
     {
         if self.text.depth() == 0 {
             return Err(Reason::UnmatchedClose);
@@ -546,8 +568,9 @@ impl<const T: usize, const L: usize> Reader<T, L> {
     #[inline(always)]
     fn pass<W: Sink>(&mut self, out: &mut W) -> Result<(), Reason>
         requires { IsTrue (may_have_movetext self.old.stage) }
-        ensures { PutsItems self.old [] self.new (continued result)
-            (device W.taken W.failures out.old out.new) }
+        ensures puts { PutsItems self.old [] self.new (continued result)
+            (sink_of self.old W.taken W.failures out.old out.new) }
+        ensures silent { StaysSilent self.old self.new out.old out.new }
     {
         self.begin_movetext(out)?;
         Ok(())
@@ -558,11 +581,12 @@ impl<const T: usize, const L: usize> Reader<T, L> {
     fn put<W: Sink>(&mut self, item: Annotation<'_>, out: &mut W) -> Result<(), Reason>
         requires stage { IsTrue (may_have_movetext self.old.stage) }
         requires fits { ItemFits L self.old.text item }
-        ensures { PutsItems self.old (model_item item.entry ∷ []) self.new (continued result)
-            (device W.taken W.failures out.old out.new) }
+        ensures puts { PutsItems self.old (model_item item.entry ∷ []) self.new (continued result)
+            (sink_of self.old W.taken W.failures out.old out.new) }
+        ensures silent { StaysSilent self.old self.new out.old out.new }
     {
         self.begin_movetext(out)?;
-        self.text.put(self.mode, &item, &mut self.line, out)?;
+        self.text.put(self.written, &item, &mut self.line, out)?;
         Ok(())
     }
 
@@ -572,11 +596,12 @@ impl<const T: usize, const L: usize> Reader<T, L> {
         requires { IsTrue (may_have_movetext self.old.stage) }
         ensures takes { (k : Kind) → marker_of k ≡ Some (marker_text marker)
             → TakesEntry self.old k self.new (ended result)
-            (device W.taken W.failures out.old out.new) }
+            (sink_of self.old W.taken W.failures out.old out.new) }
         ensures keeps { Keeps self.old self.new }
         ensures between { OnOk result (self.new.stage ≡ Between) }
         ensures counted { CountsWrites (ended result)
-            (device W.taken W.failures out.old out.new) }
+            (sink_of self.old W.taken W.failures out.old out.new) }
+        ensures silent { StaysSilent self.old self.new out.old out.new }
     {
         if self.text.depth() > 0 {
             return Err(Reason::MarkerInVariation);
@@ -586,6 +611,10 @@ impl<const T: usize, const L: usize> Reader<T, L> {
             return Err(Reason::ResultDiffers);
         }
         self.begin_movetext(out)?;
+        if let Written::Nothing = self.written {
+            self.stage = Stage::Between;
+            return Ok(());
+        }
         self.line.put(marker.text(), out)?;
         self.line.end_game(out)?;
         self.stage = Stage::Between;
@@ -605,7 +634,8 @@ impl<const T: usize, const L: usize> Reader<T, L> {
     fn begin_movetext<W: Sink>(&mut self, out: &mut W) -> Result<(), WriteFault>
         requires stage { IsTrue (may_have_movetext self.old.stage) }
         ensures begins { BeginsText self.old self.new result
-            (device W.taken W.failures out.old out.new) }
+            (sink_of self.old W.taken W.failures out.old out.new) }
+        ensures silent { StaysSilent self.old self.new out.old out.new }
     {
         if self.is_in_movetext() {
             return Ok(());
@@ -618,8 +648,13 @@ impl<const T: usize, const L: usize> Reader<T, L> {
     fn write_tags<W: Sink>(&mut self, out: &mut W) -> Result<(), WriteFault>
         requires stage { self.old.stage ≡ AfterTags }
         ensures begins { BeginsText self.old self.new result
-            (device W.taken W.failures out.old out.new) }
+            (sink_of self.old W.taken W.failures out.old out.new) }
+        ensures silent { StaysSilent self.old self.new out.old out.new }
     {
+        if let Written::Nothing = self.written {
+            self.stage = Stage::InMovetext;
+            return Ok(());
+        }
         write_section(
             self.mode,
             self.known_missing_result(),
