@@ -8,4 +8,5 @@ pub mod NumberToTokens
 pub mod PairStepToReader
 pub mod PlayedMovesAreLegal
 pub mod ReadTokensFitOnLines
+pub mod SilentReader
 pub mod WritesInTurn

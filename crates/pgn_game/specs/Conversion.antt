@@ -1,5 +1,5 @@
 -- **Definition**: what a conversion of a whole input does.
--- Letters: q says whether the reader is silent, which then only reads; p is the profile, s a text, v a verdict, t are the totals, f is a fault, u are the bytes
+-- Letters: p is the profile, s a text, v a verdict, t are the totals, f is a fault, u are the bytes
 -- read so far, ts are tokens. n is the most pairs of an origin and a target that were tried for one
 -- move. `source` and `sink` are the devices before the call and after it. `before` and `after` are
 -- the bytes that the sink has taken, `left_old` and `left_new` those that the source has left, if
@@ -18,7 +18,7 @@ use Rattle.pgn_game.specs.Profile.{Profile}
 use Rattle.pgn_game.specs.Progress.{read, due, output, Verdict, refused as is_refused, totals, verdict}
 use Rattle.pgn_game.specs.Due.{Gains}
 use Rattle.pgn_game.specs.MostTried.{MostTried}
-use Rattle.pgn_game.specs.ConverterCalls.{AreNext, AreShown, Converter, IsRefused, play_moves, Stands, StopsWriting, Stops}
+use Rattle.pgn_game.specs.ConverterCalls.{AreNext, AreShown, Converter, IsRefused, NoWriteFails, play_moves, Stands, StopsWriting, Stops}
 
 -- the verdict that has these numbers
 abbrev pub verdict_in : Totals → Verdict
@@ -31,17 +31,17 @@ IsConverted p s v before after = (verdict p s ≡ v) × Appends before after (ou
 -- n is the most pairs tried for one move of the text. It is at most 1,040: 8 for the candidates of
 -- the piece, 8 for their rivals, and 1,024 for an answer to a check. It is at least 1 if one of the
 -- games has a move.
-pub record MostProbes (q : Bool) (p : Profile) (s : List ℕ) (n : ℕ) : Type 0 where
+pub record MostProbes (silent : Bool) (p : Profile) (s : List ℕ) (n : ℕ) : Type 0 where
   pub most : n ≤ 1040
   pub some : IsTrue (play_moves (read p (tokens_of s)).progress.games) → 0 < n
-  pub tried : MostTried q p (tokens_of s) n
+  pub tried : MostTried silent p (tokens_of s) n
 
 -- The text s is converted, and has at most 2^62 bytes. The totals have the numbers of its verdict,
 -- and the most pairs tried.
-pub record IsTotalled (q : Bool) (p : Profile) (s : List ℕ) (t : Totals) (before after : Option (List ℕ)) : Type 0 where
+pub record IsTotalled (silent : Bool) (p : Profile) (s : List ℕ) (t : Totals) (before after : Option (List ℕ)) : Type 0 where
   pub short : length s ≤ 2 ^ 62
   pub converted : IsConverted p s (verdict_in t) before after
-  pub probes : MostProbes q p s t.most_probes
+  pub probes : MostProbes silent p s t.most_probes
 
 -- Reading ends after the bytes u. They decide no token that is rejected, and what is due for the
 -- tokens that they decide is written.
@@ -61,9 +61,9 @@ pub data FailsOn (p : Profile) (text : List ℕ) (before after : Option (List �
       → FailsOn p text before after (record { at = length u; reason = InputTooLong })
 
 -- what a conversion of a slice results in: the text is converted, or the conversion fails
-abbrev pub AfterSlice : Bool → Profile → List ℕ → Result Totals Fault → Option (List ℕ) → Option (List ℕ) → Type 0
-AfterSlice q p text (Ok t) before after = IsTotalled q p text t before after
-AfterSlice q p text (Err f) before after = FailsOn p text before after f
+abbrev pub AfterSlice : (silent : Bool) → Profile → List ℕ → Result Totals Fault → Option (List ℕ) → Option (List ℕ) → Type 0
+AfterSlice silent p text (Ok t) before after = IsTotalled silent p text t before after
+AfterSlice silent p text (Err f) before after = FailsOn p text before after f
 
 -- What `convert_slice` does to its sink.
 abbrev pub ConvertsSlice : Profile → List ℕ → Result Totals Fault → Device → Type 0
@@ -98,26 +98,20 @@ pub data Fails (p : Profile) (left_old left_new : Option (List ℕ)) (before aft
 
 -- What a conversion results in: what the source had left is converted, up to its end, or the
 -- conversion fails.
-abbrev pub AfterConversion : Bool → Profile → Option (List ℕ) → Option (List ℕ) → Result Totals Fault → Option (List ℕ) → Option (List ℕ) → Type 0
-AfterConversion q p left_old left_new (Ok t) before after = IfSome left_old (λ s. IsTotalled q p s t before after)
-AfterConversion q p left_old left_new (Err f) before after = Fails p left_old left_new before after f
+abbrev pub AfterConversion : (silent : Bool) → Profile → Option (List ℕ) → Option (List ℕ) → Result Totals Fault → Option (List ℕ) → Option (List ℕ) → Type 0
+AfterConversion silent p left_old left_new (Ok t) before after = IfSome left_old (λ s. IsTotalled silent p s t before after)
+AfterConversion silent p left_old left_new (Err f) before after = Fails p left_old left_new before after f
 
 -- What `convert` does to its source and its sink.
 abbrev pub Converts : Profile → Device → Result Totals Fault → Device → Type 0
 Converts p source result sink =
     AfterConversion false p source.before source.after result sink.before sink.after
 
--- no write failed
-abbrev pub NoWriteFails : {A : Type 0} → Result A Fault → Type 0
-NoWriteFails (Ok t) = Unit {0}
-NoWriteFails (Err f) = f.reason ≡ WriteFault → ⊥
-
--- What `check` does to its source. It reads as `convert` does, and has no sink: nothing is written,
--- and no write can fail.
+-- What `check` returns: what `convert` does, except that it writes nothing and no write can fail.
 abbrev pub Checks : Profile → Device → Result Totals Fault → Type 0
 Checks p source result = AfterConversion true p source.before source.after result None None × NoWriteFails result
 
--- What `check_slice` says of its text.
+-- What `check_slice` returns for a text.
 abbrev pub ChecksSlice : Profile → List ℕ → Result Totals Fault → Type 0
 ChecksSlice p text result = AfterSlice true p text result None None × NoWriteFails result
 
@@ -146,9 +140,9 @@ CountsSink (Err f) sink = CountsWriting f.reason sink
 
 -- How a conversion ends after the bytes u, which are then the whole input: all tokens were read, or
 -- reading stopped.
-abbrev pub AfterEnd : Bool → Profile → List ℕ → List Token → Result Totals Fault → Option (List ℕ) → Option (List ℕ) → Type 0
-AfterEnd q p u given (Ok t) before after = (verdict p u ≡ verdict_in t) × MostProbes q p u t.most_probes × Gains p given (tokens_of u) before after
-AfterEnd q p u given (Err f) before after = Stops p given (tokens_of u) before after f
+abbrev pub AfterEnd : (silent : Bool) → Profile → List ℕ → List Token → Result Totals Fault → Option (List ℕ) → Option (List ℕ) → Type 0
+AfterEnd silent p u given (Ok t) before after = (verdict p u ≡ verdict_in t) × MostProbes silent p u t.most_probes × Gains p given (tokens_of u) before after
+AfterEnd silent p u given (Err f) before after = Stops p given (tokens_of u) before after f
 
 -- What the end of the input does to a converter and its sink.
 abbrev pub Concludes : Converter → Result Totals Fault → Device → Type 0

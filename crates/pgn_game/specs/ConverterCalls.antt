@@ -3,7 +3,8 @@
 -- the bytes used so far, and b is the byte known to be next, if one is. `given` are the tokens read
 -- before a call, and `tokens` those read when it ends, or among which it stops. `old` and `new` are
 -- the converter before a call and after it, and so is `sink` the sink. `before` and `after` are the
--- bytes that the sink has taken then, if it reports them. A game is just finished from the call
+-- bytes that the sink has taken then, if it reports them. Those of a silent converter are not seen:
+-- then `KeepsSilence` says that its sink does not change. A game is just finished from the call
 -- that finished it to the next call of `feed` or `finish`.
 use Rattle.std.specs.Prelude.{◌≡◌, ℕ, ◌+◌, ◌*◌, ◌^◌, ◌<◌, ◌≤◌, ◌↔◌, Bool, true, false, ◌||◌, IsTrue, List, [], ◌∷◌, ◌++◌, length, take, drop, map, sum, codes, option_map, Option, None, Some, Result, Ok, Err}
 use Rattle.std.specs.List.{list_any}
@@ -234,16 +235,16 @@ position_at_stop {p} {given} {tokens} (refused f fault gains) = position_at_faul
 position_at_stop (unwritten at writing) = None
 
 -- `most` is the most pairs that were tried for one token, up to the one at which reading stopped
-abbrev pub MostAtStop : Bool → {p : Profile} {given tokens : List Token} {before after : Option (List ℕ)} {f : Fault} → Stops p given tokens before after f → ℕ → Type 0
-MostAtStop q {p} {given} {tokens} (refused f fault gains) most = MostTried q p tokens most
-MostAtStop q {p} (unwritten at writing) most =
-    (least : ℕ) × MostTried q p writing.front least
-    × Raises (TriesUnwritten q p (read p writing.front).progress.part writing.token.kind) least most
+abbrev pub MostAtStop : (silent : Bool) → {p : Profile} {given tokens : List Token} {before after : Option (List ℕ)} {f : Fault} → Stops p given tokens before after f → ℕ → Type 0
+MostAtStop silent {p} {given} {tokens} (refused f fault gains) most = MostTried silent p tokens most
+MostAtStop silent {p} (unwritten at writing) most =
+    (least : ℕ) × MostTried silent p writing.front least
+    × Raises (TriesUnwritten silent p (read p writing.front).progress.part writing.token.kind) least most
 
 -- `most` is that number, and at least 1 if a move was played before
-pub record ProbesAtStop (q : Bool) {p : Profile} {given tokens : List Token} {before after : Option (List ℕ)} {f : Fault}
+pub record ProbesAtStop (silent : Bool) {p : Profile} {given tokens : List Token} {before after : Option (List ℕ)} {f : Fault}
     (stops : Stops p given tokens before after f) (most : ℕ) : Type 0 where
-  pub tried : MostAtStop q stops most
+  pub tried : MostAtStop silent stops most
   pub probed : IsTrue (has_played_move (progress_before stops)) → 0 < most
 
 -- A fault, as `FedFault` says. Before it no game was finished. If a move was rejected, the reader
@@ -381,8 +382,8 @@ writing_nothing c = record c { reading = silenced c.reading }
 
 -- What `write_nothing` does to a converter that has read no token yet: it stands after the same
 -- bytes as before.
-abbrev pub WritesNothing : Converter → Converter → Type 0
-WritesNothing old new =
+abbrev pub StillStands : Converter → Converter → Type 0
+StillStands old new =
     (p : Profile) (u : List ℕ) (b : Option ℕ)
     → Stands p old u b [] → Stands p new u b []
 
@@ -394,6 +395,11 @@ KeepsFault new (Err f) = new.fault ≡ Some f
 -- After a fault each call returns it again, and neither the converter nor the sink changes.
 abbrev pub Again : {A S : Type 0} → Converter → Converter → Result A Fault → S → S → Type 0
 Again old new result out_old out_new = (f : Fault) → old.fault ≡ Some f → (result ≡ Err f) × (new ≡ old) × (out_new ≡ out_old)
+
+-- no write failed
+abbrev pub NoWriteFails : {A : Type 0} → Result A Fault → Type 0
+NoWriteFails (Ok x) = Unit {0}
+NoWriteFails (Err f) = f.reason ≡ WriteFault → ⊥
 
 -- If the reason is `WriteFault`, the sink counts one failure more, and for any other reason none.
 -- No call of a converter returns `ReadFault` or `Changed`: those over a whole input do.

@@ -29,7 +29,7 @@ use Rattle.pgn_game.specs.FaultTable.{is_end, marker_of, refusal}
 use Rattle.pgn_game.specs.Text.{text_of, torn}
 use Rattle.pgn_game.specs.Progress.{read}
 use Rattle.pgn_game.specs.Due.{Gains}
-use Rattle.pgn_game.specs.ReaderState.{Accepted, Finished, ReaderState, IsStopped, as_written}
+use Rattle.pgn_game.specs.ReaderState.{Accepted, Finished, ReaderState, IsStopped, as_written, telling}
 use Rattle.pgn_game.specs.TokenInMovetext.{may_have_movetext}
 use Rattle.pgn_game.specs.PutResult.{EntersMovetext, TakesEntry}
 use Rattle.pgn_game.specs.ConverterCalls.{Converter, CountsFault, FinishedGame, game_in_reader, IsLast, HasRead, Stands, Stops, StopsIn, AreNext, within_limit, games_before, position_at_stop, reported_position, ProbesAtStop}

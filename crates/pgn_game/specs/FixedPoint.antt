@@ -2,7 +2,7 @@
 -- The text of games is read back as these games with their defaults filled in, and exporting it
 -- again changes nothing.
 -- Letters: p is the profile, g a game, gs and hs are games, r is a call's result, t its totals.
-use Rattle.std.specs.Prelude.{◌≡◌, ◌↔◌, ◌⊎◌, ℕ, ◌+◌, ◌≤◌, ◌^◌, List, length, map, sum, Option, None, Some, Result, Ok, Err}
+use Rattle.std.specs.Prelude.{false, ◌≡◌, ◌↔◌, ◌⊎◌, ℕ, ◌+◌, ◌≤◌, ◌^◌, List, length, map, sum, Option, None, Some, Result, Ok, Err}
 use Rattle.std.specs.List.{AllByRecursion}
 use Rattle.std.specs.Io.KnownBytes.{Appends}
 use Rattle.pgn_lexer.specs.TokensOf.{tokens_of}

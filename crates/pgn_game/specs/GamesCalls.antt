@@ -1,5 +1,5 @@
 -- **Definition**: what a contract sees of `Games`, and what each call does to them.
--- Letters: p is the profile, f a fault, u are the bytes that the source has given before a call,
+-- Letters: p is the profile, f a fault, r the reader, u are the bytes that the source has given before a call,
 -- and `more` those that it gives during it. `given` are the tokens read before a call, and `tokens`
 -- those read when it ends. `left` are the bytes that the source has left, if it reports them;
 -- `left_old` and `left_new` are these before a call and after it. `source` and `sink` are the
@@ -67,9 +67,9 @@ pub record ReadSoFar (p : Profile) (left_old left_now : Option (List ℕ)) (now 
   pub have_read : HaveRead p left_now bytes now tokens
   pub gains : Gains p [] tokens before after
 
--- What `write_nothing` does to games of which none is read yet: none is read yet then.
-abbrev pub WritesNoGame : Games → Games → Type 0
-WritesNoGame old new =
+-- If no token of the games was read before `write_nothing`, none is read after it.
+abbrev pub StillReadNone : Games → Games → Type 0
+StillReadNone old new =
     (p : Profile) (left : Option (List ℕ)) (u : List ℕ) → HaveRead p left u old [] → HaveRead p left u new []
 
 -- ---- what a call of `next` does

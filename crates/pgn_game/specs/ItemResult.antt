@@ -1,5 +1,5 @@
 -- **Bookkeeping**: what putting an item of movetext does to the levels, the line and the sink.
-use Rattle.std.specs.Prelude.{◌≡◌, ℕ, ◌+◌, ◌≤◌, Bool, true, false, ◌&&◌, List, [], ◌∷◌, ◌++◌, ◌==◌, map, length, drop, Option, None, Some, IfSome, Result, MatchResult, OnOk, All}
+use Rattle.std.specs.Prelude.{◌≡◌, ℕ, ◌+◌, ◌≤◌, Bool, true, false, ◌&&◌, List, [], ◌∷◌, ◌++◌, ◌==◌, map, length, drop, Option, None, Some, IfSome, Result, MatchResult, OnOk, All, IsTrue}
 use Rattle.std.specs.Io.KnownBytes.{Appends}
 use Rattle.chess_rules.specs.declared.position.Parts.{Parts}
 use Rattle.chess_text.specs.declared.resolution.Played.{Played}
@@ -9,7 +9,6 @@ use Rattle.pgn_layout.specs.Layout.{Put, laid_from}
 use Rattle.pgn_game.specs.declared.annotation.Annotation.{Annotation}
 use Rattle.pgn_game.specs.declared.annotation.Annotation.TheVariants.{Open, Close}
 use Rattle.pgn_game.specs.declared.mode.Mode.{Mode}
-use Rattle.pgn_game.specs.declared.mode.Mode.TheVariants.{Full, Reduced}
 use Rattle.pgn_game.specs.Chess.{is_black_to_move}
 use Rattle.pgn_game.specs.Game.{Item}
 use Rattle.pgn_game.specs.Text.{is_move, number_before, tokens_at, full_text}
@@ -72,9 +71,9 @@ pub record WritesItem {A E : Type 0} (mode : Option Mode) (i : Item) (text : Mov
       line new_line result d
   pub ends : MatchResult result (λ _. new_text ≡ written_text mode text i) (λ _. new_text ≡ text)
 
--- if the game is not written, the sink stays as it is
-abbrev pub LeavesSink : {S : Type 0} → Option Mode → S → S → Type 0
-LeavesSink mode sink_old sink_new = mode ≡ None → sink_new ≡ sink_old
+-- if nothing is written, the sink does not change
+abbrev pub LeavesSink : {S : Type 0} → (silent : Bool) → S → S → Type 0
+LeavesSink silent sink_old sink_new = IsTrue silent → sink_new ≡ sink_old
 
 -- the number of pairs tried before an item is written, and after
 abbrev pub TriesItem : Option Mode → Movetext → Item → ℕ → ℕ → Type 0

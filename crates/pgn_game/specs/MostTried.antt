@@ -5,7 +5,7 @@
 -- No order of search is stated. `Costs` says how many pairs find the move of a text, and
 -- `MarkPairs` of `chess_text` how many find the mark of its SAN. Both are exact, unless a form has
 -- more than one legal move, or a check is no mate.
--- Letters: q says whether the reader is silent, p is the profile, b the progress, k the kind of a token, s the text of a symbol, i an
+-- Letters: p is the profile, b the progress, k the kind of a token, s the text of a symbol, i an
 -- item, t a token, ts are tokens, n and m are numbers of pairs.
 use Rattle.std.specs.Prelude.{◌≡◌, ℕ, ◌+◌, max, Bool, true, false, ◌&&◌, ◌||◌, not, List, [], ◌∷◌, ◌==◌, length, drop, Option, None, Some}
 use Rattle.chess_rules.specs.declared.position.Parts.{Parts}
@@ -42,7 +42,7 @@ CostsToFind part (tokens.symbol s) n = CostsIf (is_sought part s) (position_in p
 CostsToFind part k n = n ≡ 0
 
 -- Whether an item at this depth is written by a mode: in the reduced format only a move outside
--- variations (PGN 3.2.4). By none nothing is.
+-- variations (PGN 3.2.4). Without a mode nothing is written.
 abbrev pub is_written : Option Mode → ℕ → Item → Bool
 is_written None deep i = false
 is_written (Some Full) deep i = true
@@ -71,32 +71,32 @@ CostsUnlessRefused (Some reason) mode deep here items n m = m ≡ n
 
 -- For a token after a part n pairs are tried: first to find its move, then, unless the token is
 -- rejected, to write it.
-pub record Tries (q : Bool) (p : Profile) (part : Part) (k : Kind) (n : ℕ) : Type 0 where
+pub record Tries (silent : Bool) (p : Profile) (part : Part) (k : Kind) (n : ℕ) : Type 0 where
   pub found : ℕ
   pub finds : CostsToFind part k found
-  pub writes : CostsUnlessRefused (refusal p part k) (mode_unless q p.mode)
+  pub writes : CostsUnlessRefused (refusal p part k) (mode_unless silent p.mode)
       (depth (levels_of_part part)) (position_in part) (added part (next part k)) found n
 
 -- The same for a token whose text could not be written: its pairs were tried before that. But if
 -- movetext begins with it, the tag section is written first, and that may be what failed. Then no
 -- pair was tried to write the token, so two numbers are possible.
-pub data TriesUnwritten (q : Bool) (p : Profile) (part : Part) (k : Kind) (n : ℕ) : Type 0 where
-  at_token : Tries q p part k n → TriesUnwritten q p part k n
-  in_section : is_at InMovetext part ≡ false → CostsToFind part k n → TriesUnwritten q p part k n
+pub data TriesUnwritten (silent : Bool) (p : Profile) (part : Part) (k : Kind) (n : ℕ) : Type 0 where
+  at_token : Tries silent p part k n → TriesUnwritten silent p part k n
+  in_section : is_at InMovetext part ≡ false → CostsToFind part k n → TriesUnwritten silent p part k n
 
 -- The most pairs that are tried for one of these tokens, which are read after this progress. No
 -- token is read after the first that is rejected.
-pub data MostFrom (q : Bool) (p : Profile) : Progress → List Token → ℕ → Type 0 where
-  none : (b : Progress) → MostFrom q p b [] 0
+pub data MostFrom (silent : Bool) (p : Profile) : Progress → List Token → ℕ → Type 0 where
+  none : (b : Progress) → MostFrom silent p b [] 0
   refused : (b : Progress) (t : Token) (ts : List Token) (n : ℕ) (reason : Reason)
-      → refusal p b.part t.kind ≡ Some reason → Tries q p b.part t.kind n → MostFrom q p b (t ∷ ts) n
+      → refusal p b.part t.kind ≡ Some reason → Tries silent p b.part t.kind n → MostFrom silent p b (t ∷ ts) n
   passes : (b : Progress) (t : Token) (ts : List Token) (n most : ℕ) → refusal p b.part t.kind ≡ None
-      → Tries q p b.part t.kind n → MostFrom q p (progress_after b t) ts most
-      → MostFrom q p b (t ∷ ts) (max n most)
+      → Tries silent p b.part t.kind n → MostFrom silent p (progress_after b t) ts most
+      → MostFrom silent p b (t ∷ ts) (max n most)
 
 -- the most pairs that are tried for one of these tokens, which are read from the start on
-abbrev pub MostTried : Bool → Profile → List Token → ℕ → Type 0
-MostTried q p ts most = MostFrom q p no_progress ts most
+abbrev pub MostTried : (silent : Bool) → Profile → List Token → ℕ → Type 0
+MostTried silent p ts most = MostFrom silent p no_progress ts most
 
 -- `old` is the most before a token, and `new` with it
 pub record Raises (IsTried : ℕ → Type 0) (old new : ℕ) : Type 0 where

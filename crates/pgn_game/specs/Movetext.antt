@@ -99,19 +99,20 @@ abbrev pub ends_in_move : Bool → List Placed → Bool
 ends_in_move is_after_move [] = is_after_move
 ends_in_move is_after_move (i ∷ is) = ends_in_move (is_move i.item) is
 
--- The line held is the last one of the tokens of these items, as the mode writes them.
-pub record HoldsLine (mode : Mode) (start : Parts) (items : List Item) (is_after_move : Bool) (line : List ℕ) : Type 0 where
-  pub is_after_move : is_after_move ≡ ends_in_move false (written_items mode (placed_from start first_level items))
+-- What is held of the text of these items by this mode: whether a move was written last, and the
+-- last line.
+pub record HoldsLine (mode : Mode) (start : Parts) (items : List Item) (after_move : Bool) (line : List ℕ) : Type 0 where
+  pub is_after_move : after_move ≡ ends_in_move false (written_items mode (placed_from start first_level items))
   pub tokens : All IsToken (tokens_out mode start items)
   pub last : line ≡ last_line (lines_of (tokens_out mode start items))
 
--- the same, unless nothing is written: then no line is held
+-- the same; without a mode the line is empty
 abbrev pub HoldsLineOf : Option Mode → Parts → List Item → Bool → List ℕ → Type 0
 HoldsLineOf (Some mode) start items is_after_move line = HoldsLine mode start items is_after_move line
 HoldsLineOf None start items is_after_move line = line ≡ []
 
 -- The current movetext is that of these items, of a game that begins with this position. The line
--- held is that of the mode by which it is written, if it is written.
+-- held is the last one by this mode; without a mode it is empty.
 pub record HoldsItems (mode : Option Mode) (start : Parts) (items : List Item) (text : Movetext) (line : List ℕ) : Type 0 where
   pub levels : text.levels ≡ stored_levels start (levels_of items)
   pub plies : text.plies ≡ length (main_moves items)

@@ -25,8 +25,8 @@ use Rattle.pgn_game.specs.Progress.{Next, going, whole, next}
 use Rattle.pgn_game.specs.Due.{gain}
 use Rattle.pgn_game.specs.MostTried.{Raises, Tries, TriesUnwritten}
 
--- How a reader writes: with the marker that `tell` gave for a missing Result of the game, if it gave
--- one (`told`), or nothing at all.
+-- How a reader writes. `told` is the marker that `tell` gave for a missing Result, if it gave one.
+-- If `is_silent`, nothing is written.
 pub record Writing : Type 0 where
   pub told : Option (List ℕ)
   pub is_silent : Bool
@@ -43,7 +43,7 @@ pub record ReaderState : Type 0 where
   pub most_probes : ℕ
   pub line : List ℕ
 
--- the mode by which the reader writes; none if it is silent
+-- the mode by which the reader writes; a silent one has none
 abbrev pub mode_written : ReaderState → Option Mode
 mode_written reading = mode_unless reading.writing.is_silent reading.profile.mode
 
@@ -55,13 +55,12 @@ telling marker reading = record reading { writing = record reading.writing { tol
 abbrev pub silenced : ReaderState → ReaderState
 silenced reading = record reading { writing = record reading.writing { is_silent = true } }
 
--- the sink of a reader, before a call and after it
+-- the sink of a reader before a call and after it, as the contracts see it
 abbrev pub sink_of : {S : Type 0} → ReaderState → (S → Option (List ℕ)) → (S → ℕ) → S → S → Device
-sink_of reading bytes failures old new = seen (mode_written reading) (device bytes failures old new)
+sink_of reading bytes failures old new = seen reading.writing.is_silent (device bytes failures old new)
 
--- A call leaves how much is written as it was. A silent reader leaves the sink as it is.
-pub record StaysSilent {S : Type 0} (old new : ReaderState) (sink_old sink_new : S) : Type 0 where
-  pub mode : mode_written new ≡ mode_written old
+-- A call leaves the reader silent or not, as it was. If it is silent, the sink does not change.
+pub record KeepsSilence {S : Type 0} (old new : ReaderState) (sink_old sink_new : S) : Type 0 where
   pub silent : new.writing.is_silent ≡ old.writing.is_silent
   pub untouched : IsTrue old.writing.is_silent → sink_new ≡ sink_old
 

@@ -65,9 +65,9 @@ pub record HasGiven (q : Profile) (left_old left_now : Option (List ℕ)) (r : R
   pub come : HasCome left_old left_now r given
   pub has_read : HasRead q r.converter given
 
--- What `write_nothing` does to a reading that has read no token yet: it still has read none.
-abbrev pub WritesNoneOfReading : Reading → Reading → Type 0
-WritesNoneOfReading old new =
+-- If no token was read before `write_nothing`, none is read after it.
+abbrev pub StillGivenNone : Reading → Reading → Type 0
+StillGivenNone old new =
     (q : Profile) (left_old left_now : Option (List ℕ)) → HasGiven q left_old left_now old [] → HasGiven q left_old left_now new []
 
 -- The reading has met no fault, and has not read the end of the text.

@@ -7,9 +7,9 @@ ghost use Rattle.pgn_game.specs.Checked.{checked_profile};
 ghost use Rattle.pgn_game.specs.CheckedConversion.{TwoReadingsConvert, TwoReadingsCount};
 ghost use Rattle.pgn_game.specs.GamesSteps.{CountsReading};
 ghost use Rattle.pgn_game.specs.Markers.{marker_text};
-ghost use Rattle.pgn_game.specs.Readings.{GoesOn, HasGiven, IsGoing, IsReadyToEnd, ReadsGame, WritesNoneOfReading};
+ghost use Rattle.pgn_game.specs.Readings.{GoesOn, HasGiven, IsGoing, IsReadyToEnd, ReadsGame, StillGivenNone};
 ghost use Rattle.pgn_game.specs.Readings.{ReadsUpToMarker, WritesGame, as_changed, no_sink};
-ghost use Rattle.pgn_game.specs.ReaderState.{StaysSilent, as_written, mode_written, sink_of, whole_plies};
+ghost use Rattle.pgn_game.specs.ReaderState.{KeepsSilence, as_written, mode_written, sink_of, whole_plies};
 ghost use Rattle.pgn_game.specs.Written.{bytes_seen};
 ghost use Rattle.pgn_game.specs.Size.{HoldsTwice};
 
@@ -125,7 +125,7 @@ impl<const T: usize, const L: usize> Reading<T, L> {
     // From now on nothing is written.
     fn write_nothing(&mut self)
         requires going { IsGoing self.old }
-        ensures given { WritesNoneOfReading self.old self.new }
+        ensures given { StillGivenNone self.old self.new }
         ensures going { IsGoing self.new }
         ensures silent { self.new.converter.reading.writing.is_silent ≡ true }
     {
@@ -188,12 +188,12 @@ impl<const T: usize, const L: usize> Reading<T, L> {
     ) -> Result<(), Fault>
         requires going { IsGoing self.old }
         ensures writes { WritesGame (R.left source.old) (R.left source.new) self.old mark self.new
-            result (bytes_seen (mode_written self.old.converter.reading) (W.taken out.old))
-            (bytes_seen (mode_written self.old.converter.reading) (W.taken out.new)) }
+            result (bytes_seen self.old.converter.reading.writing.is_silent (W.taken out.old))
+            (bytes_seen self.old.converter.reading.writing.is_silent (W.taken out.new)) }
         ensures going { OnOk result (IsGoing self.new) }
         ensures counted { CountsReading result (device R.left R.failures source.old source.new)
             (sink_of self.old.converter.reading W.taken W.failures out.old out.new) }
-        ensures silent { StaysSilent self.old.converter.reading self.new.converter.reading out.old
+        ensures silent { KeepsSilence self.old.converter.reading self.new.converter.reading out.old
             out.new }
     {
         tokens_rise();
@@ -221,8 +221,8 @@ impl<const T: usize, const L: usize> Reading<T, L> {
     ) -> Result<Option<Mark>, Fault>
         requires going { IsGoing self.old }
         ensures reads { ReadsUpToMarker (R.left source.old) (R.left source.new) self.old self.new
-            result (bytes_seen (mode_written self.old.converter.reading) (W.taken out.old))
-            (bytes_seen (mode_written self.old.converter.reading) (W.taken out.new)) }
+            result (bytes_seen self.old.converter.reading.writing.is_silent (W.taken out.old))
+            (bytes_seen self.old.converter.reading.writing.is_silent (W.taken out.new)) }
         ensures ready { IfOk result (λ marker. IfSome marker (λ mark. IsReadyToEnd self.new)) }
         ensures games { self.new.converter.games ≡ self.old.converter.games }
         ensures written { as_written self.new.converter.reading
@@ -231,7 +231,7 @@ impl<const T: usize, const L: usize> Reading<T, L> {
             ≤ self.new.converter.reading.most_probes }
         ensures counted { CountsReading result (device R.left R.failures source.old source.new)
             (sink_of self.old.converter.reading W.taken W.failures out.old out.new) }
-        ensures silent { StaysSilent self.old.converter.reading self.new.converter.reading out.old
+        ensures silent { KeepsSilence self.old.converter.reading self.new.converter.reading out.old
             out.new }
     {
         if self.has_ended {

@@ -73,9 +73,11 @@ pub fn convert<const T: usize, const L: usize, R: Source, W: Sink>(
 
 /// Reads the games that the source gives, as `convert` does, and writes nothing.
 ///
+/// `Totals::most_probes` counts only the pairs that are tried to find moves.
+///
 /// # Errors
 ///
-/// Those of `convert`, but for `Reason::WriteFault`.
+/// As `convert`, except that no write can fail.
 ///
 /// # Examples
 ///
@@ -114,8 +116,8 @@ fn convert_all<const T: usize, const L: usize, R: Source, W: Sink>(
     ensures converts { (p : Profile) → Stands p converter.old [] None []
         → AfterConversion converter.old.reading.writing.is_silent p
         (R.left reader.old) (R.left reader.new) result
-        (bytes_seen (mode_written converter.old.reading) (W.taken writer.old))
-        (bytes_seen (mode_written converter.old.reading) (W.taken writer.new)) }
+        (bytes_seen converter.old.reading.writing.is_silent (W.taken writer.old))
+        (bytes_seen converter.old.reading.writing.is_silent (W.taken writer.new)) }
     ensures counted { CountsResult result (device R.left R.failures reader.old reader.new)
         (sink_of converter.old.reading W.taken W.failures writer.old writer.new) }
 {
@@ -160,6 +162,15 @@ pub fn convert_slice<const T: usize, const L: usize, W: Sink>(
 /// # Errors
 ///
 /// As `check`, except that no read can fail.
+///
+/// # Examples
+///
+/// ```
+/// use pgn_game::{Mode, Reason, check_slice};
+///
+/// let fault = check_slice::<64, 33>(b"e4 e5 Ke3 *", Mode::Full).err().unwrap();
+/// assert_eq!((fault.at, fault.reason), (6, Reason::IllegalMove));
+/// ```
 pub fn check_slice<const T: usize, const L: usize>(
     text: &[u8],
     mode: Mode,
@@ -184,8 +195,8 @@ fn convert_text<const T: usize, const L: usize, W: Sink>(
     requires no_fault { converter.old.fault ≡ None }
     ensures converts { (p : Profile) → Stands p converter.old [] None []
         → AfterSlice converter.old.reading.writing.is_silent p text.now result
-        (bytes_seen (mode_written converter.old.reading) (W.taken writer.old))
-        (bytes_seen (mode_written converter.old.reading) (W.taken writer.new)) }
+        (bytes_seen converter.old.reading.writing.is_silent (W.taken writer.old))
+        (bytes_seen converter.old.reading.writing.is_silent (W.taken writer.new)) }
     ensures counted { CountsSink result
         (sink_of converter.old.reading W.taken W.failures writer.old writer.new) }
 {

@@ -1,6 +1,6 @@
 //! Converts games in pieces of any length.
 ghost use Rattle.std.specs.Prelude.{◌≡◌, ◌+◌, ◌-◌, ◌*◌, ◌≤◌, ◌<◌, ◌^◌, [], false};
-ghost use Rattle.std.specs.Prelude.{None, Some, Ok, Err, is_ok, IfOk, IfSome, OnOk, OnErr, length, take};
+ghost use Rattle.std.specs.Prelude.{None, Some, Ok, Err, IsTrue, is_ok, IfOk, IfSome, OnOk, OnErr, length, take};
 ghost use Rattle.std.specs.Option.{option_copied};
 ghost use Rattle.pgn_layout.specs.Device.{device};
 ghost use Rattle.pgn_lexer.specs.Standing.{waiting};
@@ -21,8 +21,8 @@ ghost use Rattle.pgn_game.specs.ConverterCalls.{used_of, finished_game_value};
 ghost use Rattle.pgn_game.specs.ConverterCalls.{finished_game_plies, finished_game_position};
 ghost use Rattle.pgn_game.specs.ConverterCalls.{refused_position};
 ghost use Rattle.pgn_game.specs.ConverterCalls.{CountsMissingAs, counting_missing_as};
-ghost use Rattle.pgn_game.specs.ReaderState.{StaysSilent, as_written, sink_of, whole_plies};
-ghost use Rattle.pgn_game.specs.ConverterCalls.{WritesNothing, writing_nothing};
+ghost use Rattle.pgn_game.specs.ReaderState.{KeepsSilence, as_written, sink_of, whole_plies};
+ghost use Rattle.pgn_game.specs.ConverterCalls.{NoWriteFails, StillStands, writing_nothing};
 
 use crate::marker::{Mark, Marker, MissingResult};
 use crate::mode::Mode;
@@ -198,12 +198,12 @@ impl<const T: usize, const L: usize> Converter<T, L> {
             .count_missing_result_as(MissingResult::CountsAs(marker));
     }
 
-    /// From now on nothing is written: no call touches its sink.
+    /// From now on no call touches its sink.
     ///
-    /// All else stays: games and plies, tags, positions, and faults with their places, but for
-    /// `Reason::WriteFault`, which no call returns. `most_probes` counts only the pairs that are
-    /// tried to find moves, at most 8 for each. Call this before the first byte is fed: nothing is
-    /// ensured of games that had begun by then.
+    /// Games, plies, tags, positions and faults with their places are those of a converter that
+    /// writes. But no call returns `Reason::WriteFault`, unless one did before. `most_probes`
+    /// counts only the pairs that are tried to find moves, at most 8 for each. Call this before the
+    /// first byte is fed: nothing else is ensured of a game that had begun.
     ///
     /// # Examples
     ///
@@ -219,7 +219,7 @@ impl<const T: usize, const L: usize> Converter<T, L> {
     /// ```
     pub fn write_nothing(&mut self)
         ensures only_switch { self.new ≡ writing_nothing self.old }
-        ensures stands { WritesNothing self.old self.new }
+        ensures stands { StillStands self.old self.new }
     {
         self.reader.write_nothing();
     }
@@ -272,7 +272,9 @@ impl<const T: usize, const L: usize> Converter<T, L> {
         ensures again { Again self.old self.new result out.old out.new }
         ensures counted { self.old.fault ≡ None
             → CountsFault result (sink_of self.old.reading W.taken W.failures out.old out.new) }
-        ensures silent { StaysSilent self.old.reading self.new.reading out.old out.new }
+        ensures silent { KeepsSilence self.old.reading self.new.reading out.old out.new }
+        ensures no_write_fails { IsTrue self.old.reading.writing.is_silent → self.old.fault ≡ None
+            → NoWriteFails result }
     {
         match self.feed_to_marker(piece, out)? {
             Reached::All => Ok(Fed::All),
@@ -315,7 +317,7 @@ impl<const T: usize, const L: usize> Converter<T, L> {
         ensures again { Again self.old self.new result out.old out.new }
         ensures counted { self.old.fault ≡ None
             → CountsFault result (sink_of self.old.reading W.taken W.failures out.old out.new) }
-        ensures silent { StaysSilent self.old.reading self.new.reading out.old out.new }
+        ensures silent { KeepsSilence self.old.reading self.new.reading out.old out.new }
     {
         if let Some(fault) = self.fault {
             return Err(fault);
@@ -353,7 +355,7 @@ impl<const T: usize, const L: usize> Converter<T, L> {
         ensures written { as_written self.new.reading ≡ as_written self.old.reading }
         ensures probes { self.old.reading.most_probes ≤ self.new.reading.most_probes }
         ensures counted { CountsFault result (sink_of self.old.reading W.taken W.failures out.old out.new) }
-        ensures silent { StaysSilent self.old.reading self.new.reading out.old out.new }
+        ensures silent { KeepsSilence self.old.reading self.new.reading out.old out.new }
     {
         let Mark { marker, at } = mark;
         match self.reader.end_game(marker, out) {
@@ -382,7 +384,7 @@ impl<const T: usize, const L: usize> Converter<T, L> {
         ensures not_finished { self.new.is_finished ≡ false }
         ensures fault { KeepsFault self.new result }
         ensures counted { CountsFault result (sink_of self.old.reading W.taken W.failures out.old out.new) }
-        ensures silent { StaysSilent self.old.reading self.new.reading out.old out.new }
+        ensures silent { KeepsSilence self.old.reading self.new.reading out.old out.new }
     {
         let mut at = 0;
         loop {
@@ -413,7 +415,9 @@ impl<const T: usize, const L: usize> Converter<T, L> {
         ensures again { Again self.old self.new result out.old out.new }
         ensures counted { self.old.fault ≡ None
             → CountsFault result (sink_of self.old.reading W.taken W.failures out.old out.new) }
-        ensures silent { StaysSilent self.old.reading self.new.reading out.old out.new }
+        ensures silent { KeepsSilence self.old.reading self.new.reading out.old out.new }
+        ensures no_write_fails { IsTrue self.old.reading.writing.is_silent → self.old.fault ≡ None
+            → NoWriteFails result }
     {
         if let Some(fault) = self.fault {
             return Err(fault);
@@ -456,7 +460,7 @@ impl<const T: usize, const L: usize> Converter<T, L> {
         ensures none_just_finished { self.new.just_finished ≡ None }
         ensures probes { self.old.reading.most_probes ≤ self.new.reading.most_probes }
         ensures counted { CountsFault result (sink_of self.old.reading W.taken W.failures out.old out.new) }
-        ensures silent { StaysSilent self.old.reading self.new.reading out.old out.new }
+        ensures silent { KeepsSilence self.old.reading self.new.reading out.old out.new }
     {
         self.has_finished_game = false;
         loop {
@@ -617,7 +621,7 @@ impl<const T: usize, const L: usize> Converter<T, L> {
         ensures none_just_finished { self.new.just_finished ≡ None }
         ensures probes { self.old.reading.most_probes ≤ self.new.reading.most_probes }
         ensures counted { CountsFault result (sink_of self.old.reading W.taken W.failures out.old out.new) }
-        ensures silent { StaysSilent self.old.reading self.new.reading out.old out.new }
+        ensures silent { KeepsSilence self.old.reading self.new.reading out.old out.new }
     {
         self.has_finished_game = false;
         let mut at = 0;
@@ -646,7 +650,7 @@ impl<const T: usize, const L: usize> Converter<T, L> {
         requires not_finished { self.old.is_finished ≡ false }
         ensures steps { Steps self.old piece.now self.new result.used result.outcome
             (sink_of self.old.reading W.taken W.failures out.old out.new) }
-        ensures silent { StaysSilent self.old.reading self.new.reading out.old out.new }
+        ensures silent { KeepsSilence self.old.reading self.new.reading out.old out.new }
     {
         if piece.len() < SHORTEST_PIECE || !self.reader.is_in_movetext() {
             return self.step_token(piece, out);
@@ -666,7 +670,7 @@ impl<const T: usize, const L: usize> Converter<T, L> {
         requires not_finished { self.old.is_finished ≡ false }
         ensures steps { Steps self.old piece.now self.new result.used result.outcome
             (sink_of self.old.reading W.taken W.failures out.old out.new) }
-        ensures silent { StaysSilent self.old.reading self.new.reading out.old out.new }
+        ensures silent { KeepsSilence self.old.reading self.new.reading out.old out.new }
     {
         let Step { used, outcome } = self.run_movetext(piece, out);
         Step { used, outcome }
@@ -685,7 +689,7 @@ impl<const T: usize, const L: usize> Converter<T, L> {
         requires not_finished { self.old.is_finished ≡ false }
         ensures steps { Steps self.old piece.now self.new result.used result.outcome
             (sink_of self.old.reading W.taken W.failures out.old out.new) }
-        ensures silent { StaysSilent self.old.reading self.new.reading out.old out.new }
+        ensures silent { KeepsSilence self.old.reading self.new.reading out.old out.new }
     {
         let mut used = 0;
         while used < piece.len() {
@@ -721,7 +725,7 @@ impl<const T: usize, const L: usize> Converter<T, L> {
         requires not_finished { self.old.is_finished ≡ false }
         ensures steps { Steps self.old piece.now self.new result.used result.outcome
             (sink_of self.old.reading W.taken W.failures out.old out.new) }
-        ensures silent { StaysSilent self.old.reading self.new.reading out.old out.new }
+        ensures silent { KeepsSilence self.old.reading self.new.reading out.old out.new }
     {
         let (used, token) = self.lexer.whole_token(piece, false);
         let Some(token) = token else {
@@ -756,7 +760,7 @@ impl<const T: usize, const L: usize> Converter<T, L> {
         requires not_finished { self.old.is_finished ≡ false }
         ensures steps { Steps self.old piece.now self.new result.used result.outcome
             (sink_of self.old.reading W.taken W.failures out.old out.new) }
-        ensures silent { StaysSilent self.old.reading self.new.reading out.old out.new }
+        ensures silent { KeepsSilence self.old.reading self.new.reading out.old out.new }
     {
         let scan = self.lexer.read_on(piece);
         let used = scan.used;
@@ -798,7 +802,7 @@ impl<const T: usize, const L: usize> Converter<T, L> {
         ensures none_just_finished { self.new.just_finished ≡ None }
         ensures finished { self.new.is_finished ≡ is_ended result }
         ensures counted { CountsFault result (sink_of self.old.reading W.taken W.failures out.old out.new) }
-        ensures silent { StaysSilent self.old.reading self.new.reading out.old out.new }
+        ensures silent { KeepsSilence self.old.reading self.new.reading out.old out.new }
     {
         match self.lexer.finish() {
             // Never: `finish` gives a token or a fault.

@@ -1,15 +1,15 @@
 //! Games one at a time, from a source.
-ghost use Rattle.std.specs.Prelude.{◌≡◌, ◌+◌, ◌-◌, ◌<◌, ◌≤◌, ◌^◌, ℕ, List, [], Option, true, false, None, Ok, OnOk, IfOk, IfSome, length};
+ghost use Rattle.std.specs.Prelude.{◌≡◌, ◌+◌, ◌-◌, ◌<◌, ◌≤◌, ◌^◌, ℕ, List, [], Option, true, false, None, Ok, OnOk, IfOk, IfSome, IsTrue, length};
 ghost use Rattle.std.specs.Option.{option_copied};
 ghost use Rattle.pgn_layout.specs.Device.{Counts, device};
 ghost use Rattle.pgn_game.specs.ConverterCalls.{CountsFault, KeepsFault, profile_of};
 ghost use Rattle.pgn_game.specs.ConverterCalls.{finished_game_value, finished_game_plies, finished_game_position};
-ghost use Rattle.pgn_game.specs.ConverterCalls.{writing_nothing};
-ghost use Rattle.pgn_game.specs.GamesCalls.{WritesNoGame};
+ghost use Rattle.pgn_game.specs.ConverterCalls.{NoWriteFails, writing_nothing};
+ghost use Rattle.pgn_game.specs.GamesCalls.{StillReadNone};
 ghost use Rattle.pgn_game.specs.GamesCalls.{HaveRead, ReadsNext, NextAgain, NextAtEnd, CountsNext, games_of, most_left};
 ghost use Rattle.pgn_game.specs.GamesSteps.{CountsReading, MoreResult, ReadsToMarker, RestResult};
 ghost use Rattle.pgn_game.specs.ConverterSteps.{IsReady};
-ghost use Rattle.pgn_game.specs.ReaderState.{StaysSilent, as_written, sink_of};
+ghost use Rattle.pgn_game.specs.ReaderState.{KeepsSilence, as_written, sink_of};
 
 use crate::converter::{Converter, Reached};
 use crate::marker::Mark;
@@ -69,12 +69,12 @@ impl<const T: usize, const L: usize> Games<T, L> {
         }
     }
 
-    /// From now on nothing is written, as after `Converter::write_nothing`.
+    /// From now on no call touches its sink, as after `Converter::write_nothing`.
     ///
-    /// Call this before the first game is read.
+    /// Call this before the first game is read: nothing else is ensured of a game that had begun.
     pub fn write_nothing(&mut self)
         ensures only_switch { self.new ≡ games_of (writing_nothing self.old.converter) self.old.unused }
-        ensures begins { WritesNoGame self.old self.new }
+        ensures begins { StillReadNone self.old self.new }
     {
         self.converter.write_nothing();
     }
@@ -104,7 +104,9 @@ impl<const T: usize, const L: usize> Games<T, L> {
         ensures counted { self.old.converter.fault ≡ None
             → CountsNext result (device R.left R.failures source.old source.new)
             (sink_of self.old.converter.reading W.taken W.failures out.old out.new) }
-        ensures silent { StaysSilent self.old.converter.reading self.new.converter.reading out.old out.new }
+        ensures silent { KeepsSilence self.old.converter.reading self.new.converter.reading out.old out.new }
+        ensures no_write_fails { IsTrue self.old.converter.reading.writing.is_silent
+            → self.old.converter.fault ≡ None → NoWriteFails result }
     {
         next_game(&mut self.converter, &mut self.buffer, source, out)
     }
@@ -179,7 +181,7 @@ pub(crate) fn next_game<const T: usize, const L: usize, R: Source, W: Sink>(
     ensures counted { converter.old.fault ≡ None
         → CountsNext result (device R.left R.failures source.old source.new)
         (sink_of converter.old.reading W.taken W.failures out.old out.new) }
-    ensures silent { StaysSilent converter.old.reading converter.new.reading out.old out.new }
+    ensures silent { KeepsSilence converter.old.reading converter.new.reading out.old out.new }
 {
     if let Some(fault) = converter.fault() {
         return Err(fault);
@@ -209,7 +211,7 @@ fn read_game<const T: usize, const L: usize, R: Source, W: Sink>(
     ensures fault { KeepsFault converter.new result }
     ensures counted { CountsNext result (device R.left R.failures source.old source.new)
         (sink_of converter.old.reading W.taken W.failures out.old out.new) }
-    ensures silent { StaysSilent converter.old.reading converter.new.reading out.old out.new }
+    ensures silent { KeepsSilence converter.old.reading converter.new.reading out.old out.new }
 {
     match next_marker(converter, buffer, source, out)? {
         Some(mark) => {
@@ -244,7 +246,7 @@ pub(crate) fn next_marker<const T: usize, const L: usize, R: Source, W: Sink>(
     ensures probes { converter.old.reading.most_probes ≤ converter.new.reading.most_probes }
     ensures counted { CountsReading result (device R.left R.failures source.old source.new)
         (sink_of converter.old.reading W.taken W.failures out.old out.new) }
-    ensures silent { StaysSilent converter.old.reading converter.new.reading out.old out.new }
+    ensures silent { KeepsSilence converter.old.reading converter.new.reading out.old out.new }
 {
     loop {
         if let Some(mark) = feed_rest(converter, buffer, out)? {
@@ -277,8 +279,9 @@ fn feed_rest<const T: usize, const L: usize, W: Sink>(
     ensures games { converter.new.games ≡ converter.old.games }
     ensures none_just_finished { OnOk result (converter.new.just_finished ≡ None) }
     ensures probes { converter.old.reading.most_probes ≤ converter.new.reading.most_probes }
-    ensures counted { CountsFault result (device W.taken W.failures out.old out.new) }
-    ensures silent { StaysSilent converter.old.reading converter.new.reading out.old out.new }
+    ensures counted { CountsFault result
+        (sink_of converter.old.reading W.taken W.failures out.old out.new) }
+    ensures silent { KeepsSilence converter.old.reading converter.new.reading out.old out.new }
 {
     match converter.feed_to_marker(buffer.unused(), out)? {
         Reached::All => {

@@ -5,7 +5,7 @@ ghost use Rattle.pgn_game.specs.Chess.{first_position};
 ghost use Rattle.pgn_game.specs.Game as games;
 ghost use Rattle.pgn_game.specs.Movetext.{movetext_from, movetext_after_fen};
 ghost use Rattle.pgn_game.specs.TokenInMovetext.{IsLegal, ItemFits, model_item};
-ghost use Rattle.pgn_game.specs.Written.{mode_of_written, seen};
+ghost use Rattle.pgn_game.specs.Written.{is_nothing, mode_of_written, seen};
 ghost use Rattle.pgn_game.specs.MostTried.{CostsToWrite, is_written};
 ghost use Rattle.chess_rules.specs.declared.position.Move.{Move as MoveSeen};
 ghost use Rattle.chess_rules.specs.Legal.{is_legal};
@@ -117,8 +117,8 @@ impl<const L: usize> Movetext<L> {
         requires few { self.old.plies < 2 ^ 64 - 1 }
         requires room { probes.old + 1032 < 2 ^ 32 }
         ensures adds { Adds (mode_of_written written) (games.move mv.now) self.old line.old self.new
-            line.new result (seen (mode_of_written written) (device W.taken W.failures out.old out.new)) }
-        ensures silent { LeavesSink (mode_of_written written) out.old out.new }
+            line.new result (seen (is_nothing written) (device W.taken W.failures out.old out.new)) }
+        ensures silent { LeavesSink (is_nothing written) out.old out.new }
         ensures probes { Rises probes.old probes.new }
         ensures tried { TriesItem (mode_of_written written) self.old (games.move mv.now) probes.old
             probes.new }
@@ -142,8 +142,8 @@ impl<const L: usize> Movetext<L> {
     ) -> Result<(), WriteFault>
         requires { ItemFits L self.old item.now }
         ensures adds { Adds (mode_of_written written) (model_item item.now) self.old line.old self.new
-            line.new result (seen (mode_of_written written) (device W.taken W.failures out.old out.new)) }
-        ensures silent { LeavesSink (mode_of_written written) out.old out.new }
+            line.new result (seen (is_nothing written) (device W.taken W.failures out.old out.new)) }
+        ensures silent { LeavesSink (is_nothing written) out.old out.new }
     {
         self.write(written, item, line, out)?;
         self.go_on(item);
@@ -163,8 +163,8 @@ impl<const L: usize> Movetext<L> {
         requires legal { IsLegal self.old.levels.present.present played.now }
         requires room { probes.old + 1032 < 2 ^ 32 }
         ensures writes { WritesItem (mode_of_written written) (games.move played.now.mv) self.old
-            line.old self.new line.new result (seen (mode_of_written written) (device W.taken W.failures out.old out.new)) }
-        ensures silent { LeavesSink (mode_of_written written) out.old out.new }
+            line.old self.new line.new result (seen (is_nothing written) (device W.taken W.failures out.old out.new)) }
+        ensures silent { LeavesSink (is_nothing written) out.old out.new }
         ensures probes { Rises probes.old probes.new }
         ensures tried { TriesItem (mode_of_written written) self.old (games.move played.now.mv)
             probes.old probes.new }
@@ -184,8 +184,8 @@ impl<const L: usize> Movetext<L> {
             (length self.now.levels.around) (games.move m) }
     {
         match written {
-            Written::All => true,
-            Written::Main => self.levels.depth() == 0,
+            Written::Full => true,
+            Written::Reduced => self.levels.depth() == 0,
             Written::Nothing => false,
         }
     }
@@ -201,10 +201,10 @@ impl<const L: usize> Movetext<L> {
     ) -> Result<(), WriteFault>
         requires { ItemFits L self.old item.now }
         ensures writes { WritesItem (mode_of_written written) (model_item item.now) self.old line.old
-            self.new line.new result (seen (mode_of_written written) (device W.taken W.failures out.old out.new)) }
-        ensures silent { LeavesSink (mode_of_written written) out.old out.new }
+            self.new line.new result (seen (is_nothing written) (device W.taken W.failures out.old out.new)) }
+        ensures silent { LeavesSink (is_nothing written) out.old out.new }
     {
-        if written != Written::All {
+        if written != Written::Full {
             return Ok(());
         }
         self.write_tokens(item, line, out)?;

@@ -13,7 +13,7 @@ ghost use Rattle.pgn_game.specs.declared.stage.Stage.TheVariants.{AfterValue, Af
 ghost use Rattle.pgn_game.specs.Profile.{counts_as, known_result};
 ghost use Rattle.pgn_game.specs.Markers.{marker_text, missing_of};
 ghost use Rattle.pgn_game.specs.Movetext.{movetext_from};
-ghost use Rattle.pgn_game.specs.ReaderState.{CountsWrites, StaysSilent, known_of, sink_of};
+ghost use Rattle.pgn_game.specs.ReaderState.{CountsWrites, KeepsSilence, known_of, sink_of};
 ghost use Rattle.pgn_game.specs.ReaderState.{silenced, telling, whole_plies};
 ghost use Rattle.pgn_game.specs.TokenInMovetext.{ItemFits, may_have_movetext, model_item};
 ghost use Rattle.pgn_game.specs.TokenInMovetext.{fen_position as position_in_fen};
@@ -70,7 +70,7 @@ pub struct Reader<const T: usize, const L: usize> {
 }
 
 impl<const T: usize, const L: usize> Model for Reader<T, L> {
-    ghost use Rattle.std.specs.Prelude.{◌-◌, ◌≤◌, option_map};
+    ghost use Rattle.std.specs.Prelude.{◌≡◌, ◌-◌, ◌≤◌, option_map};
     ghost use Rattle.pgn_game.specs.Markers.{marker_text, missing_of};
     ghost use Rattle.pgn_game.specs.ReaderState.{ReaderState, AreSound};
     ghost use Rattle.pgn_game.specs.Written.{is_nothing, mode_of_written, mode_unless};
@@ -225,7 +225,7 @@ impl<const T: usize, const L: usize> Reader<T, L> {
         requires token { HasLength (kind_of kind) }
         ensures takes { TakesUnlessMarker self.old (kind_of kind.entry) self.new result
             (sink_of self.old W.taken W.failures out.old out.new) }
-        ensures silent { StaysSilent self.old self.new out.old out.new }
+        ensures silent { KeepsSilence self.old self.new out.old out.new }
     {
         match self.accept_outside(kind) {
             Some(result) => {
@@ -252,7 +252,7 @@ impl<const T: usize, const L: usize> Reader<T, L> {
         requires token { HasLength (kind_of kind) }
         ensures takes { TakesUnlessMarker self.old (kind_of kind.entry) self.new result
             (sink_of self.old W.taken W.failures out.old out.new) }
-        ensures silent { StaysSilent self.old self.new out.old out.new }
+        ensures silent { KeepsSilence self.old self.new out.old out.new }
     {
         self.accept_unless_marker::<W, COPIED>(kind, out)
     }
@@ -446,7 +446,7 @@ impl<const T: usize, const L: usize> Reader<T, L> {
         requires token { HasLength (kind_of kind) }
         ensures meets { MeetsEntry self.old (kind_of kind.entry) self.new result
             (sink_of self.old W.taken W.failures out.old out.new) }
-        ensures silent { StaysSilent self.old self.new out.old out.new }
+        ensures silent { KeepsSilence self.old self.new out.old out.new }
     {
         match kind {
             TokenKind::Symbol(text) => self.accept_symbol(text, out),
@@ -472,7 +472,7 @@ impl<const T: usize, const L: usize> Reader<T, L> {
         requires stage { IsTrue (may_have_movetext self.old.stage) }
         ensures meets { MeetsEntry self.old (symbol text.now) self.new result
             (sink_of self.old W.taken W.failures out.old out.new) }
-        ensures silent { StaysSilent self.old self.new out.old out.new }
+        ensures silent { KeepsSilence self.old self.new out.old out.new }
     {
         if may_be_score_or_number(text) {
             if is_number(text) {
@@ -496,7 +496,7 @@ impl<const T: usize, const L: usize> Reader<T, L> {
         requires score { spec.is_score text.now ≡ false }
         ensures takes { TakesEntry self.old (symbol text.now) self.new (continued result)
             (sink_of self.old W.taken W.failures out.old out.new) }
-        ensures silent { StaysSilent self.old self.new out.old out.new }
+        ensures silent { KeepsSilence self.old self.new out.old out.new }
     {
         let mut probes = Probes::new();
         match self.find(text, &mut probes) {
@@ -540,7 +540,7 @@ impl<const T: usize, const L: usize> Reader<T, L> {
         requires { IsTrue (may_have_movetext self.old.stage) }
         ensures takes { TakesEntry self.old left_paren self.new (continued result)
             (sink_of self.old W.taken W.failures out.old out.new) }
-        ensures silent { StaysSilent self.old self.new out.old out.new }
+        ensures silent { KeepsSilence self.old self.new out.old out.new }
     {
         if !self.text.has_own_move() {
             return Err(Reason::NoMoveBefore);
@@ -556,7 +556,7 @@ impl<const T: usize, const L: usize> Reader<T, L> {
         requires { IsTrue (may_have_movetext self.old.stage) }
         ensures takes { TakesEntry self.old right_paren self.new (continued result)
             (sink_of self.old W.taken W.failures out.old out.new) }
-        ensures silent { StaysSilent self.old self.new out.old out.new }
+        ensures silent { KeepsSilence self.old self.new out.old out.new }
     {
         if self.text.depth() == 0 {
             return Err(Reason::UnmatchedClose);
@@ -570,7 +570,7 @@ impl<const T: usize, const L: usize> Reader<T, L> {
         requires { IsTrue (may_have_movetext self.old.stage) }
         ensures puts { PutsItems self.old [] self.new (continued result)
             (sink_of self.old W.taken W.failures out.old out.new) }
-        ensures silent { StaysSilent self.old self.new out.old out.new }
+        ensures silent { KeepsSilence self.old self.new out.old out.new }
     {
         self.begin_movetext(out)?;
         Ok(())
@@ -583,7 +583,7 @@ impl<const T: usize, const L: usize> Reader<T, L> {
         requires fits { ItemFits L self.old.text item }
         ensures puts { PutsItems self.old (model_item item.entry ∷ []) self.new (continued result)
             (sink_of self.old W.taken W.failures out.old out.new) }
-        ensures silent { StaysSilent self.old self.new out.old out.new }
+        ensures silent { KeepsSilence self.old self.new out.old out.new }
     {
         self.begin_movetext(out)?;
         self.text.put(self.written, &item, &mut self.line, out)?;
@@ -601,7 +601,7 @@ impl<const T: usize, const L: usize> Reader<T, L> {
         ensures between { OnOk result (self.new.stage ≡ Between) }
         ensures counted { CountsWrites (ended result)
             (sink_of self.old W.taken W.failures out.old out.new) }
-        ensures silent { StaysSilent self.old self.new out.old out.new }
+        ensures silent { KeepsSilence self.old self.new out.old out.new }
     {
         if self.text.depth() > 0 {
             return Err(Reason::MarkerInVariation);
@@ -629,13 +629,13 @@ impl<const T: usize, const L: usize> Reader<T, L> {
         self.stage == Stage::InMovetext
     }
 
-    // Writes the tag section, if movetext has not begun yet.
+    // Writes the tag section, if movetext has not begun yet. A silent reader writes none.
     #[inline(always)]
     fn begin_movetext<W: Sink>(&mut self, out: &mut W) -> Result<(), WriteFault>
         requires stage { IsTrue (may_have_movetext self.old.stage) }
         ensures begins { BeginsText self.old self.new result
             (sink_of self.old W.taken W.failures out.old out.new) }
-        ensures silent { StaysSilent self.old self.new out.old out.new }
+        ensures silent { KeepsSilence self.old self.new out.old out.new }
     {
         if self.is_in_movetext() {
             return Ok(());
@@ -643,13 +643,13 @@ impl<const T: usize, const L: usize> Reader<T, L> {
         self.write_tags(out)
     }
 
-    // Writes the tag section, behind which movetext begins. It is not inlined: a game has one.
+    // Writes the tag section, unless nothing is written, and movetext begins. It is not inlined: a game has one.
     #[inline(never)]
     fn write_tags<W: Sink>(&mut self, out: &mut W) -> Result<(), WriteFault>
         requires stage { self.old.stage ≡ AfterTags }
         ensures begins { BeginsText self.old self.new result
             (sink_of self.old W.taken W.failures out.old out.new) }
-        ensures silent { StaysSilent self.old self.new out.old out.new }
+        ensures silent { KeepsSilence self.old self.new out.old out.new }
     {
         if let Written::Nothing = self.written {
             self.stage = Stage::InMovetext;

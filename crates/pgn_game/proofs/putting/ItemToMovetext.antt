@@ -1,10 +1,11 @@
 -- What an item adds to the movetext that is held.
-use Rattle.pgn_game.proofs.Words.{◌≡◌, ℕ, ◌+◌, ◌<◌, ◌≤◌, Bool, true, false, List, [], ◌∷◌, ◌++◌, map, length, Option, Some, refl, sym, ap, subst, ◌∙◌, append_assoc, append-nil, arith, All, ◌==◌, IsTrue, is_some, IfSome, Result, Ok, Err, IsErr, Appends, All-nil, All-cons, All-head, All-tail, length-map, drop-append_seam, Move, legal, Device, IsToken, lines_of, full_lines, last_line, text_of as text_of_lines, Put, laid_from, text_put, line_put, Parts, Played, Mode, play, text_of_move, Item, open_variation, close_variation, Level as ModelLevel, Levels as ModelLevels, levels_after, levels_of, depth, here, outermost, main_moves, Placed, is_move, tokens_out, StoredLevels, Movetext, level_at, ClosesLevel, before_last, stored_level, stored_levels, ends_in_move, HoldsItems, ItemFits, model_item, PutsTokens, GoesOn, Plays, writes, tokens_due, tokens_if, after_move_if, plies_in, item_text, Adds, WritesItem, rules}
+use Rattle.pgn_game.proofs.Words.{◌≡◌, ℕ, ◌+◌, ◌<◌, ◌≤◌, Bool, true, false, List, [], ◌∷◌, ◌++◌, map, length, Option, None, Some, refl, sym, ap, subst, ◌∙◌, append_assoc, append-nil, arith, All, ◌==◌, IsTrue, is_some, IfSome, Result, Ok, Err, IsErr, Appends, All-nil, All-cons, All-head, All-tail, length-map, drop-append_seam, Move, legal, Device, IsToken, lines_of, full_lines, last_line, text_of as text_of_lines, Put, laid_from, text_put, line_put, Parts, Played, Mode, play, text_of_move, Item, open_variation, close_variation, Level as ModelLevel, Levels as ModelLevels, levels_after, levels_of, depth, here, outermost, main_moves, Placed, is_move, tokens_out, StoredLevels, Movetext, level_at, ClosesLevel, before_last, stored_level, stored_levels, ends_in_move, HoldsItems, HoldsLineOf, seen, is_nothing, mode_of_written, ItemFits, model_item, PutsTokens, GoesOn, Plays, is_written, tokens_due, tokens_if, after_move_if, plies_in, item_text, Adds, WritesItem, rules}
 use Rattle.std.proofs.lemmas.List.Elements.{All-append}
 use Rattle.std.proofs.Math.Dec.{eqb-suc-zero}
 use Rattle.chess_text.specs.San.{san, MarkPairs, disambiguation_pairs}
 use Rattle.pgn_layout.specs.declared.sink.WriteFault.{WriteFault}
 use Rattle.pgn_game.specs.declared.annotation.Annotation.{Annotation}
+use Rattle.pgn_game.specs.declared.mode.Written.{Written}
 use Rattle.pgn_game.specs.Game.{move}
 use Rattle.pgn_game.proofs.reading.MovetextTokens.{levels_more}
 use Rattle.pgn_game.proofs.putting.WritesInTurn.{front_of_more, Writes-append}
@@ -59,21 +60,25 @@ plies-snoc : (items : List Item) (i : Item)
     → length (main_moves (items ++ i ∷ [])) ≡ length (main_moves items) + plies_in i (depth (levels_of items))
 plies-snoc items i = cc (levels_more items i, plies_by i (levels_of items).present (levels_of items).around)
 
+same_depth : (mode : Option Mode) (start : Parts) (items : List Item) (text : Movetext) (line : List ℕ) → HoldsItems mode start items text line
+    → depth (levels_of items) ≡ length text.levels.around
+same_depth mode start items text line holds = cc (length-map (levels_of items).around (stored_level start), holds.levels)
+
 -- Whether an item is written decides its tokens, and whether a move was written last.
 module _ (mode : Mode) (start : Parts) (items : List Item) (i : Item) (text : Movetext) (line : List ℕ) (written : Bool)
-    (holds : HoldsItems mode start items text line) (is : writes mode (length text.levels.around) i ≡ written) where
+    (holds : HoldsItems (Some mode) start items text line) (is : is_written (Some mode) (length text.levels.around) i ≡ written) where
   abbrev placed : Placed
   placed = record { position = here start (levels_of items); depth = depth (levels_of items); item = i }
 
-  same_depth : depth (levels_of items) ≡ length text.levels.around
-  same_depth = cc (length-map (levels_of items).around (stored_level start))
+  same : depth (levels_of items) ≡ length text.levels.around
+  same = same_depth (Some mode) start items text line holds
 
   behind_by : (m : Mode)
-      → written_behind m start items (i ∷ []) ≡ elim (writes m (depth (levels_of items)) i) [ true ↦ placed ∷ [] | false ↦ [] ]
+      → written_behind m start items (i ∷ []) ≡ elim (is_written (Some m) (depth (levels_of items)) i) [ true ↦ placed ∷ [] | false ↦ [] ]
   behind_by m = grind arith
 
   behind_is : written_behind mode start items (i ∷ []) ≡ elim written [ true ↦ placed ∷ [] | false ↦ [] ]
-  behind_is = grind (arith, same_depth, behind_by)
+  behind_is = grind (arith, same, behind_by)
 
   tokens_are : tokens_behind mode start items (i ∷ []) ≡ tokens_if written text i
   tokens_are = grind (arith, append-nil, written_from_start, behind_is)
@@ -138,77 +143,98 @@ one_at_most true false = omega arith
 one_at_most false main = omega arith
 
 -- An item's tokens were put where it is written, and the movetext went on with it.
-module _ (mode : Mode) (i : Item) (text : Movetext) (line new_line : List ℕ) (d : Device) where
-  abbrev written : Bool
-  written = writes mode (length text.levels.around) i
+module _ (mode : Option Mode) (i : Item) (text : Movetext) (line new_line : List ℕ) (d : Device) where
+  abbrev written : Option Mode → Bool
+  written by = is_written by (length text.levels.around) i
 
-  abbrev between : Movetext
-  between = record text { is_after_move = after_move_if written text i }
+  abbrev between : Option Mode → Movetext
+  between by = record text { is_after_move = after_move_if (written by) text i }
 
-  abbrev us : List (List ℕ)
-  us = tokens_if written text i
+  abbrev us : Option Mode → List (List ℕ)
+  us by = tokens_if (written by) text i
 
-  tokens_then : (start : Parts) (items : List Item) → HoldsItems mode start items text line
-      → tokens_out mode start (items ++ i ∷ []) ≡ tokens_out mode start items ++ us
-  tokens_then start items holds = cc (tokens_more mode start items (i ∷ []), tokens_are mode start items i text line written holds refl)
+  tokens_then : (m : Mode) (start : Parts) (items : List Item) → HoldsItems (Some m) start items text line
+      → tokens_out m start (items ++ i ∷ []) ≡ tokens_out m start items ++ us (Some m)
+  tokens_then m start items holds = cc (tokens_more m start items (i ∷ []), tokens_are m start items i text line (written (Some m)) holds refl)
 
-  item_text_is : (start : Parts) (items : List Item) → HoldsItems mode start items text line → All IsToken us
-      → (laid_from line (map Put us)).written ≡ item_text mode start items i
-  item_text_is start items holds each = grind (arith, drop-append_seam, full_lines_laid, tokens_then)
+  item_text_is : (by : Option Mode) (start : Parts) (items : List Item) → HoldsItems by start items text line → All IsToken (us by)
+      → (laid_from line (map Put (us by))).written ≡ item_text by start items i
+  item_text_is None start items holds each = refl
+  item_text_is (Some m) start items holds each = grind (arith, drop-append_seam, full_lines_laid, tokens_then)
 
-  held_then : (start : Parts) (items : List Item) (new : Movetext) → HoldsItems mode start items text line → All IsToken us
-      → new_line ≡ (laid_from line (map Put us)).line → Advances i between new → HoldsItems mode start (items ++ i ∷ []) new new_line
-  held_then start items new holds each held on =
-      let ts = tokens_out mode start items in
-      let behind = written_behind mode start items (i ∷ []) in
+  line_then : (by : Option Mode) (start : Parts) (items : List Item) (new : Movetext) → HoldsItems by start items text line → All IsToken (us by)
+      → new_line ≡ (laid_from line (map Put (us by))).line → Advances i (between by) new
+      → HoldsLineOf by start (items ++ i ∷ []) new.is_after_move new_line
+  line_then None start items new holds each held on = held ∙ holds.held
+  line_then (Some m) start items new holds each held on =
+      let ts = tokens_out m start items in
+      let behind = written_behind m start items (i ∷ []) in
       record {
-        levels = cc (on.levels start (levels_of items) holds.levels, levels_more items i);
-        plies = cc (on.plies, same_depth mode start items i text line written holds refl, holds.plies, plies-snoc items i);
         is_after_move = cc (
           on.is_after_move,
-          ends_are mode start items i text line written holds refl,
-          holds.is_after_move,
-          written_more mode start items _,
-          ends_in_move-append false (written_from_start mode start items) behind,
+          ends_are m start items i text line (written (Some m)) holds refl,
+          holds.held.is_after_move,
+          written_more m start items _,
+          ends_in_move-append false (written_from_start m start items) behind,
         );
-        tokens = subst (All IsToken) (sym (tokens_then start items holds)) (All-append IsToken ts us holds.tokens each);
-        last = cc (holds.last, tokens_then start items holds, last_line_laid ts us holds.tokens each);
+        tokens = subst (All IsToken) (sym (tokens_then m start items holds)) (All-append IsToken ts (us (Some m)) holds.held.tokens each);
+        last = cc (holds.held.last, tokens_then m start items holds, last_line_laid ts (us (Some m)) holds.held.tokens each);
       }
 
-  pub adds_put : (new : Movetext) → PutsTokens {A = Unit} {E = WriteFault} us line new_line (Ok tt) d
-      → Advances i between new → Adds {A = Unit} {E = WriteFault} mode i text line new new_line (Ok tt) d
+  held_then : (start : Parts) (items : List Item) (new : Movetext) → HoldsItems mode start items text line → All IsToken (us mode)
+      → new_line ≡ (laid_from line (map Put (us mode))).line → Advances i (between mode) new → HoldsItems mode start (items ++ i ∷ []) new new_line
+  held_then start items new holds each held on =
+      record {
+        levels = cc (on.levels start (levels_of items) holds.levels, levels_more items i);
+        plies = cc (on.plies, same_depth mode start items text line holds, holds.plies, plies-snoc items i);
+        held = line_then mode start items new holds each held on;
+      }
+
+  pub adds_put : (new : Movetext) → PutsTokens {A = Unit} {E = WriteFault} (us mode) line new_line (Ok tt) d
+      → Advances i (between mode) new → Adds {A = Unit} {E = WriteFault} mode i text line new new_line (Ok tt) d
   adds_put new puts on = record {
     adds = λ start items holds. (
       held_then start items new holds puts.each puts.held on,
-      subst (Appends _ _) (item_text_is start items holds puts.each) puts.text,
+      subst (Appends _ _) (item_text_is mode start items holds puts.each) puts.text,
     );
     plies = omega (arith, on.plies, one_at_most (is_move i) (length text.levels.around == 0));
     counted = puts.counted;
   }
 
   pub adds_front : {A E : Type 0} (new : Movetext) (e : E) (result : Result Unit WriteFault)
-      → PutsTokens {A = A} us line new_line (Err e) d → new ≡ text → IsErr result → Adds mode i text line new new_line result d
+      → PutsTokens {A = A} (us mode) line new_line (Err e) d → new ≡ text → IsErr result → Adds mode i text line new new_line result d
   adds_front new e result puts same err = search (rules, item_text_is)
 
+-- an item that is written is one of a reader that writes
+pub not_silent : (w : Written) (deep : ℕ) (i : Item) → is_written (mode_of_written w) deep i ≡ true → is_nothing w ≡ false
+not_silent w deep i is = grind arith
+
 -- Such an item was written, or left out.
-pub left_out : (mode : Mode) (i : Item) (text : Movetext) (line : List ℕ) (d : Device) → writes mode (length text.levels.around) i ≡ false
+pub left_out : (mode : Option Mode) (i : Item) (text : Movetext) (line : List ℕ) (d : Device) → is_written mode (length text.levels.around) i ≡ false
     → Appends d.before d.after [] → d.failures_after ≡ d.failures
     → WritesItem {A = Unit} {E = WriteFault} mode i text line text line (Ok tt) d
 left_out mode i text line d none nothing counted = search (rules, All-nil)
 
-pub written_out : (mode : Mode) (i : Item) (text : Movetext) (line new_line : List ℕ) (d : Device)
-    → writes mode (length text.levels.around) i ≡ true → PutsTokens {A = Unit} {E = WriteFault} (tokens_due text i) line new_line (Ok tt) d
-    → WritesItem {A = Unit} {E = WriteFault} mode i text line (record text { is_after_move = is_move i }) new_line (Ok tt) d
-written_out mode i text line new_line d is puts = record {
-  puts = rw is puts;
+pub written_out : (w : Written) (i : Item) (text : Movetext) (line new_line : List ℕ) (d : Device)
+    → is_written (mode_of_written w) (length text.levels.around) i ≡ true → PutsTokens {A = Unit} {E = WriteFault} (tokens_due text i) line new_line (Ok tt) d
+    → WritesItem {A = Unit} {E = WriteFault} (mode_of_written w) i text line (record text { is_after_move = is_move i }) new_line (Ok tt) (seen (is_nothing w) d)
+written_out w i text line new_line d is puts = record {
+  puts = rw (is, not_silent w (length text.levels.around) i is) puts;
   ends = cc;
 }
 
-pub not_written : {A E : Type 0} (mode : Mode) (i : Item) (text : Movetext)
+out_of_line : {A E : Type 0} (mode : Option Mode) (i : Item) (text : Movetext)
     (line new_line : List ℕ) (e : E) (result : Result Unit WriteFault) (d : Device)
-    → writes mode (length text.levels.around) i ≡ true → PutsTokens {A = A} (tokens_due text i) line new_line (Err e) d → IsErr result
+    → is_written mode (length text.levels.around) i ≡ true → PutsTokens {A = A} (tokens_due text i) line new_line (Err e) d → IsErr result
     → WritesItem mode i text line text new_line result d
-not_written mode i text line new_line e result d is puts err = search rules
+out_of_line mode i text line new_line e result d is puts err = search rules
+
+pub not_written : {A E : Type 0} (w : Written) (i : Item) (text : Movetext)
+    (line new_line : List ℕ) (e : E) (result : Result Unit WriteFault) (d : Device)
+    → is_written (mode_of_written w) (length text.levels.around) i ≡ true → PutsTokens {A = A} (tokens_due text i) line new_line (Err e) d → IsErr result
+    → WritesItem (mode_of_written w) i text line text new_line result (seen (is_nothing w) d)
+not_written w i text line new_line e result d is puts err =
+    rw (not_silent w (length text.levels.around) i is) (out_of_line (mode_of_written w) i text line new_line e result d is puts err)
 
 -- Tokens put after others.
 laid-written : (line : List ℕ) (xs ys : List (List ℕ)) → (laid_from line (map Put (xs ++ ys))).written

@@ -1,5 +1,5 @@
 -- What putting a token of movetext adds to what stands written of its game, and to the reader.
-use Rattle.pgn_game.proofs.Words.{◌≡◌, max, ℕ, ◌<◌, ◌≤◌, true, false, List, [], ◌∷◌, ◌++◌, length, drop, Option, None, refl, sym, ap, subst, ◌∙◌, append-nil, length-append, arith, IsTrue, Ok, Err, list_any-append, drop-append-add, drop-length, Appends-trans, Appends, Move, AppendsFront, Device, one_more, Parts, Mode, Full, Reduced, Stage, Between, AfterTags, InMovetext, Pair, Item, Part, More, is_at, start_of, tag_section, is_move, full_text, torn_at, has_move, Next, going, Movetext, HoldsItems, ReaderState, Agrees, as_written, known_of, whole_plies, IsOpen, may_have_movetext, with_items, Adds, BeginsText, Goes, Keeps, PutResult, PutsItems, gain_to, section_due, section_due_of, rules}
+use Rattle.pgn_game.proofs.Words.{◌≡◌, max, ℕ, ◌<◌, ◌≤◌, true, false, List, [], ◌∷◌, ◌++◌, length, drop, Option, None, refl, sym, ap, subst, ◌∙◌, append-nil, length-append, arith, IsTrue, Ok, Err, list_any-append, drop-append-add, drop-length, Appends-trans, Appends, Move, AppendsFront, Device, one_more, Parts, Mode, Full, Reduced, Stage, Between, AfterTags, InMovetext, Pair, Item, Part, More, is_at, start_of, tag_section, is_move, full_text, torn_at, has_move, Next, going, Movetext, HoldsItems, ReaderState, Agrees, bytes_seen, mode_unless, mode_written, item_text, Bool, Some, as_written, known_of, whole_plies, IsOpen, may_have_movetext, with_items, Adds, BeginsText, Goes, Keeps, PutResult, PutsItems, gain_to, section_due, section_due_of, rules}
 use Rattle.std.proofs.Math.Nat.{le-max_left}
 use Rattle.pgn_layout.specs.declared.sink.WriteFault.{WriteFault}
 use Rattle.pgn_game.specs.declared.reason.Reason.TheVariants as reasons
@@ -70,7 +70,7 @@ module _ (old new : ReaderState) (IsOf : Part → Type 0) (to : Part → Next) (
 -- a reader in movetext agrees with the part that it holds
 agrees_in_text : (r : ReaderState) (part : Part) → r.stage ≡ InMovetext
     → part.stage ≡ InMovetext → r.tags ≡ record { held = part.pairs; pending_name = None }
-    → HoldsItems r.profile.mode (start_of part.pairs) part.items r.text r.line
+    → HoldsItems (mode_written r) (start_of part.pairs) part.items r.text r.line
     → (IsTrue (has_move part.items) → 0 < r.most_probes) → Agrees r part
 agrees_in_text r part stage same tags held probed = search rules
 
@@ -81,7 +81,7 @@ not_between stage at e = let h = sym at ∙ e in absurd (cc)
 -- else but the count of probes.
 pub record IsAfterItem (begun new : ReaderState) : Type 0 where
   pub profile : new.profile ≡ begun.profile
-  pub told : new.told ≡ begun.told
+  pub writing : new.writing ≡ begun.writing
   pub stage : new.stage ≡ begun.stage
   pub tags : new.tags ≡ begun.tags
   pub earlier : new.earlier_plies ≡ begun.earlier_plies
@@ -90,7 +90,7 @@ pub record IsAfterItem (begun new : ReaderState) : Type 0 where
 -- the section was written, and then items or none
 goes_with : (old begun new : ReaderState) (part : Part) (more : List Item) (d : Device) → IsTrue (may_have_movetext old.stage) → IsOpen old part
     → begun ≡ record old { stage = InMovetext } → IsAfterItem begun new
-    → HoldsItems old.profile.mode (start_of part.pairs) (part.items ++ more) new.text new.line
+    → HoldsItems (mode_written old) (start_of part.pairs) (part.items ++ more) new.text new.line
     → (IsTrue (has_move (part.items ++ more)) → 0 < new.most_probes)
     → Appends d.before d.after (gain_to (as_written old) part (going (with_items part more)))
     → Goes old part (going (with_items part more)) new More d
@@ -117,21 +117,50 @@ probed_with old part i most put rises before has = grind (arith, list_any-append
 
 -- the movetext that was held is held where its section is written
 begun_held : (old begun : ReaderState) (part : Part) → IsOpen old part → begun ≡ record old { stage = InMovetext }
-    → HoldsItems begun.profile.mode (start_of part.pairs) part.items begun.text begun.line
+    → HoldsItems (mode_written begun) (start_of part.pairs) part.items begun.text begun.line
 begun_held old begun part is begins = rw begins is.held
 
+-- What a reader writes in two steps, where `item` is what a mode writes in the second. Of a silent
+-- one nothing is seen.
+appends_both : (silent : Bool) (mode : Mode) (x y z : Option (List ℕ)) (section gained : List ℕ) (item : Option Mode → List ℕ)
+    → Appends (bytes_seen silent x) (bytes_seen silent y) section
+    → Appends (bytes_seen silent y) (bytes_seen silent z) (item (mode_unless silent mode))
+    → section ++ item (Some mode) ≡ gained → Appends (bytes_seen silent x) (bytes_seen silent z) gained
+appends_both true mode x y z section gained item first second is = tt
+appends_both false mode x y z section gained item first second is = subst (Appends x z) is (Appends-trans x y z _ _ first second)
+
+front_of_both : (silent : Bool) (mode : Mode) (x y z : Option (List ℕ)) (section gained : List ℕ) (item : Option Mode → List ℕ) → item None ≡ []
+    → Appends (bytes_seen silent x) (bytes_seen silent y) section
+    → AppendsFront (bytes_seen silent y) (bytes_seen silent z) (item (mode_unless silent mode))
+    → section ++ item (Some mode) ≡ gained → AppendsFront (bytes_seen silent x) (bytes_seen silent z) gained
+front_of_both true mode x y z section gained item none first (n, few, rest) is = absurd (omega (arith, few, ap (λ (l : List ℕ). length l) none))
+front_of_both false mode x y z section gained item none first second is = subst (AppendsFront x z) is (front_after x y z _ _ first second)
+
 -- The section was written, and then an item put.
-module _ (old begun new : ReaderState) (i : Item) (a b c : Option (List ℕ)) (n m k : ℕ) (at : IsTrue (may_have_movetext old.stage))
-    (begins : BeginsText {A = Unit} {E = WriteFault} old begun (Ok tt) (from_to a b n m)) (next : IsAfterItem begun new) where
+module _ (old begun new : ReaderState) (i : Item) (x y z : Option (List ℕ)) (n m k : ℕ) (at : IsTrue (may_have_movetext old.stage))
+    (begins : BeginsText {A = Unit} {E = WriteFault} old begun (Ok tt) (from_to (bytes_seen old.writing.is_silent x) (bytes_seen old.writing.is_silent y) n m))
+    (next : IsAfterItem begun new) where
+  abbrev a : Option (List ℕ)
+  a = bytes_seen old.writing.is_silent x
+
+  abbrev b : Option (List ℕ)
+  b = bytes_seen old.writing.is_silent y
+
+  abbrev c : Option (List ℕ)
+  c = bytes_seen old.writing.is_silent z
+
+  same_mode : mode_written begun ≡ mode_written old
+  same_mode = ap mode_written begins.begun
+
   pub puts_item : (is_move i ≡ true → 0 < old.most_probes)
-      → Adds {A = Unit} {E = WriteFault} begun.profile.mode i begun.text begun.line new.text new.line (Ok tt) (from_to b c m k)
+      → Adds {A = Unit} {E = WriteFault} (mode_written begun) i begun.text begun.line new.text new.line (Ok tt) (from_to b c m k)
       → PutResult old (IsOpen old) (to_items (i ∷ [])) new (Ok More) (from_to a c n k)
   puts_item put adds =
       let most : old.most_probes ≤ new.most_probes = omega (arith, next.probes, begins.probes) in
       more_comes old new (IsOpen old) (to_items _) (from_to a c n k)
       (record {
         profile = next.profile ∙ begins.profile;
-        told = next.told ∙ begins.told;
+        writing = next.writing ∙ begins.writing;
         plies = omega (arith, next.earlier, begins.earlier, begins.plies, adds.plies);
         probes = most;
       })
@@ -140,23 +169,25 @@ module _ (old begun new : ReaderState) (i : Item) (a b c : Option (List ℕ)) (n
       (λ part is.
       let added = adds.adds (start_of part.pairs) part.items (begun_held old begun part is begins.begun) in
       goes_with old begun new part (i ∷ []) (from_to a c n k) at is begins.begun next
-      (rw begins.profile at added.0)
+      (rw same_mode at added.0)
       (probed_with old part i new.most_probes put most is.probed)
-      (subst (Appends a c) (rw begins.profile (gain_is old part _ at is)) (Appends-trans a b c _ _ begins.text added.1)))
+      (appends_both old.writing.is_silent old.profile.mode x y z _ _ (λ by. item_text by (start_of part.pairs) part.items i)
+      begins.text (rw same_mode at added.1) (gain_is old part _ at is)))
 
-  pub fails_item : (f : WriteFault) → Adds {A = Unit} begun.profile.mode i begun.text begun.line new.text new.line (Err f) (from_to b c m k)
+  pub fails_item : (f : WriteFault) → Adds {A = Unit} (mode_written begun) i begun.text begun.line new.text new.line (Err f) (from_to b c m k)
       → PutResult old (IsOpen old) (to_items (i ∷ [])) new (Err reasons.WriteFault) (from_to a c n k)
   fails_item f adds =
       unwritten old new (IsOpen old) (to_items _) (from_to a c n k)
       (record {
         profile = next.profile ∙ begins.profile;
-        told = next.told ∙ begins.told;
+        writing = next.writing ∙ begins.writing;
         plies = omega (arith, next.earlier, begins.earlier, begins.plies, adds.plies);
         probes = omega (arith, next.probes, begins.probes);
       })
       (adds.counted ∙ ap one_more begins.counted) (λ part is.
-      subst (AppendsFront a c) (rw begins.profile (gain_is old part _ at is))
-      (front_after a b c _ _ begins.text (adds.adds (start_of part.pairs) part.items (begun_held old begun part is begins.begun))))
+      front_of_both old.writing.is_silent old.profile.mode x y z _ _ (λ by. item_text by (start_of part.pairs) part.items i) refl
+      begins.text (rw same_mode at (adds.adds (start_of part.pairs) part.items (begun_held old begun part is begins.begun)))
+      (gain_is old part _ at is))
 
 -- Items could not be put, since the section could not be written.
 pub puts_unbegun : (old new : ReaderState) (more : List Item) (f : WriteFault) (d : Device) → IsTrue (may_have_movetext old.stage)
@@ -165,7 +196,7 @@ puts_unbegun old new more f d at begins =
     unwritten old new (IsOpen old) (to_items more) d
     (record {
       profile = begins.profile;
-      told = begins.told;
+      writing = begins.writing;
       plies = omega (arith, begins.earlier, begins.plies);
       probes = omega (arith, begins.probes);
     })
@@ -186,17 +217,21 @@ after_move begun new text line n is = search (rules, le-max_left)
 
 -- The section was written, and then a move put, whose pairs were counted.
 module _ (old begun new : ReaderState) (mv : Move)
-    (after : ℕ) {text : Movetext} {line : List ℕ} {a b c : Option (List ℕ)} {n m k : ℕ} (at : IsTrue (may_have_movetext old.stage))
-    (begins : BeginsText {A = Unit} {E = WriteFault} old begun (Ok tt) (from_to a b n m))
+    (after : ℕ) {text : Movetext} {line : List ℕ} (x y z : Option (List ℕ)) {n m k : ℕ} (at : IsTrue (may_have_movetext old.stage))
+    (begins : BeginsText {A = Unit} {E = WriteFault} old begun (Ok tt) (from_to (bytes_seen old.writing.is_silent x) (bytes_seen old.writing.is_silent y) n m))
     (is : new ≡ record begun { text = text; line = line; most_probes = max begun.most_probes after }) where
   pub puts_move : 0 < old.most_probes
-      → Adds {A = Unit} {E = WriteFault} begun.profile.mode (move mv) begun.text begun.line text line (Ok tt) (from_to b c m k)
-      → PutResult old (IsOpen old) (to_items (move mv ∷ [])) new (Ok More) (from_to a c n k)
-  puts_move probed adds = puts_item old begun new _ a b c n m k at begins (after_move begun new text line after is) (λ is. probed) (rw is adds)
+      → Adds {A = Unit} {E = WriteFault} (mode_written begun) (move mv) begun.text begun.line text line (Ok tt)
+      (from_to (bytes_seen old.writing.is_silent y) (bytes_seen old.writing.is_silent z) m k)
+      → PutResult old (IsOpen old) (to_items (move mv ∷ [])) new (Ok More)
+      (from_to (bytes_seen old.writing.is_silent x) (bytes_seen old.writing.is_silent z) n k)
+  puts_move probed adds = puts_item old begun new _ x y z n m k at begins (after_move begun new text line after is) (λ is. probed) (rw is adds)
 
-  pub fails_move : (f : WriteFault) → Adds {A = Unit} begun.profile.mode (move mv) begun.text begun.line text line (Err f) (from_to b c m k)
-      → PutResult old (IsOpen old) (to_items (move mv ∷ [])) new (Err reasons.WriteFault) (from_to a c n k)
-  fails_move f adds = fails_item old begun new _ a b c n m k at begins (after_move begun new text line after is) f (rw is adds)
+  pub fails_move : (f : WriteFault) → Adds {A = Unit} (mode_written begun) (move mv) begun.text begun.line text line (Err f)
+      (from_to (bytes_seen old.writing.is_silent y) (bytes_seen old.writing.is_silent z) m k)
+      → PutResult old (IsOpen old) (to_items (move mv ∷ [])) new (Err reasons.WriteFault)
+      (from_to (bytes_seen old.writing.is_silent x) (bytes_seen old.writing.is_silent z) n k)
+  fails_move f adds = fails_item old begun new _ x y z n m k at begins (after_move begun new text line after is) f (rw is adds)
 
 pub most_after : (old begun new : ReaderState) (text : Movetext) (line : List ℕ) (after : ℕ) (d : Device)
     → BeginsText {A = Unit} {E = WriteFault} old begun (Ok tt) d

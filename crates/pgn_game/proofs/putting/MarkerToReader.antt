@@ -1,5 +1,5 @@
 -- What putting a marker comes to, and a token of movetext whose section cannot be written.
-use Rattle.pgn_game.proofs.Words.{◌≡◌, ℕ, List, [], ◌∷◌, ◌++◌, length, drop, Option, refl, sym, ap, subst, ◌∙◌, append_assoc, arith, IsTrue, Ok, Err, All, lit<, lit≤, drop-append_seam, Appends-trans, Appends, Move, AppendsFront, Device, one_more, IsToken, lines_of, full_lines, last_line, text_of as text_of_lines, Put, EndGame, text_at, line_at, Finished, Marker, WhiteWins, BlackWins, Draw, Unknown, marker_text, Mode, Stage, Between, AfterTags, InMovetext, Profile, counting, counts_as, Pair, Item, Part, Level as ModelLevel, Levels as ModelLevels, depth, start_of, outermost, replayed, last_position, tag_section, levels_of_part, tokens_out, full_text, torn_for, Next, whole, StoredLevel, ReaderState, IsBehind, as_written, known_of, plies_behind, IsOpen, game_of, may_have_movetext, BeginsText, PutResult, gain_to, section_due, section_due_of}
+use Rattle.pgn_game.proofs.Words.{◌≡◌, ℕ, List, [], ◌∷◌, ◌++◌, length, drop, Option, refl, sym, ap, subst, ◌∙◌, append_assoc, arith, IsTrue, Ok, Err, All, lit<, lit≤, drop-append_seam, Appends-trans, Appends, Move, AppendsFront, Device, one_more, IsToken, lines_of, full_lines, last_line, text_of as text_of_lines, Put, EndGame, text_at, line_at, Finished, Marker, WhiteWins, BlackWins, Draw, Unknown, marker_text, Mode, Stage, Between, AfterTags, InMovetext, Profile, counting, counts_as, Pair, Item, Part, Level as ModelLevel, Levels as ModelLevels, depth, start_of, outermost, replayed, last_position, tag_section, levels_of_part, tokens_out, full_text, torn_for, Next, whole, StoredLevel, ReaderState, IsBehind, mode_written, mode_unless, failures_seen, seen, Bool, true, false, as_written, known_of, plies_behind, IsOpen, game_of, may_have_movetext, BeginsText, PutResult, gain_to, section_due, section_due_of}
 use Rattle.pgn_layout.specs.declared.sink.WriteFault.{WriteFault}
 use Rattle.pgn_game.specs.declared.reason.Reason.TheVariants as reasons
 use Rattle.pgn_game.proofs.putting.WritesInTurn.{front_of_more, front_after}
@@ -37,13 +37,15 @@ gain_of p result part marker at fresh each token =
     ∙ drop-append_seam (full_text p.mode (start_of part.pairs) part.items) (ending (line_of p.mode part.pairs part.items) marker))
 
 -- what is due for a marker, of a reader that holds the part
-due_is : (old : ReaderState) (part : Part) (marker : List ℕ) → IsTrue (may_have_movetext old.stage) → IsToken marker → IsOpen old part
+due_is : (old : ReaderState) (part : Part) (marker : List ℕ) → old.writing.is_silent ≡ false
+    → IsTrue (may_have_movetext old.stage) → IsToken marker → IsOpen old part
     → section_due_of old ++ ending old.line marker ≡ gain_to (as_written old) part (whole (game_of part marker))
-due_is old part marker at token is =
+due_is old part marker writes at token is =
+    let held = rw writes at is.held.held in
     ap (λ (l : List ℕ). l ++ ending old.line marker) (section_is old part is)
     ∙ ap (λ (l : List ℕ).
-    section_due part.stage old.profile.mode (known_of old) part.pairs ++ ending l marker) is.held.last
-    ∙ sym (gain_of old.profile (known_of old) part marker (open_stage old part is at) (λ e. is.fresh (is.stage ∙ e)) is.held.tokens token)
+    section_due part.stage old.profile.mode (known_of old) part.pairs ++ ending l marker) held.last
+    ∙ sym (gain_of old.profile (known_of old) part marker (open_stage old part is at) (λ e. is.fresh (is.stage ∙ e)) held.tokens token)
 
 -- At depth 0 the moves that lead here are those outside variations.
 at_depth_0 : (ls : ModelLevels) (around : List ModelLevel) → ls.around ≡ around
@@ -82,24 +84,31 @@ marker_token Unknown = record { not_empty = lit< tt; fits = lit≤ tt }
 abbrev pub to_game : Marker → Part → Next
 to_game marker part = whole (game_of part (marker_text marker))
 
+-- a write fails for no silent reader
+pub writes_if_failed : (silent : Bool) (n m : ℕ) → failures_seen silent m ≡ one_more (failures_seen silent n) → silent ≡ false
+writes_if_failed true n m failed = absurd (omega (arith, failed))
+writes_if_failed false n m failed = refl
+
 -- The section could not be written.
-pub ends_unbegun : (old new : ReaderState) (marker : Marker) (f : WriteFault) (d : Device) → IsTrue (may_have_movetext old.stage)
+pub ends_unbegun : (old new : ReaderState) (marker : Marker) (f : WriteFault) (d : Device) → old.writing.is_silent ≡ false
+    → IsTrue (may_have_movetext old.stage)
     → BeginsText {A = Unit} old new (Err f) d → PutResult old (IsOpen old) (to_game marker) new (Err reasons.WriteFault) d
-ends_unbegun old new marker f d at begins =
+ends_unbegun old new marker f d writes at begins =
     unwritten old new (IsOpen old) (to_game marker) d
     (record {
       profile = begins.profile;
-      told = begins.told;
+      writing = begins.writing;
       plies = omega (arith, begins.earlier, begins.plies);
       probes = omega (arith, begins.probes);
     })
     begins.counted
     (λ part is.
-    subst (AppendsFront d.before d.after) (due_is old part (marker_text marker) at (marker_token marker) is)
+    subst (AppendsFront d.before d.after) (due_is old part (marker_text marker) writes at (marker_token marker) is)
     (front_of_more d.before d.after _ (ending old.line (marker_text marker)) begins.text))
 
 -- How the game ends, once its section is written.
 pub record EndsText (old begun : ReaderState) (marker : Marker) (text : List ℕ) (a b : Option (List ℕ)) (n m : ℕ) : Type 0 where
+  pub writes : old.writing.is_silent ≡ false
   pub begins : BeginsText {A = Unit} {E = WriteFault} old begun (Ok tt) (from_to a b n m)
   pub outside : old.text.levels.around ≡ []
   pub spells : text ≡ marker_text marker
@@ -127,18 +136,58 @@ ends_well old begun new marker text a b d c n m k ends put last rest empty count
                 ∙ omega (arith, earlier, plies, is.held.plies, plies_before old ends.at);
             appended =
                 subst (Appends a c) (ap (λ (l : List ℕ). section_due_of old ++ ending l (marker_text marker)) (of_line old begun ends.begins.begun)
-                ∙ due_is old part (marker_text marker) ends.at (marker_token marker) is)
+                ∙ due_is old part (marker_text marker) ends.writes ends.at (marker_token marker) is)
                 (Appends-trans a b c _ _ ends.begins.text
                 (subst (λ (t : List ℕ). Appends b c (ending begun.line t)) ends.spells (Appends-trans b d c _ _ put last)));
           };
       keeps = record {
         profile = ap (λ (r : ReaderState). r.profile) same;
-        told = ap (λ (r : ReaderState). r.told) same;
+        writing = ap (λ (r : ReaderState). r.writing) same;
         plies = omega (arith, earlier, plies);
         probes = omega (arith, ap (λ (r : ReaderState). r.most_probes) same);
       };
       stays = tt;
       counted = counted ∙ ends.begins.counted;
+    }
+
+-- nothing is written of a silent reader's game
+silent_behind : (old : ReaderState) (part : Part) (marker : List ℕ) → old.writing.is_silent ≡ true → old.text.levels.around ≡ []
+    → IsOpen old part → IsBehind (record old { stage = Between }) (game_of part marker)
+silent_behind old part marker silent outside is =
+    record {
+      agrees = record { stage = refl; pairs = refl; text = rw silent at is.held.held };
+      pairs = ap (λ t. t.held) is.pairs;
+      plies = is.held.plies;
+      position = last_is old part outside is marker;
+      probed = is.probed;
+    }
+
+pub ends_silent : (old begun new : ReaderState) (marker : Marker) (a b : Option (List ℕ)) (n m : ℕ) → old.writing.is_silent ≡ true
+    → IsTrue (may_have_movetext old.stage) → old.text.levels.around ≡ []
+    → BeginsText {A = Unit} {E = WriteFault} old begun (Ok tt) (seen old.writing.is_silent (from_to a b n m))
+    → new ≡ record begun { stage = Between }
+    → PutResult old (IsOpen old) (to_game marker) new (Ok Finished) (seen old.writing.is_silent (from_to a b n m))
+ends_silent old begun new marker a b n m silent at outside begins rest =
+    let same : new ≡ record old { stage = Between } = rest ∙ ap (λ (r : ReaderState). record r { stage = Between }) begins.begun in
+    let earlier : new.earlier_plies ≡ old.earlier_plies = ap (λ (r : ReaderState). r.earlier_plies) same in
+    let plies : new.text.plies ≡ old.text.plies = ap (λ (r : ReaderState). r.text.plies) same in
+    record {
+      goes = λ part is.
+          record {
+            leads = subst (λ (r : ReaderState). IsBehind r (game_of part (marker_text marker)))
+                (sym same) (silent_behind old part (marker_text marker) silent outside is);
+            plies = ap (λ (s : Stage). plies_behind s new.earlier_plies new.text.plies) (ap (λ (r : ReaderState). r.stage) same)
+                ∙ omega (arith, earlier, plies, is.held.plies, plies_before old at);
+            appended = rw silent tt;
+          };
+      keeps = record {
+        profile = ap (λ (r : ReaderState). r.profile) same;
+        writing = ap (λ (r : ReaderState). r.writing) same;
+        plies = omega (arith, earlier, plies);
+        probes = omega (arith, ap (λ (r : ReaderState). r.most_probes) same);
+      };
+      stays = tt;
+      counted = begins.counted;
     }
 
 -- a write failed behind the section
@@ -151,12 +200,12 @@ ends_ill old begun new marker text a b c n m k ends front rest counted =
     unwritten old new (IsOpen old) (to_game marker) (from_to a c n k)
     (record {
       profile = ap (λ (r : ReaderState). r.profile) rest ∙ begins.profile;
-      told = ap (λ (r : ReaderState). r.told) rest ∙ begins.told;
+      writing = ap (λ (r : ReaderState). r.writing) rest ∙ begins.writing;
       plies =
           omega (arith, ap (λ (r : ReaderState). r.earlier_plies) rest, ap (λ (r : ReaderState). r.text.plies) rest, begins.earlier, begins.plies);
       probes = omega (arith, ap (λ (r : ReaderState). r.most_probes) rest, begins.probes);
     })
     (counted ∙ ap one_more begins.counted) (λ part is.
     subst (AppendsFront a c) (ap (λ (l : List ℕ). section_due_of old ++ ending l (marker_text marker)) (of_line old begun begins.begun)
-    ∙ due_is old part (marker_text marker) ends.at (marker_token marker) is)
+    ∙ due_is old part (marker_text marker) ends.writes ends.at (marker_token marker) is)
     (front_after a b c _ _ begins.text (subst (λ (t : List ℕ). AppendsFront b c (ending begun.line t)) ends.spells front)))

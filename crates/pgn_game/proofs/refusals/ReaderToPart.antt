@@ -32,10 +32,10 @@ pub begun_name : (tags : TagPairs) (part : Part) (name : List ℕ)
     → tags ≡ record { held = part.pairs; pending_name = Some part.name } → tags.pending_name ≡ Some name → name ≡ part.name
 begun_name tags part name is begun = let e : Some name ≡ Some part.name = cc in cc
 
-nothing_held : {mode : Mode} {start : Parts} → HoldsItems mode start [] (movetext_from start) []
+nothing_held : {mode : Option Mode} {start : Parts} → HoldsItems mode start [] (movetext_from start) []
 nothing_held = search (rules, All-nil)
 
-held_none : {mode : Mode} {start : Parts} {items : List Item} {text : Movetext} (line : List ℕ)
+held_none : {mode : Option Mode} {start : Parts} {items : List Item} {text : Movetext} (line : List ℕ)
     → items ≡ [] → text ≡ movetext_from start → line ≡ [] → HoldsItems mode start items text line
 held_none line none begins_game empty = rw (none, begins_game, empty) (nothing_held)
 

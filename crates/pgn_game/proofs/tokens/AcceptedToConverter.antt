@@ -1,7 +1,7 @@
 -- One token that the lexer gave, and what the reader answered to it.
 use Rattle.pgn_lexer.specs.PartialToken.{refusal as refusal_token}
 use Rattle.pgn_lexer.specs.Scanned.{token, more, fault}
-use Rattle.pgn_game.proofs.Words.{Reason, Lexical, WriteFault, Profile, Game, Part, ◌≡◌, ℕ, ◌+◌, ◌<◌, ◌≤◌, ◌⊎◌, Bool, false, true, List, [], ◌∷◌, ◌++◌, length, take, drop, Option, None, Some, Result, Ok, Err, refl, sym, ap, subst, ◌∙◌, append_assoc, append-nil, length-append, le_refl, arith, IsTrue, map, sum, take-append-drop, map-append, list_any-append, or_cases, Appends-nil, Appends, Token, EndsAt, tokens_of, Standing, coming, StandsAfter, Follows, AfterScan, first, still, More, Finished, refusal, marker_of, position_if_move, position_in, Next, going, whole, next, Progress, progress_with, progress_after, Read, read, gain, text_next, Gains, plies_of, has_move, ReaderState, Agrees, as_written, IsBehind, whole_plies, plies_next, Leads, Answers, AppendsFront, MostTried, Raises, Tries, TriesUnwritten, sum_by-append, sum_by-cons, LexFault, finished_game_of, Converter, game_in_reader, play_moves, has_played_move, HasRead, refused_stop as refused, unwritten, AreNext, reported_position, FaultAtEnd, SameGames, OneGame, AfterStep, EndsWithin, GainsAs, Meets, NotTaken, Reaches, ReadsMore, due_as, part_after, outcome_at, fault_of_step, TakesToken, Device, Marker, rules, inl, inr, position_at_fault, due, torn, text_of_games as text_of, ◌||◌}
+use Rattle.pgn_game.proofs.Words.{Writing, Reason, Lexical, WriteFault, Profile, Game, Part, ◌≡◌, ℕ, ◌+◌, ◌<◌, ◌≤◌, ◌⊎◌, Bool, false, true, List, [], ◌∷◌, ◌++◌, length, take, drop, Option, None, Some, Result, Ok, Err, refl, sym, ap, subst, ◌∙◌, append_assoc, append-nil, length-append, le_refl, arith, IsTrue, map, sum, take-append-drop, map-append, list_any-append, or_cases, Appends-nil, Appends, Token, EndsAt, tokens_of, Standing, coming, StandsAfter, Follows, AfterScan, first, still, More, Finished, refusal, marker_of, position_if_move, position_in, Next, going, whole, next, Progress, progress_with, progress_after, Read, read, gain, text_next, Gains, plies_of, has_move, ReaderState, Agrees, as_written, IsBehind, whole_plies, plies_next, Leads, Answers, AppendsFront, MostTried, Raises, Tries, TriesUnwritten, sum_by-append, sum_by-cons, LexFault, finished_game_of, Converter, game_in_reader, play_moves, has_played_move, HasRead, refused_stop as refused, unwritten, AreNext, reported_position, FaultAtEnd, SameGames, OneGame, AfterStep, EndsWithin, GainsAs, Meets, NotTaken, Reaches, ReadsMore, due_as, part_after, outcome_at, fault_of_step, TakesToken, Device, Marker, rules, inl, inr, position_at_fault, due, torn, text_of_games as text_of, ◌||◌}
 use Rattle.pgn_game.specs.ReaderState as reader_state
 use Rattle.pgn_game.proofs.tokens.PairsTriedForToken.{most_with, most_to_refused, part_probed, raises_none}
 use Rattle.pgn_game.proofs.tokens.OneMoreToken.{read-passes, read-refuses, due-passes}
@@ -18,8 +18,8 @@ follows_own [] = tt
 follows_own (x ∷ xs) = refl
 
 -- what is written for a missing Result follows from the profile and what was told
-pub written_same : (old new : ReaderState) → new.profile ≡ old.profile → new.told ≡ old.told → as_written new ≡ as_written old
-written_same old new profile told = rw (profile, told) refl
+pub written_same : (old new : ReaderState) → new.profile ≡ old.profile → new.writing ≡ old.writing → as_written new ≡ as_written old
+written_same old new profile writing = rw (profile, writing) refl
 
 -- what a token leads to, with the games before; one that finishes no game counts no move
 leads_more : (nx : Next) (games : List Game) (r : ReaderState) → Leads nx More r
@@ -75,7 +75,8 @@ now_at l r games finished =
     record { lexer = l; reading = r; games = games; just_finished = None; is_finished = finished; fault = None }
 
 module _ (p : Profile) (old : Converter) (given : List Token) (t : Token) (l : Standing) (new : ReaderState) (finished : Bool)
-    (has_read : HasRead p old given) (profile : new.profile ≡ old.reading.profile) (probes : old.reading.most_probes ≤ new.most_probes) where
+    (has_read : HasRead p old given) (profile : new.profile ≡ old.reading.profile) (probes : old.reading.most_probes ≤ new.most_probes)
+    (writing : new.writing ≡ old.reading.writing) where
   abbrev b : Progress
   b = (read p given).progress
 
@@ -85,13 +86,21 @@ module _ (p : Profile) (old : Converter) (given : List Token) (t : Token) (l : S
   reads : refusal old.reading.profile b.part t.kind ≡ None → read p (given ++ t ∷ []) ≡ record { progress = progress_after b t; fault = None }
   reads h = read-passes p given t has_read.passes (passes h)
 
-  raised : Raises (Tries old.reading.profile b.part t.kind) old.reading.most_probes new.most_probes
-      → Raises (Tries p b.part t.kind) old.reading.most_probes new.most_probes
-  raised h = subst (λ q. Raises (Tries q b.part t.kind) old.reading.most_probes new.most_probes) has_read.profile h
+  same_silence : old.reading.writing.is_silent ≡ new.writing.is_silent
+  same_silence = ap (λ (w : Writing). w.is_silent) (sym writing)
+
+  tried_before : MostTried new.writing.is_silent p given old.reading.most_probes
+  tried_before = subst (λ (silent : Bool). MostTried silent p given old.reading.most_probes) same_silence has_read.tried
+
+  raised : Raises (Tries old.reading.writing.is_silent old.reading.profile b.part t.kind) old.reading.most_probes new.most_probes
+      → Raises (Tries new.writing.is_silent p b.part t.kind) old.reading.most_probes new.most_probes
+  raised h =
+      subst (λ (silent : Bool). Raises (Tries silent p b.part t.kind) old.reading.most_probes new.most_probes) same_silence
+      (subst (λ q. Raises (Tries old.reading.writing.is_silent q b.part t.kind) old.reading.most_probes new.most_probes) has_read.profile h)
 
   most_tried : refusal old.reading.profile b.part t.kind ≡ None
-      → Raises (Tries old.reading.profile b.part t.kind) old.reading.most_probes new.most_probes → MostTried p (given ++ t ∷ []) new.most_probes
-  most_tried h tries = most_with p t has_read.tried has_read.passes (passes h) (raised tries)
+      → Raises (Tries old.reading.writing.is_silent old.reading.profile b.part t.kind) old.reading.most_probes new.most_probes → MostTried new.writing.is_silent p (given ++ t ∷ []) new.most_probes
+  most_tried h tries = most_with new.writing.is_silent p t tried_before has_read.passes (passes h) (raised tries)
 
   probed_before : IsTrue (has_played_move b) → 0 < new.most_probes
   probed_before moves = let some = has_read.probed moves in omega (arith, some, probes)
@@ -102,7 +111,7 @@ module _ (p : Profile) (old : Converter) (given : List Token) (t : Token) (l : S
 
   pub has_read_more : refusal old.reading.profile b.part t.kind ≡ None → Leads (next b.part t.kind) More new
       → whole_plies new ≡ whole_plies old.reading + plies_next (next b.part t.kind)
-      → Raises (Tries old.reading.profile b.part t.kind) old.reading.most_probes new.most_probes
+      → Raises (Tries old.reading.writing.is_silent old.reading.profile b.part t.kind) old.reading.most_probes new.most_probes
       → HasRead p (now_at l new old.games finished) (given ++ t ∷ [])
   has_read_more h leads plies tries =
       let more = leads_more (next b.part t.kind) b.games new leads in
@@ -130,7 +139,7 @@ module _ (p : Profile) (old : Converter) (given : List Token) (t : Token) (l : S
 
   pub has_read_game : refusal old.reading.profile b.part t.kind ≡ None → Leads (next b.part t.kind) Finished new
       → whole_plies new ≡ whole_plies old.reading + plies_next (next b.part t.kind)
-      → Raises (Tries old.reading.profile b.part t.kind) old.reading.most_probes new.most_probes
+      → Raises (Tries old.reading.writing.is_silent old.reading.profile b.part t.kind) old.reading.most_probes new.most_probes
       → HasRead p (record {
         lexer = l;
         reading = new;
@@ -163,7 +172,7 @@ module _ (p : Profile) (old : Converter) (given : List Token) (t : Token) (l : S
 
   pub at_refused : (us : List Token) {a c : Option (List ℕ)} {reason : Reason}
       → refusal old.reading.profile b.part t.kind ≡ Some reason → Appends a c []
-      → Raises (Tries old.reading.profile b.part t.kind) old.reading.most_probes new.most_probes
+      → Raises (Tries old.reading.writing.is_silent old.reading.profile b.part t.kind) old.reading.most_probes new.most_probes
       → reported_position new reason ≡ position_if_move reason (position_in b.part)
       → FaultAtEnd p given (given ++ t ∷ us) (record { at = t.at; reason = reason }) new a c
   at_refused us {reason} h wrote tries here =
@@ -173,7 +182,10 @@ module _ (p : Profile) (old : Converter) (given : List Token) (t : Token) (l : S
         stops = refused (record { at = t.at; reason = reason }) (ap (λ (r : Read). r.fault) ends)
             (record { text = []; due_for = rw ends (sym (append-nil (due p given))); appended = wrote });
         no_game = ap (λ (r : Read). r.progress.games) ends;
-        counts = record { tried = search (rules, most_to_refused, raised); probed = search (rules, probed_before) };
+        counts = record {
+          tried = most_to_refused new.writing.is_silent p t us tried_before has_read.passes some (raised tries);
+          probed = search (rules, probed_before);
+        };
         position = here ∙ sym (ap position_at_fault ends);
       }
 
@@ -196,7 +208,7 @@ module _ (p : Profile) (old : Converter) (given : List Token) (t : Token) (l : S
 
     pub at_unwritten : (us : List Token) {a c : Option (List ℕ)} → refusal old.reading.profile b.part t.kind ≡ None
         → AppendsFront a c (gain (as_written old.reading) b.part t.kind)
-        → Raises (TriesUnwritten old.reading.profile b.part t.kind) old.reading.most_probes new.most_probes
+        → Raises (TriesUnwritten old.reading.writing.is_silent old.reading.profile b.part t.kind) old.reading.most_probes new.most_probes
         → FaultAtEnd p given (given ++ t ∷ us) (record { at = t.at; reason = WriteFault }) new a c
     at_unwritten us {a} {c} h (n, short, wrote) tries =
         record {
@@ -215,7 +227,16 @@ module _ (p : Profile) (old : Converter) (given : List Token) (t : Token) (l : S
             appended = subst (λ q. Appends a c (take n (gain q b.part t.kind))) shown wrote;
           });
           no_game = refl;
-          counts = record { tried = search rules; probed = probed_before };
+          counts = record {
+            tried = (
+              old.reading.most_probes,
+              tried_before,
+              subst (λ (silent : Bool). Raises (TriesUnwritten silent p b.part t.kind) old.reading.most_probes new.most_probes) same_silence
+                  (subst (λ q. Raises (TriesUnwritten old.reading.writing.is_silent q b.part t.kind) old.reading.most_probes new.most_probes)
+                  has_read.profile tries),
+            );
+            probed = probed_before;
+          };
           position = refl;
         }
 
@@ -285,12 +306,12 @@ reads_token p old given t l new finished d has_read takes =
     record {
       more = t ∷ [];
       extends = refl;
-      has_read = has_read_more p old given t l new finished has_read keeps.profile keeps.probes h.free h.leads h.plies h.tried;
-      no_game = same_games p old given t l new finished has_read keeps.profile keeps.probes h.free h.leads;
-      gains = subst (λ w. GainsAs w p given (given ++ t ∷ []) d.before d.after) (sym (written_same old.reading new keeps.profile keeps.told))
+      has_read = has_read_more p old given t l new finished has_read keeps.profile keeps.probes keeps.writing h.free h.leads h.plies h.tried;
+      no_game = same_games p old given t l new finished has_read keeps.profile keeps.probes keeps.writing h.free h.leads;
+      gains = subst (λ w. GainsAs w p given (given ++ t ∷ []) d.before d.after) (sym (written_same old.reading new keeps.profile keeps.writing))
           (record {
             text = gain w (part_after p given) t.kind;
-            due_for = due_more p old given t l new finished has_read keeps.profile keeps.probes w h.free h.leads;
+            due_for = due_more p old given t l new finished has_read keeps.profile keeps.probes keeps.writing w h.free h.leads;
             appended = h.appended;
           });
     }
@@ -320,7 +341,7 @@ not_taken p old given t new reason d has_read takes no_marker = record {
   no_marker = no_marker;
   stopped = takes.accepts (part_after p given) has_read.agrees;
   profile = takes.keeps.profile;
-  told = takes.keeps.told;
+  writing = takes.keeps.writing;
   probes = takes.keeps.probes;
 }
 
@@ -343,7 +364,7 @@ not_taken_lexical p old given f new o has_read same =
       no_marker = λ is. absurd (cc);
       stopped = refused_by (Lexical f.reason) some (Appends-nil o) (raises_none some) refl;
       profile = refl;
-      told = refl;
+      writing = refl;
       probes = le_refl old.reading.most_probes;
     })
 

@@ -1,15 +1,15 @@
 -- The tokens up to a marker, and the game that it ends; or the token that was not taken.
-use Rattle.pgn_game.proofs.Words.{Token, Fault, Profile, Missing, counts_as, takes_the_marker, Game, ◌≡◌, ℕ, ◌+◌, Bool, false, List, [], ◌∷◌, ◌++◌, Option, None, Some, Result, Ok, Err, refl, sym, ap, subst, ◌∙◌, Device, Appends-nil, Appends-trans, append-nil, append_assoc, Standing, Finished, IsAccepted, with_missing, counting, ReaderState, IsKnown, as_written, known_text, Gains, finished_game_of, Converter, game_in_reader, HasRead, TakesToken, FaultAtEnd, OneGame, SameGames, ReadsMore, Meets, NotTaken, EndsGame, due_as, ended_by, part_after}
+use Rattle.pgn_game.proofs.Words.{Writing, Token, Fault, Profile, Missing, counts_as, takes_the_marker, Game, ◌≡◌, ℕ, ◌+◌, Bool, false, List, [], ◌∷◌, ◌++◌, Option, None, Some, Result, Ok, Err, refl, sym, ap, subst, ◌∙◌, Device, Appends-nil, Appends-trans, append-nil, append_assoc, Standing, Finished, IsAccepted, with_missing, counting, ReaderState, IsKnown, as_written, known_text, Gains, finished_game_of, Converter, game_in_reader, HasRead, TakesToken, FaultAtEnd, OneGame, SameGames, ReadsMore, Meets, NotTaken, EndsGame, due_as, ended_by, part_after}
 use Rattle.pgn_game.specs.declared.marker.Mark.{Mark as CodeMark}
 use Rattle.pgn_game.specs.Profile.{known_result}
 use Rattle.pgn_game.proofs.tokens.OneMoreToken.{gains_more, stops_more, games_still, counts_still, position_still}
 use Rattle.pgn_game.proofs.tokens.AcceptedToConverter.{at_fault, gains_token, has_read_game, one_game}
 
 -- readers of the same profile that were told the same write alike
-pub written_same : (old new : ReaderState) → new.profile ≡ old.profile → new.told ≡ old.told → as_written new ≡ as_written old
-written_same old new profile told =
-    ap (λ (q : Profile). counting q (known_text q.missing_result new.told)) profile
-    ∙ ap (λ (o : Option (List ℕ)). counting old.profile (known_text old.profile.missing_result o)) told
+pub written_same : (old new : ReaderState) → new.profile ≡ old.profile → new.writing ≡ old.writing → as_written new ≡ as_written old
+written_same old new profile writing =
+    ap (λ (q : Profile). counting q (known_text q.missing_result new.writing.told)) profile
+    ∙ ap (λ (w : Writing). counting old.profile (known_text old.profile.missing_result w.told)) writing
 
 -- where a missing Result counts as a text, that is written
 known_is : (missing : Missing) (told : Option (List ℕ)) → missing ≡ counts_as (known_result missing) → counts_as (known_text missing told) ≡ missing
@@ -18,17 +18,17 @@ known_is takes_the_marker told known = absurd (cc)
 
 pub written_known : (p : Profile) (r : ReaderState) → IsKnown p → r.profile ≡ p → as_written r ≡ p
 written_known p r known is =
-    ap (λ (q : Profile). counting q (known_text q.missing_result r.told)) is
-    ∙ ap (with_missing p) (known_is p.missing_result r.told known)
+    ap (λ (q : Profile). counting q (known_text q.missing_result r.writing.told)) is
+    ∙ ap (with_missing p) (known_is p.missing_result r.writing.told known)
 
 -- the reader that has met a marker, and the one that has failed at a token, write as before it
 pub written_at_marker : {p : Profile} {given tokens : List Token} {t : Token} {m : CodeMark} {c : Converter} {a b : Option (List ℕ)}
     (meets : Meets p given tokens t m c a b) → as_written meets.reader ≡ as_written c.reading
-written_at_marker {c} meets = written_same c.reading meets.reader (sym meets.enters.profile) (sym meets.enters.told)
+written_at_marker {c} meets = written_same c.reading meets.reader (sym meets.enters.profile) (sym meets.enters.writing)
 
 pub written_at_fault : {p : Profile} {given tokens : List Token} {t : Token} {f : Fault} {new : ReaderState} {a b : Option (List ℕ)}
     (h : NotTaken p given tokens t f new a b) → as_written h.now.reading ≡ as_written new
-written_at_fault {new} h = written_same new h.now.reading (sym h.profile) (sym h.told)
+written_at_fault {new} h = written_same new h.now.reading (sym h.profile) (sym h.writing)
 
 -- More tokens behind more tokens.
 pub reads_none : (p : Profile) (given : List Token) (now : Converter) (o : Option (List ℕ)) → HasRead p now given → ReadsMore p given given now o o
@@ -83,7 +83,7 @@ module _ (p : Profile) (given mid : List Token) (now : Converter) (a b : Option 
         no_marker = h.no_marker;
         stopped = h.stopped;
         profile = h.profile;
-        told = h.told;
+        writing = h.writing;
         probes = h.probes;
       }
 
@@ -115,7 +115,7 @@ module _ (p : Profile) (known : IsKnown p) (given tokens : List Token) where
   fault_not_taken t us f new a c h =
       let w = written_known p h.now.reading known h.reads.has_read.profile ∙ sym h.reads.has_read.profile in
       let at : FaultAtEnd p tokens (tokens ++ t ∷ us) (record { at = t.at; reason = f.reason }) new h.mid c =
-      at_fault p h.now tokens t h.now.lexer new false h.reads.has_read h.profile h.probes w us h.stopped in
+      at_fault p h.now tokens t h.now.lexer new false h.reads.has_read h.profile h.probes h.writing w us h.stopped in
       fault_more (tokens ++ t ∷ us) f new a h.mid c (gains_known h.now a h.mid h.reads) h.reads.no_game
       (subst (λ n. FaultAtEnd p tokens (tokens ++ t ∷ us) (record { at = n; reason = f.reason }) new h.mid c) (sym h.place) at)
 
@@ -142,12 +142,12 @@ module _ (p : Profile) (given tokens : List Token) (t : Token) (m : CodeMark) (c
         (tokens ++ t ∷ [])
     has_read_marker l finished =
         has_read_game p before tokens t l new finished meets.reads.has_read (takes (Ok tt) ends).keeps.profile
-        (takes (Ok tt) ends).keeps.probes h.free h.leads h.plies h.tried
+        (takes (Ok tt) ends).keeps.probes (takes (Ok tt) ends).keeps.writing h.free h.leads h.plies h.tried
 
     pub game_by_marker : (g : Game) × OneGame p given (tokens ++ t ∷ []) g × (game_in_reader new ≡ finished_game_of g)
     game_by_marker =
         let one = one_game p before tokens t c.lexer new false meets.reads.has_read (takes (Ok tt) ends).keeps.profile
-        (takes (Ok tt) ends).keeps.probes h.free h.leads in
+        (takes (Ok tt) ends).keeps.probes (takes (Ok tt) ends).keeps.writing h.free h.leads in
         (one.0, one.1 ∙ ap (λ gs. gs ++ one.0 ∷ []) meets.reads.no_game, one.2)
 
     pub gains_marker : IsKnown p → Gains p given (tokens ++ t ∷ []) a sink.after
@@ -155,7 +155,7 @@ module _ (p : Profile) (given tokens : List Token) (t : Token) (m : CodeMark) (c
         let w = written_known p meets.reader known meets.reads.has_read.profile ∙ sym meets.reads.has_read.profile in
         gains_more (gains_known p known given tokens before a sink.before meets.reads)
         (gains_token p before tokens t c.lexer new false meets.reads.has_read (takes (Ok tt) ends).keeps.profile
-        (takes (Ok tt) ends).keeps.probes w h.free h.appended)
+        (takes (Ok tt) ends).keeps.probes (takes (Ok tt) ends).keeps.writing w h.free h.appended)
 
   pub fault_of_marker : IsKnown p → (us : List Token) (f : Fault) → EndsGame c.reading m new (Err f) sink
       → FaultAtEnd p given (tokens ++ t ∷ us) f new a sink.after
@@ -163,7 +163,7 @@ module _ (p : Profile) (given tokens : List Token) (t : Token) (m : CodeMark) (c
       let took = takes (Err f) ends in
       let w = written_known p meets.reader known meets.reads.has_read.profile ∙ sym meets.reads.has_read.profile in
       let at : FaultAtEnd p tokens (tokens ++ t ∷ us) (record { at = t.at; reason = f.reason }) new sink.before sink.after =
-      at_fault p before tokens t c.lexer new false meets.reads.has_read took.keeps.profile took.keeps.probes w us
+      at_fault p before tokens t c.lexer new false meets.reads.has_read took.keeps.profile took.keeps.probes took.keeps.writing w us
       (took.accepts (part_after p tokens) meets.reads.has_read.agrees) in
       fault_more p known given tokens (tokens ++ t ∷ us) f new a sink.before sink.after
       (gains_known p known given tokens before a sink.before meets.reads) meets.reads.no_game

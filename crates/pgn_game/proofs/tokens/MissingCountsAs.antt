@@ -12,7 +12,7 @@ pub finished_alike : (finished : Bool) (marker : Marker) (r : ReaderState)
 finished_alike true marker r = refl
 finished_alike false marker r = refl
 
-none_tried : {p q : Profile} {n : ℕ} → MostTried p [] n → MostTried q [] n
+pub none_tried : {silent quiet : Bool} {p q : Profile} {n : ℕ} → MostTried silent p [] n → MostTried quiet q [] n
 none_tried (none b) = none b
 
 pub stands_counting : (marker : Marker) (c : Converter) → CountsMissingAs marker c (counting_missing_as marker c)

@@ -1,5 +1,5 @@
 -- One token more: what was read, and what is due for it.
-use Rattle.pgn_game.proofs.Words.{Kind, Token, Reason, Fault, Mode, Profile, Missing, counts_as, takes_the_marker, Game, Part, no_part, ◌≡◌, ℕ, ◌+◌, List, [], ◌∷◌, ◌++◌, length, Option, None, Some, refl, sym, ap, ◌∙◌, append_assoc, append-nil, length-append, arith, take-append-add, Appends-trans, Appends-nil, refusal, text_next, gain, Gains, game_text, text_of_games as text_of, torn_for, Next, next, Progress, progress_with, progress_after, no_progress, Read, read_from, read, written_so_far as written, due, IsPrefix, DueGrows, Stops, refused_stop as refused, unwritten, StopsWriting, games_before, position_at_stop, ProbesAtStop, rules, subst, Appends, torn, going, whole}
+use Rattle.pgn_game.proofs.Words.{Bool, Kind, Token, Reason, Fault, Mode, Profile, Missing, counts_as, takes_the_marker, Game, Part, no_part, ◌≡◌, ℕ, ◌+◌, List, [], ◌∷◌, ◌++◌, length, Option, None, Some, refl, sym, ap, ◌∙◌, append_assoc, append-nil, length-append, arith, take-append-add, Appends-trans, Appends-nil, refusal, text_next, gain, Gains, game_text, text_of_games as text_of, torn_for, Next, next, Progress, progress_with, progress_after, no_progress, Read, read_from, read, written_so_far as written, due, IsPrefix, DueGrows, Stops, refused_stop as refused, unwritten, StopsWriting, games_before, position_at_stop, ProbesAtStop, rules, subst, Appends, torn, going, whole}
 use Rattle.pgn_game.proofs.tokens.NextGrows.{next_is}
 
 abbrev read_as : Progress → Option Fault → Read
@@ -114,8 +114,8 @@ games_still first (refused g fault gains) = refl
 games_still first (unwritten at writing) = refl
 
 pub counts_still : {p : Profile} {x y tokens : List Token} {f : Fault} {a b c : Option (List ℕ)}
-    (first : Gains p x y a b) (stops : Stops p y tokens b c f) {most : ℕ}
-    → ProbesAtStop stops most → ProbesAtStop (stops_more first stops) most
+    (first : Gains p x y a b) (stops : Stops p y tokens b c f) {silent : Bool} {most : ℕ}
+    → ProbesAtStop silent stops most → ProbesAtStop silent (stops_more first stops) most
 unfolding stops_more writing_more
 counts_still first (refused g fault gains) h = record { tried = h.tried; probed = h.probed }
 counts_still first (unwritten at writing) h = record { tried = h.tried; probed = h.probed }

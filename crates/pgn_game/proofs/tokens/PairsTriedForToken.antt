@@ -1,7 +1,7 @@
 -- How many pairs were tried for a token: from what the reader counts to what is said of tokens.
 use Rattle.pgn_game.proofs.tokens.OneMoreToken.{goes_on}
 use Rattle.pgn_lexer.specs.Tokens as tokens
-use Rattle.pgn_game.proofs.Words.{Parts, Kind, Token, Mode, Full, Reduced, Reason, InMovetext, Profile, ◌≡◌, ◌⊎◌, inl, ℕ, ◌<◌, max, Bool, true, false, ◌||◌, List, [], ◌∷◌, ◌++◌, None, Some, is_some, Result, Ok, Err, refl, sym, subst, arith, IsTrue, drop-append_seam, drop-length, and_right, or_right, false≢true, Move, Accepted, depth, refusal, is_at, is_number, is_outside_tag_pairs, is_score, levels_of_part, marker_of, position_in, Next, going, Progress, progress_after, read_from, read, Costs, CostsIf, CostsToFind, is_written, CostsToWrite, added, CostsToAdd, Tries, MostFrom, MostTried, Raises, has_move, ReaderState, Agrees, IsOpen, may_have_movetext, model_item, with_items, TriesItem, writes, LexReason, Annotation, Item, Part, rules, not, length, drop, ap, ◌&&◌, ◌∙◌}
+use Rattle.pgn_game.proofs.Words.{Parts, Kind, Token, Mode, Reason, InMovetext, Profile, ◌≡◌, ◌⊎◌, inl, ℕ, ◌<◌, max, Bool, true, false, ◌||◌, List, [], ◌∷◌, ◌++◌, Option, None, Some, is_some, Result, Ok, Err, refl, sym, subst, arith, IsTrue, drop-append_seam, drop-length, and_right, or_right, false≢true, Move, Accepted, depth, refusal, is_at, is_number, is_outside_tag_pairs, is_score, levels_of_part, marker_of, position_in, Next, going, Progress, progress_after, read_from, read, Costs, CostsIf, CostsToFind, is_written, CostsToWrite, added, CostsToAdd, Tries, MostFrom, MostTried, Raises, has_move, ReaderState, Agrees, IsOpen, may_have_movetext, model_item, with_items, TriesItem, mode_written, LexReason, Annotation, Item, Part, rules, not, length, drop, ap, ◌&&◌, ◌∙◌}
 use Rattle.pgn_game.specs.Game.{move}
 use Rattle.pgn_game.specs.MostTried as most_tried
 use Rattle.pgn_game.proofs.refusals.RefusalsInMovetext.{depth_is, position_is}
@@ -9,36 +9,36 @@ use Rattle.pgn_game.proofs.refusals.ReaderToPart.{held_at, text_at}
 
 -- Tokens in turn.
 -- what is tried for tokens, and for those behind them
-most_then : (p : Profile) {b : Progress} {ts : List Token} {most : ℕ} → MostFrom p b ts most → (us : List Token) (n : ℕ)
-    → (read_from p b ts).fault ≡ None → MostFrom p (read_from p b ts).progress us n → MostFrom p b (ts ++ us) (max most n)
-most_then p (most_tried.none c) us n clear then = let most_of_one : n ≡ max 0 n = omega arith in subst (MostFrom p c us) most_of_one then
-most_then p (most_tried.refused c x xs m reason some h) us n clear then = cc
-most_then p (most_tried.passes c x xs m rest is h more) us n clear then =
+most_then : (silent : Bool) (p : Profile) {b : Progress} {ts : List Token} {most : ℕ} → MostFrom silent p b ts most → (us : List Token) (n : ℕ)
+    → (read_from p b ts).fault ≡ None → MostFrom silent p (read_from p b ts).progress us n → MostFrom silent p b (ts ++ us) (max most n)
+most_then silent p (most_tried.none c) us n clear then = let most_of_one : n ≡ max 0 n = omega arith in subst (MostFrom silent p c us) most_of_one then
+most_then silent p (most_tried.refused c x xs m reason some h) us n clear then = cc
+most_then silent p (most_tried.passes c x xs m rest is h more) us n clear then =
     let same : read_from p c (x ∷ xs) ≡ read_from p (progress_after c x) xs = goes_on p c x xs is in
     let again : max m (max rest n) ≡ max (max m rest) n = omega arith in
-    subst (MostFrom p c (x ∷ xs ++ us)) again (most_tried.passes c x (xs ++ us) m (max rest n) is h
-    (most_then p more us n (rw same at clear) (rw same at then)))
+    subst (MostFrom silent p c (x ∷ xs ++ us)) again (most_tried.passes c x (xs ++ us) m (max rest n) is h
+    (most_then silent p more us n (rw same at clear) (rw same at then)))
 
 -- so from the start on: a token more, and one that is rejected, whatever comes behind it
-pub most_with : (p : Profile) {given : List Token} (t : Token) {old new : ℕ} → MostTried p given old → (read p given).fault ≡ None
+pub most_with : (silent : Bool) (p : Profile) {given : List Token} (t : Token) {old new : ℕ} → MostTried silent p given old → (read p given).fault ≡ None
     → refusal p (read p given).progress.part t.kind ≡ None
-    → Raises (Tries p (read p given).progress.part t.kind) old new → MostTried p (given ++ t ∷ []) new
-most_with p {given} t before clear free raised =
+    → Raises (Tries silent p (read p given).progress.part t.kind) old new → MostTried silent p (given ++ t ∷ []) new
+most_with silent p {given} t before clear free raised =
     let b = (read p given).progress in
     let one = most_tried.passes b t [] raised.tried 0 free raised.allowed (most_tried.none (progress_after b t)) in
     let least : max raised.tried 0 ≡ raised.tried = omega arith in
-    let then = subst (MostFrom p b (t ∷ [])) least one in
-    subst (MostTried p (given ++ t ∷ [])) (sym raised.most) (most_then p before (t ∷ []) raised.tried clear then)
+    let then = subst (MostFrom silent p b (t ∷ [])) least one in
+    subst (MostTried silent p (given ++ t ∷ [])) (sym raised.most) (most_then silent p before (t ∷ []) raised.tried clear then)
 
-pub most_to_refused : (p : Profile) {given : List Token} (t : Token) (us : List Token) {why : Reason} {old new : ℕ}
-    → MostTried p given old → (read p given).fault ≡ None → refusal p (read p given).progress.part t.kind ≡ Some why
-    → Raises (Tries p (read p given).progress.part t.kind) old new → MostTried p (given ++ t ∷ us) new
-most_to_refused p {given} t us {why} before clear is raised =
+pub most_to_refused : (silent : Bool) (p : Profile) {given : List Token} (t : Token) (us : List Token) {why : Reason} {old new : ℕ}
+    → MostTried silent p given old → (read p given).fault ≡ None → refusal p (read p given).progress.part t.kind ≡ Some why
+    → Raises (Tries silent p (read p given).progress.part t.kind) old new → MostTried silent p (given ++ t ∷ us) new
+most_to_refused silent p {given} t us {why} before clear is raised =
     let then = most_tried.refused (read p given).progress t us raised.tried why is raised.allowed in
-    subst (MostTried p (given ++ t ∷ us)) (sym raised.most) (most_then p before (t ∷ us) raised.tried clear then)
+    subst (MostTried silent p (given ++ t ∷ us)) (sym raised.most) (most_then silent p before (t ∷ us) raised.tried clear then)
 
-pub raises_none : {p : Profile} {part : Part} {r : LexReason} {why : Reason} {most : ℕ} → refusal p part (tokens.refused r) ≡ Some why
-    → Raises (Tries p part (tokens.refused r)) most most
+pub raises_none : {silent : Bool} {p : Profile} {part : Part} {r : LexReason} {why : Reason} {most : ℕ} → refusal p part (tokens.refused r) ≡ Some why
+    → Raises (Tries silent p part (tokens.refused r)) most most
 raises_none is = search rules
 
 -- some pair was tried if a move is in the part
@@ -70,15 +70,11 @@ pub costs_found : {r : ReaderState} {part : Part} (s : List ℕ) (n : ℕ) → I
 costs_found s n is at number score costs = search (rules, false≢true, position_is)
 
 -- An item is written at the cost that its place has.
-written_alike : (mode : Mode) (deep : ℕ) (i : Item) → writes mode deep i ≡ is_written mode deep i
-written_alike Full deep i = refl
-written_alike Reduced deep i = refl
-
-item_held : (r : ReaderState) {to : Part} (i : Item) (n k : ℕ) → IsOpen r to → TriesItem r.profile.mode r.text i n k
-    → CostsToWrite (is_written r.profile.mode (depth (levels_of_part to)) i) (position_in to) i n k
+item_held : (r : ReaderState) {to : Part} (i : Item) (n k : ℕ) → IsOpen r to → TriesItem (mode_written r) r.text i n k
+    → CostsToWrite (is_written (mode_written r) (depth (levels_of_part to)) i) (position_in to) i n k
 item_held r {to} i n k is h =
     subst (λ (b : Bool). CostsToWrite b (position_in to) i n k)
-    (rw (depth_is r to is) (written_alike r.profile.mode (depth (levels_of_part to)) i))
+    (rw (depth_is r to is) refl)
     (rw (position_is r to is) at h)
 
 untried : (b : Bool) (place : Parts) (i : Annotation) {n k : ℕ} → k ≡ n → CostsToWrite b place (model_item i) n k
@@ -86,37 +82,37 @@ untried b place i h1 = search rules
 
 -- The pairs tried before what is written of a token, and after. Where a write of the tag section
 -- failed, none was tried.
-abbrev pub CostsToPut : Profile → Part → Next → ℕ → ℕ → Type 0
-CostsToPut p part to n k = CostsToAdd p.mode (depth (levels_of_part part)) (position_in part) (added part to) n k
+abbrev pub CostsToPut : Option Mode → Part → Next → ℕ → ℕ → Type 0
+CostsToPut mode part to n k = CostsToAdd mode (depth (levels_of_part part)) (position_in part) (added part to) n k
 
-abbrev pub TriesPut : Profile → Part → Next → Result Accepted Reason → ℕ → ℕ → Type 0
-TriesPut p part to (Ok accepted) n k = CostsToPut p part to n k
-TriesPut p part to (Err reason) n k = CostsToPut p part to n k ⊎ ((is_at InMovetext part ≡ false) × (k ≡ n))
+abbrev pub TriesPut : Option Mode → Part → Next → Result Accepted Reason → ℕ → ℕ → Type 0
+TriesPut mode part to (Ok accepted) n k = CostsToPut mode part to n k
+TriesPut mode part to (Err reason) n k = CostsToPut mode part to n k ⊎ ((is_at InMovetext part ≡ false) × (k ≡ n))
 
-pub tries_put : (p : Profile) (part : Part) (to : Next) (r : Result Accepted Reason) (n k : ℕ)
-    → CostsToPut p part to n k → TriesPut p part to r n k
-tries_put p part to (Ok accepted) n k costs = costs
-tries_put p part to (Err reason) n k costs = inl costs
+pub tries_put : (mode : Option Mode) (part : Part) (to : Next) (r : Result Accepted Reason) (n k : ℕ)
+    → CostsToPut mode part to n k → TriesPut mode part to r n k
+tries_put mode part to (Ok accepted) n k costs = costs
+tries_put mode part to (Err reason) n k costs = inl costs
 
 -- an item other than a move, and none; and a token that leaves the items as they are
-adds_items : (p : Profile) (part : Part) (items : List Item) (n k : ℕ)
-    → CostsToAdd p.mode (depth (levels_of_part part)) (position_in part) items n k → CostsToPut p part (going (with_items part items)) n k
-adds_items p part items n k costs =
-    subst (λ (l : List Item). CostsToAdd p.mode (depth (levels_of_part part)) (position_in part) l n k)
+adds_items : (mode : Option Mode) (part : Part) (items : List Item) (n k : ℕ)
+    → CostsToAdd mode (depth (levels_of_part part)) (position_in part) items n k → CostsToPut mode part (going (with_items part items)) n k
+adds_items mode part items n k costs =
+    subst (λ (l : List Item). CostsToAdd mode (depth (levels_of_part part)) (position_in part) l n k)
     (sym (drop-append_seam part.items items)) costs
 
-pub adds_none : (p : Profile) (part : Part) → CostsToPut p part (going (with_items part [])) 0 0
-adds_none p part = adds_items p part [] 0 0 refl
+pub adds_none : (mode : Option Mode) (part : Part) → CostsToPut mode part (going (with_items part [])) 0 0
+adds_none mode part = adds_items mode part [] 0 0 refl
 
-pub adds_item : (p : Profile) (i : Annotation) (part : Part) → CostsToPut p part (going (with_items part (model_item i ∷ []))) 0 0
-adds_item p i part = adds_items p part (model_item i ∷ []) 0 0
-    (untried (is_written p.mode (depth (levels_of_part part)) (model_item i)) (position_in part) i {n = 0} {k = 0} refl)
+pub adds_item : (mode : Option Mode) (i : Annotation) (part : Part) → CostsToPut mode part (going (with_items part (model_item i ∷ []))) 0 0
+adds_item mode i part = adds_items mode part (model_item i ∷ []) 0 0
+    (untried (is_written mode (depth (levels_of_part part)) (model_item i)) (position_in part) i {n = 0} {k = 0} refl)
 
-pub adds_same : (p : Profile) (part : Part) (to : Part) → to.items ≡ part.items → CostsToPut p part (going to) 0 0
-adds_same p part to same =
-    subst (λ (l : List Item). CostsToAdd p.mode (depth (levels_of_part part)) (position_in part) l 0 0)
+pub adds_same : (mode : Option Mode) (part : Part) (to : Part) → to.items ≡ part.items → CostsToPut mode part (going to) 0 0
+adds_same mode part to same =
+    subst (λ (l : List Item). CostsToAdd mode (depth (levels_of_part part)) (position_in part) l 0 0)
     (sym (ap (drop (length part.items)) same ∙ drop-length part.items)) refl
 
-pub adds_move : (r : ReaderState) (part : Part) (m : Move) (n k : ℕ) → IsOpen r part → TriesItem r.profile.mode r.text (move m) n k
-    → CostsToPut r.profile part (going (with_items part (move m ∷ []))) n k
-adds_move r part m n k is tries = adds_items r.profile part (move m ∷ []) n k (item_held r (move m) n k is tries)
+pub adds_move : (r : ReaderState) (part : Part) (m : Move) (n k : ℕ) → IsOpen r part → TriesItem (mode_written r) r.text (move m) n k
+    → CostsToPut (mode_written r) part (going (with_items part (move m ∷ []))) n k
+adds_move r part m n k is tries = adds_items (mode_written r) part (move m ∷ []) n k (item_held r (move m) n k is tries)

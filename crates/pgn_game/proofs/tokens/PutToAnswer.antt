@@ -2,7 +2,7 @@
 use Rattle.std.proofs.Math.Nat.{le-max_left}
 use Rattle.pgn_lexer.specs.declared.token.TokenKind.TheVariants as token_kinds
 use Rattle.pgn_game.specs.Game.{move}
-use Rattle.pgn_game.proofs.Words.{Parts, Played, Kind, Reason, Stage, Between, AfterTags, InMovetext, Profile, Item, Part, no_part, ◌≡◌, ◌⊎◌, ℕ, max, true, false, ◌||◌, [], ◌∷◌, List, length, drop, Option, None, Some, Bor, Result, Ok, Err, IsFalse, IsTrue, is_some, refl, sym, ap, subst, ◌∙◌, arith, or_parts, Move, legal, Appends-nil, AppendsFront, Device, kind_of, TokenKind, symbol, Accepted, More, Marker, marker_text, move_of, found_in, torn, refusal, is_at, is_comment, is_end, is_number, is_outside_tag_pairs, is_score, marker_of, position_if_move, position_in, Next, going, at_stage, in_text, next, gain, text_next, CostsToFind, Tries, TriesUnwritten, ReaderState, Agrees, Answers, as_written, IsStopped, is_outside_the_table, FinishesAtMarker, IsEntry, IsOpen, may_have_movetext, model_item, text_refusal, with_items, Annotation, CountsMove, EntersMovetext, Finds, FinishesNone, GoesTo, PutResult, PutsItems, Takes, TakesEntry, TakesOutside, TakesToken, TakesUnwritten, at_game_start, counting_probes, unused, rules, inl, inr, IllegalMove, false≢true, ok_or, with_next, Appends, plies_behind, plies_next, whole_plies, ◌+◌, Finished}
+use Rattle.pgn_game.proofs.Words.{Parts, Played, Kind, Reason, Stage, Between, AfterTags, InMovetext, Profile, Item, Part, no_part, ◌≡◌, ◌⊎◌, ℕ, max, Bool, true, false, ◌||◌, [], ◌∷◌, List, length, drop, Option, None, Some, Bor, Result, Ok, Err, IsFalse, IsTrue, is_some, refl, sym, ap, subst, ◌∙◌, arith, or_parts, Move, legal, Appends-nil, AppendsFront, Device, kind_of, TokenKind, symbol, Accepted, More, Marker, marker_text, move_of, found_in, torn, refusal, is_at, is_comment, is_end, is_number, is_outside_tag_pairs, is_score, marker_of, position_if_move, position_in, Next, going, at_stage, in_text, next, gain, text_next, CostsToFind, Tries, TriesUnwritten, ReaderState, Mode, mode_written, Agrees, Answers, as_written, IsStopped, is_outside_the_table, FinishesAtMarker, IsEntry, IsOpen, may_have_movetext, model_item, text_refusal, with_items, Annotation, CountsMove, EntersMovetext, Finds, FinishesNone, GoesTo, PutResult, PutsItems, Takes, TakesEntry, TakesOutside, TakesToken, TakesUnwritten, at_game_start, counting_probes, unused, rules, inl, inr, IllegalMove, false≢true, ok_or, with_next, Appends, plies_behind, plies_next, whole_plies, ◌+◌, Finished}
 use Rattle.pgn_game.specs.ReaderState as reader_state
 use Rattle.pgn_game.proofs.refusals.RefusalsByStage.{begins_alike, comment_passes, drops_comments, passes_between}
 use Rattle.pgn_game.proofs.refusals.RefusalsInMovetext.{marker_whole, move_free, move_leads, move_refused as move_row_refused, position_is}
@@ -37,7 +37,7 @@ refused_after old new IsOf k reason n o m counted inside why costs here = record
       }) (rw counted (here part is));
   keeps = record {
     profile = rw counted;
-    told = rw counted;
+    writing = rw counted;
     plies = omega (arith, ap (λ (r : ReaderState). r.earlier_plies) counted, ap (λ (r : ReaderState). r.text.plies) counted);
     probes = omega (arith, ap (λ (r : ReaderState). r.most_probes) counted, le-max_left old.most_probes n);
   };
@@ -64,15 +64,15 @@ module _ (old counted new : ReaderState) (part : Part) (k : Kind) (to : Next) (d
   gain_is : drop (length (torn (as_written counted) part)) (text_next (as_written counted) to) ≡ gain (as_written old) part k
   gain_is = rw same (ap (λ (x : Next). drop (length (torn (as_written old) part)) (text_next (as_written old) x)) (sym says.1))
 
-  tries : CostsToPut old.profile part to n more → Tries old.profile part k more
+  tries : CostsToPut (mode_written old) part to n more → Tries old.writing.is_silent old.profile part k more
   tries costs = record { found = n; finds = finds; writes = search rules }
 
-  unwritten : CostsToPut old.profile part to n more ⊎ ((is_at InMovetext part ≡ false) × (more ≡ n)) → TriesUnwritten old.profile part k more
+  unwritten : CostsToPut (mode_written old) part to n more ⊎ ((is_at InMovetext part ≡ false) × (more ≡ n)) → TriesUnwritten old.writing.is_silent old.profile part k more
   unwritten (inl costs) = most_tried.at_token (tries costs)
   unwritten (inr (before, none)) = most_tried.in_section before (subst (CostsToFind part k) (sym none) finds)
 
   answers : (r : Result Accepted Reason) → GoesTo counted part to new r d
-      → TriesPut old.profile part to r n more → Answers old part k new r d.before d.after
+      → TriesPut (mode_written old) part to r n more → Answers old part k new r d.before d.after
   answers (Ok accepted) goes costs = record {
     free = says.0;
     leads = rw says.1 goes.leads;
@@ -92,7 +92,7 @@ pub takes_put : (old : ReaderState) {counted new : ReaderState} (IsOf IsPut : Pa
     → new.most_probes ≡ max old.most_probes more → ((part : Part) → IsOf part → IsPut part)
     → ((part : Part) → IsOf part → (refusal old.profile part k ≡ None) × (next part k ≡ to part))
     → ((part : Part) → IsOf part → CostsToFind part k n)
-    → ((part : Part) → IsOf part → TriesPut old.profile part (to part) r n more) → Takes old IsOf k new r d
+    → ((part : Part) → IsOf part → TriesPut (mode_written old) part (to part) r n more) → Takes old IsOf k new r d
 takes_put old IsOf IsPut k n more same puts finished closed most sub says finds costs = search (rules, answers, le-max_left)
 
 finishes_none : (k : Kind) (new : ReaderState) (r : Result Accepted Reason) → FinishesNone r → FinishesAtMarker k new r
@@ -105,7 +105,7 @@ pub takes_step : (old new : ReaderState) (k : Kind) (to : Part → Next) (o : Op
     → PutResult old (Agrees old) to new (Ok More) (unused o m) → new.most_probes ≡ old.most_probes
     → ((part : Part) → Agrees old part → (refusal old.profile part k ≡ None) × (next part k ≡ to part))
     → ((part : Part) → Agrees old part → CostsToFind part k 0)
-    → ((part : Part) → CostsToPut old.profile part (to part) 0 0) → TakesToken old k new (Ok More) (unused o m)
+    → ((part : Part) → CostsToPut (mode_written old) part (to part) 0 0) → TakesToken old k new (Ok More) (unused o m)
 takes_step old new k to o m puts most says finds costs =
     takes_put old (Agrees old) (Agrees old) k 0 0 (counting_none old) puts tt (λ at. refl) (omega (arith, most)) (λ part is. is) says finds
     (λ part is. costs part)
@@ -122,7 +122,7 @@ module _ (old new : ReaderState) (k : Kind) (stage : Stage) (at : old.stage ≡ 
       (λ part agrees. ap (position_if_move reason) (position_in_pair agrees at (inside part)))
 
   pub step_in_pair : (to : Part → Next) → ((o : Option (List ℕ)) (m : ℕ) → PutResult old (Agrees old) to new (Ok More) (unused o m))
-      → new.most_probes ≡ old.most_probes → ((part : Part) → CostsToPut old.profile part (to part) 0 0)
+      → new.most_probes ≡ old.most_probes → ((part : Part) → CostsToPut (mode_written old) part (to part) 0 0)
       → ((part : Part) → Agrees old part → (refusal old.profile part k ≡ None) × (next part k ≡ to part))
       → TakesUnwritten old k new (Ok More)
   step_in_pair to puts most costs says o m = takes_step old new k to o m (puts o m) most says untried costs
@@ -132,19 +132,19 @@ pub comment_in_pair : (old new : ReaderState) (k : TokenKind) (stage : Stage) �
     → IsTrue (drops_comments stage) → true ≡ is_comment (kind_of k) → TakesUnwritten old (kind_of k) new (Ok More)
 comment_in_pair old new k stage at inside same drops is =
     subst (λ (r : ReaderState). TakesUnwritten old (kind_of k) r (Ok More)) (sym same)
-    (step_in_pair old old (kind_of k) stage at inside going (puts_nothing old) refl (λ part. adds_same old.profile part part refl)
+    (step_in_pair old old (kind_of k) stage at inside going (puts_nothing old) refl (λ part. adds_same (mode_written old) part part refl)
     (λ part agrees. comment_passes old.profile k (sym at ∙ agrees.stage) drops is))
 
 -- Items other than moves, and none.
 puts_entry : {old new : ReaderState} (k : Kind) {items : List Item} {r : Result Accepted Reason} {d : Device} → PutsItems old items new r d
-    → ((p : Profile) (part : Part) → CostsToPut p part (going (with_items part items)) 0 0)
+    → ((mode : Option Mode) (part : Part) → CostsToPut mode part (going (with_items part items)) 0 0)
     → ((part : Part) → IsOpen old part → (text_refusal old.profile part k ≡ None) × (in_text part k ≡ going (with_items part items)))
     → ((part : Part) → CostsToFind part k 0) → TakesEntry old k new r d
 puts_entry {old} {new} k {items} {r} put costs says finds =
     takes_put old (IsEntry old k) (IsOpen old) k 0 0 (counting_none old) put.puts (finishes_none k new r put.goes_on) (λ at. refl)
     (omega (arith, put.probes)) (λ part is. is.is_open)
     (λ part is. (is.row ∙ (says part is.is_open).0, is.leads ∙ (says part is.is_open).1)) (λ part is. finds part)
-    (λ part is. tries_put old.profile part (going (with_items part items)) r 0 0 (costs old.profile part))
+    (λ part is. tries_put (mode_written old) part (going (with_items part items)) r 0 0 (costs (mode_written old) part))
 
 pub passes_entry : (old new : ReaderState) (k : Kind) (r : Result Accepted Reason) (d : Device) → PutsItems old [] new r d
     → ((part : Part) → IsOpen old part → (text_refusal old.profile part k ≡ None) × (in_text part k ≡ going (with_items part [])))
@@ -155,7 +155,7 @@ pub item_entry : (old new : ReaderState) (k : Kind) (i : Annotation) (r : Result
     → PutsItems old (model_item i ∷ []) new r d → ((part : Part) → IsOpen old part → (text_refusal old.profile part k ≡ None)
     × (in_text part k ≡ going (with_items part (model_item i ∷ [])))) → ((part : Part) → CostsToFind part k 0)
     → TakesEntry old k new r d
-item_entry old new k i r d put says finds = puts_entry k put (λ p part. adds_item p i part) says finds
+item_entry old new k i r d put says finds = puts_entry k put (λ mode part. adds_item mode i part) says finds
 
 -- A token that belongs to movetext at the stage of the reader.
 pub enters : (old : ReaderState) (k : TokenKind) → IsTrue (may_have_movetext old.stage)
@@ -170,16 +170,16 @@ no_pairs = at_stage AfterTags no_part
 finds_alike : (k : TokenKind) (n : ℕ) → CostsToFind no_pairs (kind_of k) n → CostsToFind no_part (kind_of k) n
 finds_alike _ n h = h
 
-module _ (p : Profile) (k : TokenKind) (row : refusal p no_pairs (kind_of k) ≡ refusal p no_part (kind_of k))
+module _ (silent : Bool) (p : Profile) (k : TokenKind) (row : refusal p no_pairs (kind_of k) ≡ refusal p no_part (kind_of k))
     (leads : next no_pairs (kind_of k) ≡ next no_part (kind_of k)) where
-  tries_alike : {n : ℕ} → Tries p no_pairs (kind_of k) n → Tries p no_part (kind_of k) n
+  tries_alike : {n : ℕ} → Tries silent p no_pairs (kind_of k) n → Tries silent p no_part (kind_of k) n
   tries_alike t = record {
     found = t.found;
     finds = finds_alike k t.found t.finds;
     writes = rw leads at (rw row at t.writes);
   }
 
-  unwritten_alike : {n : ℕ} → TriesUnwritten p no_pairs (kind_of k) n → TriesUnwritten p no_part (kind_of k) n
+  unwritten_alike : {n : ℕ} → TriesUnwritten silent p no_pairs (kind_of k) n → TriesUnwritten silent p no_part (kind_of k) n
   unwritten_alike (most_tried.at_token t) = most_tried.at_token (tries_alike t)
   unwritten_alike {n} (most_tried.in_section before finds) = most_tried.in_section refl (finds_alike k n finds)
 
@@ -198,15 +198,15 @@ answers_alike old new k (Ok accepted) a b at row leads h = record {
   plies = h.plies ∙ ap (λ (s : ℕ). s + plies_next (next no_pairs (kind_of k)))
       (sym (ap (λ (s : Stage). plies_behind s old.earlier_plies old.text.plies) at))
       ∙ ap (λ (x : Next). whole_plies old + plies_next x) leads;
-  appended = subst (Appends a b) (gain_alike old.profile k row leads (as_written old)) h.appended;
-  tried = record { tried = h.tried.tried; allowed = tries_alike old.profile k row leads h.tried.allowed; most = h.tried.most };
+  appended = subst (Appends a b) (gain_alike old.writing.is_silent old.profile k row leads (as_written old)) h.appended;
+  tried = record { tried = h.tried.tried; allowed = tries_alike old.writing.is_silent old.profile k row leads h.tried.allowed; most = h.tried.most };
 }
 answers_alike old new k (Err reason) a b at row leads (reader_state.refused why is none t here) =
     reader_state.refused why (sym row ∙ is) none
-    (record { tried = t.tried; allowed = tries_alike old.profile k row leads t.allowed; most = t.most }) here
+    (record { tried = t.tried; allowed = tries_alike old.writing.is_silent old.profile k row leads t.allowed; most = t.most }) here
 answers_alike old new k (Err reason) a b at row leads (reader_state.unwritten free front t) =
-    reader_state.unwritten (sym row ∙ free) (subst (AppendsFront a b) (gain_alike old.profile k row leads (as_written old)) front)
-    (record { tried = t.tried; allowed = unwritten_alike old.profile k row leads t.allowed; most = t.most })
+    reader_state.unwritten (sym row ∙ free) (subst (AppendsFront a b) (gain_alike old.writing.is_silent old.profile k row leads (as_written old)) front)
+    (record { tried = t.tried; allowed = unwritten_alike old.writing.is_silent old.profile k row leads t.allowed; most = t.most })
 
 pub takes_first : (old new : ReaderState) (k : TokenKind) (r : Result Accepted Reason) (d : Device)
     → old.stage ≡ Between → is_comment (kind_of k) ≡ false → is_end (kind_of k) ≡ false
@@ -223,7 +223,7 @@ takes_marker old new k marker r d puts finished most is free =
     (counting_none old) puts finished (λ at. refl) (omega (arith, most)) (λ part at. at.is_open)
     (λ part at. (at.row ∙ free part at.is_open, at.leads ∙ marker_whole part k (marker_text marker) is))
     (λ part at. marker_untried part k (ap is_some is))
-    (λ part at. tries_put old.profile part (to_game marker part) r 0 0 refl)
+    (λ part at. tries_put (mode_written old) part (to_game marker part) r 0 0 refl)
 
 -- Moves.
 
@@ -249,7 +249,7 @@ module _ (old found : ReaderState) (s : List ℕ) (n : ℕ) (at : IsTrue (may_ha
 
   pub takes_move : (new : ReaderState) (mv : Move) (r : Result Accepted Reason) (d : Device) (more : ℕ) → Finds old s found (Ok mv) n
       → PutResult found (IsOpen found) (to_items (move mv ∷ [])) new r d → FinishesNone r → new.most_probes ≡ max old.most_probes more
-      → ((part : Part) → IsOpen old part → TriesPut old.profile part (going (with_items part (move mv ∷ []))) r n more)
+      → ((part : Part) → IsOpen old part → TriesPut (mode_written old) part (going (with_items part (move mv ∷ []))) r n more)
       → TakesEntry old (symbol s) new r d
   takes_move new mv r d more finds puts none most costs =
       let here = old.text.levels.present.present in
@@ -279,7 +279,7 @@ passes_first old new k o m same at is =
     subst (λ (r : ReaderState). TakesToken old (kind_of k) r (Ok More) (unused o m)) (sym same)
     (takes_step old old (kind_of k) going o m (puts_nothing old o m) refl
     (λ part agrees. passes_between old.profile k (part_stage old part Between agrees at) is)
-    (λ part agrees. bare_untried k part is) (λ part. adds_same old.profile part part refl))
+    (λ part agrees. bare_untried k part is) (λ part. adds_same (mode_written old) part part refl))
 
 -- The move of a token that SetUp rejects.
 pub no_symbol_counted : (old : ReaderState) (k : TokenKind)
@@ -306,7 +306,7 @@ takes_outside_first old new k (Some r) at comment over t =
 takes_outside_first old new k None at comment over t = record {
   stage = t.stage;
   profile = t.profile;
-  told = t.told;
+  writing = t.writing;
   plies = omega (arith, t.plies);
   probes = t.probes;
   takes = λ newer r d entry. takes_first old newer k r d at comment over (t.takes newer r d entry);

@@ -115,7 +115,7 @@ pub closes_end : (p : Profile) (old : Converter) (u : List ℕ) (given : List To
 closes_end p old u given t l new d (Ok None) is_e ok has_read left takes =
     let h = takes.accepts (part_after p given) has_read.agrees in
     let keeps = takes.keeps in
-    let more = has_read_more p old given t l new true has_read keeps.profile keeps.probes h.free h.leads h.plies h.tried in
+    let more = has_read_more p old given t l new true has_read keeps.profile keeps.probes keeps.writing h.free h.leads h.plies h.tried in
     let passes = rw has_read.profile at h.free in
     let no_game = end_passes p (read p given).progress t.kind is_e passes in
     let between : new.stage ≡ Between = cc (more.agrees.stage, read-passes p given t has_read.passes passes, no_game) in (
@@ -161,7 +161,7 @@ pub kept : (old new : ReaderState) (k : Kind) (d : Device) (r : Result (Option M
     → TakesUnlessMarker old k new r d → Keeps old new
 kept old new k d (Ok None) takes = takes.keeps
 kept old new k d (Ok (Some marker)) meets =
-    record { profile = meets.enters.profile; told = meets.enters.told; plies = omega (arith, meets.enters.plies); probes = meets.enters.probes }
+    record { profile = meets.enters.profile; writing = meets.enters.writing; plies = omega (arith, meets.enters.plies); probes = meets.enters.probes }
 kept old new k d (Err why) takes = takes.0.keeps
 
 -- a marker that was met behind the last piece can be taken

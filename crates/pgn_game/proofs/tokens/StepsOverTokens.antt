@@ -95,7 +95,7 @@ module _ (lexer : Standing) (reading : ReaderState) (games : ℕ) (piece : List 
       steps_met =
           record {
             after = λ p u given reaches.
-                after_token p here u given piece sink.before reaches some _ (written_same reading new keeps.profile keeps.told) used (outcome_at t.at met)
+                after_token p here u given piece sink.before reaches some _ (written_same reading new keeps.profile keeps.writing) used (outcome_at t.at met)
                 sink.after (subst (λ n. n + length piece ≤ 2 ^ 62) reaches.lexer.count short)
                 (took p here u given piece used t l new false sink met reaches
                 (scans.carries u (first piece) given reaches.lexer (follows_own piece)) scans.ends scans.count takes);
@@ -106,7 +106,7 @@ module _ (lexer : Standing) (reading : ReaderState) (games : ℕ) (piece : List 
               ready = ready_in_piece lexer l reading new games t.at used t.kind sink None false (fault_of_step (outcome_at t.at met)) met scans.advances
                   scans.count takes (sound.few refl) (sound.fewer_plies refl refl);
               keeps = record {
-                written = written_same reading new keeps.profile keeps.told;
+                written = written_same reading new keeps.profile keeps.writing;
                 games = refl;
                 none_just_finished = refl;
                 not_finished = refl;

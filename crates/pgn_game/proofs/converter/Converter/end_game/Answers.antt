@@ -29,7 +29,7 @@ returns-in-Err g c =
       games = ap (λ (s : Converter). s.games) c.self.view_is;
       few = omega (arith, c.self.invariant.count, ap (λ (s : Converter). s.lexer.count) c.self.view_is, c.requires.ready.few);
       just_finished = ap (λ b. game_in_reader_if b c.end_game.new.self) flag;
-      written = written_same c.self.inside.reader c.end_game.new.self keeps.profile keeps.told ∙ ap (λ (s : Converter). as_written s.reading) c.self.view_is;
+      written = written_same c.self.inside.reader c.end_game.new.self keeps.profile keeps.writing ∙ ap (λ (s : Converter). as_written s.reading) c.self.view_is;
       probes = omega (arith, ap (λ (s : Converter). s.reading.most_probes) c.self.view_is, keeps.probes);
       counted = counts_reason c.in-Err.reason (device g.W.Sink.taken g.W.Sink.failures c.args.out.now c.end_game.new.out)
           (rw c.in-Err.is at c.end_game.ensures.counted);
@@ -54,7 +54,7 @@ returns-in-Ok g c =
       games = ap (λ (s : Converter). s.games + 1) c.self.view_is;
       few = omega (arith, c.self.invariant.count, ap (λ (s : Converter). s.lexer.count) c.self.view_is, c.requires.ready.few);
       just_finished = refl;
-      written = written_same c.self.inside.reader c.end_game.new.self keeps.profile keeps.told ∙ ap (λ (s : Converter). as_written s.reading) c.self.view_is;
+      written = written_same c.self.inside.reader c.end_game.new.self keeps.profile keeps.writing ∙ ap (λ (s : Converter). as_written s.reading) c.self.view_is;
       probes = omega (arith, ap (λ (s : Converter). s.reading.most_probes) c.self.view_is, keeps.probes);
       counted = counted;
     }

@@ -42,7 +42,7 @@ returns-then-is_ok g c =
       count = c.finish.follows.holds-at-none.count ∙ ap (λ (s : Converter). s.lexer.count) c.self.view_is;
       advances = tt;
       ready = tt;
-      written = written_same c.self.inside.reader met.new.self keeps.profile keeps.told ∙ ap (λ (s : Converter). as_written s.reading) c.self.view_is;
+      written = written_same c.self.inside.reader met.new.self keeps.profile keeps.writing ∙ ap (λ (s : Converter). as_written s.reading) c.self.view_is;
       fault = c.settle-outcome.ensures.fault ∙ ap fault_of_step c.settle-outcome.ensures.outcome ∙ no_fault_if_ok t.at r ok;
       games = ap (λ (s : Converter). s.games) c.self.view_is;
       probes = omega (arith, ap (λ (s : Converter). s.reading.most_probes) c.self.view_is, keeps.probes);
@@ -129,7 +129,7 @@ returns-else-is_end g c =
           (ready_at_end c.self.inside.lexer l c.self.inside.reader met.new.self c.self.inside.games t.at t.kind _ _ _ _ e r
           (not_ended g c) near met.ensures (c.self.invariant.few none) (c.self.invariant.fewer_plies none not_over));
       written =
-          ap (λ (s : Converter). as_written s.reading) now ∙ written_same c.self.inside.reader met.new.self keeps.profile keeps.told
+          ap (λ (s : Converter). as_written s.reading) now ∙ written_same c.self.inside.reader met.new.self keeps.profile keeps.writing
           ∙ ap (λ (s : Converter). as_written s.reading) c.self.view_is;
       fault = ap (λ (s : Converter). s.fault) now ∙ c.settle-outcome.ensures.fault;
       games = ap (λ (s : Converter). s.games) now ∙ ap (λ (s : Converter). s.games) c.self.view_is;

@@ -1,4 +1,4 @@
-use Rattle.pgn_game.proofs.Words.{◌≡◌, ◌≤◌, length, true, false, refl, sym, ap, subst, ◌∙◌, arith, le-leb, lt-leb, false≢true, kind_of, TokenKind, SetUpWithoutFen, TooManyTags, UnexpectedEnd, AfterLeftBracket, AfterTags, Part, TagPairs, refusal, at_stage, next, ReaderState, Agrees, may_have_movetext, CostsToFind}
+use Rattle.pgn_game.proofs.Words.{mode_written, ◌≡◌, ◌≤◌, length, true, false, refl, sym, ap, subst, ◌∙◌, arith, le-leb, lt-leb, false≢true, kind_of, TokenKind, SetUpWithoutFen, TooManyTags, UnexpectedEnd, AfterLeftBracket, AfterTags, Part, TagPairs, refusal, at_stage, next, ReaderState, Agrees, may_have_movetext, CostsToFind}
 use Rattle.pgn_game.proofs.ReaderLemmas.{hit, pass, textual, end_after_tags, open_refusal, open_next, refuses_set_up, entry_after_tags, lacks_of, part_stage, held_at, puts_left_bracket, to_stage, adds_same, counting_none, enters, refused_after, takes_step}
 use Rattle.pgn_game.proofs.reader.Reader.accept_after_tags.Goals as goal
 
@@ -46,7 +46,7 @@ returns-else-is_full g c =
       ap (λ (k : TokenKind). next part (kind_of k)) c.in-LeftBracket.is ∙ open_next part at,
     ))
     (λ part agrees. subst (λ (k : TokenKind). CostsToFind part (kind_of k) 0) (sym c.in-LeftBracket.is) refl)
-    (λ part. adds_same old.profile part (at_stage AfterLeftBracket part) refl)
+    (λ part. adds_same (mode_written old) part (at_stage AfterLeftBracket part) refl)
 
 pub returns-then-lacks_fen : goal.returns-then-lacks_fen
 returns-then-lacks_fen g c =

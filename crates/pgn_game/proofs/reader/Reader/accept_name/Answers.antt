@@ -1,4 +1,4 @@
-use Rattle.pgn_game.proofs.Words.{◌≡◌, ℕ, List, Bor, has_pair, Part, Agrees, ◌&&◌, not, bytes_eq, codes, length, Some, refl, sym, ap, subst, ◌∙◌, kind_of, TokenKind, Mode, ExpectedName, BadTagName, DuplicateTag, TagLineTooLong, ReducedFen, Stage, AfterLeftBracket, AfterName, TagPairs, next, refusal, is_reduced, ReaderState, AreSound}
+use Rattle.pgn_game.proofs.Words.{mode_written, ◌≡◌, ℕ, List, Bor, has_pair, Part, Agrees, ◌&&◌, not, bytes_eq, codes, length, Some, refl, sym, ap, subst, ◌∙◌, kind_of, TokenKind, Mode, ExpectedName, BadTagName, DuplicateTag, TagLineTooLong, ReducedFen, Stage, AfterLeftBracket, AfterName, TagPairs, next, refusal, is_reduced, ReaderState, AreSound}
 use Rattle.std.proofs.lemmas.Bool.{lt-ltb, le-ltb}
 use Rattle.pgn_lexer.specs.declared.token.TokenKind.TheVariants.{Symbol}
 use Rattle.pgn_game.proofs.ReaderLemmas.{name_rows, hit, pass, expected_name, name_refusal, name_next, part_stage, held_at, puts_name}
@@ -88,7 +88,7 @@ returns g c =
     (c.begin.ensures ∙ ap (λ (r : ReaderState). record r.tags { pending_name = Some name }) v)
     (ap (λ (r : ReaderState). record r { stage = AfterName; tags = held }) v))
     (ap (λ (r : ReaderState). r.most_probes) v)
-    (λ part. adds_same old.profile part (record { stage = AfterName; pairs = part.pairs; name = name; items = part.items }) refl) (λ part agrees. (
+    (λ part. adds_same (mode_written old) part (record { stage = AfterName; pairs = part.pairs; name = name; items = part.items }) refl) (λ part agrees. (
       rows old _ _ c.requires.stage c.in-Symbol.is part agrees
           ∙ pass _ _ _ (ap not (sym c.is_tag_name.ensures ∙ c.if-not-is_tag_name.false))
           ∙ pass _ _ _ (in_part old _ _ v c.requires.stage part agrees ∙ sym c.in-Some.ensures.new)

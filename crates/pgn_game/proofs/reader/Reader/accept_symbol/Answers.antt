@@ -19,17 +19,17 @@ number_entry old new s r d number puts =
           (λ part is. (number_free old.profile part s number score, number_leads part s number score)) (λ part. number_untried part s number);
     }
 
-pub returns-in_err-pass : goal.returns-in_err-pass
-returns-in_err-pass g c =
+pub returns-in_err-pass-clause-meets : goal.returns-in_err-pass-clause-meets
+returns-in_err-pass-clause-meets g c =
     let p = err_from_is_err_and c.from_residual.result c.from_residual.ensures.1 in
     rw (p.1 ∙ ap Err p.2)
-    (number_entry c.args.self.now _ c.args.text.now _ _ (sym c.is_number.ensures ∙ c.if-is_number.true) c.in_err-pass.ensures)
+    (number_entry c.args.self.now _ c.args.text.now _ _ (sym c.is_number.ensures ∙ c.if-is_number.true) c.in_err-pass.ensures.puts)
 
-pub returns-then-is_number : goal.returns-then-is_number
-returns-then-is_number g c = number_entry c.args.self.now _ c.args.text.now _ _ (sym c.is_number.ensures ∙ c.if-is_number.true) c.in_ok-pass.ensures
+pub returns-then-is_number-clause-meets : goal.returns-then-is_number-clause-meets
+returns-then-is_number-clause-meets g c = number_entry c.args.self.now _ c.args.text.now _ _ (sym c.is_number.ensures ∙ c.if-is_number.true) c.in_ok-pass.ensures.puts
 
-pub returns-in-Some : goal.returns-in-Some
-returns-in-Some g c = record { is = sym c.in-Some.ensures.text; same = refl; unwritten = refl; still = refl }
+pub returns-in-Some-clause-meets : goal.returns-in-Some-clause-meets
+returns-in-Some-clause-meets g c = record { is = sym c.in-Some.ensures.text; same = refl; unwritten = refl; still = refl }
 
 no_marker : (o : Option Marker) → ((m : Marker) → o ≡ Some m → ⊥) → is_some o ≡ false
 no_marker None other = refl

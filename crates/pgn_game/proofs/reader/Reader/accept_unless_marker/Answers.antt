@@ -14,17 +14,17 @@ no_write old new k reason takes is =
           (takes None 0).counted).1,
     ))
 
-pub returns-in_err-result-in-Some : goal.returns-in_err-result-in-Some
-returns-in_err-result-in-Some g c =
+pub returns-in_err-result-in-Some-clause-takes : goal.returns-in_err-result-in-Some-clause-takes
+returns-in_err-result-in-Some-clause-takes g c =
     let p = err_from_is_err_and c.from_residual.result c.from_residual.ensures.1 in
     let takes = rw c.in_err-result-in-Some.was at c.in-Some.ensures in
     rw (p.1 ∙ ap Err p.2) (takes _ _, no_write c.args.self.now _ _ _ takes)
 
-pub returns-in_ok-result-in-Some : goal.returns-in_ok-result-in-Some
-returns-in_ok-result-in-Some g c = rw c.in_ok-result-in-Some.was at c.in-Some.ensures _ _
+pub returns-in_ok-result-in-Some-clause-takes : goal.returns-in_ok-result-in-Some-clause-takes
+returns-in_ok-result-in-Some-clause-takes g c = rw c.in_ok-result-in-Some.was at c.in-Some.ensures _ _
 
-pub returns-in-None : goal.returns-in-None
-returns-in-None g c = entry_met c.args.self.now _ _ _ _ _ c.in-None.ensures c.accept_entry.ensures
+pub returns-in-None-clause-takes : goal.returns-in-None-clause-takes
+returns-in-None-clause-takes g c = entry_met c.args.self.now _ _ _ _ _ c.in-None.ensures c.accept_entry.ensures.meets
 
 pub accept_entry-requires : goal.accept_entry-requires
 accept_entry-requires g c =

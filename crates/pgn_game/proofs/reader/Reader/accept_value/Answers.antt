@@ -1,4 +1,4 @@
-use Rattle.pgn_game.proofs.Words.{Bor, ◌≡◌, ◌&&◌, ◌≤◌, ◌+◌, false, not, Some, IsTrue, bytes_eq, codes, ℕ, length, Bool, true, nat_lt, List, [], Option, IfSome, refl, sym, ap, subst, ◌∙◌, IsSomeAnd, Ok, is_ok, ltb-false, false≢true, escaped, kind_of, TokenKind, ExpectedValue, BadResult, BadFen, TagLineTooLong, AfterName, AfterValue, Part, insert_pair, refusal, next, ReaderState, Agrees, movetext_after_fen, true_from_ne_false}
+use Rattle.pgn_game.proofs.Words.{mode_written, Bor, ◌≡◌, ◌&&◌, ◌≤◌, ◌+◌, false, not, Some, IsTrue, bytes_eq, codes, ℕ, length, Bool, true, nat_lt, List, [], Option, IfSome, refl, sym, ap, subst, ◌∙◌, IsSomeAnd, Ok, is_ok, ltb-false, false≢true, escaped, kind_of, TokenKind, ExpectedValue, BadResult, BadFen, TagLineTooLong, AfterName, AfterValue, Part, insert_pair, refusal, next, ReaderState, Agrees, movetext_after_fen, true_from_ne_false}
 use Rattle.std.proofs.lemmas.Bool.{le-ltb}
 use Rattle.pgn_lexer.specs.declared.token.TokenKind.TheVariants.{Str}
 use Rattle.pgn_game.specs.FaultTable.{is_result as is_any_result}
@@ -100,7 +100,7 @@ returns g c =
     (rw c.begin_at.ensures
     (ap (λ (r : ReaderState). record r { stage = AfterValue; tags = held; text = movetext_after_fen c.in-Ok.start r.text }) v)))
     (ap (λ (r : ReaderState). r.most_probes) v)
-    (λ part. adds_same old.profile part
+    (λ part. adds_same (mode_written old) part
     (record { stage = AfterValue; pairs = insert_pair (record { name = part.name; value = value }) part.pairs; name = []; items = part.items }) refl)
     (λ part agrees.
     let name = name_of old old _ refl begun c.requires.stage part agrees in

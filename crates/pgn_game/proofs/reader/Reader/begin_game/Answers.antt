@@ -35,7 +35,7 @@ overflow_add-self g c =
     omega (arith, same, c.plies.ensures, c.requires)
 
 pub invariant_of-self : goal.invariant_of-self
-invariant_of-self g c = (ap (λ (t : TagPairs). t.pending_name) c.clear.ensures, c.self.invariant.1)
+invariant_of-self g c = (ap (λ (t : TagPairs). t.pending_name) c.clear.ensures, c.self.invariant.1, c.self.invariant.2)
 
 pub plies-requires : goal.plies-requires
 plies-requires g c = search text_fits

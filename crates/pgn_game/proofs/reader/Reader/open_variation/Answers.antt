@@ -5,16 +5,16 @@ use Rattle.pgn_game.proofs.ReaderLemmas.{reader_alike, hit, pass, holds_is, dept
 use Rattle.pgn_game.proofs.ReaderPartsFitInMemory.{text_fits}
 use Rattle.pgn_game.proofs.reader.Reader.open_variation.Goals as goal
 
-pub returns-then-not-has_own_move : goal.returns-then-not-has_own_move
-returns-then-not-has_own_move g c =
+pub returns-then-not-has_own_move-clause-takes : goal.returns-then-not-has_own_move-clause-takes
+returns-then-not-has_own_move-clause-takes g c =
     let old = c.args.self.now in
     entry_refused old left_paren NoMoveBefore _ _ refl (λ part is.
     hit _ _ _ (ap not (sym (holds_is old part is) ∙ sym (ap (λ (r : ReaderState). is_some r.text.levels.present.before) c.self.view_is)
     ∙ sym c.has_own_move.ensures) ∙ ap not c.if-not-has_own_move.true))
     (λ part. refl)
 
-pub returns-then-depth : goal.returns-then-depth
-returns-then-depth g c =
+pub returns-then-depth-clause-takes : goal.returns-then-depth-clause-takes
+returns-then-depth-clause-takes g c =
     let old = c.args.self.now in
     let v = c.self.view_is in
     let most : g.row.L - 1 ≡ old.profile.depth = ap (λ (r : ReaderState). r.profile.depth) v in
@@ -34,14 +34,14 @@ put-requires g c =
       (c.requires, (some, omega (arith, c.if-depth.false, c.depth.ensures.value, ap (λ (r : ReaderState). length r.text.levels.around) v))),
     )
 
-pub returns : goal.returns
-returns g c =
+pub returns-clause-takes : goal.returns-clause-takes
+returns-clause-takes g c =
     let old = c.args.self.now in
     let v = c.self.view_is in
     let most : g.row.L - 1 ≡ old.profile.depth = ap (λ (r : ReaderState). r.profile.depth) v in
     let some =
     sym (ap (λ (r : ReaderState). is_some r.text.levels.present.before) v) ∙ sym c.has_own_move.ensures ∙ c.if-not-has_own_move.false in
-    item_entry old _ left_paren Open _ _ c.put.ensures (λ part is. (
+    item_entry old _ left_paren Open _ _ c.put.ensures.puts (λ part is. (
       pass _ _ _ (ap not (sym (holds_is old part is) ∙ some))
           ∙ pass _ _ _ (lt-leb old.profile.depth (depth (levels_of_part part))
           (omega (

@@ -1,4 +1,5 @@
-use Rattle.pgn_game.proofs.Words.{refl, ap, subst, sym, ◌∙◌, arith, Err, err_from_is_err_and, Movetext, ItemFits, model_item}
+use Rattle.pgn_game.proofs.putting.SilentReader.{adds_as}
+use Rattle.pgn_game.proofs.Words.{ReaderState, Writing, refl, ap, subst, sym, ◌∙◌, arith, Err, err_from_is_err_and, Movetext, ItemFits, model_item}
 use Rattle.pgn_game.proofs.ReaderLemmas.{reader_alike, text_fits, no_move, begins_as, fails_item, puts_item, puts_unbegun, text_begun}
 use Rattle.pgn_game.proofs.reader.Reader.put.Goals as goal
 
@@ -13,8 +14,8 @@ put-requires g c =
 pub invariant_of-self : goal.invariant_of-self
 invariant_of-self g c = c.self.invariant
 
-pub returns-in_err-begin_movetext : goal.returns-in_err-begin_movetext
-returns-in_err-begin_movetext g c =
+pub returns-in_err-begin_movetext-clause-puts : goal.returns-in_err-begin_movetext-clause-puts
+returns-in_err-begin_movetext-clause-puts g c =
     let p = err_from_is_err_and c.from_residual.result c.from_residual.ensures.1 in
     let begins = c.in_err-begin_movetext.ensures.begins in
     rw (p.1 ∙ ap Err p.2)
@@ -24,29 +25,35 @@ returns-in_err-begin_movetext g c =
       probes = begins.probes;
     })
 
-pub returns-in_err-put : goal.returns-in_err-put
-returns-in_err-put g c =
+pub returns-in_err-put-clause-puts : goal.returns-in_err-put-clause-puts
+returns-in_err-put-clause-puts g c =
     let old = c.args.self.now in
     let p = err_from_is_err_and c.from_residual-in_err-put.result c.from_residual-in_err-put.ensures.1 in
     let begins = begins_as old _ _ _ c.self.view_is c.in_ok-begin_movetext.ensures.begins in
     rw (p.1 ∙ ap Err p.2)
     (record {
       puts = fails_item old _ _ (model_item c.args.item) _ _ _ _ _ _ c.requires.stage begins
-          (record { profile = refl; told = refl; stage = refl; tags = refl; earlier = refl; probes = omega arith })
-          c.in_err-put.field-0.0 c.in_err-put.ensures;
+          (record { profile = refl; writing = refl; stage = refl; tags = refl; earlier = refl; probes = omega arith })
+          c.in_err-put.field-0.0
+          (adds_as c.self.inside.written c.self.inside.mode old.writing.is_silent _ _ _ _ _ _ _ c.self.invariant.2
+          (ap (λ (r : ReaderState). r.writing.is_silent) c.self.view_is ∙ ap (λ (w : Writing). w.is_silent) c.in_ok-begin_movetext.ensures.begins.writing)
+          c.in_err-put.ensures.adds);
       goes_on = tt;
       probes = begins.probes;
     })
 
-pub returns : goal.returns
-returns g c =
+pub returns-clause-puts : goal.returns-clause-puts
+returns-clause-puts g c =
     let old = c.args.self.now in
     let i = c.args.item in
     let begins = begins_as old _ _ _ c.self.view_is c.in_ok-begin_movetext.ensures.begins in
     record {
       puts = puts_item old _ _ (model_item i) _ _ _ _ _ _ c.requires.stage begins
-          (record { profile = refl; told = refl; stage = refl; tags = refl; earlier = refl; probes = omega arith })
-          (λ is. absurd (cc (no_move i))) c.in_ok-put.ensures;
+          (record { profile = refl; writing = refl; stage = refl; tags = refl; earlier = refl; probes = omega arith })
+          (λ is. absurd (cc (no_move i)))
+          (adds_as c.self.inside.written c.self.inside.mode old.writing.is_silent _ _ _ _ _ _ _ c.self.invariant.2
+          (ap (λ (r : ReaderState). r.writing.is_silent) c.self.view_is ∙ ap (λ (w : Writing). w.is_silent) c.in_ok-begin_movetext.ensures.begins.writing)
+          c.in_ok-put.ensures.adds);
       goes_on = tt;
       probes = begins.probes;
     }

@@ -1,58 +1,55 @@
-use Rattle.pgn_game.proofs.Words.{◌≡◌, ℕ, List, sym, ap, Ok, Err, err_from_is_err_and, Device, AfterTags, InMovetext, Pair, known_of, tag_section, ReaderState, may_have_movetext, BeginsText, section_due_of, WritesText, refl}
+use Rattle.pgn_game.proofs.Words.{seen, false, ◌≡◌, ℕ, List, sym, ap, Ok, Err, err_from_is_err_and, Device, AfterTags, InMovetext, Pair, known_of, tag_section, ReaderState, may_have_movetext, BeginsText, section_due_of, WritesText, refl}
 use Rattle.pgn_layout.specs.declared.sink.WriteFault.{WriteFault}
 use Rattle.pgn_game.proofs.ReaderLemmas.{tags_fit, no_name}
+use Rattle.pgn_game.proofs.putting.SilentReader.{holds_some, seen_if}
 use Rattle.pgn_game.proofs.reader.Reader.write_tags.Goals as goal
 
 -- The section is that of the reader, whose fields are `held`.
 module _ (old held : ReaderState) (pairs : List Pair) (result : List ℕ) (d : Device) (is : held ≡ old)
-    (at : old.stage ≡ AfterTags) (same : pairs ≡ held.tags.held) (known : result ≡ known_of old) where
+    (at : old.stage ≡ AfterTags) (same : pairs ≡ held.tags.held) (known : result ≡ known_of old) (writes : old.writing.is_silent ≡ false) where
   section_is : tag_section held.profile.mode result pairs ≡ section_due_of old
   section_is = cc (same, known, is, at)
 
   fails : (f : WriteFault) → WritesText {A = Unit} d (Err f) (tag_section held.profile.mode result pairs)
-      → BeginsText {A = Unit} old old (Err f) d
-  fails f writes = record {
-    text = rw (sym section_is) writes.written;
+      → BeginsText {A = Unit} old old (Err f) (seen old.writing.is_silent d)
+  fails f written = seen_if (λ d. BeginsText {A = Unit} old old (Err f) d) old.writing.is_silent d writes (record {
+    text = rw (sym section_is) written.written;
     begun = tt;
     profile = refl;
-    told = refl;
+    writing = refl;
     earlier = refl;
     plies = refl;
     probes = refl;
-    counted = writes.counted;
-  }
+    counted = written.counted;
+  })
 
   begins : WritesText {A = Unit} {E = WriteFault} d (Ok tt) (tag_section held.profile.mode result pairs)
-      → BeginsText {A = Unit} {E = WriteFault} old (record held { stage = InMovetext }) (Ok tt) d
-  begins writes = record {
-    text = rw (sym section_is) writes.written;
+      → BeginsText {A = Unit} {E = WriteFault} old (record held { stage = InMovetext }) (Ok tt) (seen old.writing.is_silent d)
+  begins written = seen_if (λ d. BeginsText {A = Unit} {E = WriteFault} old (record held { stage = InMovetext }) (Ok tt) d) old.writing.is_silent d writes (record {
+    text = rw (sym section_is) written.written;
     begun = ap (λ (r : ReaderState). record r { stage = InMovetext }) is;
     profile = ap (λ (r : ReaderState). r.profile) is;
-    told = ap (λ (r : ReaderState). r.told) is;
+    writing = ap (λ (r : ReaderState). r.writing) is;
     earlier = ap (λ (r : ReaderState). r.earlier_plies) is;
     plies = ap (λ (r : ReaderState). r.text.plies) is;
     probes = ap (λ (r : ReaderState). r.most_probes) is;
-    counted = writes.counted;
-  }
+    counted = written.counted;
+  })
 
 pub pairs-requires : goal.pairs-requires
 pairs-requires g c = (search tags_fit, no_name g.row.T _ _ c.self.view_is (ap may_have_movetext c.requires.stage) c.self.invariant.0)
 
 pub invariant_of-self : goal.invariant_of-self
-invariant_of-self g c = (no_name g.row.T _ _ c.self.view_is (ap may_have_movetext c.requires.stage) c.self.invariant.0, c.self.invariant.1)
+invariant_of-self g c = (no_name g.row.T _ _ c.self.view_is (ap may_have_movetext c.requires.stage) c.self.invariant.0, c.self.invariant.1, c.self.invariant.2)
 
-pub returns-in_err-write_section : goal.returns-in_err-write_section
-returns-in_err-write_section g c =
+pub returns-in_err-write_section-clause-begins : goal.returns-in_err-write_section-clause-begins
+returns-in_err-write_section-clause-begins g c =
     let p = err_from_is_err_and c.from_residual.result c.from_residual.ensures.1 in
     rw p.1
-    (record {
-      begins = fails c.args.self.now _ c.pairs.result _ _ c.self.view_is c.requires.stage c.pairs.ensures c.known_missing_result.ensures _
-          c.in_err-write_section.ensures;
-    })
+    (fails c.args.self.now _ c.pairs.result _ _ c.self.view_is c.requires.stage c.pairs.ensures c.known_missing_result.ensures
+    (holds_some c.self.inside.written _ _ c.self.view_is refl c.in_default.not-Nothing) _ c.in_err-write_section.ensures)
 
-pub returns : goal.returns
-returns g c =
-    record {
-      begins = begins c.args.self.now _ c.pairs.result _ _ c.self.view_is c.requires.stage c.pairs.ensures c.known_missing_result.ensures
-          c.in_ok-write_section.ensures;
-    }
+pub returns-clause-begins : goal.returns-clause-begins
+returns-clause-begins g c =
+    begins c.args.self.now _ c.pairs.result _ _ c.self.view_is c.requires.stage c.pairs.ensures c.known_missing_result.ensures
+    (holds_some c.self.inside.written _ _ c.self.view_is refl c.in_default.not-Nothing) c.in_ok-write_section.ensures

@@ -1,0 +1,73 @@
+-- What calls in turn do to the sink of a silent reader.
+use Rattle.pgn_game.proofs.Words.{Adds, LeavesSink, Device, Item, List, ℕ, Mode, Movetext, Option, Result, mode_of_written, mode_unless, seen, ◌≡◌, Bool, true, false, IsTrue, refl, sym, ap, subst, ◌∙◌, arith, ReaderState, Writing, KeepsSilence, is_nothing}
+use Rattle.pgn_game.specs.declared.mode.Written.{Written}
+use Rattle.pgn_game.specs.declared.mode.Written.TheVariants.{Nothing}
+
+-- a call that leaves how the reader writes
+pub silence_of : {S : Type 0} (old new : ReaderState) (a b : S) → new.writing ≡ old.writing
+    → (IsTrue old.writing.is_silent → b ≡ a) → KeepsSilence old new a b
+silence_of old new a b same untouched = record { silent = ap (λ (w : Writing). w.is_silent) same; untouched = untouched }
+
+-- one that does not use the sink
+pub silence_kept : {S : Type 0} (old new : ReaderState) (a : S) → new.writing ≡ old.writing → KeepsSilence old new a a
+silence_kept old new a same = silence_of old new a a same (λ silent. refl)
+
+-- one call after another
+pub silence_then : {S : Type 0} (old mid new : ReaderState) (a b c : S) → KeepsSilence old mid a b → KeepsSilence mid new b c
+    → KeepsSilence old new a c
+silence_then old mid new a b c first second = record {
+  silent = second.silent ∙ first.silent;
+  untouched = λ silent. second.untouched (subst IsTrue (sym first.silent) silent) ∙ first.untouched silent;
+}
+
+-- of a reader that writes nothing is claimed
+pub silence_writing : {S : Type 0} (old new : ReaderState) (a b : S) → new.writing ≡ old.writing → old.writing.is_silent ≡ false
+    → KeepsSilence old new a b
+silence_writing old new a b same writes = silence_of old new a b same (λ silent. absurd (cc (writes, silent)))
+
+pub writes_some : (w : Written) → (w ≡ Nothing → ⊥) → is_nothing w ≡ false
+writes_some w some = grind arith
+
+pub writes_none : (w : Written) → w ≡ Nothing → is_nothing w ≡ true
+writes_none w none = ap is_nothing none
+
+-- what the code stores says whether the reader is silent
+pub holds_some : (w : Written) (held old : ReaderState) → held ≡ old → held.writing.is_silent ≡ is_nothing w → (w ≡ Nothing → ⊥)
+    → old.writing.is_silent ≡ false
+holds_some w held old same is some = sym (ap (λ (r : ReaderState). r.writing.is_silent) same) ∙ is ∙ writes_some w some
+
+pub holds_none : (w : Written) (held old : ReaderState) → held ≡ old → held.writing.is_silent ≡ is_nothing w → w ≡ Nothing
+    → old.writing.is_silent ≡ true
+holds_none w held old same is none = sym (ap (λ (r : ReaderState). r.writing.is_silent) same) ∙ is ∙ writes_none w none
+
+-- Of a reader that writes, contracts see the sink as it is.
+pub seen_if : (P : Device → Type 0) (silent : Bool) (d : Device) → silent ≡ false → P d → P (seen silent d)
+seen_if P true d writes h = absurd (cc)
+seen_if P false d writes h = h
+
+-- what is put by what the code stores is put by the mode of the reader
+pub adds_as : {A E : Type 0} (w : Written) (mode : Mode) (silent : Bool) (i : Item) (text new_text : Movetext) (line new_line : List ℕ)
+    (result : Result A E) (d : Device) → mode_of_written w ≡ mode_unless (is_nothing w) mode → is_nothing w ≡ silent
+    → Adds (mode_of_written w) i text line new_text new_line result (seen (is_nothing w) d)
+    → Adds (mode_unless (is_nothing w) mode) i text line new_text new_line result (seen silent d)
+adds_as w mode silent i text new_text line new_line result d by same adds =
+    subst (λ (o : Option Mode). Adds o i text line new_text new_line result (seen silent d)) by
+    (subst (λ (q : Bool). Adds (mode_of_written w) i text line new_text new_line result (seen q d)) same adds)
+
+-- two readers that are both silent, or not, see the same of a sink
+pub seen_alike : (P : Device → Type 0) (p q : Bool) (d : Device) → p ≡ q → P (seen p d) → P (seen q d)
+seen_alike P p q d same h = subst (λ (b : Bool). P (seen b d)) same h
+
+-- The section was begun by a reader like this one, and then an item was put.
+pub silence_put : {S : Type 0} (old found new : ReaderState) (w : Written) (a b c : S) → found.writing.is_silent ≡ old.writing.is_silent
+    → is_nothing w ≡ found.writing.is_silent → new.writing.is_silent ≡ is_nothing w → (IsTrue found.writing.is_silent → b ≡ a)
+    → LeavesSink (is_nothing w) b c → KeepsSilence old new a c
+silence_put old found new w a b c alike held same first second = record {
+  silent = same ∙ held ∙ alike;
+  untouched = λ silent.
+      second (subst IsTrue (sym (held ∙ alike)) silent) ∙ first (subst IsTrue (sym alike) silent);
+}
+
+pub unseen : (P : Device → Type 0) (silent : Bool) (d : Device) → silent ≡ false → P (seen silent d) → P d
+unseen P true d writes h = absurd (cc)
+unseen P false d writes h = h
