@@ -60,7 +60,7 @@ loop-used-preserved g c =
     let read : c.accept_entry-met.result ≡ Ok c.in-Ok-None.field-0 = c.in-Ok-None.is in
     let is : c.accept_entry-met.result ≡ Ok None = read ∙ ap Ok (rw read at c.in-Ok-None.field-0-is) in
     let takes = rw is at (meets_in_movetext c.loop-used.self-inside.reader c.accept_entry-met.new.self c.in-Some.token.kind c.accept_entry-met.result _
-    here.stage c.accept_entry-met.ensures) in
+    here.stage c.accept_entry-met.ensures.takes) in
     record {
       flag = here.flag;
       not_finished = here.not_finished;
@@ -82,13 +82,13 @@ invariant_of-self-in_default-met g c =
     omega (arith, here.runs.goes.count, here.runs.goes.within, c.requires.short, length-drop c.loop-used.used c.args.piece.now) in
     let behind = rw (take_rest, c.in-Some.is) at c.whole_token-count.ensures.reads in
     let takes = meets_in_movetext c.loop-used.self-inside.reader c.accept_entry-met.new.self c.in-Some.token.kind c.accept_entry-met.result _ here.stage
-    c.accept_entry-met.ensures in
+    c.accept_entry-met.ensures.takes in
     rw here.flag
     (sound_met_behind c.loop-used.self-inside.lexer c.loop-used.self-inside.reader c.loop-used.self-inside.games rest here.sound short (λ _. here.stage)
     behind within c.accept_entry-met.new.self c.accept_entry-met.result _ takes)
 
-pub returns-in_default-met : goal.returns-in_default-met
-returns-in_default-met g c =
+pub returns-in_default-met-clause-steps : goal.returns-in_default-met-clause-steps
+returns-in_default-met-clause-steps g c =
     let here = c.loop-used.invariant in
     let within = rw take_rest at c.whole_token-count.ensures.used in
     let rest = drop c.loop-used.used c.args.piece.now in
@@ -96,7 +96,7 @@ returns-in_default-met g c =
     omega (arith, here.runs.goes.count, here.runs.goes.within, c.requires.short, length-drop c.loop-used.used c.args.piece.now) in
     let behind = rw (take_rest, c.in-Some.is) at c.whole_token-count.ensures.reads in
     let takes = meets_in_movetext c.loop-used.self-inside.reader c.accept_entry-met.new.self c.in-Some.token.kind c.accept_entry-met.result _ here.stage
-    c.accept_entry-met.ensures in
+    c.accept_entry-met.ensures.takes in
     let outcome : c.settle-outcome.result ≡ outcome_at c.in-Some.token.at c.accept_entry-met.result =
     c.settle-outcome.ensures.outcome in
     rw (here.flag, here.not_finished, c.settle-outcome.ensures.fault, outcome)
@@ -104,8 +104,8 @@ returns-in_default-met g c =
     (steps_met_behind c.loop-used.self-inside.lexer c.loop-used.self-inside.reader c.loop-used.self-inside.games rest here.sound short (λ _. here.stage)
     behind within c.accept_entry-met.new.self c.accept_entry-met.result _ takes))
 
-pub returns-then-used-piece : goal.returns-then-used-piece
-returns-then-used-piece g c =
+pub returns-then-used-piece-clause-steps : goal.returns-then-used-piece-clause-steps
+returns-then-used-piece-clause-steps g c =
     let here = c.loop-used.invariant in
     let rest = drop c.loop-used.used c.args.piece.now in
     let short : c.loop-used.self-inside.lexer.count + length rest ≤ 2 ^ 62 =
@@ -152,8 +152,8 @@ step_on-step-requires g c =
       ),
     )
 
-pub returns : goal.returns
-returns g c =
+pub returns-clause-steps : goal.returns-clause-steps
+returns-clause-steps g c =
     let here = c.loop-used.invariant in
     let rest = drop c.loop-used.used c.args.piece.now in
     let short : c.loop-used.self-inside.lexer.count + length rest ≤ 2 ^ 62 =
@@ -168,4 +168,4 @@ returns g c =
           (runs_past c.loop-used.self-inside.lexer c.loop-used.self-inside.reader c.loop-used.self-inside.games rest here.sound short (λ _. here.stage)
           (rw (take_rest, w.in_default.is) at w.whole_token-count.ensures.reads) (rw take_rest at w.whole_token-count.ensures.used) _ _))
     ] in
-    steps_behind _ _ _ _ _ _ _ _ _ _ _ _ _ (omega (arith, ran.goes.within, c.if-used-piece.false)) ran (rw take_rest at c.step_on-step.ensures)
+    steps_behind _ _ _ _ _ _ _ _ _ _ _ _ _ (omega (arith, ran.goes.within, c.if-used-piece.false)) ran (rw take_rest at c.step_on-step.ensures.steps)

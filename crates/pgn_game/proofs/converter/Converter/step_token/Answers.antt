@@ -32,8 +32,8 @@ invariant_of-self g c =
     let within = c.whole_token-used.ensures.used in
     rw (flag, none, not_over) (sound_past c.self.inside.lexer c.self.inside.reader c.self.inside.games c.args.piece.now sound short not_in_movetext passes within)
 
-pub returns-then-used-piece : goal.returns-then-used-piece
-returns-then-used-piece g c =
+pub returns-then-used-piece-clause-steps : goal.returns-then-used-piece-clause-steps
+returns-then-used-piece-clause-steps g c =
     let flag = not_just_finished _ _ (ap (λ (s : Converter). s.just_finished) c.self.view_is ∙ c.requires.none_just_finished) in
     let none = ap (λ (s : Converter). s.fault) c.self.view_is ∙ c.requires.no_fault in
     let not_over = ap (λ (s : Converter). s.is_finished) c.self.view_is ∙ c.requires.not_finished in
@@ -82,8 +82,8 @@ step_on-rest-requires g c =
       ),
     )
 
-pub returns-in_default : goal.returns-in_default
-returns-in_default g c =
+pub returns-in_default-clause-steps : goal.returns-in_default-clause-steps
+returns-in_default-clause-steps g c =
     let flag = not_just_finished _ _ (ap (λ (s : Converter). s.just_finished) c.self.view_is ∙ c.requires.none_just_finished) in
     let none = ap (λ (s : Converter). s.fault) c.self.view_is ∙ c.requires.no_fault in
     let not_over = ap (λ (s : Converter). s.is_finished) c.self.view_is ∙ c.requires.not_finished in
@@ -97,7 +97,7 @@ returns-in_default g c =
     steps_of same
     (steps_behind _ _ _ c.args.piece.now c.whole_token-used.result.0 c.step_on-rest.result.used c.step_on-rest.result.outcome _ _ _ _ _ _ here
     (runs_past c.self.inside.lexer c.self.inside.reader c.self.inside.games c.args.piece.now sound short not_in_movetext passes within _ _)
-    (rw (flag, none, not_over, take_rest) at c.step_on-rest.ensures))
+    (rw (flag, none, not_over, take_rest) at c.step_on-rest.ensures.steps))
 
 pub invariant_of-self-2 : goal.invariant_of-self-2
 invariant_of-self-2 g c =
@@ -110,10 +110,10 @@ invariant_of-self-2 g c =
     let met = c.accept_unless_marker-met in
     rw flag
     (sound_met_behind c.self.inside.lexer c.self.inside.reader c.self.inside.games c.args.piece.now sound short not_in_movetext
-    (rw c.in-Some.is at c.whole_token-used.ensures.reads) c.whole_token-used.ensures.used met.new.self met.result _ met.ensures)
+    (rw c.in-Some.is at c.whole_token-used.ensures.reads) c.whole_token-used.ensures.used met.new.self met.result _ met.ensures.takes)
 
-pub returns : goal.returns
-returns g c =
+pub returns-clause-steps : goal.returns-clause-steps
+returns-clause-steps g c =
     let flag = not_just_finished _ _ (ap (λ (s : Converter). s.just_finished) c.self.view_is ∙ c.requires.none_just_finished) in
     let none = ap (λ (s : Converter). s.fault) c.self.view_is ∙ c.requires.no_fault in
     let not_over = ap (λ (s : Converter). s.is_finished) c.self.view_is ∙ c.requires.not_finished in
@@ -125,4 +125,4 @@ returns g c =
     rw (flag, not_over, c.settle.ensures.fault, c.settle.ensures.outcome)
     (steps_of same
     (steps_met_behind c.self.inside.lexer c.self.inside.reader c.self.inside.games c.args.piece.now sound short not_in_movetext
-    (rw c.in-Some.is at c.whole_token-used.ensures.reads) c.whole_token-used.ensures.used met.new.self met.result _ met.ensures))
+    (rw c.in-Some.is at c.whole_token-used.ensures.reads) c.whole_token-used.ensures.used met.new.self met.result _ met.ensures.takes))
