@@ -141,6 +141,15 @@ steps_behind old mid new piece end used outcome a c e x y z here one two =
       };
     }
 
+-- the same where no byte was passed before the step
+pub steps_at_once : (old mid new : Converter) (piece : List ℕ) (end used : ℕ) (outcome : Result (Option Met) Fault) (a c e : Option (List ℕ)) (x y z : ℕ)
+    → end ≡ 0 → 0 < length piece → Runs old piece mid end (Ok (Some Other)) (between a c x y) → Steps mid piece new used outcome (between c e y z)
+    → Steps old piece new used outcome (between a e x z)
+steps_at_once old mid new piece end used outcome a c e x y z none some one two =
+    let start = subst (λ (n : ℕ). Runs old piece mid n (Ok (Some Other)) (between a c x y)) none one in
+    let all : 0 + used ≡ used = omega arith in
+    subst (λ (n : ℕ). Steps old piece new n outcome (between a e x z)) all (steps_behind old mid new piece 0 used outcome a c e x y z some start two)
+
 -- a step that took a token that is no marker, as a run
 pub runs_step : {old new : Converter} {piece : List ℕ} {used : ℕ} {sink : Device} → Steps old piece new used (Ok (Some Other)) sink
     → Runs old piece new used (Ok (Some Other)) sink
