@@ -1,3 +1,4 @@
+use Rattle.pgn_game.proofs.putting.SilentReader.{silence_kept, silence_then}
 use Rattle.pgn_game.proofs.Words.{Token, fault_of_step, kind_of, as_written, Keeps, arith, sym, ap, subst, refl, ◌∙◌, ◌≡◌, ◌&&◌, true, false, is_ok, is_end, Converter, HasRead, HasLeft, outcome_at, game_in_reader_if}
 use Rattle.pgn_game.proofs.tokens.StepsAtEnd.{Left, Nearer, closes_end, closes_token, closes_fault, kept, left_by, nearer_by, not_just_finished, counts_token}
 use Rattle.pgn_game.proofs.tokens.StepsAtEnd.{advances_at_end, counts_ok, goes_on_at, no_fault_if_ok, ready_at_end, sound_at_end, sound_behind, sound_behind_fault, sound_if_not_ok}
@@ -48,7 +49,8 @@ returns-then-is_ok g c =
       probes = omega (arith, ap (λ (s : Converter). s.reading.most_probes) c.self.view_is, keeps.probes);
       none_just_finished = ap (λ b. game_in_reader_if b met.new.self) flag;
       finished = refl;
-      counted = counts_ok t.at r ok _ (counts_token c.self.inside.reader met.new.self _ t.at r _ met.ensures.takes);
+      counted = rw (← c.self.view_is) (counts_ok t.at r ok _ (counts_token c.self.inside.reader met.new.self _ t.at r _ met.ensures.takes));
+      silent = silence_then _ c.self.inside.reader _ _ _ _ (silence_kept _ _ _ (ap (λ (s : Converter). s.reading.writing) c.self.view_is)) met.ensures.silent;
     }
 
 pub returns-in-Fault : goal.returns-in-Fault
@@ -72,6 +74,7 @@ returns-in-Fault g c =
       none_just_finished = ap (λ (s : Converter). s.just_finished) c.self.view_is ∙ c.requires.none_just_finished;
       finished = rw c.fail.ensures.outcome (ap (λ (s : Converter). s.is_finished) c.self.view_is ∙ c.requires.not_finished);
       counted = rw (c.fail.ensures.outcome, c.lexical.ensures) refl;
+      silent = silence_kept _ _ _ (ap (λ (s : Converter). s.reading.writing) c.self.view_is);
     }
 
 -- not the end, or a token that was not taken
@@ -136,8 +139,10 @@ returns-else-is_end g c =
       probes = omega (arith, ap (λ (s : Converter). s.reading.most_probes) c.self.view_is, ap (λ (s : Converter). s.reading.most_probes) now, keeps.probes);
       none_just_finished = ap (λ (s : Converter). s.just_finished) now ∙ ap (λ b. game_in_reader_if b met.new.self) flag;
       finished = rw c.settle-outcome.ensures.outcome (ap (λ (s : Converter). s.is_finished) now ∙ not_over ∙ goes_on_at t.at r);
-      counted = rw c.settle-outcome.ensures.outcome
+      counted = rw (← c.self.view_is, c.settle-outcome.ensures.outcome)
           (counts_token c.self.inside.reader met.new.self _ t.at r _ met.ensures.takes);
+      silent = rw now
+          (silence_then _ c.self.inside.reader _ _ _ _ (silence_kept _ _ _ (ap (λ (s : Converter). s.reading.writing) c.self.view_is)) met.ensures.silent);
     }
 
 pub invariant_of-self-else-is_end : goal.invariant_of-self-else-is_end

@@ -29,7 +29,7 @@ returns-in-NeedMore-clause-steps g c =
     subst (λ (s : Converter). s.lexer.count + length c.args.piece.now ≤ 2 ^ 62) (sym c.self.view_is) c.requires.short in
     let same : now_at c.self.inside.lexer c.self.inside.reader c.self.inside.games false ≡ c.args.self.now = rw (flag, none, not_over) at c.self.view_is in
     rw (flag, none, not_over)
-    (steps_of same
+    (steps_of _ _ _ _ same
     (steps_more c.self.inside.lexer c.self.inside.reader c.self.inside.games c.args.piece.now sound short c.read_on-scan.ensures.used c.requires.some
     (rw c.in-NeedMore.is at c.read_on-scan.follows.holds-at-none) _ _))
 
@@ -44,7 +44,7 @@ returns-in-Token-clause-steps g c =
     let same : now_at c.self.inside.lexer c.self.inside.reader c.self.inside.games false ≡ c.args.self.now = rw (flag, none, not_over) at c.self.view_is in
     let met = c.accept_copied-met in
     rw (flag, not_over, c.settle.ensures.fault, c.settle.ensures.outcome)
-    (steps_of same
+    (steps_of _ _ _ _ same
     (steps_met c.self.inside.lexer c.self.inside.reader c.self.inside.games c.args.piece.now sound short c.read_on-scan.ensures.used c.requires.some
     (rw c.in-Token.is at c.read_on-scan.follows.holds-at-none) met.new.self met.result _ met.ensures.takes))
 
@@ -58,7 +58,7 @@ returns-in-Fault-clause-steps g c =
     subst (λ (s : Converter). s.lexer.count + length c.args.piece.now ≤ 2 ^ 62) (sym c.self.view_is) c.requires.short in
     let same : now_at c.self.inside.lexer c.self.inside.reader c.self.inside.games false ≡ c.args.self.now = rw (flag, none, not_over) at c.self.view_is in
     rw (flag, not_over, c.fail.ensures.kept, c.fail.ensures.outcome, c.lexical.ensures)
-    (steps_of same
+    (steps_of _ _ _ _ same
     (steps_fault c.self.inside.lexer c.self.inside.reader c.self.inside.games c.args.piece.now sound short c.read_on-scan.ensures.used c.requires.some
     c.in-Fault.fault (rw c.in-Fault.is at c.read_on-scan.follows.holds-at-none) _ _))
 
