@@ -19,6 +19,7 @@ pub mod PairsTriedForToken
 pub mod PastNumbers
 pub mod PieceToGame
 pub mod PutToAnswer
+pub mod SilentFromStart
 pub mod SoundAtStart
 pub mod StepsAtEnd
 pub mod StepsInPiece

@@ -1,6 +1,6 @@
 -- An export text is read as its games with their defaults filled in, so it is written again as it
 -- is.
-use Rattle.pgn_game.proofs.Words.{◌≡◌, ℕ, ◌+◌, ◌≤◌, ◌^◌, inl, inr, Bool, true, List, [], ◌∷◌, ◌++◌, length, map, refl, sym, ap, subst, ◌∙◌, arith, length-append, append-nil, Option, None, Some, sum, IfSome, Err, filter, Consumes, length-map, length-filter, count_by-le-length, IsLast, RisesTo, TokensRise, tokens_of, Kind, Token, Fault, Between, Game, Part, Mode, Pair, Profile, Progress, progress_after, read_from, output, verdict, refused as is_refused, totals, refusal, is_end, filled, AreExportable, SameText, counted, IsWrittenAgain, SliceIsKept, SourceIsKept, FixedPoint, ExportIsKept, ExportIsKeptOfSource, games_in, IsExportable, ExportingTwice, SameOutput, FewPairsHaveRoom, plies_of, roster, roster_pairs, with_set_up, exported, Spells, FailsOn, Fails, Totals, text_of_games as text_of, rules, Ok, read}
+use Rattle.pgn_game.proofs.Words.{◌≡◌, ℕ, ◌+◌, ◌≤◌, ◌^◌, inl, inr, Bool, true, false, List, [], ◌∷◌, ◌++◌, length, map, refl, sym, ap, subst, ◌∙◌, arith, length-append, append-nil, Option, None, Some, sum, IfSome, Err, filter, Consumes, length-map, length-filter, count_by-le-length, IsLast, RisesTo, TokensRise, tokens_of, Kind, Token, Fault, Between, Game, Part, Mode, Pair, Profile, Progress, progress_after, read_from, output, verdict, refused as is_refused, totals, refusal, is_end, filled, AreExportable, SameText, counted, IsWrittenAgain, SliceIsKept, SourceIsKept, FixedPoint, ExportIsKept, ExportIsKeptOfSource, games_in, IsExportable, ExportingTwice, SameOutput, FewPairsHaveRoom, plies_of, roster, roster_pairs, with_set_up, exported, Spells, FailsOn, Fails, Totals, text_of_games as text_of, rules, Ok, read}
 use Rattle.pgn_game.specs.Conversion as conversion
 use Rattle.pgn_game.proofs.exporting.ExportToGames.{ExportedGames}
 use Rattle.pgn_game.proofs.reading.PairsInTurn.{length-insert}
@@ -39,10 +39,10 @@ same_totals : (t : Totals) (gs : List Game) → totals (counted gs) ≡ totals (
     → (t.games ≡ length gs) × (t.plies ≡ sum (map plies_of gs))
 same_totals t gs e = search rules
 
-written_again : (p : Profile) (s : List ℕ) (gs : List Game) (t : Totals) (before after : Option (List ℕ))
+written_again : (silent : Bool) (p : Profile) (s : List ℕ) (gs : List Game) (t : Totals) (before after : Option (List ℕ))
     → output p s ≡ text_of p gs → verdict p s ≡ totals (counted gs)
-    → conversion.IsTotalled p s t before after → IsWrittenAgain p gs t before after
-written_again p s gs t before after out ver h = search (rules, same_totals)
+    → conversion.IsTotalled silent p s t before after → IsWrittenAgain p gs t before after
+written_again silent p s gs t before after out ver h = search (rules, same_totals)
 
 slice_fails : (p : Profile) (s : List ℕ) (gs : List Game) (f : Fault) (before after : Option (List ℕ))
     → verdict p s ≡ totals (counted gs) → length s ≤ 2 ^ 62 → FailsOn p s before after f → SliceIsKept p gs (Err f) before after
@@ -92,13 +92,13 @@ module _ (unique : UniqueReading) (rise : TokensRise)
 -- Converting an export text.
 pub slice_is_kept : FixedPoint → ExportIsKept
 slice_is_kept fixed p gs (Ok t) before after h short done =
-    let f = fixed p gs h in written_again p _ gs t before after f.0 f.1 done
+    let f = fixed p gs h in written_again false p _ gs t before after f.0 f.1 done
 slice_is_kept fixed p gs (Err f) before after h short fails = slice_fails p _ gs f before after (fixed p gs h).1 short fails
 
 pub source_is_kept : FixedPoint → ExportIsKeptOfSource
 source_is_kept fixed p gs (Ok t) left_old left_new before after h short left done =
     let f = fixed p gs h in
-    written_again p (text_of p gs) gs t before after f.0 f.1
+    written_again false p (text_of p gs) gs t before after f.0 f.1
     (some_text _ _ _ left done)
 source_is_kept fixed p gs (Err f) left_old left_new before after h short left fails =
     source_fails p _ gs f _ _ before after (fixed p gs h).1 short left fails

@@ -118,7 +118,7 @@ module _ (p : Profile) (known : IsKnown p) (u : List ℕ) (given : List Token) (
         }
 
     pub marker_stops : (f : Fault) → EndsGame mid.converter.reading m new.reading (Err f) sink
-        → NextStops p u given left_old left new.reading.most_probes a sink.after f
+        → NextStops p u given left_old left new.reading a sink.after f
     marker_stops f ends =
         let ts = met.tokens ++ met.token ∷ [] in
         let to = fault_of_marker p given met.tokens met.token m mid.converter a sink met.meets new.reading known [] f ends in
@@ -144,7 +144,7 @@ module _ (p : Profile) (known : IsKnown p) (u : List ℕ) (given : List Token) (
 
   -- no marker was met
   pub stops_before : (new : Converter) (c : Option (List ℕ)) (f : Fault)
-      → StopsBefore p u given left_old left new a c f → NextStops p u given left_old left new.reading.most_probes a c f
+      → StopsBefore p u given left_old left new a c f → NextStops p u given left_old left new.reading a c f
   stops_before new c f (games_steps.at_token h more tokens t consumed next fails) =
       let to = fault_not_taken p known given tokens t [] h new.reading a c fails in
       games_calls.at_token h more consumed (record {
@@ -251,7 +251,7 @@ module _ (p : Profile) (known : IsKnown p) (u : List ℕ) (given : List Token) (
         by_game true is (inr (passes, (g, more))) = one g more is
 
     ended_at_fault : (f : Fault) → FinishesToFault p so.stands.used so.tokens new f c d
-        → length (u ++ so.more) ≤ 2 ^ 62 → NextStops p u given left_old left new.reading.most_probes a d f
+        → length (u ++ so.more) ≤ 2 ^ 62 → NextStops p u given left_old left new.reading a d f
     ended_at_fault f fed short =
         games_calls.at_end f so.more so.consumed uses.at_end short (rw all_used (record {
           stops = stops_more gained fed.stops;

@@ -1,6 +1,7 @@
 -- Conversions of whole inputs.
 use Rattle.std.specs.Io.KnownBytes.{Keeps, IsAtEnd}
-use Rattle.pgn_game.proofs.Words.{Token, InputTooLong, Fault, Profile, ◌≡◌, ℕ, false, ◌^◌, ◌≤◌, List, [], ◌++◌, length, Option, None, Some, Result, Ok, Err, IfSome, sym, ap, subst, ◌∙◌, append-nil, map, sum, Consumes-nil, Consumes-trans, tokens_of, decided, plies_of, whole_plies, Gains, IsConverted, IsTotalled, MostProbes, ReadsNoMore, FailsOn, Fails, AfterEnd, AfterConversion, AfterSlice, verdict_in, Games, games_of, HaveRead, NextGame, NoGame, NextStops, ReadSoFar, Appends, Consumes, Totals, Read, read, due, refused as is_refused, totals, verdict, verdict_of, Converter, HasRead, Stands, Stops, refused_stop as refused, unwritten, StopsIn, at_token, too_long, FedFault, FedWhole, ReadsUpTo, Finishes, rules, no_progress, inl, refl, within}
+use Rattle.std.proofs.lemmas.Option.{IfSome_then}
+use Rattle.pgn_game.proofs.Words.{Token, InputTooLong, Fault, Profile, ◌≡◌, ℕ, false, ◌^◌, ◌≤◌, List, [], ◌++◌, length, Option, None, Some, Result, Ok, Err, IfSome, OnOk, sym, ap, subst, ◌∙◌, append-nil, map, sum, Consumes-nil, Consumes-trans, tokens_of, decided, plies_of, whole_plies, Gains, IsConverted, IsTotalled, MostProbes, ReadsNoMore, FailsOn, Fails, AfterEnd, AfterConversion, AfterSlice, verdict_in, Games, games_of, HaveRead, NextGame, NoGame, NextStops, ReadSoFar, ReaderState, Bool, Appends, Consumes, Totals, Read, read, due, refused as is_refused, totals, verdict, verdict_of, Converter, HasRead, Stands, Stops, refused_stop as refused, unwritten, StopsIn, at_token, too_long, FedFault, FedWhole, ReadsUpTo, Finishes, rules, no_progress, inl, refl, within}
 use Rattle.pgn_game.specs.GamesCalls as games_calls
 use Rattle.pgn_game.specs.Conversion as conversion
 use Rattle.pgn_game.proofs.tokens.OneMoreToken.{torn-none, gains_none, gains_more, stops_more, stops_from}
@@ -18,12 +19,12 @@ verdict_refused r e = rw e
 -- the counts of a converter that has read the whole text are those of the text
 pub totalled : {p : Profile} {s : List ℕ} {c : Converter} (t : Totals)
     → HasRead p c (tokens_of s) → t.games ≡ c.games → t.plies ≡ whole_plies c.reading
-    → t.most_probes ≡ c.reading.most_probes → t.most_probes ≤ 1040 → (verdict p s ≡ verdict_in t) × MostProbes p s t.most_probes
+    → t.most_probes ≡ c.reading.most_probes → t.most_probes ≤ 1040 → (verdict p s ≡ verdict_in t) × MostProbes c.reading.writing.is_silent p s t.most_probes
 totalled t has games plies probes bound = search (rules, in_games, verdict_passes)
 
 pub ended : {p : Profile} {u : List ℕ} {given : List Token} {new : Converter} {finished_game : _} (t : Totals) {a c : Option (List ℕ)}
     → Finishes p u given new finished_game a c → t.games ≡ new.games → t.plies ≡ whole_plies new.reading
-    → t.most_probes ≡ new.reading.most_probes → t.most_probes ≤ 1040 → AfterEnd p u given (Ok t) a c
+    → t.most_probes ≡ new.reading.most_probes → t.most_probes ≤ 1040 → AfterEnd new.reading.writing.is_silent p u given (Ok t) a c
 ended t done games plies probes bound =
     let (is_verdict, most) = totalled t done.has_read games plies probes bound in
     (is_verdict, most, done.gains)
@@ -100,19 +101,15 @@ module _ (p : Profile) (left_old left left_new : Option (List ℕ)) (now : Games
 
   pub games_end : {new : Games} (t : Totals) → NoGame p so.bytes so.tokens left left_new new c d
       → t.games ≡ new.converter.games → t.plies ≡ whole_plies new.converter.reading
-      → t.most_probes ≡ new.converter.reading.most_probes → t.most_probes ≤ 1040 → AfterConversion p left_old left_new (Ok t) a d
-  games_end t end games plies probes bound =
+      → t.most_probes ≡ new.converter.reading.most_probes → t.most_probes ≤ 1040
+      → AfterConversion new.converter.reading.writing.is_silent p left_old left_new (Ok t) a d
+  games_end {new} t end games plies probes bound =
       let text = so.bytes ++ end.more in
       let (is_verdict, most) = totalled t end.have_read_all.has_read games plies probes bound in
-      known_whole left_old left_new text (λ s. IsTotalled p s t a d) (all end.more end.consumed) end.have_read_all.at_end
+      known_whole left_old left_new text (λ s. IsTotalled new.converter.reading.writing.is_silent p s t a d) (all end.more end.consumed) end.have_read_all.at_end
       (record { short = end.have_read_all.short; converted = (is_verdict, appended (gains_more so.gains end.gains)); probes = most })
 
-  pub games_short : {new : Games} → NoGame p so.bytes so.tokens left left_new new c d → IfSome left_old (λ s. length s ≤ 2 ^ 62)
-  games_short end =
-      known_whole left_old left_new (so.bytes ++ end.more) (λ s. length s ≤ 2 ^ 62)
-      (all end.more end.consumed) end.have_read_all.at_end end.have_read_all.short
-
-  pub games_stop : {most : ℕ} {f : Fault} → NextStops p so.bytes so.tokens left left_new most c d f → Fails p left_old left_new a d f
+  pub games_stop : {r : ReaderState} {f : Fault} → NextStops p so.bytes so.tokens left left_new r c d f → Fails p left_old left_new a d f
   games_stop (games_calls.at_token g more consumed to) = by_stops (stops_more so.gains to.stops)
     where
       by_stops : {h : Fault} → Stops p [] to.tokens a d h → Fails p left_old left_new a d h
@@ -140,6 +137,18 @@ module _ (p : Profile) (left_old left left_new : Option (List ℕ)) (now : Games
       (conversion.too_long front rest (subst (Consumes left_old left_new) cut (all more consumed)) place some
       (no_more none.reads.decided none.reads.passes (gains_more so.gains none.reads.gains)))
 
+-- a text that was converted has at most 2^62 bytes
+pub is_short : (silent : Bool) (p : Profile) (left_old left_new a c : Option (List ℕ)) (r : Result Totals Fault)
+    → AfterConversion silent p left_old left_new r a c → OnOk r (IfSome left_old (λ s. length s ≤ 2 ^ 62))
+is_short silent p left_old left_new a c (Ok t) h =
+    IfSome_then left_old {P = λ s. IsTotalled silent p s t a c} {Q = λ s. length s ≤ 2 ^ 62} h (λ s whole. whole.short)
+is_short silent p left_old left_new a c (Err f) h = tt
+
+pub is_short_slice : (silent : Bool) (p : Profile) (text : List ℕ) (a c : Option (List ℕ)) (r : Result Totals Fault)
+    → AfterSlice silent p text r a c → OnOk r (length text ≤ 2 ^ 62)
+is_short_slice silent p text a c (Ok t) h = h.short
+is_short_slice silent p text a c (Err f) h = tt
+
 -- a slice, fed from the start on
 pub slice_stops : (p : Profile) {f : Fault} {text : List ℕ} (a c : Option (List ℕ))
     → StopsIn [] text (λ bytes fault. FedFault p bytes [] fault a c) (λ front. ReadsUpTo p [] front a c) f → FailsOn p text a c f
@@ -154,11 +163,11 @@ slice_stops p {text} a c (too_long front rest cut place some before) =
     subst (λ n. FailsOn p text a c (record { at = n; reason = InputTooLong })) place
     (conversion.FailsOn.too_long front rest cut place some (no_more before.decided before.passes before.gains))
 
-pub slice_ends : {p : Profile} {text : List ℕ} {now : Converter} {a c : Option (List ℕ)} (d : Option (List ℕ))
-    (r : Result Totals Fault) (fed : FedWhole p [] [] text now a c) → length text ≤ 2 ^ 62 → AfterEnd p text fed.tokens r c d → AfterSlice p text r a d
-slice_ends d (Ok t) fed short (is_verdict, probes, gains) =
+pub slice_ends : (silent : Bool) {p : Profile} {text : List ℕ} {now : Converter} {a c : Option (List ℕ)} (d : Option (List ℕ))
+    (r : Result Totals Fault) (fed : FedWhole p [] [] text now a c) → length text ≤ 2 ^ 62 → AfterEnd silent p text fed.tokens r c d → AfterSlice silent p text r a d
+slice_ends silent d (Ok t) fed short (is_verdict, probes, gains) =
     record { short = short; converted = (is_verdict, appended (gains_more fed.gains gains)); probes = probes }
-slice_ends {p} {text} {a} d (Err f) fed short stops = by_stops (stops_more fed.gains stops)
+slice_ends silent {p} {text} {a} d (Err f) fed short stops = by_stops (stops_more fed.gains stops)
   where
     by_stops : {h : Fault} → Stops p [] (tokens_of text) a d h → FailsOn p text a d h
     by_stops (refused h fault gains) =

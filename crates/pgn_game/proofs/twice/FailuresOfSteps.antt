@@ -1,5 +1,10 @@
 -- Which device counts a failure in a step, of the reasons one by one.
-use Rattle.pgn_game.proofs.Words.{Reason, ReadFault, WriteFault, Changed, ◌≡◌, ℕ, refl, ap, subst, ◌∙◌, inl, inr, arith, Device}
+use Rattle.pgn_game.proofs.Words.{Reason, ReadFault, WriteFault, Changed, ◌≡◌, ℕ, refl, ap, subst, ◌∙◌, inl, inr, arith, Device, Bool, true, false, IsTrue, Result, Ok, Err, Fault, seen}
+use Rattle.pgn_layout.specs.Device.{nowhere}
+use Rattle.pgn_game.specs.Conversion.{CountsResult, CountsSink, CountsWriting}
+use Rattle.pgn_game.specs.ConverterCalls.{NoWriteFails}
+use Rattle.pgn_game.specs.declared.conversion.Totals.{Totals}
+use Rattle.pgn_game.specs.GamesSteps.{CountsReading}
 use Rattle.pgn_game.proofs.Words.{IsStill, one_more, CountsReason, CountsDevices, changed_reason}
 use Rattle.pgn_game.specs.CheckedConversion.{CountsThree}
 
@@ -12,6 +17,22 @@ reader_reason _ s o n h = (refl, h)
 -- a sink that counts nothing
 pub no_write : (r : Reason) (s t : ℕ) → CountsDevices r s t 0 0 → r ≡ WriteFault → ⊥
 no_write r s t h is = absurd (omega (arith, (subst (λ x. CountsDevices x s t 0 0) is h).1))
+
+-- a sink that is not seen
+pub no_write_seen : {A : Type 0} (r : Result A Fault) (source sink : Device) (silent : Bool) → IsTrue silent
+    → CountsReading r source (seen silent sink) → NoWriteFails r
+no_write_seen (Ok x) source sink silent is h = tt
+no_write_seen (Err f) source sink true is h = no_write f.reason _ _ h
+no_write_seen (Err f) source sink false is h = absurd (cc)
+
+-- a conversion to a sink that counts nothing
+pub no_write_in : (r : Result Totals Fault) (source : Device) → CountsResult r source nowhere → NoWriteFails r
+no_write_in (Ok t) source h = tt
+no_write_in (Err f) source h = no_write f.reason _ _ h
+
+pub no_write_to : (r : Result Totals Fault) → CountsSink r nowhere → NoWriteFails r
+no_write_to (Ok t) h = tt
+no_write_to (Err f) h = λ is. absurd (omega (arith, subst (λ (x : Reason). CountsWriting x nowhere) is h))
 
 -- a fault that shows a change counts as the fault that it is
 pub counts_changed : (r : Reason) (s t o n : ℕ) → CountsDevices r s t o n → CountsDevices (changed_reason r) s t o n

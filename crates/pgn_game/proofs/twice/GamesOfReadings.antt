@@ -4,7 +4,7 @@ use Rattle.std.proofs.lemmas.List.{append_cancel_left}
 use Rattle.std.proofs.lemmas.Option.{IfSome_then}
 use Rattle.pgn_lexer.specs.Tokens as tokens
 use Rattle.pgn_game.specs.declared.marker.Mark.{Mark as CodeMark}
-use Rattle.pgn_game.proofs.Words.{Kind, Token, Reason, Changed, WriteFault, Fault, Profile, Missing, takes_the_marker, Game, Part, no_part, ◌≡◌, ℕ, ◌+◌, ◌^◌, ◌<◌, ◌≤◌, ◌||◌, ◌&&◌, ◌==◌, not, is_some, bytes_eq, Bool, true, false, List, [], ◌∷◌, ◌++◌, length, take, drop, Option, None, Some, Ok, Err, IfSome, refl, sym, ap, subst, ◌∙◌, append_assoc, append-nil, drop-length, arith, and_parts, not-false, bytes_eq-Decides, Appends-nil, Appends-trans, Appends, Device, TokensRise, tokens_of, coming, Stage, Between, InMovetext, HoldsText, Marker, counting, refusal, is_end, marker_of, torn, gain, text_next, Next, going, whole, next, Read, read, progress_with, FinishedGame, IsLastGame, game_in_reader, ReaderState, as_written, known_text, IsStopped, Converter, HasRead, marker_text, game_of, Mark, is_other, is_changed, HasMarked, HasMatched, Reading, model_mark, changed_reason, OneGame, SameGames, ReadsMore, EndsGame, due_as, part_after, text_of_games as text_of}
+use Rattle.pgn_game.proofs.Words.{Kind, Token, Reason, Changed, WriteFault, Fault, Profile, Missing, takes_the_marker, Game, Part, no_part, ◌≡◌, ℕ, ◌+◌, ◌^◌, ◌<◌, ◌≤◌, ◌||◌, ◌&&◌, ◌==◌, not, is_some, bytes_eq, Bool, true, false, List, [], ◌∷◌, ◌++◌, length, take, drop, Option, None, Some, Ok, Err, IfSome, refl, sym, ap, subst, ◌∙◌, append_assoc, append-nil, drop-length, arith, and_parts, not-false, bytes_eq-Decides, Appends-nil, Appends-trans, Appends, Device, TokensRise, tokens_of, coming, Stage, Between, InMovetext, HoldsText, Marker, counting, refusal, is_end, marker_of, torn, gain, text_next, Next, going, whole, next, Read, read, progress_with, FinishedGame, IsLastGame, game_in_reader, ReaderState, telling, as_written, known_text, IsStopped, Converter, HasRead, marker_text, game_of, Mark, is_other, is_changed, HasMarked, HasMatched, Reading, model_mark, changed_reason, OneGame, SameGames, ReadsMore, EndsGame, due_as, part_after, text_of_games as text_of}
 use Rattle.pgn_game.specs.ReaderState as reader_state
 use Rattle.pgn_game.specs.Text.{game_text}
 use Rattle.pgn_game.specs.Readings.{AfterRead, AllRead, ComesNext, EndComes, FirstFails, GameRead, GameWritten, HasCome, HasGiven, MarkerComes, ReadFails, ReadingStops, SecondFails, StandsBetween, StandsIn, at_read, at_token, as_changed}
@@ -248,17 +248,17 @@ module _ (q : Profile) (left_old left_new : Option (List ℕ)) (given : List Tok
 -- ---- the second reading, which was told the mark of the game
 
 -- what it writes by
-told_written : (q : Profile) (r : ReaderState) (marker : List ℕ) → q.missing_result ≡ takes_the_marker → r.profile ≡ q → r.told ≡ Some marker
+told_written : (q : Profile) (r : ReaderState) (marker : List ℕ) → q.missing_result ≡ takes_the_marker → r.profile ≡ q → r.writing.told ≡ Some marker
     → as_written r ≡ counting q marker
 told_written q r marker takes_it profile told =
-    ap (λ (p : Profile). counting p (known_text p.missing_result r.told)) profile
-    ∙ ap (λ (missing : Missing). counting q (known_text missing r.told)) takes_it
+    ap (λ (p : Profile). counting p (known_text p.missing_result r.writing.told)) profile
+    ∙ ap (λ (missing : Missing). counting q (known_text missing r.writing.told)) takes_it
     ∙ ap (λ (o : Option (List ℕ)). counting q (known_text takes_the_marker o)) told
 
 -- a marker that is told changes nothing else
-text_told : (o : Option (List ℕ)) (r : ReaderState) (here : Part) (stage : Stage) → HoldsText stage r here → HoldsText stage (record r { told = o }) here
-text_told o r here InMovetext h = h
-text_told o r here _ h = h
+text_told : (marker : List ℕ) (r : ReaderState) (here : Part) (stage : Stage) → HoldsText stage r here → HoldsText stage (telling marker r) here
+text_told marker r here InMovetext h = h
+text_told marker r here _ h = h
 
 pub told_reading : (q : Profile) (left_old left : Option (List ℕ)) (r : Reading) (given : List Token) (m : Marker) (d : Converter)
     → d ≡ told_of m r.converter → HasGiven q left_old left r given
@@ -276,7 +276,7 @@ told_reading q left_old left r given m d is h =
         agrees = record {
           stage = read.agrees.stage;
           pairs = read.agrees.pairs;
-          text = text_told (Some (marker_text m)) r.converter.reading (part_after q given) r.converter.reading.stage read.agrees.text;
+          text = text_told (marker_text m) r.converter.reading (part_after q given) r.converter.reading.stage read.agrees.text;
         };
         games = read.games;
         plies = read.plies;
@@ -290,7 +290,7 @@ pub told_by : (q : Profile) (c d : Converter) (m : Marker) → d ≡ told_of m c
     → as_written d.reading ≡ counting q (marker_text m)
 told_by q c d m is takes_it profile =
     ap (λ (c : Converter). as_written c.reading) is
-    ∙ told_written q (record c.reading { told = Some (marker_text m) }) (marker_text m) takes_it profile refl
+    ∙ told_written q (telling (marker_text m) c.reading) (marker_text m) takes_it profile refl
 
 -- a token that shows a difference, by the marks
 differs_if : (q : Profile) (m : Mark) (part : Part) (t : Token) (b : Bool) → refusal q part t.kind ≡ None

@@ -120,10 +120,11 @@ module _ (q : Profile) (first second sink : Device) (first_now : Option (List �
   )
 
   pub both_end : (new_a : Reading) (t : Totals) → AllRead q first.before so.first_tokens new_a
+      → new_a.converter.reading.writing.is_silent ≡ true → b.converter.reading.writing.is_silent ≡ false
       → t.games ≡ b.converter.games → t.plies ≡ whole_plies b.converter.reading
       → t.most_probes ≡ max new_a.converter.reading.most_probes b.converter.reading.most_probes
       → new_a.converter.reading.most_probes ≤ 1040 → b.converter.reading.most_probes ≤ 1040 → TwoReadingsConvert q first second sink (Ok t)
-  both_end new_a t reads games plies probes first_bound second_bound =
+  both_end new_a t reads silent writes games plies probes first_bound second_bound =
       let tokens = reads.tokens in
       let h = so.second_stands.has_given.has_read in
       let c : Progress = (read q so.second_tokens).progress in
@@ -159,8 +160,9 @@ module _ (q : Profile) (first second sink : Device) (first_now : Option (List �
             same = sym (ap (λ (f : Comparison). f.progress) is);
             most_of_first = new_a.converter.reading.most_probes;
             most_of_second = b.converter.reading.most_probes;
-            first_tried = subst (λ (ts : List Token). MostTried q ts new_a.converter.reading.most_probes) (sym x) reads.has_read.tried;
-            second_tried = h.tried;
+            first_tried = subst (λ (ts : List Token). MostTried true q ts new_a.converter.reading.most_probes) (sym x)
+                (subst (λ (b : Bool). MostTried b q tokens new_a.converter.reading.most_probes) silent reads.has_read.tried);
+            second_tried = subst (λ (x : Bool). MostTried x q so.second_tokens b.converter.reading.most_probes) writes h.tried;
             greater = probes;
           };
         };

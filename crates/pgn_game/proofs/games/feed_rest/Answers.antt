@@ -23,6 +23,7 @@ returns-in-All g c =
       none_just_finished = fed.none_just_finished;
       probes = fed.probes;
       counted = fed.counted c.requires.no_fault;
+      silent = fed.silent;
     }
 
 pub returns-in-Marker : goal.returns-in-Marker
@@ -40,6 +41,7 @@ returns-in-Marker g c =
       none_just_finished = fed.none_just_finished;
       probes = fed.probes;
       counted = fed.counted c.requires.no_fault;
+      silent = fed.silent;
     }
 
 pub returns-in_err-feed_to_marker : goal.returns-in_err-feed_to_marker
@@ -58,4 +60,5 @@ returns-in_err-feed_to_marker g c =
       none_just_finished = rw e.1 tt;
       probes = fed.probes;
       counted = rw (e.1, e.2) (fed.counted c.requires.no_fault);
+      silent = fed.silent;
     }

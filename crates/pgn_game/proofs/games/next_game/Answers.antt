@@ -3,6 +3,7 @@ use Rattle.pgn_game.proofs.Words.{◌≡◌, ℕ, List, Option, None, refl, sym,
 use Rattle.pgn_game.proofs.Words.{false≢true, none-some, Bool, true, Result, Fault, IfOk, subst, ap, Err, same_Some}
 use Rattle.pgn_game.proofs.ReaderFitsInMemory.{fits_alike}
 use Rattle.pgn_game.proofs.tokens.GamesInTurn.{at_end_again}
+use Rattle.pgn_game.proofs.putting.SilentReader.{silence_kept}
 use Rattle.pgn_game.proofs.games.next_game.Goals as goal
 
 -- games that have read tokens have no fault
@@ -24,6 +25,7 @@ returns-in-Some g c =
       at_end = λ none. absurd (none-some _ (sym none ∙ fault));
       again = λ f is. (ap Err (same_Some _ _ (sym fault ∙ is)), refl, refl, refl);
       counted = λ none. absurd (none-some _ (sym none ∙ fault));
+      silent = silence_kept _ _ _ refl;
     }
 
 pub is_finished-requires : goal.is_finished-requires
@@ -43,6 +45,7 @@ returns-then-is_finished g c =
       at_end = λ none finished. rw c.forget_game.ensures (refl, refl, refl, refl);
       again = λ f is. absurd (none-some f (sym (sym c.fault.ensures ∙ c.in_default.is) ∙ is));
       counted = λ none. (refl, refl);
+      silent = rw c.forget_game.ensures (silence_kept _ _ _ refl);
     }
 
 pub read_game-requires : goal.read_game-requires
@@ -57,4 +60,5 @@ returns g c =
       at_end = λ none finished. absurd (false≢true (sym (sym c.is_finished.ensures ∙ c.if-is_finished.false) ∙ finished));
       again = λ f is. absurd (none-some f (sym (sym c.fault.ensures ∙ c.in_default.is) ∙ is));
       counted = λ none. c.read_game.ensures.counted;
+      silent = c.read_game.ensures.silent;
     }

@@ -1,4 +1,4 @@
-use Rattle.pgn_game.proofs.Words.{◌≡◌, ◌+◌, ◌-◌, ◌^◌, ◌≤◌, None, false, length, device, games_of, as_written, ReadsSoFar}
+use Rattle.pgn_game.proofs.Words.{◌≡◌, ◌+◌, ◌-◌, ◌^◌, ◌≤◌, None, false, length, device, sink_of, IsStill, KeepsSilence, games_of, as_written, ReadsSoFar}
 use Rattle.pgn_game.proofs.games.next_marker.Given as goal
 
 abbrev pub invariant-loop-mark : goal.invariant-loop-mark
@@ -10,10 +10,11 @@ invariant-loop-mark g l =
       written : as_written l.converter.reading ≡ as_written l.fn.converter.reading;
       probes : l.fn.converter.reading.most_probes ≤ l.converter.reading.most_probes;
       source : g.R.Source.failures l.source ≡ g.R.Source.failures l.fn.source;
-      sink : g.W.Sink.failures l.out ≡ g.W.Sink.failures l.fn.out;
+      sink : IsStill (sink_of l.fn.converter.reading g.W.Sink.taken g.W.Sink.failures l.fn.out l.out);
+      silent : KeepsSilence l.fn.converter.reading l.converter.reading l.fn.out l.out;
       reads : ReadsSoFar (games_of l.fn.converter l.fn.buffer) (games_of l.converter l.buffer)
           (device g.R.Source.left g.R.Source.failures l.fn.source l.source)
-          (device g.W.Sink.taken g.W.Sink.failures l.fn.out l.out);
+          (sink_of l.fn.converter.reading g.W.Sink.taken g.W.Sink.failures l.fn.out l.out);
     }
 
 abbrev pub decreases-loop-mark : goal.decreases-loop-mark

@@ -1,7 +1,9 @@
 use Rattle.std.specs.Result.{is_ok}
-use Rattle.pgn_game.proofs.Words.{Reason, ReadFault, WriteFault, Changed, Fault, ◌≡◌, ℕ, Bool, Result, Ok, Err, refl, sym, ap, subst, ◌∙◌, arith, err_from_is_err_and, Device, device, one_more, CountsDevices, CountsReason, CountsFault, CountsNext, games_of, false≢true}
+use Rattle.pgn_game.proofs.Words.{Reason, ReadFault, WriteFault, Changed, Fault, ◌≡◌, ℕ, Bool, Result, Ok, Err, refl, sym, ap, subst, ◌∙◌, arith, err_from_is_err_and, Device, device, one_more, CountsDevices, CountsReason, CountsFault, CountsNext, games_of, false≢true, sink_of, IsStill, EndsGame}
+use Rattle.pgn_game.specs.ConverterCalls.{Ends}
 use Rattle.pgn_game.proofs.ReaderFitsInMemory.{fits_alike}
 use Rattle.pgn_game.proofs.tokens.GamesInTurn.{begins, game_read, marker_stops, stops_before, stands_at_end, finished}
+use Rattle.pgn_game.proofs.putting.SilentReader.{seen_alike, silence_then}
 use Rattle.pgn_game.proofs.games.read_game.Goals as goal
 
 -- a fault of the converter, whose source counts no failure
@@ -33,55 +35,70 @@ returns-in_err-mark g c =
       fewer = λ same. absurd (false≢true (ap is_ok (sym e.1 ∙ same)));
       fault = rw (e.1, e.2) c.in_err-mark.ensures.fault;
       counted = rw (e.1, e.2) c.in_err-mark.ensures.counted;
+      silent = c.next_marker.ensures.silent;
     }
 
 pub returns-in_err-end_game-in-Some : goal.returns-in_err-end_game-in-Some
 returns-in_err-end_game-in-Some g c =
     let e = err_from_is_err_and c.from_residual-in_err-end_game-in-Some.result c.from_residual-in_err-end_game-in-Some.ensures.1 in
+    let same = c.next_marker.ensures.silent.silent in
+    let sink = device g.W.Sink.taken g.W.Sink.failures c.next_marker.new.out c.end_game.new.out in
+    let f = c.in_err-end_game-in-Some.field-0.0 in
     record {
       reads = λ p u given have.
           let begun = begins p u given _ (games_of c.args.converter.now c.args.buffer.now) have c.requires.not_finished in
           let met = rw c.in-Some.is at (c.in_ok-mark.ensures.reads p u given begun.1 begun.2) in
           let e = err_from_is_err_and c.from_residual-in_err-end_game-in-Some.result c.from_residual-in_err-end_game-in-Some.ensures.1 in
           rw (e.1, e.2) (marker_stops p begun.0 u given _ _ _ c.in-Some.mark (games_of c.next_marker.new.converter c.next_marker.new.buffer)
-          (device g.W.Sink.taken g.W.Sink.failures c.next_marker.new.out c.end_game.new.out) met c.end_game.new.self _
-          c.in_err-end_game-in-Some.ensures.ends);
+          (sink_of c.args.converter.now.reading g.W.Sink.taken g.W.Sink.failures c.next_marker.new.out c.end_game.new.out) met c.end_game.new.self f
+          (seen_alike (λ (d : Device). EndsGame c.next_marker.new.converter.reading c.in-Some.mark c.end_game.new.self.reading (Err f) d) _ _ sink same
+          c.in_err-end_game-in-Some.ensures.ends));
       fewer = λ same. absurd (false≢true (ap is_ok (sym e.1 ∙ same)));
       fault = rw (e.1, e.2) c.in_err-end_game-in-Some.ensures.fault;
       counted = rw (e.1, e.2) (counts_fault _ _ _ _ _ _ c.in_ok-mark.ensures.counted.0 c.in_ok-mark.ensures.counted.1
-          c.in_err-end_game-in-Some.ensures.counted);
+          (seen_alike (λ (d : Device). CountsFault {A = Unit} (Err f) d) _ _ sink same c.in_err-end_game-in-Some.ensures.counted));
+      silent = silence_then _ _ _ _ _ _ c.next_marker.ensures.silent c.end_game.ensures.silent;
     }
 
 pub returns-in_ok-end_game-in-Some : goal.returns-in_ok-end_game-in-Some
 returns-in_ok-end_game-in-Some g c =
     let ended = c.in_ok-end_game-in-Some.ensures in
+    let same = c.next_marker.ensures.silent.silent in
+    let sink = device g.W.Sink.taken g.W.Sink.failures c.next_marker.new.out c.end_game.new.out in
     record {
       reads = λ p u given have.
           let begun = begins p u given _ (games_of c.args.converter.now c.args.buffer.now) have c.requires.not_finished in
           let met = rw c.in-Some.is at (c.in_ok-mark.ensures.reads p u given begun.1 begun.2) in
           game_read p begun.0 u given _ _ _ c.in-Some.mark (games_of c.next_marker.new.converter c.next_marker.new.buffer)
-          (device g.W.Sink.taken g.W.Sink.failures c.next_marker.new.out c.end_game.new.out) met c.end_game.new.self
-          ended.ends ended.lexer ended.not_finished ended.fault ended.games ended.just_finished;
+          (sink_of c.args.converter.now.reading g.W.Sink.taken g.W.Sink.failures c.next_marker.new.out c.end_game.new.out) met c.end_game.new.self
+          (seen_alike (λ (d : Device). EndsGame c.next_marker.new.converter.reading c.in-Some.mark c.end_game.new.self.reading (Ok tt) d) _ _ sink same
+          ended.ends) ended.lexer ended.not_finished ended.fault ended.games ended.just_finished;
       fewer = λ same.
           rw (c.end_game.ensures.not_finished, c.requires.not_finished) (omega (arith, ended.few, ended.games, c.next_marker.ensures.games));
       fault = ended.fault;
-      counted = (c.in_ok-mark.ensures.counted.0, ended.counted ∙ c.in_ok-mark.ensures.counted.1);
+      counted = (c.in_ok-mark.ensures.counted.0,
+          seen_alike IsStill _ _ sink same ended.counted ∙ c.in_ok-mark.ensures.counted.1);
+      silent = silence_then _ _ _ _ _ _ c.next_marker.ensures.silent c.end_game.ensures.silent;
     }
 
 pub returns-in-None : goal.returns-in-None
 returns-in-None g c =
+    let same = c.next_marker.ensures.silent.silent in
+    let sink = device g.W.Sink.taken g.W.Sink.failures c.next_marker.new.out c.finish.new.out in
     record {
       reads = λ p u given have.
           let begun = begins p u given _ (games_of c.args.converter.now c.args.buffer.now) have c.requires.not_finished in
           let games = games_of c.next_marker.new.converter c.next_marker.new.buffer in
           let uses = rw c.in-None.is at (c.in_ok-mark.ensures.reads p u given begun.1 begun.2) in
           finished p begun.0 u given _ _ games _ _ uses c.finish.new.self _ c.finish.result
-          (c.finish.ensures.ends p _ _ _ (stands_at_end p begun.0 u given _ _ games _ _ uses))
+          (seen_alike (λ (d : Device). Ends c.next_marker.new.converter c.finish.new.self c.finish.result d) _ _ sink same c.finish.ensures.ends
+          p _ _ _ (stands_at_end p begun.0 u given _ _ games _ _ uses))
           c.finish.ensures.finished c.in_ok-mark.ensures.short;
       fewer = λ same. rw (c.finish.ensures.finished, same, c.requires.not_finished) (omega arith);
       fault = c.finish.ensures.fault;
       counted = counts_result c.finish.result _ _ _ c.in_ok-mark.ensures.counted.0 c.in_ok-mark.ensures.counted.1 refl
-          (c.finish.ensures.counted c.in_ok-mark.ensures.fault);
+          (seen_alike (CountsFault c.finish.result) _ _ sink same (c.finish.ensures.counted c.in_ok-mark.ensures.fault));
+      silent = silence_then _ _ _ _ _ _ c.next_marker.ensures.silent c.finish.ensures.silent;
     }
 
 pub end_game-requires : goal.end_game-requires

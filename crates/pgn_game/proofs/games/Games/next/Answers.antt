@@ -1,4 +1,5 @@
 use Rattle.pgn_game.proofs.ReaderFitsInMemory.{games_fit_converter}
+use Rattle.pgn_game.proofs.twice.FailuresOfSteps.{no_write_seen}
 use Rattle.pgn_game.proofs.games.Games.next.Goals as goal
 
 pub next_game-requires : goal.next_game-requires
@@ -15,4 +16,6 @@ returns g c =
       at_end = next.at_end;
       again = next.again;
       counted = next.counted;
+      silent = next.silent;
+      no_write_fails = λ silent none. no_write_seen c.next_game.result _ _ _ silent (next.counted none);
     })
