@@ -1,9 +1,9 @@
 -- What a conversion leaves in a buffer.
-use Rattle.pgn_c.proofs.Words.{◌≡◌, ℕ, ◌<◌, ◌≤◌, List, [], ◌∷◌, ◌++◌, length, take, drop, Some, OnOk, Result, Ok, Err, refl, sym, ap, subst, ◌∙◌, append-nil, append_assoc, arith, length-take-le, take-append-drop, Token, tokens_of, Device, Mode, Reason, WriteFault, Fault, Profile, due, output, IsFilled, profile_in, result_of, status_of}
+use Rattle.pgn_c.proofs.Words.{◌≡◌, ℕ, ◌<◌, ◌≤◌, List, [], ◌∷◌, ◌++◌, length, take, drop, false, Some, OnOk, Result, Ok, Err, refl, sym, ap, subst, ◌∙◌, append-nil, append_assoc, arith, length-take-le, take-append-drop, Token, tokens_of, Device, Mode, Reason, WriteFault, Fault, Profile, due, output, IsFilled, profile_in, result_of, status_of}
 use Rattle.pgn_lexer.specs.Decided.{decided}
 use Rattle.pgn_lexer.specs.Laws.{DecidedIsPrefix}
 use Rattle.pgn_game.specs.declared.conversion.Totals.{Totals}
-use Rattle.pgn_game.specs.ConverterCalls.{AreShown, StopsWriting}
+use Rattle.pgn_game.specs.ConverterCalls.{AreShown, NoWriteFails, StopsWriting}
 use Rattle.pgn_game.specs.Laws.{DueGrows, IsPrefix}
 use Rattle.pgn_game.specs.Conversion.{AfterSlice, FailsOn, refused, unwritten, too_long, CountsSink, CountsWriting}
 
@@ -63,7 +63,7 @@ front_on_fault p nothing text written _ grows prefix (too_long u rest is long mo
     (subst (λ s. IsPrefix (due p (decided u)) (output p s)) (sym is) (before_limit p u rest grows prefix))
 
 pub front : (mode : Mode) (text written : List ℕ) (outcome : Result Totals Fault) → DueGrows → DecidedIsPrefix
-    → AfterSlice (profile_in mode) text outcome (Some []) (Some written) → IsPrefix written (output (profile_in mode) text)
+    → AfterSlice false (profile_in mode) text outcome (Some []) (Some written) → IsPrefix written (output (profile_in mode) text)
 front mode text written (Ok t) grows prefix total = all_of _ _ total.converted.1
 front mode text written (Err f) grows prefix fails = front_on_fault (profile_in mode) (nothing_due mode) text written f grows prefix fails
 
@@ -89,6 +89,15 @@ pub is_full : (outcome : Result Totals Fault) (n : ℕ) (sink : Device) → Coun
     → (result_of outcome n).status ≡ 2 → 0 < sink.failures_after
 is_full (Ok t) n sink counted none is = absurd (omega (arith, is))
 is_full (Err f) n sink counted none is = write_fault f.reason sink counted none is
+
+full_reason : (reason : Reason) → status_of reason ≡ 2 → reason ≡ WriteFault
+full_reason WriteFault is = refl
+full_reason _ is = absurd (omega (arith, is))
+
+-- where no write failed, no buffer is full
+pub never_full : (outcome : Result Totals Fault) (n : ℕ) → NoWriteFails outcome → (result_of outcome n).status ≡ 2 → ⊥
+never_full (Ok t) n never is = omega (arith, is)
+never_full (Err f) n never is = never (full_reason f.reason is)
 
 -- ---- a result without a fault
 

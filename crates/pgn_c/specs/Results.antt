@@ -1,8 +1,7 @@
 -- **Definition**: the result of a conversion, as C gets it.
 -- Letters: t are totals, f is a fault. `before` and `after` are the bytes of the buffer before a
 -- call and after it.
-use Rattle.std.specs.Prelude.{◌≡◌, ◌≢◌, ℕ, ◌+◌, ◌-◌, ◌^◌, ◌≤◌, ◌==◌, if◌then◌else◌, List, [], ◌++◌, length, drop, replicate, decimal, Option, Some, None, Result, Ok, Err}
-use Rattle.pgn_layout.specs.Device.{nowhere}
+use Rattle.std.specs.Prelude.{◌≡◌, ◌≢◌, ℕ, ◌+◌, ◌-◌, ◌^◌, ◌≤◌, ◌==◌, if◌then◌else◌, List, [], ◌++◌, length, drop, replicate, decimal, false, Option, Some, None, Result, Ok, Err}
 use Rattle.pgn_game.specs.declared.mode.Mode.{Mode}
 use Rattle.pgn_game.specs.declared.mode.Mode.TheVariants.{Full, Reduced}
 use Rattle.pgn_game.specs.declared.reason.Reason.{Reason}
@@ -13,7 +12,7 @@ use Rattle.pgn_game.specs.Profile.{Profile}
 use Rattle.pgn_game.specs.Reason.{number_of, line_of}
 use Rattle.pgn_game.specs.Progress.{output}
 use Rattle.pgn_game.specs.ConverterCalls.{profile_of}
-use Rattle.pgn_game.specs.Conversion.{AfterSlice, ConvertsSlice}
+use Rattle.pgn_game.specs.Conversion.{AfterSlice, ChecksSlice}
 use Rattle.pgn_game.specs.Laws.{IsPrefix}
 use Rattle.pgn_c.specs.declared.pgn_result.PgnResult.{PgnResult}
 
@@ -39,11 +38,11 @@ result_of (Err f) written =
 abbrev pub profile_in : Mode → Profile
 profile_in mode = profile_of 64 32 mode
 
--- The text was checked: the result is that of a conversion that writes nothing. So it never says
--- that a buffer is full. If the status is 0, the text has at most 2^62 bytes.
+-- The text was checked: the result is that of a reading that writes nothing. So it never says that
+-- a buffer is full. If the status is 0, the text has at most 2^62 bytes.
 pub record Checks (text : List ℕ) (result : PgnResult) : Type 0 where
   pub outcome : Result Totals Fault
-  pub converts : ConvertsSlice (profile_in Full) text outcome nowhere
+  pub checks : ChecksSlice (profile_in Full) text outcome
   pub not_full : result.status ≢ 2
   pub short : result.status ≡ 0 → length text ≤ 2 ^ 62
   pub is_result : result ≡ result_of outcome 0
@@ -59,7 +58,7 @@ pub record IsFilled (before after written : List ℕ) : Type 0 where
 pub record Converts (mode : Mode) (text before after : List ℕ) (result : PgnResult) : Type 0 where
   pub outcome : Result Totals Fault
   pub written : List ℕ
-  pub converts : AfterSlice (profile_in mode) text outcome (Some []) (Some written)
+  pub converts : AfterSlice false (profile_in mode) text outcome (Some []) (Some written)
   pub front : IsPrefix written (output (profile_in mode) text)
   pub filled : IsFilled before after written
   pub full : result.status ≡ 2 → length written ≡ length before

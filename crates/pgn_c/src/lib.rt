@@ -43,7 +43,7 @@ pub use crate::tag::PgnTag;
 use crate::tag::tag_at;
 use chess_text::read_fen;
 use pgn_game::laws::due_grows;
-use pgn_game::{Fault, Mode, Nowhere, Totals, convert_slice};
+use pgn_game::{Fault, Mode, Totals, check_slice, convert_slice};
 use pgn_lexer::laws::decided_is_prefix;
 use std::marker::{Brand, PhantomData};
 
@@ -61,7 +61,7 @@ pub extern "C" fn pgn_check(text: &[u8]) -> PgnResult
     ensures { Checks text.now result }
 {
     result_for(
-        convert_slice::<TAGS, LEVELS, Nowhere>(text, &mut Nowhere, Mode::Full),
+        check_slice::<TAGS, LEVELS>(text, Mode::Full),
         0,
     )
 }

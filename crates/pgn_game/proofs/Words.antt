@@ -87,7 +87,7 @@ pub use Rattle.pgn_game.specs.Laws.{IsPrefix, DueGrows}
 unfoldable pub use Rattle.pgn_game.specs.Tried.{Costs}
 pub use Rattle.std.proofs.lemmas.Result.{err_from_is_err_and}
 pub use Rattle.pgn_game.specs.Tried.{CostsAnswer, CostsForm}
-pub use Rattle.pgn_game.specs.ConverterCalls.{AreNext, within_limit, Converter, CountsFault, CountsMissingAs, CountsReason, FedAll, FedFault, FedGame, FedToFault, FedWhole, FinishedGame, HasRead, IsSound, ReadsUpTo, Stands, StopsIn, at_token, counting_missing_as, finished_game_of, finished_game_plies, game_in_reader_if, play_moves, profile_of, too_long, AfterFinish, Finishes, FinishesToFault, game_in_reader, Stops, unwritten, StopsWriting, games_before, position_at_stop, ProbesAtStop, has_played_move, reported_position, refused as refused_stop, IsLast as IsLastGame}
+pub use Rattle.pgn_game.specs.ConverterCalls.{NoWriteFails, StillStands, writing_nothing, AreNext, within_limit, Converter, CountsFault, CountsMissingAs, CountsReason, FedAll, FedFault, FedGame, FedToFault, FedWhole, FinishedGame, HasRead, IsSound, ReadsUpTo, Stands, StopsIn, at_token, counting_missing_as, finished_game_of, finished_game_plies, game_in_reader_if, play_moves, profile_of, too_long, AfterFinish, Finishes, FinishesToFault, game_in_reader, Stops, unwritten, StopsWriting, games_before, position_at_stop, ProbesAtStop, has_played_move, reported_position, refused as refused_stop, IsLast as IsLastGame}
 pub use Rattle.pgn_lexer.specs.Standing.{Standing, coming, waiting}
 pub use Rattle.pgn_lexer.specs.Stands.{AfterScan, FinishGivesToken, Follows, HasLeft, IsDecided, IsNext, StandsAfter, first, still}
 pub use Rattle.pgn_game.specs.Readings.{BothSoFar, HasMarked, HasMatched, IsGoing, Reading, changed_reason, model_mark}

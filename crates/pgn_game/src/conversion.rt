@@ -171,10 +171,7 @@ pub fn convert_slice<const T: usize, const L: usize, W: Sink>(
 /// let fault = check_slice::<64, 33>(b"e4 e5 Ke3 *", Mode::Full).err().unwrap();
 /// assert_eq!((fault.at, fault.reason), (6, Reason::IllegalMove));
 /// ```
-pub fn check_slice<const T: usize, const L: usize>(
-    text: &[u8],
-    mode: Mode,
-) -> Result<Totals, Fault>
+pub fn check_slice<const T: usize, const L: usize>(text: &[u8], mode: Mode) -> Result<Totals, Fault>
     requires levels { 1 ≤ L }
     requires memory { Holds T.row L.row }
     ensures checks { ChecksSlice (profile_of T (L - 1) mode) text.now result }

@@ -729,6 +729,10 @@ impl<const T: usize, const L: usize> Converter<T, L> {
     {
         let (used, token) = self.lexer.whole_token(piece, false);
         let Some(token) = token else {
+            // Mostly a text goes on, which began in an earlier piece.
+            if used == 0 {
+                return self.step_on(piece, out);
+            }
             if used == piece.len() {
                 return Step {
                     used,

@@ -15,7 +15,7 @@ use Rattle.pgn_game.specs.Profile.{Profile}
 use Rattle.pgn_game.specs.Reason.{line_of}
 use Rattle.pgn_game.specs.Progress.{Verdict, refused, totals, output, verdict}
 use Rattle.pgn_game.specs.ConverterCalls.{profile_of}
-use Rattle.pgn_game.specs.Conversion.{Converts, CountsResult}
+use Rattle.pgn_game.specs.Conversion.{Checks, Converts, CountsResult}
 use Rattle.pgn_arguments.specs.declared.arguments.Task.{Task}
 use Rattle.pgn_arguments.specs.declared.arguments.Task.TheVariants.{Export, Checked, Check, List as ListGames, Split}
 use Rattle.pgn_tool.specs.declared.list.Stopped.{Stopped}
@@ -168,11 +168,11 @@ abbrev pub WritesCountingLine : Result Totals Fault → Device → Type 0
 WritesCountingLine (Ok t) out = Tells out (counting_line t.games t.plies) × HasFront out (counting_line t.games t.plies)
 WritesCountingLine (Err f) out = Keeps out.before out.after
 
--- The conversion of a job. An export converts to standard output. A check converts to nowhere, and
--- then writes its line. A list is no conversion.
+-- The conversion of a job. An export converts to standard output. A check reads and writes nothing,
+-- and then writes its line. A list is no conversion.
 abbrev pub Works : Job → Result Totals Fault → Device → Device → Type 0
 Works (exporting mode) answer source out = Converts (profile_of 64 32 mode) source answer out
-Works checking answer source out = Converts (profile_of 64 32 Full) source answer nowhere × WritesCountingLine answer out
+Works checking answer source out = Checks (profile_of 64 32 Full) source answer × WritesCountingLine answer out
 Works listing answer source out = ⊥
 
 -- the count of failures around one call that may fail, as around the flush at the end of a run

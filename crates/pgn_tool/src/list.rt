@@ -48,6 +48,7 @@ pub fn list_games<R: Source, O: Sink>(source: &mut R, out: &mut O) -> Result<(),
         (O.failures out.old) (O.failures out.new) }
 {
     let mut games = Lister::new(Mode::Full);
+    games.write_nothing();
     loop {
         match games.next(source, &mut Nowhere) {
             Ok(true) => {}

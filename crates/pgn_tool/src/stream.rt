@@ -9,7 +9,7 @@ use crate::list::{Stopped, list_games};
 use arrayvec::ArrayVec;
 use itoa::Buffer;
 use pgn_arguments::Task;
-use pgn_game::{Fault, Mode, Nowhere, Sink, Source, Totals, convert};
+use pgn_game::{Fault, Mode, Sink, Source, Totals};
 use pgn_layout::write_all;
 
 /// The most tag pairs of a game.
@@ -83,7 +83,7 @@ fn export<R: Source, O: Sink, E: Sink>(mode: Mode, source: &mut R, out: &mut O, 
     ensures flushed { IsFlushed (device O.taken O.failures out.old out.new)
         (O.unflushed out.new) result }
 {
-    let answer = convert::<TAGS, LEVELS, R, O>(source, out, mode);
+    let answer = pgn_game::convert::<TAGS, LEVELS, R, O>(source, out, mode);
     let flushed = out.flush();
     match answer {
         Ok(_) => conclude(flushed.is_ok(), err),
@@ -100,7 +100,7 @@ fn check<R: Source, O: Sink, E: Sink>(source: &mut R, out: &mut O, err: &mut E) 
     ensures flushed { IsFlushed (device O.taken O.failures out.old out.new)
         (O.unflushed out.new) result }
 {
-    match convert::<TAGS, LEVELS, R, Nowhere>(source, &mut Nowhere, Mode::Full) {
+    match pgn_game::check::<TAGS, LEVELS, R>(source, Mode::Full) {
         Ok(totals) => {
             let is_written = write_last(counting_line(totals).as_slice(), out);
             conclude(is_written, err)

@@ -10,9 +10,9 @@ returns-clause-converts g c =
     let text = c.args.text.now in
     let outcome = call.result in
     let is_count : length (take sink.room.written sink.room.buffer.now) ≡ sink.room.written = length-take-le _ _ sink.within in
-    let converts : AfterSlice (profile_in c.args.mode) text outcome (Some []) (Some (take sink.room.written sink.room.buffer.now)) =
+    let converts : AfterSlice false (profile_in c.args.mode) text outcome (Some []) (Some (take sink.room.written sink.room.buffer.now)) =
     subst (λ (n : ℕ).
-    AfterSlice (profile_in c.args.mode) text outcome (Some (take n c.new.result.buffer.now)) (Some (take sink.room.written sink.room.buffer.now)))
+    AfterSlice false (profile_in c.args.mode) text outcome (Some (take n c.new.result.buffer.now)) (Some (take sink.room.written sink.room.buffer.now)))
     c.new.ensures.written call.ensures.converts in
     record {
       outcome = outcome;

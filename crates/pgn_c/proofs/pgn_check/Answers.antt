@@ -1,15 +1,15 @@
-use Rattle.pgn_c.proofs.Words.{ap, refl, sym, ◌∙◌, arith, nowhere}
-use Rattle.pgn_c.proofs.ConversionToBuffer.{is_full, when_ok}
+use Rattle.pgn_c.proofs.Words.{ap, sym, ◌∙◌}
+use Rattle.pgn_c.proofs.ConversionToBuffer.{never_full, when_ok}
 use Rattle.pgn_c.proofs.pgn_check.Goals as goal
 
 pub returns : goal.returns
 returns c =
-    let call = c.convert_slice.ensures in
+    let call = c.check_slice.ensures in
+    let status = sym (ap (λ r. r.status) c.result_for.ensures) in
     record {
-      outcome = c.convert_slice.result;
-      converts = call.converts;
-      not_full = λ is.
-          absurd (omega (arith, is_full c.convert_slice.result 0 nowhere call.counted refl (sym (ap (λ r. r.status) c.result_for.ensures) ∙ is)));
-      short = λ is. when_ok c.convert_slice.result 0 call.short (sym (ap (λ r. r.status) c.result_for.ensures) ∙ is);
+      outcome = c.check_slice.result;
+      checks = call.checks;
+      not_full = λ is. never_full c.check_slice.result 0 call.checks.1 (status ∙ is);
+      short = λ is. when_ok c.check_slice.result 0 call.short (status ∙ is);
       is_result = c.result_for.ensures;
     }

@@ -1,5 +1,5 @@
 -- What calls in turn do to the sink of a silent reader.
-use Rattle.pgn_game.proofs.Words.{Adds, LeavesSink, Device, Item, List, ℕ, Mode, Movetext, Option, Result, mode_of_written, mode_unless, seen, ◌≡◌, Bool, true, false, IsTrue, refl, sym, ap, subst, ◌∙◌, arith, ReaderState, Writing, KeepsSilence, is_nothing}
+use Rattle.pgn_game.proofs.Words.{CountsFault, CountsReason, NoWriteFails, Fault, Reason, Ok, Err, WriteFault, Adds, LeavesSink, Device, Item, List, ℕ, Mode, Movetext, Option, Result, mode_of_written, mode_unless, seen, ◌≡◌, Bool, true, false, IsTrue, refl, sym, ap, subst, ◌∙◌, arith, ReaderState, Writing, KeepsSilence, is_nothing}
 use Rattle.pgn_game.specs.declared.mode.Written.{Written}
 use Rattle.pgn_game.specs.declared.mode.Written.TheVariants.{Nothing}
 
@@ -71,3 +71,10 @@ silence_put old found new w a b c alike held same first second = record {
 pub unseen : (P : Device → Type 0) (silent : Bool) (d : Device) → silent ≡ false → P (seen silent d) → P d
 unseen P true d writes h = absurd (cc)
 unseen P false d writes h = h
+
+-- the count of what a silent reader sees does not rise, so no write failed
+pub none_fails : {A : Type 0} (silent : Bool) (r : Result A Fault) (d : Device) → IsTrue silent → CountsFault r (seen silent d) → NoWriteFails r
+none_fails false r d is counted = absurd (cc)
+none_fails true (Ok x) d is counted = tt
+none_fails true (Err f) d is counted = λ failed.
+    let rises = subst (λ (reason : Reason). CountsReason reason 0 0) failed counted in absurd (omega (arith, rises))

@@ -1,5 +1,5 @@
 -- A converter that has read no token, where a missing Result counts as another marker from now on.
-use Rattle.pgn_game.proofs.Words.{Fault, Profile, ◌≡◌, Bool, true, false, [], ℕ, Option, refl, Standing, Marker, marker_text, counting, HasRead, takes_the_marker, with_missing, no_part, ap}
+use Rattle.pgn_game.proofs.Words.{Agrees, HoldsText, Stage, Between, StillStands, silenced, writing_nothing, Fault, Profile, ◌≡◌, Bool, true, false, [], ℕ, Option, refl, Standing, Marker, marker_text, counting, HasRead, takes_the_marker, with_missing, no_part, ap}
 use Rattle.pgn_game.proofs.Words.{ReaderState, Converter, CountsMissingAs, IsSound, counting_missing_as, game_in_reader_if, MostTried, none, rules}
 use Rattle.pgn_game.specs.ConverterSteps.{taking_marker}
 use Rattle.pgn_game.proofs.twice.MarkerCounts.{agrees_under}
@@ -21,6 +21,39 @@ stands_counting marker c p u b stands = search (rules, agrees_under, none_tried)
 pub sound_counting : (marker : Marker) (l : Standing) (r : ReaderState) (games : ℕ) (has_finished_game is_finished : Bool) (fault : Option Fault)
     → IsSound l r games has_finished_game is_finished fault → IsSound l (reader_counting marker r) games has_finished_game is_finished fault
 sound_counting marker l r games has_finished_game is_finished fault sound = search rules
+
+-- A converter that has read no token writes nothing from now on.
+pub finished_silently : (finished : Bool) (r : ReaderState) → game_in_reader_if finished (silenced r) ≡ game_in_reader_if finished r
+finished_silently true r = refl
+finished_silently false r = refl
+
+silent_text : (r : ReaderState) (stage : Stage) → stage ≡ Between → HoldsText stage r no_part → HoldsText stage (silenced r) no_part
+silent_text r Between at h = h
+silent_text r _ at h = absurd (cc)
+
+silent_agrees : (r : ReaderState) → Agrees r no_part → Agrees (silenced r) no_part
+silent_agrees r h = record { stage = h.stage; pairs = h.pairs; text = silent_text r r.stage h.stage h.text }
+
+pub reads_silently : (p : Profile) (c : Converter) → HasRead p c [] → HasRead p (writing_nothing c) []
+reads_silently p c h =
+    record {
+      profile = h.profile;
+      no_fault = h.no_fault;
+      passes = refl;
+      agrees = silent_agrees c.reading h.agrees;
+      games = h.games;
+      plies = h.plies;
+      probed = h.probed;
+      tried = none_tried h.tried;
+      just_finished = h.just_finished;
+    }
+
+pub stands_silently : (c : Converter) → StillStands c (writing_nothing c)
+stands_silently c p u b stands = record { known = stands.known; lexer = stands.lexer; has_read = reads_silently p c stands.has_read }
+
+pub sound_silently : (l : Standing) (r : ReaderState) (games : ℕ) (has_finished_game is_finished : Bool) (fault : Option Fault)
+    → IsSound l r games has_finished_game is_finished fault → IsSound l (silenced r) games has_finished_game is_finished fault
+sound_silently l r games has_finished_game is_finished fault sound = search rules
 
 -- or where it takes the marker
 pub reads_taking : (p : Profile) (c : Converter) → HasRead p c [] → HasRead (with_missing p takes_the_marker) (taking_marker c) []

@@ -2,7 +2,7 @@
 use Rattle.pgn_game.specs.declared.converter.Met.TheVariants.{Token as Other, Marker as AtMarker}
 use Rattle.pgn_game.specs.declared.converter.Met.{Met}
 use Rattle.pgn_game.specs.ConverterSteps.{KeepsRest, StepAdvances, StepGoes, Steps, TakesSteps}
-use Rattle.pgn_game.proofs.Words.{Fault, Converter, CountsFault, Device, Standing, waiting, ◌≡◌, ℕ, ◌+◌, ◌*◌, ◌<◌, ◌≤◌, ◌⊎◌, inl, inr, zero, suc, false, List, length, drop, Option, None, Some, Result, Ok, Err, refl, subst, ◌∙◌, arith, length-drop, first}
+use Rattle.pgn_game.proofs.Words.{seen, Fault, Converter, CountsFault, Device, Standing, waiting, ◌≡◌, ℕ, ◌+◌, ◌*◌, ◌<◌, ◌≤◌, ◌⊎◌, inl, inr, zero, suc, false, List, length, drop, Option, None, Some, Result, Ok, Err, refl, subst, ◌∙◌, arith, length-drop, first}
 use Rattle.pgn_game.proofs.tokens.StepsInPiece.{after_steps, reads_on_none, stands_here}
 
 -- A run may use no byte, and then nothing waits that did not before. It never asks for more bytes.
@@ -141,6 +141,15 @@ steps_behind old mid new piece end used outcome a c e x y z here one two =
       };
     }
 
+-- the same where no byte was passed before the step
+pub steps_at_once : (old mid new : Converter) (piece : List ℕ) (end used : ℕ) (outcome : Result (Option Met) Fault) (a c e : Option (List ℕ)) (x y z : ℕ)
+    → end ≡ 0 → 0 < length piece → Runs old piece mid end (Ok (Some Other)) (between a c x y) → Steps mid piece new used outcome (between c e y z)
+    → Steps old piece new used outcome (between a e x z)
+steps_at_once old mid new piece end used outcome a c e x y z none some one two =
+    let start = subst (λ (n : ℕ). Runs old piece mid n (Ok (Some Other)) (between a c x y)) none one in
+    let all : 0 + used ≡ used = omega arith in
+    subst (λ (n : ℕ). Steps old piece new n outcome (between a e x z)) all (steps_behind old mid new piece 0 used outcome a c e x y z some start two)
+
 -- a step that took a token that is no marker, as a run
 pub runs_step : {old new : Converter} {piece : List ℕ} {used : ℕ} {sink : Device} → Steps old piece new used (Ok (Some Other)) sink
     → Runs old piece new used (Ok (Some Other)) sink
@@ -148,6 +157,8 @@ runs_step steps =
     record { after = steps.after; advances = (omega (arith, steps.advances), λ some. steps.advances); goes = steps.goes }
 
 -- of the same converter
-pub steps_of : {here old new : Converter} {piece : List ℕ} {used : ℕ} {outcome : Result (Option Met) Fault} {sink : Device} → here ≡ old
-    → Steps here piece new used outcome sink → Steps old piece new used outcome sink
-steps_of {here} {old} {new} {piece} {used} {outcome} {sink} same steps = subst (λ (s : Converter). Steps s piece new used outcome sink) same steps
+pub steps_of : {here old new : Converter} {piece : List ℕ} {used : ℕ} {outcome : Result (Option Met) Fault} (a b : Option (List ℕ)) (x y : ℕ)
+    → here ≡ old → Steps here piece new used outcome (seen here.reading.writing.is_silent (between a b x y))
+    → Steps old piece new used outcome (seen old.reading.writing.is_silent (between a b x y))
+steps_of {here} {old} {new} {piece} {used} {outcome} a b x y same steps =
+    subst (λ (s : Converter). Steps s piece new used outcome (seen s.reading.writing.is_silent (between a b x y))) same steps

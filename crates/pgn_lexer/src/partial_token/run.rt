@@ -109,7 +109,9 @@ impl PartialToken {
         let mut used = from;
         while used < end {
             let byte = piece[used];
-            let CommentClass::WordByte = comment_class_of(byte) else { break };
+            let CommentClass::WordByte = comment_class_of(byte) else {
+                break
+            };
             self.buffer.push(byte);
             used += 1;
         }

@@ -84,7 +84,7 @@ module _ (left_old left_new a b c : Option (List ℕ)) (keeps : Keeps b c) where
       Fails.too_long u rest consumed long more (record { passes = reads.passes; appended = kept _ reads.appended })
 
   pub converts_on : (p : Profile) (r : Result Totals Fault)
-      → AfterConversion p left_old left_new r a b → AfterConversion p left_old left_new r a c
+      → AfterConversion false p left_old left_new r a b → AfterConversion false p left_old left_new r a c
   converts_on p (Ok t) converts =
       IfSome_then left_old converts (λ s known. record { short = known.short; converted = (known.converted.0, kept _ known.converted.1); probes = known.probes })
   converts_on p (Err f) converts = fails_on p f converts

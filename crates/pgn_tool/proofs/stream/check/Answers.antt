@@ -11,7 +11,7 @@ returns-in-Ok g c =
     record {
       runs = record {
         answer = Ok c.in-Ok.totals;
-        works = (c.in-Ok.ensures.converts, (tells_as is_written _ _ written totals.failed, front));
+        works = (c.in-Ok.ensures.checks, (tells_as is_written _ _ written totals.failed, front));
         counted = (c.in-Ok.ensures.counted, totals.counted);
         ends =
             concludes_as g.E.Sink.taken g.E.Sink.failures _ _ is_written _ _ _ c.in-Ok.ensures.counted.0 totals.kept totals.failed
@@ -26,7 +26,7 @@ returns-in-Err g c =
     record {
       runs = record {
         answer = Err c.in-Err.fault;
-        works = (c.in-Err.ensures.converts, flush.ensures.bytes);
+        works = (c.in-Err.ensures.checks, flush.ensures.bytes);
         counted = (c.in-Err.ensures.counted, flush_counts flush.result _ _ flush.ensures.failures);
         ends = record {
           ends = c.refuse.ensures.status;

@@ -21,13 +21,14 @@ returns g c =
               games = refl;
               plies = ap whole_plies is;
               probed = λ moves. absurd (false≢true moves);
-              tried = subst (MostTried (profile_of g.row.T (g.row.L - 1) c.args.mode) [])
+              tried = subst (MostTried c.new.result.writing.is_silent (profile_of g.row.T (g.row.L - 1) c.args.mode) [])
                   (sym (ap (λ (r : ReaderState). r.most_probes) is)) (none no_progress);
               just_finished = tt;
             };
           };
       count = c.begin_at.ensures.count;
       not_finished = refl;
+      writes = ap (λ (r : ReaderState). r.writing.is_silent) c.new.ensures;
     }
 
 pub new-requires : goal.new-requires

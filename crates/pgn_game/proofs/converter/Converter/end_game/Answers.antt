@@ -1,4 +1,4 @@
-use Rattle.pgn_game.proofs.Words.{◌+◌, ◌*◌, ◌≤◌, IsTrue, Ok, Err, sym, ap, arith, subst, refl, ◌∙◌, as_written, device, waiting, Converter, TakesEntry, ended_by, game_in_reader_if, may_have_movetext}
+use Rattle.pgn_game.proofs.Words.{◌+◌, ◌*◌, ◌≤◌, IsTrue, Ok, Err, sym, ap, arith, subst, refl, ◌∙◌, as_written, sink_of, KeepsSilence, CountsWrites, IsStill, waiting, Converter, TakesEntry, ended_by, game_in_reader_if, may_have_movetext}
 use Rattle.pgn_game.proofs.ReaderFitsInMemory.{fits_reader}
 use Rattle.pgn_game.proofs.tokens.AcceptedToConverter.{written_same}
 use Rattle.pgn_game.proofs.tokens.StepsAtEnd.{counts_reason, not_just_finished, sound_behind_fault}
@@ -20,7 +20,7 @@ returns-in-Err g c =
         takes = λ k is.
             let takes = rw c.in-Err.is at c.end_game.ensures.takes in
             subst (λ (s : Converter). TakesEntry s.reading k c.end_game.new.self (Err c.in-Err.reason)
-            (device g.W.Sink.taken g.W.Sink.failures c.args.out.now c.end_game.new.out)) c.self.view_is (takes k is);
+            (sink_of s.reading g.W.Sink.taken g.W.Sink.failures c.args.out.now c.end_game.new.out)) c.self.view_is (takes k is);
         place = refl;
       };
       lexer = ap (λ (s : Converter). s.lexer) c.self.view_is;
@@ -31,8 +31,10 @@ returns-in-Err g c =
       just_finished = ap (λ b. game_in_reader_if b c.end_game.new.self) flag;
       written = written_same c.self.inside.reader c.end_game.new.self keeps.profile keeps.writing ∙ ap (λ (s : Converter). as_written s.reading) c.self.view_is;
       probes = omega (arith, ap (λ (s : Converter). s.reading.most_probes) c.self.view_is, keeps.probes);
-      counted = counts_reason c.in-Err.reason (device g.W.Sink.taken g.W.Sink.failures c.args.out.now c.end_game.new.out)
-          (rw c.in-Err.is at c.end_game.ensures.counted);
+      counted = counts_reason c.in-Err.reason (sink_of c.args.self.now.reading g.W.Sink.taken g.W.Sink.failures c.args.out.now c.end_game.new.out)
+          (subst (λ (s : Converter). CountsWrites (Err c.in-Err.reason) (sink_of s.reading g.W.Sink.taken g.W.Sink.failures c.args.out.now c.end_game.new.out))
+          c.self.view_is (rw c.in-Err.is at c.end_game.ensures.counted));
+      silent = subst (λ (s : Converter). KeepsSilence s.reading c.end_game.new.self c.args.out.now c.end_game.new.out) c.self.view_is c.end_game.ensures.silent;
     }
 
 pub returns-in-Ok : goal.returns-in-Ok
@@ -45,7 +47,7 @@ returns-in-Ok g c =
         takes = λ k is.
             let takes = rw c.in-Ok.is at c.end_game.ensures.takes in
             subst (λ (s : Converter). TakesEntry s.reading k c.end_game.new.self (ended_by (Ok tt))
-            (device g.W.Sink.taken g.W.Sink.failures c.args.out.now c.end_game.new.out)) c.self.view_is (takes k is);
+            (sink_of s.reading g.W.Sink.taken g.W.Sink.failures c.args.out.now c.end_game.new.out)) c.self.view_is (takes k is);
         place = tt;
       };
       lexer = ap (λ (s : Converter). s.lexer) c.self.view_is;
@@ -56,7 +58,9 @@ returns-in-Ok g c =
       just_finished = refl;
       written = written_same c.self.inside.reader c.end_game.new.self keeps.profile keeps.writing ∙ ap (λ (s : Converter). as_written s.reading) c.self.view_is;
       probes = omega (arith, ap (λ (s : Converter). s.reading.most_probes) c.self.view_is, keeps.probes);
-      counted = counted;
+      counted =
+          subst (λ (s : Converter). IsStill (sink_of s.reading g.W.Sink.taken g.W.Sink.failures c.args.out.now c.end_game.new.out)) c.self.view_is counted;
+      silent = subst (λ (s : Converter). KeepsSilence s.reading c.end_game.new.self c.args.out.now c.end_game.new.out) c.self.view_is c.end_game.ensures.silent;
     }
 
 pub invariant_of-self : goal.invariant_of-self

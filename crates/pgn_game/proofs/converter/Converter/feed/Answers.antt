@@ -1,7 +1,9 @@
 use Rattle.pgn_game.specs.declared.marker.Mark.{Mark}
 use Rattle.pgn_game.specs.declared.converter.Reached.{Reached}
 use Rattle.pgn_game.specs.declared.converter.Reached.TheVariants.{All, Marker as ToMarker}
-use Rattle.pgn_game.proofs.Words.{Fault, ◌≡◌, ℕ, Result, Ok, arith, ap, le_trans, none-some, refl, same_Some, sym, ◌∙◌, Converter, Err, Standing, err_from_is_err_and, at_token}
+use Rattle.pgn_game.proofs.putting.SilentReader.{none_fails, seen_alike, silence_then}
+use Rattle.pgn_game.specs.ConverterSteps.{EndsGame}
+use Rattle.pgn_game.proofs.Words.{CountsFault, IsStill, device, Fault, ◌≡◌, ℕ, Result, Ok, arith, ap, le_trans, none-some, refl, same_Some, sym, ◌∙◌, Converter, Err, Standing, err_from_is_err_and, at_token}
 use Rattle.pgn_game.proofs.ReaderFitsInMemory.{fits_alike}
 use Rattle.pgn_game.proofs.tokens.PieceToGame.{reaches, fed_all, fed_game, fed_stops, marker_fails}
 use Rattle.pgn_game.proofs.converter.Converter.feed.Goals as goal
@@ -46,6 +48,9 @@ returns-in_err-feed_to_marker g c =
           let stays = fed.again f is in
           (ap Err (same_Some _ _ (sym stops.fault ∙ ap (λ (s : Converter). s.fault) stays.1 ∙ is)), stays.1, stays.2);
       counted = stops.counted;
+      silent = fed.silent;
+      no_write_fails = λ silent free. none_fails {A = Unit} _ (Err c.in_err-feed_to_marker.field-0.0)
+          (device g.W.Sink.taken g.W.Sink.failures c.args.out.now c.feed_to_marker.new.out) silent (stops.counted free);
     })
 
 pub returns-in-All : goal.returns-in-All
@@ -70,6 +75,8 @@ returns-in-All g c =
       probes = fed.probes;
       again = λ f is. absurd (none-some f (sym reads.fault ∙ ap (λ (s : Converter). s.fault) (fed.again f is).1 ∙ is));
       counted = reads.counted;
+      silent = fed.silent;
+      no_write_fails = λ silent free. tt;
     }
 
 pub returns-in_err-end_game-in-Marker : goal.returns-in_err-end_game-in-Marker
@@ -79,11 +86,14 @@ returns-in_err-end_game-in-Marker g c =
     let reads = c.in_ok-feed_to_marker.ensures in
     let feeds = rw c.in-Marker.is at reads.feeds in
     let ended = c.in_err-end_game-in-Marker.ensures in
+    let ends = seen_alike (λ d. EndsGame c.feed_to_marker.new.self.reading c.in-Marker.mark c.end_game.new.self.reading
+    (Err c.in_err-end_game-in-Marker.field-0.0) d) _ _ (device g.W.Sink.taken g.W.Sink.failures c.feed_to_marker.new.out c.end_game.new.out) fed.silent.silent ended.ends in
+    let counted = seen_alike (λ d. CountsFault {A = Unit} (Err c.in_err-end_game-in-Marker.field-0.0) d) _ _ (device g.W.Sink.taken g.W.Sink.failures c.feed_to_marker.new.out c.end_game.new.out) fed.silent.silent ended.counted in
     rw (e.1, e.2) (record {
       used = tt;
       feeds = λ p u b given stands follows.
           at_token _ (marker_fails p stands.known u b given _ c.args.piece.now _ _ _ _
-          (feeds p u b given (reaches stands) follows) c.end_game.new.self _ ended.ends);
+          (feeds p u b given (reaches stands) follows) c.end_game.new.self _ ends);
       empty = λ is none. absurd (no_marker _ _ (rw c.in-Marker.is at (reads.empty is none)));
       count = tt;
       grows = rw c.end_game.ensures.lexer fed.grows;
@@ -95,7 +105,9 @@ returns-in_err-end_game-in-Marker g c =
       games = (ended.games ∙ fed.games, ended.just_finished);
       probes = le_trans fed.probes ended.probes;
       again = λ f is. absurd (none-some f (sym reads.fault ∙ ap (λ (s : Converter). s.fault) (fed.again f is).1 ∙ is));
-      counted = λ free. rw (← reads.counted free) ended.counted;
+      counted = λ free. rw (← reads.counted free) counted;
+      silent = silence_then _ _ _ _ _ _ fed.silent c.end_game.ensures.silent;
+      no_write_fails = λ silent free. none_fails {A = Unit} _ (Err c.in_err-end_game-in-Marker.field-0.0) (device g.W.Sink.taken g.W.Sink.failures c.feed_to_marker.new.out c.end_game.new.out) silent counted;
     })
 
 pub returns-in_ok-end_game-in-Marker : goal.returns-in_ok-end_game-in-Marker
@@ -104,12 +116,15 @@ returns-in_ok-end_game-in-Marker g c =
     let reads = c.in_ok-feed_to_marker.ensures in
     let feeds = rw c.in-Marker.is at reads.feeds in
     let ended = c.in_ok-end_game-in-Marker.ensures in
+    let ends = seen_alike (λ d. EndsGame c.feed_to_marker.new.self.reading c.in-Marker.mark c.end_game.new.self.reading (Ok tt) d) _ _ (device g.W.Sink.taken g.W.Sink.failures c.feed_to_marker.new.out c.end_game.new.out)
+    fed.silent.silent ended.ends in
+    let counted = seen_alike (λ d. IsStill d) _ _ (device g.W.Sink.taken g.W.Sink.failures c.feed_to_marker.new.out c.end_game.new.out) fed.silent.silent ended.counted in
     record {
       used = rw c.in-Marker.is at reads.used;
       feeds = λ p u b given stands follows.
           fed_game p stands.known u b given _ c.args.piece.now _ _ _ _
           (feeds p u b given (reaches stands) follows)
-          c.end_game.new.self ended.ends ended.lexer ended.games ended.just_finished ended.fault;
+          c.end_game.new.self ends ended.lexer ended.games ended.just_finished ended.fault;
       empty = λ is none. absurd (no_marker _ _ (rw c.in-Marker.is at (reads.empty is none)));
       grows = rw ended.lexer fed.grows;
       within = rw ended.lexer fed.within;
@@ -121,5 +136,7 @@ returns-in_ok-end_game-in-Marker g c =
       games = (omega (arith, ended.games, fed.games), omega (arith, c.end_game.ensures.few, fed.games));
       probes = le_trans fed.probes ended.probes;
       again = λ f is. absurd (none-some f (sym reads.fault ∙ ap (λ (s : Converter). s.fault) (fed.again f is).1 ∙ is));
-      counted = λ free. ended.counted ∙ reads.counted free;
+      counted = λ free. counted ∙ reads.counted free;
+      silent = silence_then _ _ _ _ _ _ fed.silent c.end_game.ensures.silent;
+      no_write_fails = λ silent free. tt;
     }

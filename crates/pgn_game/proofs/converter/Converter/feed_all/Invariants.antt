@@ -1,4 +1,4 @@
-use Rattle.pgn_game.proofs.Words.{◌≡◌, ◌≤◌, ◌+◌, ◌-◌, ◌*◌, None, false, length, waiting, device, FeedsAllSoFar}
+use Rattle.pgn_game.proofs.Words.{◌≡◌, ◌≤◌, ◌+◌, ◌-◌, ◌*◌, None, false, length, waiting, failures_seen, sink_of, KeepsSilence, FeedsAllSoFar}
 use Rattle.pgn_game.proofs.converter.Converter.feed_all.Given as goal
 
 abbrev pub invariant-loop-used : goal.invariant-loop-used
@@ -8,8 +8,10 @@ invariant-loop-used g l =
       count : l.self.lexer.count ≡ l.fn.self.lexer.count + l.at;
       fault : l.self.fault ≡ None;
       not_finished : l.self.is_finished ≡ false;
-      counted : g.W.Sink.failures l.out ≡ g.W.Sink.failures l.fn.out;
-      feeds : FeedsAllSoFar l.fn.self l.piece l.at l.self (device g.W.Sink.taken g.W.Sink.failures l.fn.out l.out);
+      counted : failures_seen l.fn.self.reading.writing.is_silent (g.W.Sink.failures l.out)
+          ≡ failures_seen l.fn.self.reading.writing.is_silent (g.W.Sink.failures l.fn.out);
+      silent : KeepsSilence l.fn.self.reading l.self.reading l.fn.out l.out;
+      feeds : FeedsAllSoFar l.fn.self l.piece l.at l.self (sink_of l.fn.self.reading g.W.Sink.taken g.W.Sink.failures l.fn.out l.out);
     }
 
 abbrev pub decreases-loop-used : goal.decreases-loop-used

@@ -1,5 +1,7 @@
 use Rattle.pgn_game.specs.declared.converter.Met.TheVariants.{Token as Other, Marker as AtMarker}
-use Rattle.pgn_game.proofs.Words.{◌≡◌, ℕ, ◌-◌, ◌<◌, List, [], length, take, drop, arith, refl, sym, ap, subst, ◌∙◌, as_written}
+use Rattle.pgn_game.proofs.putting.SilentReader.{seen_alike, silence_kept, silence_then}
+use Rattle.pgn_game.specs.ConverterSteps.{Steps}
+use Rattle.pgn_game.proofs.Words.{device, ◌≡◌, ℕ, ◌-◌, ◌<◌, List, [], length, take, drop, arith, refl, sym, ap, subst, ◌∙◌, as_written}
 use Rattle.pgn_game.proofs.Words.{length-drop, le_refl, Ok, None, Some, take_rest, waiting, Converter, Reaches}
 use Rattle.pgn_game.proofs.ReaderFitsInMemory.{fits_alike}
 use Rattle.pgn_game.proofs.tokens.StepsAtEnd.{sound_at_none}
@@ -22,6 +24,7 @@ loop-at-init g c =
       not_finished = ap (λ (s : Converter). s.is_finished) c.self.view_is ∙ c.requires.not_finished;
       probes = omega (arith, ap (λ (s : Converter). s.reading.most_probes) c.self.view_is);
       counted = refl;
+      silent = silence_kept _ _ _ (ap (λ (s : Converter). s.reading.writing) c.self.view_is);
       feeds = λ p u b given reaches follows.
           so_far_none p _ u b given c.args.piece.now _
           (lets_go p _ u b given (subst (λ (s : Converter). Reaches p s u b given) (sym c.self.view_is) reaches)) follows;
@@ -50,7 +53,9 @@ returns-in-Ok-None g c =
     let read : c.step-step.result.outcome ≡ Ok c.in-Ok-None.field-0 = c.in-Ok-None.is in
     let is : c.step-step.result.outcome ≡ Ok None = read ∙ ap Ok (rw read at c.in-Ok-None.field-0-is) in
     let so = c.loop-at.invariant in
-    let step = c.step-step.ensures in
+    let step = seen_alike (λ d. Steps c.loop-at.self (take (length c.args.piece.now - c.loop-at.at) (drop c.loop-at.at c.args.piece.now))
+    c.step-step.new.self c.step-step.result.used c.step-step.result.outcome d) _ _
+    (device g.W.Sink.taken g.W.Sink.failures c.loop-at.out c.step-step.new.out) so.silent.silent c.step-step.ensures.steps in
     let after = rw (is, take_rest) at step.after in
     let advances = rw (is, take_rest) at step.advances in
     let counted = rw is at step.goes.counted in
@@ -74,6 +79,7 @@ returns-in-Ok-None g c =
       none_just_finished = step.goes.keeps.none_just_finished;
       probes = omega (arith, step.goes.keeps.probes, so.probes);
       counted = counted ∙ so.counted;
+      silent = silence_then _ _ _ _ _ _ so.silent c.step-step.ensures.silent;
     }
 
 pub loop-at-smaller : goal.loop-at-smaller
@@ -82,8 +88,8 @@ loop-at-smaller g c =
     let some : c.in-Ok-Some-Token.field-0 ≡ Some c.in-Ok-Some-Token.field-0-0 = rw read at c.in-Ok-Some-Token.field-0-is in
     let is : c.step-step.result.outcome ≡ Ok (Some Other) =
     read ∙ ap Ok (some ∙ ap Some (rw (read, some) at c.in-Ok-Some-Token.field-0-0-is)) in
-    let advances = rw is at c.step-step.ensures.advances in
-    let used = rw take_rest at c.step-step.ensures.goes.within in
+    let advances = rw is at c.step-step.ensures.steps.advances in
+    let used = rw take_rest at c.step-step.ensures.steps.goes.within in
     omega (arith, advances, used, length-drop c.loop-at.at c.args.piece.now, c.loop-at-test.true)
 
 pub loop-at-preserved : goal.loop-at-preserved
@@ -93,7 +99,9 @@ loop-at-preserved g c =
     let is : c.step-step.result.outcome ≡ Ok (Some Other) =
     read ∙ ap Ok (some ∙ ap Some (rw (read, some) at c.in-Ok-Some-Token.field-0-0-is)) in
     let so = c.loop-at.invariant in
-    let step = c.step-step.ensures in
+    let step = seen_alike (λ d. Steps c.loop-at.self (take (length c.args.piece.now - c.loop-at.at) (drop c.loop-at.at c.args.piece.now))
+    c.step-step.new.self c.step-step.result.used c.step-step.result.outcome d) _ _
+    (device g.W.Sink.taken g.W.Sink.failures c.loop-at.out c.step-step.new.out) so.silent.silent c.step-step.ensures.steps in
     let advances = rw is at step.advances in
     let used = rw take_rest at step.goes.within in
     let counted = rw is at step.goes.counted in
@@ -109,6 +117,7 @@ loop-at-preserved g c =
       not_finished = step.goes.keeps.not_finished;
       probes = omega (arith, step.goes.keeps.probes, so.probes);
       counted = counted ∙ so.counted;
+      silent = silence_then _ _ _ _ _ _ so.silent c.step-step.ensures.silent;
       feeds = λ p u b given reaches follows.
           let here = so.feeds p u b given reaches follows in
           let more = after p _ _ (stands_here p u b given c.args.piece.now c.loop-at.at _ _ _ here c.loop-at-test.true) in
@@ -122,7 +131,9 @@ returns-in-Ok-Some-Marker g c =
     let is : c.step-step.result.outcome ≡ Ok (Some (AtMarker c.in-Ok-Some-Marker.mark)) =
     read ∙ ap Ok (some ∙ ap Some (rw (read, some) at c.in-Ok-Some-Marker.field-0-0-is)) in
     let so = c.loop-at.invariant in
-    let step = c.step-step.ensures in
+    let step = seen_alike (λ d. Steps c.loop-at.self (take (length c.args.piece.now - c.loop-at.at) (drop c.loop-at.at c.args.piece.now))
+    c.step-step.new.self c.step-step.result.used c.step-step.result.outcome d) _ _
+    (device g.W.Sink.taken g.W.Sink.failures c.loop-at.out c.step-step.new.out) so.silent.silent c.step-step.ensures.steps in
     let after = rw (is, take_rest) at step.after in
     let advances = rw is at step.advances in
     let used = rw take_rest at step.goes.within in
@@ -146,12 +157,15 @@ returns-in-Ok-Some-Marker g c =
       none_just_finished = step.goes.keeps.none_just_finished;
       probes = omega (arith, step.goes.keeps.probes, so.probes);
       counted = counted ∙ so.counted;
+      silent = silence_then _ _ _ _ _ _ so.silent c.step-step.ensures.silent;
     }
 
 pub returns-in-Err : goal.returns-in-Err
 returns-in-Err g c =
     let so = c.loop-at.invariant in
-    let step = c.step-step.ensures in
+    let step = seen_alike (λ d. Steps c.loop-at.self (take (length c.args.piece.now - c.loop-at.at) (drop c.loop-at.at c.args.piece.now))
+    c.step-step.new.self c.step-step.result.used c.step-step.result.outcome d) _ _
+    (device g.W.Sink.taken g.W.Sink.failures c.loop-at.out c.step-step.new.out) so.silent.silent c.step-step.ensures.steps in
     let after = rw (c.in-Err.is, take_rest) at step.after in
     let counted = rw c.in-Err.is at step.goes.counted in
     let used = rw take_rest at step.goes.within in
@@ -175,6 +189,7 @@ returns-in-Err g c =
       none_just_finished = step.goes.keeps.none_just_finished;
       probes = omega (arith, step.goes.keeps.probes, so.probes);
       counted = counts_step c.in-Err.fault.reason _ _ _ so.counted counted;
+      silent = silence_then _ _ _ _ _ _ so.silent c.step-step.ensures.silent;
     }
 
 pub returns : goal.returns
@@ -198,6 +213,7 @@ returns g c =
       none_just_finished = so.none_just_finished;
       probes = so.probes;
       counted = so.counted;
+      silent = so.silent;
     }
 
 pub invariant_of-self : goal.invariant_of-self
@@ -207,7 +223,7 @@ invariant_of-self g c =
 
 pub overflow_add-at : goal.overflow_add-at
 overflow_add-at g c =
-    let used = rw take_rest at c.step-step.ensures.goes.within in
+    let used = rw take_rest at c.step-step.ensures.steps.goes.within in
     omega (arith, used, c.requires.short, length-drop c.loop-at.at c.args.piece.now, c.loop-at-test.true)
 
 pub slice_bounds-step-count : goal.slice_bounds-step-count

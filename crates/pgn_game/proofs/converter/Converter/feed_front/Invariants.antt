@@ -1,4 +1,4 @@
-use Rattle.pgn_game.proofs.Words.{◌≡◌, ◌≤◌, ◌+◌, ◌-◌, ◌*◌, None, false, length, waiting, device, as_written, FeedsSoFar}
+use Rattle.pgn_game.proofs.Words.{◌≡◌, ◌≤◌, ◌+◌, ◌-◌, ◌*◌, None, false, length, waiting, failures_seen, sink_of, KeepsSilence, as_written, FeedsSoFar}
 use Rattle.pgn_game.proofs.converter.Converter.feed_front.Given as goal
 
 abbrev pub invariant-loop-at : goal.invariant-loop-at
@@ -13,8 +13,10 @@ invariant-loop-at g l =
       none_just_finished : l.self.just_finished ≡ None;
       not_finished : l.self.is_finished ≡ false;
       probes : l.fn.self.reading.most_probes ≤ l.self.reading.most_probes;
-      counted : g.W.Sink.failures l.out ≡ g.W.Sink.failures l.fn.out;
-      feeds : FeedsSoFar l.fn.self l.piece l.at l.self (device g.W.Sink.taken g.W.Sink.failures l.fn.out l.out);
+      counted : failures_seen l.fn.self.reading.writing.is_silent (g.W.Sink.failures l.out)
+          ≡ failures_seen l.fn.self.reading.writing.is_silent (g.W.Sink.failures l.fn.out);
+      silent : KeepsSilence l.fn.self.reading l.self.reading l.fn.out l.out;
+      feeds : FeedsSoFar l.fn.self l.piece l.at l.self (sink_of l.fn.self.reading g.W.Sink.taken g.W.Sink.failures l.fn.out l.out);
     }
 
 abbrev pub decreases-loop-at : goal.decreases-loop-at

@@ -72,6 +72,7 @@ returns-in_err-used g c =
       probes = c.feed_front.ensures.probes;
       again = λ f is. absurd (none-some f (sym c.in_default.is ∙ ap (λ (s : Converter). s.fault) c.self.view_is ∙ is));
       counted = λ free. fed.counted;
+      silent = c.feed_front.ensures.silent;
     })
 
 pub returns-in-Marker : goal.returns-in-Marker
@@ -106,6 +107,7 @@ returns-in-Marker g c =
       probes = c.feed_front.ensures.probes;
       again = λ f is. absurd (none-some f (sym c.in_default.is ∙ ap (λ (s : Converter). s.fault) c.self.view_is ∙ is));
       counted = λ free. fed.counted;
+      silent = c.feed_front.ensures.silent;
     }
 
 pub returns-then-front-piece : goal.returns-then-front-piece
@@ -150,6 +152,10 @@ returns-then-front-piece g c =
       );
       again = λ f is. absurd (none-some f (sym c.in_default.is ∙ ap (λ (s : Converter). s.fault) c.self.view_is ∙ is));
       counted = λ free. rw c.too_long.ensures.fault fed.counted;
+      silent = record {
+        silent = ap (λ (s : Converter). s.reading.writing.is_silent) c.self-2.view_is ∙ c.feed_front.ensures.silent.silent;
+        untouched = c.feed_front.ensures.silent.untouched;
+      };
     }
 
 pub returns-else-front-piece : goal.returns-else-front-piece
@@ -182,6 +188,7 @@ returns-else-front-piece g c =
       probes = c.feed_front.ensures.probes;
       again = λ f is. absurd (none-some f (sym c.in_default.is ∙ ap (λ (s : Converter). s.fault) c.self.view_is ∙ is));
       counted = λ free. fed.counted;
+      silent = c.feed_front.ensures.silent;
     }
 
 pub within_limit-front-requires : goal.within_limit-front-requires

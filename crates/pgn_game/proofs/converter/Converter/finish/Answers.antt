@@ -1,4 +1,6 @@
-use Rattle.pgn_game.proofs.Words.{arith, ap, le_refl, le_trans, none-some, refl, same_Some, sym, subst, ◌∙◌, device, Converter, Err, Standing, StaysBetween, err_from_is_err_and, false≢true}
+use Rattle.pgn_game.proofs.putting.SilentReader.{none_fails, seen_alike, silence_kept, silence_then}
+use Rattle.pgn_game.specs.ConverterSteps.{EndsGame, EndsToMarker}
+use Rattle.pgn_game.proofs.Words.{Ok, CountsFault, IsStill, bytes_seen, sink_of, arith, ap, le_refl, le_trans, none-some, refl, same_Some, sym, subst, ◌∙◌, device, Converter, Err, Standing, StaysBetween, err_from_is_err_and, false≢true}
 use Rattle.pgn_game.specs.ConverterSteps.{ReadsToEnd}
 use Rattle.pgn_game.proofs.ReaderFitsInMemory.{fits_alike, fits_reader}
 use Rattle.pgn_game.proofs.tokens.StepsAtEnd.{left_of, none_by_fault}
@@ -19,6 +21,8 @@ returns-in-Some g c =
           ∙ none_by_fault c.self.inside.has_finished_game c.self.inside.reader c.self.invariant.no_fault c.in-Some.is;
       again = λ f is. (ap Err (same_Some _ _ (sym kept ∙ is)), refl, refl);
       counted = λ none. absurd (none-some _ (sym none ∙ kept));
+      silent = silence_kept _ _ _ refl;
+      no_write_fails = λ silent none. absurd (none-some _ (sym none ∙ kept));
     }
 
 pub loop-mark-init : goal.loop-mark-init
@@ -29,6 +33,7 @@ loop-mark-init g c =
       count = refl;
       probes = le_refl _;
       counted = refl;
+      silent = silence_kept _ _ _ refl;
       finishes = λ p u b given stands. ended_none p _ u b given _ stands;
     }
 
@@ -52,18 +57,23 @@ returns-in_err-mark g c =
     let old = c.loop-mark.invariant in
     let any = c.finish_to_marker.ensures in
     let met = c.in_err-mark.ensures in
+    let ends = seen_alike (λ d. EndsToMarker c.loop-mark.self c.finish_to_marker.new.self (Err c.in_err-mark.field-0.0) d) _ _ (device g.W.Sink.taken g.W.Sink.failures c.loop-mark.out c.finish_to_marker.new.out)
+    old.silent.silent met.ends in
+    let counted = seen_alike (λ d. CountsFault {A = Unit} (Err c.in_err-mark.field-0.0) d) _ _ (device g.W.Sink.taken g.W.Sink.failures c.loop-mark.out c.finish_to_marker.new.out) old.silent.silent met.counted in
     rw (e.1, e.2) (record {
       ends = λ p u b given stands.
           let so = old.finishes p u b given stands in
           failed_input p u given _ _ _ _ so stands.known _ c.args.self.now.lexer c.finish_to_marker.new.self _
-          (left_of p c.args.self.now u b given stands) stands.has_read.passes (met.ends p u _ so.left so.has_read) any.games;
+          (left_of p c.args.self.now u b given stands) stands.has_read.passes (ends p u _ so.left so.has_read) any.games;
       finished = met.finished;
       count = any.count ∙ old.count;
       probes = le_trans old.probes any.probes;
       fault = met.fault;
       none_just_finished = any.none_just_finished;
       again = λ f is. absurd (none-some f (sym c.in_default.is ∙ ap (λ (s : Converter). s.fault) c.self.view_is ∙ is));
-      counted = λ free. rw (← old.counted) met.counted;
+      counted = λ free. rw (← old.counted) counted;
+      silent = silence_then _ _ _ _ _ _ old.silent any.silent;
+      no_write_fails = λ silent free. none_fails {A = Unit} _ (Err c.in_err-mark.field-0.0) (device g.W.Sink.taken g.W.Sink.failures c.loop-mark.out c.finish_to_marker.new.out) silent counted;
     })
 
 pub returns-in_err-end_game-in-Some-2 : goal.returns-in_err-end_game-in-Some-2
@@ -73,38 +83,56 @@ returns-in_err-end_game-in-Some-2 g c =
     let any = c.finish_to_marker.ensures in
     let met = c.in_ok-mark.ensures in
     let ended = c.in_err-end_game-in-Some-2.ensures in
+    let met_ends = seen_alike (λ d. EndsToMarker c.loop-mark.self c.finish_to_marker.new.self (Ok c.in_ok-mark.field-0) d) _ _ (device g.W.Sink.taken g.W.Sink.failures c.loop-mark.out c.finish_to_marker.new.out)
+    old.silent.silent met.ends in
+    let met_counted = seen_alike (λ d. IsStill d) _ _ (device g.W.Sink.taken g.W.Sink.failures c.loop-mark.out c.finish_to_marker.new.out) old.silent.silent met.counted in
+    let quiet = any.silent.silent ∙ old.silent.silent in
+    let ends = seen_alike (λ d. EndsGame c.finish_to_marker.new.self.reading c.in-Some-2.mark c.end_game.new.self.reading
+    (Err c.in_err-end_game-in-Some-2.field-0.0) d) _ _ (device g.W.Sink.taken g.W.Sink.failures c.finish_to_marker.new.out c.end_game.new.out) quiet ended.ends in
+    let counted = seen_alike (λ d. CountsFault {A = Unit} (Err c.in_err-end_game-in-Some-2.field-0.0) d) _ _ (device g.W.Sink.taken g.W.Sink.failures c.finish_to_marker.new.out c.end_game.new.out) quiet ended.counted in
     rw (e.1, e.2) (record {
       ends = λ p u b given stands.
           let so = old.finishes p u b given stands in
-          let leaves = (rw c.in-Some-2.is at met.ends) p u _ so.left so.has_read in
+          let leaves = (rw c.in-Some-2.is at met_ends) p u _ so.left so.has_read in
           failed_game p u given _ _ _ _ so stands.known _ c.args.self.now.lexer c.in-Some-2.mark c.finish_to_marker.new.self c.end_game.new.self
-          (device g.W.Sink.taken g.W.Sink.failures c.finish_to_marker.new.out c.end_game.new.out)
-          (left_of p c.args.self.now u b given stands) stands.has_read.passes leaves ended.ends ended.games any.games;
+          (sink_of c.args.self.now.reading g.W.Sink.taken g.W.Sink.failures c.finish_to_marker.new.out c.end_game.new.out)
+          (left_of p c.args.self.now u b given stands) stands.has_read.passes leaves ends ended.games any.games;
       finished = ended.not_finished;
       count = ap (λ (l : Standing). l.count) c.end_game.ensures.lexer ∙ any.count ∙ old.count;
       probes = le_trans old.probes (le_trans any.probes ended.probes);
       fault = ended.fault;
       none_just_finished = ended.just_finished;
       again = λ f is. absurd (none-some f (sym c.in_default.is ∙ ap (λ (s : Converter). s.fault) c.self.view_is ∙ is));
-      counted = λ free. rw (← old.counted, ← met.counted) ended.counted;
+      counted = λ free. rw (← old.counted, ← met_counted) counted;
+      silent = silence_then _ _ _ _ _ _ (silence_then _ _ _ _ _ _ old.silent any.silent) c.end_game.ensures.silent;
+      no_write_fails = λ silent free. none_fails {A = Unit} _ (Err c.in_err-end_game-in-Some-2.field-0.0) (device g.W.Sink.taken g.W.Sink.failures c.finish_to_marker.new.out c.end_game.new.out) silent counted;
     })
 
 pub loop-mark-preserved : goal.loop-mark-preserved
 loop-mark-preserved g c =
     let old = c.loop-mark.invariant in
     let ended = c.in_ok-end_game-in-Some-2.ensures in
+    let any = c.finish_to_marker.ensures in
+    let met_ends = seen_alike (λ d. EndsToMarker c.loop-mark.self c.finish_to_marker.new.self (Ok c.in_ok-mark.field-0) d) _ _ (device g.W.Sink.taken g.W.Sink.failures c.loop-mark.out c.finish_to_marker.new.out)
+    old.silent.silent c.in_ok-mark.ensures.ends in
+    let met_counted = seen_alike (λ d. IsStill d) _ _ (device g.W.Sink.taken g.W.Sink.failures c.loop-mark.out c.finish_to_marker.new.out) old.silent.silent c.in_ok-mark.ensures.counted in
+    let quiet = any.silent.silent ∙ old.silent.silent in
+    let ends = seen_alike (λ d. EndsGame c.finish_to_marker.new.self.reading c.in-Some-2.mark c.end_game.new.self.reading (Ok tt) d) _ _ (device g.W.Sink.taken g.W.Sink.failures c.finish_to_marker.new.out c.end_game.new.out)
+    quiet ended.ends in
+    let counted = seen_alike (λ d. IsStill d) _ _ (device g.W.Sink.taken g.W.Sink.failures c.finish_to_marker.new.out c.end_game.new.out) quiet ended.counted in
     record {
       fault = ended.fault;
       not_finished = ended.not_finished;
       count = ap (λ (l : Standing). l.count) ended.lexer ∙ c.finish_to_marker.ensures.count ∙ old.count;
       probes = le_trans old.probes (le_trans c.finish_to_marker.ensures.probes ended.probes);
-      counted = ended.counted ∙ (c.in_ok-mark.ensures.counted ∙ old.counted);
+      counted = counted ∙ (met_counted ∙ old.counted);
+      silent = silence_then _ _ _ _ _ _ (silence_then _ _ _ _ _ _ old.silent any.silent) ended.silent;
       finishes = λ p u b given stands.
           let so = old.finishes p u b given stands in
-          let leaves = (rw c.in-Some-2.is at c.in_ok-mark.ensures.ends) p u _ so.left so.has_read in
+          let leaves = (rw c.in-Some-2.is at met_ends) p u _ so.left so.has_read in
           ended_game p u given _ _ _ _ so stands.known c.in-Some-2.mark c.finish_to_marker.new.self c.end_game.new.self
-          (device g.W.Sink.taken g.W.Sink.failures c.finish_to_marker.new.out c.end_game.new.out)
-          leaves ended.ends ended.lexer ended.fault ended.games ended.just_finished;
+          (sink_of c.args.self.now.reading g.W.Sink.taken g.W.Sink.failures c.finish_to_marker.new.out c.end_game.new.out)
+          leaves ends ended.lexer ended.fault ended.games ended.just_finished;
     }
 
 pub is_between-self-inside-requires : goal.is_between-self-inside-requires
@@ -116,11 +144,17 @@ returns-in-None g c =
     let any = c.finish_to_marker.ensures in
     let met = c.in_ok-mark.ensures in
     let self = c.self-in-None in
+    let met_ends = seen_alike (λ d. EndsToMarker c.loop-mark.self c.finish_to_marker.new.self (Ok c.in_ok-mark.field-0) d) _ _ (device g.W.Sink.taken g.W.Sink.failures c.loop-mark.out c.finish_to_marker.new.out)
+    old.silent.silent met.ends in
+    let met_counted = seen_alike (λ d. IsStill d) _ _ (device g.W.Sink.taken g.W.Sink.failures c.loop-mark.out c.finish_to_marker.new.out) old.silent.silent met.counted in
+    let quiet = silence_then _ _ _ _ _ _ old.silent any.silent in
     record {
       ends = λ p u b given stands.
           let so = old.finishes p u b given stands in
-          let to = (rw c.in-None.is at met.ends) p u _ so.left so.has_read in
-          let here = subst (λ (s : Converter). ReadsToEnd p u so.tokens s (g.W.Sink.taken c.loop-mark.out) (g.W.Sink.taken c.finish_to_marker.new.out)
+          let to = (rw c.in-None.is at met_ends) p u _ so.left so.has_read in
+          let here = subst (λ (s : Converter). ReadsToEnd p u so.tokens s
+          (bytes_seen c.args.self.now.reading.writing.is_silent (g.W.Sink.taken c.loop-mark.out))
+          (bytes_seen c.args.self.now.reading.writing.is_silent (g.W.Sink.taken c.finish_to_marker.new.out))
           × StaysBetween c.loop-mark.self s) (sym self.view_is) to in
           ended_input p u given _ _ _ _ so stands.known _ _ c.if-finished_game.self here.0 here.1
           (λ between. elim c.if-finished_game.branch [
@@ -133,7 +167,12 @@ returns-in-None g c =
       fault = ap (λ (s : Converter). s.fault) self.view_is ∙ met.fault;
       none_just_finished = tt;
       again = λ f is. absurd (none-some f (sym c.in_default.is ∙ ap (λ (s : Converter). s.fault) c.self.view_is ∙ is));
-      counted = λ free. met.counted ∙ old.counted;
+      counted = λ free. met_counted ∙ old.counted;
+      silent = record {
+        silent = ap (λ (s : Converter). s.reading.writing.is_silent) self.view_is ∙ quiet.silent;
+        untouched = quiet.untouched;
+      };
+      no_write_fails = λ silent free. tt;
     }
 
 pub invariant_of-self : goal.invariant_of-self

@@ -1,4 +1,4 @@
-use Rattle.pgn_game.proofs.Words.{◌≡◌, ◌≤◌, None, false, waiting, device, FinishesSoFar}
+use Rattle.pgn_game.proofs.Words.{◌≡◌, ◌≤◌, None, false, waiting, failures_seen, sink_of, KeepsSilence, FinishesSoFar}
 use Rattle.pgn_game.proofs.converter.Converter.finish.Given as goal
 
 abbrev pub invariant-loop-mark : goal.invariant-loop-mark
@@ -8,8 +8,10 @@ invariant-loop-mark g l =
       not_finished : l.self.is_finished ≡ false;
       count : l.self.lexer.count ≡ l.fn.self.lexer.count;
       probes : l.fn.self.reading.most_probes ≤ l.self.reading.most_probes;
-      counted : g.W.Sink.failures l.out ≡ g.W.Sink.failures l.fn.out;
-      finishes : FinishesSoFar l.fn.self l.self l.finished_game (device g.W.Sink.taken g.W.Sink.failures l.fn.out l.out);
+      counted : failures_seen l.fn.self.reading.writing.is_silent (g.W.Sink.failures l.out)
+          ≡ failures_seen l.fn.self.reading.writing.is_silent (g.W.Sink.failures l.fn.out);
+      silent : KeepsSilence l.fn.self.reading l.self.reading l.fn.out l.out;
+      finishes : FinishesSoFar l.fn.self l.self l.finished_game (sink_of l.fn.self.reading g.W.Sink.taken g.W.Sink.failures l.fn.out l.out);
     }
 
 abbrev pub decreases-loop-mark : goal.decreases-loop-mark

@@ -1,4 +1,6 @@
-use Rattle.pgn_game.proofs.Words.{Some, arith, refl, ap, ◌∙◌, le_trans, err_from_is_err_and, waiting, as_written, Converter}
+use Rattle.pgn_game.proofs.putting.SilentReader.{seen_alike, silence_kept, silence_then}
+use Rattle.pgn_game.specs.ConverterSteps.{StepsAtEnd}
+use Rattle.pgn_game.proofs.Words.{Ok, Err, device, CountsFault, Some, arith, refl, ap, ◌∙◌, le_trans, err_from_is_err_and, waiting, as_written, Converter}
 use Rattle.pgn_game.proofs.ReaderFitsInMemory.{fits_alike}
 use Rattle.pgn_game.proofs.tokens.StepsAtEnd.{sound_at_none}
 use Rattle.pgn_game.proofs.tokens.FinishesGames.{left_none, left_more, left_marker, left_end, left_fault}
@@ -16,6 +18,7 @@ loop-mark-init g c =
       count = ap (λ (s : Converter). s.lexer.count) c.self.view_is;
       nearer = omega (arith, ap (λ (s : Converter). waiting s.lexer) c.self.view_is);
       counted = refl;
+      silent = silence_kept _ _ _ (ap (λ (s : Converter). s.reading.writing) c.self.view_is);
       ends = λ p u given left has_read. left_none p u given _ _ _ c.self.view_is left has_read;
     }
 
@@ -25,10 +28,13 @@ returns-in_err-step_at_end g c =
     let old = c.loop-mark.invariant in
     let any = c.step_at_end.ensures in
     let step = c.in_err-step_at_end.ensures in
+    let sink = device g.W.Sink.taken g.W.Sink.failures c.loop-mark.out c.step_at_end.new.out in
+    let after = seen_alike (λ d. StepsAtEnd c.loop-mark.self c.step_at_end.new.self (Err c.in_err-step_at_end.field-0.0) d) _ _ sink old.silent.silent step.after in
+    let counted = seen_alike (λ d. CountsFault {A = Unit} (Err c.in_err-step_at_end.field-0.0) d) _ _ sink old.silent.silent step.counted in
     rw (e.1, e.2) (record {
       ends = λ p u given left has_read.
           let so = old.ends p u given left has_read in
-          left_fault p u given _ _ c.step_at_end.new.self _ _ _ so any.written _ (step.after p u _ so.left so.reads.has_read);
+          left_fault p u given _ _ c.step_at_end.new.self _ _ _ so any.written _ (after p u _ so.left so.reads.has_read);
       count = any.count ∙ old.count;
       advances = tt;
       ready = tt;
@@ -38,7 +44,8 @@ returns-in_err-step_at_end g c =
       games = any.games ∙ old.games;
       none_just_finished = any.none_just_finished;
       probes = le_trans old.probes any.probes;
-      counted = rw (← old.counted) step.counted;
+      counted = rw (← old.counted) counted;
+      silent = silence_then _ _ _ _ _ _ old.silent any.silent;
     })
 
 pub step_at_end-requires : goal.step_at_end-requires
@@ -59,6 +66,9 @@ loop-mark-preserved g c =
     let is = c.in-Some-Token.is ∙ ap Some c.in-Some-Token.field-0-is in
     let old = c.loop-mark.invariant in
     let step = c.in_ok-step_at_end.ensures in
+    let sink = device g.W.Sink.taken g.W.Sink.failures c.loop-mark.out c.step_at_end.new.out in
+    let after = seen_alike (λ d. StepsAtEnd c.loop-mark.self c.step_at_end.new.self (Ok c.in_ok-step_at_end.field-0) d) _ _ sink old.silent.silent step.after in
+    let counted = seen_alike (λ d. CountsFault (Ok c.in_ok-step_at_end.field-0) d) _ _ sink old.silent.silent step.counted in
     let nearer = rw is at step.advances in
     record {
       fault = step.fault;
@@ -69,10 +79,11 @@ loop-mark-preserved g c =
       probes = le_trans old.probes step.probes;
       count = c.step_at_end.ensures.count ∙ old.count;
       nearer = omega (arith, nearer, old.nearer);
-      counted = step.counted ∙ old.counted;
+      counted = counted ∙ old.counted;
+      silent = silence_then _ _ _ _ _ _ old.silent step.silent;
       ends = λ p u given left has_read.
           let so = old.ends p u given left has_read in
-          left_more p u given _ _ c.step_at_end.new.self _ _ _ so step.written ((rw is at step.after) p u _ so.left so.reads.has_read);
+          left_more p u given _ _ c.step_at_end.new.self _ _ _ so step.written ((rw is at after) p u _ so.left so.reads.has_read);
     }
 
 pub returns-in-Some-Marker : goal.returns-in-Some-Marker
@@ -80,11 +91,14 @@ returns-in-Some-Marker g c =
     let is = c.in-Some-Marker.is ∙ ap Some c.in-Some-Marker.field-0-is in
     let old = c.loop-mark.invariant in
     let step = c.in_ok-step_at_end.ensures in
+    let sink = device g.W.Sink.taken g.W.Sink.failures c.loop-mark.out c.step_at_end.new.out in
+    let after = seen_alike (λ d. StepsAtEnd c.loop-mark.self c.step_at_end.new.self (Ok c.in_ok-step_at_end.field-0) d) _ _ sink old.silent.silent step.after in
+    let counted = seen_alike (λ d. CountsFault (Ok c.in_ok-step_at_end.field-0) d) _ _ sink old.silent.silent step.counted in
     let nearer = rw is at step.advances in
     record {
       ends = λ p u given left has_read.
           let so = old.ends p u given left has_read in
-          left_marker p u given _ _ c.step_at_end.new.self _ _ _ so step.written _ ((rw is at step.after) p u _ so.left so.reads.has_read);
+          left_marker p u given _ _ c.step_at_end.new.self _ _ _ so step.written _ ((rw is at after) p u _ so.left so.reads.has_read);
       count = c.step_at_end.ensures.count ∙ old.count;
       advances = omega (arith, nearer, old.nearer);
       ready = rw is at step.ready;
@@ -94,18 +108,22 @@ returns-in-Some-Marker g c =
       games = step.games ∙ old.games;
       none_just_finished = step.none_just_finished;
       probes = le_trans old.probes step.probes;
-      counted = step.counted ∙ old.counted;
+      counted = counted ∙ old.counted;
+      silent = silence_then _ _ _ _ _ _ old.silent step.silent;
     }
 
 pub returns-in-None : goal.returns-in-None
 returns-in-None g c =
     let old = c.loop-mark.invariant in
     let step = c.in_ok-step_at_end.ensures in
+    let sink = device g.W.Sink.taken g.W.Sink.failures c.loop-mark.out c.step_at_end.new.out in
+    let after = seen_alike (λ d. StepsAtEnd c.loop-mark.self c.step_at_end.new.self (Ok c.in_ok-step_at_end.field-0) d) _ _ sink old.silent.silent step.after in
+    let counted = seen_alike (λ d. CountsFault (Ok c.in_ok-step_at_end.field-0) d) _ _ sink old.silent.silent step.counted in
     record {
       ends = λ p u given left has_read.
           let so = old.ends p u given left has_read in
           left_end p u given _ _ c.step_at_end.new.self _ _ _ so step.written
-          ((rw c.in-None.is at step.after) p u _ so.left so.reads.has_read);
+          ((rw c.in-None.is at after) p u _ so.left so.reads.has_read);
       count = c.step_at_end.ensures.count ∙ old.count;
       advances = tt;
       ready = tt;
@@ -115,5 +133,6 @@ returns-in-None g c =
       games = step.games ∙ old.games;
       none_just_finished = step.none_just_finished;
       probes = le_trans old.probes step.probes;
-      counted = step.counted ∙ old.counted;
+      counted = counted ∙ old.counted;
+      silent = silence_then _ _ _ _ _ _ old.silent step.silent;
     }

@@ -1,6 +1,9 @@
 use Rattle.pgn_game.specs.declared.converter.Met.TheVariants.{Token as Other}
 use Rattle.pgn_game.specs.ConverterSteps.{outcome_at}
-use Rattle.pgn_game.proofs.Words.{◌≡◌, ◌∙◌, ℕ, ◌+◌, ◌-◌, ◌≤◌, ◌^◌, arith, ap, sym, subst, false, None, Ok, Some, take, take_rest, device, Converter, length, length-drop, drop, may_have_movetext, refl}
+use Rattle.pgn_game.proofs.putting.SilentReader.{seen_alike, silence_kept, silence_then}
+use Rattle.pgn_game.specs.PutResult.{MeetsEntry}
+use Rattle.pgn_game.specs.ConverterSteps.{Steps}
+use Rattle.pgn_game.proofs.Words.{sink_of, kind_of, ◌≡◌, ◌∙◌, ℕ, ◌+◌, ◌-◌, ◌≤◌, ◌^◌, arith, ap, sym, subst, false, None, Ok, Some, take, take_rest, device, Converter, length, length-drop, drop, may_have_movetext, refl}
 use Rattle.pgn_game.proofs.ReaderFitsInMemory.{fits_alike, fits_reader}
 use Rattle.pgn_game.proofs.tokens.AcceptedToConverter.{now_at}
 use Rattle.pgn_game.proofs.tokens.PastNumbers.{meets_in_movetext}
@@ -24,8 +27,9 @@ loop-used-init g c =
       stage = ap (λ (s : Converter). s.reading.stage) c.self.view_is ∙ c.requires.stage;
       sound = rw (flag, none, not_over) at c.self.invariant;
       runs = subst (λ (s : Converter). Runs c.args.self.now c.args.piece.now s 0 (Ok (Some Other))
-          (device g.W.Sink.taken g.W.Sink.failures c.args.out.now c.args.out.now)) (sym same)
+          (sink_of c.args.self.now.reading g.W.Sink.taken g.W.Sink.failures c.args.out.now c.args.out.now)) (sym same)
           (runs_none _ _ _ _ c.requires.no_fault c.requires.none_just_finished c.requires.not_finished);
+      silent = silence_kept _ _ _ (ap (λ (s : Converter). s.reading.writing) c.self.view_is);
     }
 
 pub accept_entry-met-requires : goal.accept_entry-met-requires
@@ -60,7 +64,8 @@ loop-used-preserved g c =
     let read : c.accept_entry-met.result ≡ Ok c.in-Ok-None.field-0 = c.in-Ok-None.is in
     let is : c.accept_entry-met.result ≡ Ok None = read ∙ ap Ok (rw read at c.in-Ok-None.field-0-is) in
     let takes = rw is at (meets_in_movetext c.loop-used.self-inside.reader c.accept_entry-met.new.self c.in-Some.token.kind c.accept_entry-met.result _
-    here.stage c.accept_entry-met.ensures) in
+    here.stage (seen_alike (λ d. MeetsEntry c.loop-used.self-inside.reader (kind_of c.in-Some.token.kind) c.accept_entry-met.new.self c.accept_entry-met.result d) _ _
+    (device g.W.Sink.taken g.W.Sink.failures c.loop-used.out c.accept_entry-met.new.out) here.silent.silent c.accept_entry-met.ensures.meets)) in
     record {
       flag = here.flag;
       not_finished = here.not_finished;
@@ -71,6 +76,7 @@ loop-used-preserved g c =
       runs = runs_then _ _ _ _ _ _ _ _ _ _ _ _ _ c.loop-used-test.true here.runs
           (runs_step (steps_met_behind c.loop-used.self-inside.lexer c.loop-used.self-inside.reader c.loop-used.self-inside.games rest here.sound short (λ _. here.stage)
           behind within c.accept_entry-met.new.self (Ok None) _ takes));
+      silent = silence_then _ _ _ _ _ _ here.silent c.accept_entry-met.ensures.silent;
     }
 
 pub invariant_of-self-in_default-met : goal.invariant_of-self-in_default-met
@@ -82,13 +88,14 @@ invariant_of-self-in_default-met g c =
     omega (arith, here.runs.goes.count, here.runs.goes.within, c.requires.short, length-drop c.loop-used.used c.args.piece.now) in
     let behind = rw (take_rest, c.in-Some.is) at c.whole_token-count.ensures.reads in
     let takes = meets_in_movetext c.loop-used.self-inside.reader c.accept_entry-met.new.self c.in-Some.token.kind c.accept_entry-met.result _ here.stage
-    c.accept_entry-met.ensures in
+    (seen_alike (λ d. MeetsEntry c.loop-used.self-inside.reader (kind_of c.in-Some.token.kind) c.accept_entry-met.new.self c.accept_entry-met.result d) _ _
+    (device g.W.Sink.taken g.W.Sink.failures c.loop-used.out c.accept_entry-met.new.out) here.silent.silent c.accept_entry-met.ensures.meets) in
     rw here.flag
     (sound_met_behind c.loop-used.self-inside.lexer c.loop-used.self-inside.reader c.loop-used.self-inside.games rest here.sound short (λ _. here.stage)
     behind within c.accept_entry-met.new.self c.accept_entry-met.result _ takes)
 
-pub returns-in_default-met : goal.returns-in_default-met
-returns-in_default-met g c =
+pub returns-in_default-met-clause-steps : goal.returns-in_default-met-clause-steps
+returns-in_default-met-clause-steps g c =
     let here = c.loop-used.invariant in
     let within = rw take_rest at c.whole_token-count.ensures.used in
     let rest = drop c.loop-used.used c.args.piece.now in
@@ -96,7 +103,8 @@ returns-in_default-met g c =
     omega (arith, here.runs.goes.count, here.runs.goes.within, c.requires.short, length-drop c.loop-used.used c.args.piece.now) in
     let behind = rw (take_rest, c.in-Some.is) at c.whole_token-count.ensures.reads in
     let takes = meets_in_movetext c.loop-used.self-inside.reader c.accept_entry-met.new.self c.in-Some.token.kind c.accept_entry-met.result _ here.stage
-    c.accept_entry-met.ensures in
+    (seen_alike (λ d. MeetsEntry c.loop-used.self-inside.reader (kind_of c.in-Some.token.kind) c.accept_entry-met.new.self c.accept_entry-met.result d) _ _
+    (device g.W.Sink.taken g.W.Sink.failures c.loop-used.out c.accept_entry-met.new.out) here.silent.silent c.accept_entry-met.ensures.meets) in
     let outcome : c.settle-outcome.result ≡ outcome_at c.in-Some.token.at c.accept_entry-met.result =
     c.settle-outcome.ensures.outcome in
     rw (here.flag, here.not_finished, c.settle-outcome.ensures.fault, outcome)
@@ -104,14 +112,14 @@ returns-in_default-met g c =
     (steps_met_behind c.loop-used.self-inside.lexer c.loop-used.self-inside.reader c.loop-used.self-inside.games rest here.sound short (λ _. here.stage)
     behind within c.accept_entry-met.new.self c.accept_entry-met.result _ takes))
 
-pub returns-then-used-piece : goal.returns-then-used-piece
-returns-then-used-piece g c =
+pub returns-then-used-piece-clause-steps : goal.returns-then-used-piece-clause-steps
+returns-then-used-piece-clause-steps g c =
     let here = c.loop-used.invariant in
     let rest = drop c.loop-used.used c.args.piece.now in
     let short : c.loop-used.self-inside.lexer.count + length rest ≤ 2 ^ 62 =
     omega (arith, here.runs.goes.count, here.runs.goes.within, c.requires.short, length-drop c.loop-used.used c.args.piece.now) in
     let ran : Runs c.args.self.now c.args.piece.now c.loop-used-test.self c.loop-used-test.used (Ok (Some Other))
-    (device g.W.Sink.taken g.W.Sink.failures c.args.out.now c.loop-used.out) =
+    (sink_of c.args.self.now.reading g.W.Sink.taken g.W.Sink.failures c.args.out.now c.loop-used.out) =
     elim c.loop-used-test.branch [
       | else-loop-used-test w ↦ rw (w.self-is, w.used-is, here.flag, here.not_finished, here.fault) here.runs
       | then-loop-used-test+in_default w ↦
@@ -129,7 +137,7 @@ step_on-step-requires g c =
     let short : c.loop-used.self-inside.lexer.count + length rest ≤ 2 ^ 62 =
     omega (arith, here.runs.goes.count, here.runs.goes.within, c.requires.short, length-drop c.loop-used.used c.args.piece.now) in
     let ran : Runs c.args.self.now c.args.piece.now c.loop-used-test.self c.loop-used-test.used (Ok (Some Other))
-    (device g.W.Sink.taken g.W.Sink.failures c.args.out.now c.loop-used.out) =
+    (sink_of c.args.self.now.reading g.W.Sink.taken g.W.Sink.failures c.args.out.now c.loop-used.out) =
     elim c.loop-used-test.branch [
       | else-loop-used-test w ↦ rw (w.self-is, w.used-is, here.flag, here.not_finished, here.fault) here.runs
       | then-loop-used-test+in_default w ↦
@@ -152,14 +160,14 @@ step_on-step-requires g c =
       ),
     )
 
-pub returns : goal.returns
-returns g c =
+pub returns-clause-steps : goal.returns-clause-steps
+returns-clause-steps g c =
     let here = c.loop-used.invariant in
     let rest = drop c.loop-used.used c.args.piece.now in
     let short : c.loop-used.self-inside.lexer.count + length rest ≤ 2 ^ 62 =
     omega (arith, here.runs.goes.count, here.runs.goes.within, c.requires.short, length-drop c.loop-used.used c.args.piece.now) in
     let ran : Runs c.args.self.now c.args.piece.now c.loop-used-test.self c.loop-used-test.used (Ok (Some Other))
-    (device g.W.Sink.taken g.W.Sink.failures c.args.out.now c.loop-used.out) =
+    (sink_of c.args.self.now.reading g.W.Sink.taken g.W.Sink.failures c.args.out.now c.loop-used.out) =
     elim c.loop-used-test.branch [
       | else-loop-used-test w ↦ rw (w.self-is, w.used-is, here.flag, here.not_finished, here.fault) here.runs
       | then-loop-used-test+in_default w ↦
@@ -168,4 +176,12 @@ returns g c =
           (runs_past c.loop-used.self-inside.lexer c.loop-used.self-inside.reader c.loop-used.self-inside.games rest here.sound short (λ _. here.stage)
           (rw (take_rest, w.in_default.is) at w.whole_token-count.ensures.reads) (rw take_rest at w.whole_token-count.ensures.used) _ _))
     ] in
-    steps_behind _ _ _ _ _ _ _ _ _ _ _ _ _ (omega (arith, ran.goes.within, c.if-used-piece.false)) ran (rw take_rest at c.step_on-step.ensures)
+    let quiet : c.loop-used-test.self.reading.writing.is_silent ≡ c.args.self.now.reading.writing.is_silent =
+    elim c.loop-used-test.branch [
+      | else-loop-used-test w ↦ rw w.self-is here.silent.silent
+      | then-loop-used-test+in_default w ↦ rw w.self-is here.silent.silent
+    ] in
+    steps_behind _ _ _ _ _ _ _ _ _ _ _ _ _ (omega (arith, ran.goes.within, c.if-used-piece.false)) ran
+    (seen_alike (λ d. Steps c.loop-used-test.self (drop c.loop-used-test.used c.args.piece.now) c.step_on-step.new.self c.step_on-step.result.used c.step_on-step.result.outcome d) _ _
+    (device g.W.Sink.taken g.W.Sink.failures c.loop-used.out c.step_on-step.new.out) quiet
+    (rw take_rest at c.step_on-step.ensures.steps))

@@ -1,4 +1,4 @@
-use Rattle.pgn_game.proofs.Words.{◌≡◌, ◌-◌, false, None, Some, Ok, length, device, InMovetext, IsSound}
+use Rattle.pgn_game.proofs.Words.{◌≡◌, ◌-◌, false, None, Some, Ok, length, sink_of, KeepsSilence, InMovetext, IsSound}
 use Rattle.pgn_game.specs.declared.converter.Met.TheVariants.{Token as Other}
 use Rattle.pgn_game.proofs.tokens.RunsInPiece.{Runs}
 use Rattle.pgn_game.proofs.tokens.AcceptedToConverter.{now_at}
@@ -13,7 +13,8 @@ invariant-loop-used g l = record {
   stage : l.self-inside.reader.stage ≡ InMovetext;
   sound : IsSound l.self-inside.lexer l.self-inside.reader l.self-inside.games false false None;
   runs : Runs l.fn.self l.piece (now_at l.self-inside.lexer l.self-inside.reader l.self-inside.games false) l.used (Ok (Some Other))
-      (device g.W.Sink.taken g.W.Sink.failures l.fn.out l.out);
+      (sink_of l.fn.self.reading g.W.Sink.taken g.W.Sink.failures l.fn.out l.out);
+  silent : KeepsSilence l.fn.self.reading l.self-inside.reader l.fn.out l.out;
 }
 
 abbrev pub decreases-loop-used : goal.decreases-loop-used

@@ -1,3 +1,4 @@
+use Rattle.pgn_game.proofs.putting.SilentReader.{silence_kept, silence_then}
 use Rattle.pgn_game.proofs.Words.{Token, fault_of_step, kind_of, as_written, Keeps, arith, sym, ap, subst, refl, ◌∙◌, ◌≡◌, ◌&&◌, true, false, is_ok, is_end, Converter, HasRead, HasLeft, outcome_at, game_in_reader_if}
 use Rattle.pgn_game.proofs.tokens.StepsAtEnd.{Left, Nearer, closes_end, closes_token, closes_fault, kept, left_by, nearer_by, not_just_finished, counts_token}
 use Rattle.pgn_game.proofs.tokens.StepsAtEnd.{advances_at_end, counts_ok, goes_on_at, no_fault_if_ok, ready_at_end, sound_at_end, sound_behind, sound_behind_fault, sound_if_not_ok}
@@ -28,7 +29,7 @@ returns-then-is_ok g c =
     let met = c.accept_copied-met in
     let r = met.result in
     let ok : is_ok (outcome_at t.at r) ≡ true = ap is_ok (sym c.settle-outcome.ensures.outcome) ∙ sym c.is_ok.ensures.value ∙ c.if-is_ok.true in
-    let keeps : Keeps c.self.inside.reader met.new.self = kept _ _ _ _ r met.ensures in
+    let keeps : Keeps c.self.inside.reader met.new.self = kept _ _ _ _ r met.ensures.takes in
     let near = subst (λ e. Nearer e c.self.inside.lexer l) is_e
     (nearer_by t.kind c.self.inside.lexer l t c.finish.follows.holds-at-none.count (rw c.in-Token.is at c.finish.follows.holds-at-none.closes)) in
     record {
@@ -38,7 +39,7 @@ returns-then-is_ok g c =
           let left_behind = rw c.in-Token.is at c.finish.follows.holds-at-none.left in
           rw (← c.self.view_is, flag, c.settle-outcome.ensures.fault, c.settle-outcome.ensures.outcome)
           (closes_end p _ u given t l met.new.self _ r is_e ok here
-          (subst (λ e. Left u given e l t) is_e (left_by u given t.kind l t (left_behind u given left_here))) met.ensures);
+          (subst (λ e. Left u given e l t) is_e (left_by u given t.kind l t (left_behind u given left_here))) met.ensures.takes);
       count = c.finish.follows.holds-at-none.count ∙ ap (λ (s : Converter). s.lexer.count) c.self.view_is;
       advances = tt;
       ready = tt;
@@ -48,7 +49,8 @@ returns-then-is_ok g c =
       probes = omega (arith, ap (λ (s : Converter). s.reading.most_probes) c.self.view_is, keeps.probes);
       none_just_finished = ap (λ b. game_in_reader_if b met.new.self) flag;
       finished = refl;
-      counted = counts_ok t.at r ok _ (counts_token c.self.inside.reader met.new.self _ t.at r _ met.ensures);
+      counted = rw (← c.self.view_is) (counts_ok t.at r ok _ (counts_token c.self.inside.reader met.new.self _ t.at r _ met.ensures.takes));
+      silent = silence_then _ c.self.inside.reader _ _ _ _ (silence_kept _ _ _ (ap (λ (s : Converter). s.reading.writing) c.self.view_is)) met.ensures.silent;
     }
 
 pub returns-in-Fault : goal.returns-in-Fault
@@ -72,6 +74,7 @@ returns-in-Fault g c =
       none_just_finished = ap (λ (s : Converter). s.just_finished) c.self.view_is ∙ c.requires.none_just_finished;
       finished = rw c.fail.ensures.outcome (ap (λ (s : Converter). s.is_finished) c.self.view_is ∙ c.requires.not_finished);
       counted = rw (c.fail.ensures.outcome, c.lexical.ensures) refl;
+      silent = silence_kept _ _ _ (ap (λ (s : Converter). s.reading.writing) c.self.view_is);
     }
 
 -- not the end, or a token that was not taken
@@ -110,7 +113,7 @@ returns-else-is_end g c =
     let r = met.result in
     let e = c.is_end-is_end.result in
     let now = now_is g c in
-    let keeps : Keeps c.self.inside.reader met.new.self = kept _ _ _ _ r met.ensures in
+    let keeps : Keeps c.self.inside.reader met.new.self = kept _ _ _ _ r met.ensures.takes in
     let near = subst (λ e. Nearer e c.self.inside.lexer l) (sym c.is_end-is_end.ensures)
     (nearer_by t.kind c.self.inside.lexer l t c.finish.follows.holds-at-none.count (rw c.in-Token.is at c.finish.follows.holds-at-none.closes)) in
     record {
@@ -121,13 +124,13 @@ returns-else-is_end g c =
           rw (← c.self.view_is, now, flag, c.settle-outcome.ensures.fault, c.settle-outcome.ensures.outcome)
           (closes_token p _ u given t l met.new.self c.self.inside.is_finished _ e r (not_ended g c) here
           (subst (λ e. Left u given e l t) (sym c.is_end-is_end.ensures) (left_by u given t.kind l t (left_behind u given left_here)))
-          met.ensures);
+          met.ensures.takes);
       count = ap (λ (s : Converter). s.lexer.count) now ∙ c.finish.follows.holds-at-none.count ∙ ap (λ (s : Converter). s.lexer.count) c.self.view_is;
       advances = rw (← c.self.view_is, now, c.settle-outcome.ensures.outcome)
           (advances_at_end c.self.inside.lexer l t.at e r (not_ended g c) near);
       ready = rw (now, c.settle-outcome.ensures.outcome)
           (ready_at_end c.self.inside.lexer l c.self.inside.reader met.new.self c.self.inside.games t.at t.kind _ _ _ _ e r
-          (not_ended g c) near met.ensures (c.self.invariant.few none) (c.self.invariant.fewer_plies none not_over));
+          (not_ended g c) near met.ensures.takes (c.self.invariant.few none) (c.self.invariant.fewer_plies none not_over));
       written =
           ap (λ (s : Converter). as_written s.reading) now ∙ written_same c.self.inside.reader met.new.self keeps.profile keeps.writing
           ∙ ap (λ (s : Converter). as_written s.reading) c.self.view_is;
@@ -136,8 +139,10 @@ returns-else-is_end g c =
       probes = omega (arith, ap (λ (s : Converter). s.reading.most_probes) c.self.view_is, ap (λ (s : Converter). s.reading.most_probes) now, keeps.probes);
       none_just_finished = ap (λ (s : Converter). s.just_finished) now ∙ ap (λ b. game_in_reader_if b met.new.self) flag;
       finished = rw c.settle-outcome.ensures.outcome (ap (λ (s : Converter). s.is_finished) now ∙ not_over ∙ goes_on_at t.at r);
-      counted = rw c.settle-outcome.ensures.outcome
-          (counts_token c.self.inside.reader met.new.self _ t.at r _ met.ensures);
+      counted = rw (← c.self.view_is, c.settle-outcome.ensures.outcome)
+          (counts_token c.self.inside.reader met.new.self _ t.at r _ met.ensures.takes);
+      silent = rw now
+          (silence_then _ c.self.inside.reader _ _ _ _ (silence_kept _ _ _ (ap (λ (s : Converter). s.reading.writing) c.self.view_is)) met.ensures.silent);
     }
 
 pub invariant_of-self-else-is_end : goal.invariant_of-self-else-is_end
@@ -154,7 +159,7 @@ invariant_of-self-else-is_end g c =
     rw flag
     (sound_behind c.self.inside.lexer l c.self.inside.reader c.accept_copied-met.new.self c.self.inside.games near
     c.self.invariant.count (c.self.invariant.few none) (c.self.invariant.fewer_plies none not_over)
-    (kept c.self.inside.reader c.accept_copied-met.new.self t.kind _ r c.accept_copied-met.ensures))
+    (kept c.self.inside.reader c.accept_copied-met.new.self t.kind _ r c.accept_copied-met.ensures.takes))
 
 pub invariant_of-self-in-Fault : goal.invariant_of-self-in-Fault
 invariant_of-self-in-Fault g c =
@@ -178,7 +183,7 @@ invariant_of-self-then-is_ok g c =
     (nearer_by t.kind c.self.inside.lexer l t c.finish.follows.holds-at-none.count (rw c.in-Token.is at c.finish.follows.holds-at-none.closes)) in
     rw flag
     (sound_at_end c.self.inside.lexer l c.self.inside.reader met.new.self c.self.inside.games near
-    c.self.invariant.count (c.self.invariant.few none) (c.self.invariant.fewer_plies none not_over) (kept _ _ _ _ met.result met.ensures))
+    c.self.invariant.count (c.self.invariant.few none) (c.self.invariant.fewer_plies none not_over) (kept _ _ _ _ met.result met.ensures.takes))
 
 pub invariant_of-self-else-is_ok : goal.invariant_of-self-else-is_ok
 invariant_of-self-else-is_ok g c =

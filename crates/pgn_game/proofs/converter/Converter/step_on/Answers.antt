@@ -19,8 +19,8 @@ accept_copied-met-requires g c =
 pub settle-requires : goal.settle-requires
 settle-requires g c = record { no_fault = ap (λ (s : Converter). s.fault) c.self.view_is ∙ c.requires.no_fault }
 
-pub returns-in-NeedMore : goal.returns-in-NeedMore
-returns-in-NeedMore g c =
+pub returns-in-NeedMore-clause-steps : goal.returns-in-NeedMore-clause-steps
+returns-in-NeedMore-clause-steps g c =
     let flag = not_just_finished _ _ (ap (λ (s : Converter). s.just_finished) c.self.view_is ∙ c.requires.none_just_finished) in
     let none = ap (λ (s : Converter). s.fault) c.self.view_is ∙ c.requires.no_fault in
     let not_over = ap (λ (s : Converter). s.is_finished) c.self.view_is ∙ c.requires.not_finished in
@@ -29,12 +29,12 @@ returns-in-NeedMore g c =
     subst (λ (s : Converter). s.lexer.count + length c.args.piece.now ≤ 2 ^ 62) (sym c.self.view_is) c.requires.short in
     let same : now_at c.self.inside.lexer c.self.inside.reader c.self.inside.games false ≡ c.args.self.now = rw (flag, none, not_over) at c.self.view_is in
     rw (flag, none, not_over)
-    (steps_of same
+    (steps_of _ _ _ _ same
     (steps_more c.self.inside.lexer c.self.inside.reader c.self.inside.games c.args.piece.now sound short c.read_on-scan.ensures.used c.requires.some
     (rw c.in-NeedMore.is at c.read_on-scan.follows.holds-at-none) _ _))
 
-pub returns-in-Token : goal.returns-in-Token
-returns-in-Token g c =
+pub returns-in-Token-clause-steps : goal.returns-in-Token-clause-steps
+returns-in-Token-clause-steps g c =
     let flag = not_just_finished _ _ (ap (λ (s : Converter). s.just_finished) c.self.view_is ∙ c.requires.none_just_finished) in
     let none = ap (λ (s : Converter). s.fault) c.self.view_is ∙ c.requires.no_fault in
     let not_over = ap (λ (s : Converter). s.is_finished) c.self.view_is ∙ c.requires.not_finished in
@@ -44,12 +44,12 @@ returns-in-Token g c =
     let same : now_at c.self.inside.lexer c.self.inside.reader c.self.inside.games false ≡ c.args.self.now = rw (flag, none, not_over) at c.self.view_is in
     let met = c.accept_copied-met in
     rw (flag, not_over, c.settle.ensures.fault, c.settle.ensures.outcome)
-    (steps_of same
+    (steps_of _ _ _ _ same
     (steps_met c.self.inside.lexer c.self.inside.reader c.self.inside.games c.args.piece.now sound short c.read_on-scan.ensures.used c.requires.some
-    (rw c.in-Token.is at c.read_on-scan.follows.holds-at-none) met.new.self met.result _ met.ensures))
+    (rw c.in-Token.is at c.read_on-scan.follows.holds-at-none) met.new.self met.result _ met.ensures.takes))
 
-pub returns-in-Fault : goal.returns-in-Fault
-returns-in-Fault g c =
+pub returns-in-Fault-clause-steps : goal.returns-in-Fault-clause-steps
+returns-in-Fault-clause-steps g c =
     let flag = not_just_finished _ _ (ap (λ (s : Converter). s.just_finished) c.self.view_is ∙ c.requires.none_just_finished) in
     let none = ap (λ (s : Converter). s.fault) c.self.view_is ∙ c.requires.no_fault in
     let not_over = ap (λ (s : Converter). s.is_finished) c.self.view_is ∙ c.requires.not_finished in
@@ -58,7 +58,7 @@ returns-in-Fault g c =
     subst (λ (s : Converter). s.lexer.count + length c.args.piece.now ≤ 2 ^ 62) (sym c.self.view_is) c.requires.short in
     let same : now_at c.self.inside.lexer c.self.inside.reader c.self.inside.games false ≡ c.args.self.now = rw (flag, none, not_over) at c.self.view_is in
     rw (flag, not_over, c.fail.ensures.kept, c.fail.ensures.outcome, c.lexical.ensures)
-    (steps_of same
+    (steps_of _ _ _ _ same
     (steps_fault c.self.inside.lexer c.self.inside.reader c.self.inside.games c.args.piece.now sound short c.read_on-scan.ensures.used c.requires.some
     c.in-Fault.fault (rw c.in-Fault.is at c.read_on-scan.follows.holds-at-none) _ _))
 
@@ -73,7 +73,7 @@ invariant_of-self-in-Token g c =
     let met = c.accept_copied-met in
     rw flag
     (sound_met c.self.inside.lexer c.self.inside.reader c.self.inside.games c.args.piece.now sound short c.read_on-scan.ensures.used c.requires.some
-    (rw c.in-Token.is at c.read_on-scan.follows.holds-at-none) met.new.self met.result _ met.ensures)
+    (rw c.in-Token.is at c.read_on-scan.follows.holds-at-none) met.new.self met.result _ met.ensures.takes)
 
 pub invariant_of-self-in-Fault : goal.invariant_of-self-in-Fault
 invariant_of-self-in-Fault g c =

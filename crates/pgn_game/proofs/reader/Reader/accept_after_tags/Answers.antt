@@ -1,5 +1,5 @@
-use Rattle.pgn_game.proofs.Words.{mode_written, ◌≡◌, ◌≤◌, length, true, false, refl, sym, ap, subst, ◌∙◌, arith, le-leb, lt-leb, false≢true, kind_of, TokenKind, SetUpWithoutFen, TooManyTags, UnexpectedEnd, AfterLeftBracket, AfterTags, Part, TagPairs, refusal, at_stage, next, ReaderState, Agrees, may_have_movetext, CostsToFind}
-use Rattle.pgn_game.proofs.ReaderLemmas.{hit, pass, textual, end_after_tags, open_refusal, open_next, refuses_set_up, entry_after_tags, lacks_of, part_stage, held_at, puts_left_bracket, to_stage, adds_same, counting_none, enters, refused_after, takes_step}
+use Rattle.pgn_game.proofs.Words.{mode_written, AreSound, Stage, ◌≡◌, ◌≤◌, length, true, false, refl, sym, ap, subst, ◌∙◌, arith, le-leb, lt-leb, false≢true, kind_of, TokenKind, SetUpWithoutFen, TooManyTags, UnexpectedEnd, AfterLeftBracket, AfterTags, Part, TagPairs, refusal, at_stage, next, ReaderState, Agrees, may_have_movetext, CostsToFind}
+use Rattle.pgn_game.proofs.ReaderLemmas.{tags_fit, hit, pass, textual, end_after_tags, open_refusal, open_next, refuses_set_up, entry_after_tags, lacks_of, part_stage, held_at, puts_left_bracket, to_stage, adds_same, counting_none, enters, refused_after, takes_step}
 use Rattle.pgn_game.proofs.reader.Reader.accept_after_tags.Goals as goal
 
 -- how many pairs the part has
@@ -66,3 +66,8 @@ returns-else-lacks_fen g c =
     enters old c.args.kind (ap may_have_movetext c.requires) (λ part agrees.
     entry_after_tags old c.args.kind part c.requires is
     (lacks_of old part false agrees c.requires (sym c.lacks_fen.ensures ∙ c.if-lacks_fen.false)) agrees)
+
+pub is_full-requires : goal.is_full-requires
+is_full-requires g c =
+    let at = ap (λ (r : ReaderState). r.stage) c.self.view_is ∙ c.requires in
+    (search tags_fit, subst (λ (stage : Stage). AreSound g.row.T stage c.self.inside.tags) at c.self.invariant.0)

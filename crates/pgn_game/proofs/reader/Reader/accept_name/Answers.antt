@@ -1,4 +1,4 @@
-use Rattle.pgn_game.proofs.Words.{mode_written, ◌≡◌, ℕ, List, Bor, has_pair, Part, Agrees, ◌&&◌, not, bytes_eq, codes, length, Some, refl, sym, ap, subst, ◌∙◌, kind_of, TokenKind, Mode, ExpectedName, BadTagName, DuplicateTag, TagLineTooLong, ReducedFen, Stage, AfterLeftBracket, AfterName, TagPairs, next, refusal, is_reduced, ReaderState, AreSound}
+use Rattle.pgn_game.proofs.Words.{mode_written, AreSound, ◌≡◌, ℕ, List, Bor, has_pair, Part, Agrees, ◌&&◌, not, bytes_eq, codes, length, Some, refl, sym, ap, subst, ◌∙◌, kind_of, TokenKind, Mode, ExpectedName, BadTagName, DuplicateTag, TagLineTooLong, ReducedFen, Stage, AfterLeftBracket, AfterName, TagPairs, next, refusal, is_reduced, ReaderState, AreSound}
 use Rattle.std.proofs.lemmas.Bool.{lt-ltb, le-ltb}
 use Rattle.pgn_lexer.specs.declared.token.TokenKind.TheVariants.{Symbol}
 use Rattle.pgn_game.proofs.ReaderLemmas.{name_rows, hit, pass, expected_name, name_refusal, name_next, part_stage, held_at, puts_name}
@@ -98,3 +98,8 @@ returns g c =
       ap (λ (k : TokenKind). next part (kind_of k)) c.in-Symbol.is
           ∙ name_next part name (part_stage old part AfterLeftBracket agrees c.requires.stage),
     ))
+
+pub place_of_new-requires : goal.place_of_new-requires
+place_of_new-requires g c =
+    let at = ap (λ (r : ReaderState). r.stage) c.self.view_is ∙ c.requires.stage in
+    (search tags_fit, (subst (λ (stage : Stage). AreSound g.row.T stage c.self.inside.tags) at c.self.invariant.0).0)

@@ -1,4 +1,4 @@
-use Rattle.pgn_game.proofs.Words.{mode_written, Bor, ◌≡◌, ◌&&◌, ◌≤◌, ◌+◌, false, not, Some, IsTrue, bytes_eq, codes, ℕ, length, Bool, true, nat_lt, List, [], Option, IfSome, refl, sym, ap, subst, ◌∙◌, IsSomeAnd, Ok, is_ok, ltb-false, false≢true, escaped, kind_of, TokenKind, ExpectedValue, BadResult, BadFen, TagLineTooLong, AfterName, AfterValue, Part, insert_pair, refusal, next, ReaderState, Agrees, movetext_after_fen, true_from_ne_false}
+use Rattle.pgn_game.proofs.Words.{mode_written, AreSound, IsSome, None, Stage, Bor, ◌≡◌, ◌&&◌, ◌≤◌, ◌+◌, false, not, Some, IsTrue, bytes_eq, codes, ℕ, length, Bool, true, nat_lt, List, [], Option, IfSome, refl, sym, ap, subst, ◌∙◌, IsSomeAnd, Ok, is_ok, ltb-false, false≢true, escaped, kind_of, TokenKind, ExpectedValue, BadResult, BadFen, TagLineTooLong, AfterName, AfterValue, Part, insert_pair, refusal, next, ReaderState, Agrees, movetext_after_fen, true_from_ne_false}
 use Rattle.std.proofs.lemmas.Bool.{le-ltb}
 use Rattle.pgn_lexer.specs.declared.token.TokenKind.TheVariants.{Str}
 use Rattle.pgn_game.specs.FaultTable.{is_result as is_any_result}
@@ -111,3 +111,12 @@ returns g c =
           ∙ pass _ _ _ (ap (long value) (sym name) ∙ le-ltb 249 _ (c.fits_tag_line.ensures.0 c.if-not-fits_tag_line.false)),
       ap (λ (k : TokenKind). next part (kind_of k)) c.in-Str.is ∙ value_next part value at,
     ))
+
+is_some : {A : Type 0} (P : A → Type 0) (o : Option A) → IsSomeAnd o P → IsSome o
+is_some P None h = absurd h
+is_some P (Some x) h = refl
+
+pub pending_name-name-requires : goal.pending_name-name-requires
+pending_name-name-requires g c =
+    let at = ap (λ (r : ReaderState). r.stage) c.self.view_is ∙ c.requires.stage in
+    (search tags_fit, is_some _ _ (subst (λ (stage : Stage). AreSound g.row.T stage c.self.inside.tags) at c.self.invariant.0))

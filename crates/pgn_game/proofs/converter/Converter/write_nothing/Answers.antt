@@ -1,0 +1,33 @@
+use Rattle.std.proofs.Common.{Option, sym, ap, subst, ◌∙◌}
+use Rattle.pgn_game.specs.ConverterCalls.{FinishedGame, StillStands, writing_nothing}
+use Rattle.pgn_game.specs.ReaderState.{silenced}
+use Rattle.pgn_game.proofs.ReaderFitsInMemory.{fits_reader}
+use Rattle.pgn_game.proofs.tokens.MissingCountsAs.{finished_silently, sound_silently, stands_silently}
+use Rattle.pgn_game.proofs.converter.Converter.write_nothing.Goals as goal
+
+pub write_nothing-requires : goal.write_nothing-requires
+write_nothing-requires g c = search fits_reader
+
+pub returns-clause-only_switch : goal.returns-clause-only_switch
+returns-clause-only_switch g c =
+    let old = c.self.inside in
+    rw c.write_nothing.ensures
+    (ap (λ (finished : Option FinishedGame). record {
+      lexer = old.lexer;
+      reading = silenced old.reader;
+      games = old.games;
+      just_finished = finished;
+      is_finished = old.is_finished;
+      fault = old.fault;
+    }) (finished_silently old.has_finished_game old.reader)
+    ∙ ap writing_nothing c.self.view_is)
+
+pub returns-clause-stands : goal.returns-clause-stands
+returns-clause-stands g c =
+    subst (StillStands c.args.self.now) (sym (returns-clause-only_switch g c)) (stands_silently c.args.self.now)
+
+pub invariant_of-self : goal.invariant_of-self
+invariant_of-self g c =
+    let old = c.self.inside in
+    rw c.write_nothing.ensures
+    (sound_silently old.lexer old.reader old.games old.has_finished_game old.is_finished old.fault c.self.invariant)
