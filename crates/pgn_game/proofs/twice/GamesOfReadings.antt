@@ -14,9 +14,9 @@ use Rattle.pgn_game.specs.ConverterCalls.{AreShown, at_end, writing_nothing}
 use Rattle.pgn_game.proofs.tokens.AcceptedToConverter.{follows_own}
 use Rattle.pgn_game.proofs.tokens.BytesWithinLimit.{shown_begins}
 use Rattle.pgn_game.proofs.tokens.MarkerToGame.{game_accepted, has_read_marker, takes, written_at_fault, written_at_marker}
+use Rattle.pgn_game.proofs.tokens.MissingCountsAs.{reads_silently}
 use Rattle.pgn_game.proofs.tokens.NextGrows.{next_is}
 use Rattle.pgn_game.proofs.tokens.OneMoreToken.{read-passes, torn-none}
-use Rattle.pgn_game.proofs.tokens.SilentFromStart.{reads_silently}
 use Rattle.pgn_game.proofs.tokens.StepsAtEnd.{end_at, is_the_end}
 use Rattle.pgn_game.proofs.twice.MarkerCounts.{changes, marker_finishes, no_marker_goes, refusals_are_inside, same_game_text}
 use Rattle.pgn_game.proofs.twice.MarksInTurn.{marked_game, marked_more, marked_on, matched_next, matched_on, no_end_before}
