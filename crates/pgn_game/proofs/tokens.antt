@@ -16,10 +16,10 @@ pub mod NextGrows
 pub mod NoneBeforeFault
 pub mod OneMoreToken
 pub mod PairsTriedForToken
+pub mod PairsTriedSilently
 pub mod PastNumbers
 pub mod PieceToGame
 pub mod PutToAnswer
-pub mod SilentFromStart
 pub mod SoundAtStart
 pub mod StepsAtEnd
 pub mod StepsInPiece

@@ -34,6 +34,7 @@ pub mod Checked
 pub mod CheckedConversion
 pub mod Readings
 pub mod EqualReadings
+pub mod SilentReadings
 pub mod Laws
 pub mod MovesAreLegal
 pub mod Spells

@@ -9,11 +9,12 @@ ghost use Rattle.pgn_game.specs.FixedPoint as fixed;
 ghost use Rattle.pgn_game.specs.UniqueReading as unique;
 ghost use Rattle.pgn_game.specs.EqualReadings as equal;
 ghost use Rattle.pgn_game.specs.MissingResults as missing;
+ghost use Rattle.pgn_game.specs.SilentReadings as silent;
 
-use chess_rules::laws::a_legal_move_leaves_a_position;
+use chess_rules::laws::{a_legal_move_leaves_a_position, candidates_are_few};
 use chess_text::laws::{
-    a_written_move_is_a_symbol, a_written_move_is_read_as_itself, reading_is_spelling,
-    the_one_move_is_read,
+    a_written_move_is_a_symbol, a_written_move_is_read_as_itself, reading_a_form_is_spelling,
+    reading_is_spelling, the_one_move_is_read,
 };
 use pgn_layout::laws::{lines_keep_tokens, tokens_determine_lines};
 use pgn_lexer::laws::{
@@ -100,6 +101,16 @@ pub fn interrupted_readings()
 {
     decided_is_prefix();
     tokens_rise();
+}
+
+/// A reading that writes nothing tries at most 8 pairs of an origin and a target for one token.
+///
+/// If no token is rejected, it tries no more than a reading of the same tokens that writes.
+pub fn silent_readings()
+    ensures { silent.SilentReadings }
+{
+    candidates_are_few();
+    reading_a_form_is_spelling();
 }
 
 /// A missing Result that counts as a marker gives what one gives that takes the marker.

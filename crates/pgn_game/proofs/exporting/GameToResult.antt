@@ -12,7 +12,7 @@ none_of true reason e = absurd (cc)
 none_of false reason e = (refl, e)
 
 -- if no row holds, this one does not
-row_fails : (rs : List Row) (r : Row) (rest : List Row) → first_holding (rs ++ r ∷ rest) ≡ None → r.holds ≡ false
+pub row_fails : (rs : List Row) (r : Row) (rest : List Row) → first_holding (rs ++ r ∷ rest) ≡ None → r.holds ≡ false
 row_fails [] r rest e = (none_of _ _ e).0
 row_fails (x ∷ rs) r rest e = row_fails rs r rest (none_of _ _ e).1
 

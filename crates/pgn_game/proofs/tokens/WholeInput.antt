@@ -1,12 +1,13 @@
 -- Conversions of whole inputs.
 use Rattle.std.specs.Io.KnownBytes.{Keeps, IsAtEnd}
 use Rattle.std.proofs.lemmas.Option.{IfSome_then}
-use Rattle.pgn_game.proofs.Words.{Token, InputTooLong, Fault, Profile, ◌≡◌, ℕ, false, ◌^◌, ◌≤◌, List, [], ◌++◌, length, Option, None, Some, Result, Ok, Err, IfSome, OnOk, sym, ap, subst, ◌∙◌, append-nil, map, sum, Consumes-nil, Consumes-trans, tokens_of, decided, plies_of, whole_plies, Gains, IsConverted, IsTotalled, MostProbes, ReadsNoMore, FailsOn, Fails, AfterEnd, AfterConversion, AfterSlice, verdict_in, Games, games_of, HaveRead, NextGame, NoGame, NextStops, ReadSoFar, ReaderState, Bool, Appends, Consumes, Totals, Read, read, due, refused as is_refused, totals, verdict, verdict_of, Converter, HasRead, Stands, Stops, refused_stop as refused, unwritten, StopsIn, at_token, too_long, FedFault, FedWhole, ReadsUpTo, Finishes, rules, no_progress, inl, refl, within}
+use Rattle.pgn_game.proofs.Words.{Token, InputTooLong, Fault, Profile, ◌≡◌, ℕ, false, ◌^◌, ◌≤◌, List, [], ◌++◌, length, Option, None, Some, Result, Ok, Err, IfSome, OnOk, sym, ap, subst, ◌∙◌, append-nil, map, sum, Consumes-nil, Consumes-trans, tokens_of, decided, plies_of, whole_plies, Gains, IsConverted, IsTotalled, MostProbes, ReadsNoMore, FailsOn, Fails, AfterEnd, AfterConversion, AfterSlice, verdict_in, Games, games_of, HaveRead, NextGame, NoGame, NextStops, ReadSoFar, ReaderState, Bool, Appends, Consumes, Totals, Read, read, due, refused as is_refused, totals, verdict, verdict_of, Converter, HasRead, Stands, Stops, refused_stop as refused, unwritten, StopsIn, at_token, too_long, FedFault, FedWhole, ReadsUpTo, Finishes, rules, no_progress, inl, refl, within, first, writing_nothing}
 use Rattle.pgn_game.specs.GamesCalls as games_calls
 use Rattle.pgn_game.specs.Conversion as conversion
 use Rattle.pgn_game.proofs.tokens.OneMoreToken.{torn-none, gains_none, gains_more, stops_more, stops_from}
 use Rattle.pgn_game.specs.ConverterCalls.{AreShown, IsRefused, at_end}
 use Rattle.pgn_game.proofs.tokens.AcceptedToConverter.{in_games}
+use Rattle.pgn_game.proofs.tokens.MissingCountsAs.{reads_silently, stands_silently}
 use Rattle.pgn_game.proofs.tokens.BytesWithinLimit.{all_shown, decides_by, shown_begins, shown_by}
 
 pub verdict_passes : (r : Read) → r.fault ≡ None
@@ -43,6 +44,28 @@ pub read_none : {p : Profile} {now : Games} (left : Option (List ℕ)) {o : Opti
     → HaveRead p left [] now [] → ReadSoFar p left left now o o
 read_none left have =
     record { bytes = []; tokens = []; consumed = Consumes-nil left; have_read = have; gains = gains_none }
+
+-- where nothing is written from now on
+pub read_none_silently : (p : Profile) (left : Option (List ℕ)) (u : List ℕ) (now : Games) → HaveRead p left u now []
+    → HaveRead p left u (games_of (writing_nothing now.converter) now.unused) []
+read_none_silently p left u now (within on) =
+    within (record {
+      used = on.used;
+      bytes = on.bytes;
+      stands = stands_silently now.converter p on.used (first now.unused) on.stands;
+      at_limit = on.at_limit;
+      decided = on.decided;
+      not_finished = on.not_finished;
+    })
+read_none_silently p left u now (games_calls.HaveRead.at_end all) =
+    games_calls.HaveRead.at_end (record {
+      at_end = all.at_end;
+      short = all.short;
+      whole = all.whole;
+      none_begun = all.none_begun;
+      has_read = reads_silently p now.converter all.has_read;
+      finished = all.finished;
+    })
 
 pub keeps_consumed : (o m n : Option (List ℕ)) (u : List ℕ) → Consumes o m u → Keeps m n → Consumes o n u
 keeps_consumed None m n u h k = tt

@@ -1,6 +1,7 @@
 -- Which device counts a failure in a step, of the reasons one by one.
 use Rattle.pgn_game.proofs.Words.{Reason, ReadFault, WriteFault, Changed, ◌≡◌, ℕ, refl, ap, subst, ◌∙◌, inl, inr, arith, Device, Bool, true, false, IsTrue, Result, Ok, Err, Fault, seen}
 use Rattle.pgn_layout.specs.Device.{nowhere}
+use Rattle.pgn_game.specs.Readings.{no_sink}
 use Rattle.pgn_game.specs.Conversion.{CountsResult, CountsSink, CountsWriting}
 use Rattle.pgn_game.specs.ConverterCalls.{NoWriteFails}
 use Rattle.pgn_game.specs.declared.conversion.Totals.{Totals}
@@ -17,6 +18,11 @@ reader_reason _ s o n h = (refl, h)
 -- a sink that counts nothing
 pub no_write : (r : Reason) (s t : ℕ) → CountsDevices r s t 0 0 → r ≡ WriteFault → ⊥
 no_write r s t h is = absurd (omega (arith, (subst (λ x. CountsDevices x s t 0 0) is h).1))
+
+-- no sink is seen as none, by silent readings and by others
+pub seen_none : (P : Device → Type 0) (silent : Bool) → P (seen silent no_sink) → P no_sink
+seen_none P true h = h
+seen_none P false h = h
 
 -- a sink that is not seen
 pub no_write_seen : {A : Type 0} (r : Result A Fault) (source sink : Device) (silent : Bool) → IsTrue silent

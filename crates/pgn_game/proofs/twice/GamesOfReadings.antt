@@ -10,10 +10,11 @@ use Rattle.pgn_game.specs.Text.{game_text}
 use Rattle.pgn_game.specs.Readings.{AfterRead, AllRead, ComesNext, EndComes, FirstFails, GameRead, GameWritten, HasCome, HasGiven, MarkerComes, ReadFails, ReadingStops, SecondFails, StandsBetween, StandsIn, at_read, at_token, as_changed}
 use Rattle.pgn_game.specs.Readings as readings
 use Rattle.pgn_game.specs.ConverterSteps.{told_of}
-use Rattle.pgn_game.specs.ConverterCalls.{AreShown, at_end}
+use Rattle.pgn_game.specs.ConverterCalls.{AreShown, at_end, writing_nothing}
 use Rattle.pgn_game.proofs.tokens.AcceptedToConverter.{follows_own}
 use Rattle.pgn_game.proofs.tokens.BytesWithinLimit.{shown_begins}
 use Rattle.pgn_game.proofs.tokens.MarkerToGame.{game_accepted, has_read_marker, takes, written_at_fault, written_at_marker}
+use Rattle.pgn_game.proofs.tokens.MissingCountsAs.{reads_silently}
 use Rattle.pgn_game.proofs.tokens.NextGrows.{next_is}
 use Rattle.pgn_game.proofs.tokens.OneMoreToken.{read-passes, torn-none}
 use Rattle.pgn_game.proofs.tokens.StepsAtEnd.{end_at, is_the_end}
@@ -284,6 +285,18 @@ told_reading q left_old left r given m d is h =
         tried = read.tried;
         just_finished = read.just_finished;
       });
+    }
+
+-- nothing is written from now on
+pub silent_reading : (q : Profile) (left_old left : Option (List ℕ)) (r : Reading) (d : Converter) → d ≡ writing_nothing r.converter
+    → HasGiven q left_old left r []
+    → HasGiven q left_old left (record { converter = d; unused = r.unused; has_ended = r.has_ended }) []
+silent_reading q left_old left r d is h =
+    record {
+      takes = h.takes;
+      come = come_still left_old left r (record { converter = d; unused = r.unused; has_ended = r.has_ended }) []
+          (ap (λ (c : Converter). c.lexer) is) refl refl h.come;
+      has_read = rw is (reads_silently q r.converter h.has_read);
     }
 
 pub told_by : (q : Profile) (c d : Converter) (m : Marker) → d ≡ told_of m c → q.missing_result ≡ takes_the_marker → c.reading.profile ≡ q

@@ -1,4 +1,4 @@
-use Rattle.pgn_game.proofs.Words.{◌≡◌, ◌-◌, checked_profile, ◌^◌, BothSoFar, IsGoing}
+use Rattle.pgn_game.proofs.Words.{◌≡◌, ◌-◌, checked_profile, ◌^◌, BothSoFar, IsGoing, true, false}
 use Rattle.pgn_game.proofs.checked.convert_checked.Given as goal
 
 abbrev pub invariant-loop-mark : goal.invariant-loop-mark
@@ -6,6 +6,8 @@ invariant-loop-mark g l =
     record {
       first_going : IsGoing l.ahead;
       second_going : IsGoing l.behind;
+      first_silent : l.ahead.converter.reading.writing.is_silent ≡ true;
+      second_writes : l.behind.converter.reading.writing.is_silent ≡ false;
       first : g.Q.Source.failures l.first ≡ g.Q.Source.failures l.fn.first;
       second : g.R.Source.failures l.second ≡ g.R.Source.failures l.fn.second;
       sink : g.W.Sink.failures l.writer ≡ g.W.Sink.failures l.fn.writer;

@@ -1,7 +1,8 @@
-use Rattle.pgn_game.proofs.Words.{Reading, ap, err_from_is_err_and, refl, subst, sym, ◌∙◌, ◌+◌, ◌<◌, ◌^◌, false, None, []}
+use Rattle.pgn_game.proofs.Words.{Reading, ap, err_from_is_err_and, refl, subst, sym, ◌∙◌, ◌+◌, ◌<◌, ◌^◌, false, None, [], Device, device, Ok, Err, EndsGame, CountsFault, IsStill, bytes_seen}
+use Rattle.pgn_game.specs.GamesSteps.{CountsReading}
 use Rattle.pgn_game.specs.Readings.{IsReadyToEnd, MarkerComes, no_sink}
 use Rattle.pgn_game.proofs.ReaderFitsInMemory.{reading_alike, reading_fits_converter}
-use Rattle.pgn_game.proofs.twice.FailuresOfSteps.{behind_still, no_write, reader_reason}
+use Rattle.pgn_game.proofs.twice.FailuresOfSteps.{behind_still, no_write, reader_reason, seen_none}
 use Rattle.pgn_game.proofs.twice.GamesOfReadings.{all_read, first_fails, game_read, marker_refused_first}
 use Rattle.pgn_game.proofs.checked.Reading.read_game.Goals as goal
 
@@ -12,13 +13,17 @@ pub returns-in_err-mark : goal.returns-in_err-mark
 returns-in_err-mark g c =
     let e = err_from_is_err_and c.from_residual.result c.from_residual.ensures.1 in
     let f = c.in_err-mark.field-0.0 in
+    let s = c.args.self.now.converter.reading.writing.is_silent in
+    let source = device g.R.Source.left g.R.Source.failures c.args.source.now c.next_marker.new.source in
+    let counted = seen_none (λ (d : Device). CountsReading {A = Unit} (Err f) source d) s c.in_err-mark.ensures.counted in
     record {
       reads = λ q left_old given stands.
           rw (e.1, e.2)
-          (first_fails q left_old _ given stands.has_given.has_read.passes c.next_marker.new.self f _ _ (no_write f.reason _ _ c.in_err-mark.ensures.counted)
+          (first_fails q left_old _ given stands.has_given.has_read.passes c.next_marker.new.self f _ _ (no_write f.reason _ _ counted)
           (c.in_err-mark.ensures.reads q left_old given stands.has_given));
       going = rw e.1 tt;
-      counted = rw (e.1, e.2) c.in_err-mark.ensures.counted;
+      silent = c.next_marker.ensures.silent.silent;
+      counted = rw (e.1, e.2) counted;
     }
 
 pub returns-in_default : goal.returns-in_default
@@ -28,7 +33,11 @@ returns-in_default g c =
           let reads = rw c.in_default.is at c.in_ok-mark.ensures.reads in
           all_read q left_old (g.R.Source.left c.next_marker.new.source) given stands.has_given.has_read.passes c.next_marker.new.self _ _ (reads q left_old given stands.has_given);
       going = tt;
-      counted = c.in_ok-mark.ensures.counted;
+      silent = c.next_marker.ensures.silent.silent;
+      counted = (
+        c.in_ok-mark.ensures.counted.0,
+        seen_none IsStill c.args.self.now.converter.reading.writing.is_silent c.in_ok-mark.ensures.counted.1,
+      );
     }
 
 pub end_game-requires : goal.end_game-requires
@@ -41,37 +50,52 @@ pub returns-in_err-end_game : goal.returns-in_err-end_game
 returns-in_err-end_game g c =
     let e = err_from_is_err_and c.from_residual-in_err-end_game.result c.from_residual-in_err-end_game.ensures.1 in
     let f = c.in_err-end_game.field-0.0 in
-    let counted = reader_reason f.reason (g.R.Source.failures c.next_marker.new.source) 0 0 c.in_err-end_game.ensures.counted in
+    let s = c.args.self.now.converter.reading.writing.is_silent in
+    let here = c.self.inside.converter.reading.writing.is_silent in
+    let counted = reader_reason f.reason (g.R.Source.failures c.next_marker.new.source) 0 0
+    (seen_none (λ (d : Device). CountsFault {A = Unit} (Err f) d) here c.in_err-end_game.ensures.counted) in
+    let ends = seen_none (λ (d : Device). EndsGame c.self.inside.converter.reading c.in-Some.mark c.end_game.new.self.reading (Err f) d) here
+    c.in_err-end_game.ensures.ends in
     let new : Reading = record { converter = c.end_game.new.self; unused = []; has_ended = false } in
     record {
       reads = λ q left_old given stands.
           let reads = rw c.in-Some.is at c.in_ok-mark.ensures.reads in
           let left_new = g.R.Source.left c.next_marker.new.source in
-          let met = subst (λ (r : Reading). MarkerComes q left_old left_new given c.in-Some.mark r None None)
+          let met = subst (λ (r : Reading). MarkerComes q left_old left_new given c.in-Some.mark r (bytes_seen s None) (bytes_seen s None))
           (sym c.self.view_is) (reads q left_old given stands.has_given) in
           rw (e.1, e.2)
-          (marker_refused_first q left_old left_new given c.in-Some.mark _ new None no_sink stands.has_given.takes stands.has_given.has_read.passes met f
-          (no_write f.reason _ _ counted) c.in_err-end_game.ensures.ends);
+          (marker_refused_first q left_old left_new given c.in-Some.mark _ new None no_sink stands.has_given.takes stands.has_given.has_read.passes
+          (seen_none (λ (d : Device). MarkerComes q left_old left_new given c.in-Some.mark
+          (record { converter = c.self.inside.converter; unused = c.self.inside.buffer; has_ended = c.self.inside.has_ended }) d.before d.after) s met) f
+          (no_write f.reason _ _ counted) ends);
       going = rw e.1 tt;
+      silent = c.end_game.ensures.silent.silent ∙ ap (λ (r : Reading). r.converter.reading.writing.is_silent) c.self.view_is
+          ∙ c.next_marker.ensures.silent.silent;
       counted = rw (e.1, e.2) (behind_still f.reason _ _ _ _ _ _ c.in_ok-mark.ensures.counted.0 refl counted);
     }
 
 pub returns : goal.returns
 returns g c =
     let ended = c.in_ok-end_game.ensures in
+    let s = c.args.self.now.converter.reading.writing.is_silent in
+    let here = c.self.inside.converter.reading.writing.is_silent in
     let same = ap (λ (r : Reading). r.converter.games) c.self.view_is ∙ c.next_marker.ensures.games in
     record {
       reads = λ q left_old given stands.
           let reads = rw c.in-Some.is at c.in_ok-mark.ensures.reads in
           let left_new = g.R.Source.left c.next_marker.new.source in
-          let met = subst (λ (r : Reading). MarkerComes q left_old left_new given c.in-Some.mark r None None)
+          let met = subst (λ (r : Reading). MarkerComes q left_old left_new given c.in-Some.mark r (bytes_seen s None) (bytes_seen s None))
           (sym c.self.view_is) (reads q left_old given stands.has_given) in
-          game_read q left_old left_new given c.in-Some.mark _ _ None no_sink stands.has_given.takes stands.has_given.has_read.passes met
-          ended.ends ended.lexer refl refl ended.games ended.just_finished ended.fault;
+          game_read q left_old left_new given c.in-Some.mark _ _ None no_sink stands.has_given.takes stands.has_given.has_read.passes
+          (seen_none (λ (d : Device). MarkerComes q left_old left_new given c.in-Some.mark
+          (record { converter = c.self.inside.converter; unused = c.self.inside.buffer; has_ended = c.self.inside.has_ended }) d.before d.after) s met)
+          (seen_none (λ (d : Device). EndsGame c.self.inside.converter.reading c.in-Some.mark c.end_game.new.self.reading (Ok tt) d) here ended.ends)
+          ended.lexer refl refl ended.games ended.just_finished ended.fault;
       going = (
         record { not_finished = ended.not_finished; no_fault = ended.fault },
         ended.games ∙ ap (λ n. n + 1) same,
         subst (λ n. n < 2 ^ 64) same ended.few,
       );
+      silent = ended.silent.silent ∙ ap (λ (r : Reading). r.converter.reading.writing.is_silent) c.self.view_is ∙ c.next_marker.ensures.silent.silent;
       counted = (c.in_ok-mark.ensures.counted.0, refl);
     }
