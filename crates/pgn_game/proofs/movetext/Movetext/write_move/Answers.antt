@@ -1,4 +1,4 @@
-use Rattle.pgn_game.proofs.Words.{is_nothing, mode_of_written, Device, PutsTokens, tokens_due, length, seen, Result, Err, Bool, true, Ok, refl, sym, subst, device, Appends-nil, Movetext, WritesItem, CostsToWrite}
+use Rattle.pgn_game.proofs.Words.{is_nothing, mode_of_written, seen, Bool, true, Ok, refl, sym, subst, device, Appends-nil, Movetext, WritesItem, CostsToWrite}
 use Rattle.pgn_layout.specs.declared.sink.WriteFault.{WriteFault}
 use Rattle.pgn_game.specs.Game.{move}
 use Rattle.pgn_game.proofs.putting.ItemToMovetext.{left_out, written_out, not_written, not_silent}
