@@ -27,7 +27,10 @@ returns g c =
     let checks = subst (λ (b : Bool). AfterSlice b p c.args.text.now c.convert_text.result (bytes_seen b None) (bytes_seen b None)) silent
     (c.convert_text.ensures.converts p (c.write_nothing.ensures.stands p _ _ c.new-converter.ensures.stands)) in
     record {
-      checks = (checks, no_write_to c.convert_text.result
-          (subst (λ (b : Bool). CountsSink c.convert_text.result (seen b nowhere)) silent c.convert_text.ensures.counted));
+      checks = (
+        checks,
+        no_write_to c.convert_text.result
+            (subst (λ (b : Bool). CountsSink c.convert_text.result (seen b nowhere)) silent c.convert_text.ensures.counted),
+      );
       short = is_short_slice true p _ None None c.convert_text.result checks;
     }

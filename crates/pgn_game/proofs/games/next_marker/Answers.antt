@@ -76,8 +76,10 @@ returns-in-Some g c =
       games = fed.games ∙ so.games;
       none_just_finished = fed.none_just_finished;
       probes = le_trans so.probes fed.probes;
-      counted = (so.source,
-          seen_alike IsStill _ _ more so.silent.silent fed.counted ∙ so.sink);
+      counted = (
+        so.source,
+        seen_alike IsStill _ _ more so.silent.silent fed.counted ∙ so.sink,
+      );
       silent = silence_then _ _ _ _ _ _ so.silent fed.silent;
     }
 
@@ -106,9 +108,10 @@ returns-in_err-read_more g c =
       none_just_finished = rw e.1 tt;
       probes = rw more.1 (le_trans so.probes fed.probes);
       counted =
-          rw (e.1, e.2, more.0)
-          (c.in_err-read_more.ensures.counted ∙ ap one_more so.source,
-          seen_alike IsStill _ _ sink so.silent.silent fed.counted ∙ so.sink);
+          rw (e.1, e.2, more.0) (
+            c.in_err-read_more.ensures.counted ∙ ap one_more so.source,
+            seen_alike IsStill _ _ sink so.silent.silent fed.counted ∙ so.sink,
+          );
       silent = rw more.1 (silence_then _ _ _ _ _ _ so.silent fed.silent);
     }
 
@@ -135,8 +138,10 @@ returns-then-not-branch g c =
       games = c.read_more.ensures.games ∙ fed.games ∙ so.games;
       none_just_finished = ap (λ (s : Converter). s.just_finished) more.0 ∙ fed.none_just_finished;
       probes = rw more.0 (le_trans so.probes fed.probes);
-      counted = (c.in_ok-read_more.ensures.counted ∙ so.source,
-          seen_alike IsStill _ _ sink so.silent.silent fed.counted ∙ so.sink);
+      counted = (
+        c.in_ok-read_more.ensures.counted ∙ so.source,
+        seen_alike IsStill _ _ sink so.silent.silent fed.counted ∙ so.sink,
+      );
       silent = rw more.0 (silence_then _ _ _ _ _ _ so.silent fed.silent);
     }
 

@@ -76,8 +76,10 @@ returns-in_ok-end_game-in-Some g c =
       fewer = λ same.
           rw (c.end_game.ensures.not_finished, c.requires.not_finished) (omega (arith, ended.few, ended.games, c.next_marker.ensures.games));
       fault = ended.fault;
-      counted = (c.in_ok-mark.ensures.counted.0,
-          seen_alike IsStill _ _ sink same ended.counted ∙ c.in_ok-mark.ensures.counted.1);
+      counted = (
+        c.in_ok-mark.ensures.counted.0,
+        seen_alike IsStill _ _ sink same ended.counted ∙ c.in_ok-mark.ensures.counted.1,
+      );
       silent = silence_then _ _ _ _ _ _ c.next_marker.ensures.silent c.end_game.ensures.silent;
     }
 

@@ -1,5 +1,4 @@
 use Rattle.pgn_game.proofs.tokens.PairsTriedSilently.{tries_few, tries_fewer}
-use Rattle.pgn_game.specs.Progress.{no_progress}
 use Rattle.pgn_game.proofs.laws.silent_readings.Goals as goal
 
 pub returns : goal.returns
