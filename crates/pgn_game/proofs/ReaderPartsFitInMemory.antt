@@ -8,7 +8,7 @@ use Rattle.pgn_game.proofs.ReaderFitsInMemory.{first, second}
 
 pub tags_fit : (T L : RattleType) → FitsInMemory (the_row T L) → FitsInMemory (tags_row T)
 tags_fit T L fits =
-    second _ _ _ _ (first _ _ _ _ (first _ _ _ _ (first _ _ _ _ (first _ _ _ _ (first _ _ _ _ (first _ _ _ _ (first _ _ _ _ (first _ _ _ _ (first _ _ _ _ fits)))))))))
+    second _ _ _ _ (first _ _ _ _ (first _ _ _ _ (first _ _ _ _ (first _ _ _ _ (first _ _ _ _ (first _ _ _ _ (first _ _ _ _ (first _ _ _ _ (first _ _ _ _ (first _ _ _ _ fits))))))))))
 
 pub text_fits : (T L : RattleType) → FitsInMemory (the_row T L) → FitsInMemory (text_row L)
-text_fits T L fits = second _ _ _ _ (first _ _ _ _ (first _ _ _ _ (first _ _ _ _ (first _ _ _ _ (first _ _ _ _ (first _ _ _ _ (first _ _ _ _ (first _ _ _ _ fits))))))))
+text_fits T L fits = second _ _ _ _ (first _ _ _ _ (first _ _ _ _ (first _ _ _ _ (first _ _ _ _ (first _ _ _ _ (first _ _ _ _ (first _ _ _ _ (first _ _ _ _ (first _ _ _ _ fits)))))))))

@@ -27,7 +27,7 @@ use Rattle.pgn_game.specs.declared.converter.Fed.TheVariants.{All, Game as GameE
 use Rattle.pgn_game.specs.Markers.{marker_text}
 use Rattle.pgn_game.specs.Profile.{Profile, counting, counts_as, known_result}
 use Rattle.pgn_game.specs.Pairs.{Pair, value_of}
-use Rattle.pgn_game.specs.TagSection.{exported}
+use Rattle.pgn_game.specs.TagSection.{exported, tag_section}
 use Rattle.pgn_game.specs.Game.{Game}
 use Rattle.pgn_game.specs.FaultTable.{position_if_move}
 use Rattle.pgn_game.specs.Progress.{Progress, read, due, position_at_fault}
@@ -38,15 +38,16 @@ use Rattle.pgn_game.specs.Text.{has_move}
 use Rattle.pgn_game.specs.ReaderState.{ReaderState, Agrees, IsKnown, silenced, whole_plies}
 
 -- what can be asked of the game just finished: its pairs, the number of its moves outside
--- variations, and the position after these
+-- variations, the position after these, and its marker
 pub record FinishedGame : Type 0 where
   pub pairs : List Pair
   pub plies : ℕ
   pub position : Parts
+  pub marker : List ℕ
 
 -- what can be asked of this game once it is just finished
 abbrev pub finished_game_of : Game → FinishedGame
-finished_game_of g = record { pairs = g.pairs; plies = plies_of g; position = last_position g }
+finished_game_of g = record { pairs = g.pairs; plies = plies_of g; position = last_position g; marker = g.marker }
 
 -- the lexer, the reader, how many games were finished, the game just finished, whether the input
 -- has ended, and the fault
@@ -65,7 +66,7 @@ profile_of most depth mode = record { tags = most; depth = depth; mode = mode; m
 
 -- the game just finished, as the reader still holds it
 abbrev pub game_in_reader : ReaderState → FinishedGame
-game_in_reader reading = record { pairs = reading.tags.held; plies = reading.text.plies; position = reading.text.levels.present.present }
+game_in_reader reading = record { pairs = reading.tags.held; plies = reading.text.plies; position = reading.text.levels.present.present; marker = reading.marker }
 
 -- the same, if a game is just finished
 abbrev pub game_in_reader_if : Bool → ReaderState → Option FinishedGame
@@ -84,7 +85,7 @@ pub record IsSound (lexer : Standing) (reading : ReaderState) (games : ℕ) (has
   pub no_fault : IsTrue has_finished_game → fault ≡ None
 
 -- What can be asked of the game just finished: the value of a name in its tag section, the number
--- of its moves outside variations, and the position after them.
+-- of its moves outside variations, the position after them, and its marker.
 abbrev pub finished_game_value : Converter → List ℕ → Option (List ℕ)
 finished_game_value c name = elim c.just_finished [ None ↦ None | Some finished ↦ value_of (exported c.reading.profile.mode (known_result c.reading.profile.missing_result) finished.pairs) name ]
 
@@ -93,6 +94,16 @@ finished_game_plies c = elim c.just_finished [ None ↦ 0 | Some finished ↦ fi
 
 abbrev pub finished_game_position : Converter → Option Parts
 finished_game_position c = option_map (λ finished. finished.position) c.just_finished
+
+abbrev pub finished_game_marker : Converter → Option (List ℕ)
+finished_game_marker c = option_map (λ finished. finished.marker) c.just_finished
+
+-- the tag section of the game just finished; without one nothing
+abbrev pub finished_game_section : Converter → List ℕ
+finished_game_section c = elim c.just_finished [
+  | None ↦ []
+  | Some finished ↦ tag_section c.reading.profile.mode (known_result c.reading.profile.missing_result) finished.pairs
+]
 
 -- the position that a reader reports with a fault, if a move was rejected: its current one
 abbrev pub reported_position : ReaderState → Reason → Option Parts

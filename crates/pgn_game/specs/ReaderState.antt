@@ -31,8 +31,9 @@ pub record Writing : Type 0 where
   pub told : Option (List ℕ)
   pub is_silent : Bool
 
--- The profile, how the reader writes, the stage of the game, its pairs, its movetext, the number of moves outside variations of the games before it, the
--- most pairs tried for a move, and the line of movetext.
+-- The profile, how the reader writes, the stage of the game, its pairs, its movetext, the number of
+-- moves outside variations of the games before it, the most pairs tried for a move, the line of
+-- movetext, and the marker that ended the game before.
 pub record ReaderState : Type 0 where
   pub profile : Profile
   pub writing : Writing
@@ -42,6 +43,7 @@ pub record ReaderState : Type 0 where
   pub earlier_plies : ℕ
   pub most_probes : ℕ
   pub line : List ℕ
+  pub marker : List ℕ
 
 -- the mode by which the reader writes; a silent one has none
 abbrev pub mode_written : ReaderState → Option Mode
@@ -94,13 +96,14 @@ pub record Agrees (reading : ReaderState) (part : Part) : Type 0 where
   pub pairs : HoldsPairs reading.stage reading.tags part
   pub text : HoldsText reading.stage reading part
 
--- The reader has just finished the game g, and still holds its pairs, its number of moves and its
--- last position.
+-- The reader has just finished the game g, and still holds its pairs, its number of moves, its last
+-- position and its marker.
 pub record IsBehind (reading : ReaderState) (g : Game) : Type 0 where
   pub agrees : Agrees reading no_part
   pub pairs : reading.tags.held ≡ g.pairs
   pub plies : reading.text.plies ≡ plies_of g
   pub position : reading.text.levels.present.present ≡ last_position g
+  pub marker : reading.marker ≡ g.marker
   pub probed : IsTrue (has_move g.items) → 0 < reading.most_probes
 
 -- the number of moves outside variations of the finished games; between games the reader still

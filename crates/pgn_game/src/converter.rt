@@ -1,8 +1,10 @@
 //! Converts games in pieces of any length.
 ghost use Rattle.std.specs.Prelude.{◌≡◌, ◌+◌, ◌-◌, ◌*◌, ◌≤◌, ◌<◌, ◌^◌, [], false};
-ghost use Rattle.std.specs.Prelude.{None, Some, Ok, Err, IsTrue, is_ok, IfOk, IfSome, OnOk, OnErr, length, take};
+ghost use Rattle.std.specs.Prelude.{None, Some, Ok, Err, IsTrue, option_map, is_ok, IfOk, IfSome, OnOk, OnErr, length, take};
 ghost use Rattle.std.specs.Option.{option_copied};
-ghost use Rattle.pgn_layout.specs.Device.{device};
+ghost use Rattle.pgn_layout.specs.Device.{WritesText, device};
+ghost use Rattle.pgn_game.specs.Markers.{marker_text};
+ghost use Rattle.pgn_game.specs.ConverterCalls.{finished_game_marker, finished_game_section};
 ghost use Rattle.pgn_lexer.specs.Standing.{waiting};
 ghost use Rattle.pgn_lexer.specs.WhiteSpace.{white_space};
 ghost use Rattle.pgn_game.specs.declared.converter.Fed.TheVariants as fed;
@@ -30,7 +32,7 @@ use crate::reader::{MOVETEXT, Reader, WHOLE};
 use crate::reason::{Fault, Reason};
 use crate::token_tests::is_end;
 use chess_rules::Position;
-use pgn_layout::Sink;
+use pgn_layout::{Sink, WriteFault};
 use pgn_lexer::{LexFault, Lexer, Outcome};
 use std::marker::Model;
 
@@ -536,6 +538,49 @@ impl<const T: usize, const L: usize> Converter<T, L> {
             return Some(self.reader.position());
         }
         None
+    }
+
+    /// Returns the marker of the game just finished.
+    ///
+    /// At any other time the result is `None`.
+    pub fn marker(&self) -> Option<Marker>
+        ensures { option_map marker_text result ≡ finished_game_marker self.now }
+    {
+        if self.has_finished_game {
+            return Some(self.reader.marker());
+        }
+        None
+    }
+
+    /// Writes the tag section of the game just finished, with the empty line behind it (PGN 8.1).
+    ///
+    /// A converter that writes nothing writes it too. At any other time nothing is written.
+    ///
+    /// # Errors
+    ///
+    /// `WriteFault` if a write failed. A prefix of the section was written.
+    ///
+    /// # Examples
+    ///
+    /// ```
+    /// use pgn_game::{Converter, Mode, Nowhere, Outlet};
+    ///
+    /// let mut converter = Converter::<64, 33>::new(Mode::Full);
+    /// converter.write_nothing();
+    /// converter.feed(b"[White \"Ada\"] 1. e4 *", &mut Nowhere).unwrap();
+    /// let mut out = Outlet::new(Vec::new());
+    /// converter.write_tags(&mut out).unwrap();
+    /// let tags = String::from_utf8(out.into_inner()).unwrap();
+    /// assert!(tags.contains("[White \"Ada\"]\n") && tags.ends_with("]\n\n"));
+    /// ```
+    pub fn write_tags<W: Sink>(&self, out: &mut W) -> Result<(), WriteFault>
+        ensures { WritesText (device W.taken W.failures out.old out.new) result
+            (finished_game_section self.now) }
+    {
+        if self.has_finished_game {
+            return self.reader.write_section(out);
+        }
+        Ok(())
     }
 
     /// Returns the position in which a move was rejected.

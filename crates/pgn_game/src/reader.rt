@@ -2,12 +2,12 @@
 ghost use Rattle.std.specs.Prelude.{◌≡◌, ◌+◌, ◌-◌, ◌≤◌, ◌<◌, ◌^◌, ◌&&◌, ◌∷◌, [], false, not};
 ghost use Rattle.std.specs.Prelude.{None, OnOk, Some, option_map, IsTrue, ◌↔◌, bytes_eq, codes, max};
 ghost use Rattle.std.specs.Option.{option_copied};
-ghost use Rattle.pgn_layout.specs.Device.{device};
+ghost use Rattle.pgn_layout.specs.Device.{WritesText, device};
 ghost use Rattle.pgn_lexer.specs.Tokens.{HasLength, Kind, left_paren, right_paren, symbol};
 ghost use Rattle.pgn_lexer.specs.Scanned.{kind_of};
 ghost use Rattle.pgn_game.specs.Pairs.{value_of};
 ghost use Rattle.pgn_game.specs.Chess.{first_position};
-ghost use Rattle.pgn_game.specs.TagSection.{exported};
+ghost use Rattle.pgn_game.specs.TagSection.{exported, tag_section};
 ghost use Rattle.pgn_game.specs.declared.stage.Stage.TheVariants.{Between, AfterLeftBracket, AfterName};
 ghost use Rattle.pgn_game.specs.declared.stage.Stage.TheVariants.{AfterValue, AfterTags, InMovetext};
 ghost use Rattle.pgn_game.specs.Profile.{counts_as, known_result};
@@ -66,6 +66,7 @@ pub struct Reader<const T: usize, const L: usize> {
     written: Written,
     missing_result: MissingResult,
     told: Option<Marker>,
+    marker: Marker,
     stage: Stage,
 }
 
@@ -94,6 +95,7 @@ impl<const T: usize, const L: usize> Model for Reader<T, L> {
       earlier_plies = r.earlier_plies;
       most_probes = r.most_probes;
       line = r.line;
+      marker = marker_text r.marker;
     } };
 
     ghost invariant = { λ r. AreSound T r.stage r.tags × (r.most_probes ≤ 1040)
@@ -118,6 +120,7 @@ impl<const T: usize, const L: usize> Reader<T, L> {
           earlier_plies = 0;
           most_probes = 0;
           line = [];
+          marker = codes "*";
         } }
     {
         Reader {
@@ -125,6 +128,7 @@ impl<const T: usize, const L: usize> Reader<T, L> {
             written: Written::by(mode),
             missing_result: MissingResult::CountsAs(Marker::Unknown),
             told: None,
+            marker: Marker::Unknown,
             stage: Stage::Between,
             tags: TagPairs::new(),
             text: Movetext::new(),
@@ -142,6 +146,27 @@ impl<const T: usize, const L: usize> Reader<T, L> {
             (known_result self.now.profile.missing_result) self.now.tags.held) name.now }
     {
         exported_value(self.mode, self.missing_result, &self.tags.pairs(), name)
+    }
+
+    /// Writes the tag section of the game just read.
+    ///
+    /// # Errors
+    ///
+    /// `WriteFault` if a write failed. A prefix of the section was written.
+    pub fn write_section<W: Sink>(&self, out: &mut W) -> Result<(), WriteFault>
+        requires { self.now.stage ≡ Between }
+        ensures { WritesText (device W.taken W.failures out.old out.new) result
+            (tag_section self.now.profile.mode (known_result self.now.profile.missing_result)
+            self.now.tags.held) }
+    {
+        write_section(self.mode, self.missing_result, &self.tags.pairs(), out)
+    }
+
+    /// Returns the marker of the game just read.
+    pub fn marker(&self) -> Marker
+        ensures { marker_text result ≡ self.now.marker }
+    {
+        self.marker
     }
 
     /// Returns the number of moves outside variations that the game has so far, or had.
@@ -613,11 +638,13 @@ impl<const T: usize, const L: usize> Reader<T, L> {
         self.begin_movetext(out)?;
         if let Written::Nothing = self.written {
             self.stage = Stage::Between;
+            self.marker = marker;
             return Ok(());
         }
         self.line.put(marker.text(), out)?;
         self.line.end_game(out)?;
         self.stage = Stage::Between;
+        self.marker = marker;
         Ok(())
     }
 

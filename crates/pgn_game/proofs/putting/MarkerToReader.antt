@@ -60,17 +60,18 @@ last_is old part outside is marker =
     position_is old part is
     ∙ ap (λ (ms : List Move). replayed (start_of part.pairs) ms) (sym (at_depth_0 (levels_of_part part) (levels_of_part part).around refl none))
 
-abbrev finished_reader : ReaderState → ReaderState
-finished_reader r = record r { stage = Between; line = [] }
+abbrev finished_reader : List ℕ → ReaderState → ReaderState
+finished_reader marker r = record r { stage = Between; line = []; marker = marker }
 
 behind : (old : ReaderState) (part : Part) (marker : List ℕ) → old.text.levels.around ≡ []
-    → IsOpen old part → IsBehind (finished_reader old) (game_of part marker)
+    → IsOpen old part → IsBehind (finished_reader marker old) (game_of part marker)
 behind old part marker outside is =
     record {
       agrees = record { stage = refl; pairs = refl; text = refl };
       pairs = ap (λ t. t.held) is.pairs;
       plies = is.held.plies;
       position = last_is old part outside is marker;
+      marker = refl;
       probed = is.probed;
     }
 
@@ -120,11 +121,12 @@ of_line old begun e = ap (λ (r : ReaderState). r.line) e
 pub ends_well : (old begun new : ReaderState) (marker : Marker) (text : List ℕ) (a b d c : Option (List ℕ)) (n m k : ℕ)
     → EndsText old begun marker text a b n m
     → Appends b d (text_at begun.line (Put text)) → Appends d c (text_at (line_at begun.line (Put text)) EndGame)
-    → new ≡ record begun { stage = Between; line = new.line } → new.line ≡ [] → k ≡ m
+    → new ≡ record begun { stage = Between; line = new.line; marker = marker_text marker } → new.line ≡ [] → k ≡ m
     → PutResult old (IsOpen old) (to_game marker) new (Ok Finished) (from_to a c n k)
 ends_well old begun new marker text a b d c n m k ends put last rest empty counted =
-    let same : new ≡ finished_reader old =
-    rest ∙ ap (λ (l : List ℕ). record begun { stage = Between; line = l }) empty ∙ ap finished_reader ends.begins.begun in
+    let same : new ≡ finished_reader (marker_text marker) old =
+    rest ∙ ap (λ (l : List ℕ). record begun { stage = Between; line = l; marker = marker_text marker }) empty
+    ∙ ap (finished_reader (marker_text marker)) ends.begins.begun in
     let earlier : new.earlier_plies ≡ old.earlier_plies = ap (λ (r : ReaderState). r.earlier_plies) same in
     let plies : new.text.plies ≡ old.text.plies = ap (λ (r : ReaderState). r.text.plies) same in
     record {
@@ -152,23 +154,25 @@ ends_well old begun new marker text a b d c n m k ends put last rest empty count
 
 -- nothing is written of a silent reader's game
 silent_behind : (old : ReaderState) (part : Part) (marker : List ℕ) → old.writing.is_silent ≡ true → old.text.levels.around ≡ []
-    → IsOpen old part → IsBehind (record old { stage = Between }) (game_of part marker)
+    → IsOpen old part → IsBehind (record old { stage = Between; marker = marker }) (game_of part marker)
 silent_behind old part marker silent outside is =
     record {
       agrees = record { stage = refl; pairs = refl; text = rw silent at is.held.held };
       pairs = ap (λ t. t.held) is.pairs;
       plies = is.held.plies;
       position = last_is old part outside is marker;
+      marker = refl;
       probed = is.probed;
     }
 
 pub ends_silent : (old begun new : ReaderState) (marker : Marker) (a b : Option (List ℕ)) (n m : ℕ) → old.writing.is_silent ≡ true
     → IsTrue (may_have_movetext old.stage) → old.text.levels.around ≡ []
     → BeginsText {A = Unit} {E = WriteFault} old begun (Ok tt) (seen old.writing.is_silent (from_to a b n m))
-    → new ≡ record begun { stage = Between }
+    → new ≡ record begun { stage = Between; marker = marker_text marker }
     → PutResult old (IsOpen old) (to_game marker) new (Ok Finished) (seen old.writing.is_silent (from_to a b n m))
 ends_silent old begun new marker a b n m silent at outside begins rest =
-    let same : new ≡ record old { stage = Between } = rest ∙ ap (λ (r : ReaderState). record r { stage = Between }) begins.begun in
+    let same : new ≡ record old { stage = Between; marker = marker_text marker } =
+    rest ∙ ap (λ (r : ReaderState). record r { stage = Between; marker = marker_text marker }) begins.begun in
     let earlier : new.earlier_plies ≡ old.earlier_plies = ap (λ (r : ReaderState). r.earlier_plies) same in
     let plies : new.text.plies ≡ old.text.plies = ap (λ (r : ReaderState). r.text.plies) same in
     record {

@@ -41,7 +41,7 @@ leads_finished (whole g) games r h = (g, refl, h.agrees, h, refl)
 
 -- what the reader still holds of the game that it is behind
 finished_behind : {r : ReaderState} {g : Game} → IsBehind r g → game_in_reader r ≡ finished_game_of g
-finished_behind h = cc (h.pairs, h.plies, h.position)
+finished_behind h = cc (h.pairs, h.plies, h.position, h.marker)
 
 plies-snoc : (games : List Game) (g : Game) → sum (map plies_of (games ++ g ∷ [])) ≡ sum (map plies_of games) + plies_of g
 plies-snoc games g =
