@@ -9,7 +9,7 @@ ghost use Rattle.pgn_game.specs.GamesSteps.{CountsReading};
 ghost use Rattle.pgn_game.specs.Markers.{marker_text};
 ghost use Rattle.pgn_game.specs.Readings.{GoesOn, HasGiven, IsGoing, IsReadyToEnd, ReadsGame, StillGivenNone};
 ghost use Rattle.pgn_game.specs.Readings.{ReadsUpToMarker, WritesGame, as_changed, no_sink};
-ghost use Rattle.pgn_game.specs.ReaderState.{KeepsSilence, as_written, mode_written, sink_of, whole_plies};
+ghost use Rattle.pgn_game.specs.ReaderState.{KeepsSilence, as_written, sink_of, whole_plies};
 ghost use Rattle.pgn_game.specs.Written.{bytes_seen};
 ghost use Rattle.pgn_game.specs.Size.{HoldsTwice};
 

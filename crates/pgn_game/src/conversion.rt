@@ -1,14 +1,14 @@
 //! Converts a whole input.
 ghost use Rattle.std.specs.Prelude.{◌≡◌, ◌-◌, ◌≤◌, ◌^◌, [], length, false, None, OnOk, IfSome};
 ghost use Rattle.pgn_layout.specs.Device.{device, nowhere};
-ghost use Rattle.pgn_game.specs.ConverterCalls.{CountsFault, profile_of};
+ghost use Rattle.pgn_game.specs.ConverterCalls.{CountsFault, Stands, profile_of};
 ghost use Rattle.pgn_game.specs.Profile.{Profile};
-ghost use Rattle.pgn_game.specs.ConverterCalls.{Stands};
 ghost use Rattle.pgn_game.specs.Written.{bytes_seen};
-ghost use Rattle.pgn_game.specs.ReaderState.{mode_written, sink_of, whole_plies};
+ghost use Rattle.pgn_game.specs.ReaderState.{sink_of, whole_plies};
 ghost use Rattle.pgn_game.specs.Size.{Holds};
-ghost use Rattle.pgn_game.specs.Conversion.{AfterConversion, AfterSlice, Checks, ChecksSlice, Converts, ConvertsSlice};
-ghost use Rattle.pgn_game.specs.Conversion.{Concludes, CountsResult, CountsSink};
+ghost use Rattle.pgn_game.specs.Conversion.{AfterConversion, AfterSlice, Concludes};
+ghost use Rattle.pgn_game.specs.Conversion.{Checks, ChecksSlice, Converts, ConvertsSlice};
+ghost use Rattle.pgn_game.specs.Conversion.{CountsResult, CountsSink};
 
 use crate::converter::Converter;
 use crate::games::next_game;

@@ -1,12 +1,13 @@
 //! Games one at a time, from a source.
-ghost use Rattle.std.specs.Prelude.{◌≡◌, ◌+◌, ◌-◌, ◌<◌, ◌≤◌, ◌^◌, ℕ, List, [], Option, true, false, None, Ok, OnOk, IfOk, IfSome, IsTrue, length};
+ghost use Rattle.std.specs.Prelude.{◌≡◌, ◌+◌, ◌-◌, ◌<◌, ◌≤◌, ◌^◌, ℕ, List, [], Option, None, Ok};
+ghost use Rattle.std.specs.Prelude.{true, false, OnOk, IfOk, IfSome, IsTrue, length};
 ghost use Rattle.std.specs.Option.{option_copied};
 ghost use Rattle.pgn_layout.specs.Device.{Counts, device};
 ghost use Rattle.pgn_game.specs.ConverterCalls.{CountsFault, KeepsFault, profile_of};
 ghost use Rattle.pgn_game.specs.ConverterCalls.{finished_game_value, finished_game_plies, finished_game_position};
 ghost use Rattle.pgn_game.specs.ConverterCalls.{NoWriteFails, writing_nothing};
-ghost use Rattle.pgn_game.specs.GamesCalls.{StillReadNone};
-ghost use Rattle.pgn_game.specs.GamesCalls.{HaveRead, ReadsNext, NextAgain, NextAtEnd, CountsNext, games_of, most_left};
+ghost use Rattle.pgn_game.specs.GamesCalls.{HaveRead, ReadsNext, NextAgain, NextAtEnd, CountsNext};
+ghost use Rattle.pgn_game.specs.GamesCalls.{StillReadNone, games_of, most_left};
 ghost use Rattle.pgn_game.specs.GamesSteps.{CountsReading, MoreResult, ReadsToMarker, RestResult};
 ghost use Rattle.pgn_game.specs.ConverterSteps.{IsReady};
 ghost use Rattle.pgn_game.specs.ReaderState.{KeepsSilence, as_written, sink_of};
@@ -73,7 +74,8 @@ impl<const T: usize, const L: usize> Games<T, L> {
     ///
     /// Call this before the first game is read: nothing else is ensured of a game that had begun.
     pub fn write_nothing(&mut self)
-        ensures only_switch { self.new ≡ games_of (writing_nothing self.old.converter) self.old.unused }
+        ensures only_switch { self.new
+            ≡ games_of (writing_nothing self.old.converter) self.old.unused }
         ensures begins { StillReadNone self.old self.new }
     {
         self.converter.write_nothing();
@@ -104,7 +106,8 @@ impl<const T: usize, const L: usize> Games<T, L> {
         ensures counted { self.old.converter.fault ≡ None
             → CountsNext result (device R.left R.failures source.old source.new)
             (sink_of self.old.converter.reading W.taken W.failures out.old out.new) }
-        ensures silent { KeepsSilence self.old.converter.reading self.new.converter.reading out.old out.new }
+        ensures silent { KeepsSilence self.old.converter.reading self.new.converter.reading
+            out.old out.new }
         ensures no_write_fails { IsTrue self.old.converter.reading.writing.is_silent
             → self.old.converter.fault ≡ None → NoWriteFails result }
     {
