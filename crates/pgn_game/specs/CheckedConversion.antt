@@ -29,10 +29,9 @@ HasTaken sink text = Appends sink.before sink.after text
 abbrev pub AreConverted : Profile → List ℕ → List ℕ → Verdict → Device → Type 0
 AreConverted p s r v sink = (checked_verdict p s r ≡ v) × HasTaken sink (checked_output p s r)
 
--- n is the most pairs tried for one move in both readings. The first writes nothing, and tries pairs
--- only to find moves. All tokens of `first` are read. Of those
--- of `second` the tokens `front` are read: none is rejected, and they make the progress that the
--- comparison makes.
+-- n is the most pairs tried for one move in both readings. The first writes nothing, and tries
+-- pairs only to find moves. All tokens of `first` are read. Of those of `second` the tokens `front`
+-- are read: none is rejected, and they make the progress that the comparison makes.
 pub record MostOfBoth (p : Profile) (ts us : List Token) (n : ℕ) : Type 0 where
   pub front : List Token
   pub rest : List Token

@@ -1,9 +1,10 @@
 -- **Definition**: what a contract sees of `Games`, and what each call does to them.
--- Letters: p is the profile, f a fault, r the reader, u are the bytes that the source has given before a call,
--- and `more` those that it gives during it. `given` are the tokens read before a call, and `tokens`
--- those read when it ends. `left` are the bytes that the source has left, if it reports them;
--- `left_old` and `left_new` are these before a call and after it. `source` and `sink` are the
--- devices before a call and after it, `before` and `after` the bytes that the sink has taken.
+-- Letters: p is the profile, f a fault, r the reader, u are the bytes that the source has given
+-- before a call, and `more` those that it gives during it. `given` are the tokens read before a
+-- call, and `tokens` those read when it ends. `left` are the bytes that the source has left, if it
+-- reports them; `left_old` and `left_new` are these before a call and after it. `source` and `sink`
+-- are the devices before a call and after it, `before` and `after` the bytes that the sink has
+-- taken.
 use Rattle.std.specs.Prelude.{◌≡◌, ℕ, ◌+◌, ◌-◌, ◌^◌, ◌<◌, ◌≤◌, Bool, true, false, List, [], ◌∷◌, ◌++◌, length, Option, None, Some, Result, Ok, Err}
 use Rattle.std.specs.Io.KnownBytes.{Consumes, IsAtEnd}
 use Rattle.pgn_layout.specs.Device.{Device, IsStill}

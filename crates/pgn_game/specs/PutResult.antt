@@ -41,7 +41,8 @@ at_game_start old = record old {
   earlier_plies = old.earlier_plies + old.text.plies;
 }
 
--- What a call leaves as it was, or nearly: the profile, how the reader writes, the number of moves, but for one more, and the most pairs tried, which does not fall.
+-- What a call leaves as it was, or nearly: the profile, how the reader writes, the number of moves,
+-- but for one more, and the most pairs tried, which does not fall.
 pub record Keeps (old new : ReaderState) : Type 0 where
   pub profile : new.profile ≡ old.profile
   pub writing : new.writing ≡ old.writing

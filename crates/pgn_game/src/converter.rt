@@ -356,7 +356,8 @@ impl<const T: usize, const L: usize> Converter<T, L> {
         ensures just_finished { self.new.just_finished ≡ game_ended result self.new.reading }
         ensures written { as_written self.new.reading ≡ as_written self.old.reading }
         ensures probes { self.old.reading.most_probes ≤ self.new.reading.most_probes }
-        ensures counted { CountsFault result (sink_of self.old.reading W.taken W.failures out.old out.new) }
+        ensures counted { CountsFault result (sink_of self.old.reading W.taken W.failures out.old
+            out.new) }
         ensures silent { KeepsSilence self.old.reading self.new.reading out.old out.new }
     {
         let Mark { marker, at } = mark;
@@ -385,7 +386,8 @@ impl<const T: usize, const L: usize> Converter<T, L> {
         ensures short { self.new.lexer.count ≤ 2 ^ 62 }
         ensures not_finished { self.new.is_finished ≡ false }
         ensures fault { KeepsFault self.new result }
-        ensures counted { CountsFault result (sink_of self.old.reading W.taken W.failures out.old out.new) }
+        ensures counted { CountsFault result (sink_of self.old.reading W.taken W.failures out.old
+            out.new) }
         ensures silent { KeepsSilence self.old.reading self.new.reading out.old out.new }
     {
         let mut at = 0;
@@ -408,7 +410,8 @@ impl<const T: usize, const L: usize> Converter<T, L> {
     /// `Reason::ExpectedBracket`.
     pub fn finish<W: Sink>(&mut self, out: &mut W) -> Result<bool, Fault>
         requires not_finished { self.old.is_finished ≡ false }
-        ensures ends { Ends self.old self.new result (sink_of self.old.reading W.taken W.failures out.old out.new) }
+        ensures ends { Ends self.old self.new result (sink_of self.old.reading W.taken W.failures
+            out.old out.new) }
         ensures finished { self.new.is_finished ≡ is_ok result }
         ensures count { self.new.lexer.count ≡ self.old.lexer.count }
         ensures probes { self.old.reading.most_probes ≤ self.new.reading.most_probes }
@@ -461,7 +464,8 @@ impl<const T: usize, const L: usize> Converter<T, L> {
         ensures games { self.new.games ≡ self.old.games }
         ensures none_just_finished { self.new.just_finished ≡ None }
         ensures probes { self.old.reading.most_probes ≤ self.new.reading.most_probes }
-        ensures counted { CountsFault result (sink_of self.old.reading W.taken W.failures out.old out.new) }
+        ensures counted { CountsFault result (sink_of self.old.reading W.taken W.failures out.old
+            out.new) }
         ensures silent { KeepsSilence self.old.reading self.new.reading out.old out.new }
     {
         self.has_finished_game = false;
@@ -665,7 +669,8 @@ impl<const T: usize, const L: usize> Converter<T, L> {
         ensures games { self.new.games ≡ self.old.games }
         ensures none_just_finished { self.new.just_finished ≡ None }
         ensures probes { self.old.reading.most_probes ≤ self.new.reading.most_probes }
-        ensures counted { CountsFault result (sink_of self.old.reading W.taken W.failures out.old out.new) }
+        ensures counted { CountsFault result (sink_of self.old.reading W.taken W.failures out.old
+            out.new) }
         ensures silent { KeepsSilence self.old.reading self.new.reading out.old out.new }
     {
         self.has_finished_game = false;
@@ -850,7 +855,8 @@ impl<const T: usize, const L: usize> Converter<T, L> {
         ensures probes { self.old.reading.most_probes ≤ self.new.reading.most_probes }
         ensures none_just_finished { self.new.just_finished ≡ None }
         ensures finished { self.new.is_finished ≡ is_ended result }
-        ensures counted { CountsFault result (sink_of self.old.reading W.taken W.failures out.old out.new) }
+        ensures counted { CountsFault result (sink_of self.old.reading W.taken W.failures out.old
+            out.new) }
         ensures silent { KeepsSilence self.old.reading self.new.reading out.old out.new }
     {
         match self.lexer.finish() {

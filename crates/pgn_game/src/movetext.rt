@@ -102,8 +102,8 @@ impl<const L: usize> Movetext<L> {
         self.plies
     }
 
-    /// Plays a legal move: writes it with its number, if it needs one, and moves the levels. Reduced
-    /// mode writes a move only outside variations (PGN 3.2.4).
+    /// Plays a legal move: writes it with its number, if it needs one, and moves the levels.
+    /// Reduced mode writes a move only outside variations (PGN 3.2.4).
     #[inline(always)]
     pub fn put_move<W: Sink>(
         &mut self,
@@ -117,7 +117,8 @@ impl<const L: usize> Movetext<L> {
         requires few { self.old.plies < 2 ^ 64 - 1 }
         requires room { probes.old + 1032 < 2 ^ 32 }
         ensures adds { Adds (mode_of_written written) (games.move mv.now) self.old line.old self.new
-            line.new result (seen (is_nothing written) (device W.taken W.failures out.old out.new)) }
+            line.new result (seen (is_nothing written) (device W.taken W.failures out.old out.new))
+            }
         ensures silent { LeavesSink (is_nothing written) out.old out.new }
         ensures probes { Rises probes.old probes.new }
         ensures tried { TriesItem (mode_of_written written) self.old (games.move mv.now) probes.old
@@ -141,8 +142,9 @@ impl<const L: usize> Movetext<L> {
         out: &mut W,
     ) -> Result<(), WriteFault>
         requires { ItemFits L self.old item.now }
-        ensures adds { Adds (mode_of_written written) (model_item item.now) self.old line.old self.new
-            line.new result (seen (is_nothing written) (device W.taken W.failures out.old out.new)) }
+        ensures adds { Adds (mode_of_written written) (model_item item.now) self.old line.old
+            self.new line.new result (seen (is_nothing written) (device W.taken W.failures out.old
+            out.new)) }
         ensures silent { LeavesSink (is_nothing written) out.old out.new }
     {
         self.write(written, item, line, out)?;
@@ -163,7 +165,8 @@ impl<const L: usize> Movetext<L> {
         requires legal { IsLegal self.old.levels.present.present played.now }
         requires room { probes.old + 1032 < 2 ^ 32 }
         ensures writes { WritesItem (mode_of_written written) (games.move played.now.mv) self.old
-            line.old self.new line.new result (seen (is_nothing written) (device W.taken W.failures out.old out.new)) }
+            line.old self.new line.new result (seen (is_nothing written) (device W.taken W.failures
+            out.old out.new)) }
         ensures silent { LeavesSink (is_nothing written) out.old out.new }
         ensures probes { Rises probes.old probes.new }
         ensures tried { TriesItem (mode_of_written written) self.old (games.move played.now.mv)
@@ -200,8 +203,9 @@ impl<const L: usize> Movetext<L> {
         out: &mut W,
     ) -> Result<(), WriteFault>
         requires { ItemFits L self.old item.now }
-        ensures writes { WritesItem (mode_of_written written) (model_item item.now) self.old line.old
-            self.new line.new result (seen (is_nothing written) (device W.taken W.failures out.old out.new)) }
+        ensures writes { WritesItem (mode_of_written written) (model_item item.now) self.old
+            line.old self.new line.new result (seen (is_nothing written) (device W.taken W.failures
+            out.old out.new)) }
         ensures silent { LeavesSink (is_nothing written) out.old out.new }
     {
         if written != Written::Full {

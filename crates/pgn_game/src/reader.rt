@@ -670,7 +670,8 @@ impl<const T: usize, const L: usize> Reader<T, L> {
         self.write_tags(out)
     }
 
-    // Writes the tag section, unless nothing is written, and movetext begins. It is not inlined: a game has one.
+    // Writes the tag section, unless nothing is written, and movetext begins. It is not inlined: a
+    // game has one.
     #[inline(never)]
     fn write_tags<W: Sink>(&mut self, out: &mut W) -> Result<(), WriteFault>
         requires stage { self.old.stage ≡ AfterTags }
