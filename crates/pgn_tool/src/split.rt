@@ -1,5 +1,5 @@
 //! Writes each game to a file of its own.
-ghost use Rattle.std.specs.Prelude.{◌≡◌, ◌<◌, ◌≤◌, true, None, Ok, OnOk};
+ghost use Rattle.std.specs.Prelude.{◌≡◌, ◌<◌, ◌≤◌, true, false, None, Ok, OnOk};
 ghost use Rattle.pgn_layout.specs.Device.{device, one_more};
 ghost use Rattle.pgn_game.specs.GamesCalls.{most_left};
 ghost use Rattle.pgn_tool.specs.Files.{added, closing_steps};
@@ -70,8 +70,10 @@ fn split_game<R: Source, F: GameFiles>(
     files: &mut F,
 ) -> Result<bool, Unsplit>
     requires no_fault { games.old.converter.fault ≡ None }
+    requires writes { games.old.converter.reading.writing.is_silent ≡ false }
     ensures fewer { result ≡ Ok true → most_left games.new < most_left games.old }
     ensures fault { OnOk result (games.new.converter.fault ≡ None) }
+    ensures writes { games.new.converter.reading.writing.is_silent ≡ false }
     ensures splits { GameSplit F.Out.taken F.Out.failures games.old games.new
         (device R.left R.failures source.old source.new)
         (F.log files.old) (F.log files.new) result }
@@ -87,12 +89,14 @@ fn write_game<'a, K: Before, R: Source, F: GameFiles>(
     files: &'a mut F,
 ) -> (&'a mut F, Result<bool, Unsplit>)
     requires no_fault { games.old.converter.fault ≡ None }
+    requires writes { games.old.converter.reading.writing.is_silent ≡ false }
     requires name { files.ghost_name ≡ K.name }
     requires number { one_more games.old.converter.games ≡ K.number }
     requires log { F.log files.old ≡ K.log }
     ensures same { result.0.ghost_name ≡ files.entry.ghost_name }
     ensures fewer { result.1 ≡ Ok true → most_left games.new < most_left games.old }
     ensures fault { OnOk result.1 (games.new.converter.fault ≡ None) }
+    ensures writes { games.new.converter.reading.writing.is_silent ≡ false }
     ensures splits { GameSplit F.Out.taken F.Out.failures games.old games.new
         (device R.left R.failures source.old source.new)
         K.log (F.log result.0.now) result.1 }

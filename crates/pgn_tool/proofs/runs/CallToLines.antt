@@ -1,6 +1,7 @@
 -- Games listed one by one.
 use Rattle.pgn_tool.proofs.Words.{◌≡◌, ℕ, ◌+◌, ◌^◌, ◌≤◌, false, List, [], ◌∷◌, ◌++◌, drop, length, length-take, take-append-drop, Option, None, Some, IfSome, refl, sym, ap, subst, ◌∙◌, append-nil, append_assoc, length-append, arith, Appends, Consumes, IsAtEnd, Appends-trans, Consumes-trans, AppendsFront, Token, tokens_of, InputTooLong, Fault, Game, Read, no_progress, read, HasRead, CountsDevices, Games, HaveRead, within, at_end, NextGame, NoGame, NextStops, ReadsNoGame, IsListed, ListsNoMore, ListStops, game_line, line_just_finished, lines_from, lines_of, list_profile, too_long, unread, Decides, ListedSoFar, Refused, Unwritten, Consumes-whole, Stops, games_before, AreNext}
 use Rattle.pgn_game.specs.ConverterCalls.{AreShown, IsRefused, so_far, within_limit}
+use Rattle.pgn_game.specs.ReaderState.{ReaderState}
 use Rattle.pgn_tool.proofs.runs.PartsOfText.{front_after}
 use Rattle.pgn_tool.proofs.runs.TokensInTwoParts.{read_stops}
 
@@ -128,10 +129,10 @@ module _ (left_old left left_new : Option (List ℕ)) (old new : Games) (a b : O
             subst (λ ts. Appends a b (lines_of ts)) none.reads.decided (subst (λ gs. Appends a b (lines_from 1 gs)) (sym none.no_game) so.written);
       }
 
-  pub list_stops : (most : ℕ) (f : Fault) (s t : ℕ)
-      → NextStops list_profile so.bytes so.tokens left left_new most None None f → CountsDevices f.reason s t 0 0
+  pub list_stops : (r : ReaderState) (f : Fault) (s t : ℕ)
+      → NextStops list_profile so.bytes so.tokens left left_new r None None f → CountsDevices f.reason s t 0 0
       → ListStops left_old left_new a b (Refused f)
-  list_stops most f s t stopped counted = by_stop stopped counted
+  list_stops r f s t stopped counted = by_stop stopped counted
     where
       by_stops : {h : Fault} (ts : List Token) → ReadAs left_old ts
           → (stops : Stops list_profile so.tokens ts None None h) → games_before stops ≡ (read list_profile so.tokens).progress.games
@@ -146,7 +147,7 @@ module _ (left_old left left_new : Option (List ℕ)) (old new : Games) (a b : O
             },
           )))
 
-      by_stop : {h : Fault} → NextStops list_profile so.bytes so.tokens left left_new most None None h
+      by_stop : {h : Fault} → NextStops list_profile so.bytes so.tokens left left_new r None None h
           → CountsDevices h.reason s t 0 0 → ListStops left_old left_new a b (Refused h)
       by_stop (NextStops.at_token h more consumed to) counts =
           by_stops to.tokens (reads_at_token left_old left_new (so.bytes ++ more) to.tokens (all more consumed) to.next) to.stops to.no_game counts

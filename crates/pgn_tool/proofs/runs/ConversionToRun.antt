@@ -206,11 +206,11 @@ module _ (s : List ℕ) (source out : Device) (smooth : IsSmooth s source out) w
         let by = refuses_by_verdict _ err code f converted.0 ends.ends ends.told in
         record { ends = by.0; written = converted.1; told = by.1 }
     job_answers checking (Ok t) works ends =
-        let converted = (rw smooth.gives at works.0).converted in
+        let converted = (rw smooth.gives at works.0.0).converted in
         let by = concludes_by_verdict _ source out err code _ converted.0 smooth.writes ends in
         record { ends = by.0; written = rw converted.0 (works.1.0 smooth.writes); told = by.1 }
     job_answers checking (Err f) works ends =
-        let converted = own_fault (profile_of 64 32 Full) None None f works.0 ends.blames in
+        let converted = own_fault (profile_of 64 32 Full) None None f works.0.0 ends.blames in
         let by = refuses_by_verdict _ err code f converted.0 ends.ends ends.told in
         record { ends = by.0; written = rw converted.0 (Appends-kept _ _ _ [] (Appends-nil out.before) works.1); told = by.1 }
     job_answers listing answer works ends = absurd works

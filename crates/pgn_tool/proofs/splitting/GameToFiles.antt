@@ -2,6 +2,7 @@
 use Rattle.pgn_tool.proofs.Words.{◌≡◌, ◌∙◌, ℕ, ◌^◌, ◌<◌, ◌≤◌, true, false, List, [], ◌∷◌, ◌++◌, length, length-append, length-take, map, take, Option, None, Some, IfSome, Result, Ok, Err, refl, sym, ap, subst, inl, inr, ◌⊎◌, arith, append-nil, Appends, Consumes, Consumes-trans, false≢true, length-map, map-append, Device, one_more, Token, tokens_of, Reason, ReadFault, WriteFault, InputTooLong, Fault, game_text, text_of, Read, due, no_progress, read, StopsWriting, CountsDevices, Games, NextGame, NextStops, NoGame, ReadsNoGame, Decides, GameFile, NotMade, Open, Unsplit, list_profile, FileStep, IsBegun, added, bytes_in, closed, failures_in, file_steps, made, number_after, refusal_step, taken_by, whole_files, CountsSource, CountsSplit, GameSplit, IsOwn, LastFile, SplitFiles, reported, settled, CutFile, CutsFile, IsSplit, IsSplitWhole, Logs, LogsCut, SplitResult, SplitStops, SplitsNoMore, StopsAt, files_of, texts_in, torn_file, torn_text, SplitSoFar, Consumes-whole, CreateFault, Stops, games_before}
 use Rattle.pgn_game.specs.Due.{Gains}
 use Rattle.pgn_game.specs.ConverterCalls.{IsRefused}
+use Rattle.pgn_game.specs.ReaderState.{ReaderState}
 use Rattle.pgn_tool.proofs.runs.CallToLines.{ReadAs, decides_at_end, decides_at_token, has_read_of, reads_at_end, reads_at_token}
 use Rattle.pgn_tool.proofs.splitting.FilesOfGames.{file_holds, game_is, log_on, none_torn, number_is, taken_is, torn_is, whole_and_one, whole_file}
 use Rattle.pgn_tool.proofs.splitting.NoWriteFaultInTable.{read_own}
@@ -217,9 +218,9 @@ module _ {A : Type 0} (taken : A → Option (List ℕ)) (failures : A → ℕ) (
   abbrev Stopped : Fault → Type 0
   Stopped h = SplitStops left_old left_new before after (reported file h)
 
-  split_stops : (most : ℕ) (f : Fault) (s t : ℕ) → NextStops list_profile so.bytes so.tokens left left_new most none some f
+  split_stops : (r : ReaderState) (f : Fault) (s t : ℕ) → NextStops list_profile so.bytes so.tokens left left_new r none some f
       → CountsDevices f.reason s t 0 (failures_in failures file) → SplitStops left_old left_new before after (reported file f)
-  split_stops most f s t stopped counts = by_stop stopped counts
+  split_stops r f s t stopped counts = by_stop stopped counts
     where
       own : (h : Fault) → failures_in failures file ≡ 0 → SplitStops left_old left_new before after (Unsplit.Refused h) → Stopped h
       own h clean stops = subst (SplitStops left_old left_new before after) (sym (own_reported taken failures log file h begun clean)) stops
@@ -244,7 +245,7 @@ module _ {A : Type 0} (taken : A → Option (List ℕ)) (failures : A → ℕ) (
             },
           ))))
 
-      by_stop : {h : Fault} → NextStops list_profile so.bytes so.tokens left left_new most none some h
+      by_stop : {h : Fault} → NextStops list_profile so.bytes so.tokens left left_new r none some h
           → CountsDevices h.reason s t 0 (failures_in failures file) → Stopped h
       by_stop (NextStops.at_token h more consumed to) counts =
           by_stops to.tokens (decides_at_token left_old left_new (so.bytes ++ more) to.tokens (all more consumed) to.next)

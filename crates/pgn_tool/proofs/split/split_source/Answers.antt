@@ -6,6 +6,7 @@ pub loop-init : goal.loop-init
 loop-init g c =
     record {
       fault = c.new-games.ensures.no_fault;
+      writes = c.new-games.ensures.writes;
       source = refl;
       split = record {
         bytes = [];
@@ -26,6 +27,7 @@ loop-preserved g c =
     let next = one_more_game g.F.Out.Sink.taken g.F.Out.Sink.failures _ _ c.loop.games c.split_game.new.games _ _ _ c.loop.invariant.split call in
     record {
       fault = c.in_ok-split_game.ensures.fault;
+      writes = c.split_game.ensures.writes;
       source = next.1 ∙ c.loop.invariant.source;
       split = next.0;
     }
