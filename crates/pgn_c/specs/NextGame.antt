@@ -4,7 +4,7 @@
 -- `piece` has its bytes from the place on. `found` is the result before its bytes written are
 -- counted. `before` and `after` are the bytes that were written, before the call and after it, if
 -- they are kept; from `ConvertsNext` on they are the bytes of the buffer.
-use Rattle.std.specs.Prelude.{◌≡◌, ◌≢◌, ℕ, ◌+◌, ◌-◌, ◌^◌, ◌<◌, ◌≤◌, ◌==◌, ◌||◌, ◌&&◌, ◌⊎◌, Bool, List, [], ◌∷◌, ◌++◌, length, take, drop, slice_index_or, decimal, Option, Some, None}
+use Rattle.std.specs.Prelude.{◌≡◌, ◌≢◌, ℕ, ◌+◌, ◌-◌, ◌^◌, ◌<◌, ◌≤◌, ◌==◌, nat_lt, if◌then◌else◌, ◌||◌, ◌&&◌, ◌⊎◌, Bool, List, [], ◌∷◌, ◌++◌, length, take, drop, slice_index_or, decimal, Option, Some, None}
 use Rattle.std.specs.Io.KnownBytes.{Appends}
 use Rattle.chess_rules.specs.declared.position.Parts.{Parts}
 use Rattle.chess_text.specs.Fen.{fen_text}
@@ -209,6 +209,17 @@ ReadsNext mode marker text from found = NextOf (profile_counting mode marker) (t
 -- the next game is rejected then, because its Result is not its marker (41)
 abbrev pub IsOtherResult : Mode → Marker → List ℕ → ℕ → Type 0
 IsOtherResult mode marker text from = (found : PgnGame) × ReadsNext mode marker text from found × (found.fault ≡ 41)
+
+-- Which marker seems to be at the place, by its first two bytes. It is only a guess, with which the
+-- game is read next: what is found by it is as `NextOf` says, or every marker is tried.
+abbrev pub marker_of_bytes : ℕ → ℕ → Marker
+marker_of_bytes first second =
+    if first == 48 then BlackWins
+    else (if (first == 49) && (second == 45) then WhiteWins else (if (first == 49) && (second == 47) then Draw else Unknown))
+
+abbrev pub marker_at : List ℕ → ℕ → Marker
+marker_at text place =
+    if nat_lt (place + 1) (length text) then marker_of_bytes (slice_index_or text place 0) (slice_index_or text (place + 1) 0) else Unknown
 
 -- the profile of a call in which a missing Result takes the marker
 abbrev pub profile_taking : Mode → Profile

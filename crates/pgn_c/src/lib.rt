@@ -60,10 +60,7 @@ const LEVELS: usize = 33;
 pub extern "C" fn pgn_check(text: &[u8]) -> PgnResult
     ensures { Checks text.now result }
 {
-    result_for(
-        check_slice::<TAGS, LEVELS>(text, Mode::Full),
-        0,
-    )
+    result_for(check_slice::<TAGS, LEVELS>(text, Mode::Full), 0)
 }
 
 /// Converts the games of a text from import format to export format, into the front of a buffer.
