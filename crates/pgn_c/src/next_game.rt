@@ -20,7 +20,7 @@ use pgn_game::{Converter, Fed, Marker, Mode, Nowhere, Reason, Sink};
 use std::marker::{Brand, PhantomData};
 
 /// The last place from which a text can be read.
-const LAST_PLACE: u64 = 1 << 62;
+pub const LAST_PLACE: u64 = 1 << 62;
 
 /// Converts the next game in this format into the front of a buffer.
 #[inline(always)]
@@ -81,14 +81,14 @@ fn read_alone(text: &[u8], from: usize, mode: Mode) -> ByMarker
 
 /// What the next game is by a marker, which a missing Result counts as.
 #[derive(Clone, Copy)]
-struct ByMarker {
-    marker: Marker,
-    found: PgnGame,
+pub struct ByMarker {
+    pub marker: Marker,
+    pub found: PgnGame,
 }
 
 // Reads the next game, and counts a missing Result as the marker of the game. It is read once with
 // `*`, and a second time with the marker that the text seems to have where the Result differs.
-fn read_by_marker(
+pub fn read_by_marker(
     text: &[u8],
     from: usize,
     mode: Mode,
@@ -167,7 +167,7 @@ fn marker_at(text: &[u8], place: usize) -> Marker
 
 // Reads the next game, and writes nothing. A missing Result counts as this marker. The converter is
 // made anew, and then holds the game.
-fn read_counting(
+pub fn read_counting(
     text: &[u8],
     from: usize,
     mode: Mode,
