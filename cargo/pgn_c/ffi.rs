@@ -105,6 +105,23 @@ unsafe extern "C" fn pgn_next_game(
 ///
 /// The conditions of `pgn.h` hold.
 #[no_mangle]
+unsafe extern "C" fn pgn_read_game(
+    text: *const u8,
+    length: usize,
+    from: usize,
+    mode: u32,
+    missing_result: u32,
+    buffer: *mut u8,
+    capacity: usize,
+) -> PgnGame {
+    let (text, buffer) = unsafe { (text_of(text, length), buffer_of(buffer, capacity)) };
+    crate::pgn_read_game(text, from, mode, missing_result, buffer)
+}
+
+/// # Safety
+///
+/// The conditions of `pgn.h` hold.
+#[no_mangle]
 unsafe extern "C" fn pgn_tag_at(text: *const u8, length: usize, at: usize) -> PgnTag {
     crate::pgn_tag_at(unsafe { text_of(text, length) }, at)
 }

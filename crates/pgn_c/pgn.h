@@ -39,13 +39,13 @@ enum {
     PGN_BAD_PLACE = 6 /* the place is behind the text or above 2^62; nothing was written */
 };
 
-/* The modes of pgn_convert and pgn_next_game. */
+/* The modes of pgn_convert, pgn_next_game and pgn_read_game. */
 enum {
     PGN_FULL_FORMAT = 0,   /* export format (PGN 3.2) */
     PGN_REDUCED_FORMAT = 1 /* reduced export format (PGN 3.2.4) */
 };
 
-/* What a missing Result counts as, for pgn_next_game. */
+/* What a missing Result counts as, for pgn_next_game and pgn_read_game. */
 enum {
     PGN_RESULT_UNKNOWN = 0,   /* as *, like pgn_convert and `export` */
     PGN_RESULT_FROM_MARKER = 1 /* as the game's termination marker, like `export --checked` */
@@ -82,7 +82,7 @@ typedef struct pgn_move {
     uint8_t fen[96]; /* the FEN of the position after the move, ended by a zero; "" with a fault */
 } pgn_move;
 
-/* The result of pgn_next_game. */
+/* The result of pgn_next_game and pgn_read_game. */
 typedef struct pgn_game {
     uint32_t status;      /* PGN_OK: a game; PGN_NO_GAME, PGN_FAULT, PGN_MORE, PGN_FULL, ... */
     uint32_t fault;       /* the fault's number with PGN_FAULT, PGN_MORE and PGN_FULL; else 0 */
@@ -203,6 +203,25 @@ pgn_move pgn_san(const uint8_t *fen, size_t fen_length, const uint8_t *text, siz
  * for a game without a fault. The bytes of the buffer behind the first `written` are as they were.
  */
 pgn_game pgn_next_game(const uint8_t *text, size_t length, size_t from, uint32_t mode,
+                       uint32_t missing_result, uint8_t *buffer, size_t capacity);
+
+/*
+ * Reads the next game of a text, from the byte at `from` on, and writes its tag section into the
+ * front of a buffer.
+ *
+ * The arguments, the statuses and the results are those of pgn_next_game. But no move is written,
+ * which takes less time: of the export text of the game the buffer gets the tag section and the empty
+ * line behind it.
+ *
+ * PGN_OK: a game; the buffer has its tag section. `end` has the meaning that it has in
+ *     pgn_next_game.
+ * PGN_FULL: the section is longer than the buffer, which has its first `capacity` bytes. `fault` is
+ *     51, and `place` is that of the game's marker. Call again with a larger one.
+ *
+ * With all others nothing is written. The bytes of the buffer behind the first `written` are as they
+ * were. With PGN_RESULT_FROM_MARKER a missing Result is the marker in the section too.
+ */
+pgn_game pgn_read_game(const uint8_t *text, size_t length, size_t from, uint32_t mode,
                        uint32_t missing_result, uint8_t *buffer, size_t capacity);
 
 /*

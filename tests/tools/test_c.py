@@ -61,6 +61,7 @@ class Library:
         for name, result, words in (
                 ("pgn_check", Result, text), ("pgn_convert", Result, (*text, *text, mode)),
                 ("pgn_next_game", Game, (*text, size, mode, mode, *text)),
+                ("pgn_read_game", Game, (*text, size, mode, mode, *text)),
                 ("pgn_tag_at", Tag, (*text, size)), ("pgn_explain", Explanation, text + text)):
             function = getattr(self.calls, name)
             function.restype, function.argtypes = result, words
@@ -74,9 +75,17 @@ class Library:
 
     def next_game(self, data, at=0, mode=0, missing=0, capacity=None):
         """The result for the game behind a place, and what was written."""
+        return self.game_by(self.calls.pgn_next_game, data, at, mode, missing, capacity)
+
+    def read_game(self, data, at=0, mode=0, missing=0, capacity=None):
+        """The same, but the tag section alone was written."""
+        return self.game_by(self.calls.pgn_read_game, data, at, mode, missing, capacity)
+
+    def game_by(self, call, data, at, mode, missing, capacity):
+        """What a call finds behind a place, and what was written."""
         capacity = 64 * len(data) + 65536 if capacity is None else capacity
         buffer = ctypes.create_string_buffer(b"\xAA" * (capacity + 8), capacity + 8)
-        game = self.calls.pgn_next_game(data, len(data), at, mode, missing, buffer, capacity)
+        game = call(data, len(data), at, mode, missing, buffer, capacity)
         assert buffer.raw[game.written :] == b"\xAA" * (capacity + 8 - game.written)
         return game, ctypes.string_at(buffer, game.written)
 
@@ -349,6 +358,33 @@ class Installed:
             for capacity in (len(whole), len(whole) + 1):
                 same, text = self.library.next_game(TEXT, 0, 0, missing, capacity)
                 self.assertEqual((fields(same), text), (fields(game), whole))
+
+    def test_tag_sections_alone(self):
+        """The result is that of the conversion, and the section its text up to the empty line."""
+        for data in (TEXT, b"e4 1-0", b"[Result \"0-1\"] e4 1-0", b"e4 e5 Bd4 *", b"e4", b"d4 0-1 ",
+                     b"e4 1/2-1/2", b"", b"[Black \"B\"]", b"% *"):
+            for mode, missing in ((0, 0), (0, 1), (1, 0), (1, 1)):
+                game, text = self.library.next_game(data, 0, mode, missing)
+                read, tags = self.library.read_game(data, 0, mode, missing)
+                section = text[: text.index(b"]\n\n") + 3] if game.status == OK else b""
+                self.assertEqual(tags, section, (data, mode, missing))
+                game.written = len(section)
+                self.assertEqual(fields(read), fields(game), (data, mode, missing))
+        self.check_nothing(self.library.read_game(TEXT, len(TEXT) + 1), BAD_PLACE)
+        self.check_nothing(self.library.read_game(TEXT, 0, 2), NO_MODE)
+        self.check_nothing(self.library.read_game(TEXT, 0, 0, 2), NO_MODE)
+
+    def test_buffers_of_each_size_for_a_tag_section(self):
+        for missing in (0, 1):
+            game, whole = self.library.read_game(TEXT, 0, 0, missing)
+            for capacity in range(len(whole)):
+                short, text = self.library.read_game(TEXT, 0, 0, missing, capacity)
+                self.assertEqual((short.status, short.fault, short.place),
+                                 (FULL, 51, game.marker_at))
+                self.assertEqual(text, whole[:capacity])
+                self.assertEqual((short.end, short.marker, short.plies, short.fen), (0, 0, 0, b""))
+            same, text = self.library.read_game(TEXT, 0, 0, missing, len(whole))
+            self.assertEqual((fields(same), text), (fields(game), whole))
 
     def test_escape_lines(self):
         """`%` begins one in the first column of the text, whatever the place of the call."""

@@ -6,3 +6,4 @@ pub mod PairsOnLines
 pub mod NextGames
 pub mod ZerosBehind
 pub mod Words
+pub mod TagSections

@@ -2,14 +2,14 @@
 use Rattle.pgn_c.proofs.Words.{◌≡◌, ◌≢◌, ℕ, List, [], ◌∷◌, ◌++◌, length, None, Some, refl, sym, ap, subst, ◌∙◌, append-nil, Token, Marker, Mode, Reason, WriteFault, marker_text, game_text, text_of, Read, read, games_read, PgnGame, IsFilled, ConvertsNext, IsGame, NextOf, TakesMarker, game_result, profile_counting, profile_taking, status_for, text_from}
 use Rattle.pgn_game.specs.MissingResults.{IsReadAlike, MissingResults, rejects_marker}
 
+-- no other result has status 0
+pub is_fault : (status : ℕ) (r : Reason) → status ≢ 0 → status_for status r ≢ 0
+is_fault status WriteFault is_other = λ e. absurd (cc)
+is_fault status _ is_other = is_other
+
 module _ (law : MissingResults) (mode : Mode) (marker : Marker) where
   alike : (ts : List Token) → (read (profile_counting mode marker) ts).fault ≡ None → IsReadAlike (profile_taking mode) (marker_text marker) ts
   alike ts passes = law.alike (profile_taking mode) (marker_text marker) ts refl (ap rejects_marker passes)
-
-  -- no other result has status 0
-  is_fault : (status : ℕ) (r : Reason) → status ≢ 0 → status_for status r ≢ 0
-  is_fault status WriteFault is_other = λ e. absurd (cc)
-  is_fault status _ is_other = is_other
 
   module _ (s before after : List ℕ) (found : PgnGame) (written : List ℕ) (result : PgnGame) (filled : IsFilled before after written)
       (same : result ≡ record found { written = length written }) where

@@ -1,5 +1,5 @@
 -- What a conversion of one game finds, from the calls of the converter.
-use Rattle.pgn_c.proofs.Words.{◌≡◌, ℕ, ◌+◌, ◌-◌, ◌^◌, ◌<◌, ◌≤◌, Bool, true, false, List, [], ◌∷◌, ◌++◌, length, take, drop, Option, None, Some, refl, sym, ap, subst, ◌∙◌, append-nil, append_assoc, length-append, arith, bytes_eq, codes, IsTrue, length-take-le, take-append-drop, take_at, bytes_eq-Decides, take-append-add, Kind, Token, EndsAt, tokens_of, Marker, WhiteWins, BlackWins, Draw, Unknown, Mode, InputTooLong, Fault, marker_text, Profile, known_result, is_score, marker_of, game_text, text_of, read, due, games_read, FinishesGame, PgnGame, AreKnown, NextOf, fault_result, game_result, nothing, profile_counting, status_for}
+use Rattle.pgn_c.proofs.Words.{◌≡◌, ℕ, ◌+◌, ◌-◌, ◌^◌, ◌<◌, ◌≤◌, Bool, true, false, List, [], ◌∷◌, ◌++◌, length, take, drop, Option, None, Some, Result, refl, sym, ap, subst, ◌∙◌, append-nil, append_assoc, length-append, arith, bytes_eq, codes, IsTrue, length-take-le, take-append-drop, take_at, bytes_eq-Decides, take-append-add, Kind, Token, EndsAt, tokens_of, Device, Marker, WhiteWins, BlackWins, Draw, Unknown, Mode, InputTooLong, Fault, marker_text, Profile, known_result, is_score, marker_of, game_text, text_of, read, due, games_read, FinishesGame, PgnGame, AreKnown, NextOf, Finds, fault_result, game_result, nothing, profile_counting, status_for}
 use Rattle.std.proofs.Common.{length-take}
 use Rattle.std.proofs.KnownBytes.{Appends-trans}
 use Rattle.std.specs.Io.KnownBytes.{Appends}
@@ -9,7 +9,8 @@ use Rattle.pgn_game.specs.Pairs.{value_of}
 use Rattle.pgn_game.specs.TagSection.{exported}
 use Rattle.pgn_game.specs.Game.{Game}
 use Rattle.pgn_game.specs.Due.{Gains}
-use Rattle.pgn_game.specs.ConverterCalls.{AreShown, Converter, FinishedGame, finished_game_of, finished_game_value, IsLast, Stands, StopsWriting, Stops, refused, unwritten, FedAll, FedGame, FedToFault, within_limit, StopsIn, at_token, too_long, Finishes, FinishesToFault, games_before, position_at_stop, refused_position, reported_position}
+use Rattle.pgn_game.specs.Written.{seen}
+use Rattle.pgn_game.specs.ConverterCalls.{AreShown, Converter, Ends, FinishedGame, finished_game_of, finished_game_value, IsLast, Stands, StopsWriting, Stops, refused, unwritten, FedAll, FedGame, FedToFault, within_limit, StopsIn, at_token, too_long, Finishes, FinishesToFault, games_before, position_at_stop, refused_position, reported_position}
 use Rattle.pgn_game.specs.GameEnds.{GamesEndByMarker, TextsEndBehindMarker, TextsEndBetweenGames}
 
 -- ---- a marker
@@ -71,6 +72,18 @@ shown_within : (s : List ℕ) (ts : List Token) → AreKnown (within_limit s) ts
 shown_within s ts known =
     AreShown.so_far (within_limit s) (drop (2 ^ 62) s) (sym (take-append-drop (2 ^ 62) s)) (omega (arith, length-take (2 ^ 62) s)) known
 
+-- ---- the sink of a converter that is as silent as before
+
+pub ends_as : (mid new : Converter) (outcome : Result Bool Fault) (sink : Device) (old_silent silent : Bool) → silent ≡ old_silent
+    → Ends mid new outcome (seen silent sink) → Ends mid new outcome (seen old_silent sink)
+ends_as mid new outcome sink old_silent silent same ends = subst (λ (b : Bool). Ends mid new outcome (seen b sink)) same ends
+
+pub finds_as : (p : Profile) (s piece : List ℕ) (found : PgnGame) (new : Converter) (sink : Device) (silent is : Bool) → silent ≡ is
+    → Finds p s piece found new (seen silent sink).before (seen silent sink).after
+    → Finds p s piece found new (seen is sink).before (seen is sink).after
+finds_as p s piece found new sink silent is same finds =
+    subst (λ (b : Bool). Finds p s piece found new (seen b sink).before (seen b sink).after) same finds
+
 -- ---- the converter
 
 module _ (mode : Mode) (missing : Marker) (u piece : List ℕ) (before : Option (List ℕ))
@@ -125,7 +138,7 @@ module _ (mode : Mode) (missing : Marker) (u piece : List ℕ) (before : Option 
   module _ (result : PgnGame) (after : Option (List ℕ)) where
     -- a game that the bytes decide
     pub game_fed : (new : Converter) (used n : ℕ) → used ≤ length piece → n ≡ length u + used
-        → FedGame p u [] piece used new before after → Answered new n result → NextOf p s piece result before after
+        → FedGame p u [] piece used new before after → Answered new n result → Finds p s piece result new before after
     game_fed new used n within count fed answer =
         let finishes : FinishesGame p fed.tokens fed.marker =
         record {
@@ -145,22 +158,24 @@ module _ (mode : Mode) (missing : Marker) (u piece : List ℕ) (before : Option 
         let front : List ℕ = u ++ take used piece in
         let parts : s ≡ front ++ drop used piece =
         ap (λ l. u ++ l) (sym (take-append-drop used piece)) ∙ sym (append_assoc u (take used piece) (drop used piece)) in
-        let size : length front ≡ n = omega (arith, length-append u (take used piece), length-take-le used piece within, count) in
-        NextOf.game (record {
-          tokens = fed.tokens;
-          at = fed.marker;
-          marker = mark.marker;
-          game = fed.game;
-          shown = shown_within s ts fed.next;
-          none_before = fed.no_game;
-          passes = fed.stands.has_read.passes;
-          one_game = fed.one_game;
-          is_marker = mark.is_marker;
-          ends = subst (EndsAt fed.marker.kind fed.marker.at) (sym end) ends;
-          settled = λ behind more. by_rest (drop used piece) refl parts size end behind more;
-          wrote = subst (Appends before after) (sym fed.gains.due_for ∙ whole_text ts fed.game law.whole fed.one_game) fed.gains.appended;
-          is_result = is ∙ ap (λ m. game_result fed.game mark.marker fed.marker.at m) (sym end);
-        })
+        let size : length front ≡ n = omega (arith, length-append u (take used piece), length-take-le used piece within, count) in (
+          NextOf.game (record {
+            tokens = fed.tokens;
+            at = fed.marker;
+            marker = mark.marker;
+            game = fed.game;
+            shown = shown_within s ts fed.next;
+            none_before = fed.no_game;
+            passes = fed.stands.has_read.passes;
+            one_game = fed.one_game;
+            is_marker = mark.is_marker;
+            ends = subst (EndsAt fed.marker.kind fed.marker.at) (sym end) ends;
+            settled = λ behind more. by_rest (drop used piece) refl parts size end behind more;
+            wrote = subst (Appends before after) (sym fed.gains.due_for ∙ whole_text ts fed.game law.whole fed.one_game) fed.gains.appended;
+            is_result = is ∙ ap (λ m. game_result fed.game mark.marker fed.marker.at m) (sym end);
+          }),
+          (fed.stands.has_read.profile, fed.just_finished),
+        )
       where
         by_rest : (rest : List ℕ) → drop used piece ≡ rest → s ≡ (u ++ take used piece) ++ drop used piece
             → length (u ++ take used piece) ≡ n → result.end ≡ n → result.end < length s → (more : List ℕ)
@@ -181,7 +196,7 @@ module _ (mode : Mode) (missing : Marker) (u piece : List ℕ) (before : Option 
     -- a token that is rejected whatever comes, a write that failed, or a text that is too long
     pub fault_fed : (new : Converter) (f : Fault) → StopsIn u piece (λ bytes fault. FedToFault p bytes [] fault new.reading before after)
         (λ front. (now : Converter) × FedAll p u None [] front now before after × (new.reading ≡ now.reading)) f
-        → new.fault ≡ Some f → result ≡ fault_result (status_for 1 f.reason) f (refused_position new) → NextOf p s piece result before after
+        → new.fault ≡ Some f → result ≡ fault_result (status_for 1 f.reason) f (refused_position new) → Finds p s piece result new before after
     fault_fed new f (at_token _ to) kept answer =
         by_stops f to.fed.stops (answer ∙ ap (fault_result (status_for 1 f.reason) f) (position_is new f kept ∙ to.position)) to.no_game
       where
@@ -190,41 +205,47 @@ module _ (mode : Mode) (missing : Marker) (u piece : List ℕ) (before : Option 
 
         by_stops : (g : Fault) (stops : Stops p [] to.fed.tokens before after g)
             → result ≡ fault_result (status_for 1 g.reason) g (position_at_stop stops) → games_before stops ≡ []
-            → NextOf p s piece result before after
-        by_stops g (refused _ fault gains) is none =
-            NextOf.rejected (record {
-              fault = g;
-              tokens = to.fed.tokens;
-              known = known;
-              rejected = fault;
-              no_game = none;
-              wrote = subst (Appends before after) (sym gains.due_for) gains.appended;
-              is_result = is;
-            })
-        by_stops _ (unwritten at writing) is none =
-            NextOf.full (record {
-              at = at;
-              tokens = to.fed.tokens;
-              shown = shown_within s to.fed.tokens known;
-              stops = writing;
-              no_game = none;
-              is_result = is;
-            })
-    fault_fed new _ (too_long front rest cut place some (now, fed, same)) kept answer =
-        NextOf.too_long (record {
-          bytes = u ++ front;
-          rest = rest;
-          cut = ap (λ l. u ++ l) cut ∙ sym (append_assoc u front rest);
-          long = place;
-          some = some;
-          tokens = fed.tokens;
-          known = λ more. (coming now.lexer more, fed.stands.lexer.tokens more (subst (λ b. Follows b more) (sym (still_none front)) tt));
-          all_decided = λ less. fed.decided (omega (arith, less, ap (length {A = ℕ}) cut, length-append front rest));
-          passes = fed.stands.has_read.passes;
-          no_game = fed.no_game;
-          wrote = subst (Appends before after) (sym fed.gains.due_for) fed.gains.appended;
-          is_result = answer ∙ ap (fault_result 1 (record { at = 2 ^ 62; reason = InputTooLong })) (position_is new _ kept);
-        })
+            → Finds p s piece result new before after
+        by_stops g (refused _ fault gains) is none = (
+          NextOf.rejected (record {
+            fault = g;
+            tokens = to.fed.tokens;
+            known = known;
+            rejected = fault;
+            no_game = none;
+            wrote = subst (Appends before after) (sym gains.due_for) gains.appended;
+            is_result = is;
+          }),
+          tt,
+        )
+        by_stops _ (unwritten at writing) is none = (
+          NextOf.full (record {
+            at = at;
+            tokens = to.fed.tokens;
+            shown = shown_within s to.fed.tokens known;
+            stops = writing;
+            no_game = none;
+            is_result = is;
+          }),
+          tt,
+        )
+    fault_fed new _ (too_long front rest cut place some (now, fed, same)) kept answer = (
+      NextOf.too_long (record {
+        bytes = u ++ front;
+        rest = rest;
+        cut = ap (λ l. u ++ l) cut ∙ sym (append_assoc u front rest);
+        long = place;
+        some = some;
+        tokens = fed.tokens;
+        known = λ more. (coming now.lexer more, fed.stands.lexer.tokens more (subst (λ b. Follows b more) (sym (still_none front)) tt));
+        all_decided = λ less. fed.decided (omega (arith, less, ap (length {A = ℕ}) cut, length-append front rest));
+        passes = fed.stands.has_read.passes;
+        no_game = fed.no_game;
+        wrote = subst (Appends before after) (sym fed.gains.due_for) fed.gains.appended;
+        is_result = answer ∙ ap (fault_result 1 (record { at = 2 ^ 62; reason = InputTooLong })) (position_is new _ kept);
+      }),
+      tt,
+    )
 
     -- ---- the end of the text
 
@@ -246,7 +267,7 @@ module _ (mode : Mode) (missing : Marker) (u piece : List ℕ) (before : Option 
           (Appends-trans before middle after _ _ fed.gains.appended gains.appended)
 
       pub game_at_end : (new : Converter) (n : ℕ) → TextsEndBehindMarker → mid.lexer.count ≤ 2 ^ 62 → n ≡ length s
-          → Finishes p s fed.tokens new true middle after → Answered new n result → NextOf p s piece result before after
+          → Finishes p s fed.tokens new true middle after → Answered new n result → Finds p s piece result new before after
       game_at_end new n law few count fin answer =
           let last = law p mid s fed.tokens stands (fin.game.0 refl) in
           let game = last.finishes.game in
@@ -263,35 +284,39 @@ module _ (mode : Mode) (missing : Marker) (u piece : List ℕ) (before : Option 
           answer game mark.marker just
           (value_is new game (marker_text mark.marker) fin.has_read.profile just (ends_by.result ∙ ap Some mark.is_marker))
           ∙ ap (λ at. game_result game mark.marker at n) mark.place in
-          let end : result.end ≡ n = ap (λ (r : PgnGame). r.end) is in
-          NextOf.game (record {
-            tokens = fed.tokens;
-            at = last.marker;
-            marker = mark.marker;
-            game = game;
-            shown = AreShown.at_end (all_short few) _ (last.tokens ∙ sym (append_assoc fed.tokens (last.marker ∷ []) _));
-            none_before = fed.no_game;
-            passes = last.finishes.passes;
-            one_game = one;
-            is_marker = mark.is_marker;
-            ends = subst (EndsAt last.marker.kind last.marker.at) (sym end) ends;
-            settled = λ behind. absurd (omega (arith, behind, end, count));
-            wrote = subst (Appends before after)
-                (whole_of fin.has_read.passes ∙ ap (text_of p) (last.same ∙ one) ∙ append-nil (game_text p game)) (all_due fin.gains);
-            is_result = is ∙ ap (λ m. game_result game mark.marker last.marker.at m) (sym end);
-          })
+          let end : result.end ≡ n = ap (λ (r : PgnGame). r.end) is in (
+            NextOf.game (record {
+              tokens = fed.tokens;
+              at = last.marker;
+              marker = mark.marker;
+              game = game;
+              shown = AreShown.at_end (all_short few) _ (last.tokens ∙ sym (append_assoc fed.tokens (last.marker ∷ []) _));
+              none_before = fed.no_game;
+              passes = last.finishes.passes;
+              one_game = one;
+              is_marker = mark.is_marker;
+              ends = subst (EndsAt last.marker.kind last.marker.at) (sym end) ends;
+              settled = λ behind. absurd (omega (arith, behind, end, count));
+              wrote = subst (Appends before after)
+                  (whole_of fin.has_read.passes ∙ ap (text_of p) (last.same ∙ one) ∙ append-nil (game_text p game)) (all_due fin.gains);
+              is_result = is ∙ ap (λ m. game_result game mark.marker last.marker.at m) (sym end);
+            }),
+            (fin.has_read.profile, just),
+          )
 
       pub none_at_end : (new : Converter) → mid.lexer.count ≤ 2 ^ 62 → Finishes p s fed.tokens new false middle after
-          → result ≡ nothing 4 → NextOf p s piece result before after
+          → result ≡ nothing 4 → Finds p s piece result new before after
       none_at_end new few fin is =
-          let none : games_read p (tokens_of s) ≡ [] = by_games (games_read p (tokens_of s)) refl in
-          NextOf.no_game (record {
-            short = all_short few;
-            passes = fin.has_read.passes;
-            no_game = none;
-            wrote = subst (Appends before after) (whole_of fin.has_read.passes ∙ ap (text_of p) none) (all_due fin.gains);
-            is_result = is;
-          })
+          let none : games_read p (tokens_of s) ≡ [] = by_games (games_read p (tokens_of s)) refl in (
+            NextOf.no_game (record {
+              short = all_short few;
+              passes = fin.has_read.passes;
+              no_game = none;
+              wrote = subst (Appends before after) (whole_of fin.has_read.passes ∙ ap (text_of p) none) (all_due fin.gains);
+              is_result = is;
+            }),
+            tt,
+          )
         where
           by_games : (gs : List Game) → games_read p (tokens_of s) ≡ gs → games_read p (tokens_of s) ≡ []
           by_games [] is = is
@@ -299,7 +324,7 @@ module _ (mode : Mode) (missing : Marker) (u piece : List ℕ) (before : Option 
               let some : IsTrue false = fin.game.1 (omega (arith, ap (length {A = Game}) is, ap (length {A = Game}) fed.no_game)) in absurd (cc)
 
       pub fault_at_end : (new : Converter) (f : Fault) → mid.lexer.count ≤ 2 ^ 62 → FinishesToFault p s fed.tokens new f middle after → new.fault ≡ Some f
-          → result ≡ fault_result (status_for 5 f.reason) f (refused_position new) → NextOf p s piece result before after
+          → result ≡ fault_result (status_for 5 f.reason) f (refused_position new) → Finds p s piece result new before after
       unfolding writing_more
       fault_at_end new f few fin kept answer =
           by_stops f fin.stops (answer ∙ ap (fault_result (status_for 5 f.reason) f) (position_is new f kept ∙ fin.position))
@@ -307,27 +332,31 @@ module _ (mode : Mode) (missing : Marker) (u piece : List ℕ) (before : Option 
         where
           by_stops : (g : Fault) (stops : Stops p fed.tokens (tokens_of s) middle after g)
               → result ≡ fault_result (status_for 5 g.reason) g (position_at_stop stops) → games_before stops ≡ []
-              → NextOf p s piece result before after
-          by_stops g (refused _ fault gains) is none =
-              NextOf.needs_more (record {
-                short = all_short few;
-                fault = g;
-                tokens = fed.tokens;
-                known = known;
-                passes = fed.stands.has_read.passes;
-                none_yet = fed.no_game;
-                all_decided = fed.decided;
-                rejected = fault;
-                no_game = none;
-                wrote = all_due gains;
-                is_result = is;
-              })
-          by_stops _ (unwritten at writing) is none =
-              NextOf.full (record {
-                at = at;
-                tokens = tokens_of s;
-                shown = AreShown.at_end (all_short few) [] (sym (append-nil (tokens_of s)));
-                stops = writing_more p [] fed.tokens (tokens_of s) at before middle after fed.gains writing;
-                no_game = none;
-                is_result = is;
-              })
+              → Finds p s piece result new before after
+          by_stops g (refused _ fault gains) is none = (
+            NextOf.needs_more (record {
+              short = all_short few;
+              fault = g;
+              tokens = fed.tokens;
+              known = known;
+              passes = fed.stands.has_read.passes;
+              none_yet = fed.no_game;
+              all_decided = fed.decided;
+              rejected = fault;
+              no_game = none;
+              wrote = all_due gains;
+              is_result = is;
+            }),
+            tt,
+          )
+          by_stops _ (unwritten at writing) is none = (
+            NextOf.full (record {
+              at = at;
+              tokens = tokens_of s;
+              shown = AreShown.at_end (all_short few) [] (sym (append-nil (tokens_of s)));
+              stops = writing_more p [] fed.tokens (tokens_of s) at before middle after fed.gains writing;
+              no_game = none;
+              is_result = is;
+            }),
+            tt,
+          )

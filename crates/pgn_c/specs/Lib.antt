@@ -5,3 +5,4 @@ pub mod Explanation
 pub mod TagAt
 pub mod TagScan
 pub mod NextGame
+pub mod NextGameSteps

@@ -1,10 +1,10 @@
 -- **Definition**: the next game of a text, as C gets it.
--- Letters: p is the profile, f a fault. `text` is the text of a call, and `from` the place where it
+-- Letters: p is the profile, g a game, f a fault. `text` is the text of a call, and `from` the place where it
 -- is read from. s is that text with white space in place of the bytes before this place, and
 -- `piece` has its bytes from the place on. `found` is the result before its bytes written are
 -- counted. `before` and `after` are the bytes that were written, before the call and after it, if
 -- they are kept; from `ConvertsNext` on they are the bytes of the buffer.
-use Rattle.std.specs.Prelude.{◌≡◌, ◌≢◌, ℕ, ◌+◌, ◌-◌, ◌^◌, ◌<◌, ◌≤◌, ◌==◌, ◌||◌, ◌&&◌, ◌⊎◌, Bool, List, [], ◌∷◌, ◌++◌, length, take, drop, slice_index_or, decimal, Option, Some, None}
+use Rattle.std.specs.Prelude.{◌≡◌, ◌≢◌, ℕ, ◌+◌, ◌-◌, ◌^◌, ◌<◌, ◌≤◌, ◌==◌, nat_lt, if◌then◌else◌, ◌||◌, ◌&&◌, ◌⊎◌, Bool, List, [], ◌∷◌, ◌++◌, length, take, drop, slice_index_or, decimal, Option, Some, None}
 use Rattle.std.specs.Io.KnownBytes.{Appends}
 use Rattle.chess_rules.specs.declared.position.Parts.{Parts}
 use Rattle.chess_text.specs.Fen.{fen_text}
@@ -20,7 +20,8 @@ use Rattle.pgn_game.specs.declared.reason.Reason.{Reason}
 use Rattle.pgn_game.specs.declared.reason.Reason.TheVariants.{WriteFault, InputTooLong}
 use Rattle.pgn_game.specs.declared.reason.Fault.{Fault}
 use Rattle.pgn_game.specs.Markers.{marker_text}
-use Rattle.pgn_game.specs.Profile.{Profile, counting}
+use Rattle.pgn_game.specs.Profile.{Profile, counting, known_result}
+use Rattle.pgn_game.specs.TagSection.{tag_section}
 use Rattle.pgn_game.specs.Checked.{checked_profile}
 use Rattle.pgn_game.specs.Reason.{number_of, line_of}
 use Rattle.pgn_game.specs.Game.{Game}
@@ -210,6 +211,17 @@ ReadsNext mode marker text from found = NextOf (profile_counting mode marker) (t
 abbrev pub IsOtherResult : Mode → Marker → List ℕ → ℕ → Type 0
 IsOtherResult mode marker text from = (found : PgnGame) × ReadsNext mode marker text from found × (found.fault ≡ 41)
 
+-- Which marker seems to be at the place, by its first two bytes. It is only a guess, with which the
+-- game is read next: what is found by it is as `NextOf` says, or every marker is tried.
+abbrev pub marker_of_bytes : ℕ → ℕ → Marker
+marker_of_bytes first second =
+    if first == 48 then BlackWins
+    else (if (first == 49) && (second == 45) then WhiteWins else (if (first == 49) && (second == 47) then Draw else Unknown))
+
+abbrev pub marker_at : List ℕ → ℕ → Marker
+marker_at text place =
+    if nat_lt (place + 1) (length text) then marker_of_bytes (slice_index_or text place 0) (slice_index_or text (place + 1) 0) else Unknown
+
 -- the profile of a call in which a missing Result takes the marker
 abbrev pub profile_taking : Mode → Profile
 profile_taking mode = checked_profile 64 32 mode
@@ -265,3 +277,61 @@ pub record NextGame (mode : Mode) (missing_result : ℕ) (text : List ℕ) (from
 abbrev pub NextGameIn : Option Mode → ℕ → List ℕ → ℕ → List ℕ → List ℕ → PgnGame → Type 0
 NextGameIn (Some mode) missing_result text from before after result = NextGame mode missing_result text from before after result
 NextGameIn None missing_result text from before after result = (after ≡ before) × (result ≡ nothing 3)
+
+-- ---- the tag section of the next game
+
+-- the tag section of a game, with the empty line after it
+abbrev pub section_of : Profile → Game → List ℕ
+section_of p g = tag_section p.mode (known_result p.missing_result) g.pairs
+
+-- The result if the buffer is full before the section is written: the status is 2, the fault is
+-- that a write failed, and the place is that of the game's marker.
+abbrev pub section_full : PgnGame → ℕ → PgnGame
+section_full found written =
+    record (fault_result 2 (record { at = found.marker_at; reason = WriteFault }) None) { written = written }
+
+-- The section was written. The buffer begins with as many of its bytes as have room, and its other
+-- bytes are as they were. The result is the one that was found if all of them have room, and else
+-- that the buffer is full.
+pub record WritesSection (section : List ℕ) (found : PgnGame) (before after : List ℕ) (result : PgnGame) : Type 0 where
+  pub filled : IsFilled before after (take (length before) section)
+  pub fits : length section ≤ length before → result ≡ record found { written = length section }
+  pub full : length before < length section → result ≡ section_full found (length before)
+
+-- if a game was found, its section is written; if not, nothing is, and the result is what was found
+abbrev pub WritesTags : {p : Profile} {s piece : List ℕ} {found : PgnGame} {old new : Option (List ℕ)}
+    → NextOf p s piece found old new → List ℕ → List ℕ → PgnGame → Type 0
+WritesTags {p} {found = found} (NextOf.game is) before after result = WritesSection (section_of p is.game) found before after result
+WritesTags {found = found} _ before after result = (after ≡ before) × (result ≡ found)
+
+-- The next game is read with a missing Result that counts as this marker, and its tag section is
+-- written. The reading writes nothing, so its status is never 2.
+pub record ReadsTags (mode : Mode) (marker : Marker) (text : List ℕ) (from : ℕ) (before after : List ℕ) (result : PgnGame) : Type 0 where
+  pub found : PgnGame
+  pub reads : ReadsNext mode marker text from found
+  pub not_full : found.status ≢ 2
+  pub writes : WritesTags reads before after result
+
+-- A missing Result takes the marker: it is read and written so with some marker. If the fault is
+-- that the Result is not the marker (41), it is so whichever marker a missing Result counts as.
+pub record ReadsTagsByMarker (mode : Mode) (text : List ℕ) (from : ℕ) (before after : List ℕ) (result : PgnGame) : Type 0 where
+  pub marker : Marker
+  pub tags : ReadsTags mode marker text from before after result
+  pub by_each : tags.found.fault ≡ 41 → (other : Marker) → IsOtherResult mode other text from
+
+-- The next game in a mode, of which the tag section is written. If `missing_result` is 0, a missing
+-- Result counts as `*`; if it is 1, it takes the marker. With another number the status is 3. With a
+-- place after the end of the text or above 2^62 it is 6. In both cases nothing is written.
+pub record ReadGame (mode : Mode) (missing_result : ℕ) (text : List ℕ) (from : ℕ) (before after : List ℕ) (result : PgnGame) : Type 0 where
+  pub no_mode : 1 < missing_result → (after ≡ before) × (result ≡ nothing 3)
+  pub bad_place : missing_result ≤ 1 → (length text < from) ⊎ (2 ^ 62 < from)
+      → (after ≡ before) × (result ≡ nothing 6)
+  pub counts_as_unknown : missing_result ≡ 0 → from ≤ length text → from ≤ 2 ^ 62
+      → ReadsTags mode Unknown text from before after result
+  pub takes_the_marker : missing_result ≡ 1 → from ≤ length text → from ≤ 2 ^ 62
+      → ReadsTagsByMarker mode text from before after result
+
+-- the same for a mode, if there is one; without one the status is 3, and nothing is written
+abbrev pub ReadGameIn : Option Mode → ℕ → List ℕ → ℕ → List ℕ → List ℕ → PgnGame → Type 0
+ReadGameIn (Some mode) missing_result text from before after result = ReadGame mode missing_result text from before after result
+ReadGameIn None missing_result text from before after result = (after ≡ before) × (result ≡ nothing 3)

@@ -78,13 +78,24 @@ pub fn finished_game(converter: &Converter<TAGS, LEVELS>, end: usize) -> PgnGame
     }
 }
 
-/// The result for a fault, which has this status unless the buffer is full.
+/// The result for a fault of the converter, which has this status unless the buffer is full.
 ///
 /// The bytes written are not counted yet.
 #[inline(always)]
 pub fn refused_game(converter: &Converter<TAGS, LEVELS>, fault: Fault, status: u32) -> PgnGame
     ensures { result ≡ fault_result (spec.status_for status fault.reason) fault
         (refused_position converter.now) }
+{
+    fault_game(fault, status, converter.refused_position())
+}
+
+/// The result for a fault, which has this status unless the buffer is full, with a position.
+///
+/// The bytes written are not counted yet.
+#[inline(always)]
+pub fn fault_game(fault: Fault, status: u32, position: Option<&Position>) -> PgnGame
+    ensures { result ≡ fault_result (spec.status_for status fault.reason) fault
+        (option_copied position.entry) }
 {
     PgnGame {
         status: status_for(status, fault.reason),
@@ -97,7 +108,7 @@ pub fn refused_game(converter: &Converter<TAGS, LEVELS>, fault: Fault, status: u
         reason_at: 7 + Buffer::new().format(fault.at).len(),
         marker: 0,
         message: padded(fault.line().as_slice()),
-        fen: fen_of(converter.refused_position()),
+        fen: fen_of(position),
     }
 }
 

@@ -15,7 +15,7 @@ ghost use Rattle.std.specs.Prelude.{◌≡◌};
 ghost use Rattle.chess_text.specs.Fen.{read};
 ghost use Rattle.pgn_c.specs.Explanation.{explanation};
 ghost use Rattle.pgn_c.specs.Positions.{Normalizes, san_result};
-ghost use Rattle.pgn_c.specs.NextGame.{NextGameIn};
+ghost use Rattle.pgn_c.specs.NextGame.{NextGameIn, ReadGameIn};
 ghost use Rattle.pgn_c.specs.Results.{Checks, Converts, ConvertsIn, mode_of, result_of};
 ghost use Rattle.pgn_c.specs.TagAt.{TagResult};
 
@@ -25,6 +25,7 @@ mod fen;
 mod game_result;
 mod next_game;
 mod pgn_result;
+mod read_game;
 mod san;
 mod tag;
 
@@ -37,6 +38,7 @@ pub use crate::game_result::PgnGame;
 use crate::next_game::next_game;
 pub use crate::pgn_result::PgnResult;
 use crate::pgn_result::{fault_result, no_mode, totals_result};
+use crate::read_game::read_game;
 pub use crate::san::PgnMove;
 use crate::san::{name_move, no_position};
 pub use crate::tag::PgnTag;
@@ -60,10 +62,7 @@ const LEVELS: usize = 33;
 pub extern "C" fn pgn_check(text: &[u8]) -> PgnResult
     ensures { Checks text.now result }
 {
-    result_for(
-        check_slice::<TAGS, LEVELS>(text, Mode::Full),
-        0,
-    )
+    result_for(check_slice::<TAGS, LEVELS>(text, Mode::Full), 0)
 }
 
 /// Converts the games of a text from import format to export format, into the front of a buffer.
@@ -152,6 +151,29 @@ pub extern "C" fn pgn_next_game(
     ensures { NextGameIn (mode_of mode) missing_result text.now from buffer.old buffer.new result }
 {
     next_game(text, from, mode_with_number(mode), missing_result, buffer)
+}
+
+/// Reads the next game of a text, from the byte at `from` on, and writes its tag section.
+///
+/// Arguments, statuses and results are those of `pgn_next_game`. But the buffer gets the tag section
+/// and its empty line alone, as `pgn_next_game` writes them, and nothing of a game at fault. No move
+/// is written, so that a game is read in less time.
+///
+/// - Status 0: a game. The buffer has its tag section.
+/// - Status 2: the section is longer than the buffer, which has as many of its bytes as there is
+///   room for. The fault is 51, and its place is that of the game's marker.
+/// - Any other status: nothing was written.
+#[unsafe(no_mangle)]
+pub extern "C" fn pgn_read_game(
+    text: &[u8],
+    from: usize,
+    mode: u32,
+    missing_result: u32,
+    buffer: &mut [u8],
+) -> PgnGame
+    ensures { ReadGameIn (mode_of mode) missing_result text.now from buffer.old buffer.new result }
+{
+    read_game(text, from, mode_with_number(mode), missing_result, buffer)
 }
 
 /// Finds the tag pair on the line of an export text that begins at a place (PGN 8.1).

@@ -1,9 +1,11 @@
 //! The next game of a text.
-ghost use Rattle.std.specs.Prelude.{◌≡◌, ◌≢◌, ◌≤◌, ◌^◌, ◌↔◌, IsTrue, length, drop};
-ghost use Rattle.pgn_layout.specs.Device.{one_more};
+ghost use Rattle.std.specs.Prelude.{◌≡◌, ◌≢◌, ◌≤◌, ◌^◌, ◌↔◌, None, false, IsTrue, length, drop};
+ghost use Rattle.pgn_layout.specs.Device.{FailsOnce, one_more};
+ghost use Rattle.pgn_game.specs.ReaderState.{sink_of};
 ghost use Rattle.pgn_game.specs.declared.marker.Marker.{Marker as CodeMarker};
 ghost use Rattle.pgn_c.specs.NextGame.{ChecksNext, ConvertsNext, IsOtherResult, NextGameIn, NextOf, ReadsNext};
 ghost use Rattle.pgn_c.specs.NextGame.{profile_counting, text_from};
+ghost use Rattle.pgn_c.specs.NextGameSteps.{BeginsAt, ReadsTo, RunsNext};
 ghost use Rattle.pgn_lexer.specs.TokensOf.{has_mark};
 ghost use Rattle.pgn_c.specs.NextGame as spec;
 
@@ -18,7 +20,7 @@ use pgn_game::{Converter, Fed, Marker, Mode, Nowhere, Reason, Sink};
 use std::marker::{Brand, PhantomData};
 
 /// The last place from which a text can be read.
-const LAST_PLACE: u64 = 1 << 62;
+pub const LAST_PLACE: u64 = 1 << 62;
 
 /// Converts the next game in this format into the front of a buffer.
 #[inline(always)]
@@ -55,23 +57,17 @@ fn check_next(text: &[u8], from: usize, mode: Mode, buffer: &mut [u8]) -> PgnGam
     ensures { ChecksNext mode text.now from buffer.old buffer.new result }
 {
     missing_results();
-    let read = read_by_marker(text, from, mode);
+    let read = read_alone(text, from, mode);
     if read.found.status == OK {
         return convert_next(text, from, mode, read.marker, buffer);
     }
     read.found
 }
 
-/// What the next game is by a marker, which a missing Result counts as.
-#[derive(Clone, Copy)]
-struct ByMarker {
-    marker: Marker,
-    found: PgnGame,
-}
-
-// Reads the next game, and counts a missing Result as each marker in turn, until the marker of the
-// game is not rejected for it.
-fn read_by_marker(text: &[u8], from: usize, mode: Mode) -> ByMarker
+// Reads the next game, in which a missing Result takes the marker, and writes nothing. It is not
+// inlined: so its converter is gone when the game is converted.
+#[inline(never)]
+fn read_alone(text: &[u8], from: usize, mode: Mode) -> ByMarker
     requires within { from ≤ length text.now }
     requires place { from ≤ 2 ^ 62 }
     ensures next { ReadsNext mode result.marker text.now from result.found }
@@ -79,33 +75,115 @@ fn read_by_marker(text: &[u8], from: usize, mode: Mode) -> ByMarker
     ensures by_each { result.found.fault ≡ 41 → (marker : CodeMarker)
         → IsOtherResult mode marker text.now from }
 {
-    let unknown = read_counting(text, from, mode, Marker::Unknown);
+    let mut converter = Converter::<TAGS, LEVELS>::new(mode);
+    read_by_marker(text, from, mode, &mut converter)
+}
+
+/// What the next game is by a marker, which a missing Result counts as.
+#[derive(Clone, Copy)]
+pub struct ByMarker {
+    pub marker: Marker,
+    pub found: PgnGame,
+}
+
+// Reads the next game, and counts a missing Result as the marker of the game. It is read once with
+// `*`, and a second time with the marker that the text seems to have where the Result differs.
+pub fn read_by_marker(
+    text: &[u8],
+    from: usize,
+    mode: Mode,
+    converter: &mut Converter<TAGS, LEVELS>,
+) -> ByMarker
+    requires within { from ≤ length text.now }
+    requires place { from ≤ 2 ^ 62 }
+    ensures reads { ReadsTo mode result.marker text.now from result.found converter.new }
+    ensures not_full { result.found.status ≢ 2 }
+    ensures by_each { result.found.fault ≡ 41 → (marker : CodeMarker)
+        → IsOtherResult mode marker text.now from }
+{
+    let unknown = read_counting(text, from, mode, Marker::Unknown, converter);
     if !has_other_result(&unknown.found) {
         return unknown;
     }
-    let white = read_counting(text, from, mode, Marker::WhiteWins);
+    let marker = marker_at(text, unknown.found.place as usize);
+    let seen = read_counting(text, from, mode, marker, converter);
+    if !has_other_result(&seen.found) {
+        return seen;
+    }
+    read_by_each(text, from, mode, converter)
+}
+
+// Reads the next game, and counts a missing Result as each marker in turn, until the marker of the
+// game is not rejected for it.
+#[inline(never)]
+fn read_by_each(
+    text: &[u8],
+    from: usize,
+    mode: Mode,
+    converter: &mut Converter<TAGS, LEVELS>,
+) -> ByMarker
+    requires within { from ≤ length text.now }
+    requires place { from ≤ 2 ^ 62 }
+    ensures reads { ReadsTo mode result.marker text.now from result.found converter.new }
+    ensures not_full { result.found.status ≢ 2 }
+    ensures by_each { result.found.fault ≡ 41 → (marker : CodeMarker)
+        → IsOtherResult mode marker text.now from }
+{
+    let unknown = read_counting(text, from, mode, Marker::Unknown, converter);
+    if !has_other_result(&unknown.found) {
+        return unknown;
+    }
+    let white = read_counting(text, from, mode, Marker::WhiteWins, converter);
     if !has_other_result(&white.found) {
         return white;
     }
-    let black = read_counting(text, from, mode, Marker::BlackWins);
+    let black = read_counting(text, from, mode, Marker::BlackWins, converter);
     if !has_other_result(&black.found) {
         return black;
     }
-    read_counting(text, from, mode, Marker::Draw)
+    read_counting(text, from, mode, Marker::Draw, converter)
 }
 
-// Reads the next game. A missing Result counts as this marker.
-fn read_counting(text: &[u8], from: usize, mode: Mode, marker: Marker) -> ByMarker
+// The marker that seems to be at the place, by its first two bytes.
+fn marker_at(text: &[u8], place: usize) -> Marker
+    ensures { result ≡ spec.marker_at text.now place }
+{
+    if place >= text.len() || place + 1 >= text.len() {
+        return Marker::Unknown;
+    }
+    let first = text[place];
+    let second = text[place + 1];
+    if first == b'0' {
+        return Marker::BlackWins;
+    }
+    if first == b'1' && second == b'-' {
+        return Marker::WhiteWins;
+    }
+    if first == b'1' && second == b'/' {
+        return Marker::Draw;
+    }
+    Marker::Unknown
+}
+
+// Reads the next game, and writes nothing. A missing Result counts as this marker. The converter is
+// made anew, and then holds the game.
+pub fn read_counting(
+    text: &[u8],
+    from: usize,
+    mode: Mode,
+    marker: Marker,
+    converter: &mut Converter<TAGS, LEVELS>,
+) -> ByMarker
     requires within { from ≤ length text.now }
     requires place { from ≤ 2 ^ 62 }
     ensures marker { result.marker ≡ marker }
-    ensures next { ReadsNext mode marker text.now from result.found }
+    ensures reads { ReadsTo mode marker text.now from result.found converter.new }
     ensures not_full { result.found.status ≢ 2 }
 {
-    ByMarker {
-        marker,
-        found: read_next(text, from, mode, marker, &mut Nowhere),
-    }
+    *converter = converter_at(text, from, mode, marker);
+    converter.write_nothing();
+    let found = run_next(converter, text, from, &mut Nowhere);
+    ByMarker { marker, found }
 }
 
 // Whether the game has another Result than its marker.
@@ -168,20 +246,55 @@ fn read_next<W: Sink>(text: &[u8], from: usize, mode: Mode, missing: Marker, out
     ensures full { result.status ≡ 2
         → W.failures out.new ≡ one_more (W.failures out.old) }
 {
-    games_end_by_marker();
-    texts_end_behind_marker();
-    texts_end_between_games();
+    let mut converter = converter_at(text, from, mode, missing);
+    run_next(&mut converter, text, from, out)
+}
+
+// Makes a converter that begins at the place. A missing Result counts as this marker.
+#[inline(always)]
+fn converter_at(text: &[u8], from: usize, mode: Mode, missing: Marker) -> Converter<TAGS, LEVELS>
+    requires within { from ≤ length text.now }
+    requires place { from ≤ 2 ^ 62 }
+    ensures begins { BeginsAt mode missing text.now from result }
+    ensures count { result.lexer.count ≡ from }
+    ensures not_finished { result.is_finished ≡ false }
+    ensures writes { result.reading.writing.is_silent ≡ false }
+{
     let place = is_first_column(text, from);
     let mut converter = Converter::<TAGS, LEVELS>::begin_at(mode, from as u64, place);
     converter.count_missing_result_as(missing);
+    converter
+}
+
+// Finds the next game with a converter that begins at the place.
+#[inline(always)]
+fn run_next<W: Sink>(
+    converter: &mut Converter<TAGS, LEVELS>,
+    text: &[u8],
+    from: usize,
+    out: &mut W,
+) -> PgnGame
+    requires within { from ≤ length text.now }
+    requires place { from ≤ 2 ^ 62 }
+    requires count { converter.old.lexer.count ≡ from }
+    requires not_finished { converter.old.is_finished ≡ false }
+    requires no_fault { converter.old.fault ≡ None }
+    ensures runs { RunsNext converter.old text.now from result converter.new
+        (sink_of converter.old.reading W.taken W.failures out.old out.new) }
+    ensures full { result.status ≡ 2
+        → FailsOnce (sink_of converter.old.reading W.taken W.failures out.old out.new) }
+{
+    games_end_by_marker();
+    texts_end_behind_marker();
+    texts_end_between_games();
     match converter.feed(&text[from..], out) {
-        Ok(Fed::Game(used)) => finished_game(&converter, from + used),
+        Ok(Fed::Game(used)) => finished_game(&*converter, from + used),
         Ok(Fed::All) => match converter.finish(out) {
-            Ok(true) => finished_game(&converter, text.len()),
+            Ok(true) => finished_game(&*converter, text.len()),
             Ok(false) => no_game(NO_GAME),
-            Err(fault) => refused_game(&converter, fault, MORE),
+            Err(fault) => refused_game(&*converter, fault, MORE),
         },
-        Err(fault) => refused_game(&converter, fault, FAULT),
+        Err(fault) => refused_game(&*converter, fault, FAULT),
     }
 }
 

@@ -3,7 +3,7 @@ use Rattle.pgn_c.proofs.next_game.check_next.Goals as goal
 
 pub returns-then-read-eq-OK : goal.returns-then-read-eq-OK
 returns-then-read-eq-OK c =
-    let read = c.read_by_marker-read in record {
+    let read = c.read_alone-read in record {
       marker = read.result.marker;
       found = read.result.found;
       reads = read.ensures.next;

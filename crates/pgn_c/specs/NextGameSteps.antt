@@ -1,0 +1,40 @@
+-- **Bookkeeping**: the converter with which the next game is read.
+-- Letters: p is the profile, c a converter. `text` is the text of a call, and `from` the place where
+-- it is read from. s is that text with white space in place of the bytes before this place, and
+-- `piece` has its bytes from the place on. `found` is the result before its bytes written are
+-- counted. `old` and `new` are the converter before a call and after it, and `sink` the sink.
+-- `before` and `after` are the bytes that the sink has taken then, if they are kept.
+use Rattle.std.specs.Prelude.{◌≡◌, ℕ, List, [], drop, Option, Some, None}
+use Rattle.pgn_layout.specs.Device.{Device}
+use Rattle.pgn_lexer.specs.WhiteSpace.{white_space}
+use Rattle.pgn_game.specs.declared.marker.Marker.{Marker}
+use Rattle.pgn_game.specs.declared.mode.Mode.{Mode}
+use Rattle.pgn_game.specs.Profile.{Profile}
+use Rattle.pgn_game.specs.ConverterCalls.{Converter, Stands, finished_game_of}
+use Rattle.pgn_c.specs.declared.game_result.PgnGame.{PgnGame}
+use Rattle.pgn_c.specs.NextGame.{NextOf, in_first_column, profile_counting, text_from}
+
+-- The converter has read nothing, and begins at the place. A missing Result counts as the marker.
+abbrev pub BeginsAt : Mode → Marker → List ℕ → ℕ → Converter → Type 0
+BeginsAt mode marker text from c = Stands (profile_counting mode marker) c (white_space from (in_first_column text from)) None []
+
+-- if a game is found, it is the one that the converter has just finished
+abbrev pub Holds : {p : Profile} {s piece : List ℕ} {found : PgnGame} {before after : Option (List ℕ)}
+    → NextOf p s piece found before after → Converter → Type 0
+Holds {p} (NextOf.game is) c = (c.reading.profile ≡ p) × (c.just_finished ≡ Some (finished_game_of is.game))
+Holds _ c = Unit {0}
+
+-- what is found, and written, by a converter
+abbrev pub Finds : Profile → (s piece : List ℕ) → PgnGame → Converter → Option (List ℕ) → Option (List ℕ) → Type 0
+Finds p s piece found new before after = (next : NextOf p s piece found before after) × Holds next new
+
+-- a converter that begins at the place, by any mode and marker, finds the next game
+abbrev pub RunsNext : Converter → List ℕ → ℕ → PgnGame → Converter → Device → Type 0
+RunsNext old text from found new sink =
+    (mode : Mode) (marker : Marker) → BeginsAt mode marker text from old
+    → Finds (profile_counting mode marker) (text_from text from) (drop from text) found new sink.before sink.after
+
+-- the next game is read, and nothing is written
+abbrev pub ReadsTo : Mode → Marker → List ℕ → ℕ → PgnGame → Converter → Type 0
+ReadsTo mode marker text from found new =
+    Finds (profile_counting mode marker) (text_from text from) (drop from text) found new None None
