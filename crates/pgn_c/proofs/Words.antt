@@ -1,6 +1,6 @@
 -- The words that proofs of this crate name, under one path.
 pub use Rattle.pgn_c.specs.NextGame.{AreKnown, ConvertsNext, IsGame, IsOtherResult, NextOf, TakesMarker, fault_result, game_result, nothing}
-pub use Rattle.pgn_c.specs.NextGameSteps.{Finds, Holds, ReadsTo, RunsNext}
+pub use Rattle.pgn_c.specs.NextGameSteps.{Finds, Holds, ReadsTo}
 pub use Rattle.pgn_c.specs.NextGame.{profile_counting, profile_taking, status_for, text_from}
 pub use Rattle.pgn_c.specs.Results.{IsFilled, padded, profile_in, result_of, status_of}
 pub use Rattle.pgn_c.specs.TagAt.{BeginsWithTag, TagResult, no_tag}
@@ -20,7 +20,7 @@ pub use Rattle.pgn_game.specs.declared.mode.Mode.{Mode}
 pub use Rattle.pgn_game.specs.declared.reason.Fault.{Fault}
 pub use Rattle.pgn_game.specs.declared.reason.Reason.{Reason}
 pub use Rattle.pgn_game.specs.declared.reason.Reason.TheVariants.{InputTooLong, WriteFault}
-pub use Rattle.pgn_layout.specs.Device.{Device, nowhere}
+pub use Rattle.pgn_layout.specs.Device.{Device}
 pub use Rattle.pgn_lexer.specs.Tokens.{EndsAt, Kind, Token}
 pub use Rattle.pgn_lexer.specs.TokensOf.{tokens_of}
 pub use Rattle.std.proofs.Common.{Bool, Err, IsTrue, List, None, Ok, OnOk, Option, Result, Some, [], ap, append-nil, append_assoc, ap₂, arith, bytes_eq, codes, drop, false, inl, inr, length, length-append, map, min, refl, replicate, subst, sym, take, true, ℕ, ◌&&◌, ◌++◌, ◌+◌, ◌-◌, ◌<◌, ◌^◌, ◌||◌, ◌∙◌, ◌∷◌, ◌≡◌, ◌≢◌, ◌≤◌, ◌⊎◌}

@@ -1,9 +1,9 @@
 -- **Definition**: the next game of a text, as C gets it.
--- Letters: p is the profile, g a game, f a fault. `text` is the text of a call, and `from` the place where it
--- is read from. s is that text with white space in place of the bytes before this place, and
--- `piece` has its bytes from the place on. `found` is the result before its bytes written are
--- counted. `before` and `after` are the bytes that were written, before the call and after it, if
--- they are kept; from `ConvertsNext` on they are the bytes of the buffer.
+-- Letters: p is the profile, g a game, f a fault. `text` is the text of a call, and `from` the
+-- place where it is read from. s is that text with white space in place of the bytes before this
+-- place, and `piece` has its bytes from the place on. `found` is the result before its bytes
+-- written are counted. `before` and `after` are the bytes that were written, before the call and
+-- after it, if they are kept; from `ConvertsNext` on they are the bytes of the buffer.
 use Rattle.std.specs.Prelude.{◌≡◌, ◌≢◌, ℕ, ◌+◌, ◌-◌, ◌^◌, ◌<◌, ◌≤◌, ◌==◌, nat_lt, if◌then◌else◌, ◌||◌, ◌&&◌, ◌⊎◌, Bool, List, [], ◌∷◌, ◌++◌, length, take, drop, slice_index_or, decimal, Option, Some, None}
 use Rattle.std.specs.Io.KnownBytes.{Appends}
 use Rattle.chess_rules.specs.declared.position.Parts.{Parts}
@@ -320,8 +320,8 @@ pub record ReadsTagsByMarker (mode : Mode) (text : List ℕ) (from : ℕ) (befor
   pub by_each : tags.found.fault ≡ 41 → (other : Marker) → IsOtherResult mode other text from
 
 -- The next game in a mode, of which the tag section is written. If `missing_result` is 0, a missing
--- Result counts as `*`; if it is 1, it takes the marker. With another number the status is 3. With a
--- place after the end of the text or above 2^62 it is 6. In both cases nothing is written.
+-- Result counts as `*`; if it is 1, it takes the marker. With another number the status is 3. With
+-- a place after the end of the text or above 2^62 it is 6. In both cases nothing is written.
 pub record ReadGame (mode : Mode) (missing_result : ℕ) (text : List ℕ) (from : ℕ) (before after : List ℕ) (result : PgnGame) : Type 0 where
   pub no_mode : 1 < missing_result → (after ≡ before) × (result ≡ nothing 3)
   pub bad_place : missing_result ≤ 1 → (length text < from) ⊎ (2 ^ 62 < from)

@@ -1,7 +1,7 @@
 -- **Bookkeeping**: the converter with which the next game is read.
--- Letters: p is the profile, c a converter. `text` is the text of a call, and `from` the place where
--- it is read from. s is that text with white space in place of the bytes before this place, and
--- `piece` has its bytes from the place on. `found` is the result before its bytes written are
+-- Letters: p is the profile, c a converter. `text` is the text of a call, and `from` the place
+-- where it is read from. s is that text with white space in place of the bytes before this place,
+-- and `piece` has its bytes from the place on. `found` is the result before its bytes written are
 -- counted. `old` and `new` are the converter before a call and after it, and `sink` the sink.
 -- `before` and `after` are the bytes that the sink has taken then, if they are kept.
 use Rattle.std.specs.Prelude.{◌≡◌, ℕ, List, [], drop, Option, Some, None}

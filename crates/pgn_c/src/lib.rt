@@ -155,9 +155,9 @@ pub extern "C" fn pgn_next_game(
 
 /// Reads the next game of a text, from the byte at `from` on, and writes its tag section.
 ///
-/// Arguments, statuses and results are those of `pgn_next_game`. But the buffer gets the tag section
-/// and its empty line alone, as `pgn_next_game` writes them, and nothing of a game at fault. No move
-/// is written, so that a game is read in less time.
+/// Arguments, statuses and results are those of `pgn_next_game`. But the buffer gets the tag
+/// section and its empty line alone, as `pgn_next_game` writes them, and nothing of a game at
+/// fault. No move is written, so that a game is read in less time.
 ///
 /// - Status 0: a game. The buffer has its tag section.
 /// - Status 2: the section is longer than the buffer, which has as many of its bytes as there is

@@ -52,7 +52,7 @@ pub use Rattle.pgn_game.specs.Levels.{Level, Levels, back_to, depth, first_level
 pub use Rattle.pgn_game.specs.Levels.{plies_of, replayed, start_of, without_last}
 pub use Rattle.pgn_game.specs.Markers.{marker_text, missing_of}
 pub use Rattle.pgn_game.specs.Written.{bytes_seen, failures_seen, is_nothing, mode_of_written, mode_unless, seen}
-pub use Rattle.pgn_game.specs.Movetext.{HoldsLine, HoldsLineOf, ClosesLevel, FitsLevelStore, HoldsItems, Movetext, StoredLevel, StoredLevels, before_last, code_levels, ends_in_move, inside, level_at, level_of, movetext_after_fen, movetext_from, nearest_first, only_level, places_of, stored_level, stored_levels}
+pub use Rattle.pgn_game.specs.Movetext.{HoldsLineOf, ClosesLevel, FitsLevelStore, HoldsItems, Movetext, StoredLevel, StoredLevels, before_last, code_levels, ends_in_move, inside, level_at, level_of, movetext_after_fen, movetext_from, nearest_first, only_level, places_of, stored_level, stored_levels}
 pub use Rattle.pgn_game.specs.Progress.{Next, Progress, Read, at_stage, going, in_text, items_of, move_item, next, next_in, no_progress, output, progress_after, progress_with, read, read_from, refused, totals, verdict, whole, due, verdict_of, written as written_so_far, position_at_fault}
 pub use Rattle.pgn_game.specs.PutResult.{BeginsText, Goes, Keeps, PutResult, PutsItems, TakesOutside, TakesToken, at_game_start, gain_to, section_due, section_due_of, CountsMove, EntersMovetext, Finds, FinishesNone, GoesTo, Takes, TakesEntry, TakesUnwritten, counting_probes, unused}
 pub use Rattle.pgn_game.specs.ReaderState.{KeepsSilence, Writing, mode_written, silenced, sink_of, telling, Accepted, More, Finished, Agrees, AreSound, CountsWrites, FinishesAtMarker, HoldsPairs, HoldsText, IsBehind, ReaderState, as_written, is_outside_the_table, known_of, known_text, plies_behind, whole_plies, Answers, IsAccepted, IsKnown, IsStopped, Leads, plies_next}

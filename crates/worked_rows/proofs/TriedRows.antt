@@ -23,7 +23,7 @@ quiet q n calm =
     differ is = let h : false ≡ true = sym calm ∙ is in absurd (cc)
 
 -- a marker tries no pair
-no_move : MostTried plain (tokens_of (codes "*")) 0
+no_move : MostTried false plain (tokens_of (codes "*")) 0
 unfolding refusal Costs move_of play position_of first_position squares agreeing
 no_move =
     passes _ _ _ 0 0 refl (record { found = 0; finds = refl; writes = refl })
@@ -31,7 +31,7 @@ no_move =
 
 -- Three pawns see e4, and its SAN needs no pair. Neither do the number, the period, and a text that
 -- is no move.
-no_form : MostTried plain (tokens_of (codes "1. e4 e9 ")) 3
+no_form : MostTried false plain (tokens_of (codes "1. e4 e9 ")) 3
 unfolding refusal Costs move_of play position_of first_position squares agreeing
 no_form =
     passes _ _ _ 0 3 refl (record { found = 0; finds = refl; writes = refl })
@@ -40,19 +40,27 @@ no_form =
     (refused _ _ _ 0 NotAMove refl (record { found = 0; finds = refl; writes = refl }))))
 
 -- the one pair of castling counts, though it is rejected
-refused_castling : MostTried plain (tokens_of (codes "O-O ")) 1
+refused_castling : MostTried false plain (tokens_of (codes "O-O ")) 1
 unfolding refusal Costs move_of play position_of first_position squares agreeing
 refused_castling = refused _ _ _ 1 IllegalMove refl (record { found = 1; finds = refl; writes = refl })
 
 -- a knight is found by one pair, and its SAN needs one
-knight : MostTried plain (tokens_of (codes "Nf3 *")) 2
+knight : MostTried false plain (tokens_of (codes "Nf3 *")) 2
 unfolding refusal Costs move_of play position_of first_position squares agreeing
 knight =
     passes _ _ _ 2 0 refl (record { found = 1; finds = refl; writes = quiet _ 2 refl })
     (passes _ _ _ 0 0 refl (record { found = 0; finds = refl; writes = refl })
     (passes _ _ _ 0 0 refl (record { found = 0; finds = refl; writes = refl }) (none _)))
 
+-- a silent reading finds it, and spells nothing
+knight_silent : MostTried true plain (tokens_of (codes "Nf3 *")) 1
+unfolding refusal Costs move_of play position_of first_position squares agreeing
+knight_silent =
+    passes _ _ _ 1 0 refl (record { found = 1; finds = refl; writes = refl })
+    (passes _ _ _ 0 0 refl (record { found = 0; finds = refl; writes = refl })
+    (passes _ _ _ 0 0 refl (record { found = 0; finds = refl; writes = refl }) (none _)))
+
 -- the reduced format has no variation, so its moves are found and not written
-variation_reduced : Tries reduced (read reduced (tokens_of (codes "a3 ("))).progress.part (symbol (codes "Nf3")) 1
+variation_reduced : Tries false reduced (read reduced (tokens_of (codes "a3 ("))).progress.part (symbol (codes "Nf3")) 1
 unfolding refusal Costs move_of play position_of first_position squares agreeing
 variation_reduced = record { found = 1; finds = refl; writes = refl }

@@ -20,11 +20,6 @@ silence_then old mid new a b c first second = record {
   untouched = λ silent. second.untouched (subst IsTrue (sym first.silent) silent) ∙ first.untouched silent;
 }
 
--- of a reader that writes nothing is claimed
-pub silence_writing : {S : Type 0} (old new : ReaderState) (a b : S) → new.writing ≡ old.writing → old.writing.is_silent ≡ false
-    → KeepsSilence old new a b
-silence_writing old new a b same writes = silence_of old new a b same (λ silent. absurd (cc (writes, silent)))
-
 pub writes_some : (w : Written) → (w ≡ Nothing → ⊥) → is_nothing w ≡ false
 writes_some w some = grind arith
 
@@ -35,10 +30,6 @@ writes_none w none = ap is_nothing none
 pub holds_some : (w : Written) (held old : ReaderState) → held ≡ old → held.writing.is_silent ≡ is_nothing w → (w ≡ Nothing → ⊥)
     → old.writing.is_silent ≡ false
 holds_some w held old same is some = sym (ap (λ (r : ReaderState). r.writing.is_silent) same) ∙ is ∙ writes_some w some
-
-pub holds_none : (w : Written) (held old : ReaderState) → held ≡ old → held.writing.is_silent ≡ is_nothing w → w ≡ Nothing
-    → old.writing.is_silent ≡ true
-holds_none w held old same is none = sym (ap (λ (r : ReaderState). r.writing.is_silent) same) ∙ is ∙ writes_none w none
 
 -- Of a reader that writes, contracts see the sink as it is.
 pub seen_if : (P : Device → Type 0) (silent : Bool) (d : Device) → silent ≡ false → P d → P (seen silent d)
