@@ -209,17 +209,16 @@ pgn_game pgn_next_game(const uint8_t *text, size_t length, size_t from, uint32_t
  * Reads the next game of a text, from the byte at `from` on, and writes its tag section into the
  * front of a buffer.
  *
- * The arguments, the statuses and the results are those of pgn_next_game. But no move is written,
- * which takes less time: of the export text of the game the buffer gets the tag section and the empty
- * line behind it.
+ * The arguments, the statuses and the results are those of pgn_next_game. But the buffer gets only
+ * the tag section and the empty line behind it. No move is written, so a call takes less time.
  *
  * PGN_OK: a game; the buffer has its tag section. `end` has the meaning that it has in
  *     pgn_next_game.
  * PGN_FULL: the section is longer than the buffer, which has its first `capacity` bytes. `fault` is
  *     51, and `place` is that of the game's marker. Call again with a larger one.
  *
- * With all others nothing is written. The bytes of the buffer behind the first `written` are as they
- * were. With PGN_RESULT_FROM_MARKER a missing Result is the marker in the section too.
+ * With all others nothing is written. The bytes of the buffer behind the first `written` are as
+ * they were. With PGN_RESULT_FROM_MARKER a missing Result is written as the marker.
  */
 pgn_game pgn_read_game(const uint8_t *text, size_t length, size_t from, uint32_t mode,
                        uint32_t missing_result, uint8_t *buffer, size_t capacity);

@@ -157,7 +157,7 @@ def c_structs():
 class HeaderTest(unittest.TestCase):
     def test_functions(self):
         self.assertEqual(declared(), exported())
-        self.assertEqual(len(exported()), 7)
+        self.assertEqual(len(exported()), 8)
 
     def test_structs(self):
         self.assertEqual(c_structs(), rust_structs())

@@ -116,8 +116,9 @@ impl<const L: usize> Movetext<L> {
         requires legal { IsTrue (is_legal self.old.levels.present.present mv.now) }
         requires few { self.old.plies < 2 ^ 64 - 1 }
         requires room { probes.old + 1032 < 2 ^ 32 }
-        ensures adds { Adds (mode_of_written written) (games.move mv.now) self.old line.old self.new
-            line.new result (seen (is_nothing written) (device W.taken W.failures out.old out.new)) }
+        ensures adds { Adds (mode_of_written written) (games.move mv.now) self.old line.old
+            self.new line.new result (seen (is_nothing written) (device W.taken W.failures out.old
+            out.new)) }
         ensures silent { LeavesSink (is_nothing written) out.old out.new }
         ensures probes { Rises probes.old probes.new }
         ensures tried { TriesItem (mode_of_written written) self.old (games.move mv.now) probes.old
