@@ -29,7 +29,7 @@ PARTS = (
 )
 # The main functions of the parts. If the compiler inlines one, its caller's part has its cost.
 MAIN_FUNCTIONS = {
-    "lexer": ("pgn_lexer::lexer::Lexer::next",),
+    "lexer": ("pgn_lexer::lexer::Lexer::whole_token",),
     "find": ("pgn_game::find::named_move",),
     "write_san": ("chess_text::san::write_san",),
     "layout and sinks": ("pgn_layout::current_line::CurrentLine::put", "pgn_layout::sink::write_all"),
@@ -339,9 +339,9 @@ def split_calls(program, small, large, games):
 
 
 def checked_figures(program, file, small, large, games, rounds):
-    """The least wall time and the instructions of a game, of export and of export --checked."""
+    """The least wall time and the instructions of a game, of export and of the tasks beside it."""
     figures = {}
-    for task in ("export", "export --checked"):
+    for task in ("export", "export --checked", "check", "list"):
         words = [program, *task.split()]
         spent = difference(callgrind([*words, small]), callgrind([*words, large]), games)
         figures[task] = {"wall": 1e9, "instructions": spent["Ir"]}

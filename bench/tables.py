@@ -167,7 +167,7 @@ def split(archive):
 def checked(archive):
     rows = [[task, "%d" % (archive["games"] / it["wall"]), format(round(it["instructions"]), ",")]
             for task, it in archive["checked"].items()]
-    return ["`export --checked` beside `export`, output to nowhere:", "",
+    return ["The other tasks beside `export`, output to nowhere:", "",
             *table(["", "games/s", "instructions a game"], rows)]
 
 

@@ -101,10 +101,12 @@ def archive(name, wall):
     return {"name": name, "games": 2000, "bytes": 3_000_000,
             "converters": {"pgn_tool": converter(wall, 1.5, 200, 30),
                            "pgn-extract": converter(1, 4, 1000, 60)},
-            "parts": {"lexer": 50, "find": 150}, "inlined": {"lexer": ["Lexer::next"]},
+            "parts": {"lexer": 50, "find": 150}, "inlined": {"lexer": ["Lexer::whole_token"]},
             "split": {"wall": {"export": 0.5, "split": 4}, "calls": {"export": 0.25, "split": 20}},
             "checked": {"export": {"wall": 0.5, "instructions": 200},
-                        "export --checked": {"wall": 1, "instructions": 390}},
+                        "export --checked": {"wall": 1, "instructions": 390},
+                        "check": {"wall": 0.4, "instructions": 150},
+                        "list": {"wall": 0.8, "instructions": 160}},
             "builds": {"proved": 2000, "Cargo": 2300.4, "dependent": 2100},
             "sizes": [{"bytes": 1_000_000, "wall": 0.05, "instructions": 2_000_000, "memory": 1.5}]}
 
@@ -206,12 +208,12 @@ class Readers(unittest.TestCase):
 
     def test_what_is_inlined(self):
         missing = measure.inlined(self.read())
-        self.assertEqual(missing["lexer"], ["Lexer::next"])
+        self.assertEqual(missing["lexer"], ["Lexer::whole_token"])
         self.assertNotIn("find", missing)
 
     def test_the_difference_of_two_archives(self):
-        small = ({"Ir": 1000, "Bcm": 8, "Bim": 2}, {"pgn_lexer::lexer::Lexer::next": 400}, {})
-        large = ({"Ir": 3000, "Bcm": 20, "Bim": 6}, {"pgn_lexer::lexer::Lexer::next": 1400}, {})
+        small = ({"Ir": 1000, "Bcm": 8, "Bim": 2}, {"pgn_lexer::lexer::Lexer::whole_token": 400}, {})
+        large = ({"Ir": 3000, "Bcm": 20, "Bim": 6}, {"pgn_lexer::lexer::Lexer::whole_token": 1400}, {})
         spent = measure.difference(small, large, 4)
         self.assertEqual([spent[it] for it in ("Ir", "Bcm", "Bim", "lexer", "find", "rest")],
                          [500, 3, 1, 250, 0, 250])
@@ -306,9 +308,10 @@ class Tables(unittest.TestCase):
                      "- Other work: kept 0.03 of 8 processors busy, on average",
                      "### Plain: 2,000 games, 3.0 MB",
                      "| pgn_tool | 0.15 | 13333 | 20.0 | 1.5 | 200 | 30 |",
-                     "| lexer, without `Lexer::next` | 50 | 25.0 % |",
+                     "| lexer, without `Lexer::whole_token` | 50 | 25.0 % |",
                      "| split | 500 | 20.00 |",
                      "| export --checked | 2000 | 390 |",
+                     "| check | 5000 | 150 |",
                      "| 1.0 | 0.05 | 50.0 | 2.0 | 1.5 |",
                      "| list | 132 |",
                      "### The builds",
