@@ -305,17 +305,21 @@ class LateTexts(Folder):
         super().setUp()
         self.library = importlib.import_module("gillspoon._library")
 
-    def texts(self, data, reduced=False, checked=False):
+    def texts(self, data, **options):
         """The export texts of the games, by calls of pgn_next_game on the whole source."""
-        buffer, texts, at = bytearray(1 << 20), [], 0
+        return [text for text, _ in self.answers(data, **options)]
+
+    def answers(self, data, reduced=False, checked=False):
+        """The text of each game, and what the library says of it."""
+        buffer, answers, at = bytearray(1 << 20), [], 0
         room = (self.library.ctypes.c_char * len(buffer)).from_buffer(buffer)
         while True:
             found = self.library.next_game(data, len(data), at, int(reduced), int(checked), room,
                                            len(buffer))
             if found.status == self.library.NO_GAME:
-                return texts
+                return answers
             self.assertEqual(found.status, self.library.OK, (data, found.message))
-            texts.append(bytes(buffer[:found.written]))
+            answers.append((bytes(buffer[:found.written]), found))
             at = found.end
 
     def sources(self, data):
@@ -331,18 +335,19 @@ class LateTexts(Folder):
             for options in ({}, {"checked": True}, {"reduced": True}):
                 if options.get("reduced") and name == "positions":
                     continue
-                wanted = self.texts(data, **options)
+                answers = self.answers(data, **options)
+                wanted = [text for text, _ in answers]
                 if "checked" not in options:
                     self.assertEqual(b"".join(wanted), gillspoon.convert(data, **options), name)
                 for source in self.sources(data):
                     held = list(gillspoon.games(source, **options))
-                    said = [(it.result, it.fen, it.plies, dict(it.tags)) for it in held]
+                    self.assertEqual([list(it.tags.items()) for it in held], [
+                        re.findall(r'(?m)^\[(\w+) "(.*)"\]$', it.decode()) for it in wanted], name)
                     self.assertEqual([it.text for it in reversed(held)], wanted[::-1], name)
-                    # the same as of a game that is read with its text
-                    again = [next(gillspoon.games(it)) for it in wanted]
-                    self.assertEqual(said, [(it.result, it.fen, it.plies, dict(it.tags))
-                                            for it in again if it.text], name)
-        self.assertEqual(len(held), 2)
+                    self.assertEqual(
+                        [(it.end, it.plies, it.fen, it.result) for it in held],
+                        [(it.end, it.plies, it.fen.decode(), text.split()[-1].decode())
+                         for text, it in answers], name)
 
     def test_small_buffers(self):
         """Sections and texts that do not fit are written to a larger buffer."""
