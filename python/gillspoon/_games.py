@@ -6,8 +6,7 @@ import re
 from collections import deque
 from functools import cached_property
 from itertools import chain
-from typing import (Callable, Deque, Iterator, List, Mapping, NamedTuple, Optional, Tuple,
-                    Union)
+from typing import Callable, Deque, Iterator, List, Mapping, NamedTuple, Optional, Union
 
 from . import _calls, _library
 from ._bad_games import move_at, players_of
@@ -19,11 +18,11 @@ from ._reading import GameReader
 from ._sections import BadGame, end_of
 from ._sources import Input, Source, Window, name_of, readable_again
 from ._tags import Tags, read_tags, type_of, write_tags
-from ._texts import text_of
+from ._texts import is_utf_8, text_of
 
 INITIAL_FEN = "rnbqkbnr/pppppppp/8/8/8/8/PPPPPPPP/RNBQKBNR w KQkq - 0 1"
 OnFault = Callable[[PgnFault], object]
-# The first size of a buffer for the export text of a game.
+# The first size of a buffer for the tag section of a game, or for its export text.
 _CAPACITY = 1 << 14
 # How many bytes `convert` reads at once: with their export they stay in the processor's cache.
 _PIECE = 1 << 17
@@ -45,6 +44,31 @@ class Totals(NamedTuple):
     plies: int
 
 
+class _Unwritten(NamedTuple):
+    """What the export text of a game is written of, and how.
+
+    `source` is all of the game, from its first byte on that is no white space. A `%` there was in
+    the first column, or the game would have had a fault. So it is an escape line in these bytes by
+    themselves too.
+    """
+
+    source: bytes
+    mode: int
+    missing: int
+
+    def text(self) -> bytes:
+        """The export text."""
+        data, size = self.source, max(_CAPACITY, 2 * len(self.source))
+        while True:
+            buffer = ctypes.create_string_buffer(size)
+            found = _library.next_game(data, len(data), 0, self.mode, self.missing, buffer, size)
+            if found.status != _library.FULL:
+                break
+            size *= 2
+        assert found.status == _library.OK and found.end == len(data), found.message
+        return ctypes.string_at(buffer, found.written)
+
+
 class Game:
     """A game: its export text, and what the library says of it.
 
@@ -63,7 +87,9 @@ class Game:
         "result": "The result, which is the termination marker at its end.",
         "plies": "How many plies the game has, without variations.",
         "fen": "The FEN of its last position.",
-        "text": "The game in export format, as bytes, with an empty line at its end.",
+        "_text": None,
+        "_unwritten": None,
+        "_is_used": None,
         "_tags": None,
         "_moves": None,
     }
@@ -71,7 +97,11 @@ class Game:
     def __init__(self, number: int, offset: int, end: int, result: str, plies: int, fen: str,
                  text: bytes) -> None:
         self.number, self.offset, self.end = number, offset, end
-        self.result, self.plies, self.fen, self.text = result, plies, fen, text
+        self.result, self.plies, self.fen, self._text = result, plies, fen, text
+        # as long as it is there, the text has the tag section alone
+        self._unwritten: Optional[_Unwritten] = None
+        # whether the text was asked for
+        self._is_used = False
         self._tags: Optional[Tags] = None
         self._moves: Optional[Line] = None
 
@@ -81,13 +111,28 @@ class Game:
             self.plies)
 
     @property
+    def text(self) -> bytes:
+        """The game in export format, as bytes, with an empty line at its end."""
+        unwritten = self._unwritten
+        if unwritten is not None:
+            self.text = unwritten.text()
+        self._is_used = True
+        return self._text
+
+    @text.setter
+    def text(self, text: bytes) -> None:
+        # in this order, since other threads may ask for it
+        self._text = text
+        self._unwritten = None
+
+    @property
     def encoding(self) -> str:
         """The encoding of its text: `utf-8` if the text is UTF-8, else `latin-1`."""
-        try:
-            self.text.decode("utf-8")
-        except UnicodeDecodeError:
-            return "latin-1"
-        return "utf-8"
+        unwritten = self._unwritten
+        # no word and no value is cut: where the source is UTF-8, the text is
+        if is_utf_8(self._text if unwritten is None else unwritten.source):
+            return "utf-8"
+        return "utf-8" if is_utf_8(self.text) else "latin-1"
 
     @property
     def tags(self) -> Mapping[str, str]:
@@ -97,7 +142,7 @@ class Game:
         `{**game.tags, "Annotator": "Ada"}`.
         """
         if self._tags is None:
-            self._tags = Tags(read_tags(self._parts()[0]))
+            self._tags = Tags(read_tags(self._section()))
         return self._tags
 
     def mainline(self) -> Iterator[Ply]:
@@ -122,7 +167,8 @@ class Game:
         (['best'], [Line(d4 d5)])
         """
         if self._moves is None:
-            self._moves = read_moves(self._parts()[1], self._first_fen())
+            movetext = text_of(self.text).partition("\n\n")[2]
+            self._moves = read_moves(movetext, self._first_fen())
         return self._moves
 
     def position_at(self, ply: int) -> str:
@@ -140,9 +186,17 @@ class Game:
         fen = self.tags.get("FEN")
         return INITIAL_FEN if fen is None else _calls.normalize_fen(fen)
 
-    def _parts(self) -> "Tuple[str, str]":
-        tags, _, moves = text_of(self.text).partition("\n\n")
-        return tags, moves
+    def _section(self) -> str:
+        """The tag section, in the encoding of the whole text."""
+        section = section_of(self)
+        if section.isascii():
+            return section.decode("ascii")
+        return section.decode(self.encoding if is_utf_8(section) else "latin-1")
+
+
+def section_of(game: Game) -> bytes:
+    """The tag section of a game, for which its text is not made."""
+    return game._text.partition(b"\n\n")[0]
 
 
 class Reader:
@@ -158,14 +212,20 @@ class Reader:
 
     def games(self, on_fault: Optional[OnFault]) -> Iterator[Game]:
         """The games in turn; a fault is raised, or given to `on_fault`."""
-        window, size, call = self.window, _CAPACITY, _library.next_game
+        window, size, call = self.window, _CAPACITY, _library.read_game
         buffer, base, data = ctypes.create_string_buffer(size), window.base, window.data
         length = 0
         while True:
             found = call(data, length, self.at - base, self.mode, self.missing, buffer, size)
             status = found.status
             if status == _library.OK and (found.end < length or window.is_whole):
-                yield self._game(found, ctypes.string_at(buffer, found.written))
+                game = self._game(found, ctypes.string_at(buffer, found.written))
+                if call is _library.read_game:
+                    self._leave_unwritten(game, found.end)
+                yield game
+                # who has asked for the text of this game may ask for that of the next one too
+                call = _library.next_game if game._is_used else _library.read_game
+                del game
                 continue
             if status == _library.FULL:
                 size *= 2
@@ -182,12 +242,17 @@ class Reader:
             base, data = window.base, window.data
             length = len(data)
 
-    def _game(self, found: _library.NextGame, text: bytes) -> Game:
+    def _game(self, found: _library.NextGame, written: bytes) -> Game:
         base, marker = self.window.base, self.window.data[found.marker_at:found.end]
         game = Game(self.number, self._text_at(), base + found.end, marker.decode("ascii"),
-                    found.plies, found.fen.decode("ascii"), text)
+                    found.plies, found.fen.decode("ascii"), written)
         self.number, self.at = self.number + 1, base + found.end
         return game
+
+    def _leave_unwritten(self, game: Game, end: int) -> None:
+        """Keeps what the text of a game is made of, when it is asked for."""
+        source = self.window.data[game.offset - self.window.base:end]
+        game._unwritten = _Unwritten(source, self.mode, self.missing)
 
     def _text_at(self) -> int:
         """The offset of the first byte from `at` on that is no white space."""

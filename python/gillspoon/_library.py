@@ -141,6 +141,8 @@ _CALLS = {
     "pgn_san": (Move, (*_TEXT, *_TEXT)),
     "pgn_next_game": (NextGame, (*_TEXT, ctypes.c_size_t, ctypes.c_uint32, ctypes.c_uint32,
                                  *_TEXT)),
+    "pgn_read_game": (NextGame, (*_TEXT, ctypes.c_size_t, ctypes.c_uint32, ctypes.c_uint32,
+                                 *_TEXT)),
     "pgn_explain": (Explanation, (*_TEXT, *_TEXT)),
 }
 _BUILD = "in the repository run bin/build_program --library, or pip install ./python"
@@ -180,4 +182,5 @@ convert: Callable[[bytes, int, Buffer, int, int], Result] = _library.pgn_convert
 normalize_fen: Callable[[bytes, int, Buffer, int], Text] = _library.pgn_fen_normalize
 san: Callable[[bytes, int, bytes, int], Move] = _library.pgn_san
 next_game: Callable[[bytes, int, int, int, int, Buffer, int], NextGame] = _library.pgn_next_game
+read_game: Callable[[bytes, int, int, int, int, Buffer, int], NextGame] = _library.pgn_read_game
 explain: Callable[[bytes, int, bytes, int], Explanation] = _library.pgn_explain

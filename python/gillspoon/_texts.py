@@ -9,6 +9,19 @@ def text_of(text: bytes) -> str:
         return text.decode("latin-1")
 
 
+def is_utf_8(text: bytes) -> bool:
+    """Whether the bytes are UTF-8.
+
+    >>> is_utf_8(b"M\\xc3\\xbcller"), is_utf_8(b"M\\xfcller")
+    (True, False)
+    """
+    try:
+        text.decode("utf-8")
+    except UnicodeDecodeError:
+        return False
+    return True
+
+
 def shown(value: bytes) -> str:
     """The text of a tag's value, without control characters.
 

@@ -6,8 +6,9 @@ not know. Each test is cheap on a game that it does not warn of.
 import re
 from typing import Iterator, NamedTuple
 
-from ._games import Game
+from ._games import Game, section_of
 from ._sections import game_in_comment
+from ._texts import is_utf_8
 
 IN_COMMENT = "a comment holds a line that begins a tag section: perhaps it was never closed"
 DROPPED = "comment before a game, which export drops"
@@ -54,8 +55,7 @@ class Watcher:
         inside = game_in_comment(text)
         if inside is not None:
             yield Said(game.offset + inside, IN_COMMENT)
-        tags = game.text[:game.text.find(b"\n\n")]
-        for found in OTHER_FORM.finditer(tags):
+        for found in OTHER_FORM.finditer(section_of(game)):
             yield Said(_place_of(game, text, found[0]), _reason_of(found))
         if not text.isascii() and self._is_other_encoding(text):
             first = re.search(rb"[\x80-\xff]", text)
@@ -63,11 +63,7 @@ class Watcher:
 
     def _is_other_encoding(self, text: bytes) -> bool:
         """Whether this is the first game that is UTF-8 or not, and one before was the other."""
-        try:
-            text.decode("utf-8")
-            is_utf8 = True
-        except UnicodeDecodeError:
-            is_utf8 = False
+        is_utf8 = is_utf_8(text)
         is_first, self._encodings[is_utf8] = not self._encodings[is_utf8], True
         return is_first and self._encodings[not is_utf8]
 

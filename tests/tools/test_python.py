@@ -279,6 +279,232 @@ class Games(unittest.TestCase):
             self.assertEqual((other.number, other.offset), (2, data.rindex(b"1. d4")))
 
 
+class LateTexts(Folder):
+    """A game keeps its bytes of the source, and its text is made of them when it is asked for."""
+
+    ONE = (b'[Event "?"]\n[Site "?"]\n[Date "????.??.??"]\n[Round "?"]\n[White "%s"]\n'
+           b'[Black "?"]\n[Result "%s"]\n\n1. e4 %s\n\n')
+    ARCHIVES = {
+        "comments": b"{a % b} ; c {\n{d}\n[White {e} \"Ada\"] ;f\n{g} 1. e4 {h ; i} e5 ;j\n*{k}\n"
+                    b"{l}\n1. d4 ! $7 {m\n%n} *",
+        "variations": b"1. e4 (1. d4 (1. c4) {a} (1. Nf3 e5) d5) e5 (1... c5 $1) 2. Nf3 * e4 (d4) *",
+        "positions": b'[FEN "4k3/8/8/8/8/8/4P3/4K3 w - - 5 9"] e4 Kd7 *\n[Event "x"]\n'
+                     b'[SetUp "1"] [FEN "4k3/8/8/8/8/8/4P3/4K3 b - - 00 01"] *1. e4 *',
+        "line ends": b'\r\n[White "Ada"]\r\n\r\n1. e4 ; a\r\n{b\r\nc} e5\r\n*\r\n% d\r\n\r\n* e4\r*',
+        "escapes": b"%\n% { a\n1. e4 *\n%b\n%c {\n \n% d\r% 1. e4 *\r\n*  e4\n%e }\n{\n%f\n} e5 *\n%\n%",
+        "byte order mark": b"\xef\xbb\xbf1. e4 *\n1. d4 *",
+        "byte order mark and escape": b"\xef\xbb\xbf%a\n\n1. e4 *1. d4 *",
+        "joined": b"e4**{a}*;b\n*e4 e5*",
+        "results": b'[Result "1-0"] e4 1-0 [Result "0-1"] 0-1 [Result "1/2-1/2"]1/2-1/2 e4 *',
+        "one": b"*", "none": b"", "no game": b"% a\n{b}\n",
+        "tags": b"".join(b'[A%02d "%s"]\n' % (it, b"x" * 240) for it in range(57)) + b"1. e4 **",
+        "a text of more than twice its bytes": b"Nf3!Nf6!Ng1!Ng8!" * 500 + b"* e4 *",
+    }
+
+    def setUp(self):
+        super().setUp()
+        self.library = importlib.import_module("gillspoon._library")
+
+    def texts(self, data, **options):
+        """The export texts of the games, by calls of pgn_next_game on the whole source."""
+        return [text for text, _ in self.answers(data, **options)]
+
+    def answers(self, data, reduced=False, checked=False):
+        """The text of each game, and what the library says of it."""
+        buffer, answers, at = bytearray(1 << 20), [], 0
+        room = (self.library.ctypes.c_char * len(buffer)).from_buffer(buffer)
+        while True:
+            found = self.library.next_game(data, len(data), at, int(reduced), int(checked), room,
+                                           len(buffer))
+            if found.status == self.library.NO_GAME:
+                return answers
+            self.assertEqual(found.status, self.library.OK, (data, found.message))
+            answers.append((bytes(buffer[:found.written]), found))
+            at = found.end
+
+    def sources(self, data):
+        """The data as sources of several kinds."""
+        path = self.put("a.pgn", data)
+        yield from (data, path, io.BytesIO(data), self.put("a.pgn.gz", gzip.compress(data)))
+        yield from (Pieces(cut(data, ever(size))) for size in (1, 3, 50))
+        with subprocess.Popen(["cat", path], stdout=subprocess.PIPE) as child:
+            yield child.stdout
+
+    def test_archives(self):
+        for name, data in self.ARCHIVES.items():
+            for options in ({}, {"checked": True}, {"reduced": True}):
+                if options.get("reduced") and name == "positions":
+                    continue
+                answers = self.answers(data, **options)
+                wanted = [text for text, _ in answers]
+                if "checked" not in options:
+                    self.assertEqual(b"".join(wanted), gillspoon.convert(data, **options), name)
+                for source in self.sources(data):
+                    held = list(gillspoon.games(source, **options))
+                    self.assertEqual([list(it.tags.items()) for it in held], [
+                        re.findall(r'(?m)^\[(\w+) "(.*)"\]$', it.decode()) for it in wanted], name)
+                    self.assertEqual([it.text for it in reversed(held)], wanted[::-1], name)
+                    self.assertEqual(
+                        [(it.end, it.plies, it.fen, it.result) for it in held],
+                        [(it.end, it.plies, it.fen.decode(), text.split()[-1].decode())
+                         for text, it in answers], name)
+
+    def test_small_buffers(self):
+        """Sections and texts that do not fit are written to a larger buffer."""
+        module = importlib.import_module("gillspoon._games")
+        for name, data in self.ARCHIVES.items():
+            wanted = self.texts(data, checked=True)
+            for size in (1, 100, 400):
+                with mock.patch.object(module, "_CAPACITY", size):
+                    held = list(gillspoon.games(data, checked=True))
+                    self.assertEqual([it.text for it in held], wanted, name)
+                    self.assertEqual([it.text for it in gillspoon.games(data, checked=True)],
+                                     wanted, name)
+
+    def test_literal_texts(self):
+        star = self.ONE % (b"?", b"*", b"*")
+        for data, wanted in (
+                (b"1. e4 *", [star]), (b"\xef\xbb\xbf% 1. d4 *\n1. e4 *", [star]),
+                (b"{a}\n%b\r\n1. e4 ; c\r\n (1. d4) *", [
+                    star.replace(b"e4", b"e4 { c } ( 1. d4 )")]),
+                (b'[White "a\\"b"] e4 *\n%\n\re4 *', [self.ONE % (b'a\\"b', b"*", b"*"), star])):
+            for source in self.sources(data):
+                self.assertEqual([it.text for it in list(gillspoon.games(source))], wanted)
+        # a missing result from the marker, and one that is there
+        data = b'e4 1-0 [White "a"] e4 0-1\n[Result "1/2-1/2"] e4 1/2-1/2 e4 *'
+        wanted = [self.ONE % it for it in (
+            (b"?", b"1-0", b"1-0"), (b"a", b"0-1", b"0-1"), (b"?", b"1/2-1/2", b"1/2-1/2"),
+            (b"?", b"*", b"*"))]
+        for source in self.sources(data):
+            held = list(gillspoon.games(source, checked=True))
+            self.assertEqual([it.tags["Result"] for it in held], ["1-0", "0-1", "1/2-1/2", "*"])
+            self.assertEqual([it.text for it in held], wanted)
+
+    def test_faults_between_games(self):
+        """The sound games have the texts that they have by themselves."""
+        good = archive(3, "annotated")
+        for name, text, _, _ in BAD:
+            for end in (b"\n", b"\r\n"):
+                bad = text.replace(b"\n", end)
+                data = b"\xef\xbb\xbf" + sound(b"a") + bad + sound(b"b") + bad + sound(b"c") + good
+                wanted = [gillspoon.convert(sound(it)) for it in (b"a", b"b", b"c")]
+                for source in (data, Pieces(cut(data, ever(50)))):
+                    faults = []
+                    held = list(gillspoon.games(source, on_fault=faults.append))
+                    texts = [it.text for it in held]
+                    self.assertTrue(faults, name)
+                    self.assertEqual([it for it in texts if it in wanted], wanted, name)
+                    self.assertEqual(b"".join(texts[-3:]), gillspoon.convert(good), name)
+
+    def test_random_archives(self):
+        """Whichever games are asked for their texts while others are read, all are the same."""
+        for style in ("plain", "annotated"):
+            data = archive(60, style)
+            wanted = self.texts(data)
+            self.assertEqual(b"".join(wanted), gillspoon.convert(data))
+            for seed in range(4):
+                source, held = random.Random(seed), []
+                for game in gillspoon.games(Pieces(cut(data, ever(700)))):
+                    held.append(game)
+                    for chosen in source.sample(held, source.choice((0, 0, 1))):
+                        self.assertEqual(chosen.text, wanted[chosen.number - 1])
+                    if source.random() < 0.5:
+                        self.assertEqual(game.text, wanted[game.number - 1])
+                tags = [dict(it.tags) for it in held]
+                self.assertEqual([it.text for it in held], wanted)
+                self.assertEqual([list(it.items()) for it in tags], [
+                    re.findall(r'(?m)^\[(\w+) "(.*)"\]$', it.decode()) for it in wanted])
+                self.assertEqual([gillspoon.write_game(it.tags, it.moves()) for it in held], wanted)
+
+    def test_when_the_source_is_closed(self):
+        data = archive(20, "annotated")
+        path = self.put("a.pgn", data)
+        with open(path, "rb") as file:
+            held = list(gillspoon.games(file))
+        os.remove(path)
+        self.assertTrue(b"".join(it.text for it in held) == gillspoon.convert(data))
+        changed = bytearray(data)
+        games = gillspoon.games(changed)
+        held = [next(games), next(games)]
+        games.close()
+        changed[:] = b"x" * len(data)
+        self.assertEqual([it.text for it in held], self.texts(data)[:2])
+
+    def test_pickled_before_and_after(self):
+        data = b'e4 (d4) e5 1-0 [FEN "4k3/8/8/8/8/8/4P3/4K3 w - - 5 9"] {a} e4 {b} Kd7 1/2-1/2'
+        wanted = self.texts(data, checked=True)
+        for make in (lambda it: pickle.loads(pickle.dumps(it)), copies.copy, copies.deepcopy):
+            for game, text in zip(gillspoon.games(data, checked=True), wanted):
+                before = make(game)
+                self.assertEqual((before.text, game.text), (text, text))
+                after = make(game)
+                for it in (before, after):
+                    self.assertIs(type(it), gillspoon.Game)
+                    self.assertEqual((it.text, it.tags, it.fen, it.number, it.offset, it.end),
+                                     (text, game.tags, game.fen, game.number, game.offset, game.end))
+                    self.assertEqual((repr(it), [ply.fen for ply in it.mainline()]),
+                                     (repr(game), [ply.fen for ply in game.mainline()]))
+
+    def test_encodings(self):
+        """The whole text decides on it, whatever is asked for first."""
+        utf, latin = "M\xfcller", "M\xc3\xbcller"
+        for data, encoding, name in (
+                (b'[White "M\xc3\xbcller"] e4 *', "utf-8", utf),
+                (b'[White "M\xfcller"] e4 *', "latin-1", utf),
+                (b'[White "M\xc3\xbcller"] e4 {\xfc} *', "latin-1", latin),
+                (b'[White "M\xfcller"] e4 {\xc3\xbc} *', "latin-1", utf),
+                (b'[White "Muller"] e4 {\xfc} *', "latin-1", "Muller"),
+                (b'{\xfc} [White {\xfc} "M\xc3\xbcller"]\n%\xfc\ne4 *', "utf-8", utf),
+                (b'\xef\xbb\xbf[White "M\xc3\xbcller"] e4 {\xc3\xbc} *', "utf-8", utf)):
+            for before in (("tags",), ("encoding",), ("text",), ("encoding", "tags"), ("moves",)):
+                # the second one is read with its text, if that of the first was asked for
+                for game in gillspoon.games(data + b"\n" + data.replace(b"\xef\xbb\xbf", b"")):
+                    for it in before:
+                        getattr(game, it)
+                    if "moves" in before:
+                        game.moves()
+                    self.assertEqual((game.encoding, game.tags["White"]), (encoding, name), data)
+
+    def test_a_text_that_is_set(self):
+        game, other = gillspoon.games(b"e4 * d4 *")
+        game.text = gillspoon.convert(b'[White "Ada"] c4 *')
+        self.assertEqual((game.tags["White"], [it.san for it in game.mainline()]), ("Ada", ["c4"]))
+        self.assertEqual(other.text, gillspoon.convert(b"d4 *"))
+        made = gillspoon.Game(1, 0, 4, "*", 1, "", gillspoon.convert(b'[White "Ada"] c4 *'))
+        self.assertEqual((made.tags["White"], len(made.moves())), ("Ada", 1))
+
+    def test_calls(self):
+        """An index makes no text, and who asks for every text has each made as its game is read."""
+        data, count = archive(20, "annotated"), 20
+        calls = {}
+
+        def counted(name):
+            real, calls[name] = getattr(self.library, name), 0
+
+            def call(*words):
+                calls[name] += 1
+                return real(*words)
+
+            return mock.patch.object(self.library, name, call)
+
+        with counted("read_game"), counted("next_game"):
+            for game in gillspoon.games(data):
+                self.assertTrue(repr(game) and game.fen and game.position_at(0) and game.tags)
+            self.assertEqual(gillspoon.check(data).games, count)
+            read, calls["read_game"] = calls["read_game"], 0
+            self.assertEqual(calls["next_game"], 0)
+            self.assertEqual(len([it.text for it in gillspoon.games(data)]), count)
+            # one for each game, and those that found that more had to be read
+            self.assertLess(calls["read_game"], 4)
+            self.assertLess(calls["next_game"], count + 4)
+            calls["next_game"] = 0
+            for game in gillspoon.games(data):
+                if game.number % 10 == 5:
+                    self.assertEqual(game.text, game.text)
+            self.assertEqual(calls["next_game"], 4)
+        self.assertGreater(read, 2 * count - 1)
+
+
 class Commands(unittest.TestCase):
     """Clocks, evaluations, arrows and marked squares in comments."""
 
