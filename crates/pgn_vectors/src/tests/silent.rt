@@ -69,7 +69,11 @@ fn asks(rt: &impl Abort, vector: &Vector, text: &mut Vec<u8>) {
         assert!(rt; fed == Ok(Fed::All) || fed.is_err(), "{}", vector.name);
         return;
     };
-    assert!(rt; !text.is_empty() && output.starts_with(text), "{}", vector.name);
+    assert!(rt;
+        !text.is_empty() && output.starts_with(text),
+        "{}",
+        vector.name
+    );
     if let Verdict::Converted { games: 1, .. } = vector.verdict {
         let end = output.len().saturating_sub(2);
         let game = output.get(..end).unwrap_or_default();
