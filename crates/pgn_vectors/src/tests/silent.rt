@@ -81,12 +81,16 @@ fn asks(rt: &impl Abort, vector: &Vector, text: &mut Vec<u8>) {
     }
 }
 
+fn asks_each(rt: &impl Abort, table: &[Vector], text: &mut Vec<u8>) {
+    for vector in table {
+        asks(rt, vector, text);
+    }
+}
+
 #[test]
 fn asks_of_the_first_game_of_each_vector(rt: HostRuntime) {
     let mut text = Vec::new(rt.alloc());
     for table in tables() {
-        for vector in table {
-            asks(&rt, vector, &mut text);
-        }
+        asks_each(&rt, table, &mut text);
     }
 }
