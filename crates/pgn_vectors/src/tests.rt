@@ -7,5 +7,4 @@ mod limits;
 mod reasons;
 mod refused_moves;
 mod runs;
-mod silent;
 mod tables;
