@@ -2,8 +2,8 @@
 
 use chess_rules::{Position, Probes};
 use pgn_game::{
-    convert, convert_checked, convert_slice, find_move, Converter, Games, Inlet, Mode, Nowhere,
-    Outlet, Sink,
+    check, check_slice, convert, convert_checked, convert_slice, find_move, Converter, Games,
+    Inlet, Mode, Nowhere, Outlet, Sink,
 };
 use pgn_layout::{fits_tag_line, write_tag, CurrentLine, Layout};
 use std::cell::RefCell;
@@ -37,6 +37,8 @@ fn a_converter_has_a_level() {
     refuses(sentence, || {
         convert::<64, 0, _, _>(&mut inlet(), &mut Nowhere, FULL)
     });
+    refuses(sentence, || check_slice::<64, 0>(b"*", FULL));
+    refuses(sentence, || check::<64, 0, _>(&mut inlet(), FULL));
     refuses(sentence, || {
         convert_checked::<64, 0, _, _, _>(&mut inlet(), &mut inlet(), &mut Nowhere, FULL)
     });
