@@ -544,6 +544,13 @@ class Written(unittest.TestCase):
             self.assertEqual(status, 1, said)
             self.assertIn("square.rt: not there once: self.index as usize", said)
 
+    def test_laws_are_not_in_the_documents(self):
+        """They are functions without a body, which say something to the prover alone."""
+        out, _, _ = self.write()
+        for crate in LIBRARIES:
+            root = read("%s/crates/%s/src/lib.rs" % (out, crate))
+            self.assertIn("\n#[doc(hidden)]\npub mod laws;\n", root, crate)
+
     def test_each_function_of_the_libraries_has_a_hint(self):
         """Whether it may be inlined; laws do nothing, and what a trait asks for has no body."""
         out, _, _ = self.write()
@@ -611,6 +618,8 @@ def without_added(path, lines):
         is_test = module in ("conditions", "own_pair")
         added += ["#[cfg(test)]"] if is_test else ["// Written for Cargo, not proved."]
         added += ["mod %s;" % module]
+    if path.endswith("/lib.rs") and "pub mod laws;" in lines:
+        added += ["#[doc(hidden)]"]
     left = []
     hints = ["#[track_caller]"]
     hints += ["#[inline]"] * (path.split("/crates/")[1].split("/")[0] in LIBRARIES)
