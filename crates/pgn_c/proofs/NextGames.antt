@@ -1,5 +1,5 @@
 -- What a conversion of one game finds, from the calls of the converter.
-use Rattle.pgn_c.proofs.Words.{◌≡◌, ℕ, ◌+◌, ◌-◌, ◌^◌, ◌<◌, ◌≤◌, Bool, true, false, List, [], ◌∷◌, ◌++◌, length, take, drop, Option, None, Some, Result, refl, sym, ap, subst, ◌∙◌, append-nil, append_assoc, length-append, arith, bytes_eq, codes, IsTrue, length-take-le, take-append-drop, take_at, bytes_eq-Decides, take-append-add, Kind, Token, EndsAt, tokens_of, Device, Marker, WhiteWins, BlackWins, Draw, Unknown, Mode, InputTooLong, Fault, marker_text, Profile, known_result, is_score, marker_of, game_text, text_of, read, due, games_read, FinishesGame, PgnGame, AreKnown, NextOf, Finds, fault_result, game_result, nothing, profile_counting, status_for}
+use Rattle.pgn_c.proofs.Words.{◌≡◌, ℕ, ◌+◌, ◌-◌, ◌^◌, ◌<◌, ◌≤◌, Bool, true, false, List, [], ◌∷◌, ◌++◌, length, take, drop, Option, None, Some, Result, refl, sym, ap, subst, ◌∙◌, append-nil, append_assoc, length-append, arith, bytes_eq, codes, IsTrue, length-take-le, take-append-drop, take_at, bytes_eq-Decides, take-append-add, Kind, Token, EndsAt, tokens_of, Device, Marker, WhiteWins, BlackWins, Draw, Unknown, Mode, InputTooLong, Fault, marker_text, Profile, is_score, marker_of, game_text, text_of, read, due, games_read, FinishesGame, PgnGame, AreKnown, NextOf, Finds, fault_result, game_result, nothing, status_for}
 use Rattle.std.proofs.Common.{length-take}
 use Rattle.std.proofs.KnownBytes.{Appends-trans}
 use Rattle.std.specs.Io.KnownBytes.{Appends}
@@ -7,7 +7,10 @@ use Rattle.pgn_lexer.specs.Standing.{coming}
 use Rattle.pgn_lexer.specs.Stands.{Follows, first, still}
 use Rattle.pgn_game.specs.Pairs.{value_of}
 use Rattle.pgn_game.specs.TagSection.{exported}
-use Rattle.pgn_game.specs.Game.{Game}
+use Rattle.pgn_game.specs.FaultTable.{result_for}
+use Rattle.pgn_game.specs.Game.{Game, no_part}
+use Rattle.pgn_game.specs.Profile.{Missing, counts_as, takes_the_marker}
+use Rattle.pgn_game.specs.Text.{torn_for}
 use Rattle.pgn_game.specs.Due.{Gains}
 use Rattle.pgn_game.specs.Written.{seen}
 use Rattle.pgn_game.specs.ConverterCalls.{AreShown, Converter, Ends, FinishedGame, finished_game_of, finished_game_value, IsLast, Stands, StopsWriting, Stops, refused, unwritten, FedAll, FedGame, FedToFault, within_limit, StopsIn, at_token, too_long, Finishes, FinishesToFault, games_before, position_at_stop, refused_position, reported_position}
@@ -66,6 +69,14 @@ writing_more p x y tokens at a b c first more =
       appended = subst (Appends a c) (sym (take-append-add first.text more.text more.count)) (Appends-trans a b c _ _ first.appended more.appended);
     }
 
+-- nothing is due for no tokens
+torn_none : (missing : Missing) (mode : Mode) → torn_for missing mode no_part ≡ []
+torn_none (counts_as text) mode = refl
+torn_none takes_the_marker mode = refl
+
+due_is : (p : Profile) (ts : List Token) (a b : Option (List ℕ)) (gains : Gains p [] ts a b) → due p ts ≡ gains.text
+due_is p ts a b gains = gains.due_for ∙ ap (λ l. l ++ gains.text) (torn_none p.missing_result p.mode)
+
 -- ---- what the bytes before place 2^62 show
 
 shown_within : (s : List ℕ) (ts : List Token) → AreKnown (within_limit s) ts → AreShown s ts
@@ -86,24 +97,20 @@ finds_as p s piece found new sink silent is same finds =
 
 -- ---- the converter
 
-module _ (mode : Mode) (missing : Marker) (u piece : List ℕ) (before : Option (List ℕ))
-    (laws : GamesEndByMarker) (between : TextsEndBetweenGames) where
-  abbrev p : Profile
-  p = profile_counting mode missing
-
+module _ (p : Profile) (u piece : List ℕ) (before : Option (List ℕ)) (laws : GamesEndByMarker) (between : TextsEndBetweenGames) where
   abbrev s : List ℕ
   s = u ++ piece
 
   -- the value of Result that the converter has
   value_is : (new : Converter) (game : Game) (text : List ℕ) → new.reading.profile ≡ p → new.just_finished ≡ Some (finished_game_of game)
-      → value_of (exported mode (marker_text missing) game.pairs) (codes "Result") ≡ Some text
+      → value_of (exported p.mode (result_for p.missing_result game.marker) game.pairs) (codes "Result") ≡ Some text
       → finished_game_value new (codes "Result") ≡ Some text
   value_is new game text profile finished is =
       ap (λ (o : Option FinishedGame). elim o [
         | None ↦ None
-        | Some done ↦ value_of (exported new.reading.profile.mode (known_result new.reading.profile.missing_result) done.pairs) (codes "Result")
+        | Some done ↦ value_of (exported new.reading.profile.mode (result_for new.reading.profile.missing_result done.marker) done.pairs) (codes "Result")
       ]) finished
-      ∙ ap (λ (q : Profile). value_of (exported q.mode (known_result q.missing_result) game.pairs) (codes "Result")) profile ∙ is
+      ∙ ap (λ (q : Profile). value_of (exported q.mode (result_for q.missing_result game.marker) game.pairs) (codes "Result")) profile ∙ is
 
   still_none : (bs : List ℕ) → still None bs ≡ None
   still_none [] = refl
@@ -171,7 +178,7 @@ module _ (mode : Mode) (missing : Marker) (u piece : List ℕ) (before : Option 
             is_marker = mark.is_marker;
             ends = subst (EndsAt fed.marker.kind fed.marker.at) (sym end) ends;
             settled = λ behind more. by_rest (drop used piece) refl parts size end behind more;
-            wrote = subst (Appends before after) (sym fed.gains.due_for ∙ whole_text ts fed.game law.whole fed.one_game) fed.gains.appended;
+            wrote = subst (Appends before after) (sym (due_is p ts before after fed.gains) ∙ whole_text ts fed.game law.whole fed.one_game) fed.gains.appended;
             is_result = is ∙ ap (λ m. game_result fed.game mark.marker fed.marker.at m) (sym end);
           }),
           (fed.stands.has_read.profile, fed.just_finished),
@@ -213,7 +220,7 @@ module _ (mode : Mode) (missing : Marker) (u piece : List ℕ) (before : Option 
             known = known;
             rejected = fault;
             no_game = none;
-            wrote = subst (Appends before after) (sym gains.due_for) gains.appended;
+            wrote = subst (Appends before after) (sym (due_is p to.fed.tokens before after gains)) gains.appended;
             is_result = is;
           }),
           tt,
@@ -241,7 +248,7 @@ module _ (mode : Mode) (missing : Marker) (u piece : List ℕ) (before : Option 
         all_decided = λ less. fed.decided (omega (arith, less, ap (length {A = ℕ}) cut, length-append front rest));
         passes = fed.stands.has_read.passes;
         no_game = fed.no_game;
-        wrote = subst (Appends before after) (sym fed.gains.due_for) fed.gains.appended;
+        wrote = subst (Appends before after) (sym (due_is p fed.tokens before after fed.gains)) fed.gains.appended;
         is_result = answer ∙ ap (fault_result 1 (record { at = 2 ^ 62; reason = InputTooLong })) (position_is new _ kept);
       }),
       tt,
@@ -263,7 +270,7 @@ module _ (mode : Mode) (missing : Marker) (u piece : List ℕ) (before : Option 
       -- what is written is due for all tokens
       all_due : Gains p fed.tokens (tokens_of s) middle after → Appends before after (due p (tokens_of s))
       all_due gains =
-          subst (Appends before after) (sym (gains.due_for ∙ ap (λ l. l ++ gains.text) fed.gains.due_for))
+          subst (Appends before after) (sym (gains.due_for ∙ ap (λ l. l ++ gains.text) (due_is p fed.tokens before middle fed.gains)))
           (Appends-trans before middle after _ _ fed.gains.appended gains.appended)
 
       pub game_at_end : (new : Converter) (n : ℕ) → TextsEndBehindMarker → mid.lexer.count ≤ 2 ^ 62 → n ≡ length s

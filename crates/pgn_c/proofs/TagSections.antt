@@ -1,9 +1,10 @@
 -- The tag section of the next game, and what a buffer has of it.
-use Rattle.pgn_c.proofs.Words.{◌≡◌, ◌≢◌, ℕ, ◌<◌, ◌≤◌, ◌⊎◌, ◌^◌, List, [], inl, inr, length, take, drop, Option, None, Some, sym, ap, subst, ◌∙◌, arith, length-take-le, take_all, Profile, known_result, PgnGame, IsFilled, IsOtherResult, NextOf, Holds, ReadsTo, Mode, Marker, profile_counting, text_from}
+use Rattle.pgn_c.proofs.Words.{◌≡◌, ◌≢◌, ℕ, ◌<◌, ◌≤◌, ◌⊎◌, ◌^◌, List, [], inl, inr, length, take, drop, Option, None, Some, sym, ap, subst, ◌∙◌, arith, length-take-le, take_all, Profile, PgnGame, IsFilled, NextOf, Holds, ReadsTo, text_from}
+use Rattle.pgn_game.specs.FaultTable.{result_for}
 use Rattle.pgn_game.specs.TagSection.{tag_section}
 use Rattle.pgn_game.specs.Game.{Game}
 use Rattle.pgn_game.specs.ConverterCalls.{Converter, FinishedGame, finished_game_of, finished_game_section}
-use Rattle.pgn_c.specs.NextGame.{ReadsTags, ReadsTagsByMarker, WritesSection, WritesTags, section_of, section_full}
+use Rattle.pgn_c.specs.NextGame.{ReadsTags, WritesSection, WritesTags, section_of, section_full}
 use Rattle.pgn_c.proofs.MarkerTaken.{is_fault}
 
 -- the section that the converter has is that of the game
@@ -12,9 +13,9 @@ section_is : (p : Profile) (c : Converter) (game : Game) → c.reading.profile �
 section_is p c game profile finished =
     ap (λ (o : Option FinishedGame). elim o [
       | None ↦ []
-      | Some done ↦ tag_section c.reading.profile.mode (known_result c.reading.profile.missing_result) done.pairs
+      | Some done ↦ tag_section c.reading.profile.mode (result_for c.reading.profile.missing_result done.marker) done.pairs
     ]) finished
-    ∙ ap (λ (q : Profile). tag_section q.mode (known_result q.missing_result) game.pairs) profile
+    ∙ ap (λ (q : Profile). tag_section q.mode (result_for q.missing_result game.marker) game.pairs) profile
 
 -- what was found, and what the call writes of it
 module _ (p : Profile) (s piece : List ℕ) (found : PgnGame) (c : Converter) (before after : List ℕ) (result : PgnGame)
@@ -62,31 +63,17 @@ some_written section found before after written n result less wrote full filled 
     }
 
 -- what a call writes that read the game before
-pub reads_tags : (mode : Mode) (marker : Marker) (text : List ℕ) (from : ℕ) (found : PgnGame) (c : Converter) (before after : List ℕ) (result : PgnGame)
-    → ReadsTo mode marker text from found c → found.status ≢ 2
+pub reads_tags : (p : Profile) (text : List ℕ) (from : ℕ) (found : PgnGame) (c : Converter) (before after : List ℕ) (result : PgnGame)
+    → ReadsTo p text from found c → found.status ≢ 2
     → (found.status ≡ 0 → WritesSection (finished_game_section c) found before after result)
     → (found.status ≢ 0 → after ≡ before) → (found.status ≢ 0 → result ≡ found)
-    → ReadsTags mode marker text from before after result
-reads_tags mode marker text from found c before after result reads not_full of_game nothing same =
+    → ReadsTags p text from before after result
+reads_tags p text from found c before after result reads not_full of_game nothing same =
     record {
       found = found;
       reads = reads.0;
       not_full = not_full;
-      writes = tags_of (profile_counting mode marker) (text_from text from) (drop from text) found c before after result of_game nothing same reads.0 reads.1;
-    }
-
-pub reads_by_marker : (mode : Mode) (marker : Marker) (text : List ℕ) (from : ℕ) (found : PgnGame) (c : Converter) (before after : List ℕ) (result : PgnGame)
-    → ReadsTo mode marker text from found c → found.status ≢ 2
-    → (found.status ≡ 0 → WritesSection (finished_game_section c) found before after result)
-    → (found.status ≢ 0 → after ≡ before) → (found.status ≢ 0 → result ≡ found)
-    → (found.fault ≡ 41 → (other : Marker) → IsOtherResult mode other text from)
-    → ReadsTagsByMarker mode text from before after result
-unfolding reads_tags
-reads_by_marker mode marker text from found c before after result reads not_full of_game nothing same by_each =
-    record {
-      marker = marker;
-      tags = reads_tags mode marker text from found c before after result reads not_full of_game nothing same;
-      by_each = by_each;
+      writes = tags_of p (text_from text from) (drop from text) found c before after result of_game nothing same reads.0 reads.1;
     }
 
 -- the place is in the text, and not above 2^62

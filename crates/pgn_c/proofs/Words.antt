@@ -1,5 +1,5 @@
 -- The words that proofs of this crate name, under one path.
-pub use Rattle.pgn_c.specs.NextGame.{AreKnown, ConvertsNext, IsGame, IsOtherResult, NextOf, TakesMarker, fault_result, game_result, nothing}
+pub use Rattle.pgn_c.specs.NextGame.{AreKnown, ConvertsNext, IsGame, NextOf, TakesMarker, fault_result, game_result, nothing}
 pub use Rattle.pgn_c.specs.NextGameSteps.{Finds, Holds, ReadsTo}
 pub use Rattle.pgn_c.specs.NextGame.{profile_counting, profile_taking, status_for, text_from}
 pub use Rattle.pgn_c.specs.Results.{IsFilled, padded, profile_in, result_of, status_of}

@@ -4,7 +4,7 @@
 -- place, and `piece` has its bytes from the place on. `found` is the result before its bytes
 -- written are counted. `before` and `after` are the bytes that were written, before the call and
 -- after it, if they are kept; from `ConvertsNext` on they are the bytes of the buffer.
-use Rattle.std.specs.Prelude.{◌≡◌, ◌≢◌, ℕ, ◌+◌, ◌-◌, ◌^◌, ◌<◌, ◌≤◌, ◌==◌, nat_lt, if◌then◌else◌, ◌||◌, ◌&&◌, ◌⊎◌, Bool, List, [], ◌∷◌, ◌++◌, length, take, drop, slice_index_or, decimal, Option, Some, None}
+use Rattle.std.specs.Prelude.{◌≡◌, ◌≢◌, ℕ, ◌+◌, ◌-◌, ◌^◌, ◌<◌, ◌≤◌, ◌==◌, ◌||◌, ◌&&◌, ◌⊎◌, Bool, List, [], ◌∷◌, ◌++◌, length, take, drop, slice_index_or, decimal, Option, Some, None}
 use Rattle.std.specs.Io.KnownBytes.{Appends}
 use Rattle.chess_rules.specs.declared.position.Parts.{Parts}
 use Rattle.chess_text.specs.Fen.{fen_text}
@@ -20,7 +20,8 @@ use Rattle.pgn_game.specs.declared.reason.Reason.{Reason}
 use Rattle.pgn_game.specs.declared.reason.Reason.TheVariants.{WriteFault, InputTooLong}
 use Rattle.pgn_game.specs.declared.reason.Fault.{Fault}
 use Rattle.pgn_game.specs.Markers.{marker_text}
-use Rattle.pgn_game.specs.Profile.{Profile, counting, known_result}
+use Rattle.pgn_game.specs.Profile.{Profile, counting}
+use Rattle.pgn_game.specs.FaultTable.{result_for}
 use Rattle.pgn_game.specs.TagSection.{tag_section}
 use Rattle.pgn_game.specs.Checked.{checked_profile}
 use Rattle.pgn_game.specs.Reason.{number_of, line_of}
@@ -203,24 +204,9 @@ pub record ConvertsNext (p : Profile) (text : List ℕ) (from : ℕ) (before aft
   pub full : result.status ≡ 2 → length written ≡ length before
   pub is_result : result ≡ record found { written = length written }
 
--- The next game is read, and nothing is written. A missing Result counts as this marker.
-abbrev pub ReadsNext : Mode → Marker → List ℕ → ℕ → PgnGame → Type 0
-ReadsNext mode marker text from found = NextOf (profile_counting mode marker) (text_from text from) (drop from text) found None None
-
--- the next game is rejected then, because its Result is not its marker (41)
-abbrev pub IsOtherResult : Mode → Marker → List ℕ → ℕ → Type 0
-IsOtherResult mode marker text from = (found : PgnGame) × ReadsNext mode marker text from found × (found.fault ≡ 41)
-
--- Which marker seems to be at the place, by its first two bytes. It is only a guess, with which the
--- game is read next: what is found by it is as `NextOf` says, or every marker is tried.
-abbrev pub marker_of_bytes : ℕ → ℕ → Marker
-marker_of_bytes first second =
-    if first == 48 then BlackWins
-    else (if (first == 49) && (second == 45) then WhiteWins else (if (first == 49) && (second == 47) then Draw else Unknown))
-
-abbrev pub marker_at : List ℕ → ℕ → Marker
-marker_at text place =
-    if nat_lt (place + 1) (length text) then marker_of_bytes (slice_index_or text place 0) (slice_index_or text (place + 1) 0) else Unknown
+-- the next game is read, and nothing is written
+abbrev pub ReadsNext : Profile → List ℕ → ℕ → PgnGame → Type 0
+ReadsNext p text from found = NextOf p (text_from text from) (drop from text) found None None
 
 -- the profile of a call in which a missing Result takes the marker
 abbrev pub profile_taking : Mode → Profile
@@ -243,23 +229,18 @@ pub record TakesMarker (mode : Mode) (s : List ℕ) (before after : List ℕ) (r
   pub is_result : result
       ≡ record (game_result game marker at.at result.end) { written = length (game_text (profile_taking mode) game) }
 
--- A missing Result takes the marker. So the game is first read, with a missing Result that counts
--- as `marker`, and nothing is written.
--- - If that finds a game, it is converted into the buffer in the same way. With the status 0 it is
---   the game of `TakesMarker`.
+-- A missing Result takes the marker. So the game is first read, and nothing is written.
+-- - If that finds a game, it is converted into the buffer, with a missing Result that counts as its
+--   marker. With the status 0 it is the game of `TakesMarker`.
 -- - If not, nothing is written, and the result is that of the reading.
--- - If its fault is that the Result is not the marker (41), it is so whichever marker a missing
---   Result counts as.
 pub record ChecksNext (mode : Mode) (text : List ℕ) (from : ℕ) (before after : List ℕ) (result : PgnGame) : Type 0 where
-  pub marker : Marker
   pub found : PgnGame
-  pub reads : ReadsNext mode marker text from found
+  pub reads : ReadsNext (profile_taking mode) text from found
   pub not_full : found.status ≢ 2
-  pub is_game : found.status ≡ 0
+  pub is_game : found.status ≡ 0 → (marker : Marker) → found.marker ≡ marker_number marker
       → ConvertsNext (profile_counting mode marker) text from before after result
   pub takes : result.status ≡ 0 → TakesMarker mode (text_from text from) before after result
   pub no_game : found.status ≢ 0 → (after ≡ before) × (result ≡ found)
-  pub by_each : found.fault ≡ 41 → (other : Marker) → IsOtherResult mode other text from
 
 -- The next game in a mode. If `missing_result` is 0, a missing Result counts as `*`; if it is 1, it
 -- takes the marker. With another number the status is 3. With a place after the end of the text or
@@ -282,7 +263,7 @@ NextGameIn None missing_result text from before after result = (after ≡ before
 
 -- the tag section of a game, with the empty line after it
 abbrev pub section_of : Profile → Game → List ℕ
-section_of p g = tag_section p.mode (known_result p.missing_result) g.pairs
+section_of p g = tag_section p.mode (result_for p.missing_result g.marker) g.pairs
 
 -- The result if the buffer is full before the section is written: the status is 2, the fault is
 -- that a write failed, and the place is that of the game's marker.
@@ -304,20 +285,13 @@ abbrev pub WritesTags : {p : Profile} {s piece : List ℕ} {found : PgnGame} {ol
 WritesTags {p} {found = found} (NextOf.game is) before after result = WritesSection (section_of p is.game) found before after result
 WritesTags {found = found} _ before after result = (after ≡ before) × (result ≡ found)
 
--- The next game is read with a missing Result that counts as this marker, and its tag section is
--- written. The reading writes nothing, so its status is never 2.
-pub record ReadsTags (mode : Mode) (marker : Marker) (text : List ℕ) (from : ℕ) (before after : List ℕ) (result : PgnGame) : Type 0 where
+-- The next game is read, and its tag section is written. The reading writes nothing, so its status
+-- is never 2.
+pub record ReadsTags (p : Profile) (text : List ℕ) (from : ℕ) (before after : List ℕ) (result : PgnGame) : Type 0 where
   pub found : PgnGame
-  pub reads : ReadsNext mode marker text from found
+  pub reads : ReadsNext p text from found
   pub not_full : found.status ≢ 2
   pub writes : WritesTags reads before after result
-
--- A missing Result takes the marker: it is read and written so with some marker. If the fault is
--- that the Result is not the marker (41), it is so whichever marker a missing Result counts as.
-pub record ReadsTagsByMarker (mode : Mode) (text : List ℕ) (from : ℕ) (before after : List ℕ) (result : PgnGame) : Type 0 where
-  pub marker : Marker
-  pub tags : ReadsTags mode marker text from before after result
-  pub by_each : tags.found.fault ≡ 41 → (other : Marker) → IsOtherResult mode other text from
 
 -- The next game in a mode, of which the tag section is written. If `missing_result` is 0, a missing
 -- Result counts as `*`; if it is 1, it takes the marker. With another number the status is 3. With
@@ -327,9 +301,9 @@ pub record ReadGame (mode : Mode) (missing_result : ℕ) (text : List ℕ) (from
   pub bad_place : missing_result ≤ 1 → (length text < from) ⊎ (2 ^ 62 < from)
       → (after ≡ before) × (result ≡ nothing 6)
   pub counts_as_unknown : missing_result ≡ 0 → from ≤ length text → from ≤ 2 ^ 62
-      → ReadsTags mode Unknown text from before after result
+      → ReadsTags (profile_counting mode Unknown) text from before after result
   pub takes_the_marker : missing_result ≡ 1 → from ≤ length text → from ≤ 2 ^ 62
-      → ReadsTagsByMarker mode text from before after result
+      → ReadsTags (profile_taking mode) text from before after result
 
 -- the same for a mode, if there is one; without one the status is 3, and nothing is written
 abbrev pub ReadGameIn : Option Mode → ℕ → List ℕ → ℕ → List ℕ → List ℕ → PgnGame → Type 0

@@ -164,6 +164,18 @@ fn number_of(marker: Marker) -> u32
     }
 }
 
+/// The marker that has this number in C.
+pub fn marker_of_number(number: u32) -> Marker
+    ensures { (marker : Marker) → number ≡ marker_number marker → result ≡ marker }
+{
+    match number {
+        1 => Marker::WhiteWins,
+        2 => Marker::BlackWins,
+        3 => Marker::Draw,
+        _ => Marker::Unknown,
+    }
+}
+
 // The FEN of a position, and zeros behind it.
 #[inline(always)]
 fn fen_of(position: Option<&Position>) -> [u8; 96]

@@ -1,22 +1,24 @@
 //! The next game of a text.
-ghost use Rattle.std.specs.Prelude.{◌≡◌, ◌≢◌, ◌≤◌, ◌^◌, ◌↔◌, None, false, IsTrue, length, drop};
+ghost use Rattle.std.specs.Prelude.{◌≡◌, ◌≢◌, ◌≤◌, ◌^◌, None, false, length, drop};
 ghost use Rattle.pgn_layout.specs.Device.{FailsOnce, one_more};
 ghost use Rattle.pgn_game.specs.ReaderState.{sink_of};
-ghost use Rattle.pgn_game.specs.declared.marker.Marker.{Marker as CodeMarker};
-ghost use Rattle.pgn_c.specs.NextGame.{ChecksNext, ConvertsNext, IsOtherResult, NextGameIn, NextOf, ReadsNext};
-ghost use Rattle.pgn_c.specs.NextGame.{profile_counting, text_from};
-ghost use Rattle.pgn_c.specs.NextGameSteps.{BeginsAt, ReadsTo, RunsNext};
+ghost use Rattle.pgn_c.specs.NextGame.{ChecksNext, ConvertsNext, NextGameIn, NextOf, ReadsNext};
+ghost use Rattle.pgn_c.specs.NextGame.{profile_counting, profile_taking, text_from};
+ghost use Rattle.pgn_c.specs.NextGameSteps.{BeginsAt, BeginsSilently, ReadsTo, RunsNext};
+ghost use Rattle.pgn_c.specs.NextGameSteps.{profile_if, silenced_if};
 ghost use Rattle.pgn_lexer.specs.TokensOf.{has_mark};
 ghost use Rattle.pgn_c.specs.NextGame as spec;
 
 use crate::buffer_sink::{Before, BufferSink, Room};
-use crate::game_result::{BAD_PLACE, MORE, NO_GAME, PgnGame, finished_game, no_game, refused_game};
+use crate::game_result::{
+    BAD_PLACE, MORE, NO_GAME, PgnGame, finished_game, marker_of_number, no_game, refused_game,
+};
 use crate::pgn_result::{FAULT, NO_MODE, OK};
 use crate::{LEVELS, TAGS};
 use pgn_game::laws::{
     games_end_by_marker, missing_results, texts_end_behind_marker, texts_end_between_games,
 };
-use pgn_game::{Converter, Fed, Marker, Mode, Nowhere, Reason, Sink};
+use pgn_game::{Converter, Fed, Marker, Mode, Nowhere, Sink};
 use std::marker::{Brand, PhantomData};
 
 /// The last place from which a text can be read.
@@ -57,140 +59,56 @@ fn check_next(text: &[u8], from: usize, mode: Mode, buffer: &mut [u8]) -> PgnGam
     ensures { ChecksNext mode text.now from buffer.old buffer.new result }
 {
     missing_results();
-    let read = read_alone(text, from, mode);
-    if read.found.status == OK {
-        return convert_next(text, from, mode, read.marker, buffer);
+    let found = read_by_marker(text, from, mode);
+    if found.status == OK {
+        let marker = marker_of_number(found.marker);
+        return convert_next(text, from, mode, marker, buffer);
     }
-    read.found
+    found
 }
 
 // Reads the next game, in which a missing Result takes the marker, and writes nothing. It is not
 // inlined: so its converter is gone when the game is converted.
 #[inline(never)]
-fn read_alone(text: &[u8], from: usize, mode: Mode) -> ByMarker
+fn read_by_marker(text: &[u8], from: usize, mode: Mode) -> PgnGame
     requires within { from ≤ length text.now }
     requires place { from ≤ 2 ^ 62 }
-    ensures next { ReadsNext mode result.marker text.now from result.found }
-    ensures not_full { result.found.status ≢ 2 }
-    ensures by_each { result.found.fault ≡ 41 → (marker : CodeMarker)
-        → IsOtherResult mode marker text.now from }
+    ensures next { ReadsNext (profile_taking mode) text.now from result }
+    ensures not_full { result.status ≢ 2 }
 {
     let mut converter = Converter::<TAGS, LEVELS>::new(mode);
-    read_by_marker(text, from, mode, &mut converter)
+    read_silently(text, from, mode, true, &mut converter)
 }
 
-/// What the next game is by a marker, which a missing Result counts as.
-#[derive(Clone, Copy)]
-pub struct ByMarker {
-    pub marker: Marker,
-    pub found: PgnGame,
-}
-
-// Reads the next game, and counts a missing Result as the marker of the game. It is read once with
-// `*`, and a second time with the marker that the text seems to have where the Result differs.
-pub fn read_by_marker(
+/// Reads the next game, and writes nothing. A missing Result takes the marker, or counts as `*`.
+/// The converter is made anew, and then holds the game.
+pub fn read_silently(
     text: &[u8],
     from: usize,
     mode: Mode,
+    takes_marker: bool,
     converter: &mut Converter<TAGS, LEVELS>,
-) -> ByMarker
+) -> PgnGame
     requires within { from ≤ length text.now }
     requires place { from ≤ 2 ^ 62 }
-    ensures reads { ReadsTo mode result.marker text.now from result.found converter.new }
-    ensures not_full { result.found.status ≢ 2 }
-    ensures by_each { result.found.fault ≡ 41 → (marker : CodeMarker)
-        → IsOtherResult mode marker text.now from }
+    ensures reads { ReadsTo (profile_if takes_marker mode) text.now from result converter.new }
+    ensures not_full { result.status ≢ 2 }
 {
-    let unknown = read_counting(text, from, mode, Marker::Unknown, converter);
-    if !has_other_result(&unknown.found) {
-        return unknown;
-    }
-    let marker = marker_at(text, unknown.found.place as usize);
-    let seen = read_counting(text, from, mode, marker, converter);
-    if !has_other_result(&seen.found) {
-        return seen;
-    }
-    read_by_each(text, from, mode, converter)
+    *converter = converter_at(text, from, mode, Marker::Unknown);
+    silence(converter, takes_marker);
+    run_next(converter, text, from, &mut Nowhere)
 }
 
-// Reads the next game, and counts a missing Result as each marker in turn, until the marker of the
-// game is not rejected for it.
-#[inline(never)]
-fn read_by_each(
-    text: &[u8],
-    from: usize,
-    mode: Mode,
-    converter: &mut Converter<TAGS, LEVELS>,
-) -> ByMarker
-    requires within { from ≤ length text.now }
-    requires place { from ≤ 2 ^ 62 }
-    ensures reads { ReadsTo mode result.marker text.now from result.found converter.new }
-    ensures not_full { result.found.status ≢ 2 }
-    ensures by_each { result.found.fault ≡ 41 → (marker : CodeMarker)
-        → IsOtherResult mode marker text.now from }
+// From now on the converter writes nothing. A missing Result takes the marker, or counts as before.
+fn silence(converter: &mut Converter<TAGS, LEVELS>, takes_marker: bool)
+    ensures only_switch { converter.new ≡ silenced_if takes_marker converter.old }
+    ensures begins { (mode : Mode) → BeginsSilently takes_marker mode converter.old converter.new }
 {
-    let unknown = read_counting(text, from, mode, Marker::Unknown, converter);
-    if !has_other_result(&unknown.found) {
-        return unknown;
+    if takes_marker {
+        converter.take_marker_for_missing_result();
+    } else {
+        converter.write_nothing();
     }
-    let white = read_counting(text, from, mode, Marker::WhiteWins, converter);
-    if !has_other_result(&white.found) {
-        return white;
-    }
-    let black = read_counting(text, from, mode, Marker::BlackWins, converter);
-    if !has_other_result(&black.found) {
-        return black;
-    }
-    read_counting(text, from, mode, Marker::Draw, converter)
-}
-
-// The marker that seems to be at the place, by its first two bytes.
-fn marker_at(text: &[u8], place: usize) -> Marker
-    ensures { result ≡ spec.marker_at text.now place }
-{
-    if place >= text.len() || place + 1 >= text.len() {
-        return Marker::Unknown;
-    }
-    let first = text[place];
-    let second = text[place + 1];
-    if first == b'0' {
-        return Marker::BlackWins;
-    }
-    if first == b'1' && second == b'-' {
-        return Marker::WhiteWins;
-    }
-    if first == b'1' && second == b'/' {
-        return Marker::Draw;
-    }
-    Marker::Unknown
-}
-
-// Reads the next game, and writes nothing. A missing Result counts as this marker. The converter is
-// made anew, and then holds the game.
-pub fn read_counting(
-    text: &[u8],
-    from: usize,
-    mode: Mode,
-    marker: Marker,
-    converter: &mut Converter<TAGS, LEVELS>,
-) -> ByMarker
-    requires within { from ≤ length text.now }
-    requires place { from ≤ 2 ^ 62 }
-    ensures marker { result.marker ≡ marker }
-    ensures reads { ReadsTo mode marker text.now from result.found converter.new }
-    ensures not_full { result.found.status ≢ 2 }
-{
-    *converter = converter_at(text, from, mode, marker);
-    converter.write_nothing();
-    let found = run_next(converter, text, from, &mut Nowhere);
-    ByMarker { marker, found }
-}
-
-// Whether the game has another Result than its marker.
-fn has_other_result(found: &PgnGame) -> bool
-    ensures { IsTrue result ↔ (found.now.fault ≡ 41) }
-{
-    found.fault == Reason::ResultDiffers.number() as u32
 }
 
 // Converts the next game into the front of a buffer. A missing Result counts as this marker.
@@ -255,7 +173,7 @@ fn read_next<W: Sink>(text: &[u8], from: usize, mode: Mode, missing: Marker, out
 fn converter_at(text: &[u8], from: usize, mode: Mode, missing: Marker) -> Converter<TAGS, LEVELS>
     requires within { from ≤ length text.now }
     requires place { from ≤ 2 ^ 62 }
-    ensures begins { BeginsAt mode missing text.now from result }
+    ensures begins { BeginsAt (profile_counting mode missing) text.now from result }
     ensures count { result.lexer.count ≡ from }
     ensures not_finished { result.is_finished ≡ false }
     ensures writes { result.reading.writing.is_silent ≡ false }

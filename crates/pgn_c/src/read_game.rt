@@ -5,10 +5,10 @@ ghost use Rattle.pgn_c.specs.NextGame.{ReadGameIn, WritesSection, section_full};
 
 use crate::buffer_sink::{Before, BufferSink, Room};
 use crate::game_result::{BAD_PLACE, PgnGame, fault_game, no_game};
-use crate::next_game::{LAST_PLACE, read_by_marker, read_counting};
+use crate::next_game::{LAST_PLACE, read_silently};
 use crate::pgn_result::{FULL, NO_MODE, OK};
 use crate::{LEVELS, TAGS};
-use pgn_game::{Converter, Fault, Marker, Mode, Reason};
+use pgn_game::{Converter, Fault, Mode, Reason};
 use std::marker::{Brand, PhantomData};
 
 /// Reads the next game, and writes its tag section into the front of a buffer.
@@ -31,12 +31,8 @@ pub fn read_game(
         return no_game(BAD_PLACE);
     }
     let mut converter = Converter::<TAGS, LEVELS>::new(mode);
-    if missing_result == 0 {
-        let read = read_counting(text, from, mode, Marker::Unknown, &mut converter);
-        return put_tags(&converter, read.found, buffer);
-    }
-    let read = read_by_marker(text, from, mode, &mut converter);
-    put_tags(&converter, read.found, buffer)
+    let found = read_silently(text, from, mode, missing_result == 1, &mut converter);
+    put_tags(&converter, found, buffer)
 }
 
 // Writes the tag section of the game that the converter has just finished, if one was found.

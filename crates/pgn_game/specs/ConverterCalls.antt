@@ -25,11 +25,11 @@ use Rattle.pgn_game.specs.declared.stage.Stage.TheVariants.{Between}
 use Rattle.pgn_game.specs.declared.converter.Fed.{Fed}
 use Rattle.pgn_game.specs.declared.converter.Fed.TheVariants.{All, Game as GameEnd}
 use Rattle.pgn_game.specs.Markers.{marker_text}
-use Rattle.pgn_game.specs.Profile.{Profile, counting, counts_as, known_result}
+use Rattle.pgn_game.specs.Profile.{Profile, counting, counts_as, takes_the_marker, with_missing}
 use Rattle.pgn_game.specs.Pairs.{Pair, value_of}
 use Rattle.pgn_game.specs.TagSection.{exported, tag_section}
 use Rattle.pgn_game.specs.Game.{Game}
-use Rattle.pgn_game.specs.FaultTable.{position_if_move}
+use Rattle.pgn_game.specs.FaultTable.{position_if_move, result_for}
 use Rattle.pgn_game.specs.Progress.{Progress, read, due, position_at_fault}
 use Rattle.pgn_game.specs.MostTried.{MostTried, Raises, TriesUnwritten}
 use Rattle.pgn_game.specs.Due.{Gains}
@@ -87,7 +87,7 @@ pub record IsSound (lexer : Standing) (reading : ReaderState) (games : ℕ) (has
 -- What can be asked of the game just finished: the value of a name in its tag section, the number
 -- of its moves outside variations, the position after them, and its marker.
 abbrev pub finished_game_value : Converter → List ℕ → Option (List ℕ)
-finished_game_value c name = elim c.just_finished [ None ↦ None | Some finished ↦ value_of (exported c.reading.profile.mode (known_result c.reading.profile.missing_result) finished.pairs) name ]
+finished_game_value c name = elim c.just_finished [ None ↦ None | Some finished ↦ value_of (exported c.reading.profile.mode (result_for c.reading.profile.missing_result finished.marker) finished.pairs) name ]
 
 abbrev pub finished_game_plies : Converter → ℕ
 finished_game_plies c = elim c.just_finished [ None ↦ 0 | Some finished ↦ finished.plies ]
@@ -102,7 +102,7 @@ finished_game_marker c = option_map (λ finished. finished.marker) c.just_finish
 abbrev pub finished_game_section : Converter → List ℕ
 finished_game_section c = elim c.just_finished [
   | None ↦ []
-  | Some finished ↦ tag_section c.reading.profile.mode (known_result c.reading.profile.missing_result) finished.pairs
+  | Some finished ↦ tag_section c.reading.profile.mode (result_for c.reading.profile.missing_result finished.marker) finished.pairs
 ]
 
 -- the position that a reader reports with a fault, if a move was rejected: its current one
@@ -142,9 +142,10 @@ pub record HasRead (p : Profile) (c : Converter) (given : List Token) : Type 0 w
   pub just_finished : IsLast c.just_finished (read p given).progress.games
 
 -- The converter stands after the bytes u: the lexer has given these tokens, and the reader has read
--- them. If b is a byte, it is known to be next. A missing Result counts as a text.
+-- them. If b is a byte, it is known to be next. If the converter writes, a missing Result counts as
+-- a text.
 pub record Stands (p : Profile) (c : Converter) (u : List ℕ) (b : Option ℕ) (given : List Token) : Type 0 where
-  pub known : IsKnown p
+  pub known : c.reading.writing.is_silent ≡ false → IsKnown p
   pub lexer : StandsAfter c.lexer u b given
   pub has_read : HasRead p c given
 
@@ -397,6 +398,18 @@ abbrev pub StillStands : Converter → Converter → Type 0
 StillStands old new =
     (p : Profile) (u : List ℕ) (b : Option ℕ)
     → Stands p old u b [] → Stands p new u b []
+
+-- the same converter, but from now on a missing Result takes the marker, and nothing is written
+abbrev pub reading_by_marker : Converter → Converter
+reading_by_marker c =
+    record c { reading = silenced (record c.reading { profile = with_missing c.reading.profile takes_the_marker }) }
+
+-- What `take_marker_for_missing_result` does to a converter that has read no token yet: it stands
+-- after the same bytes as before, by the profile in which a missing Result takes the marker.
+abbrev pub TakesMarkers : Converter → Converter → Type 0
+TakesMarkers old new =
+    (p : Profile) (u : List ℕ) (b : Option ℕ)
+    → Stands p old u b [] → Stands (with_missing p takes_the_marker) new u b []
 
 -- The fault that a call returns is kept. After any other result there is none.
 abbrev pub KeepsFault : {A : Type 0} → Converter → Result A Fault → Type 0

@@ -114,7 +114,7 @@ impl<const T: usize, const L: usize> Reading<T, L> {
         ensures writes { result.converter.reading.writing.is_silent ≡ false }
     {
         let mut converter = Converter::new(mode);
-        converter.take_marker_for_missing_result();
+        converter.take_told_marker();
         Reading {
             converter,
             buffer: ReadBuffer::new(),

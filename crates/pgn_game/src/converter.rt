@@ -25,6 +25,7 @@ ghost use Rattle.pgn_game.specs.ConverterCalls.{refused_position};
 ghost use Rattle.pgn_game.specs.ConverterCalls.{CountsMissingAs, counting_missing_as};
 ghost use Rattle.pgn_game.specs.ReaderState.{KeepsSilence, as_written, sink_of, whole_plies};
 ghost use Rattle.pgn_game.specs.ConverterCalls.{NoWriteFails, StillStands, writing_nothing};
+ghost use Rattle.pgn_game.specs.ConverterCalls.{TakesMarkers, reading_by_marker};
 
 use crate::marker::{Mark, Marker, MissingResult};
 use crate::mode::Mode;
@@ -226,8 +227,33 @@ impl<const T: usize, const L: usize> Converter<T, L> {
         self.reader.write_nothing();
     }
 
-    /// From now on a missing Result takes the marker that ends its game.
-    pub(crate) fn take_marker_for_missing_result(&mut self)
+    /// From now on a missing Result takes the marker that ends its game, and no call touches its
+    /// sink, since a tag section is written before the marker is known.
+    ///
+    /// `tag` and `write_tags` give such a Result once the game is finished. All else is as
+    /// `write_nothing` says. Call this before the first byte is fed: nothing else is ensured of a
+    /// game that had begun.
+    ///
+    /// # Examples
+    ///
+    /// ```
+    /// use pgn_game::{Converter, Fed, Mode, Nowhere};
+    ///
+    /// let mut converter = Converter::<64, 33>::new(Mode::Full);
+    /// converter.take_marker_for_missing_result();
+    /// assert_eq!(converter.feed(b"1. e4 1-0 ", &mut Nowhere).unwrap(), Fed::Game(9));
+    /// assert_eq!(converter.tag(b"Result"), Some(b"1-0".as_slice()));
+    /// ```
+    pub fn take_marker_for_missing_result(&mut self)
+        ensures only_switch { self.new ≡ reading_by_marker self.old }
+        ensures stands { TakesMarkers self.old self.new }
+    {
+        self.take_told_marker();
+        self.write_nothing();
+    }
+
+    /// From now on a missing Result takes the marker that `tell` gives, and that ends its game.
+    pub(crate) fn take_told_marker(&mut self)
         ensures { self.new ≡ taking_marker self.old }
     {
         self.reader

@@ -21,7 +21,7 @@ ghost use Rattle.pgn_game.specs.PutResult.{BeginsText, CountsMove, Finds, Keeps,
 ghost use Rattle.pgn_game.specs.PutResult.{PutsItems, TakesEntry, TakesOutside, TakesUnlessMarker};
 ghost use Rattle.pgn_game.specs.PutResult.{TakesUnwritten, at_game_start, continued, ended, no_marker};
 ghost use Rattle.pgn_game.specs.FaultTable as spec;
-ghost use Rattle.pgn_game.specs.FaultTable.{is_reduced, marker_of};
+ghost use Rattle.pgn_game.specs.FaultTable.{is_reduced, marker_of, result_for};
 
 use crate::annotation::Annotation;
 use crate::find::named_move;
@@ -143,9 +143,10 @@ impl<const T: usize, const L: usize> Reader<T, L> {
         requires { self.now.stage ≡ Between }
         ensures { option_copied result
             ≡ value_of (exported self.now.profile.mode
-            (known_result self.now.profile.missing_result) self.now.tags.held) name.now }
+            (result_for self.now.profile.missing_result self.now.marker) self.now.tags.held)
+            name.now }
     {
-        exported_value(self.mode, self.missing_result, &self.tags.pairs(), name)
+        exported_value(self.mode, self.shown_result(), &self.tags.pairs(), name)
     }
 
     /// Writes the tag section of the game just read.
@@ -156,10 +157,21 @@ impl<const T: usize, const L: usize> Reader<T, L> {
     pub fn write_section<W: Sink>(&self, out: &mut W) -> Result<(), WriteFault>
         requires { self.now.stage ≡ Between }
         ensures { WritesText (device W.taken W.failures out.old out.new) result
-            (tag_section self.now.profile.mode (known_result self.now.profile.missing_result)
-            self.now.tags.held) }
+            (tag_section self.now.profile.mode
+            (result_for self.now.profile.missing_result self.now.marker) self.now.tags.held) }
     {
-        write_section(self.mode, self.missing_result, &self.tags.pairs(), out)
+        write_section(self.mode, self.shown_result(), &self.tags.pairs(), out)
+    }
+
+    // What a missing Result is in the game just read.
+    fn shown_result(&self) -> MissingResult
+        ensures { known_result (missing_of result)
+            ≡ result_for self.now.profile.missing_result self.now.marker }
+    {
+        match self.missing_result {
+            MissingResult::TakesTheMarker => MissingResult::CountsAs(self.marker),
+            missing => missing,
+        }
     }
 
     /// Returns the marker of the game just read.

@@ -7,4 +7,5 @@ mod limits;
 mod reasons;
 mod refused_moves;
 mod runs;
+mod silent;
 mod tables;

@@ -189,6 +189,12 @@ module _ (p : Profile) (old : Converter) (given : List Token) (t : Token) (l : S
         position = here ∙ sym (ap position_at_fault ends);
       }
 
+  -- where the reason is not that a write failed
+  pub at_refusal : (us : List Token) {a c : Option (List ℕ)} {why : Reason} → (why ≡ WriteFault → ⊥)
+      → Answers old.reading b.part t.kind new (Err why) a c → FaultAtEnd p given (given ++ t ∷ us) (record { at = t.at; reason = why }) new a c
+  at_refusal us other (reader_state.refused reason some wrote tries here) = at_refused us some wrote tries here
+  at_refusal us other (reader_state.unwritten none wrote tries) = absurd (other refl)
+
   -- where the game goes on, the same profile writes what the token adds
   pub due_more : (w : Profile) → refusal old.reading.profile b.part t.kind ≡ None → Leads (next b.part t.kind) More new
       → due_as w p (given ++ t ∷ []) ≡ due_as w p given ++ gain w b.part t.kind

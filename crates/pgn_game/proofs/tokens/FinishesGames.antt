@@ -1,6 +1,6 @@
 -- Behind the last piece: up to a marker, to the game that it ends, and to the end.
 use Rattle.pgn_lexer.specs.Tokens as tokens
-use Rattle.pgn_game.proofs.Words.{Token, Kind, Between, Fault, Profile, Part, Game, ◌≡◌, ℕ, ◌+◌, ◌<◌, Bool, true, false, IsTrue, List, [], ◌∷◌, ◌++◌, length, Option, None, Some, Ok, Err, refl, sym, ap, subst, ◌∙◌, arith, append-nil, append_assoc, length-append, Appends-nil, ◌↔◌, Device, tokens_of, Standing, coming, HasLeft, refusal, is_end, next, progress_with, Progress, Read, read, due, written_so_far as written, Gains, ReaderState, IsKnown, as_written, Converter, HasRead, IsLastGame as IsLast, game_in_reader, game_in_reader_if, Finishes, FinishesToFault, SameGames, ReadsMore, EndsGame, StaysBetween, FaultAtEnd, AtEndSoFar, AfterStepAtEnd, part_after, Stands, false≢true, le_refl}
+use Rattle.pgn_game.proofs.Words.{Token, Kind, Between, Fault, Profile, Part, Game, ◌≡◌, ℕ, ◌+◌, ◌<◌, Bool, true, false, IsTrue, List, [], ◌∷◌, ◌++◌, length, Option, None, Some, Ok, Err, refl, sym, ap, subst, ◌∙◌, arith, append-nil, append_assoc, length-append, Appends-nil, ◌↔◌, Device, tokens_of, Standing, coming, HasLeft, refusal, is_end, next, progress_with, Progress, Read, read, due, written_so_far as written, Gains, ReaderState, as_written, Converter, HasRead, IsLastGame as IsLast, game_in_reader, game_in_reader_if, Finishes, FinishesToFault, SameGames, ReadsMore, EndsGame, StaysBetween, FaultAtEnd, AtEndSoFar, AfterStepAtEnd, part_after, Stands, false≢true, le_refl}
 use Rattle.pgn_game.specs.declared.marker.Mark.{Mark}
 use Rattle.pgn_game.specs.declared.converter.Met.TheVariants.{Token as Other, Marker as AtMarker}
 use Rattle.pgn_game.specs.ConverterSteps.{LeftSoFar, LeavesMarker, ReadsToEnd, FailsAtEnd}
@@ -8,7 +8,7 @@ use Rattle.pgn_game.specs.ConverterCalls.{IsSound}
 use Rattle.pgn_game.proofs.tokens.OneMoreToken.{read-passes, gains_none, gains_more, stops_more, games_still, counts_still, position_still}
 use Rattle.pgn_game.proofs.tokens.NoneBeforeFault.{none_before_fault}
 use Rattle.pgn_game.proofs.tokens.StepsAtEnd.{left_of, let_go, end_at, is_the_end}
-use Rattle.pgn_game.proofs.tokens.MarkerToGame.{reads_none, reads_more, meets_more, not_taken_more, gains_known, fault_not_taken, has_read_marker, game_by_marker, gains_marker, fault_of_marker}
+use Rattle.pgn_game.proofs.tokens.MarkerToGame.{ShowsDue, ShowsStop, reads_none, reads_more, meets_more, not_taken_more, gains_known, fault_not_taken, has_read_marker, game_by_marker, gains_marker, fault_of_marker}
 
 -- ---- up to a marker
 
@@ -129,7 +129,7 @@ module _ (p : Profile) (u : List ℕ) (given : List Token) (now : Converter) (fi
   same_length ts same = subst (λ gs. IsTrue finished_game ↔ (length (read p given).progress.games < length {A = Game} gs)) (sym same) so.game
 
   -- a marker ends a game
-  pub ended_game : IsKnown p → (m : Mark) (mid new : Converter) (sink : Device) → LeavesMarker p u so.tokens m mid c sink.before
+  pub ended_game : ShowsDue p c → (m : Mark) (mid new : Converter) (sink : Device) → LeavesMarker p u so.tokens m mid c sink.before
       → EndsGame mid.reading m new.reading (Ok tt) sink → new.lexer ≡ mid.lexer → new.fault ≡ None → new.games ≡ mid.games + 1
       → new.just_finished ≡ Some (game_in_reader new.reading) → AtEndSoFar p u given new true a sink.after
   ended_game known m mid new sink leaves ends lexer no_fault games just_finished =
@@ -161,7 +161,7 @@ module _ (p : Profile) (u : List ℕ) (given : List Token) (now : Converter) (fi
       }
 
   -- the end is reached
-  pub ended_input : IsKnown p → (new : Converter) (d : Option (List ℕ)) (flag : Bool) → ReadsToEnd p u so.tokens new c d
+  pub ended_input : ShowsDue p c → (new : Converter) (d : Option (List ℕ)) (flag : Bool) → ReadsToEnd p u so.tokens new c d
       → StaysBetween now new → (new.reading.stage ≡ Between → flag ≡ finished_game)
       → Finishes p u given (record {
         lexer = new.lexer;
@@ -178,7 +178,7 @@ module _ (p : Profile) (u : List ℕ) (given : List Token) (now : Converter) (fi
       let end_is = end_same p to.tokens to.token ends.reads.has_read.passes ends.is_end ends.passes in
       let same : SameGames p so.tokens ts = ap (λ (b : Progress). b.games) end_is ∙ ends.reads.no_game in
       let same_flag = flag_is ends.between in
-      let gains : Gains p so.tokens ts c d = gains_more (gains_known p known so.tokens to.tokens new c d ends.reads)
+      let gains : Gains p so.tokens ts c d = gains_more (gains_known p so.tokens to.tokens new c d known ends.reads)
       (record { text = []; due_for = ap (written p) end_is ∙ sym (append-nil (due p to.tokens)); appended = Appends-nil d }) in
       record {
         has_read = subst (HasRead p _) (sym ends.whole) (record {
@@ -223,23 +223,23 @@ module _ (p : Profile) (u : List ℕ) (given : List Token) (now : Converter) (fi
       }
 
   -- a token was not taken
-  pub failed_input : IsKnown p → (f : Fault) (l : Standing) (new : Converter) (d : Option (List ℕ)) → HasLeft l u given
+  pub failed_input : (f : Fault) → ShowsStop p c f.reason → (l : Standing) (new : Converter) (d : Option (List ℕ)) → HasLeft l u given
       → (read p given).fault ≡ None → FailsAtEnd p u so.tokens f new.reading c d → new.games ≡ now.games
       → FinishesToFault p u given new f a d
-  failed_input known f l new d left passes h same =
+  failed_input f shows l new d left passes h same =
       ended_badly f l new d left passes
       (subst (λ ts. FaultAtEnd p so.tokens ts f new.reading c d) (sym h.cut)
-      (fault_not_taken p known so.tokens h.tokens h.token h.rest f new.reading c d h.fails)) same
+      (fault_not_taken p so.tokens h.tokens h.token h.rest f new.reading c d shows h.fails)) same
 
   -- a marker was not taken
-  pub failed_game : IsKnown p → (f : Fault) (l : Standing) (m : Mark) (mid new : Converter) (sink : Device) → HasLeft l u given
+  pub failed_game : (f : Fault) → ShowsStop p c f.reason → (l : Standing) (m : Mark) (mid new : Converter) (sink : Device) → HasLeft l u given
       → (read p given).fault ≡ None → LeavesMarker p u so.tokens m mid c sink.before
       → EndsGame mid.reading m new.reading (Err f) sink → new.games ≡ mid.games → mid.games ≡ now.games
       → FinishesToFault p u given new f a sink.after
-  failed_game known f l m mid new sink left passes leaves ends same same_before =
+  failed_game f shows l m mid new sink left passes leaves ends same same_before =
       let rest = coming mid.lexer [] in
       let cut : tokens_of u ≡ leaves.tokens ++ leaves.token ∷ rest =
       leaves.left ∙ append_assoc leaves.tokens (leaves.token ∷ []) rest in
       ended_badly f l new sink.after left passes
       (subst (λ ts. FaultAtEnd p so.tokens ts f new.reading c sink.after) (sym cut)
-      (fault_of_marker p so.tokens leaves.tokens leaves.token m mid c sink leaves.meets new.reading known rest f ends)) (same ∙ same_before)
+      (fault_of_marker p so.tokens leaves.tokens leaves.token m mid c sink leaves.meets new.reading rest f shows ends)) (same ∙ same_before)

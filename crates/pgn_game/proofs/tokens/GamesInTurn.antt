@@ -1,5 +1,5 @@
 -- Games read in turn from a source.
-use Rattle.pgn_game.proofs.Words.{Token, Fault, Profile, Game, no_part, ◌≡◌, ℕ, ◌+◌, ◌^◌, ◌≤◌, Bool, true, false, List, [], ◌∷◌, ◌++◌, length, Option, None, Some, Result, Ok, Err, refl, sym, ap, subst, ◌∙◌, inl, inr, append-nil, length-append, arith, Consumes-nil, tokens_of, decided, coming, first, Gains, Games, games_of, HasReadAll, HaveRead, within, at_end, NextGame, NoGame, NextStops, AfterNext, IsTrue, is_ok, text_of_games as text_of, whole, next, Progress, read, read_from, written_so_far as written, Converter, AfterFinish, Finishes, FinishesToFault, rules, Reason, refusal, Next, going, progress_with, Read, finished_game_of, HasRead, no_progress, Device, FinishedGame, game_in_reader, IsKnown, Stands, MoreSoFar, StandsWithin, EndsGame}
+use Rattle.pgn_game.proofs.Words.{bytes_seen, WriteFault, Token, Fault, Profile, Game, no_part, ◌≡◌, ℕ, ◌+◌, ◌^◌, ◌≤◌, Bool, true, false, List, [], ◌∷◌, ◌++◌, length, Option, None, Some, Result, Ok, Err, refl, sym, ap, subst, ◌∙◌, inl, inr, append-nil, length-append, arith, Consumes-nil, tokens_of, decided, coming, first, Gains, Games, games_of, HasReadAll, HaveRead, within, at_end, NextGame, NoGame, NextStops, AfterNext, IsTrue, is_ok, text_of_games as text_of, whole, next, Progress, read, read_from, written_so_far as written, Converter, AfterFinish, Finishes, FinishesToFault, rules, Reason, refusal, Next, going, progress_with, Read, finished_game_of, HasRead, no_progress, Device, FinishedGame, game_in_reader, IsKnown, Stands, MoreSoFar, StandsWithin, EndsGame}
 use Rattle.pgn_game.specs.declared.marker.Mark.{Mark}
 use Rattle.pgn_game.specs.GamesCalls as games_calls
 use Rattle.pgn_game.specs.GamesCalls.{ReadsNoGame}
@@ -9,7 +9,7 @@ use Rattle.pgn_game.proofs.tokens.OneMoreToken.{read-passes, read-refuses, stops
 use Rattle.pgn_game.proofs.tokens.OneMoreToken.{counts_still}
 use Rattle.pgn_game.proofs.tokens.BytesToMarker.{follows_none}
 use Rattle.pgn_game.proofs.tokens.LastTokens.{AddsOne, left_games, left_none_begun}
-use Rattle.pgn_game.proofs.tokens.MarkerToGame.{fault_not_taken, fault_of_marker, gains_known, gains_marker, game_by_marker, has_read_marker}
+use Rattle.pgn_game.proofs.tokens.MarkerToGame.{shows_due, shows_stop, fault_not_taken, fault_of_marker, gains_known, gains_marker, game_by_marker, has_read_marker}
 use Rattle.pgn_game.proofs.tokens.NoneBeforeFault.{reads_behind}
 use Rattle.pgn_game.proofs.tokens.StepsAtEnd.{let_go}
 
@@ -65,7 +65,8 @@ not_true h = absurd (cc)
 
 -- games that have not read the end stand within the bytes
 pub begins : (p : Profile) (u : List ℕ) (given : List Token) (left : Option (List ℕ)) (now : Games) → HaveRead p left u now given
-    → now.converter.is_finished ≡ false → IsKnown p × StandsWithin u now given × HasRead p now.converter given
+    → now.converter.is_finished ≡ false
+    → (now.converter.reading.writing.is_silent ≡ false → IsKnown p) × StandsWithin u now given × HasRead p now.converter given
 begins p u given left now (within on) not_finished = (
   on.stands.known,
   record { used = on.used; bytes = on.bytes; lexer = on.stands.lexer; at_limit = on.at_limit; decided = on.decided },
@@ -75,13 +76,17 @@ begins p u given left now (at_end all) not_finished = absurd (cc (all.finished))
 
 -- ---- up to a marker
 
-module _ (p : Profile) (known : IsKnown p) (u : List ℕ) (given : List Token) (left_old left : Option (List ℕ)) (a : Option (List ℕ)) where
+module _ (p : Profile) (silent : Bool) (known : silent ≡ false → IsKnown p) (u : List ℕ) (given : List Token)
+    (left_old left : Option (List ℕ)) (bytes : Option (List ℕ)) where
+  abbrev a : Option (List ℕ)
+  a = bytes_seen silent bytes
+
   -- The marker is taken, or not.
   module _ (m : Mark) (mid : Games) (sink : Device) (met : MeetsNext p u given left_old left m mid a sink.before) (new : Converter) where
-    pub game_read : EndsGame mid.converter.reading m new.reading (Ok tt) sink → new.lexer ≡ mid.converter.lexer
+    pub game_read : new.reading.writing.is_silent ≡ silent → EndsGame mid.converter.reading m new.reading (Ok tt) sink → new.lexer ≡ mid.converter.lexer
         → new.is_finished ≡ false → new.fault ≡ None → new.games ≡ mid.converter.games + 1
         → new.just_finished ≡ Some (game_in_reader new.reading) → NextGame p u given left_old left (games_of new mid.unused) a sink.after
-    game_read ends lexer not_finished no_fault games finished =
+    game_read same ends lexer not_finished no_fault games finished =
         let ts = met.tokens ++ met.token ∷ [] in
         let h = has_read_marker p given met.tokens met.token m mid.converter a sink met.meets new.reading ends new.lexer false in
         let has_read : HasRead p new ts = record {
@@ -103,7 +108,7 @@ module _ (p : Profile) (known : IsKnown p) (u : List ℕ) (given : List Token) (
           have_read = within (record {
             used = met.stands.used;
             bytes = met.stands.bytes;
-            stands = record { known = known; lexer = rw lexer met.stands.lexer; has_read = has_read };
+            stands = record { known = λ writes. known (sym same ∙ writes); lexer = rw lexer met.stands.lexer; has_read = has_read };
             at_limit = met.stands.at_limit;
             decided = met.stands.decided;
             not_finished = not_finished;
@@ -114,14 +119,14 @@ module _ (p : Profile) (known : IsKnown p) (u : List ℕ) (given : List Token) (
           just_finished = finished ∙ ap (λ (game : FinishedGame). Some game) one.2;
           whole = due_between p (read p ts).progress (none_behind p met.tokens met.token one.0 h.passes
               (one.1 ∙ ap (λ gs. gs ++ one.0 ∷ []) (sym met.meets.reads.no_game)));
-          gains = gains_marker p given met.tokens met.token m mid.converter a sink met.meets new.reading ends known;
+          gains = gains_marker p given met.tokens met.token m mid.converter a sink met.meets new.reading ends (shows_due p silent bytes known);
         }
 
-    pub marker_stops : (f : Fault) → EndsGame mid.converter.reading m new.reading (Err f) sink
+    pub marker_stops : (f : Fault) → (IsTrue silent → f.reason ≡ WriteFault → ⊥) → EndsGame mid.converter.reading m new.reading (Err f) sink
         → NextStops p u given left_old left new.reading a sink.after f
-    marker_stops f ends =
+    marker_stops f none ends =
         let ts = met.tokens ++ met.token ∷ [] in
-        let to = fault_of_marker p given met.tokens met.token m mid.converter a sink met.meets new.reading known [] f ends in
+        let to = fault_of_marker p given met.tokens met.token m mid.converter a sink met.meets new.reading [] f (shows_stop p silent bytes f known none) ends in
         games_calls.at_token f met.more met.consumed (record {
           tokens = ts;
           next = met.next;
@@ -137,16 +142,16 @@ module _ (p : Profile) (known : IsKnown p) (u : List ℕ) (given : List Token) (
           tokens = decided v;
           decided = refl;
           passes = all.reads.has_read.passes;
-          gains = gains_known p known given (decided v) all.now a c all.reads;
+          gains = gains_known p given (decided v) all.now a c (shows_due p silent bytes known) all.reads;
         };
         no_game = all.reads.no_game;
       }
 
   -- no marker was met
-  pub stops_before : (new : Converter) (c : Option (List ℕ)) (f : Fault)
+  pub stops_before : (new : Converter) (c : Option (List ℕ)) (f : Fault) → (IsTrue silent → f.reason ≡ WriteFault → ⊥)
       → StopsBefore p u given left_old left new a c f → NextStops p u given left_old left new.reading a c f
-  stops_before new c f (games_steps.at_token h more tokens t consumed next fails) =
-      let to = fault_not_taken p known given tokens t [] h new.reading a c fails in
+  stops_before new c f none (games_steps.at_token h more tokens t consumed next fails) =
+      let to = fault_not_taken p given tokens t [] h new.reading a c (shows_stop p silent bytes f known none) fails in
       games_calls.at_token h more consumed (record {
         tokens = tokens ++ t ∷ [];
         next = next;
@@ -154,25 +159,29 @@ module _ (p : Profile) (known : IsKnown p) (u : List ℕ) (given : List Token) (
         no_game = to.no_game;
         counts = to.counts;
       })
-  stops_before new c f (games_steps.unread more consumed few all) = games_calls.unread more consumed few (none_in all)
-  stops_before new c f (games_steps.too_long more front rest consumed cut place some all) =
+  stops_before new c f none (games_steps.unread more consumed few all) = games_calls.unread more consumed few (none_in all)
+  stops_before new c f none (games_steps.too_long more front rest consumed cut place some all) =
       games_calls.too_long more front rest consumed cut place some (none_in all)
 
 -- ---- the source has ended
 
-module _ (p : Profile) (known : IsKnown p) (u : List ℕ) (given : List Token) (left_old left : Option (List ℕ))
-    (now : Games) (a c : Option (List ℕ)) (uses : UsesAll p u given left_old left now a c) where
-  abbrev so : MoreSoFar p u given left_old left now a c
+module _ (p : Profile) (silent : Bool) (known : silent ≡ false → IsKnown p) (u : List ℕ) (given : List Token)
+    (left_old left : Option (List ℕ)) (now : Games) (bytes c : Option (List ℕ)) (same : now.converter.reading.writing.is_silent ≡ silent)
+    (uses : UsesAll p u given left_old left now (bytes_seen silent bytes) c) where
+  abbrev taken : Option (List ℕ)
+  taken = bytes_seen silent bytes
+
+  abbrev so : MoreSoFar p u given left_old left now taken c
   so = uses.so_far
 
   all_used : u ++ so.more ≡ so.stands.used
   all_used = so.stands.bytes ∙ ap (λ l. so.stands.used ++ l) uses.none_left ∙ append-nil so.stands.used
 
   pub stands_at_end : Stands p now.converter so.stands.used (first now.unused) so.tokens
-  stands_at_end = record { known = known; lexer = so.stands.lexer; has_read = so.reads.has_read }
+  stands_at_end = record { known = λ writes. known (sym same ∙ writes); lexer = so.stands.lexer; has_read = so.reads.has_read }
 
-  gained : Gains p given so.tokens a c
-  gained = gains_known p known given so.tokens now.converter a c so.reads
+  gained : Gains p given so.tokens taken c
+  gained = gains_known p given so.tokens now.converter taken c (shows_due p silent bytes known) so.reads
 
   short : now.converter.lexer.count ≤ 2 ^ 62 → length (u ++ so.more) ≤ 2 ^ 62
   short few = omega (arith, so.stands.lexer.count, few, ap (length {A = ℕ}) all_used)
@@ -188,7 +197,7 @@ module _ (p : Profile) (known : IsKnown p) (u : List ℕ) (given : List Token) (
     adds = subst (AddsOne (read p so.tokens).progress.games) (sym reads) (left_games p (read p so.tokens).progress now.converter.lexer)
 
     ended : {is_game : Bool} → Finishes p so.stands.used so.tokens new is_game c d → new.is_finished ≡ true
-        → now.converter.lexer.count ≤ 2 ^ 62 → AfterNext p u given left_old left (games_of new now.unused) (Ok is_game) a d
+        → now.converter.lexer.count ≤ 2 ^ 62 → AfterNext p u given left_old left (games_of new now.unused) (Ok is_game) taken d
     ended {is_game} fed finished few = by_game is_game refl adds
       where
         text : tokens_of so.stands.used ≡ tokens_of (u ++ so.more)
@@ -206,12 +215,12 @@ module _ (p : Profile) (known : IsKnown p) (u : List ℕ) (given : List Token) (
               finished = finished;
             }
 
-        gains : Gains p given (tokens_of (u ++ so.more)) a d
-        gains = subst (λ ts. Gains p given ts a d) text (gains_more gained fed.gains)
+        gains : Gains p given (tokens_of (u ++ so.more)) taken d
+        gains = subst (λ ts. Gains p given ts taken d) text (gains_more gained fed.gains)
 
         none : (flag : Bool) → is_game ≡ flag → flag ≡ false
             → (read p (tokens_of so.stands.used)).progress.games ≡ (read p so.tokens).progress.games
-            → NoGame p u given left_old left (games_of new now.unused) a d
+            → NoGame p u given left_old left (games_of new now.unused) taken d
         none flag is ends same =
             record {
               more = so.more;
@@ -223,7 +232,7 @@ module _ (p : Profile) (known : IsKnown p) (u : List ℕ) (given : List Token) (
             }
 
         one : (g : Game) → (read p (tokens_of so.stands.used)).progress.games ≡ (read p so.tokens).progress.games ++ g ∷ []
-            → is_game ≡ true → NextGame p u given left_old left (games_of new now.unused) a d
+            → is_game ≡ true → NextGame p u given left_old left (games_of new now.unused) taken d
         one g adds_one is =
             let finished_game = fed.just_finished is in
             let last = rw finished_game.1 at fed.has_read.just_finished in
@@ -242,7 +251,7 @@ module _ (p : Profile) (known : IsKnown p) (u : List ℕ) (given : List Token) (
             }
 
         by_game : (flag : Bool) → is_game ≡ flag → AddsOne (read p so.tokens).progress.games (read p (tokens_of so.stands.used))
-            → AfterNext p u given left_old left (games_of new now.unused) (Ok flag) a d
+            → AfterNext p u given left_old left (games_of new now.unused) (Ok flag) taken d
         by_game false is (inl same) = none false is refl same
         by_game false is (inr (passes, (g, more))) =
             absurd (not_true
@@ -251,7 +260,7 @@ module _ (p : Profile) (known : IsKnown p) (u : List ℕ) (given : List Token) (
         by_game true is (inr (passes, (g, more))) = one g more is
 
     ended_at_fault : (f : Fault) → FinishesToFault p so.stands.used so.tokens new f c d
-        → length (u ++ so.more) ≤ 2 ^ 62 → NextStops p u given left_old left new.reading a d f
+        → length (u ++ so.more) ≤ 2 ^ 62 → NextStops p u given left_old left new.reading taken d f
     ended_at_fault f fed short =
         games_calls.at_end f so.more so.consumed uses.at_end short (rw all_used (record {
           stops = stops_more gained fed.stops;
@@ -260,6 +269,6 @@ module _ (p : Profile) (known : IsKnown p) (u : List ℕ) (given : List Token) (
         }))
 
     pub finished : (r : Result Bool Fault) → AfterFinish p so.stands.used so.tokens new r c d
-        → new.is_finished ≡ is_ok r → now.converter.lexer.count ≤ 2 ^ 62 → AfterNext p u given left_old left (games_of new now.unused) r a d
+        → new.is_finished ≡ is_ok r → now.converter.lexer.count ≤ 2 ^ 62 → AfterNext p u given left_old left (games_of new now.unused) r taken d
     finished (Ok is_game) fed ends few = ended fed ends few
     finished (Err f) fed ends few = ended_at_fault f fed (short few)

@@ -1,9 +1,9 @@
 -- The tokens up to a marker, and the game that it ends; or the token that was not taken.
-use Rattle.pgn_game.proofs.Words.{Writing, Token, Fault, Profile, Missing, counts_as, takes_the_marker, Game, ◌≡◌, ℕ, ◌+◌, Bool, false, List, [], ◌∷◌, ◌++◌, Option, None, Some, Result, Ok, Err, refl, sym, ap, subst, ◌∙◌, Device, Appends-nil, Appends-trans, append-nil, append_assoc, Standing, Finished, IsAccepted, with_missing, counting, ReaderState, IsKnown, as_written, known_text, Gains, finished_game_of, Converter, game_in_reader, HasRead, TakesToken, FaultAtEnd, OneGame, SameGames, ReadsMore, Meets, NotTaken, EndsGame, due_as, ended_by, part_after}
+use Rattle.pgn_game.proofs.Words.{Writing, Token, Fault, Profile, Missing, counts_as, takes_the_marker, Game, ◌≡◌, ℕ, ◌+◌, Bool, false, List, [], ◌∷◌, ◌++◌, Option, None, Some, Result, Ok, Err, refl, sym, ap, subst, ◌∙◌, Device, Appends, Appends-nil, Appends-trans, append-nil, append_assoc, Standing, Finished, IsAccepted, Reason, WriteFault, IsTrue, true, ◌⊎◌, inl, inr, bytes_seen, due, with_missing, counting, ReaderState, IsKnown, as_written, known_text, Gains, finished_game_of, Converter, game_in_reader, HasRead, TakesToken, FaultAtEnd, OneGame, SameGames, ReadsMore, Meets, NotTaken, EndsGame, due_as, ended_by, part_after}
 use Rattle.pgn_game.specs.declared.marker.Mark.{Mark as CodeMark}
 use Rattle.pgn_game.specs.Profile.{known_result}
-use Rattle.pgn_game.proofs.tokens.OneMoreToken.{gains_more, stops_more, games_still, counts_still, position_still}
-use Rattle.pgn_game.proofs.tokens.AcceptedToConverter.{at_fault, gains_token, has_read_game, one_game}
+use Rattle.pgn_game.proofs.tokens.OneMoreToken.{due_grows, gains_more, stops_more, games_still, counts_still, position_still}
+use Rattle.pgn_game.proofs.tokens.AcceptedToConverter.{at_fault, at_refusal, gains_token, has_read_game, one_game}
 
 -- readers of the same profile that were told the same write alike
 pub written_same : (old new : ReaderState) → new.profile ≡ old.profile → new.writing ≡ old.writing → as_written new ≡ as_written old
@@ -87,16 +87,50 @@ module _ (p : Profile) (given mid : List Token) (now : Converter) (a b : Option 
         probes = h.probes;
       }
 
+-- ---- what is due is shown where a missing Result is known, and where the sink is not seen
+
+abbrev pub ShowsDue : Profile → Option (List ℕ) → Type 0
+ShowsDue p a = IsKnown p ⊎ (a ≡ None)
+
+-- and a fault there, of a sink that is not seen, is no failed write
+abbrev pub ShowsStop : Profile → Option (List ℕ) → Reason → Type 0
+ShowsStop p a reason = IsKnown p ⊎ ((a ≡ None) × (reason ≡ WriteFault → ⊥))
+
+stop_shows : (p : Profile) (a : Option (List ℕ)) (reason : Reason) → ShowsStop p a reason → ShowsDue p a
+stop_shows p a reason (inl known) = inl known
+stop_shows p a reason (inr unseen) = inr unseen.0
+
+-- so it is of a converter that writes nothing, or knows a missing Result
+pub shows_due : (p : Profile) (silent : Bool) (bytes : Option (List ℕ)) → (silent ≡ false → IsKnown p) → ShowsDue p (bytes_seen silent bytes)
+shows_due p true bytes known = inr refl
+shows_due p false bytes known = inl (known refl)
+
+pub shows_stop : (p : Profile) (silent : Bool) (bytes : Option (List ℕ)) (f : Fault) → (silent ≡ false → IsKnown p)
+    → (IsTrue silent → f.reason ≡ WriteFault → ⊥) → ShowsStop p (bytes_seen silent bytes) f.reason
+shows_stop p true bytes f known none = inr (refl, none refl)
+shows_stop p false bytes f known none = inl (known refl)
+
+-- what an unseen sink has taken is all that is due
+gains_unseen : (p : Profile) (given more tokens : List Token) (a c : Option (List ℕ)) → a ≡ None → tokens ≡ given ++ more → Gains p given tokens a c
+gains_unseen p given more tokens a c unseen extends =
+    let grown = due_grows p given more in
+    record {
+      text = grown.0;
+      due_for = ap (due p) extends ∙ grown.1;
+      appended = subst (λ (o : Option (List ℕ)). Appends o c grown.0) (sym unseen) tt;
+    }
+
 -- What was read and written up to a token.
-module _ (p : Profile) (known : IsKnown p) (given tokens : List Token) where
-  pub gains_known : (now : Converter) (a c : Option (List ℕ)) → ReadsMore p given tokens now a c → Gains p given tokens a c
-  gains_known now a c reads =
+module _ (p : Profile) (given tokens : List Token) where
+  pub gains_known : (now : Converter) (a c : Option (List ℕ)) → ShowsDue p a → ReadsMore p given tokens now a c → Gains p given tokens a c
+  gains_known now a c (inl known) reads =
       let w = written_known p now.reading known reads.has_read.profile in
       record {
         text = reads.gains.text;
         due_for = subst (λ (w : Profile). due_as w p tokens ≡ due_as w p given ++ reads.gains.text) w reads.gains.due_for;
         appended = reads.gains.appended;
       }
+  gains_known now a c (inr unseen) reads = gains_unseen p given reads.more tokens a c unseen reads.extends
 
   -- behind what was read before
   fault_more : (ts : List Token) (f : Fault) (reading : ReaderState) (a c d : Option (List ℕ)) → Gains p given tokens a c
@@ -110,14 +144,18 @@ module _ (p : Profile) (known : IsKnown p) (given tokens : List Token) where
       }
 
   -- A token was not taken.
-  pub fault_not_taken : (t : Token) (us : List Token) (f : Fault) (new : ReaderState) (a c : Option (List ℕ))
+  pub fault_not_taken : (t : Token) (us : List Token) (f : Fault) (new : ReaderState) (a c : Option (List ℕ)) → ShowsStop p a f.reason
       → NotTaken p given tokens t f new a c → FaultAtEnd p given (tokens ++ t ∷ us) f new a c
-  fault_not_taken t us f new a c h =
-      let w = written_known p h.now.reading known h.reads.has_read.profile ∙ sym h.reads.has_read.profile in
-      let at : FaultAtEnd p tokens (tokens ++ t ∷ us) (record { at = t.at; reason = f.reason }) new h.mid c =
-      at_fault p h.now tokens t h.now.lexer new false h.reads.has_read h.profile h.probes h.writing w us h.stopped in
-      fault_more (tokens ++ t ∷ us) f new a h.mid c (gains_known h.now a h.mid h.reads) h.reads.no_game
-      (subst (λ n. FaultAtEnd p tokens (tokens ++ t ∷ us) (record { at = n; reason = f.reason }) new h.mid c) (sym h.place) at)
+  fault_not_taken t us f new a c shows h =
+      fault_more (tokens ++ t ∷ us) f new a h.mid c (gains_known h.now a h.mid (stop_shows p a f.reason shows) h.reads) h.reads.no_game
+      (subst (λ n. FaultAtEnd p tokens (tokens ++ t ∷ us) (record { at = n; reason = f.reason }) new h.mid c) (sym h.place) (at_token shows))
+    where
+      at_token : ShowsStop p a f.reason → FaultAtEnd p tokens (tokens ++ t ∷ us) (record { at = t.at; reason = f.reason }) new h.mid c
+      at_token (inl known) =
+          at_fault p h.now tokens t h.now.lexer new false h.reads.has_read h.profile h.probes h.writing
+          (written_known p h.now.reading known h.reads.has_read.profile ∙ sym h.reads.has_read.profile) us h.stopped
+      at_token (inr unseen) =
+          at_refusal p h.now tokens t h.now.lexer new false h.reads.has_read h.profile h.probes h.writing us unseen.1 h.stopped
 
 -- The marker was met by the converter c, and is taken, or not.
 module _ (p : Profile) (given tokens : List Token) (t : Token) (m : CodeMark) (c : Converter) (a : Option (List ℕ)) (sink : Device)
@@ -150,22 +188,31 @@ module _ (p : Profile) (given tokens : List Token) (t : Token) (m : CodeMark) (c
         (takes (Ok tt) ends).keeps.probes (takes (Ok tt) ends).keeps.writing h.free h.leads in
         (one.0, one.1 ∙ ap (λ gs. gs ++ one.0 ∷ []) meets.reads.no_game, one.2)
 
-    pub gains_marker : IsKnown p → Gains p given (tokens ++ t ∷ []) a sink.after
-    gains_marker known =
+    pub gains_marker : ShowsDue p a → Gains p given (tokens ++ t ∷ []) a sink.after
+    gains_marker (inl known) =
         let w = written_known p meets.reader known meets.reads.has_read.profile ∙ sym meets.reads.has_read.profile in
-        gains_more (gains_known p known given tokens before a sink.before meets.reads)
+        gains_more (gains_known p given tokens before a sink.before (inl known) meets.reads)
         (gains_token p before tokens t c.lexer new false meets.reads.has_read (takes (Ok tt) ends).keeps.profile
         (takes (Ok tt) ends).keeps.probes (takes (Ok tt) ends).keeps.writing w h.free h.appended)
+    gains_marker (inr unseen) =
+        gains_unseen p given (meets.reads.more ++ t ∷ []) (tokens ++ t ∷ []) a sink.after unseen
+        (ap (λ (ts : List Token). ts ++ t ∷ []) meets.reads.extends ∙ append_assoc given meets.reads.more (t ∷ []))
 
-  pub fault_of_marker : IsKnown p → (us : List Token) (f : Fault) → EndsGame c.reading m new (Err f) sink
+  pub fault_of_marker : (us : List Token) (f : Fault) → ShowsStop p a f.reason → EndsGame c.reading m new (Err f) sink
       → FaultAtEnd p given (tokens ++ t ∷ us) f new a sink.after
-  fault_of_marker known us f ends =
-      let took = takes (Err f) ends in
-      let w = written_known p meets.reader known meets.reads.has_read.profile ∙ sym meets.reads.has_read.profile in
-      let at : FaultAtEnd p tokens (tokens ++ t ∷ us) (record { at = t.at; reason = f.reason }) new sink.before sink.after =
-      at_fault p before tokens t c.lexer new false meets.reads.has_read took.keeps.profile took.keeps.probes took.keeps.writing w us
-      (took.accepts (part_after p tokens) meets.reads.has_read.agrees) in
-      fault_more p known given tokens (tokens ++ t ∷ us) f new a sink.before sink.after
-      (gains_known p known given tokens before a sink.before meets.reads) meets.reads.no_game
+  fault_of_marker us f shows ends =
+      fault_more p given tokens (tokens ++ t ∷ us) f new a sink.before sink.after
+      (gains_known p given tokens before a sink.before (stop_shows p a f.reason shows) meets.reads) meets.reads.no_game
       (subst (λ n. FaultAtEnd p tokens (tokens ++ t ∷ us) (record { at = n; reason = f.reason }) new sink.before sink.after)
-      (meets.place ∙ sym ends.place) at)
+      (meets.place ∙ sym ends.place) (at_marker shows))
+    where
+      at_marker : ShowsStop p a f.reason → FaultAtEnd p tokens (tokens ++ t ∷ us) (record { at = t.at; reason = f.reason }) new sink.before sink.after
+      at_marker (inl known) =
+          let took = takes (Err f) ends in
+          at_fault p before tokens t c.lexer new false meets.reads.has_read took.keeps.profile took.keeps.probes took.keeps.writing
+          (written_known p meets.reader known meets.reads.has_read.profile ∙ sym meets.reads.has_read.profile) us
+          (took.accepts (part_after p tokens) meets.reads.has_read.agrees)
+      at_marker (inr unseen) =
+          let took = takes (Err f) ends in
+          at_refusal p before tokens t c.lexer new false meets.reads.has_read took.keeps.profile took.keeps.probes took.keeps.writing us unseen.1
+          (took.accepts (part_after p tokens) meets.reads.has_read.agrees)

@@ -2,6 +2,7 @@
 use Rattle.pgn_game.proofs.Words.{Agrees, HoldsText, Stage, Between, StillStands, silenced, writing_nothing, Fault, Profile, ◌≡◌, Bool, true, false, [], ℕ, Option, refl, Standing, Marker, marker_text, counting, HasRead, takes_the_marker, with_missing, no_part, ap}
 use Rattle.pgn_game.proofs.Words.{ReaderState, Converter, CountsMissingAs, IsSound, counting_missing_as, game_in_reader_if, MostTried, none, rules}
 use Rattle.pgn_game.specs.ConverterSteps.{taking_marker}
+use Rattle.pgn_game.specs.ConverterCalls.{TakesMarkers, reading_by_marker}
 use Rattle.pgn_game.proofs.twice.MarkerCounts.{agrees_under}
 
 abbrev pub reader_counting : Marker → ReaderState → ReaderState
@@ -49,7 +50,7 @@ reads_silently p c h =
     }
 
 pub stands_silently : (c : Converter) → StillStands c (writing_nothing c)
-stands_silently c p u b stands = record { known = stands.known; lexer = stands.lexer; has_read = reads_silently p c stands.has_read }
+stands_silently c p u b stands = record { known = λ writes. absurd (cc); lexer = stands.lexer; has_read = reads_silently p c stands.has_read }
 
 pub sound_silently : (l : Standing) (r : ReaderState) (games : ℕ) (has_finished_game is_finished : Bool) (fault : Option Fault)
     → IsSound l r games has_finished_game is_finished fault → IsSound l (silenced r) games has_finished_game is_finished fault
@@ -69,3 +70,11 @@ reads_taking p c h =
       tried = none_tried h.tried;
       just_finished = h.just_finished;
     }
+
+-- or where it takes the marker, and nothing is written
+pub stands_by_marker : (c : Converter) → TakesMarkers c (reading_by_marker c)
+stands_by_marker c p u b stands =
+    record { known = λ writes. absurd (cc); lexer = stands.lexer; has_read = reads_silently _ (taking_marker c) (reads_taking p c stands.has_read) }
+
+pub taking_still : (c : Converter) → writing_nothing (taking_marker c) ≡ reading_by_marker c
+taking_still c = refl

@@ -1,27 +1,34 @@
 -- A piece that was read up to a marker, and the game that the marker ends, or the fault there.
 use Rattle.pgn_game.specs.declared.marker.Mark.{Mark}
 use Rattle.pgn_game.specs.ConverterSteps.{ReadsPiece, ReadsToMarker, FailsIn}
-use Rattle.pgn_game.proofs.Words.{Fault, Profile, Token, Device, still, ReaderState, Converter, Stands, Reaches, IsKnown, EndsGame, FedAll, FedGame, FedToFault, StopsIn, at_token, too_long, AreNext, within_limit, IsLastGame, FaultAtEnd, FinishedGame, game_in_reader, read, ◌≡◌, ℕ, ◌+◌, List, [], ◌∷◌, ◌++◌, Option, None, Some, Ok, Err, refl, sym, ap, subst, ◌∙◌}
-use Rattle.pgn_game.proofs.tokens.MarkerToGame.{gains_known, fault_not_taken, has_read_marker, game_by_marker, gains_marker, fault_of_marker}
+use Rattle.pgn_game.proofs.Words.{Bool, false, IsTrue, bytes_seen, WriteFault, Fault, Profile, Token, Device, still, ReaderState, Converter, Stands, Reaches, IsKnown, EndsGame, FedAll, FedGame, FedToFault, StopsIn, at_token, too_long, AreNext, within_limit, IsLastGame, FaultAtEnd, FinishedGame, game_in_reader, read, ◌≡◌, ℕ, ◌+◌, List, [], ◌∷◌, ◌++◌, Option, None, Some, Ok, Err, refl, sym, ap, subst, ◌∙◌}
+use Rattle.pgn_game.proofs.tokens.MarkerToGame.{shows_due, shows_stop, gains_known, fault_not_taken, has_read_marker, game_by_marker, gains_marker, fault_of_marker}
 use Rattle.pgn_game.proofs.tokens.StepsInPiece.{lets_go}
 
 pub reaches : {p : Profile} {old : Converter} {u : List ℕ} {b : Option ℕ} {given : List Token}
     → Stands p old u b given → Reaches p old u b given
 reaches stands = record { lexer = stands.lexer; has_read = stands.has_read }
 
-module _ (p : Profile) (known : IsKnown p) (u : List ℕ) (b : Option ℕ) (given : List Token) (a : Option (List ℕ)) where
+module _ (p : Profile) (silent : Bool) (known : silent ≡ false → IsKnown p) (u : List ℕ) (b : Option ℕ) (given : List Token)
+    (bytes : Option (List ℕ)) where
+  abbrev a : Option (List ℕ)
+  a = bytes_seen silent bytes
+
+  known_still : (new : ReaderState) → new.writing.is_silent ≡ silent → new.writing.is_silent ≡ false → IsKnown p
+  known_still new same writes = known (sym same ∙ writes)
+
   -- no marker ends in the piece
-  pub fed_all : (piece : List ℕ) (new : Converter) (c : Option (List ℕ))
+  pub fed_all : (piece : List ℕ) (new : Converter) (c : Option (List ℕ)) → new.reading.writing.is_silent ≡ silent
       → ReadsPiece p u b given piece new a c → new.just_finished ≡ None → FedAll p u b given piece new a c
-  fed_all piece new c reads none =
+  fed_all piece new c same reads none =
       record {
         tokens = reads.tokens;
-        stands = record { known = known; lexer = reads.stands; has_read = reads.reads.has_read };
+        stands = record { known = known_still new.reading same; lexer = reads.stands; has_read = reads.reads.has_read };
         decided = reads.decided;
         empty = reads.empty;
         no_game = reads.reads.no_game;
         none_just_finished = none;
-        gains = gains_known p known given reads.tokens new a c reads.reads;
+        gains = gains_known p given reads.tokens new a c (shows_due p silent bytes known) reads.reads;
       }
 
   -- a token of the piece is not taken
@@ -30,16 +37,17 @@ module _ (p : Profile) (known : IsKnown p) (u : List ℕ) (b : Option ℕ) (give
   fed_fault {ts} bytes f reading c next to =
       record { fed = record { tokens = ts; next = next; stops = to.stops }; no_game = to.no_game; counts = to.counts; position = to.position }
 
-  pub fed_stops : (piece : List ℕ) {f : Fault} (reading : ReaderState) (c : Option (List ℕ))
+  pub fed_stops : (piece : List ℕ) {f : Fault} (reading : ReaderState) (c : Option (List ℕ)) → reading.writing.is_silent ≡ silent
+      → (IsTrue silent → f.reason ≡ WriteFault → ⊥)
       → StopsIn u piece (λ bytes f. FailsIn p bytes given f reading a c)
       (λ front. (now : Converter) × ReadsPiece p u b given front now a c × (reading ≡ now.reading)) f
       → StopsIn u piece (λ bytes f. FedToFault p bytes given f reading a c)
       (λ front. (now : Converter) × FedAll p u b given front now a c × (reading ≡ now.reading)) f
-  fed_stops piece reading c (at_token g fails) =
+  fed_stops piece reading c same none (at_token g fails) =
       at_token g (fed_fault (within_limit (u ++ piece)) g reading c fails.next
-      (fault_not_taken p known given fails.tokens fails.token [] g reading a c fails.fails))
-  fed_stops piece reading c (too_long front rest cut place more (now, reads, same)) =
-      too_long front rest cut place more (record now { just_finished = None }, held, same)
+      (fault_not_taken p given fails.tokens fails.token [] g reading a c (shows_stop p silent bytes g known none) fails.fails))
+  fed_stops piece reading c same none (too_long front rest cut place more (now, reads, is)) =
+      too_long front rest cut place more (record now { just_finished = None }, held, is)
     where
       gone : Reaches p (record now { just_finished = None }) (u ++ front) (still b front) reads.tokens
       gone = lets_go p now (u ++ front) (still b front) reads.tokens (record { lexer = reads.stands; has_read = reads.reads.has_read })
@@ -48,20 +56,24 @@ module _ (p : Profile) (known : IsKnown p) (u : List ℕ) (b : Option ℕ) (give
       held =
           record {
             tokens = reads.tokens;
-            stands = record { known = known; lexer = gone.lexer; has_read = gone.has_read };
+            stands = record {
+              known = known_still now.reading (ap (λ (r : ReaderState). r.writing.is_silent) (sym is) ∙ same);
+              lexer = gone.lexer;
+              has_read = gone.has_read;
+            };
             decided = reads.decided;
             empty = reads.empty;
             no_game = reads.reads.no_game;
             none_just_finished = refl;
-            gains = gains_known p known given reads.tokens now a c reads.reads;
+            gains = gains_known p given reads.tokens now a c (shows_due p silent bytes known) reads.reads;
           }
 
   -- a marker ends in it, which was met by the converter c
   module _ (piece : List ℕ) (used : ℕ) (m : Mark) (c : Converter) (sink : Device)
       (reads : ReadsToMarker p u given piece used m c a sink.before) (new : Converter) where
-    pub fed_game : EndsGame c.reading m new.reading (Ok tt) sink → new.lexer ≡ c.lexer → new.games ≡ c.games + 1
+    pub fed_game : new.reading.writing.is_silent ≡ silent → EndsGame c.reading m new.reading (Ok tt) sink → new.lexer ≡ c.lexer → new.games ≡ c.games + 1
         → new.just_finished ≡ Some (game_in_reader new.reading) → new.fault ≡ None → FedGame p u given piece used new a sink.after
-    fed_game ends lexer games finished fault =
+    fed_game same ends lexer games finished fault =
         let ts = reads.tokens ++ reads.token ∷ [] in
         let h = has_read_marker p given reads.tokens reads.token m c a sink reads.meets new.reading ends new.lexer new.is_finished in
         let one = game_by_marker p given reads.tokens reads.token m c a sink reads.meets new.reading ends in
@@ -70,7 +82,7 @@ module _ (p : Profile) (known : IsKnown p) (u : List ℕ) (b : Option ℕ) (give
           marker = reads.token;
           game = one.0;
           stands = record {
-            known = known;
+            known = known_still new.reading same;
             lexer = rw lexer reads.ends.stands;
             has_read = record {
               profile = h.profile;
@@ -91,12 +103,12 @@ module _ (p : Profile) (known : IsKnown p) (u : List ℕ) (b : Option ℕ) (give
           no_game = reads.meets.reads.no_game;
           one_game = one.1;
           just_finished = finished ∙ ap (λ (g : FinishedGame). Some g) one.2;
-          gains = gains_marker p given reads.tokens reads.token m c a sink reads.meets new.reading ends known;
+          gains = gains_marker p given reads.tokens reads.token m c a sink reads.meets new.reading ends (shows_due p silent bytes known);
         }
 
     -- it is rejected, or a write failed
-    pub marker_fails : (f : Fault) → EndsGame c.reading m new.reading (Err f) sink
+    pub marker_fails : (f : Fault) → (IsTrue silent → f.reason ≡ WriteFault → ⊥) → EndsGame c.reading m new.reading (Err f) sink
         → FedToFault p (within_limit (u ++ piece)) given f new.reading a sink.after
-    marker_fails f ends =
+    marker_fails f none ends =
         fed_fault (within_limit (u ++ piece)) f new.reading sink.after reads.next
-        (fault_of_marker p given reads.tokens reads.token m c a sink reads.meets new.reading known [] f ends)
+        (fault_of_marker p given reads.tokens reads.token m c a sink reads.meets new.reading [] f (shows_stop p silent bytes f known none) ends)

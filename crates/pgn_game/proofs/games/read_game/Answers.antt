@@ -3,7 +3,8 @@ use Rattle.pgn_game.proofs.Words.{Reason, ReadFault, WriteFault, Changed, Fault,
 use Rattle.pgn_game.specs.ConverterCalls.{Ends}
 use Rattle.pgn_game.proofs.ReaderFitsInMemory.{fits_alike}
 use Rattle.pgn_game.proofs.tokens.GamesInTurn.{begins, game_read, marker_stops, stops_before, stands_at_end, finished}
-use Rattle.pgn_game.proofs.putting.SilentReader.{seen_alike, silence_then}
+use Rattle.pgn_game.proofs.putting.SilentReader.{none_fails, seen_alike, silence_then}
+use Rattle.pgn_game.proofs.twice.FailuresOfSteps.{no_write_seen}
 use Rattle.pgn_game.proofs.games.read_game.Goals as goal
 
 -- a fault of the converter, whose source counts no failure
@@ -30,7 +31,10 @@ returns-in_err-mark g c =
       reads = λ p u given have.
           let begun = begins p u given _ (games_of c.args.converter.now c.args.buffer.now) have c.requires.not_finished in
           let e = err_from_is_err_and c.from_residual.result c.from_residual.ensures.1 in
-          rw (e.1, e.2) (stops_before p begun.0 u given _ _ _ c.next_marker.new.converter _ _
+          rw (e.1, e.2) (stops_before p _ begun.0 u given _ _ _ c.next_marker.new.converter _ _
+          (λ silent. no_write_seen {A = Unit} (Err c.in_err-mark.field-0.0)
+          (device g.R.Source.left g.R.Source.failures c.args.source.now c.next_marker.new.source)
+          (device g.W.Sink.taken g.W.Sink.failures c.args.out.now c.next_marker.new.out) _ silent c.in_err-mark.ensures.counted)
           (c.in_err-mark.ensures.reads p u given begun.1 begun.2));
       fewer = λ same. absurd (false≢true (ap is_ok (sym e.1 ∙ same)));
       fault = rw (e.1, e.2) c.in_err-mark.ensures.fault;
@@ -49,8 +53,10 @@ returns-in_err-end_game-in-Some g c =
           let begun = begins p u given _ (games_of c.args.converter.now c.args.buffer.now) have c.requires.not_finished in
           let met = rw c.in-Some.is at (c.in_ok-mark.ensures.reads p u given begun.1 begun.2) in
           let e = err_from_is_err_and c.from_residual-in_err-end_game-in-Some.result c.from_residual-in_err-end_game-in-Some.ensures.1 in
-          rw (e.1, e.2) (marker_stops p begun.0 u given _ _ _ c.in-Some.mark (games_of c.next_marker.new.converter c.next_marker.new.buffer)
+          rw (e.1, e.2) (marker_stops p _ begun.0 u given _ _ _ c.in-Some.mark (games_of c.next_marker.new.converter c.next_marker.new.buffer)
           (sink_of c.args.converter.now.reading g.W.Sink.taken g.W.Sink.failures c.next_marker.new.out c.end_game.new.out) met c.end_game.new.self f
+          (λ silent. none_fails {A = Unit} _ (Err f) sink silent
+          (seen_alike (λ (d : Device). CountsFault {A = Unit} (Err f) d) _ _ sink same c.in_err-end_game-in-Some.ensures.counted))
           (seen_alike (λ (d : Device). EndsGame c.next_marker.new.converter.reading c.in-Some.mark c.end_game.new.self.reading (Err f) d) _ _ sink same
           c.in_err-end_game-in-Some.ensures.ends));
       fewer = λ same. absurd (false≢true (ap is_ok (sym e.1 ∙ same)));
@@ -69,8 +75,9 @@ returns-in_ok-end_game-in-Some g c =
       reads = λ p u given have.
           let begun = begins p u given _ (games_of c.args.converter.now c.args.buffer.now) have c.requires.not_finished in
           let met = rw c.in-Some.is at (c.in_ok-mark.ensures.reads p u given begun.1 begun.2) in
-          game_read p begun.0 u given _ _ _ c.in-Some.mark (games_of c.next_marker.new.converter c.next_marker.new.buffer)
+          game_read p _ begun.0 u given _ _ _ c.in-Some.mark (games_of c.next_marker.new.converter c.next_marker.new.buffer)
           (sink_of c.args.converter.now.reading g.W.Sink.taken g.W.Sink.failures c.next_marker.new.out c.end_game.new.out) met c.end_game.new.self
+          (c.end_game.ensures.silent.silent ∙ same)
           (seen_alike (λ (d : Device). EndsGame c.next_marker.new.converter.reading c.in-Some.mark c.end_game.new.self.reading (Ok tt) d) _ _ sink same
           ended.ends) ended.lexer ended.not_finished ended.fault ended.games ended.just_finished;
       fewer = λ same.
@@ -92,9 +99,9 @@ returns-in-None g c =
           let begun = begins p u given _ (games_of c.args.converter.now c.args.buffer.now) have c.requires.not_finished in
           let games = games_of c.next_marker.new.converter c.next_marker.new.buffer in
           let uses = rw c.in-None.is at (c.in_ok-mark.ensures.reads p u given begun.1 begun.2) in
-          finished p begun.0 u given _ _ games _ _ uses c.finish.new.self _ c.finish.result
+          finished p _ begun.0 u given _ _ games _ _ same uses c.finish.new.self _ c.finish.result
           (seen_alike (λ (d : Device). Ends c.next_marker.new.converter c.finish.new.self c.finish.result d) _ _ sink same c.finish.ensures.ends
-          p _ _ _ (stands_at_end p begun.0 u given _ _ games _ _ uses))
+          p _ _ _ (stands_at_end p _ begun.0 u given _ _ games _ _ same uses))
           c.finish.ensures.finished c.in_ok-mark.ensures.short;
       fewer = λ same. rw (c.finish.ensures.finished, same, c.requires.not_finished) (omega arith);
       fault = c.finish.ensures.fault;

@@ -11,7 +11,7 @@ returns g c =
       stands =
           let is = c.new.ensures in
           record {
-            known = refl;
+            known = λ writes. refl;
             lexer = c.begin_at.ensures.stands;
             has_read = record {
               profile = ap (λ (r : ReaderState). r.profile) is;

@@ -32,7 +32,9 @@ returns-in_err-feed_to_marker g c =
     rw (e.1, e.2) (record {
       used = tt;
       feeds = λ p u b given stands follows.
-          fed_stops p stands.known u b given _ c.args.piece.now c.feed_to_marker.new.self.reading _
+          fed_stops p _ stands.known u b given _ c.args.piece.now c.feed_to_marker.new.self.reading _ fed.silent.silent
+          (λ silent. none_fails {A = Unit} _ (Err c.in_err-feed_to_marker.field-0.0)
+          (device g.W.Sink.taken g.W.Sink.failures c.args.out.now c.feed_to_marker.new.out) silent (stops.counted stands.has_read.no_fault))
           (stops.feeds p u b given (reaches stands) follows);
       empty = λ is none. absurd (no_error _ (stops.empty is none));
       count = tt;
@@ -61,7 +63,7 @@ returns-in-All g c =
     record {
       used = rw c.in-All.is at reads.used;
       feeds = λ p u b given stands follows.
-          fed_all p stands.known u b given _ c.args.piece.now c.feed_to_marker.new.self _
+          fed_all p _ stands.known u b given _ c.args.piece.now c.feed_to_marker.new.self _ fed.silent.silent
           (feeds p u b given (reaches stands) follows) fed.none_just_finished;
       empty = λ is none. refl;
       count = rw c.in-All.is at reads.count;
@@ -92,8 +94,10 @@ returns-in_err-end_game-in-Marker g c =
     rw (e.1, e.2) (record {
       used = tt;
       feeds = λ p u b given stands follows.
-          at_token _ (marker_fails p stands.known u b given _ c.args.piece.now _ _ _ _
-          (feeds p u b given (reaches stands) follows) c.end_game.new.self _ ends);
+          at_token _ (marker_fails p _ stands.known u b given _ c.args.piece.now _ _ _ _
+          (feeds p u b given (reaches stands) follows) c.end_game.new.self _
+          (λ silent. none_fails {A = Unit} _ (Err c.in_err-end_game-in-Marker.field-0.0)
+          (device g.W.Sink.taken g.W.Sink.failures c.feed_to_marker.new.out c.end_game.new.out) silent counted) ends);
       empty = λ is none. absurd (no_marker _ _ (rw c.in-Marker.is at (reads.empty is none)));
       count = tt;
       grows = rw c.end_game.ensures.lexer fed.grows;
@@ -122,9 +126,9 @@ returns-in_ok-end_game-in-Marker g c =
     record {
       used = rw c.in-Marker.is at reads.used;
       feeds = λ p u b given stands follows.
-          fed_game p stands.known u b given _ c.args.piece.now _ _ _ _
+          fed_game p _ stands.known u b given _ c.args.piece.now _ _ _ _
           (feeds p u b given (reaches stands) follows)
-          c.end_game.new.self ends ended.lexer ended.games ended.just_finished ended.fault;
+          c.end_game.new.self (c.end_game.ensures.silent.silent ∙ fed.silent.silent) ends ended.lexer ended.games ended.just_finished ended.fault;
       empty = λ is none. absurd (no_marker _ _ (rw c.in-Marker.is at (reads.empty is none)));
       grows = rw ended.lexer fed.grows;
       within = rw ended.lexer fed.within;

@@ -5,6 +5,7 @@ use Rattle.pgn_game.specs.ConverterSteps.{ReadsToEnd}
 use Rattle.pgn_game.proofs.ReaderFitsInMemory.{fits_alike, fits_reader}
 use Rattle.pgn_game.proofs.tokens.StepsAtEnd.{left_of, none_by_fault}
 use Rattle.pgn_game.proofs.tokens.FinishesGames.{ended_none, ended_game, ended_input, failed_input, failed_game, sound_finished}
+use Rattle.pgn_game.proofs.tokens.MarkerToGame.{shows_due, shows_stop}
 use Rattle.pgn_game.proofs.converter.Converter.finish.Goals as goal
 use Rattle.pgn_game.proofs.converter.Converter.finish.Goals.{then-finished_game, else-finished_game}
 
@@ -63,7 +64,9 @@ returns-in_err-mark g c =
     rw (e.1, e.2) (record {
       ends = λ p u b given stands.
           let so = old.finishes p u b given stands in
-          failed_input p u given _ _ _ _ so stands.known _ c.args.self.now.lexer c.finish_to_marker.new.self _
+          failed_input p u given _ _ _ _ so _ (shows_stop p _ _ c.in_err-mark.field-0.0 stands.known
+          (λ silent. none_fails {A = Unit} _ (Err c.in_err-mark.field-0.0)
+          (device g.W.Sink.taken g.W.Sink.failures c.loop-mark.out c.finish_to_marker.new.out) silent counted)) c.args.self.now.lexer c.finish_to_marker.new.self _
           (left_of p c.args.self.now u b given stands) stands.has_read.passes (ends p u _ so.left so.has_read) any.games;
       finished = met.finished;
       count = any.count ∙ old.count;
@@ -94,7 +97,9 @@ returns-in_err-end_game-in-Some-2 g c =
       ends = λ p u b given stands.
           let so = old.finishes p u b given stands in
           let leaves = (rw c.in-Some-2.is at met_ends) p u _ so.left so.has_read in
-          failed_game p u given _ _ _ _ so stands.known _ c.args.self.now.lexer c.in-Some-2.mark c.finish_to_marker.new.self c.end_game.new.self
+          failed_game p u given _ _ _ _ so _ (shows_stop p _ _ c.in_err-end_game-in-Some-2.field-0.0 stands.known
+          (λ silent. none_fails {A = Unit} _ (Err c.in_err-end_game-in-Some-2.field-0.0)
+          (device g.W.Sink.taken g.W.Sink.failures c.finish_to_marker.new.out c.end_game.new.out) silent counted)) c.args.self.now.lexer c.in-Some-2.mark c.finish_to_marker.new.self c.end_game.new.self
           (sink_of c.args.self.now.reading g.W.Sink.taken g.W.Sink.failures c.finish_to_marker.new.out c.end_game.new.out)
           (left_of p c.args.self.now u b given stands) stands.has_read.passes leaves ends ended.games any.games;
       finished = ended.not_finished;
@@ -130,7 +135,7 @@ loop-mark-preserved g c =
       finishes = λ p u b given stands.
           let so = old.finishes p u b given stands in
           let leaves = (rw c.in-Some-2.is at met_ends) p u _ so.left so.has_read in
-          ended_game p u given _ _ _ _ so stands.known c.in-Some-2.mark c.finish_to_marker.new.self c.end_game.new.self
+          ended_game p u given _ _ _ _ so (shows_due p _ _ stands.known) c.in-Some-2.mark c.finish_to_marker.new.self c.end_game.new.self
           (sink_of c.args.self.now.reading g.W.Sink.taken g.W.Sink.failures c.finish_to_marker.new.out c.end_game.new.out)
           leaves ends ended.lexer ended.fault ended.games ended.just_finished;
     }
@@ -156,7 +161,7 @@ returns-in-None g c =
           (bytes_seen c.args.self.now.reading.writing.is_silent (g.W.Sink.taken c.loop-mark.out))
           (bytes_seen c.args.self.now.reading.writing.is_silent (g.W.Sink.taken c.finish_to_marker.new.out))
           × StaysBetween c.loop-mark.self s) (sym self.view_is) to in
-          ended_input p u given _ _ _ _ so stands.known _ _ c.if-finished_game.self here.0 here.1
+          ended_input p u given _ _ _ _ so (shows_due p _ _ stands.known) _ _ c.if-finished_game.self here.0 here.1
           (λ between. elim c.if-finished_game.branch [
             | then-finished_game w ↦ w.self-is ∙ w.is_between-self-inside.ensures.1 between ∙ sym w.if-finished_game.true
             | else-finished_game w ↦ w.self-is

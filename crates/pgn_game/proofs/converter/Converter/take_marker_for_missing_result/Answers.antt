@@ -1,5 +1,11 @@
-use Rattle.pgn_game.proofs.ReaderFitsInMemory.{fits_reader}
+use Rattle.std.proofs.Common.{sym, ap, subst, ◌∙◌}
+use Rattle.pgn_game.specs.ConverterCalls.{TakesMarkers, writing_nothing}
+use Rattle.pgn_game.proofs.tokens.MissingCountsAs.{stands_by_marker}
 use Rattle.pgn_game.proofs.converter.Converter.take_marker_for_missing_result.Goals as goal
 
-pub count_missing_result_as-requires : goal.count_missing_result_as-requires
-count_missing_result_as-requires g c = search fits_reader
+pub returns-clause-only_switch : goal.returns-clause-only_switch
+returns-clause-only_switch g c = c.write_nothing.ensures.only_switch ∙ ap writing_nothing c.take_told_marker.ensures
+
+pub returns-clause-stands : goal.returns-clause-stands
+returns-clause-stands g c =
+    subst (TakesMarkers c.args.self.now) (sym (returns-clause-only_switch g c)) (stands_by_marker c.args.self.now)

@@ -1,0 +1,49 @@
+use Rattle.pgn_c.proofs.Words.{◌≡◌, Bool, true, false, drop, refl, ap, text_from, ◌∙◌, arith}
+use Rattle.pgn_game.specs.ConverterCalls.{Converter}
+use Rattle.pgn_layout.specs.Device.{nowhere}
+use Rattle.pgn_c.specs.NextGameSteps.{profile_if, silenced_if}
+use Rattle.pgn_c.proofs.NextGames.{finds_as}
+use Rattle.pgn_c.proofs.next_game.read_silently.Goals as goal
+
+count_same : (takes : Bool) (c : Converter) → (silenced_if takes c).lexer.count ≡ c.lexer.count
+count_same true c = refl
+count_same false c = refl
+
+finished_same : (takes : Bool) (c : Converter) → (silenced_if takes c).is_finished ≡ c.is_finished
+finished_same true c = refl
+finished_same false c = refl
+
+fault_same : (takes : Bool) (c : Converter) → (silenced_if takes c).fault ≡ c.fault
+fault_same true c = refl
+fault_same false c = refl
+
+is_silent : (takes : Bool) (c : Converter) → (silenced_if takes c).reading.writing.is_silent ≡ true
+is_silent true c = refl
+is_silent false c = refl
+
+pub run_next-requires : goal.run_next-requires
+run_next-requires c =
+    let made = c.converter_at.ensures in
+    let takes = c.args.takes_marker in
+    let switched = c.silence.ensures.only_switch in
+    let old = c.converter_at.result in
+    record {
+      within = c.requires.within;
+      place = c.requires.place;
+      count = ap (λ (s : Converter). s.lexer.count) switched ∙ count_same takes old ∙ made.count;
+      not_finished = ap (λ (s : Converter). s.is_finished) switched ∙ finished_same takes old ∙ made.not_finished;
+      no_fault = ap (λ (s : Converter). s.fault) switched ∙ fault_same takes old ∙ made.begins.has_read.no_fault;
+    }
+
+pub returns : goal.returns
+returns c =
+    let made = c.converter_at.ensures in
+    let takes = c.args.takes_marker in
+    let silent = ap (λ (s : Converter). s.reading.writing.is_silent) c.silence.ensures.only_switch ∙ is_silent takes c.converter_at.result in
+    let p = profile_if takes c.args.mode in
+    record {
+      reads = finds_as p (text_from c.args.text.now c.args.from) (drop c.args.from c.args.text.now)
+          c.run_next.result c.run_next.new.converter nowhere _ true silent
+          (c.run_next.ensures.runs p (c.silence.ensures.begins c.args.mode c.args.text.now c.args.from made.begins));
+      not_full = λ is. let fails = rw silent at c.run_next.ensures.full is in omega (arith, fails);
+    }
