@@ -1,5 +1,6 @@
 mod AllOfJoined
 mod EqualReadings
+mod EqualTotals
 mod InterruptedReadings
 mod MarkerTexts
 mod ReaderFitsInMemory

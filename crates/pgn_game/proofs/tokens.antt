@@ -15,6 +15,7 @@ pub mod MissingCountsAs
 pub mod NextGrows
 pub mod NoneBeforeFault
 pub mod OneMoreToken
+pub mod PairsTriedBetweenGames
 pub mod PairsTriedForToken
 pub mod PairsTriedSilently
 pub mod PastNumbers

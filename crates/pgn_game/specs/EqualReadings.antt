@@ -1,21 +1,35 @@
 -- **Definition**: the laws of an input that is the same at both readings.
--- Letters: p is the profile, s a text, m a mark, ms are marks, f is a comparison. `first` and
--- `second` are the two sources, and ts the tokens that `first` has given. u are the bytes that a
--- source has given before it is read no further, as after a failed read, and x the bytes after
--- them.
-use Rattle.std.specs.Prelude.{◌≡◌, ℕ, List, [], ◌∷◌, ◌++◌, take, None}
+-- Letters: p is the profile, s a text, m a mark, ms are marks, f is a comparison, t are the totals.
+-- `first` and `second` are the two sources, and ts the tokens that `first` has given. u are the
+-- bytes that a source has given before it is read no further, as after a failed read, and x the
+-- bytes after them. `sink` is the sink before the call and after it.
+use Rattle.std.specs.Prelude.{◌≡◌, ℕ, false, List, [], ◌∷◌, ◌++◌, take, None}
+use Rattle.pgn_layout.specs.Device.{Device}
 use Rattle.pgn_lexer.specs.Tokens.{Token}
 use Rattle.pgn_lexer.specs.TokensOf.{tokens_of}
 use Rattle.pgn_lexer.specs.Decided.{decided}
+use Rattle.pgn_game.specs.declared.conversion.Totals.{Totals}
 use Rattle.pgn_game.specs.Profile.{Profile, takes_the_marker}
 use Rattle.pgn_game.specs.Progress.{due, output, verdict}
 use Rattle.pgn_game.specs.Checked.{Mark, Comparison, compared, written_by, checked_output, checked_verdict}
+use Rattle.pgn_game.specs.Conversion.{IsTotalled}
+use Rattle.pgn_game.specs.CheckedConversion.{AreTotalled}
 use Rattle.pgn_game.specs.Laws.{IsPrefix}
 
 -- If both readings give the same text, its verdict and its output are those of one reading.
 abbrev pub EqualReadings : Type 0
 EqualReadings = (p : Profile) (s : List ℕ) → p.missing_result ≡ takes_the_marker
     → (checked_verdict p s s ≡ verdict p s) × (checked_output p s s ≡ output p s)
+
+-- The totals if both readings give the same text, and it has no fault. The first reading writes
+-- nothing, and tries pairs only to find moves.
+-- - `most`: the most pairs tried are exactly those of the second reading.
+-- - `totalled`: the totals are those of one reading that writes.
+pub record EqualTotals : Type 0 where
+  pub most : (p : Profile) (s : List ℕ) (t : Totals) (sink : Device) → p.missing_result ≡ takes_the_marker
+      → (both : AreTotalled p s s t sink) → t.most_probes ≡ both.probes.tried.most_of_second
+  pub totalled : (p : Profile) (s : List ℕ) (t : Totals) (sink : Device) → p.missing_result ≡ takes_the_marker
+      → AreTotalled p s s t sink → IsTotalled false p s t sink.before sink.after
 
 -- The comparison shows no difference, no mark is still to come, and what is written by it is this
 -- text.

@@ -33,6 +33,10 @@ use std::marker::Model;
 /// bytes. Only each marker and its place are compared. When `first` has ended, `second` is not
 /// asked again, and what it gave behind the last game is not looked at.
 ///
+/// `Totals::most_probes` is the greater number of the two readings. Nothing of `first` is written,
+/// so only pairs tried to find moves count in it. If both sources give the same bytes, the number
+/// is that of `second`.
+///
 /// # Errors
 ///
 /// - The first fault of `first`. Every game before it is written, and nothing of its own game.

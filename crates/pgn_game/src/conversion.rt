@@ -26,7 +26,8 @@ pub struct Totals {
     /// The number of their plies together, without variations.
     pub plies: u64,
     /// The most pairs of an origin and a target that were tried for one move, as
-    /// `Converter::most_probes` counts them; at most 1,040.
+    /// `Converter::most_probes` counts them; at most 1,040. `check` and `check_slice` write
+    /// nothing, so they count only pairs tried to find moves: at most 8.
     pub most_probes: u32,
 }
 
@@ -73,7 +74,7 @@ pub fn convert<const T: usize, const L: usize, R: Source, W: Sink>(
 
 /// Reads the games that the source gives, as `convert` does, and writes nothing.
 ///
-/// `Totals::most_probes` counts only the pairs that are tried to find moves.
+/// `Totals::most_probes` counts only pairs tried to find moves, at most 8 for each move.
 ///
 /// # Errors
 ///
@@ -157,7 +158,9 @@ pub fn convert_slice<const T: usize, const L: usize, W: Sink>(
     convert_text(&mut converter, text, writer)
 }
 
-/// Reads the games of a slice, as `check` does.
+/// Reads the games of a slice, as `check` does: it writes nothing.
+///
+/// `Totals::most_probes` counts only pairs tried to find moves, at most 8 for each move.
 ///
 /// # Errors
 ///

@@ -633,7 +633,8 @@ impl<const T: usize, const L: usize> Converter<T, L> {
     /// The number is at most 1,040, and at least 1 once a move was played.
     ///
     /// Pairs are tried to find a move, also one that is rejected, and to write the SAN of an
-    /// accepted one with its mark. In reduced mode the moves of variations are not written.
+    /// accepted one with its mark. In reduced mode the moves of variations are not written. After
+    /// `write_nothing` no move is: only pairs tried to find moves count, at most 8 for each move.
     pub fn most_probes(&self) -> u32
         ensures value { result ≡ self.now.reading.most_probes }
         ensures bound { result ≤ 1040 }

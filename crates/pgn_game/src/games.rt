@@ -151,7 +151,8 @@ impl<const T: usize, const L: usize> Games<T, L> {
 
     /// Returns the most pairs of an origin and a target that were tried for one move so far.
     ///
-    /// They are counted as by `Converter::most_probes`, and are at most 1,040.
+    /// They are counted as by `Converter::most_probes`, and are at most 1,040. After
+    /// `write_nothing` only pairs tried to find moves count, at most 8 for each move.
     pub fn most_probes(&self) -> u32
         ensures value { result ≡ self.now.converter.reading.most_probes }
         ensures bound { result ≤ 1040 }

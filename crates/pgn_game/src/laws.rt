@@ -91,6 +91,17 @@ pub fn equal_readings()
     tokens_rise();
 }
 
+/// If an input is the same at both readings, its totals are those of one reading that writes.
+///
+/// The input has no fault, and a missing Result takes the marker. So `Totals::most_probes` of
+/// `convert_checked` is exactly that of its second reading, which writes. The first writes nothing,
+/// and tries no more pairs.
+pub fn equal_totals()
+    ensures { equal.EqualTotals }
+{
+    tokens_rise();
+}
+
 /// If a read or a write fails, or an input is too long, a prefix of the output is written.
 ///
 /// The input is the same at both readings, and a missing Result takes the marker. If `first` stops,

@@ -207,6 +207,8 @@ impl<const T: usize, const L: usize> Reader<T, L> {
     }
 
     /// Returns the most pairs that were tried for one move so far.
+    ///
+    /// If nothing is written, these are the pairs tried to find it.
     pub fn most_probes(&self) -> u32
         ensures value { result ≡ self.now.most_probes }
         ensures bound { result ≤ 1040 }

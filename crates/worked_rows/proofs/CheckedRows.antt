@@ -11,7 +11,7 @@ use Rattle.pgn_lexer.specs.Tokens.{asterisk}
 use Rattle.std.proofs.lemmas.Bool.{leb-true, ltb-true}
 use Rattle.worked_rows.proofs.WorkedRows.{counted, fault, head, unknown, of_moves}
 
-abbrev twice : Profile
+abbrev pub twice : Profile
 twice = checked_profile 64 32 Full
 
 abbrev twice_reduced : Profile

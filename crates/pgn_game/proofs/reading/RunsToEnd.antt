@@ -20,9 +20,9 @@ kinds ts = map (λ t. t.kind) ts
 -- From reading to the relation.
 
 -- what was read finished these games, behind those before
-record Read_on (p : Profile) (b : Progress) (ts : List Token) (gs : List Game) : Type 0 where
-  same : (read_from p b ts).progress.games ≡ b.games ++ gs
-  runs : Runs p b.part (kinds ts) gs
+pub record Read_on (p : Profile) (b : Progress) (ts : List Token) (gs : List Game) : Type 0 where
+  pub same : (read_from p b ts).progress.games ≡ b.games ++ gs
+  pub runs : Runs p b.part (kinds ts) gs
 
 pub not_end : (k : Kind) → (IsLast k → ⊥) → is_end k ≡ false
 not_end tokens.end h = absurd (h tt)
@@ -62,7 +62,7 @@ one_more p b t {ts} free end (whole g) leads {gs} rest = (
   },
 )
 
-from_read : (p : Profile) (b : Progress) (ts : List Token) → RisesTo ts
+pub from_read : (p : Profile) (b : Progress) (ts : List Token) → RisesTo ts
     → (read_from p b ts).fault ≡ None → (gs : List Game) × Read_on p b ts gs
 from_read p b [] rises e = absurd rises
 from_read p b (t ∷ []) rises e = ([], at_end t.kind rises e)

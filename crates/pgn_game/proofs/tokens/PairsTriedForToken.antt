@@ -9,7 +9,7 @@ use Rattle.pgn_game.proofs.refusals.ReaderToPart.{held_at, text_at}
 
 -- Tokens in turn.
 -- what is tried for tokens, and for those behind them
-most_then : (silent : Bool) (p : Profile) {b : Progress} {ts : List Token} {most : ℕ} → MostFrom silent p b ts most → (us : List Token) (n : ℕ)
+pub most_then : (silent : Bool) (p : Profile) {b : Progress} {ts : List Token} {most : ℕ} → MostFrom silent p b ts most → (us : List Token) (n : ℕ)
     → (read_from p b ts).fault ≡ None → MostFrom silent p (read_from p b ts).progress us n → MostFrom silent p b (ts ++ us) (max most n)
 most_then silent p (most_tried.none c) us n clear then = let most_of_one : n ≡ max 0 n = omega arith in subst (MostFrom silent p c us) most_of_one then
 most_then silent p (most_tried.refused c x xs m reason some h) us n clear then = cc

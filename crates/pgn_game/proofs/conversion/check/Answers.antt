@@ -1,6 +1,7 @@
-use Rattle.pgn_game.proofs.Words.{◌-◌, Bool, true, ap, subst, ◌∙◌, AfterConversion, profile_of, bytes_seen, device, None, Converter, seen}
+use Rattle.pgn_game.proofs.Words.{◌-◌, Bool, true, ap, subst, Converter, AfterConversion, profile_of, bytes_seen, device, None}
 use Rattle.pgn_layout.specs.Device.{nowhere}
 use Rattle.pgn_game.specs.Conversion.{CountsResult}
+use Rattle.pgn_game.proofs.putting.SilentReader.{ready_silently, seen_alike}
 use Rattle.pgn_game.proofs.tokens.WholeInput.{is_short}
 use Rattle.pgn_game.proofs.twice.FailuresOfSteps.{no_write_in}
 use Rattle.pgn_game.proofs.conversion.check.Goals as goal
@@ -14,10 +15,7 @@ write_nothing-requires g c = c.requires.memory
 pub convert_all-requires : goal.convert_all-requires
 convert_all-requires g c = (
   c.requires.memory,
-  (
-    ap (λ (s : Converter). s.is_finished) c.write_nothing.ensures.only_switch ∙ c.new-converter.ensures.not_finished,
-    ap (λ (s : Converter). s.fault) c.write_nothing.ensures.only_switch ∙ c.new-converter.ensures.stands.has_read.no_fault,
-  ),
+  ready_silently c.new-converter.result c.write_nothing.ensures.only_switch c.new-converter.ensures.not_finished c.new-converter.ensures.stands.has_read.no_fault,
 )
 
 pub returns : goal.returns
@@ -27,7 +25,7 @@ returns g c =
     let silent = ap (λ (s : Converter). s.reading.writing.is_silent) c.write_nothing.ensures.only_switch in
     let converts = subst (λ (b : Bool). AfterConversion b p source.before source.after c.convert_all.result (bytes_seen b None) (bytes_seen b None)) silent
     (c.convert_all.ensures.converts p (c.write_nothing.ensures.stands p _ _ c.new-converter.ensures.stands)) in
-    let counted = subst (λ (b : Bool). CountsResult c.convert_all.result source (seen b nowhere)) silent c.convert_all.ensures.counted in
+    let counted = seen_alike (CountsResult c.convert_all.result source) _ true nowhere silent c.convert_all.ensures.counted in
     record {
       checks = (converts, no_write_in c.convert_all.result source counted);
       short = is_short true p _ source.after None None c.convert_all.result converts;

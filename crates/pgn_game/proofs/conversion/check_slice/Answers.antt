@@ -1,6 +1,7 @@
-use Rattle.pgn_game.proofs.Words.{◌-◌, Bool, true, ap, subst, ◌∙◌, AfterSlice, profile_of, bytes_seen, None, Converter, seen}
+use Rattle.pgn_game.proofs.Words.{◌-◌, Bool, true, ap, subst, AfterSlice, profile_of, bytes_seen, None, Converter}
 use Rattle.pgn_layout.specs.Device.{nowhere}
 use Rattle.pgn_game.specs.Conversion.{CountsSink}
+use Rattle.pgn_game.proofs.putting.SilentReader.{ready_silently, seen_alike}
 use Rattle.pgn_game.proofs.tokens.WholeInput.{is_short_slice}
 use Rattle.pgn_game.proofs.twice.FailuresOfSteps.{no_write_to}
 use Rattle.pgn_game.proofs.conversion.check_slice.Goals as goal
@@ -14,10 +15,7 @@ write_nothing-requires g c = c.requires.memory
 pub convert_text-requires : goal.convert_text-requires
 convert_text-requires g c = (
   c.requires.memory,
-  (
-    ap (λ (s : Converter). s.is_finished) c.write_nothing.ensures.only_switch ∙ c.new-converter.ensures.not_finished,
-    ap (λ (s : Converter). s.fault) c.write_nothing.ensures.only_switch ∙ c.new-converter.ensures.stands.has_read.no_fault,
-  ),
+  ready_silently c.new-converter.result c.write_nothing.ensures.only_switch c.new-converter.ensures.not_finished c.new-converter.ensures.stands.has_read.no_fault,
 )
 
 pub returns : goal.returns
@@ -29,8 +27,7 @@ returns g c =
     record {
       checks = (
         checks,
-        no_write_to c.convert_text.result
-            (subst (λ (b : Bool). CountsSink c.convert_text.result (seen b nowhere)) silent c.convert_text.ensures.counted),
+        no_write_to c.convert_text.result (seen_alike (CountsSink c.convert_text.result) _ true nowhere silent c.convert_text.ensures.counted),
       );
       short = is_short_slice true p _ None None c.convert_text.result checks;
     }

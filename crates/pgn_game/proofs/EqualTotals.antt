@@ -1,0 +1,117 @@
+-- Two equal readings: the most pairs tried are those of the second one.
+use Rattle.std.proofs.lemmas.List.{append_cancel_left}
+use Rattle.pgn_game.specs.CheckedConversion.{AreTotalled, HasTaken, MostOfBoth}
+use Rattle.pgn_game.specs.EqualReadings.{EqualTotals}
+use Rattle.pgn_game.proofs.Words.{◌≡◌, ℕ, max, Bool, true, false, List, [], ◌∷◌, ◌++◌, Option, None, Some, refl, sym, ap, subst, ◌∙◌, append-nil, arith, Token, TokensRise, RisesTo, tokens_of, Fault, Profile, takes_the_marker, Game, no_part, Next, going, whole, next, Progress, no_progress, progress_with, progress_after, Read, read, read_from, verdict, verdict_of, Mark, Comparison, compared, compared_from, marks_after, marks_from, is_changed, MostFrom, MostTried, Totals, Device, verdict_in, IsTotalled, IsTrue, play_moves}
+use Rattle.pgn_game.proofs.EqualReadings.{equal_readings, after_change, change_test, compared_same, ends, Same}
+use Rattle.pgn_game.proofs.reading.RunsToEnd.{Runs, kinds, from_read}
+use Rattle.pgn_game.proofs.tokens.NoneBeforeFault.{reads_behind}
+use Rattle.pgn_game.proofs.tokens.PairsTriedBetweenGames.{none_tried}
+use Rattle.pgn_game.proofs.tokens.PairsTriedForToken.{most_then}
+use Rattle.pgn_game.proofs.tokens.PairsTriedSilently.{tries_fewer}
+
+-- At the last mark no game is begun, if that was so before the first token.
+abbrev EndsBetween : Comparison → Type 0
+EndsBetween f = f.fault ≡ None → f.marks_left ≡ [] → f.progress.part ≡ no_part
+
+by_change : (p : Profile) (m : Mark) (ms : List Mark) (b : Progress) (t : Token) (ts : List Token) (changed : Bool)
+    → EndsBetween (compared_from p (marks_after (next b.part t.kind) m ms) (progress_after b t) ts) → EndsBetween (after_change p m ms b t ts changed)
+by_change p m ms b t ts true rest = λ same none. absurd (cc)
+by_change p m ms b t ts false rest = rest
+
+-- a token that finishes no game leaves its mark
+between_next : (n : Next) (m : Mark) (ms : List Mark) (games : List Game) → marks_after n m ms ≡ [] → (progress_with games n).part ≡ no_part
+between_next (going to) m ms games none = absurd (cc)
+between_next (whole g) m ms games none = refl
+
+last_mark : (p : Profile) (ms : List Mark) (b : Progress) (us : List Token) → (ms ≡ [] → b.part ≡ no_part) → EndsBetween (compared_from p ms b us)
+last_mark p ms b [] between = λ same none. between none
+last_mark p [] b (t ∷ ts) between = λ same none. between refl
+last_mark p (m ∷ ms) b (t ∷ ts) between =
+    let n = next b.part t.kind in
+    subst EndsBetween (sym (change_test p m ms b t ts))
+    (by_change p m ms b t ts (is_changed p m b.part t)
+    (last_mark p (marks_after n m ms) (progress_after b t) ts (between_next n m ms b.games)))
+
+rises_behind : (front : List Token) (t : Token) (rest : List Token) → RisesTo (front ++ t ∷ rest) → RisesTo (t ∷ rest)
+rises_behind [] t rest rises = rises
+rises_behind (x ∷ []) t rest rises = rises.2
+rises_behind (x ∷ y ∷ front) t rest rises = rises_behind (y ∷ front) t rest rises.2
+
+-- Behind the last mark the tokens try none.
+none_behind : (p : Profile) (b : Progress) (front rest : List Token) → RisesTo (front ++ rest) → b.part ≡ no_part
+    → (read_from p b rest).fault ≡ None → (read_from p b rest).progress.games ≡ b.games → MostFrom false p b rest 0
+none_behind p b front [] rises between passes same = MostFrom.none b
+none_behind p b front (t ∷ ts) rises between passes same =
+    let on = from_read p b (t ∷ ts) (rises_behind front t ts rises) passes in
+    let none = append_cancel_left b.games on.0 [] (sym on.1.same ∙ same ∙ sym (append-nil b.games)) in
+    none_tried p b (t ∷ ts) (subst (Runs p b.part (kinds (t ∷ ts))) none on.1.runs) between
+
+-- a verdict with totals has no fault
+no_fault : (r : Read) (t : Totals) → verdict_of r ≡ verdict_in t → r.fault ≡ None
+no_fault r t is = by_fault r.fault refl
+  where
+    by_fault : (o : Option Fault) → r.fault ≡ o → o ≡ None
+    by_fault None same = refl
+    by_fault (Some f) same = absurd (cc)
+
+module _ (rise : TokensRise) (p : Profile) (s : List ℕ) (t : Totals) (sink : Device) (takes : p.missing_result ≡ takes_the_marker)
+    (both : AreTotalled p s s t sink) where
+  abbrev ts : List Token
+  ts = tokens_of s
+
+  abbrev tried : MostOfBoth p ts ts t.most_probes
+  tried = both.probes.tried
+
+  -- the progress of the second reading at the last mark
+  abbrev b : Progress
+  b = (read p tried.front).progress
+
+  verdict_is : verdict p s ≡ verdict_in t
+  verdict_is = sym (equal_readings rise p s takes).0 ∙ both.converted.0
+
+  passes : (read p ts).fault ≡ None
+  passes = no_fault (read p ts) t verdict_is
+
+  alike : Same (compared p ts ts) (read p ts).progress.games
+  alike = rw (append-nil ts) at (compared_same p no_progress ts [] (ends ts (rise s)))
+
+  reads : read p ts ≡ read_from p b tried.rest
+  reads = ap (read p) tried.cut ∙ reads_behind p no_progress tried.front tried.rest tried.passes
+
+  between : b.part ≡ no_part
+  between =
+      ap (λ (c : Progress). c.part) tried.same
+      ∙ last_mark p (marks_from p no_progress ts) no_progress ts (λ none. refl) alike.fault alike.marks_left
+
+  no_more : (read_from p b tried.rest).progress.games ≡ b.games
+  no_more = ap (λ (r : Read). r.progress.games) (sym reads) ∙ sym alike.games ∙ ap (λ (c : Progress). c.games) (sym tried.same)
+
+  none : MostFrom false p b tried.rest 0
+  none = none_behind p b tried.front tried.rest (subst RisesTo tried.cut (rise s)) between (ap (λ (r : Read). r.fault) (sym reads) ∙ passes) no_more
+
+  -- So the second reading's are those of the whole text.
+  of_second : MostTried false p ts tried.most_of_second
+  of_second =
+      let all = most_then false p tried.second_tried tried.rest 0 tried.passes none in
+      let same : max tried.most_of_second 0 ≡ tried.most_of_second = omega arith in
+      subst (MostTried false p ts) same (subst (λ us. MostTried false p us (max tried.most_of_second 0)) (sym tried.cut) all)
+
+  is_second : t.most_probes ≡ tried.most_of_second
+  is_second = let fewer = tries_fewer p tried.first_tried of_second passes in omega (arith, fewer, tried.greater)
+
+  one_reading : IsTotalled false p s t sink.before sink.after
+  one_reading =
+      record {
+        short = both.short;
+        converted = (verdict_is, subst (HasTaken sink) (equal_readings rise p s takes).1 both.converted.1);
+        probes =
+            record {
+              most = both.probes.most;
+              some = λ has. both.probes.some (subst (λ gs. IsTrue (play_moves gs)) (sym alike.games) has);
+              tried = subst (MostTried false p ts) (sym is_second) of_second;
+            };
+      }
+
+pub equal_totals : TokensRise → EqualTotals
+equal_totals rise = record { most = is_second rise; totalled = one_reading rise }
