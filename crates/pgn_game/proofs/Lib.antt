@@ -2,9 +2,11 @@ mod AllOfJoined
 mod EqualReadings
 mod InterruptedReadings
 mod MarkerTexts
+mod PlyAhead
 mod ReaderFitsInMemory
 mod ReaderLemmas
 mod ReaderPartsFitInMemory
+mod WordByBytes
 mod Words
 mod exporting
 mod pairs
