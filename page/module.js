@@ -8,7 +8,7 @@ export const STRUCTS = {
   pgn_text: [["status", "uint32_t"], ["field", "uint32_t"], ["length", "size_t"]],
   pgn_move: [
     ["status", "uint32_t"], ["fault", "uint32_t"], ["field", "uint32_t"],
-    ["san", "uint8_t", 8], ["fen", "uint8_t", 96],
+    ["san", "uint8_t", 8], ["uci", "uint8_t", 8], ["fen", "uint8_t", 96],
   ],
   pgn_game: [
     ["status", "uint32_t"], ["fault", "uint32_t"], ["place", "uint64_t"], ["written", "size_t"],
@@ -35,6 +35,9 @@ export const MORE = 5;
 // The two modes, and what a missing Result counts as: options of nextGame.
 export const MODES = { full: 0, reduced: 1 };
 export const MISSING_RESULTS = { unknown: 0, fromMarker: 1 };
+
+// The notation of moves as a PGN has them.
+const SAN = 0;
 
 const SIZES = { uint8_t: 1, uint32_t: 4, uint64_t: 8, size_t: 8 };
 // The results of calls are written at the begin of the free memory. None is longer.
@@ -150,7 +153,8 @@ export class Module {
   san(fen, text) {
     const [fenAt, textAt] = this.put(fen, text);
     this.calls.pgn_san(
-      BigInt(this.result), BigInt(fenAt), BigInt(fen.length), BigInt(textAt), BigInt(text.length));
+      BigInt(this.result), BigInt(fenAt), BigInt(fen.length), BigInt(textAt), BigInt(text.length),
+      SAN);
     return {
       status: this.field("pgn_move", "status"),
       fault: this.field("pgn_move", "fault"),

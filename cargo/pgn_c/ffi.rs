@@ -5,7 +5,7 @@
 //! length is 0.
 #![allow(unsafe_code)]
 
-use crate::{PgnExplanation, PgnGame, PgnMove, PgnResult, PgnTag, PgnText};
+use crate::{PgnExplanation, PgnGame, PgnMove, PgnPlies, PgnResult, PgnTag, PgnText};
 use std::slice;
 
 /// The bytes that C passes.
@@ -79,9 +79,27 @@ unsafe extern "C" fn pgn_san(
     fen_length: usize,
     text: *const u8,
     length: usize,
+    notation: u32,
 ) -> PgnMove {
     let (fen, text) = unsafe { (text_of(fen, fen_length), text_of(text, length)) };
-    crate::pgn_san(fen, text)
+    crate::pgn_san(fen, text, notation)
+}
+
+/// # Safety
+///
+/// The conditions of `pgn.h` hold.
+#[no_mangle]
+unsafe extern "C" fn pgn_line(
+    fen: *const u8,
+    fen_length: usize,
+    text: *const u8,
+    length: usize,
+    notation: u32,
+    buffer: *mut u8,
+    capacity: usize,
+) -> PgnPlies {
+    let (fen, text) = unsafe { (text_of(fen, fen_length), text_of(text, length)) };
+    crate::pgn_line(fen, text, notation, unsafe { buffer_of(buffer, capacity) })
 }
 
 /// # Safety

@@ -1,6 +1,6 @@
 //! What Rust's users expect of the types. **Not proved**: written for Cargo.
 
-use crate::{Converter, Fault, Games, Inlet, ReadFailed, Reason};
+use crate::{Converter, Fault, Games, Inlet, LineOfPlay, Ply, ReadFailed, Reason};
 use std::error::Error;
 use std::fmt::{self, Debug, Display, Formatter};
 
@@ -62,5 +62,23 @@ impl<const T: usize, const L: usize> Debug for Games<T, L> {
         out.debug_struct("Games")
             .field("games", &self.games())
             .finish_non_exhaustive()
+    }
+}
+
+impl Debug for LineOfPlay<'_> {
+    fn fmt(&self, out: &mut Formatter<'_>) -> fmt::Result {
+        out.debug_struct("LineOfPlay")
+            .field("position", self.position())
+            .finish_non_exhaustive()
+    }
+}
+
+impl Debug for Ply {
+    fn fmt(&self, out: &mut Formatter<'_>) -> fmt::Result {
+        out.debug_struct("Ply")
+            .field("at", &self.at)
+            .field("played", &self.played)
+            .field("san", &self.san)
+            .finish()
     }
 }

@@ -33,7 +33,7 @@ enum {
     PGN_OK = 0,     /* done */
     PGN_FAULT = 1,  /* the text has a fault */
     PGN_FULL = 2,   /* the buffer is too short */
-    PGN_NO_MODE = 3, /* there is no such mode; nothing was written */
+    PGN_NO_MODE = 3, /* there is no such mode or notation; nothing was written */
     PGN_NO_GAME = 4, /* no game is left in the text */
     PGN_MORE = 5,    /* a fault if the text ends here: a caller who reads in chunks gives more */
     PGN_BAD_PLACE = 6 /* the place is behind the text or above 2^62; nothing was written */
@@ -43,6 +43,12 @@ enum {
 enum {
     PGN_FULL_FORMAT = 0,   /* export format (PGN 3.2) */
     PGN_REDUCED_FORMAT = 1 /* reduced export format (PGN 3.2.4) */
+};
+
+/* The notations of moves, for pgn_san and pgn_line. */
+enum {
+    PGN_SAN = 0, /* standard algebraic notation, as a PGN has it: Nf3 (PGN 8.2.3) */
+    PGN_UCI = 1  /* that of engines: g1f3 (Universal Chess Interface, "Move format") */
 };
 
 /* What a missing Result counts as, for pgn_next_game and pgn_read_game. */
@@ -75,12 +81,24 @@ typedef struct pgn_text {
 
 /* The result of pgn_san. */
 typedef struct pgn_move {
-    uint32_t status; /* PGN_OK or PGN_FAULT */
+    uint32_t status; /* PGN_OK, PGN_FAULT or PGN_NO_MODE */
     uint32_t fault;  /* the fault's number: 26, 33, 34, 35 or 36; 0: none */
     uint32_t field;  /* with fault 26 the field of the FEN that is at fault, 1 to 7; else 0 */
-    uint8_t san[8];  /* the move's SAN, ended by a zero; "" with a fault */
-    uint8_t fen[96]; /* the FEN of the position after the move, ended by a zero; "" with a fault */
+    uint8_t san[8];  /* PGN_OK: the move's SAN, ended by a zero; else "" */
+    uint8_t uci[8];  /* PGN_OK: the move in UCI, ended by a zero; else "" */
+    uint8_t fen[96]; /* PGN_OK: the FEN of the position after it, ended by a zero; else "" */
 } pgn_move;
+
+/* The result of pgn_line. */
+typedef struct pgn_plies {
+    uint32_t status; /* PGN_OK, PGN_FAULT, PGN_FULL or PGN_NO_MODE */
+    uint32_t fault;  /* the fault's number: 26, 33, 34, 35, 36 or 51; 0: none */
+    uint32_t field;  /* with fault 26 the field of the FEN that is at fault, 1 to 7; else 0 */
+    uint64_t place;  /* with fault 33 to 36 the byte offset of the word that names no move, with 51
+                        that of the ply that there is no room for; else 0 */
+    size_t written;  /* how many bytes of the buffer were written, from its front */
+    size_t plies;    /* the number of plies whose lines these are */
+} pgn_plies;
 
 /* The result of pgn_next_game and pgn_read_game. */
 typedef struct pgn_game {
@@ -161,17 +179,47 @@ pgn_text pgn_fen_normalize(const uint8_t *fen, size_t length, uint8_t *buffer, s
 /*
  * Finds the one legal move that a text names in the position of a FEN (PGN 8.2.3).
  *
- * The result has its SAN, with the mark of check or mate, and the FEN of the position after it.
+ * `notation` is PGN_SAN or PGN_UCI. The result has the move's SAN, with the mark of check or mate,
+ * its UCI, and the FEN of the position after it.
  *
  * PGN_OK: there is one such move.
  * PGN_FAULT: `fault` says why:
  *     26: the FEN is no position
  *     33: the text is no move
  *     34: no legal move agrees with it
- *     35: more than one does
+ *     35: more than one does; never in UCI
  *     36: it is Black's move with the number 99,999, after which no FEN has the number
+ * PGN_NO_MODE: `notation` is neither 0 nor 1.
+ *
+ * SAN is read freely: e2e4 and Ng1f3 are read too. UCI is read exactly: all letters are small,
+ * castling is the king's move, such as e1g1, and a promotion has its letter, as in a7a8q.
  */
-pgn_move pgn_san(const uint8_t *fen, size_t fen_length, const uint8_t *text, size_t length);
+pgn_move pgn_san(const uint8_t *fen, size_t fen_length, const uint8_t *text, size_t length,
+                 uint32_t notation);
+
+/*
+ * Plays a text of moves from the position of a FEN on, and writes each ply into the front of a
+ * buffer.
+ *
+ * The text has moves, with white space between them. `notation` is PGN_SAN or PGN_UCI. Move numbers
+ * and periods that stand alone, such as 1. and 12..., are passed. There are no comments, variations,
+ * NAGs or markers. A ply is a line: its SAN, its UCI and the FEN of the position after it, with a tab
+ * behind the first two and a line feed behind the third. It has at most 108 bytes.
+ *
+ * PGN_OK: the buffer has the lines of all plies.
+ * PGN_FAULT: `fault` says why:
+ *     26: the FEN is no position; nothing is written
+ *     33 to 36: as in pgn_san, of the first word that names no move. `place` is where it begins, and
+ *         the buffer has the lines of the plies before it
+ * PGN_FULL: the buffer has as many lines, from the first one on, as there is room for. `fault` is
+ *     51, and `place` is that of the next ply. Call again with a larger buffer, or with the FEN of
+ *     the last line and the text from `place` on.
+ * PGN_NO_MODE: `notation` is neither 0 nor 1.
+ *
+ * The bytes of the buffer behind the first `written` are as they were.
+ */
+pgn_plies pgn_line(const uint8_t *fen, size_t fen_length, const uint8_t *text, size_t length,
+                   uint32_t notation, uint8_t *buffer, size_t capacity);
 
 /*
  * Converts the next game of a text, from the byte at `from` on, into the front of a buffer.

@@ -1,22 +1,24 @@
 """The calls on a single position: FEN and SAN."""
 import ctypes
-from typing import NamedTuple, Tuple
+from typing import List, NamedTuple, Tuple
 
 from . import _library
 from ._described import described
 from ._faults import FenFault, MoveFault
 
 
-_san = _library.san
+_line = _library.line
 
 
 @described(san="The move in SAN, with its mark of check or mate.",
-           fen="The FEN of the position after it.")
+           fen="The FEN of the position after it.",
+           uci="The move in UCI, the notation of engines: `g1f3`, `a7a8q`.")
 class Played(NamedTuple):
     """A move that was played."""
 
     san: str
     fen: str
+    uci: str
 
 
 @described(piece="The piece: `K`, `Q`, `R`, `B`, `N` or `P`.",
@@ -51,29 +53,38 @@ def normalize_fen(fen: str) -> str:
     return buffer.raw[:result.length].decode("ascii")
 
 
-def san(fen: str, move: str) -> Played:
+def san(fen: str, move: str, *, uci: bool = False) -> Played:
     """Finds the one legal move that a text names in a position (PGN 8.2.3).
 
-    Returns its SAN, with its mark of check or mate, and the FEN after it. Raises FenFault for the
-    FEN, and MoveFault for the text.
+    Returns its SAN, with its mark of check or mate, the FEN after it, and its UCI. Raises FenFault
+    for the FEN, and MoveFault for the text.
 
-    >>> san("rnbqkbnr/pppppppp/8/8/8/8/PPPPPPPP/RNBQKBNR w KQkq - 0 1", "Ng1f3")
-    Played(san='Nf3', fen='rnbqkbnr/pppppppp/8/8/8/5N2/PPPPPPPP/RNBQKB1R b KQkq - 1 1')
+    `uci`: the text is in UCI, the notation of engines, and is read exactly.
+
+    >>> start = "rnbqkbnr/pppppppp/8/8/8/8/PPPPPPPP/RNBQKBNR w KQkq - 0 1"
+    >>> san(start, "Ng1f3").fen
+    'rnbqkbnr/pppppppp/8/8/8/5N2/PPPPPPPP/RNBQKB1R b KQkq - 1 1'
+    >>> san(start, "g1f3", uci=True).san, san(start, "Nf3").uci
+    ('Nf3', 'g1f3')
     """
     position, text = _data(fen, "a FEN"), _data(move, "a move")
-    result = _library.san(position, len(position), text, len(text))
+    notation = _library.UCI if uci else _library.SAN
+    result = _library.san(position, len(position), text, len(text), notation)
     if result.status != _library.OK:
         _refuse(result.fault, result.field, fen, move)
-    return Played(result.san.decode("ascii"), result.fen.decode("ascii"))
+    return Played(result.san.decode("ascii"), result.fen.decode("ascii"),
+                  result.uci.decode("ascii"))
 
 
-def position_after(fen: str, move: str) -> str:
-    """The FEN after a move in SAN, fast: a game has many."""
-    position, text = fen.encode(), move.encode()
-    result = _san(position, len(position), text, len(text))
-    if result.status:
-        _refuse(result.fault, result.field, fen, move)
-    return result.fen.decode()
+def texts_of_plies(fen: str, sans: List[str]) -> List[str]:
+    """Plays moves in SAN: the SAN, the UCI and the FEN after it of each, one behind another."""
+    position, text, size = fen.encode(), " ".join(sans).encode(), _library.LONGEST_PLY * len(sans)
+    buffer = ctypes.create_string_buffer(size)
+    played = _line(position, len(position), text, len(text), _library.SAN, buffer, size)
+    if played.status:
+        _refuse(played.fault, played.field, fen, text[played.place:].split(b" ")[0].decode())
+    lines = ctypes.string_at(buffer, played.written).decode("ascii")
+    return lines.replace("\n", "\t").split("\t")
 
 
 def explain(fen: str, move: str) -> Explanation:

@@ -25,8 +25,9 @@ _ROOT = os.path.dirname(os.path.dirname(_HERE))
 OK, FAULT, FULL, NO_MODE, NO_GAME, MORE, BAD_PLACE = range(7)
 FULL_FORMAT, REDUCED_FORMAT = range(2)
 RESULT_UNKNOWN, RESULT_FROM_MARKER = range(2)
-# the most bytes of a FEN
-LONGEST_FEN = 93
+SAN, UCI = range(2)
+# the most bytes of a FEN, and of a ply as pgn_line writes it
+LONGEST_FEN, LONGEST_PLY = 93, 108
 
 
 class Result(ctypes.Structure):
@@ -72,13 +73,34 @@ class Move(ctypes.Structure):
     fault: int
     field: int
     san: bytes
+    uci: bytes
     fen: bytes
     _fields_ = [
         ("status", ctypes.c_uint32),
         ("fault", ctypes.c_uint32),
         ("field", ctypes.c_uint32),
         ("san", ctypes.c_char * 8),
+        ("uci", ctypes.c_char * 8),
         ("fen", ctypes.c_char * 96),
+    ]
+
+
+class Plies(ctypes.Structure):
+    """struct pgn_plies"""
+
+    status: int
+    fault: int
+    field: int
+    place: int
+    written: int
+    plies: int
+    _fields_ = [
+        ("status", ctypes.c_uint32),
+        ("fault", ctypes.c_uint32),
+        ("field", ctypes.c_uint32),
+        ("place", ctypes.c_uint64),
+        ("written", ctypes.c_size_t),
+        ("plies", ctypes.c_size_t),
     ]
 
 
@@ -138,7 +160,8 @@ _TEXT = (ctypes.c_void_p, ctypes.c_size_t)
 _CALLS = {
     "pgn_convert": (Result, (*_TEXT, *_TEXT, ctypes.c_uint32)),
     "pgn_fen_normalize": (Text, (*_TEXT, *_TEXT)),
-    "pgn_san": (Move, (*_TEXT, *_TEXT)),
+    "pgn_san": (Move, (*_TEXT, *_TEXT, ctypes.c_uint32)),
+    "pgn_line": (Plies, (*_TEXT, *_TEXT, ctypes.c_uint32, *_TEXT)),
     "pgn_next_game": (NextGame, (*_TEXT, ctypes.c_size_t, ctypes.c_uint32, ctypes.c_uint32,
                                  *_TEXT)),
     "pgn_read_game": (NextGame, (*_TEXT, ctypes.c_size_t, ctypes.c_uint32, ctypes.c_uint32,
@@ -180,7 +203,8 @@ def _load() -> ctypes.CDLL:
 _library = _load()
 convert: Callable[[bytes, int, Buffer, int, int], Result] = _library.pgn_convert
 normalize_fen: Callable[[bytes, int, Buffer, int], Text] = _library.pgn_fen_normalize
-san: Callable[[bytes, int, bytes, int], Move] = _library.pgn_san
+san: Callable[[bytes, int, bytes, int, int], Move] = _library.pgn_san
+line: Callable[[bytes, int, bytes, int, int, Buffer, int], Plies] = _library.pgn_line
 next_game: Callable[[bytes, int, int, int, int, Buffer, int], NextGame] = _library.pgn_next_game
 read_game: Callable[[bytes, int, int, int, int, Buffer, int], NextGame] = _library.pgn_read_game
 explain: Callable[[bytes, int, bytes, int], Explanation] = _library.pgn_explain

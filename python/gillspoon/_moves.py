@@ -4,6 +4,7 @@ Export text is a normal form, and what is read here is that form alone: docs/PRO
 grammar. The library has checked every move, so nothing is checked again.
 """
 import re
+from itertools import count, groupby, repeat
 from typing import Any, Callable, Iterator, List, Optional, Tuple, Union
 
 from . import _calls
@@ -14,6 +15,37 @@ from ._tags import type_of
 Note = Union[int, str, "Line"]
 """What may be beside a move: a NAG is an int, a comment is a str, a variation is a Line."""
 _WORD = re.compile("[^\t-\r ]+")
+# what begins a NAG, a comment or a variation
+_NOTE = re.compile("[$({]").search
+
+
+class _Played:
+    """The moves of a line in SAN, and what the library says of them, in one call for all.
+
+    The plies have it, and it has none of them: so they are freed without the garbage collector.
+    """
+
+    __slots__ = ("start", "first", "sans", "_texts")
+
+    def __init__(self, start: "Union[Ply, str]", first: int, sans: List[str]) -> None:
+        # the ply before the first move, or the FEN of its position; the number of the first ply
+        self.start, self.first, self.sans = start, first, sans
+        self._texts: Optional[List[str]] = None
+
+    def fen_before_all(self) -> str:
+        return self.start if isinstance(self.start, str) else self.start.fen
+
+    def texts(self) -> List[str]:
+        """Three texts of each ply: its SAN, its UCI, and the FEN of the position after it."""
+        texts = self._texts
+        if texts is None:
+            texts = self._texts = _calls.texts_of_plies(self.fen_before_all(), self.sans)
+        return texts
+
+    def fen_before(self, number: int) -> str:
+        """The position before the ply with this number."""
+        at = number - self.first
+        return self.texts()[3 * at - 1] if at else self.fen_before_all()
 
 
 class Ply:
@@ -28,43 +60,40 @@ class Ply:
                   "of the move it replaces.",
         "san": "The move in SAN, with its mark of check or mate: `Nf3`, `exd8=Q#`.",
         "notes": "NAGs (int), comments (str) and variations (Line) behind the move, in order.",
-        "_before": None,
-        "_fen": None,
+        "_played": None,
     }
+    notes: List[Note]
 
-    def __init__(self, number: int, san: str, before: "Union[Ply, str]") -> None:
-        self.number, self.san = number, san
-        self.notes: List[Note] = []
-        self._before = before
-        self._fen: Optional[str] = None
+    def __init__(self, number: int, san: str, played: _Played) -> None:
+        self.number = number
+        self.san = san
+        self._played = played
+
+    def __getattr__(self, name: str) -> List[Note]:
+        # most plies have no notes, so the list is made when it is asked for
+        if name != "notes":
+            raise AttributeError("'Ply' object has no attribute %r" % name)
+        self.notes = []
+        return self.notes
 
     def __repr__(self) -> str:
         return "Ply(%d, %r)" % (self.number, self.san)
 
-    def __reduce__(self) -> "Tuple[Callable[..., Ply], _PackedPly]":
-        # each ply has the one before: a chain of them would be too deep for pickle
-        return _unpacked_ply, _packed_ply(self, None)
+    def __reduce__(self) -> "Tuple[Callable[..., Ply], Tuple[object, ...]]":
+        return _unpacked_ply, (self._played.fen_before(self.number), self.number, self.san,
+                               _packed_notes(self.notes, None))
 
     @property
     def fen(self) -> str:
         """The FEN of the position after the move."""
-        fen = self._fen
-        if fen is None:
-            before = self._before
-            start = before if isinstance(before, str) else before._fen
-            fen = self._fen = _calls.position_after(start or self._first_positions(), self.san)
-        return fen
+        played = self._played
+        return (played._texts or played.texts())[3 * (self.number - played.first) + 2]
 
-    def _first_positions(self) -> str:
-        """Finds the position after each move before this one, and gives the last of them."""
-        plies, at = [], self._before
-        while isinstance(at, Ply) and at._fen is None:
-            plies.append(at)
-            at = at._before
-        fen = ""
-        for ply in reversed(plies):
-            fen = ply.fen
-        return fen
+    @property
+    def uci(self) -> str:
+        """The move in UCI, the notation of engines: `g1f3`, `e1g1` for castling, `a7a8q`."""
+        played = self._played
+        return (played._texts or played.texts())[3 * (self.number - played.first) + 1]
 
     @property
     def nags(self) -> List[int]:
@@ -146,45 +175,50 @@ class Line:
 # ---- what pickle gets: no links between plies, which would be a chain
 
 
-_PackedPly = Tuple[Optional[str], int, str, Optional[str], "List[object]"]
-_PackedLine = Tuple[Optional[str], "List[object]", List[_PackedPly]]
-
-
-def _packed_ply(ply: Ply, link: "Union[Ply, str, None]") -> _PackedPly:
-    """The FEN before a ply, or None if `link` is before it; and what the ply has."""
-    before = ply._before
-    fen = None if before is link else before if isinstance(before, str) else before.fen
-    return fen, ply.number, ply.san, ply._fen, _packed_notes(ply.notes, before)
+_Group = Tuple[Optional[str], int, List[str], "List[Tuple[int, str, List[object]]]"]
+_PackedLine = Tuple[Optional[str], "List[object]", List[_Group]]
 
 
 def _packed_line(line: Line, link: "Union[Ply, str, None]") -> _PackedLine:
-    """The FEN before a line, or None if it starts from `link`; and what the line has."""
-    plies, before = [], line.start
-    for ply in line.plies:
-        plies.append(_packed_ply(ply, before))
-        before = ply
+    """The FEN before a line, or None if it starts from `link`; its notes; and its plies.
+
+    The plies are in groups that were played together: the FEN before the first move, or None if it
+    is that of the line; its number; all moves of the group; and what each ply has.
+    """
+    groups: List[_Group] = []
+    before = line.start
+    for played, plies in groupby(line.plies, lambda ply: ply._played):
+        packed = []
+        for ply in plies:
+            packed.append((ply.number, ply.san, _packed_notes(ply.notes, before)))
+            before = ply
+        start = None if played.start is line.start else played.fen_before_all()
+        groups.append((start, played.first, played.sans, packed))
     fen = None if line.start is link else line.fen
-    return fen, _packed_notes(line.notes, line.start), plies
+    return fen, _packed_notes(line.notes, line.start), groups
 
 
-def _packed_notes(notes: List[Note], before: Union[Ply, str]) -> List[object]:
+def _packed_notes(notes: List[Note], before: "Union[Ply, str, None]") -> List[object]:
     return [_packed_line(it, before) if isinstance(it, Line) else it for it in notes]
 
 
-def _unpacked_ply(fen: Optional[str], number: int, san: str, after: Optional[str],
-                  notes: List[object], *, link: Union[Ply, str] = "") -> Ply:
-    ply = Ply(number, san, link if fen is None else fen)
-    ply.notes, ply._fen = _unpacked_notes(notes, ply._before), after
+def _unpacked_ply(fen: str, number: int, san: str, notes: List[object]) -> Ply:
+    ply = Ply(number, san, _Played(fen, number, [san]))
+    ply.notes = _unpacked_notes(notes, fen)
     return ply
 
 
-def _unpacked_line(fen: Optional[str], notes: List[object], plies: List[_PackedPly],
+def _unpacked_line(fen: Optional[str], notes: List[object], groups: List[_Group],
                    *, link: Union[Ply, str] = "") -> Line:
     line = Line(link if fen is None else fen)
     line.notes, before = _unpacked_notes(notes, line.start), line.start
-    for packed in plies:
-        before = _unpacked_ply(*packed, link=before)
-        line.plies.append(before)
+    for start, first, sans, packed in groups:
+        played = _Played(line.start if start is None else start, first, sans)
+        for number, san, its_notes in packed:
+            ply = Ply(number, san, played)
+            ply.notes = _unpacked_notes(its_notes, before)
+            line.plies.append(ply)
+            before = ply
     return line
 
 
@@ -197,38 +231,48 @@ def _unpacked_notes(notes: List[Any], before: Union[Ply, str]) -> List[Note]:
 
 def read_moves(movetext: str, fen: str) -> Line:
     """The moves of the movetext of a game in export format."""
+    if _NOTE(movetext) is None:
+        line, sans = Line(fen), [word for word in movetext.split()[:-1] if word[-1] != "."]
+        line.plies = list(map(Ply, count(1), sans, repeat(_Played(fen, 1, sans))))
+        return line
+    return _read_noted_moves(movetext, fen)
+
+
+def _read_noted_moves(movetext: str, fen: str) -> Line:
+    """The same where there are NAGs, comments or variations."""
     words = movetext.replace("\n", " ").split(" ")
-    line, opened = Line(fen), []  # type: Line, List[Tuple[Line, int]]
-    before: Union[Ply, str] = fen
-    notes, number, at = line.notes, 0, 0
+    line, played = Line(fen), _Played(fen, 1, [])
+    opened: List[Tuple[Line, _Played, int]] = []
+    noted: Union[Line, Ply] = line
+    number, at = 0, 0
     while True:
         word = words[at]
         at += 1
         first = word[0]
         if first in "abcdefghKQRBNO":
             number += 1
-            before = Ply(number, word, before)
-            line.plies.append(before)
-            notes = before.notes
+            noted = Ply(number, word, played)
+            played.sans.append(word)
+            line.plies.append(noted)
         elif word[-1] == ".":
             pass
         elif first == "$":
-            notes.append(int(word[1:]))
+            noted.notes.append(int(word[1:]))
         elif first == "{":
             end = words.index("}", at)
-            notes.append(" ".join(words[at:end]))
+            noted.notes.append(" ".join(words[at:end]))
             at = end + 1
         elif first == "(":
-            opened.append((line, number))
-            last = line.plies[-1]
-            before, number = last._before, number - 1
-            line = Line(before)
-            last.notes.append(line)
-            notes = line.notes
+            opened.append((line, played, number))
+            start = line.plies[-2] if len(line.plies) > 1 else line.start
+            variation = Line(start)
+            line.plies[-1].notes.append(variation)
+            noted = line = variation
+            played = _Played(start, number, [])
+            number -= 1
         elif first == ")":
-            line, number = opened.pop()
-            before = line.plies[-1]
-            notes = before.notes
+            line, played, number = opened.pop()
+            noted = line.plies[-1]
         else:
             return line
 

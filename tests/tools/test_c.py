@@ -14,6 +14,7 @@ from documents import samples
 from programs import ROOT, need, need_library, need_program, need_proved_program, run, vectors
 
 OK, FAULT, FULL, NO_MODE, NO_GAME, MORE, BAD_PLACE = range(7)
+SAN, UCI = range(2)
 MARKERS = {1: b"1-0", 2: b"0-1", 3: b"1/2-1/2", 4: b"*"}
 # As 1. e4 e5 leave it.
 OPEN_GAME = b"rnbqkbnr/pppp1ppp/8/4p3/4P3/8/PPPP1PPP/RNBQKBNR w KQkq e6 0 2"
@@ -27,6 +28,20 @@ class Result(ctypes.Structure):
     _fields_ = [("status", c_uint32), ("fault", c_uint32), ("place", c_uint64),
                 ("written", c_size_t), ("games", c_uint64), ("plies", c_uint64),
                 ("reason_at", c_size_t), ("message", c_char * 104)]
+
+
+class Move(ctypes.Structure):
+    """struct pgn_move of pgn.h"""
+
+    _fields_ = [("status", c_uint32), ("fault", c_uint32), ("field", c_uint32),
+                ("san", c_char * 8), ("uci", c_char * 8), ("fen", c_char * 96)]
+
+
+class Plies(ctypes.Structure):
+    """struct pgn_plies of pgn.h"""
+
+    _fields_ = [("status", c_uint32), ("fault", c_uint32), ("field", c_uint32),
+                ("place", c_uint64), ("written", c_size_t), ("plies", c_size_t)]
 
 
 class Game(ctypes.Structure):
@@ -62,6 +77,8 @@ class Library:
                 ("pgn_check", Result, text), ("pgn_convert", Result, (*text, *text, mode)),
                 ("pgn_next_game", Game, (*text, size, mode, mode, *text)),
                 ("pgn_read_game", Game, (*text, size, mode, mode, *text)),
+                ("pgn_san", Move, (*text, *text, mode)),
+                ("pgn_line", Plies, (*text, *text, mode, *text)),
                 ("pgn_tag_at", Tag, (*text, size)), ("pgn_explain", Explanation, text + text)):
             function = getattr(self.calls, name)
             function.restype, function.argtypes = result, words
@@ -88,6 +105,16 @@ class Library:
         game = call(data, len(data), at, mode, missing, buffer, capacity)
         assert buffer.raw[game.written :] == b"\xAA" * (capacity + 8 - game.written)
         return game, ctypes.string_at(buffer, game.written)
+
+    def line(self, fen, data, notation=0, capacity=None):
+        """The result for a line of play, and the lines that were written."""
+        capacity = 108 * (len(data) + 1) if capacity is None else capacity
+        buffer = ctypes.create_string_buffer(b"\xAA" * (capacity + 8), capacity + 8)
+        result = self.calls.pgn_line(fen, len(fen), data, len(data), notation, buffer, capacity)
+        assert buffer.raw[result.written :] == b"\xAA" * (capacity + 8 - result.written)
+        text = ctypes.string_at(buffer, result.written)
+        assert text.count(b"\n") == result.plies
+        return result, text
 
     def games(self, data, mode=0, missing=0):
         """The results for the games of a text in turn, each with what was written."""
@@ -428,6 +455,93 @@ class Installed:
             tag = self.library.calls.pgn_tag_at(text, len(text), at)
             self.assertEqual(fields(tag), (FAULT, 0, 0, 0, 0, 0))
 
+    # ---- moves, and lines of play
+
+    def san(self, fen, text, notation=0):
+        return self.library.calls.pgn_san(fen, len(fen), text, len(text), notation)
+
+    def test_notations(self):
+        castles = b"r3k3/6P1/8/8/8/8/8/4K2R w Kq - 0 1"
+        for fen, text, notation, san, uci in (
+                (INITIAL, b"Nf3", SAN, b"Nf3", b"g1f3"), (INITIAL, b"g1f3", UCI, b"Nf3", b"g1f3"),
+                (INITIAL, b"e2e4", SAN, b"e4", b"e2e4"), (INITIAL, b"e2e4", UCI, b"e4", b"e2e4"),
+                (castles, b"O-O", SAN, b"O-O", b"e1g1"), (castles, b"e1g1", UCI, b"O-O", b"e1g1"),
+                (castles, b"g8=Q+", SAN, b"g8=Q+", b"g7g8q"),
+                (castles, b"g7g8n", UCI, b"g8=N", b"g7g8n")):
+            move = self.san(fen, text, notation)
+            self.assertEqual((move.status, move.fault, move.san, move.uci), (OK, 0, san, uci), text)
+        for fen, text, notation, fault in (
+                (INITIAL, b"Nf3", UCI, 33), (INITIAL, b"G1F3", UCI, 33), (INITIAL, b"0000", UCI, 33),
+                (INITIAL, b"g1f3", SAN, 34), (INITIAL, b"g1g3", UCI, 34),
+                (castles, b"g7g8", UCI, 34), (b"x", b"g1f3", UCI, 26),
+                (b"7k/8/8/8/8/8/8/R4R1K b - - 0 99999", b"h8g7", UCI, 36)):
+            move = self.san(fen, text, notation)
+            self.assertEqual((move.status, move.fault), (FAULT, fault), text)
+            self.assertEqual((move.san, move.uci, move.fen), (b"", b"", b""))
+        for notation in (2, (1 << 32) - 1):
+            self.assertEqual(fields(self.san(INITIAL, b"e4", notation)),
+                             (NO_MODE, 0, 0, b"", b"", b""))
+
+    def check_plies(self, fen, words, text):
+        """The lines are what pgn_san says of each word in turn."""
+        lines = text.splitlines()
+        self.assertEqual(len(lines), len(words))
+        for word, line in zip(words, lines):
+            move = self.san(fen, word)
+            self.assertEqual(line.split(b"\t"), [move.san, move.uci, move.fen])
+            fen = move.fen
+
+    def test_lines_of_archives(self):
+        """The plies of each game end in its last position, in SAN and in UCI."""
+        for game, export in self.library.games(self.archive(40, "plain")):
+            if game.status != OK:
+                break
+            movetext = export.partition(b"\n\n")[2][: -len(MARKERS[game.marker]) - 2]
+            result, text = self.library.line(INITIAL, movetext)
+            self.assertEqual(fields(result), (OK, 0, 0, 0, len(text), game.plies))
+            words = [it for it in movetext.split() if not it.endswith(b".")]
+            self.check_plies(INITIAL, words, text)
+            self.assertEqual(text.splitlines()[-1].split(b"\t")[2], game.fen)
+            moves = b" ".join(it.split(b"\t")[1] for it in text.splitlines())
+            again, same = self.library.line(INITIAL, moves, UCI)
+            self.assertEqual((fields(again), same), (fields(result), text))
+
+    def test_lines_of_play(self):
+        for fen, data, notation, plies, fault, place in (
+                (INITIAL, b"1. e4 e5 2. Ke3 Nc6", SAN, 2, 34, 12),
+                (INITIAL, b"1. e4 {best} e5", SAN, 1, 33, 6), (INITIAL, b"e4 1-0", SAN, 1, 33, 3),
+                (INITIAL, b"e2e4 Nf6", UCI, 1, 33, 5), (INITIAL, b" 1.e4", SAN, 0, 33, 1),
+                (b"7k/8/8/8/8/8/8/R4R1K w - - 0 1", b"Kg2 Kg8\nRc1", SAN, 2, 35, 8),
+                (b"4k3/8/8/8/8/8/8/4K3 w - - 0 99999", b"Kd1 Kd8", SAN, 1, 36, 4)):
+            result, text = self.library.line(fen, data, notation)
+            self.assertEqual(fields(result), (FAULT, fault, 0, place, len(text), plies), data)
+        for data in (b"", b" \t\r\n", b"1. 2. ... 12"):
+            self.assertEqual(fields(self.library.line(INITIAL, data)[0]), (OK, 0, 0, 0, 0, 0))
+        for fen, field in ((b"x", 1), (INITIAL[:-2], 6)):
+            self.assertEqual(fields(self.library.line(fen, b"e4")[0]), (FAULT, 26, field, 0, 0, 0))
+        for notation in (2, (1 << 32) - 1):
+            self.assertEqual(fields(self.library.line(b"x", b"e4", notation)[0]),
+                             (NO_MODE, 0, 0, 0, 0, 0))
+
+    def test_lines_in_buffers_of_each_size(self):
+        """Whole lines are written, and reading goes on behind them."""
+        data = b"1. e4 e5 2. Nf3"
+        places, (_, whole) = (3, 6, 12), self.library.line(INITIAL, data)
+        lines = whole.splitlines(keepends=True)
+        ends = [sum(map(len, lines[:count])) for count in range(4)]
+        for capacity in range(len(whole)):
+            result, text = self.library.line(INITIAL, data, SAN, capacity)
+            plies = max(it for it in range(3) if ends[it] <= capacity)
+            self.assertEqual(text, whole[: ends[plies]])
+            self.assertEqual(fields(result), (FULL, 51, 0, places[plies], ends[plies], plies))
+            if plies:
+                fen = text.splitlines()[-1].split(b"\t")[2]
+                _, rest = self.library.line(fen, data[result.place :])
+                self.assertEqual(text + rest, whole)
+        for capacity in (len(whole), len(whole) + 1):
+            result, text = self.library.line(INITIAL, data, SAN, capacity)
+            self.assertEqual((fields(result), text), ((OK, 0, 0, 0, len(whole), 3), whole))
+
     def explained(self, fen, text):
         result = self.library.calls.pgn_explain(fen, len(fen), text, len(text))
         return result, {at: it for at, it in enumerate(result.origins) if it}
@@ -465,6 +579,9 @@ class InstalledByCargo(Installed, unittest.TestCase):
         self.assertEqual(calls.pgn_next_game(None, 0, 0, 0, 0, None, 0).status, NO_GAME)
         self.assertEqual(calls.pgn_next_game(b"*", 1, 0, 0, 0, None, 0).status, FULL)
         self.assertEqual(calls.pgn_tag_at(None, 0, 0).status, FAULT)
+        self.assertEqual(calls.pgn_san(None, 0, None, 0, 0).fault, 26)
+        self.assertEqual(calls.pgn_line(None, 0, None, 0, 0, None, 0).fault, 26)
+        self.assertEqual(calls.pgn_line(INITIAL, len(INITIAL), None, 0, 0, None, 0).status, OK)
         self.assertEqual(calls.pgn_explain(None, 0, None, 0).fault, 26)
 
 

@@ -83,7 +83,8 @@ class Builder(unittest.TestCase):
 
 C_TYPES = {"u8": "uint8_t", "u32": "uint32_t", "u64": "uint64_t", "usize": "size_t"}
 STRUCTS = {"PgnResult": "pgn_result", "PgnText": "pgn_text", "PgnMove": "pgn_move",
-           "PgnGame": "pgn_game", "PgnTag": "pgn_tag", "PgnExplanation": "pgn_explanation"}
+           "PgnPlies": "pgn_plies", "PgnGame": "pgn_game", "PgnTag": "pgn_tag",
+           "PgnExplanation": "pgn_explanation"}
 
 
 def bare_header():
@@ -157,7 +158,7 @@ def c_structs():
 class HeaderTest(unittest.TestCase):
     def test_functions(self):
         self.assertEqual(declared(), exported())
-        self.assertEqual(len(exported()), 8)
+        self.assertEqual(len(exported()), 9)
 
     def test_structs(self):
         self.assertEqual(c_structs(), rust_structs())

@@ -854,7 +854,7 @@ class Calls(unittest.TestCase):
     def test_san(self):
         fen = "6k1/5ppp/8/8/8/8/8/R3K2R w KQ - 0 1"
         self.assertEqual(gillspoon.san(fen, "Ra1a8"),
-                         ("Ra8#", "R5k1/5ppp/8/8/8/8/8/4K2R b K - 1 1"))
+                         ("Ra8#", "R5k1/5ppp/8/8/8/8/8/4K2R b K - 1 1", "a1a8"))
         self.assertEqual(gillspoon.san(fen, "0-0").san, "O-O")
         for move, number, reason in (("e9", 33, "not a move"), ("Ke3", 34, "move is not legal"),
                                      ("", 33, "not a move")):
@@ -870,6 +870,18 @@ class Calls(unittest.TestCase):
         for words in ((b"x", "e4"), (INITIAL, b"e4"), (INITIAL, None)):
             with self.assertRaises(TypeError):
                 gillspoon.san(*words)
+
+    def test_uci(self):
+        fen = "r3k3/6P1/8/8/8/8/8/4K2R w Kq - 0 1"
+        for move, san in (("e1g1", "O-O"), ("g7g8q", "g8=Q+"), ("g7g8n", "g8=N"), ("h1h8", "Rh8+")):
+            played = gillspoon.san(fen, move, uci=True)
+            self.assertEqual((played.san, played.uci), (san, move))
+            self.assertEqual(gillspoon.san(fen, san), played)
+        for move, number in (("O-O", 33), ("E1G1", 33), ("e1g1 ", 33), ("0000", 33), ("", 33),
+                             ("g7g8", 34), ("e1c1", 34)):
+            with self.assertRaises(gillspoon.MoveFault) as raised:
+                gillspoon.san(fen, move, uci=True)
+            self.assertEqual((raised.exception.number, raised.exception.move), (number, move))
 
     def test_explain(self):
         fen = "k3r3/8/8/8/8/8/N3N3/4K2R w K - 0 1"

@@ -1,6 +1,6 @@
 //! The structs as the C compiler has them. The test calls it: `CC`, or `cc`.
 
-use crate::{PgnExplanation, PgnGame, PgnMove, PgnResult, PgnTag, PgnText};
+use crate::{PgnExplanation, PgnGame, PgnMove, PgnPlies, PgnResult, PgnTag, PgnText};
 use std::mem::{align_of, align_of_val, size_of, size_of_val};
 use std::path::Path;
 use std::process::Command;
@@ -30,7 +30,7 @@ macro_rules! layout {
     }};
 }
 
-fn structs() -> [Struct; 6] {
+fn structs() -> [Struct; 7] {
     [
         layout!(
             "pgn_result",
@@ -44,8 +44,13 @@ fn structs() -> [Struct; 6] {
         ),
         layout!(
             "pgn_move",
-            PgnMove { status, fault, field, san, fen },
-            crate::pgn_san(b"", b"")
+            PgnMove { status, fault, field, san, uci, fen },
+            crate::pgn_san(b"", b"", 0)
+        ),
+        layout!(
+            "pgn_plies",
+            PgnPlies { status, fault, field, place, written, plies },
+            crate::pgn_line(b"", b"", 0, &mut [])
         ),
         layout!(
             "pgn_game",
@@ -104,5 +109,5 @@ fn the_structs_are_those_of_the_header() {
     let of_c = lines_of_c(&program(&structs), &folder);
     fs::remove_dir_all(&folder).unwrap();
     assert_eq!(lines, of_c);
-    assert_eq!(lines.lines().count(), 6 + 8 + 3 + 5 + 11 + 6 + 7);
+    assert_eq!(lines.lines().count(), 7 + 8 + 3 + 6 + 6 + 11 + 6 + 7);
 }

@@ -1,9 +1,10 @@
--- Lemmas on the memory that a caller is given, and on the lines of tag pairs.
+-- Lemmas on the memory that a caller is given, and on the lines of tag pairs and of plies.
 pub mod ConversionToBuffer
 pub mod MarkerTaken
 pub mod MoreBytesBehind
 pub mod PairsOnLines
 pub mod NextGames
+pub mod PlyLines
 pub mod ZerosBehind
 pub mod Words
 pub mod TagSections

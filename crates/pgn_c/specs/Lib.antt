@@ -1,6 +1,7 @@
 -- **Bookkeeping**: the list of this crate's files of definitions.
 pub mod Results
 pub mod Positions
+pub mod LinesOfPlay
 pub mod Explanation
 pub mod TagAt
 pub mod TagScan

@@ -1,14 +1,16 @@
 -- **Definition**: results about positions and moves, as C gets them.
 -- `before` and `after` are the bytes of the buffer before a call and after it.
-use Rattle.std.specs.Prelude.{◌≡◌, ℕ, ◌<◌, ◌≤◌, List, [], ◌++◌, length, drop, Result, Ok, Err}
+use Rattle.std.specs.Prelude.{◌≡◌, ℕ, ◌<◌, ◌≤◌, List, [], ◌++◌, length, drop, ◌==◌, if◌then◌else◌, Option, Some, None, Result, Ok, Err}
 use Rattle.chess_rules.specs.declared.position.Parts.{Parts}
 use Rattle.chess_text.specs.declared.fen.FenFault.{FenFault}
 use Rattle.chess_text.specs.declared.resolution.Played.{Played}
 use Rattle.chess_text.specs.Fen.{fen_text}
 use Rattle.chess_text.specs.San.{san}
+use Rattle.chess_text.specs.Uci.{uci}
+use Rattle.pgn_game.specs.declared.notation.Notation.{Notation}
+use Rattle.pgn_game.specs.declared.notation.Notation.TheVariants.{San, Uci}
 use Rattle.pgn_game.specs.declared.reason.Reason.{Reason}
-use Rattle.pgn_game.specs.Chess.{move_of}
-use Rattle.pgn_game.specs.FoundMove.{found_in}
+use Rattle.pgn_game.specs.Notations.{named_in}
 use Rattle.pgn_game.specs.Reason.{number_of}
 use Rattle.pgn_c.specs.declared.fen.PgnText.{PgnText}
 use Rattle.pgn_c.specs.declared.san.PgnMove.{PgnMove}
@@ -33,20 +35,35 @@ Normalizes (Err fault) before after result =
 
 -- ---- a move
 
--- the move that a text names in a position, or why it names none
-abbrev pub named : Parts → List ℕ → Result Played Reason
-named position text = found_in position (move_of position text)
+-- the notation with this number: 0 is SAN, 1 is UCI
+abbrev pub notation_of : ℕ → Option Notation
+notation_of number = if number == 0 then Some San else (if number == 1 then Some Uci else None)
 
--- the result for a move that was found, with its SAN and the FEN of the position after it, or for
--- the reason why none was
+-- the result without a move: its status, the number of a fault, and the field of a FEN at fault
+abbrev pub failed_move : ℕ → ℕ → ℕ → PgnMove
+failed_move status fault field =
+    record { status = status; fault = fault; field = field; san = padded 8 []; uci = padded 8 []; fen = padded 96 [] }
+
+-- the result for a move that was found, with its SAN, its UCI and the FEN of the position after it,
+-- or for the reason why none was
 abbrev pub move_result : Parts → Result Played Reason → PgnMove
 move_result position (Ok played) =
-    record { status = 0; fault = 0; field = 0; san = padded 8 (san position played.mv); fen = padded 96 (fen_text played.next) }
-move_result position (Err reason) =
-    record { status = 1; fault = number_of reason; field = 0; san = padded 8 []; fen = padded 96 [] }
+    record {
+      status = 0;
+      fault = 0;
+      field = 0;
+      san = padded 8 (san position played.mv);
+      uci = padded 8 (uci played.mv);
+      fen = padded 96 (fen_text played.next);
+    }
+move_result position (Err reason) = failed_move 1 (number_of reason) 0
 
 -- the same for a FEN that is read first; one that is no position is 26, with the field at fault
-abbrev pub san_result : Result Parts FenFault → List ℕ → PgnMove
-san_result (Ok position) text = move_result position (named position text)
-san_result (Err fault) text =
-    record { status = 1; fault = 26; field = fault.field; san = padded 8 []; fen = padded 96 [] }
+abbrev pub san_result : Notation → Result Parts FenFault → List ℕ → PgnMove
+san_result notation (Ok position) text = move_result position (named_in notation position text)
+san_result notation (Err fault) text = failed_move 1 26 fault.field
+
+-- the same for the number of a notation; the status is 3 if there is none
+abbrev pub san_result_in : Option Notation → Result Parts FenFault → List ℕ → PgnMove
+san_result_in (Some notation) position text = san_result notation position text
+san_result_in None position text = failed_move 3 0 0

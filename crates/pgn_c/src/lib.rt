@@ -14,7 +14,8 @@
 ghost use Rattle.std.specs.Prelude.{◌≡◌};
 ghost use Rattle.chess_text.specs.Fen.{read};
 ghost use Rattle.pgn_c.specs.Explanation.{explanation};
-ghost use Rattle.pgn_c.specs.Positions.{Normalizes, san_result};
+ghost use Rattle.pgn_c.specs.Positions.{Normalizes, notation_of, san_result_in};
+ghost use Rattle.pgn_c.specs.LinesOfPlay.{WritesLineIn};
 ghost use Rattle.pgn_c.specs.NextGame.{NextGameIn, ReadGameIn};
 ghost use Rattle.pgn_c.specs.Results.{Checks, Converts, ConvertsIn, mode_of, result_of};
 ghost use Rattle.pgn_c.specs.TagAt.{TagResult};
@@ -23,6 +24,7 @@ mod buffer_sink;
 mod explanation;
 mod fen;
 mod game_result;
+mod line_of_play;
 mod next_game;
 mod pgn_result;
 mod read_game;
@@ -35,12 +37,14 @@ use crate::explanation::{explain, no_explanation};
 pub use crate::fen::PgnText;
 use crate::fen::{bad_text, put_fen};
 pub use crate::game_result::PgnGame;
+pub use crate::line_of_play::PgnPlies;
+use crate::line_of_play::{no_first_position, no_line_in_notation, write_line};
 use crate::next_game::next_game;
 pub use crate::pgn_result::PgnResult;
 use crate::pgn_result::{fault_result, no_mode, totals_result};
 use crate::read_game::read_game;
 pub use crate::san::PgnMove;
-use crate::san::{name_move, no_position};
+use crate::san::{name_move, no_notation, no_position, notation_with_number};
 pub use crate::tag::PgnTag;
 use crate::tag::tag_at;
 use chess_text::read_fen;
@@ -106,22 +110,54 @@ pub extern "C" fn pgn_fen_normalize(fen: &[u8], buffer: &mut [u8]) -> PgnText
     }
 }
 
-/// Returns the SAN of the one legal move that a text names (PGN 8.2.3).
+/// Returns the SAN and the UCI of the one legal move that a text names (PGN 8.2.3).
 ///
 /// The position before the move is that of the FEN. The result also has the FEN of the position
-/// after it.
+/// after it. Notation 0 is SAN, as a PGN has it. Notation 1 is UCI, the notation of engines.
 ///
-/// - Status 0: the result has both texts.
+/// - Status 0: the result has the three texts.
 /// - Status 1: the result has the number of a fault. It is 26 for the FEN, with its field, 33 if
 ///   the text is no move, and 34 if no legal move is meant. It is 35 if more than one is meant, and
 ///   36 for Black's move with the number 99,999.
+/// - Status 3: there is no such notation. Nothing was read.
 #[unsafe(no_mangle)]
-pub extern "C" fn pgn_san(fen: &[u8], text: &[u8]) -> PgnMove
-    ensures { result ≡ san_result (read fen.now) text.now }
+pub extern "C" fn pgn_san(fen: &[u8], text: &[u8], notation: u32) -> PgnMove
+    ensures { result ≡ san_result_in (notation_of notation) (read fen.now) text.now }
 {
+    let Some(notation) = notation_with_number(notation) else {
+        return no_notation();
+    };
     match read_fen(fen) {
-        Ok(position) => name_move(&position, text),
+        Ok(position) => name_move(&position, text, notation),
         Err(fault) => no_position(fault.field),
+    }
+}
+
+/// Plays a text of moves from the position of a FEN on, and writes each ply into the front of a
+/// buffer.
+///
+/// The text has moves in one notation with white space between them: 0 is SAN, 1 is UCI. Move
+/// numbers and periods that stand alone, as `1.` and `12...`, are passed. A ply is a line of its
+/// SAN and its UCI, each with a tab behind it, and of the FEN of the position after it, with LF.
+///
+/// - Status 0: the buffer has the lines of all plies.
+/// - Status 1: the result has the number of a fault. It is 26 for the FEN, with its field. It is 33
+///   to 36 for the first word that names no move, at the place of its first byte. Then the buffer
+///   has the lines of the plies before it.
+/// - Status 2: the buffer is full. It has the lines of the first plies, as many as there is room
+///   for. The fault is 51, and the place is that of the next ply.
+/// - Status 3: there is no such notation. Nothing was read or written.
+#[unsafe(no_mangle)]
+pub extern "C" fn pgn_line(fen: &[u8], text: &[u8], notation: u32, buffer: &mut [u8]) -> PgnPlies
+    ensures { WritesLineIn (notation_of notation) (read fen.now) text.now buffer.old buffer.new
+        result }
+{
+    let Some(notation) = notation_with_number(notation) else {
+        return no_line_in_notation();
+    };
+    match read_fen(fen) {
+        Ok(position) => write_line(position, text, notation, buffer),
+        Err(fault) => no_first_position(fault.field),
     }
 }
 

@@ -1,19 +1,19 @@
 //! The move that a text names in a position, as C gets it.
-ghost use Rattle.std.specs.Prelude.{◌≡◌, [], Some, Ok, Err};
+ghost use Rattle.std.specs.Prelude.{◌≡◌, Some, Ok};
 ghost use Rattle.chess_rules.specs.Legal.{legal};
-ghost use Rattle.pgn_c.specs.Results as results;
-ghost use Rattle.pgn_c.specs.Positions.{move_result, named, san_result};
+ghost use Rattle.pgn_game.specs.Notations.{named_in};
+ghost use Rattle.pgn_c.specs.Positions.{failed_move, move_result, notation_of, san_result};
 
-use crate::pgn_result::{FAULT, OK, padded};
+use crate::pgn_result::{FAULT, NO_MODE, OK, padded};
 use chess_rules::{Position, Probes};
-use chess_text::{Played, write_fen, write_san};
-use pgn_game::find_move;
+use chess_text::{Played, write_fen, write_san, write_uci};
+use pgn_game::{Notation, read_move};
 
 /// A move and the position after it, `struct pgn_move` in C.
 #[repr(C)]
 #[derive(Clone, Copy)]
 pub struct PgnMove {
-    /// 0: there is one such move. 1: there is a fault.
+    /// 0: there is one such move. 1: there is a fault. 3: there is no such notation.
     pub status: u32,
     /// The number of the fault; 0 where there is none.
     pub fault: u32,
@@ -21,17 +21,19 @@ pub struct PgnMove {
     pub field: u32,
     /// The move's SAN, and zeros behind it.
     pub san: [u8; 8],
+    /// The move in UCI, and zeros behind it.
+    pub uci: [u8; 8],
     /// The FEN of the position after the move, and zeros behind it.
     pub fen: [u8; 96],
 }
 
 /// The result for the move that the text names in this position.
-pub fn name_move(position: &Position, text: &[u8]) -> PgnMove
-    ensures { result ≡ move_result position.now (named position.now text.now) }
+pub fn name_move(position: &Position, text: &[u8], notation: Notation) -> PgnMove
+    ensures { result ≡ move_result position.now (named_in notation position.now text.now) }
 {
-    match find_move(position, text, &mut Probes::new()) {
+    match read_move(position, text, notation, &mut Probes::new()) {
         Ok(played) => written_move(position, &played),
-        Err(reason) => no_move(reason.number() as u32, 0),
+        Err(reason) => no_move(FAULT, reason.number() as u32, 0),
     }
 }
 
@@ -46,32 +48,46 @@ fn written_move(position: &Position, played: &Played) -> PgnMove
         fault: 0,
         field: 0,
         san: padded(san.as_slice()),
+        uci: padded(write_uci(&played.mv).as_slice()),
         fen: padded(write_fen(&played.next).as_slice()),
     }
 }
 
 /// The result for a FEN with this field at fault.
 pub fn no_position(field: u8) -> PgnMove
-    ensures { result ≡ san_result (Err (record { field = field })) [] }
+    ensures { result ≡ failed_move 1 26 field }
 {
-    no_move(26, field as u32)
+    no_move(FAULT, 26, field as u32)
 }
 
-// The result for a fault.
-fn no_move(fault: u32, field: u32) -> PgnMove
-    ensures { result ≡ record {
-      status = 1;
-      fault = fault;
-      field = field;
-      san = results.padded 8 [];
-      fen = results.padded 96 [];
-    } }
+/// The result if there is no such notation.
+pub fn no_notation() -> PgnMove
+    ensures { result ≡ failed_move 3 0 0 }
+{
+    no_move(NO_MODE, 0, 0)
+}
+
+/// The notation with this number in C, if there is one.
+pub fn notation_with_number(number: u32) -> Option<Notation>
+    ensures { result ≡ notation_of number }
+{
+    match number {
+        0 => Some(Notation::San),
+        1 => Some(Notation::Uci),
+        _ => None,
+    }
+}
+
+// The result without a move.
+fn no_move(status: u32, fault: u32, field: u32) -> PgnMove
+    ensures { result ≡ failed_move status fault field }
 {
     PgnMove {
-        status: FAULT,
+        status,
         fault,
         field,
         san: [0; 8],
+        uci: [0; 8],
         fen: [0; 96],
     }
 }

@@ -3,9 +3,11 @@ mod EqualReadings
 mod EqualTotals
 mod InterruptedReadings
 mod MarkerTexts
+mod PlyAhead
 mod ReaderFitsInMemory
 mod ReaderLemmas
 mod ReaderPartsFitInMemory
+mod WordByBytes
 mod Words
 mod exporting
 mod pairs

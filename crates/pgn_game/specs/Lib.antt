@@ -18,6 +18,9 @@ pub mod TagSection
 pub mod SectionLines
 pub mod FaultTable
 pub mod FoundMove
+pub mod Notations
+pub mod LineOfPlay
+pub mod LineWords
 pub mod Text
 pub mod Progress
 pub mod Tried

@@ -83,8 +83,8 @@ pub(crate) fn named_move(
     }
 }
 
-// Whether a move from here would lead to a number above 99,999.
-fn is_at_limit(position: &Position) -> bool
+/// Whether a move from here would lead to a number above 99,999.
+pub(crate) fn is_at_limit(position: &Position) -> bool
     ensures { result ≡ spec.is_at_limit position.now }
 {
     position.side() == Colour::Black && position.full() == 99_999

@@ -4,6 +4,7 @@ mod counts;
 mod cuts;
 mod finished_games;
 mod limits;
+mod lines_of_play;
 mod reasons;
 mod refused_moves;
 mod runs;

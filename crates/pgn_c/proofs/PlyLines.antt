@@ -1,0 +1,64 @@
+-- The lines of plies in a buffer, one after another.
+use Rattle.pgn_c.proofs.Words.{◌≡◌, ℕ, ◌+◌, ◌<◌, ◌≤◌, List, [], ◌∷◌, ◌++◌, length, take, drop, sym, ap, ap₂, ◌∙◌, arith, append-nil, append_assoc, length-append, drop-drop, drop_at, take_at, length-drop, IsFilled}
+use Rattle.pgn_game.specs.LineOfPlay.{Line, Ply, behind_ply}
+use Rattle.pgn_c.specs.LinesOfPlay.{ply_line, ply_lines}
+
+one_more_line : (xs : List Ply) (x : Ply) → ply_lines (xs ++ x ∷ []) ≡ ply_lines xs ++ ply_line x
+one_more_line [] x = append-nil (ply_line x)
+one_more_line (y ∷ xs) x =
+    ap (λ (s : List ℕ). ply_line y ++ s) (one_more_line xs x) ∙ sym (append_assoc (ply_line y) (ply_lines xs) (ply_line x))
+
+-- Of a line the first plies were put into the buffer, and this is ahead.
+pub record PutSoFar (line ahead : Line) (before now : List ℕ) (written count : ℕ) : Type 0 where
+  pub put : List Ply
+  pub plies : line.plies ≡ put ++ ahead.plies
+  pub fault : line.fault ≡ ahead.fault
+  pub filled : IsFilled before now (ply_lines put)
+  pub bytes : written ≡ length (ply_lines put)
+  pub counted : count ≡ length put
+  pub each : count ≤ written
+
+module _ (line ahead : Line) (before now : List ℕ) (written count : ℕ) (so_far : PutSoFar line ahead before now written count) where
+  abbrev lines : List ℕ
+  lines = ply_lines so_far.put
+
+  -- the buffer has the length that it had
+  same_length : length now ≡ length before
+  same_length =
+      ap length so_far.filled.now ∙ length-append lines (drop (length lines) before)
+      ∙ omega (arith, length-drop (length lines) before, so_far.filled.fits)
+
+  -- one more
+  module _ (x : Ply) (rest : Line) (next : ahead ≡ behind_ply x rest) where
+    buffer_now : (text : List ℕ) → text ≡ ply_line x → written + length text ≤ length now
+        → take written now ++ text ++ drop (written + length text) now
+        ≡ ply_lines (so_far.put ++ x ∷ []) ++ drop (length (ply_lines (so_far.put ++ x ∷ []))) before
+    buffer_now text is fits =
+        let rest = drop (length lines) before in
+        let joined : ply_lines (so_far.put ++ x ∷ []) ≡ lines ++ text = one_more_line so_far.put x ∙ ap (λ (s : List ℕ). lines ++ s) (sym is) in
+        let long : length (lines ++ text) ≡ written + length text = length-append lines text ∙ ap (λ (n : ℕ). n + length text) (sym so_far.bytes) in
+        let front : take written now ≡ lines = ap (take written) so_far.filled.now ∙ take_at lines rest written (sym so_far.bytes) in
+        let behind : drop written now ≡ rest = ap (drop written) so_far.filled.now ∙ drop_at lines rest written (sym so_far.bytes) in
+        let back : drop (written + length text) now ≡ drop (written + length text) before =
+        sym (drop-drop (length text) written now) ∙ ap (drop (length text)) (behind ∙ ap (λ (n : ℕ). drop n before) (sym so_far.bytes))
+        ∙ drop-drop (length text) written before in
+        ap₂ (λ (s t : List ℕ). s ++ text ++ t) front back
+        ∙ ap (λ (n : ℕ). (lines ++ text) ++ drop n before) (sym long)
+        ∙ ap (λ (s : List ℕ). s ++ drop (length s) before) (sym joined)
+
+    pub one_more : (text : List ℕ) (new : List ℕ) → text ≡ ply_line x → 0 < length text → written + length text ≤ length now
+        → new ≡ take written now ++ text ++ drop (written + length text) now
+        → PutSoFar line rest before new (written + length text) (count + 1)
+    one_more text new is some fits after =
+        let joined : ply_lines (so_far.put ++ x ∷ []) ≡ lines ++ text = one_more_line so_far.put x ∙ ap (λ (s : List ℕ). lines ++ s) (sym is) in
+        let long : length (ply_lines (so_far.put ++ x ∷ [])) ≡ written + length text =
+        ap length joined ∙ length-append lines text ∙ ap (λ (n : ℕ). n + length text) (sym so_far.bytes) in
+        record {
+          put = so_far.put ++ x ∷ [];
+          plies = so_far.plies ∙ ap (λ (l : Line). so_far.put ++ l.plies) next ∙ sym (append_assoc so_far.put (x ∷ []) rest.plies);
+          fault = so_far.fault ∙ ap (λ (l : Line). l.fault) next;
+          filled = record { fits = omega (arith, long, fits, same_length); now = after ∙ buffer_now text is fits };
+          bytes = sym long;
+          counted = omega (arith, so_far.counted, length-append so_far.put (x ∷ []));
+          each = omega (arith, so_far.each, some);
+        }

@@ -1,0 +1,167 @@
+//! A line of play, as C gets it.
+ghost use Rattle.std.specs.Prelude.{◌≡◌, ◌+◌, ◌<◌, ◌≤◌, [], ◌∷◌, ◌++◌, None, Some, drop, length, take};
+ghost use Rattle.pgn_game.specs.LineOfPlay.{line_ahead, line_of_text, ply_of};
+ghost use Rattle.pgn_c.specs.LinesOfPlay as spec;
+ghost use Rattle.pgn_c.specs.LinesOfPlay.{WritesLine, line_result};
+
+use crate::pgn_result::{FAULT, FULL, NO_MODE, OK};
+use arrayvec::ArrayVec;
+use chess_rules::Position;
+use chess_text::{write_fen, write_uci};
+use pgn_game::{Fault, LineOfPlay, Notation, Ply, Reason};
+
+/// How a line of play was written, `struct pgn_plies` in C.
+#[repr(C)]
+#[derive(Clone, Copy)]
+pub struct PgnPlies {
+    /// 0: the whole line was written. 1: there is a fault. 2: the buffer is full. 3: there is no
+    /// such notation.
+    pub status: u32,
+    /// The number of the fault, 26, 33 to 36 or 51; 0 where there is none.
+    pub fault: u32,
+    /// The field of the FEN that is at fault, 1 to 7; 0 where none is.
+    pub field: u32,
+    /// The place of the word that names no move, or of the ply that there is no room for: the
+    /// offset of a byte of the text, from 0.
+    pub place: u64,
+    /// How many bytes of the buffer were written.
+    pub written: usize,
+    /// The number of plies whose lines these are.
+    pub plies: usize,
+}
+
+/// Writes the line of play of a text into the front of a buffer.
+pub fn write_line(
+    position: Position,
+    text: &[u8],
+    notation: Notation,
+    buffer: &mut [u8],
+) -> PgnPlies
+    ensures { WritesLine (line_of_text notation position text.now) buffer.old buffer.new result }
+{
+    let mut line = LineOfPlay::new(position, text, notation);
+    write_plies(&mut line, buffer)
+}
+
+// Writes the plies that are ahead into the front of a buffer.
+fn write_plies(line: &mut LineOfPlay<'_>, buffer: &mut [u8]) -> PgnPlies
+    ensures { WritesLine (line_ahead line.old) buffer.old buffer.new result }
+{
+    let mut written = 0;
+    let mut plies = 0;
+    loop {
+        match line.next() {
+            Ok(None) => return whole_line(written, plies),
+            Err(fault) => return refused_line(fault, written, plies),
+            Ok(Some(ply)) => {
+                let text = ply_line(&ply);
+                if buffer.len() - written < text.len() {
+                    return full_line(&ply, written, plies);
+                }
+                put(text.as_slice(), buffer, written);
+                written += text.len();
+                plies += 1;
+            }
+        }
+    }
+}
+
+// Copies the text into the buffer at this place.
+fn put(text: &[u8], buffer: &mut [u8], at: usize)
+    requires { at + length text.now ≤ length buffer.old }
+    ensures { buffer.new
+        ≡ take at buffer.old ++ text.now ++ drop (at + length text.now) buffer.old }
+{
+    buffer[at..at + text.len()].copy_from_slice(text);
+}
+
+// The line of a ply: SAN, UCI and FEN.
+fn ply_line(ply: &Ply) -> ArrayVec<u8, 108>
+    ensures text { result.items ≡ spec.ply_line (ply_of ply.now) }
+    ensures some { 0 < length result.items }
+{
+    let mut line = ArrayVec::new();
+    push_field(&mut line, ply.san.as_slice(), b'\t');
+    push_field(&mut line, write_uci(&ply.played.mv).as_slice(), b'\t');
+    push_field(&mut line, write_fen(&ply.played.next).as_slice(), b'\n');
+    line
+}
+
+// Adds a field, and the byte behind it.
+fn push_field(line: &mut ArrayVec<u8, 108>, field: &[u8], end: u8)
+    requires { length line.old.items + length field.now + 1 ≤ 108 }
+    ensures { line.new.items ≡ line.old.items ++ spec.field field.now end }
+{
+    let _ = line.try_extend_from_slice(field);
+    line.push(end);
+}
+
+// The result for a line that was written as a whole.
+fn whole_line(written: usize, plies: usize) -> PgnPlies
+    ensures { result ≡ line_result [] None written plies }
+{
+    PgnPlies {
+        status: OK,
+        fault: 0,
+        field: 0,
+        place: 0,
+        written,
+        plies,
+    }
+}
+
+// The result for a line that ends with a word that names no move.
+fn refused_line(fault: Fault, written: usize, plies: usize) -> PgnPlies
+    ensures { result ≡ line_result [] (Some fault) written plies }
+{
+    PgnPlies {
+        status: FAULT,
+        fault: fault.reason.number() as u32,
+        field: 0,
+        place: fault.at,
+        written,
+        plies,
+    }
+}
+
+// The result for a line of which this ply has no room.
+fn full_line(ply: &Ply, written: usize, plies: usize) -> PgnPlies
+    ensures { result ≡ line_result (ply_of ply.now ∷ []) None written plies }
+{
+    PgnPlies {
+        status: FULL,
+        fault: Reason::WriteFault.number() as u32,
+        field: 0,
+        place: ply.at as u64,
+        written,
+        plies,
+    }
+}
+
+/// The result for a FEN with this field at fault.
+pub fn no_first_position(field: u8) -> PgnPlies
+    ensures { result ≡ spec.nothing 1 26 field }
+{
+    no_line(FAULT, 26, field as u32)
+}
+
+/// The result if there is no such notation.
+pub fn no_line_in_notation() -> PgnPlies
+    ensures { result ≡ spec.nothing 3 0 0 }
+{
+    no_line(NO_MODE, 0, 0)
+}
+
+// The result without a line.
+fn no_line(status: u32, fault: u32, field: u32) -> PgnPlies
+    ensures { result ≡ spec.nothing status fault field }
+{
+    PgnPlies {
+        status,
+        fault,
+        field,
+        place: 0,
+        written: 0,
+        plies: 0,
+    }
+}

@@ -1,0 +1,30 @@
+-- A word of a text grows by each byte that is no white space.
+use Rattle.pgn_game.proofs.Words.{◌≡◌, ℕ, suc, ◌+◌, ◌-◌, ◌<◌, ◌≤◌, false, List, [], ◌∷◌, ◌++◌, length, take, drop, get_or, refl, sym, ap, ◌∙◌, subst, arith, drop-cons, take-suc, length-drop}
+use Rattle.std.proofs.lemmas.List.{get_or-drop}
+use Rattle.pgn_lexer.specs.Bytes.{is_space}
+use Rattle.pgn_game.specs.LineOfPlay.{words_behind}
+use Rattle.pgn_game.specs.LineWords.{bytes_between}
+
+at_other : (at b : ℕ) (w s : List ℕ) → is_space b ≡ false → words_behind at w (b ∷ s) ≡ words_behind at (w ++ b ∷ []) s
+at_other at b w s e = rw e refl
+
+-- the byte at a place, and those behind it
+byte_at : (s : List ℕ) (at : ℕ) → at < length s → drop at s ≡ get_or s at 0 ∷ drop (at + 1) s
+byte_at s at within =
+    let next : suc at ≡ at + 1 = omega arith in subst (λ (n : ℕ). drop at s ≡ get_or s at 0 ∷ drop n s) next (drop-cons s at 0 within)
+
+-- one byte more
+between_grown : (s : List ℕ) (begin end : ℕ) → begin ≤ end → end < length s
+    → bytes_between s begin end ++ get_or s end 0 ∷ [] ≡ bytes_between s begin (end + 1)
+between_grown s begin end ordered within =
+    let there : begin + (end - begin) ≡ end = omega arith in let more : suc (end - begin) ≡ (end + 1) - begin = omega arith in
+    ap (λ (b : ℕ). bytes_between s begin end ++ b ∷ []) (sym (get_or-drop begin s (end - begin) 0 ∙ ap (λ (n : ℕ). get_or s n 0) there))
+    ∙ sym (take-suc (drop begin s) (end - begin) 0 (omega (arith, length-drop begin s)))
+    ∙ ap (λ (n : ℕ). take n (drop begin s)) more
+
+pub word_grown : (s : List ℕ) (begin end : ℕ) → begin ≤ end → end < length s → is_space (get_or s end 0) ≡ false
+    → words_behind begin (bytes_between s begin end) (drop end s) ≡ words_behind begin (bytes_between s begin (end + 1)) (drop (end + 1) s)
+word_grown s begin end ordered within e =
+    ap (λ (t : List ℕ). words_behind begin (bytes_between s begin end) t) (byte_at s end within)
+    ∙ at_other begin (get_or s end 0) (bytes_between s begin end) (drop (end + 1) s) e
+    ∙ ap (λ (w : List ℕ). words_behind begin w (drop (end + 1) s)) (between_grown s begin end ordered within)

@@ -1,0 +1,213 @@
+//! A line of play: the plies that a text of moves names, one after another.
+ghost use Rattle.std.specs.Prelude.{◌≡◌, ◌-◌, ◌<◌, ◌≤◌, [], ◌++◌, Some, IfOk, IsSomeAnd, IfSome, OnOk, drop, false, length, take, get_or};
+ghost use Rattle.chess_rules.specs.Legal.{legal};
+ghost use Rattle.pgn_lexer.specs.Bytes.{is_space as is_white_space};
+ghost use Rattle.pgn_game.specs.LineOfPlay as spec;
+ghost use Rattle.pgn_game.specs.LineOfPlay.{NextPly, move_texts, word_of};
+ghost use Rattle.pgn_game.specs.LineWords.{FindsFirst, bytes_between, moves_from, words_from};
+
+use crate::notation::{Notation, read_move};
+use crate::reason::Fault;
+use arrayvec::ArrayVec;
+use chess_rules::{Position, Probes};
+use chess_text::{Played, write_san};
+use std::marker::Model;
+
+/// A ply of a line of play.
+#[derive(Drop)]
+pub struct Ply {
+    /// The place of its text: the byte offset, from 0.
+    pub at: usize,
+    /// The move, and the position after it.
+    pub played: Played,
+    /// The move in SAN (PGN 8.2.3), 1 to 7 bytes.
+    pub san: ArrayVec<u8, 7>,
+}
+
+/// A line of play: the plies that a text of moves names, from a position on.
+///
+/// The text has moves in one notation, with white space between them. Move numbers and periods that
+/// stand alone, as `1.` and `12...`, are passed; any other word is to be a move. So there are no
+/// comments, variations, glyphs or markers. [`LineOfPlay::next`] gives one ply after another.
+///
+/// # Examples
+///
+/// ```
+/// use chess_rules::Position;
+/// use chess_text::write_uci;
+/// use pgn_game::{LineOfPlay, Notation, Reason};
+///
+/// let mut line = LineOfPlay::new(Position::initial(), b"1. e4 e5 2. Ke3", Notation::San);
+/// let first = line.next().unwrap().unwrap();
+/// assert_eq!((first.at, first.san.as_slice()), (3, b"e4".as_slice()));
+/// assert_eq!(write_uci(&first.played.mv).as_slice(), b"e2e4");
+/// assert_eq!(line.next().unwrap().unwrap().san.as_slice(), b"e5");
+/// let fault = line.next().err().unwrap();
+/// assert_eq!((fault.at, fault.reason), (12, Reason::IllegalMove));
+/// ```
+#[derive(Drop)]
+pub struct LineOfPlay<'a> {
+    position: Position,
+    text: &'a [u8],
+    // The place of the first byte that is not read yet.
+    at: usize,
+    notation: Notation,
+}
+
+impl<'a> Model for LineOfPlay<'a> {
+    ghost use Rattle.std.specs.Prelude.{◌≤◌, length};
+    ghost use Rattle.pgn_game.specs.LineOfPlay.{Ahead};
+    ghost use Rattle.pgn_game.specs.LineWords.{moves_from};
+
+    ghost Value = { Ahead };
+
+    ghost view = { λ l. record {
+      notation = l.notation;
+      position = l.position;
+      words = moves_from l.text.now l.at;
+    } };
+
+    ghost invariant = { λ l. l.at ≤ length l.text.now };
+}
+
+impl<'a> LineOfPlay<'a> {
+    /// Returns the line of play of a text, from this position on. No move is read yet.
+    pub fn new(position: Position, text: &'a [u8], notation: Notation) -> Self
+        ensures { result ≡ record {
+          notation = notation;
+          position = position;
+          words = move_texts 0 text.now;
+        } }
+    {
+        LineOfPlay {
+            position,
+            text,
+            at: 0,
+            notation,
+        }
+    }
+
+    /// Returns the current position: that after the last ply, or the first one.
+    pub fn position(&self) -> &Position
+        ensures { result.now ≡ self.now.position }
+    {
+        &self.position
+    }
+
+    /// Plays the next move of the text, and returns its ply. `None` if no move is left.
+    ///
+    /// # Errors
+    ///
+    /// The first word that names no move, by the place of its first byte and the reason:
+    /// `NotAMove`, `IllegalMove`, `AmbiguousMove` or `MoveLimit`, as by [`read_move`]. The line
+    /// stays before that word, so each further call returns the same.
+    pub fn next(&mut self) -> Result<Option<Ply>, Fault>
+        ensures next { NextPly self.old result self.new }
+        ensures legal { IfOk result (λ found. IfSome found (λ ply.
+            legal self.old.position ply.played.mv ≡ Some ply.played.next)) }
+        ensures position { IfOk result (λ found. IfSome found (λ ply.
+            self.new.position ≡ ply.played.next)) }
+    {
+        let Some(word) = next_move_text(self.text, self.at) else {
+            return Ok(None);
+        };
+        let text = &self.text[word.begin..word.end];
+        match read_move(&self.position, text, self.notation, &mut Probes::new()) {
+            Err(reason) => Err(Fault {
+                at: word.begin as u64,
+                reason,
+            }),
+            Ok(played) => {
+                let san = write_san(&self.position, &played, &mut Probes::new());
+                self.position = played.next;
+                self.at = word.end;
+                Ok(Some(Ply {
+                    at: word.begin,
+                    played,
+                    san,
+                }))
+            }
+        }
+    }
+}
+
+/// Where a word begins, and where it ends.
+#[derive(Clone, Copy)]
+pub struct Span {
+    pub begin: usize,
+    pub end: usize,
+}
+
+// The first word from a place on that is no move number.
+fn next_move_text(text: &[u8], from: usize) -> Option<Span>
+    requires { from ≤ length text.now }
+    ensures { FindsFirst moves_from text.now from result }
+{
+    let mut at = from;
+    while let Some(word) = next_word(text, at) {
+        if !is_move_number(&text[word.begin..word.end]) {
+            return Some(word);
+        }
+        at = word.end;
+    }
+    None
+}
+
+// The first word from a place on.
+fn next_word(text: &[u8], from: usize) -> Option<Span>
+    requires { from ≤ length text.now }
+    ensures { FindsFirst words_from text.now from result }
+{
+    let begin = behind_space(text, from);
+    if begin == text.len() {
+        return None;
+    }
+    let end = word_end(text, begin);
+    Some(Span { begin, end })
+}
+
+// Where the white space ends that begins at a place.
+fn behind_space(text: &[u8], from: usize) -> usize
+    requires { from ≤ length text.now }
+    ensures least { from ≤ result }
+    ensures within { result ≤ length text.now }
+    ensures words { words_from text.now from ≡ words_from text.now result }
+    ensures ends { result < length text.now → is_white_space (get_or text.now result 0) ≡ false }
+{
+    let mut at = from;
+    while at < text.len() && is_space(text[at]) {
+        at += 1;
+    }
+    at
+}
+
+// Where the word ends that begins at a place.
+fn word_end(text: &[u8], begin: usize) -> usize
+    requires some { begin < length text.now }
+    requires begins { is_white_space (get_or text.now begin 0) ≡ false }
+    ensures some { begin < result }
+    ensures within { result ≤ length text.now }
+    ensures words { words_from text.now begin
+        ≡ word_of begin (bytes_between text.now begin result) ++ words_from text.now result }
+{
+    let mut end = begin + 1;
+    while end < text.len() && !is_space(text[end]) {
+        end += 1;
+    }
+    end
+}
+
+// Whether the byte is white space (PGN 4.1, 7).
+fn is_space(byte: u8) -> bool
+    ensures { result ≡ is_white_space byte }
+{
+    matches!(byte, b'\t'..=b'\r' | b' ')
+}
+
+// Whether the text is digits and periods alone (PGN 8.2.2).
+fn is_move_number(text: &[u8]) -> bool
+    ensures { result ≡ spec.is_move_number text.now }
+{
+    text.iter()
+        .all(|byte| byte.is_ascii_digit() || *byte == b'.')
+}
