@@ -4,6 +4,7 @@ pub mod MarkerTaken
 pub mod MoreBytesBehind
 pub mod PairsOnLines
 pub mod NextGames
+pub mod SectionStructs
 pub mod ZerosBehind
 pub mod Words
 pub mod TagSections

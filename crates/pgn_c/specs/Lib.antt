@@ -6,3 +6,4 @@ pub mod TagAt
 pub mod TagScan
 pub mod NextGame
 pub mod NextGameSteps
+pub mod NextSection

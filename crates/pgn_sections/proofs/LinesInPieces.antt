@@ -3,13 +3,13 @@ use Rattle.std.proofs.lemmas.Grind.{common_steps}
 use Rattle.std.proofs.Common.{◌≡◌, ℕ, ◌+◌, ◌-◌, ◌<◌, ◌≤◌, Bool, true, false, List, [], ◌∷◌, ◌++◌, Option, None, Some, length, drop, take, refl, sym, subst, ◌∙◌, ap, arith, append-nil, ⊎_elim}
 use Rattle.std.proofs.lemmas.Bool.{cases_Bool, false≢true, lt-ltb}
 use Rattle.std.proofs.lemmas.List.{drop_all}
-use Rattle.std.specs.Prelude.{IsTrue, suc, not, ◌&&◌, ◌==◌, nat_lt, if◌then◌else◌}
+use Rattle.std.specs.Prelude.{IsTrue, is_some, suc, not, ◌&&◌, ◌==◌, nat_lt, if◌then◌else◌}
 use Rattle.std.specs.List.{list_all}
-use Rattle.pgn_sections.specs.BadGame.{behind_line, first_escape, place_on}
+use Rattle.pgn_sections.specs.BadGame.{behind_line, place_on, with_line}
 use Rattle.pgn_sections.specs.Bytes.{begins_with, is_space}
 use Rattle.pgn_sections.specs.FirstLine.{line_from, line_to_return}
 use Rattle.pgn_sections.specs.Lines.{ends_line, first_place, lines_of, place_in, with_first}
-use Rattle.pgn_sections.specs.Pieces.{CanFollow, FindsPlace}
+use Rattle.pgn_sections.specs.Pieces.{CanFollow, FindsPlace, IsSameGame}
 use Rattle.pgn_sections.specs.declared.bad_game.BadGame.{BadGame}
 
 -- The first line of a piece and what follows it. So many bytes of it are before the piece.
@@ -127,16 +127,25 @@ pub passes : (g : BadGame) (is_last : Bool) (u s line : List ℕ) (n : ℕ) → 
     → line ≡ take n u → place_on g line ≡ None → place_in g (lines_of (u ++ s)) ≡ place_in (behind_line g line) (lines_of (drop n u ++ s))
 passes g is_last u s line n follow e l p = first_place_is g is_last u s line n None follow e l p
 
-begin_of_both : (b : Bool) (x y : BadGame) (n : ℕ) → x.begin ≡ n → y.begin ≡ n → (if b then x else y).begin ≡ n
-begin_of_both true x y n p q = p
-begin_of_both false x y n p q = q
+same_of_both : (b : Bool) (g x y : BadGame) → IsSameGame g x → IsSameGame g y → IsSameGame g (if b then x else y)
+same_of_both true g x y p q = p
+same_of_both false g x y p q = q
 
--- a line leaves where the game begins
-pub begin_kept : (g : BadGame) (line : List ℕ) → (behind_line g line).begin ≡ g.begin
-begin_kept g line =
-    begin_of_both (list_all is_space line) (record g { is_behind_empty_line = true }) _ g.begin refl
-    (begin_of_both (not g.in_comment && begins_with 37 line) (record g { escapes_at = Some (first_escape g.escapes_at g.at) }) _ g.begin refl
-    (begin_of_both g.in_comment _ _ g.begin refl refl))
+kept : (g : BadGame) (line : List ℕ) → IsSameGame g (with_line g line)
+kept g line =
+    same_of_both (list_all is_space line) g _ _ (record { begin = refl; fault = refl; ends = refl })
+    (same_of_both (not (is_some g.comment_at) && begins_with 37 line) g _ _ (record { begin = refl; fault = refl; ends = refl })
+    (same_of_both (is_some g.comment_at) g _ _ (record { begin = refl; fault = refl; ends = refl }) (record { begin = refl; fault = refl; ends = refl })))
+
+-- a line leaves the game the same
+pub same_behind : (first g new : BadGame) (line : List ℕ) → new ≡ behind_line g line → IsSameGame first g → IsSameGame first new
+same_behind first g new line e h =
+    let k = kept g line in
+    record {
+      begin = ap (λ (m : BadGame). m.begin) e ∙ k.begin ∙ h.begin;
+      fault = ap (λ (m : BadGame). m.fault) e ∙ k.fault ∙ h.fault;
+      ends = ap (λ (m : BadGame). m.ends) e ∙ k.ends ∙ h.ends;
+    }
 
 -- a text in one piece
 pub finds_all : (g new : BadGame) (text : List ℕ) (result : Option ℕ) → FindsPlace g text true result new → result ≡ place_in g (lines_of text)

@@ -4,10 +4,11 @@ use Rattle.std.specs.List.{list_all}
 use Rattle.std.specs.Option.{option_and_then}
 use Rattle.pgn_sections.specs.Bytes.{is_space, begins_with, has_mark}
 use Rattle.pgn_sections.specs.TagLine.{tag_line, behind_pair, behind_pairs, behind_stray}
-use Rattle.pgn_sections.specs.Outside.{without_comments, comment_at_end, is_braces, outside_text, ends_with_tag}
+use Rattle.pgn_sections.specs.Outside.{without_comments, open_comment, outside_text, ends_with_tag}
 use Rattle.pgn_sections.specs.declared.bad_game.BadGame.{BadGame}
+use Rattle.pgn_sections.specs.declared.bad_game.Ends.{Ends}
+use Rattle.pgn_sections.specs.declared.bad_game.Ends.TheVariants.{Anywhere, InComments, Nowhere}
 use Rattle.pgn_sections.specs.declared.tag_line.TagLine.{TagLine}
-use Rattle.pgn_sections.specs.declared.outside.Comment.{Comment}
 use Rattle.pgn_sections.specs.declared.outside.Comment.TheVariants.{Closed, Braces}
 use Rattle.pgn_sections.specs.declared.outside.OutsideText.{OutsideText}
 
@@ -19,10 +20,11 @@ unread begin fault =
       begin = begin;
       fault = fault;
       at = begin;
+      ends = Anywhere;
       has_tags = false;
       has_movetext = false;
-      in_comment = false;
       is_behind_empty_line = true;
+      comment_at = None;
       escapes_at = None;
     }
 
@@ -53,8 +55,15 @@ end_outside g line (Some tag) =
     else if not g.has_tags && nat_le g.fault (g.at + tag.at) then Some (g.at + tag.at)
     else None
 
+-- A reader of a sound game asks for ends in comments alone: a game that a comment hides. A reader
+-- can also ask for none, but for the comment that is open.
+abbrev pub end_by : Ends → BadGame → List ℕ → Option ℕ
+end_by Anywhere g line = if is_some g.comment_at then end_in_comment g (tag_line line) else end_outside g line (tag_line line)
+end_by InComments g line = if is_some g.comment_at then end_in_comment g (tag_line line) else None
+end_by Nowhere g line = None
+
 abbrev pub end_at : BadGame → List ℕ → Option ℕ
-end_at g line = if g.in_comment then end_in_comment g (tag_line line) else end_outside g line (tag_line line)
+end_at g line = end_by g.ends g line
 
 -- Reading goes on at that end, or behind a byte order mark that stands there.
 abbrev pub behind_mark : BadGame → List ℕ → ℕ → ℕ
@@ -72,23 +81,29 @@ place_on g line = option_and_then (λ end. place_above g.begin (behind_mark g li
 
 -- Text is movetext behind an empty line, with a move number at its front, or with a termination
 -- marker at its end.
-abbrev pub with_text : BadGame → Bool → Bool → OutsideText → BadGame
-with_text g has_pair in_comment text =
+abbrev pub with_text : BadGame → Bool → Option ℕ → OutsideText → BadGame
+with_text g has_pair comment_at text =
     record g {
       has_tags = g.has_tags || has_pair || text.has_tag;
       has_movetext = g.has_movetext || (text.has_text && (g.is_behind_empty_line || text.is_movetext));
-      in_comment = in_comment;
       is_behind_empty_line = false;
+      comment_at = comment_at;
       escapes_at = None;
     }
 
--- a line with text: whether it begins with a tag pair, and what is behind those, outside comments
+-- what is behind the tag pairs that a line begins with
+abbrev pub behind_tags : List ℕ → List ℕ
+behind_tags line = behind_pairs (behind_stray line)
+
+-- The text outside comments: of the whole line, if a comment is open from a line before, else behind
+-- tag pairs.
 abbrev pub with_text_line : BadGame → List ℕ → BadGame
 with_text_line g line =
-    if g.in_comment
-    then with_text g false (is_braces (comment_at_end Braces line)) (outside_text (without_comments Braces line))
-    else with_text g (is_some (behind_pair (behind_stray line))) (is_braces (comment_at_end Closed (behind_pairs (behind_stray line))))
-    (outside_text (without_comments Closed (behind_pairs (behind_stray line))))
+    if is_some g.comment_at
+    then with_text g false (open_comment Braces g.comment_at g.at line) (outside_text (without_comments Braces line))
+    else with_text g (is_some (behind_pair (behind_stray line)))
+    (open_comment Closed None (g.at + (length line - length (behind_tags line))) (behind_tags line))
+    (outside_text (without_comments Closed (behind_tags line)))
 
 -- the first of the escape lines
 abbrev pub first_escape : Option ℕ → ℕ → ℕ
@@ -99,7 +114,7 @@ first_escape (Some escapes) place = escapes
 abbrev pub with_line : BadGame → List ℕ → BadGame
 with_line g line =
     if list_all is_space line then record g { is_behind_empty_line = true }
-    else if not g.in_comment && begins_with 37 line then record g { escapes_at = Some (first_escape g.escapes_at g.at) }
+    else if not (is_some g.comment_at) && begins_with 37 line then record g { escapes_at = Some (first_escape g.escapes_at g.at) }
     else with_text_line g line
 
 abbrev pub behind_line : BadGame → List ℕ → BadGame

@@ -1,5 +1,5 @@
 -- **Definition**: what a line of a bad game has outside tag pairs and comments.
-use Rattle.std.specs.Prelude.{ℕ, Bool, true, false, not, ◌||◌, ◌&&◌, List, [], ◌∷◌, ◌++◌, Option, None, Some, is_some, ◌==◌, if◌then◌else◌, codes}
+use Rattle.std.specs.Prelude.{ℕ, ◌+◌, Bool, true, false, not, ◌||◌, ◌&&◌, List, [], ◌∷◌, ◌++◌, Option, None, Some, is_some, ◌==◌, if◌then◌else◌, codes}
 use Rattle.std.specs.List.{list_any, cons_option, ends_with}
 use Rattle.pgn_sections.specs.Bytes.{is_space, is_digit}
 use Rattle.pgn_sections.specs.declared.outside.Comment.{Comment}
@@ -25,15 +25,19 @@ abbrev pub without_comments : Comment → List ℕ → List ℕ
 without_comments c [] = []
 without_comments c (b ∷ s) = cons_option (outside_byte c b) (without_comments (comment_after c b) s)
 
--- the comment that is open at the end of the line
-abbrev pub comment_at_end : Comment → List ℕ → Comment
-comment_at_end c [] = c
-comment_at_end c (b ∷ s) = comment_at_end (comment_after c b) s
+abbrev pub is_closed : Comment → Bool
+is_closed Closed = true
+is_closed Braces = false
+is_closed RestOfLine = false
 
-abbrev pub is_braces : Comment → Bool
-is_braces Closed = false
-is_braces Braces = true
-is_braces RestOfLine = false
+-- Where the comment in braces begins that is open at the end of the line, if one is. The text is at
+-- a place, and a comment from a line before begins at another.
+abbrev pub open_comment : Comment → Option ℕ → ℕ → List ℕ → Option ℕ
+open_comment Closed o place [] = None
+open_comment Braces o place [] = o
+open_comment RestOfLine o place [] = None
+open_comment c o place (b ∷ s) =
+    open_comment (comment_after c b) (if is_closed c && (b == 123) then Some place else o) (place + 1) s
 
 -- the first byte that is no white space
 abbrev pub first_text : List ℕ → Option ℕ

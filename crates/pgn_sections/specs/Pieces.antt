@@ -20,3 +20,9 @@ pub record FindsPlace (old : BadGame) (piece : List ℕ) (is_last : Bool) (resul
   pub within : new.at ≤ old.at + length piece
   pub place : (s : List ℕ) → CanFollow is_last s → place_in old (lines_of (piece ++ s)) ≡ place_or_on result new (drop (new.at - old.at) piece ++ s)
   pub whole : result ≡ None → IsTrue is_last → new.at ≡ old.at + length piece
+
+-- the game begins at the same place, has the same fault, and is read for the same ends
+pub record IsSameGame (old new : BadGame) : Type 0 where
+  pub begin : new.begin ≡ old.begin
+  pub fault : new.fault ≡ old.fault
+  pub ends : new.ends ≡ old.ends

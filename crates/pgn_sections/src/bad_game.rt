@@ -2,16 +2,26 @@
 ghost use Rattle.std.specs.Prelude.{◌≡◌, ◌+◌, ◌<◌, ◌≤◌, ◌^◌, IfSome, length};
 ghost use Rattle.std.specs.List.{list_all};
 ghost use Rattle.pgn_sections.specs.BadGame as spec;
+ghost use Rattle.pgn_sections.specs.declared.bad_game.Ends.TheVariants.{Anywhere};
 ghost use Rattle.pgn_sections.specs.Bytes.{is_space as is_space_byte};
 
 use crate::bytes::{begins_with, has_mark_at, is_space};
-use crate::outside::{
-    Comment, OutsideText, comment_at_end, ends_with_tag, is_braces, outside_text,
-};
+use crate::outside::{Comment, OutsideText, ends_with_tag, open_comment, outside_text};
 use crate::tag_line::{TagLine, behind_pair, behind_pairs, behind_stray, tag_line};
 
+/// Which lines can show where a game ends.
+#[derive(Clone, Copy, PartialEq, Eq, Debug)]
+pub enum Ends {
+    /// All lines, as for a bad game.
+    Anywhere,
+    /// Lines in comments, as for a sound game, of which a comment may hide another one.
+    InComments,
+    /// None. The lines are read for the comment that is open at their end.
+    Nowhere,
+}
+
 /// A bad game whose lines are read in turn, to find where reading goes on behind it.
-#[derive(Clone, Copy)]
+#[derive(Clone, Copy, PartialEq, Eq, Debug)]
 pub struct BadGame {
     /// Where the game before it ends.
     pub begin: usize,
@@ -19,14 +29,16 @@ pub struct BadGame {
     pub fault: usize,
     /// Where the next line begins.
     pub at: usize,
+    /// Which lines can show where it ends.
+    pub ends: Ends,
     /// Whether a line so far had a tag.
     pub has_tags: bool,
     /// Whether a line so far was movetext.
     pub has_movetext: bool,
-    /// Whether a comment in braces is open.
-    pub in_comment: bool,
     /// Whether the line before was empty, or there was none.
     pub is_behind_empty_line: bool,
+    /// Where the comment in braces begins that is open, if one is.
+    pub comment_at: Option<usize>,
     /// Where the escape lines just before the next line begin, if there are some.
     pub escapes_at: Option<usize>,
 }
@@ -42,10 +54,11 @@ impl BadGame {
             begin,
             fault,
             at: begin,
+            ends: Ends::Anywhere,
             has_tags: false,
             has_movetext: false,
-            in_comment: false,
             is_behind_empty_line: true,
+            comment_at: None,
             escapes_at: None,
         }
     }
@@ -55,7 +68,24 @@ impl BadGame {
         requires { self.now.at + length line.now < 2 ^ 64 }
         ensures { result ≡ spec.end_at self.now line.now }
     {
-        if self.in_comment {
+        match self.ends {
+            Ends::Anywhere => self.end_in_or_outside(line),
+            Ends::InComments => {
+                if self.comment_at.is_some() {
+                    self.end_in_comment(tag_line(line))
+                } else {
+                    None
+                }
+            }
+            Ends::Nowhere => None,
+        }
+    }
+
+    fn end_in_or_outside(&self, line: &[u8]) -> Option<usize>
+        requires { self.now.at + length line.now < 2 ^ 64 }
+        ensures { result ≡ spec.end_by Anywhere self.now line.now }
+    {
+        if self.comment_at.is_some() {
             self.end_in_comment(tag_line(line))
         } else {
             self.end_outside(line, tag_line(line))
@@ -159,7 +189,7 @@ impl BadGame {
     {
         if is_empty_line(line) {
             self.is_behind_empty_line = true;
-        } else if !self.in_comment && begins_with(line, b'%') {
+        } else if self.comment_at.is_none() && begins_with(line, b'%') {
             self.escapes_at = Some(self.first_escape());
         } else {
             self.read_text(line);
@@ -177,28 +207,30 @@ impl BadGame {
     }
 
     fn read_text(&mut self, line: &[u8])
+        requires { self.old.at + length line.now < 2 ^ 64 }
         ensures { self.new ≡ spec.with_text_line self.old line.now }
     {
-        if self.in_comment {
-            let in_comment = is_braces(comment_at_end(Comment::Braces, line));
-            self.take(false, in_comment, outside_text(Comment::Braces, line));
+        if self.comment_at.is_some() {
+            let comment_at = open_comment(Comment::Braces, self.comment_at, self.at, line);
+            self.take(false, comment_at, outside_text(Comment::Braces, line));
         } else {
             let text = behind_stray(line);
             let rest = behind_pairs(text);
-            let in_comment = is_braces(comment_at_end(Comment::Closed, rest));
+            let place = self.at + (line.len() - rest.len());
+            let comment_at = open_comment(Comment::Closed, None, place, rest);
             let has_pair = behind_pair(text).is_some();
-            self.take(has_pair, in_comment, outside_text(Comment::Closed, rest));
+            self.take(has_pair, comment_at, outside_text(Comment::Closed, rest));
         }
     }
 
-    fn take(&mut self, has_pair: bool, in_comment: bool, text: OutsideText)
-        ensures { self.new ≡ spec.with_text self.old has_pair in_comment text }
+    fn take(&mut self, has_pair: bool, comment_at: Option<usize>, text: OutsideText)
+        ensures { self.new ≡ spec.with_text self.old has_pair comment_at text }
     {
         let is_movetext = text.has_text && (self.is_behind_empty_line || text.is_movetext);
         self.has_tags = self.has_tags || has_pair || text.has_tag;
         self.has_movetext = self.has_movetext || is_movetext;
-        self.in_comment = in_comment;
         self.is_behind_empty_line = false;
+        self.comment_at = comment_at;
         self.escapes_at = None;
     }
 }

@@ -1,5 +1,5 @@
 //! What a byte is in a bad game, and what a text has at its front.
-ghost use Rattle.std.specs.Prelude.{◌≡◌, ◌+◌, ◌≤◌, IsTrue, drop, length, take};
+ghost use Rattle.std.specs.Prelude.{◌≡◌, ◌+◌, ◌≤◌, IfSome, IsTrue, drop, length, take};
 ghost use Rattle.std.specs.List.{prefix_len};
 ghost use Rattle.std.specs.Option.{option_copied};
 ghost use Rattle.pgn_sections.specs.Bytes as spec;
@@ -85,7 +85,8 @@ pub(crate) fn has_mark_at(text: &[u8], at: usize) -> bool
 
 // The text behind this byte, if it begins with it.
 pub(crate) fn behind_byte(text: &[u8], byte: u8) -> Option<&[u8]>
-    ensures { option_copied result ≡ spec.behind_byte byte text.now }
+    ensures text { option_copied result ≡ spec.behind_byte byte text.now }
+    ensures shorter { IfSome result (λ rest. length rest.now ≤ length text.now) }
 {
     match text {
         [first, rest @ ..] => { if *first == byte { Some(rest) } else { None } }
@@ -95,7 +96,8 @@ pub(crate) fn behind_byte(text: &[u8], byte: u8) -> Option<&[u8]>
 
 // The text behind its white space.
 pub(crate) fn behind_space(text: &[u8]) -> &[u8]
-    ensures { result.now ≡ spec.behind_space text.now }
+    ensures text { result.now ≡ spec.behind_space text.now }
+    ensures shorter { length result.now ≤ length text.now }
 {
     text_from(text, space_length(text))
 }
@@ -127,7 +129,8 @@ pub(crate) fn name_length(text: &[u8]) -> usize
 
 // The text behind a name, if it begins with one.
 pub(crate) fn behind_name(text: &[u8]) -> Option<&[u8]>
-    ensures { option_copied result ≡ spec.behind_name text.now }
+    ensures text { option_copied result ≡ spec.behind_name text.now }
+    ensures shorter { IfSome result (λ rest. length rest.now ≤ length text.now) }
 {
     let length = name_length(text);
     if 1 <= length {

@@ -16,7 +16,7 @@ mod tag_line;
 #[cfg(test)]
 mod tests;
 
-pub use crate::bad_game::BadGame;
+pub use crate::bad_game::{BadGame, Ends};
 
 /// Returns where reading goes on behind a bad game, by guess.
 ///

@@ -1,7 +1,7 @@
 //! The lines of a text, and where reading goes on in them behind a bad game.
 ghost use Rattle.std.specs.Prelude.{ℕ, List, ◌≡◌, ◌+◌, ◌-◌, ◌<◌, ◌≤◌, ◌^◌, ◌++◌, IfSome, Some, None, length, drop};
 ghost use Rattle.pgn_sections.specs.FirstLine.{line_from, line_to_return as line_to_return_of};
-ghost use Rattle.pgn_sections.specs.Pieces.{FindsPlace};
+ghost use Rattle.pgn_sections.specs.Pieces.{FindsPlace, IsSameGame};
 
 use crate::bad_game::BadGame;
 use crate::bytes::{text_from, text_to};
@@ -28,6 +28,7 @@ impl BadGame {
     /// ```
     pub fn next_section(&mut self, piece: &[u8], is_last: bool) -> Option<usize>
         requires { self.old.at + length piece.now < 2 ^ 64 }
+        ensures same { IsSameGame self.old self.new }
         ensures place { FindsPlace self.old piece.now is_last result self.new }
         ensures above { IfSome result (λ place. self.old.begin < place) }
     {

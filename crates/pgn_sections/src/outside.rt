@@ -1,5 +1,5 @@
 //! What a line of a bad game has outside tag pairs and comments.
-ghost use Rattle.std.specs.Prelude.{◌≡◌, [], true};
+ghost use Rattle.std.specs.Prelude.{◌≡◌, ◌+◌, ◌<◌, ◌^◌, [], true, length};
 ghost use Rattle.pgn_sections.specs.Outside as spec;
 ghost use Rattle.pgn_sections.specs.declared.outside.Number.TheVariants.{Blank};
 ghost use Rattle.pgn_sections.specs.Shape.{begun, shape_has_number, shape_has_text, shape_over, shape_with, text_of_shape};
@@ -82,22 +82,36 @@ fn outside_byte(comment: Comment, byte: u8) -> Option<u8>
     }
 }
 
-/// The comment that is open at the end of the line.
-pub(crate) fn comment_at_end(mut comment: Comment, line: &[u8]) -> Comment
-    ensures { result ≡ spec.comment_at_end comment line.now }
+/// Where the comment in braces begins that is open at the end of the line, if one is.
+///
+/// The text is at a place, and a comment from a line before begins at `comment_at`.
+pub(crate) fn open_comment(
+    mut comment: Comment,
+    mut comment_at: Option<usize>,
+    place: usize,
+    text: &[u8],
+) -> Option<usize>
+    requires { place + length text.now < 2 ^ 64 }
+    ensures { result ≡ spec.open_comment comment comment_at place text.now }
 {
-    for byte in line {
+    for (index, byte) in text.iter().enumerate() {
+        if is_closed(comment) && *byte == b'{' {
+            comment_at = Some(place + index);
+        }
         comment = comment_after(comment, *byte);
     }
-    comment
+    match comment {
+        Comment::Braces => comment_at,
+        Comment::Closed | Comment::RestOfLine => None,
+    }
 }
 
-pub(crate) fn is_braces(comment: Comment) -> bool
-    ensures { result ≡ spec.is_braces comment }
+fn is_closed(comment: Comment) -> bool
+    ensures { result ≡ spec.is_closed comment }
 {
     match comment {
-        Comment::Braces => true,
-        Comment::Closed | Comment::RestOfLine => false,
+        Comment::Closed => true,
+        Comment::Braces | Comment::RestOfLine => false,
     }
 }
 

@@ -147,7 +147,8 @@ fn is_event(text: &[u8]) -> bool
 
 // The text behind the quote that ends a value, if one does on the line.
 fn behind_value(text: &[u8]) -> Option<&[u8]>
-    ensures { option_copied result ≡ spec.behind_value false text.now }
+    ensures text { option_copied result ≡ spec.behind_value false text.now }
+    ensures shorter { IfSome result (λ rest. length rest.now ≤ length text.now) }
 {
     let mut is_behind_backslash = false;
     for (index, byte) in text.iter().enumerate() {
@@ -166,7 +167,8 @@ fn behind_value(text: &[u8]) -> Option<&[u8]>
 
 // The text behind the bracket that ends a tag pair, and white space.
 fn behind_right_bracket(text: &[u8]) -> Option<&[u8]>
-    ensures { option_copied result ≡ spec.behind_right_bracket text.now }
+    ensures text { option_copied result ≡ spec.behind_right_bracket text.now }
+    ensures shorter { IfSome result (λ rest. length rest.now ≤ length text.now) }
 {
     match behind_byte(behind_space(text), b']') {
         None => None,
@@ -175,7 +177,8 @@ fn behind_right_bracket(text: &[u8]) -> Option<&[u8]>
 }
 
 fn behind_quote(text: &[u8]) -> Option<&[u8]>
-    ensures { option_copied result ≡ spec.behind_quote text.now }
+    ensures text { option_copied result ≡ spec.behind_quote text.now }
+    ensures shorter { IfSome result (λ rest. length rest.now ≤ length text.now) }
 {
     match behind_value(text) {
         None => None,
@@ -184,7 +187,8 @@ fn behind_quote(text: &[u8]) -> Option<&[u8]>
 }
 
 fn behind_tag_name(text: &[u8]) -> Option<&[u8]>
-    ensures { option_copied result ≡ spec.behind_tag_name text.now }
+    ensures text { option_copied result ≡ spec.behind_tag_name text.now }
+    ensures shorter { IfSome result (λ rest. length rest.now ≤ length text.now) }
 {
     match behind_byte(behind_space(text), b'"') {
         None => None,
@@ -193,7 +197,8 @@ fn behind_tag_name(text: &[u8]) -> Option<&[u8]>
 }
 
 fn behind_left_bracket(text: &[u8]) -> Option<&[u8]>
-    ensures { option_copied result ≡ spec.behind_left_bracket text.now }
+    ensures text { option_copied result ≡ spec.behind_left_bracket text.now }
+    ensures shorter { IfSome result (λ rest. length rest.now ≤ length text.now) }
 {
     match behind_name(behind_space(text)) {
         None => None,
@@ -203,7 +208,8 @@ fn behind_left_bracket(text: &[u8]) -> Option<&[u8]>
 
 /// The text behind a whole tag pair and white space, if it begins with one.
 pub(crate) fn behind_pair(text: &[u8]) -> Option<&[u8]>
-    ensures { option_copied result ≡ spec.behind_pair text.now }
+    ensures text { option_copied result ≡ spec.behind_pair text.now }
+    ensures shorter { IfSome result (λ rest. length rest.now ≤ length text.now) }
 {
     match behind_byte(text, b'[') {
         None => None,
@@ -213,7 +219,8 @@ pub(crate) fn behind_pair(text: &[u8]) -> Option<&[u8]>
 
 /// The text behind the tag pairs that it begins with.
 pub(crate) fn behind_pairs(text: &[u8]) -> &[u8]
-    ensures { result.now ≡ spec.behind_pairs text.now }
+    ensures text { result.now ≡ spec.behind_pairs text.now }
+    ensures shorter { length result.now ≤ length text.now }
 {
     let mut rest = text;
     for _count in 0..text.len() {
@@ -227,7 +234,8 @@ pub(crate) fn behind_pairs(text: &[u8]) -> &[u8]
 
 /// The line behind what is stray at its front.
 pub(crate) fn behind_stray(line: &[u8]) -> &[u8]
-    ensures { result.now ≡ spec.behind_stray line.now }
+    ensures text { result.now ≡ spec.behind_stray line.now }
+    ensures shorter { length result.now ≤ length line.now }
 {
     text_from(line, stray_length(line))
 }

@@ -14,6 +14,9 @@ loop-count-preserved c =
     let left = length c.args.text.now - (c.loop-count._count + 1) in
     let n : length c.args.text.now - c.loop-count._count ≡ suc left = omega arith in
     let found : behind_pair c.loop-count.rest.now ≡ Some c.in-Some.behind.now =
-    sym c.behind_pair.ensures ∙ ap (λ r. option_copied r) c.in-Some.is in
-    c.loop-count.invariant ∙ ap (λ (k : ℕ). behind_some_pairs k c.loop-count.rest.now) n
-    ∙ one_pair left c.loop-count.rest.now c.in-Some.behind.now found
+    sym c.behind_pair.ensures.text ∙ ap (λ r. option_copied r) c.in-Some.is in
+    record {
+      text = c.loop-count.invariant.text ∙ ap (λ (k : ℕ). behind_some_pairs k c.loop-count.rest.now) n
+          ∙ one_pair left c.loop-count.rest.now c.in-Some.behind.now found;
+      shorter = omega (arith, c.in-Some.ensures.shorter, c.loop-count.invariant.shorter);
+    }

@@ -2,7 +2,7 @@ use Rattle.std.proofs.Common.{◌≡◌, ℕ, List, ◌+◌, ◌-◌, ◌++◌, 
 use Rattle.std.proofs.lemmas.List.{drop-drop, length-drop, length-take-le}
 use Rattle.pgn_sections.specs.declared.bad_game.BadGame.{BadGame}
 use Rattle.pgn_sections.specs.Lines.{lines_of, place_in}
-use Rattle.pgn_sections.proofs.LinesInPieces.{begin_kept, no_line, passes, shows}
+use Rattle.pgn_sections.proofs.LinesInPieces.{no_line, passes, same_behind, shows}
 use Rattle.pgn_sections.proofs.bad_game.BadGame.next_section.Goals as goal
 
 pub returns-in-Some-place_on-clause-place : goal.returns-in-Some-place_on-clause-place
@@ -30,7 +30,7 @@ loop-length-preserved c =
     let left = ap length c.text_from-rest.ensures ∙ length-drop n rest in
     let places : c.read_line.new.self.at - c.args.self.now.at ≡ old.at - c.args.self.now.at + n = omega (arith, at, size, here.from) in
     record {
-      begin = ap (λ (g : BadGame). g.begin) c.read_line.ensures ∙ begin_kept old line ∙ here.begin;
+      same = same_behind c.args.self.now old c.read_line.new.self line c.read_line.ensures here.same;
       from = omega (arith, at, here.from);
       count = omega (arith, at, size, left, within, here.count);
       rest = c.text_from-rest.ensures ∙ ap (λ (t : List ℕ). drop n t) here.rest ∙ drop-drop n (old.at - c.args.self.now.at) c.args.piece.now ∙ ap (λ (k : ℕ). drop k c.args.piece.now) (sym places);
