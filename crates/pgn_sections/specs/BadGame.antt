@@ -95,8 +95,8 @@ with_text g has_pair comment_at text =
 abbrev pub behind_tags : List ℕ → List ℕ
 behind_tags line = behind_pairs (behind_stray line)
 
--- The text outside comments: of the whole line, if a comment is open from a line before, else behind
--- tag pairs.
+-- The text outside comments: of the whole line, if a comment is open from a line before, else of
+-- what is behind tag pairs.
 abbrev pub with_text_line : BadGame → List ℕ → BadGame
 with_text_line g line =
     if is_some g.comment_at

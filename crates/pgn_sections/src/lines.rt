@@ -9,11 +9,12 @@ use crate::bytes::{text_from, text_to};
 impl BadGame {
     /// Reads the next piece of the text, and returns where reading goes on behind the game.
     ///
-    /// The piece begins at the byte `at` of the text. If it `is_last`, nothing follows it. The
-    /// result lies above `begin`. With `None` the game has read the whole lines of the piece, and
-    /// `at` is behind them. The bytes from there on are the front of the next piece. Behind the last
-    /// piece `None` says that the place is not in this text. With a place the game stays at the line
-    /// that shows it.
+    /// The piece begins at the byte `at` of the text. If it `is_last`, nothing follows it. `at` and
+    /// the length of the piece are together below 2^64. The result lies above `begin`.
+    ///
+    /// With `None` the game has read the whole lines of the piece, and `at` is behind them. The
+    /// bytes from there on are the front of the next piece. Behind the last piece `None` says that
+    /// the place is not in this text. With a place the game stays at the line that shows it.
     ///
     /// # Examples
     ///

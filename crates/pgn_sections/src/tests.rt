@@ -1,5 +1,5 @@
 //! Worked rows: where reading goes on, by the rules in words.
-use crate::{BadGame, next_section};
+use crate::{BadGame, Ends, next_section};
 use std::process::Abort;
 
 // Behind the game that begins at a place, with its fault at another, reading goes on there.
@@ -177,7 +177,8 @@ fn no_movetext(rt: HostRuntime) {
     is_next(&rt, b"[White \"Ada\"x]\n\n[Events \"a\"]\n", 0, 11, None);
 }
 
-/// An open comment hides a line, unless this begins a tag pair with a quoted value, after movetext or an empty line.
+/// An open comment hides a line, unless this begins a tag pair with a quoted value, after movetext
+/// or an empty line.
 #[test]
 fn an_open_comment(rt: HostRuntime) {
     is_next(
@@ -279,30 +280,50 @@ fn other_line_ends(rt: HostRuntime) {
     is_next(&rt, b"1. e4 e9 *\r\r[White \"Ada\"]\r", 0, 6, Some(12));
     is_next(&rt, b"1. e4 e9 *\r\n\r\n[White \"Ada\"]", 0, 6, Some(14));
 }
-/// A text that comes byte by byte. Only whole lines are read, and a CR at the end of a piece ends
+// The game reads on in the text up to a place, which is not its end, and finds nothing.
+fn reads_to(rt: &impl Abort, game: &mut BadGame, text: &[u8], end: usize, at: usize) {
+    let begin = game.at;
+    let piece = text.get(begin..end).unwrap_or(b"");
+    assert_eq!(rt; game.next_section(piece, false), None);
+    let read = game.at;
+    assert_eq!(rt; read, at);
+}
+
+/// A text that comes in pieces. Only whole lines are read, and a CR at the end of a piece ends
 /// none.
 #[test]
 fn pieces(rt: HostRuntime) {
     let text = b"1. e4 e9 *\r\n% a\r\n\r\n[White \"Ada\"]\r\n".as_slice();
-    let places = [
-        (11, 0),
-        (12, 12),
-        (16, 12),
-        (17, 17),
-        (18, 17),
-        (19, 19),
-        (30, 19),
-    ];
     let mut game = BadGame::new(0, 6);
-    for (end, at) in places {
-        assert_eq!(rt;
-            game.next_section(text.get(game.at..end).unwrap_or(b""), false),
-            None
-        );
-        assert_eq!(rt; game.at, at);
-    }
-    assert_eq!(rt;
-        game.next_section(text.get(19..).unwrap_or(b""), true),
-        Some(12)
-    );
+    reads_to(&rt, &mut game, text, 11, 0);
+    reads_to(&rt, &mut game, text, 12, 12);
+    reads_to(&rt, &mut game, text, 16, 12);
+    reads_to(&rt, &mut game, text, 17, 17);
+    reads_to(&rt, &mut game, text, 18, 17);
+    reads_to(&rt, &mut game, text, 19, 19);
+    reads_to(&rt, &mut game, text, 30, 19);
+    let rest = text.get(19..).unwrap_or(b"");
+    assert_eq!(rt; game.next_section(rest, true), Some(12));
+}
+
+// What is found in a text that is read for these ends, and where a comment is open then.
+fn found(text: &[u8], ends: Ends) -> (Option<usize>, Option<usize>) {
+    let mut game = BadGame {
+        ends,
+        ..BadGame::new(0, text.len())
+    };
+    let place = game.next_section(text, true);
+    (place, game.comment_at)
+}
+
+/// A sound game ends in a comment alone. Where no end counts, an open comment is found.
+#[test]
+fn other_ends(rt: HostRuntime) {
+    let text = b"1. e4 {a\n\n[White \"Ada\"]\n";
+    assert!(rt; found(text, Ends::InComments) == (Some(10), Some(6)));
+    assert!(rt; found(text, Ends::Nowhere) == (None, Some(6)));
+    let text = b"1. e4\n[White \"Ada\"]\n{a} {b";
+    assert!(rt; found(text, Ends::InComments) == (None, Some(25)));
+    assert!(rt; found(b"1. e4 {a} ; {b\n", Ends::Nowhere) == (None, None));
+    assert!(rt; found(b"[White \"{\"] e4", Ends::Nowhere) == (None, None));
 }
