@@ -4,7 +4,6 @@
 The texts are those of fuzz/corpus, the worked inputs, the examples, games as bench/ makes them, and
 mutations of all of these, from a seed.
 """
-import ctypes
 import glob
 import importlib
 import os

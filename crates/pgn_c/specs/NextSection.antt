@@ -1,5 +1,5 @@
 -- **Definition**: where reading goes on behind a bad game, as C gets it.
-use Rattle.std.specs.Prelude.{◌≡◌, ℕ, ◌+◌, ◌<◌, ◌≤◌, ◌^◌, Bool, true, false, not, List, length, Option, None, Some, IfSome, is_some, unwrap_or, ◌==◌, if◌then◌else◌}
+use Rattle.std.specs.Prelude.{◌≡◌, ℕ, ◌+◌, ◌<◌, ◌≤◌, ◌^◌, Bool, not, List, length, Option, None, Some, IfSome, is_some, unwrap_or, ◌==◌, if◌then◌else◌}
 use Rattle.pgn_sections.specs.Pieces.{FindsPlace}
 use Rattle.pgn_sections.specs.declared.bad_game.BadGame.{BadGame}
 use Rattle.pgn_sections.specs.declared.bad_game.Ends.{Ends}

@@ -1,10 +1,9 @@
 -- What the code keeps of a text has what is seen of the text.
 use Rattle.std.proofs.lemmas.Grind.{common_steps}
-use Rattle.std.proofs.Common.{◌≡◌, ℕ, Bool, ◌||◌, List, [], ◌∷◌, Option, None, Some, eqb, refl, arith}
+use Rattle.std.proofs.Common.{◌≡◌, ℕ, ◌||◌, List, [], ◌∷◌, None, Some, refl, arith}
 use Rattle.std.specs.List.{list_any}
 use Rattle.pgn_sections.specs.Outside.{first_text, last_text, number_at_front, number_behind_bracket, outside_text, ends_with_marker, last_word}
 use Rattle.pgn_sections.specs.Shape.{begun, shape_over, shape_with, text_of_shape}
-use Rattle.pgn_sections.specs.declared.outside.Number.{Number}
 use Rattle.pgn_sections.specs.declared.outside.Shape.{Shape}
 use Rattle.std.specs.Prelude.{true, ◌==◌}
 

@@ -1,5 +1,5 @@
 -- **Definition**: what a byte is in a bad game, and what a text has at its front.
-use Rattle.std.specs.Prelude.{ℕ, Bool, true, false, ◌||◌, ◌&&◌, nat_le, List, [], ◌∷◌, drop, Option, None, Some, ◌==◌, if◌then◌else◌}
+use Rattle.std.specs.Prelude.{ℕ, Bool, false, ◌||◌, ◌&&◌, nat_le, List, [], ◌∷◌, drop, Option, None, Some, ◌==◌, if◌then◌else◌}
 use Rattle.std.specs.List.{prefix_len}
 
 -- line feed and carriage return

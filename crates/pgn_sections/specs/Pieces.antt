@@ -1,5 +1,5 @@
 -- **Definition**: the lines of a text that is read in pieces.
-use Rattle.std.specs.Prelude.{ℕ, ◌≡◌, ◌+◌, ◌-◌, ◌≤◌, Bool, true, false, IsTrue, List, [], ◌++◌, drop, length, Option, None, Some, IsSome}
+use Rattle.std.specs.Prelude.{ℕ, ◌≡◌, ◌+◌, ◌-◌, ◌≤◌, Bool, IsTrue, List, [], ◌++◌, drop, length, Option, None, Some}
 use Rattle.pgn_sections.specs.Lines.{lines_of, place_in}
 use Rattle.pgn_sections.specs.declared.bad_game.BadGame.{BadGame}
 

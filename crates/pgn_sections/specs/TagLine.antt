@@ -2,7 +2,7 @@
 use Rattle.std.specs.Prelude.{ℕ, ◌+◌, ◌-◌, Bool, true, false, ◌||◌, ◌&&◌, nat_le, List, [], ◌∷◌, suc, zero, drop, take, length, Option, None, Some, is_some, option_map, bytes_eq, ◌==◌, if◌then◌else◌, codes}
 use Rattle.std.specs.Option.{option_and_then}
 use Rattle.std.specs.List.{prefix_len}
-use Rattle.pgn_sections.specs.Bytes.{is_line_end, is_space, is_stray, name_length, begins_with, has_mark, behind_byte, behind_space, behind_name}
+use Rattle.pgn_sections.specs.Bytes.{is_line_end, is_stray, name_length, begins_with, has_mark, behind_byte, behind_space, behind_name}
 use Rattle.pgn_sections.specs.declared.tag_line.Mark.{Mark}
 use Rattle.pgn_sections.specs.declared.tag_line.Mark.TheVariants.{Outside, BehindFirst, BehindSecond}
 use Rattle.pgn_sections.specs.declared.tag_line.TagLine.{TagLine}

@@ -1,4 +1,4 @@
-use Rattle.std.proofs.Common.{◌≡◌, ℕ, List, drop, sym, ◌∙◌, ap, ap₂}
+use Rattle.std.proofs.Common.{ℕ, List, ◌∙◌, ap₂}
 use Rattle.std.proofs.lemmas.List.{take_rest}
 use Rattle.pgn_sections.specs.declared.bad_game.BadGame.{BadGame}
 use Rattle.pgn_sections.specs.Lines.{lines_of, place_in}

@@ -1,5 +1,4 @@
-use Rattle.std.proofs.Common.{◌≡◌, ℕ, List, Option, Some, sym, ap, ◌∙◌, subst, arith}
-use Rattle.pgn_sections.specs.Pieces.{FindsPlace}
+use Rattle.std.proofs.Common.{◌≡◌, ap, ◌∙◌, subst, arith}
 use Rattle.pgn_sections.specs.declared.bad_game.BadGame.{BadGame}
 use Rattle.pgn_sections.specs.declared.bad_game.Ends.{Ends}
 use Rattle.pgn_c.specs.declared.next_section.PgnBadGame.{PgnBadGame}

@@ -1,4 +1,3 @@
-use Rattle.std.proofs.Common.{◌∙◌}
 use Rattle.pgn_sections.specs.Outside.{without_comments}
 use Rattle.pgn_sections.proofs.ShapeOfText.{text_is}
 use Rattle.pgn_sections.proofs.outside.outside_text.Goals as goal

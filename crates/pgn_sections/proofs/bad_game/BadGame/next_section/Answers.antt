@@ -1,4 +1,4 @@
-use Rattle.std.proofs.Common.{◌≡◌, ℕ, List, ◌+◌, ◌-◌, ◌++◌, Option, None, Some, length, sym, ◌∙◌, ap, ap₂, ◌≤◌, arith, drop}
+use Rattle.std.proofs.Common.{◌≡◌, ℕ, List, ◌+◌, ◌-◌, ◌++◌, length, sym, ◌∙◌, ap, ap₂, ◌≤◌, arith, drop}
 use Rattle.std.proofs.lemmas.List.{drop-drop, length-drop, length-take-le}
 use Rattle.pgn_sections.specs.declared.bad_game.BadGame.{BadGame}
 use Rattle.pgn_sections.specs.Lines.{lines_of, place_in}
