@@ -4,7 +4,7 @@ import { FAULT, FULL, MORE, NO_GAME, OK } from "./module.js";
 import {
   decoded, encoded, latin1, lineAround, lineBegin, lineEnds, startsWithByteOrderMark, symbolAt,
 } from "./text.js";
-import { nextSection } from "./next_section.js";
+import { endOfBadGame } from "./next_section.js";
 import { spellings } from "./spellings.js";
 import { noteOnResult, terminationsIn } from "./forfeits.js";
 
@@ -243,7 +243,7 @@ export class Conversion {
   // Sets the bad game aside, and goes on behind it.
   goOn(place) {
     const bytes = this.fileBytes();
-    const found = nextSection(bytes, this.from, place);
+    const found = endOfBadGame(this.module, this.text, this.length, this.from, place);
     const end = found === null ? this.length : found;
     const part = bytes.slice(this.from, end);
     this.from = startsWithByteOrderMark(bytes, end) ? end + 3 : end;

@@ -3,7 +3,7 @@
 import { FULL, MISSING_RESULTS, MODES, NO_GAME, OK } from "./module.js";
 import { DRAW, latin1, lineAround, startsWithByteOrderMark } from "./text.js";
 import { edited } from "./fixes.js";
-import { nextSection } from "./next_section.js";
+import { endOfBadGame } from "./next_section.js";
 
 const NOT_LEGAL = 34;
 const RESULT_DIFFERS = 41;
@@ -54,6 +54,14 @@ class TextReader {
         };
       }
     }
+  }
+
+  // Where a bad game ends that a text begins with, or null: with the text.
+  endOfBadGame(text, fault) {
+    const { module } = this;
+    module.reserve(module.free + text.length);
+    module.bytes.set(bytesOf(text), module.free);
+    return endOfBadGame(module, module.free, text.length, 0, fault);
   }
 }
 
@@ -194,9 +202,8 @@ class Mending {
       return true;
     }
     const rest = this.text.slice(this.begin);
-    const bytes = bytesOf(rest + latin1(following));
-    return this.fault !== NEVER_CLOSED &&
-      nextSection(bytes, 0, this.place - this.begin) === rest.length;
+    return this.fault !== NEVER_CLOSED && this.reader.endOfBadGame(
+      rest + latin1(following), this.place - this.begin) === rest.length;
   }
 }
 
@@ -225,7 +232,8 @@ export class Mender {
   mend(conversion, index, place) {
     const bytes = conversion.fileBytes();
     const isMark = startsWithByteOrderMark(bytes, place);
-    const found = nextSection(bytes, conversion.from, place);
+    const found = endOfBadGame(
+      conversion.module, conversion.text, conversion.length, conversion.from, place);
     const end = found === null ? bytes.length : found;
     const stop = isMark ? Math.max(end, place + BYTE_ORDER_MARK_SIZE) : end;
     // a byte order mark and a % mean something else at the start of a text

@@ -19,6 +19,13 @@ export const STRUCTS = {
     ["status", "uint32_t"], ["name_at", "size_t"], ["name_length", "size_t"],
     ["value_at", "size_t"], ["value_length", "size_t"], ["next", "size_t"],
   ],
+  pgn_bad_game: [
+    ["begin", "size_t"], ["fault", "size_t"], ["at", "size_t"], ["comment_at", "size_t"],
+    ["escapes_at", "size_t"], ["ends", "uint32_t"], ["has_tags", "uint32_t"],
+    ["has_movetext", "uint32_t"], ["is_behind_text", "uint32_t"], ["has_comment", "uint32_t"],
+    ["has_escapes", "uint32_t"],
+  ],
+  pgn_section: [["status", "uint32_t"], ["place", "size_t"]],
   pgn_explanation: [
     ["status", "uint32_t"], ["fault", "uint32_t"], ["field", "uint32_t"], ["form", "uint32_t"],
     ["piece", "uint32_t"], ["target", "uint32_t"], ["origins", "uint8_t", 64],
@@ -44,6 +51,8 @@ const SIZES = { uint8_t: 1, uint32_t: 4, uint64_t: 8, size_t: 8 };
 const RESULT_SIZE = 512;
 // Behind them is room for short texts: a FEN and a move, or the tag section of an export text.
 const SHORT_TEXTS_SIZE = 65536;
+// A pgn_bad_game is put there too.
+const BAD_GAME_SIZE = 64;
 const PAGE_SIZE = 65536;
 // No address of 32 bits is larger.
 const MOST_PAGES = 65536;
@@ -191,6 +200,19 @@ export class Module {
       const part = (from, length) => text.subarray(read(from), read(from) + read(length));
       pairs.push([part("name_at", "name_length"), part("value_at", "value_length")]);
     }
+  }
+
+  // Where reading goes on behind the bad game that begins at a place of a text in the memory, or
+  // null: not in this text.
+  nextSection(text, length, begin, fault) {
+    const [game] = this.put(new Uint8Array(BAD_GAME_SIZE));
+    for (const [name, place] of [["begin", begin], ["fault", fault], ["at", begin]]) {
+      this.view.setBigUint64(game + LAYOUTS.pgn_bad_game[name].at, BigInt(place), true);
+    }
+    this.calls.pgn_next_section(
+      BigInt(this.result), BigInt(game), BigInt(text + begin), BigInt(length - begin), 1);
+    const isFound = this.field("pgn_section", "status") === OK;
+    return isFound ? this.field("pgn_section", "place") : null;
   }
 
   // Converts the next game of a text in the memory. Each place counts from the text's first byte.

@@ -5,7 +5,9 @@
 //! length is 0.
 #![allow(unsafe_code)]
 
-use crate::{PgnExplanation, PgnGame, PgnMove, PgnPlies, PgnResult, PgnTag, PgnText};
+use crate::{
+    PgnBadGame, PgnExplanation, PgnGame, PgnMove, PgnPlies, PgnResult, PgnSection, PgnTag, PgnText,
+};
 use std::slice;
 
 /// The bytes that C passes.
@@ -142,6 +144,20 @@ unsafe extern "C" fn pgn_read_game(
 #[no_mangle]
 unsafe extern "C" fn pgn_tag_at(text: *const u8, length: usize, at: usize) -> PgnTag {
     crate::pgn_tag_at(unsafe { text_of(text, length) }, at)
+}
+
+/// # Safety
+///
+/// The conditions of `pgn.h` hold. The game is not null, and no one else uses it during the call.
+#[no_mangle]
+unsafe extern "C" fn pgn_next_section(
+    game: *mut PgnBadGame,
+    piece: *const u8,
+    length: usize,
+    is_last: u32,
+) -> PgnSection {
+    let (game, piece) = unsafe { (&mut *game, text_of(piece, length)) };
+    crate::pgn_next_section(game, piece, is_last)
 }
 
 /// # Safety

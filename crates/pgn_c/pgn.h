@@ -5,15 +5,16 @@
  * proved.
  *
  * No function allocates, keeps anything from call to call, or writes to other memory than its
- * buffer. Several threads may call at once, with buffers of their own; they may share what is only
- * read.
+ * buffer or its struct. Several threads may call at once, with buffers of their own; they may share
+ * what is only read.
  *
  * Conditions on a caller. Nothing checks them, and all that is proved rests on them:
  *
  *  1. A pointer with a length or a capacity points to that many bytes of one object, at most
- *     2^63 - 1, for the whole call. It is not null, also where the length is 0.
- *  2. A buffer shares no byte with a text of the same call.
- *  3. No other thread writes a text during the call, or reads or writes the buffer.
+ *     2^63 - 1, for the whole call. It is not null, also where the length is 0. A pointer to a
+ *     struct points to one.
+ *  2. A buffer or a struct shares no byte with a text of the same call.
+ *  3. No other thread writes a text during the call, or reads or writes the buffer or the struct.
  *  4. The stack has 256 KiB left. A call takes less than half of that.
  *
  * A text need not end with a zero, and may have any bytes.
@@ -125,6 +126,34 @@ typedef struct pgn_tag {
     size_t value_length; /* how many bytes it has, with the backslash before each quote or backslash */
     size_t next;         /* where the next line begins */
 } pgn_tag;
+
+/* Which lines can show where a game ends, for pgn_next_section. */
+enum {
+    PGN_ENDS_ANYWHERE = 0,    /* all lines, as for a bad game */
+    PGN_ENDS_IN_COMMENTS = 1, /* lines in comments, as for a sound game: one may hide another game */
+    PGN_ENDS_NOWHERE = 2      /* none: the lines are read for the comment that is open */
+};
+
+/* A bad game whose lines pgn_next_section reads. Begin with zeros, and set the first three. */
+typedef struct pgn_bad_game {
+    size_t begin;            /* where the game before it ends */
+    size_t fault;            /* the place of its fault */
+    size_t at;               /* where the next line begins; `begin` before the first call */
+    size_t comment_at;       /* where the comment begins that is open, if has_comment */
+    size_t escapes_at;       /* where the escape lines before the next line begin, if has_escapes */
+    uint32_t ends;           /* which lines can show where it ends */
+    uint32_t has_tags;       /* 1: a line so far had a tag */
+    uint32_t has_movetext;   /* 1: a line so far was movetext */
+    uint32_t is_behind_text; /* 1: the line before was not empty */
+    uint32_t has_comment;    /* 1: a comment in braces is open */
+    uint32_t has_escapes;    /* 1: escape lines are just before the next line */
+} pgn_bad_game;
+
+/* The result of pgn_next_section. */
+typedef struct pgn_section {
+    uint32_t status; /* PGN_OK, PGN_NO_GAME, PGN_MORE, PGN_NO_MODE or PGN_BAD_PLACE */
+    size_t place;    /* PGN_OK: where reading goes on; else 0 */
+} pgn_section;
 
 /* The result of pgn_explain. */
 typedef struct pgn_explanation {
@@ -278,6 +307,25 @@ pgn_game pgn_read_game(const uint8_t *text, size_t length, size_t from, uint32_t
  * there is none at this place, so the pairs of the game are all found.
  */
 pgn_tag pgn_tag_at(const uint8_t *text, size_t length, size_t at);
+
+/*
+ * Reads the next piece of the text of a bad game, and finds where reading goes on behind the game.
+ *
+ * It is a guess: the next line that begins a tag section. docs/PYTHON.md has the rule in words. The
+ * first piece begins at the byte `begin` of the text, and each further one at the byte `at`. The
+ * other fields are the call's own. `is_last` is not 0 if nothing follows the piece. Places count
+ * from the first byte of the text.
+ *
+ * PGN_OK: reading goes on at `place`, which lies above `begin`. A byte order mark that stands where
+ *     the game ends is passed.
+ * PGN_NO_GAME: the place is not in this text: all the rest belongs to the bad game.
+ * PGN_MORE: the whole lines of the piece are read. The next piece begins with the bytes that are
+ *     left, from `at` on. Give more of them than before.
+ * PGN_NO_MODE: there are no such `ends`. The game is unchanged.
+ * PGN_BAD_PLACE: the piece would end at 2^64 or above. The game is unchanged.
+ */
+pgn_section pgn_next_section(pgn_bad_game *game, const uint8_t *piece, size_t length,
+                             uint32_t is_last);
 
 /*
  * Explains what a move's text means in the position of a FEN, also if it is rejected: from which

@@ -15,7 +15,7 @@ from ._faults import PgnFault
 from ._moves import Line, Ply, read_moves, write_moves
 from ._places import BYTE_ORDER_MARK
 from ._reading import GameReader
-from ._sections import BadGame, end_of
+from ._sections import end_of
 from ._sources import Input, Source, Window, name_of, readable_again
 from ._tags import Tags, read_tags, type_of, write_tags
 from ._texts import is_utf_8, text_of
@@ -286,11 +286,10 @@ class Reader:
         """Goes on behind the game at fault, or raises the fault."""
         if on_fault is None:
             raise fault
-        window, bad = self.window, BadGame(fault.offset)
-        begin = fault.begin - window.base
+        window, begin = self.window, fault.begin - self.window.base
         head = window.data[begin:begin + 4]
-        end = end_of(bad, window.lines(
-            self.at, lambda: fault.begin if self._keeps_text else bad.escapes_at))
+        bad = _library.BadGame(begin=self.at, fault=fault.offset, at=self.at)
+        end = end_of(bad, window, fault.begin if self._keeps_text else None)
         at = window.base + len(window.data) if end is None else end
         is_mark = window.data.startswith(BYTE_ORDER_MARK, at - window.base)
         if at <= self.at and end is not None and not is_mark:

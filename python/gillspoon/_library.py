@@ -26,6 +26,8 @@ OK, FAULT, FULL, NO_MODE, NO_GAME, MORE, BAD_PLACE = range(7)
 FULL_FORMAT, REDUCED_FORMAT = range(2)
 RESULT_UNKNOWN, RESULT_FROM_MARKER = range(2)
 SAN, UCI = range(2)
+# which lines can show where a game ends
+ENDS_ANYWHERE, ENDS_IN_COMMENTS, ENDS_NOWHERE = range(3)
 # the most bytes of a FEN, and of a ply as pgn_line writes it
 LONGEST_FEN, LONGEST_PLY = 93, 108
 
@@ -154,6 +156,46 @@ class Explanation(ctypes.Structure):
     ]
 
 
+class BadGame(ctypes.Structure):
+    """struct pgn_bad_game"""
+
+    begin: int
+    fault: int
+    at: int
+    comment_at: int
+    escapes_at: int
+    ends: int
+    has_tags: int
+    has_movetext: int
+    is_behind_text: int
+    has_comment: int
+    has_escapes: int
+    _fields_ = [
+        ("begin", ctypes.c_size_t),
+        ("fault", ctypes.c_size_t),
+        ("at", ctypes.c_size_t),
+        ("comment_at", ctypes.c_size_t),
+        ("escapes_at", ctypes.c_size_t),
+        ("ends", ctypes.c_uint32),
+        ("has_tags", ctypes.c_uint32),
+        ("has_movetext", ctypes.c_uint32),
+        ("is_behind_text", ctypes.c_uint32),
+        ("has_comment", ctypes.c_uint32),
+        ("has_escapes", ctypes.c_uint32),
+    ]
+
+
+class Section(ctypes.Structure):
+    """struct pgn_section"""
+
+    status: int
+    place: int
+    _fields_ = [
+        ("status", ctypes.c_uint32),
+        ("place", ctypes.c_size_t),
+    ]
+
+
 Buffer = ctypes.Array[ctypes.c_char]
 
 _TEXT = (ctypes.c_void_p, ctypes.c_size_t)
@@ -166,6 +208,7 @@ _CALLS = {
                                  *_TEXT)),
     "pgn_read_game": (NextGame, (*_TEXT, ctypes.c_size_t, ctypes.c_uint32, ctypes.c_uint32,
                                  *_TEXT)),
+    "pgn_next_section": (Section, (ctypes.POINTER(BadGame), *_TEXT, ctypes.c_uint32)),
     "pgn_explain": (Explanation, (*_TEXT, *_TEXT)),
 }
 _BUILD = "in the repository run bin/build_program --library, or pip install ./python"
@@ -207,4 +250,5 @@ san: Callable[[bytes, int, bytes, int, int], Move] = _library.pgn_san
 line: Callable[[bytes, int, bytes, int, int, Buffer, int], Plies] = _library.pgn_line
 next_game: Callable[[bytes, int, int, int, int, Buffer, int], NextGame] = _library.pgn_next_game
 read_game: Callable[[bytes, int, int, int, int, Buffer, int], NextGame] = _library.pgn_read_game
+next_section: Callable[[BadGame, bytes, int, bool], Section] = _library.pgn_next_section
 explain: Callable[[bytes, int, bytes, int], Explanation] = _library.pgn_explain

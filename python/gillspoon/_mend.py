@@ -12,7 +12,7 @@ from ._fixes import AnyFix, Fix
 from ._here import Change, Here
 from ._places import BYTE_ORDER_MARK, NEAR, LineCounter
 from ._reading import GameReader
-from ._sections import BadGame, end_of, lines_of
+from ._sections import end_of_bad_game
 from ._sources import CHUNK, Opened
 from ._spellings import Spelling, like_tokens, respelled
 
@@ -230,7 +230,7 @@ class SectionMender:
         if not following:
             return True
         rest = mending.changes.text[mending.begin:]
-        last = end_of(BadGame(mending.place - mending.begin), lines_of(rest + following))
+        last = end_of_bad_game(rest + following, mending.place - mending.begin)
         return mending.fault != UNCLOSED_COMMENT and last == len(rest)
 
     def _mending(self, text: bytes, fault: PgnFault, fixes: Sequence[AnyFix]) -> Mending:

@@ -70,7 +70,7 @@ fn main() {
     }
 }
 """
-LIBRARIES = ("chess_rules", "chess_text", "pgn_lexer", "pgn_layout", "pgn_game")
+LIBRARIES = ("chess_rules", "chess_text", "pgn_lexer", "pgn_layout", "pgn_game", "pgn_sections")
 # The crates whose calls of the toolchain are renamed. Of the others lines only go.
 RENAMED = ("pgn_tool", "pgn_arguments", "pgn_c")
 # The tests of files, pipes and devices, which are those of the proved program too.

@@ -1,6 +1,8 @@
 //! The structs as the C compiler has them. The test calls it: `CC`, or `cc`.
 
-use crate::{PgnExplanation, PgnGame, PgnMove, PgnPlies, PgnResult, PgnTag, PgnText};
+use crate::{
+    PgnBadGame, PgnExplanation, PgnGame, PgnMove, PgnPlies, PgnResult, PgnSection, PgnTag, PgnText,
+};
 use std::mem::{align_of, align_of_val, size_of, size_of_val};
 use std::path::Path;
 use std::process::Command;
@@ -30,7 +32,21 @@ macro_rules! layout {
     }};
 }
 
-fn structs() -> [Struct; 7] {
+const NO_GAME: PgnBadGame = PgnBadGame {
+    begin: 0,
+    fault: 0,
+    at: 0,
+    comment_at: 0,
+    escapes_at: 0,
+    ends: 0,
+    has_tags: 0,
+    has_movetext: 0,
+    is_behind_text: 0,
+    has_comment: 0,
+    has_escapes: 0,
+};
+
+fn structs() -> [Struct; 9] {
     [
         layout!(
             "pgn_result",
@@ -63,6 +79,19 @@ fn structs() -> [Struct; 7] {
             "pgn_tag",
             PgnTag { status, name_at, name_length, value_at, value_length, next },
             crate::pgn_tag_at(b"", 0)
+        ),
+        layout!(
+            "pgn_bad_game",
+            PgnBadGame {
+                begin, fault, at, comment_at, escapes_at, ends, has_tags, has_movetext,
+                is_behind_text, has_comment, has_escapes
+            },
+            NO_GAME
+        ),
+        layout!(
+            "pgn_section",
+            PgnSection { status, place },
+            crate::pgn_next_section(&mut { NO_GAME }, b"", 1)
         ),
         layout!(
             "pgn_explanation",
@@ -109,5 +138,5 @@ fn the_structs_are_those_of_the_header() {
     let of_c = lines_of_c(&program(&structs), &folder);
     fs::remove_dir_all(&folder).unwrap();
     assert_eq!(lines, of_c);
-    assert_eq!(lines.lines().count(), 7 + 8 + 3 + 6 + 6 + 11 + 6 + 7);
+    assert_eq!(lines.lines().count(), 9 + 8 + 3 + 6 + 6 + 11 + 6 + 11 + 2 + 7);
 }

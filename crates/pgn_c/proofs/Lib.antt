@@ -5,6 +5,7 @@ pub mod MoreBytesBehind
 pub mod PairsOnLines
 pub mod NextGames
 pub mod PlyLines
+pub mod SectionStructs
 pub mod ZerosBehind
 pub mod Words
 pub mod TagSections

@@ -7,3 +7,4 @@ pub mod TagAt
 pub mod TagScan
 pub mod NextGame
 pub mod NextGameSteps
+pub mod NextSection

@@ -17,6 +17,7 @@ ghost use Rattle.pgn_c.specs.Explanation.{explanation};
 ghost use Rattle.pgn_c.specs.Positions.{Normalizes, notation_of, san_result_in};
 ghost use Rattle.pgn_c.specs.LinesOfPlay.{WritesLineIn};
 ghost use Rattle.pgn_c.specs.NextGame.{NextGameIn, ReadGameIn};
+ghost use Rattle.pgn_c.specs.NextSection.{NextSection, ends_with_number, is_set};
 ghost use Rattle.pgn_c.specs.Results.{Checks, Converts, ConvertsIn, mode_of, result_of};
 ghost use Rattle.pgn_c.specs.TagAt.{TagResult};
 
@@ -26,6 +27,7 @@ mod fen;
 mod game_result;
 mod line_of_play;
 mod next_game;
+mod next_section;
 mod pgn_result;
 mod read_game;
 mod san;
@@ -40,6 +42,8 @@ pub use crate::game_result::PgnGame;
 pub use crate::line_of_play::PgnPlies;
 use crate::line_of_play::{no_first_position, no_line_in_notation, write_line};
 use crate::next_game::next_game;
+use crate::next_section::next_section;
+pub use crate::next_section::{PgnBadGame, PgnSection};
 pub use crate::pgn_result::PgnResult;
 use crate::pgn_result::{fault_result, no_mode, totals_result};
 use crate::read_game::read_game;
@@ -225,6 +229,27 @@ pub extern "C" fn pgn_tag_at(text: &[u8], at: usize) -> PgnTag
     ensures { TagResult text.now at result }
 {
     tag_at(text, at)
+}
+
+/// Reads the next piece of the text of a bad game, and finds where reading goes on behind it.
+///
+/// The first piece begins at `begin`, where the game before ends, and `at` is the same place. Each
+/// further one begins at the byte `at` of the text. If `is_last` is not 0, nothing follows the
+/// piece. Places count from the first byte of the text.
+///
+/// - Status 0: the result has the place, which lies above `begin`. It is a guess: the next line
+///   that begins a tag section.
+/// - Status 4: no place is in this text. All the rest belongs to the bad game.
+/// - Status 5: the whole lines of the piece are read. `at` is behind them, and the next piece
+///   begins there.
+/// - Status 3: there are no such `ends`. Nothing was read.
+/// - Status 6: the piece would end at 2^64 or above. Nothing was read.
+#[unsafe(no_mangle)]
+pub extern "C" fn pgn_next_section(game: &mut PgnBadGame, piece: &[u8], is_last: u32) -> PgnSection
+    ensures { NextSection (ends_with_number game.old.ends) game.old piece.now (is_set is_last)
+        game.new result }
+{
+    next_section(game, piece, is_last != 0)
 }
 
 /// Explains what a move's text means in the position of a FEN, also if it is rejected (PGN 8.2.3).

@@ -1,0 +1,3 @@
+mod LastWords
+mod LinesInPieces
+mod ShapeOfText

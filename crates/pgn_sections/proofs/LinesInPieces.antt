@@ -1,0 +1,158 @@
+-- The lines of a text are the first whole line of a piece, and those behind it.
+use Rattle.std.proofs.lemmas.Grind.{common_steps}
+use Rattle.std.proofs.Common.{◌≡◌, ℕ, ◌+◌, ◌-◌, ◌<◌, Bool, true, false, List, [], ◌∷◌, ◌++◌, Option, None, Some, length, drop, take, refl, sym, subst, ◌∙◌, ap, arith, append-nil, ⊎_elim}
+use Rattle.std.proofs.lemmas.Bool.{cases_Bool, false≢true, lt-ltb}
+use Rattle.std.proofs.lemmas.List.{drop_all}
+use Rattle.std.specs.Prelude.{IsTrue, is_some, suc, not, ◌&&◌, ◌==◌, nat_lt, if◌then◌else◌}
+use Rattle.std.specs.List.{list_all}
+use Rattle.pgn_sections.specs.BadGame.{behind_line, place_on, with_line}
+use Rattle.pgn_sections.specs.Bytes.{begins_with, is_space}
+use Rattle.pgn_sections.specs.FirstLine.{line_from, line_to_return}
+use Rattle.pgn_sections.specs.Lines.{ends_line, first_place, lines_of, place_in, with_first}
+use Rattle.pgn_sections.specs.Pieces.{CanFollow, FindsPlace, IsSameGame}
+use Rattle.pgn_sections.specs.declared.bad_game.BadGame.{BadGame}
+
+-- The first line of a piece and what follows it. So many bytes of it are before the piece.
+pub record FirstLine (before end : ℕ) (piece s : List ℕ) : Type 0 where
+  pub above : before < end
+  pub lines : lines_of (piece ++ s) ≡ take (end - before) piece ∷ lines_of (drop (end - before) piece ++ s)
+
+-- one byte before it
+longer : (b before end : ℕ) (u s : List ℕ) → ends_line b (u ++ s) ≡ false → FirstLine (before + 1) end u s → FirstLine before end (b ∷ u) s
+longer b before end u s e h =
+    let n : end - before ≡ suc (end - (before + 1)) = omega (arith, h.above) in
+    record {
+      above = omega (arith, h.above);
+      lines = rw (n, e) (ap (λ (lines : List (List ℕ)). with_first b lines) h.lines);
+    }
+
+-- a line of one byte, and of CR LF
+one : (b before end : ℕ) (u s : List ℕ) → ends_line b (u ++ s) ≡ true → end ≡ before + 1 → FirstLine before end (b ∷ u) s
+one b before end u s e k =
+    let n : end - before ≡ 1 = omega arith in
+    record { above = omega arith; lines = rw (n, e) refl }
+
+-- a single byte at the end of the text
+alone : (b before end : ℕ) → end ≡ before + 1 → FirstLine before end (b ∷ []) []
+alone b before end k =
+    let n : end - before ≡ 1 = omega arith in
+    record { above = omega arith; lines = rw n (elim (ends_line b []) as (λ e. (if e then (b ∷ []) ∷ lines_of [] else with_first b (lines_of [])) ≡ (b ∷ []) ∷ []) [ true ↦ refl | false ↦ refl ]) }
+
+-- a CR at the end of the first line
+at_return : (is_last : Bool) (before b : ℕ) (u s : List ℕ) (end : ℕ) → CanFollow is_last s → (b == 10) ≡ false → (b == 13) ≡ true
+    → line_to_return is_last before u ≡ Some end → FirstLine before end (b ∷ u) s
+at_return true before b [] s end follow n r e =
+    subst (λ (t : List ℕ). FirstLine before end (b ∷ []) t) (sym (follow refl)) (alone b before end cc)
+at_return false before b [] s end follow n r e = absurd cc
+at_return is_last before b (c ∷ u) s end follow n r e =
+    ⊎_elim
+    (λ (lf : (c == 10) ≡ true).
+    let k : Some (before + 1 + 1) ≡ Some end = rw lf at e in
+    let m : end ≡ before + 1 + 1 = cc in
+    longer b before end (c ∷ u) s (rw (n, r, lf) refl) (one c (before + 1) end u s (rw lf refl) m))
+    (λ (other : (c == 10) ≡ false).
+    let k : Some (before + 1) ≡ Some end = rw other at e in
+    let m : end ≡ before + 1 = cc in
+    one b before end (c ∷ u) s (rw (n, r, other) refl) m)
+    (cases_Bool (c == 10))
+
+-- the first byte of a line, if it is known that the line goes on behind a byte that ends none
+first_byte : (is_last : Bool) (before b : ℕ) (u s : List ℕ) (end : ℕ) → CanFollow is_last s → line_from is_last before (b ∷ u) ≡ Some end
+    → ((b == 10) ≡ false → (b == 13) ≡ false → line_from is_last (before + 1) u ≡ Some end → FirstLine before end (b ∷ u) s)
+    → FirstLine before end (b ∷ u) s
+first_byte is_last before b u s end follow e on =
+    ⊎_elim
+    (λ (lf : (b == 10) ≡ true).
+    let k : Some (before + 1) ≡ Some end = rw lf at e in
+    let m : end ≡ before + 1 = cc in
+    one b before end u s (rw lf refl) m)
+    (λ (n : (b == 10) ≡ false).
+    ⊎_elim
+    (λ (r : (b == 13) ≡ true). at_return is_last before b u s end follow n r (rw (n, r) at e))
+    (λ (r : (b == 13) ≡ false). on n r (rw (n, r) at e))
+    (cases_Bool (b == 13)))
+    (cases_Bool (b == 10))
+
+-- the last byte of a piece
+last_byte : (is_last : Bool) (before b : ℕ) (s : List ℕ) (end : ℕ) → CanFollow is_last s → line_from is_last (before + 1) [] ≡ Some end
+    → FirstLine before end (b ∷ []) s
+last_byte true before b s end follow e =
+    let some : nat_lt 0 (before + 1) ≡ true = lt-ltb 0 (before + 1) (omega arith) in
+    let k : Some (before + 1) ≡ Some end = rw some at e in
+    subst (λ (t : List ℕ). FirstLine before end (b ∷ []) t) (sym (follow refl)) (alone b before end cc)
+last_byte false before b s end follow e = absurd cc
+
+first_line : (is_last : Bool) (before b : ℕ) (u s : List ℕ) (end : ℕ) → CanFollow is_last s → line_from is_last before (b ∷ u) ≡ Some end
+    → FirstLine before end (b ∷ u) s
+first_line is_last before b [] s end follow e =
+    first_byte is_last before b [] s end follow e (λ n r k. last_byte is_last before b s end follow k)
+first_line is_last before b (c ∷ u) s end follow e =
+    first_byte is_last before b (c ∷ u) s end follow e (λ n r k.
+    longer b before end (c ∷ u) s (rw (n, r) refl) (first_line is_last (before + 1) c u s end follow k))
+
+-- The lines from a piece on are its first whole line and those behind it.
+pub whole_line : (is_last : Bool) (u s : List ℕ) (end : ℕ) → CanFollow is_last s → line_from is_last 0 u ≡ Some end
+    → lines_of (u ++ s) ≡ take end u ∷ lines_of (drop end u ++ s)
+whole_line true [] s end follow e = absurd cc
+whole_line false [] s end follow e = absurd cc
+whole_line is_last (b ∷ u) s end follow e =
+    let h = first_line is_last 0 b u s end follow e in
+    let n : end - 0 ≡ end = omega arith in
+    rw n at h.lines
+
+-- a line of the last piece is whole
+some_line : (before b : ℕ) (u : List ℕ) → line_from true before (b ∷ u) ≡ None → ⊥
+some_line before b [] e = grind (arith, common_steps, lt-ltb)
+some_line before b (c ∷ u) e = grind (arith, common_steps, some_line (before + 1) c u)
+
+-- behind the last line of the last piece no byte is left
+pub no_line : (is_last : Bool) (u : List ℕ) → IsTrue is_last → line_from is_last 0 u ≡ None → u ≡ []
+no_line true [] h e = refl
+no_line true (b ∷ u) h e = absurd (some_line 0 b u e)
+no_line false u h e = absurd (false≢true h)
+
+-- the first whole line shows a place, or none
+first_place_is : (g : BadGame) (is_last : Bool) (u s line : List ℕ) (n : ℕ) (found : Option ℕ) → CanFollow is_last s → line_from is_last 0 u ≡ Some n
+    → line ≡ take n u → place_on g line ≡ found → place_in g (lines_of (u ++ s)) ≡ first_place found (place_in (behind_line g line) (lines_of (drop n u ++ s)))
+first_place_is g is_last u s line n found follow e l p =
+    ap (λ (lines : List (List ℕ)). place_in g lines) (whole_line is_last u s n follow e)
+    ∙ ap (λ (t : List ℕ). first_place (place_on g t) (place_in (behind_line g t) (lines_of (drop n u ++ s)))) (sym l)
+    ∙ ap (λ (o : Option ℕ). first_place o (place_in (behind_line g line) (lines_of (drop n u ++ s)))) p
+
+pub shows : (g : BadGame) (is_last : Bool) (u s line : List ℕ) (n place : ℕ) → CanFollow is_last s → line_from is_last 0 u ≡ Some n
+    → line ≡ take n u → place_on g line ≡ Some place → place_in g (lines_of (u ++ s)) ≡ Some place
+shows g is_last u s line n place follow e l p = first_place_is g is_last u s line n (Some place) follow e l p
+
+pub passes : (g : BadGame) (is_last : Bool) (u s line : List ℕ) (n : ℕ) → CanFollow is_last s → line_from is_last 0 u ≡ Some n
+    → line ≡ take n u → place_on g line ≡ None → place_in g (lines_of (u ++ s)) ≡ place_in (behind_line g line) (lines_of (drop n u ++ s))
+passes g is_last u s line n follow e l p = first_place_is g is_last u s line n None follow e l p
+
+same_of_both : (b : Bool) (g x y : BadGame) → IsSameGame g x → IsSameGame g y → IsSameGame g (if b then x else y)
+same_of_both true g x y p q = p
+same_of_both false g x y p q = q
+
+kept : (g : BadGame) (line : List ℕ) → IsSameGame g (with_line g line)
+kept g line =
+    same_of_both (list_all is_space line) g _ _ (record { begin = refl; fault = refl; ends = refl })
+    (same_of_both (not (is_some g.comment_at) && begins_with 37 line) g _ _ (record { begin = refl; fault = refl; ends = refl })
+    (same_of_both (is_some g.comment_at) g _ _ (record { begin = refl; fault = refl; ends = refl }) (record { begin = refl; fault = refl; ends = refl })))
+
+-- a line leaves the game the same
+pub same_behind : (first g new : BadGame) (line : List ℕ) → new ≡ behind_line g line → IsSameGame first g → IsSameGame first new
+same_behind first g new line e h =
+    let k = kept g line in
+    record {
+      begin = ap (λ (m : BadGame). m.begin) e ∙ k.begin ∙ h.begin;
+      fault = ap (λ (m : BadGame). m.fault) e ∙ k.fault ∙ h.fault;
+      ends = ap (λ (m : BadGame). m.ends) e ∙ k.ends ∙ h.ends;
+    }
+
+-- a text in one piece
+pub finds_all : (g new : BadGame) (text : List ℕ) (result : Option ℕ) → FindsPlace g text true result new → result ≡ place_in g (lines_of text)
+finds_all g new text None h =
+    let end : new.at - g.at ≡ length text = omega (arith, h.whole refl refl) in
+    let e = h.place [] (λ _. refl) in
+    sym (rw (append-nil text, append-nil (drop (new.at - g.at) text), end, drop_all (length text) text (omega arith)) at e)
+finds_all g new text (Some place) h =
+    let e = h.place [] (λ _. refl) in
+    sym (rw (append-nil text) at e)

@@ -1,0 +1,41 @@
+-- What the code keeps of a text has what is seen of the text.
+use Rattle.std.proofs.lemmas.Grind.{common_steps}
+use Rattle.std.proofs.Common.{◌≡◌, ℕ, ◌||◌, List, [], ◌∷◌, None, Some, refl, arith}
+use Rattle.std.specs.List.{list_any}
+use Rattle.pgn_sections.specs.Outside.{first_text, last_text, number_at_front, number_behind_bracket, outside_text, ends_with_marker, last_word}
+use Rattle.pgn_sections.specs.Shape.{begun, shape_over, shape_with, text_of_shape}
+use Rattle.pgn_sections.specs.declared.outside.Shape.{Shape}
+use Rattle.std.specs.Prelude.{true, ◌==◌}
+
+first_kept : (a : Shape) (b : ℕ) (s : List ℕ) → a.first ≡ Some b → (shape_over a s).first ≡ Some b
+first_kept a b [] e = e
+first_kept a b (c ∷ s) e = first_kept (shape_with a c) b s (grind (arith, common_steps))
+
+first_is : (a : Shape) (s : List ℕ) → a.first ≡ None → (shape_over a s).first ≡ first_text s
+first_is a [] e = e
+first_is a (c ∷ s) e = grind (arith, common_steps, first_is (shape_with a c) s, first_kept (shape_with a c) c s)
+
+last_is : (a : Shape) (s : List ℕ) → (shape_over a s).last ≡ last_text a.last s
+last_is a [] = refl
+last_is a (c ∷ s) = last_is (shape_with a c) s
+
+bracket_is : (a : Shape) (s : List ℕ) → (shape_over a s).has_bracket ≡ (a.has_bracket || list_any (λ b. b == 93) s)
+bracket_is a [] = grind (arith, common_steps)
+bracket_is a (c ∷ s) = grind (arith, common_steps, bracket_is (shape_with a c) s)
+
+number_is : (a : Shape) (s : List ℕ) → (shape_over a s).number ≡ number_at_front a.number s
+number_is a [] = refl
+number_is a (c ∷ s) = number_is (shape_with a c) s
+
+number_behind_is : (a : Shape) (s : List ℕ) → (shape_over a s).number_behind_bracket ≡ number_behind_bracket a.number_behind_bracket s
+number_behind_is a [] = refl
+number_behind_is a (c ∷ s) = number_behind_is (shape_with a c) s
+
+pub text_is : (s : List ℕ) → text_of_shape (shape_over begun s) (ends_with_marker (last_word [] true s)) ≡ outside_text s
+text_is s =
+    let first = first_is begun s refl in
+    let last = last_is begun s in
+    let bracket = bracket_is begun s in
+    let number = number_is begun s in
+    let behind = number_behind_is begun s in
+    rw (first, last, bracket, number, behind) refl

@@ -1,0 +1,145 @@
+#!/usr/bin/env python3
+"""Tests of the call pgn_next_section, against the rule as section_rule.py has it from its words.
+
+The texts are those of fuzz/corpus, the worked inputs, the examples, games as bench/ makes them, and
+mutations of all of these, from a seed.
+"""
+import glob
+import importlib
+import os
+import random
+import sys
+import unittest
+
+sys.path.insert(0, os.path.dirname(os.path.realpath(__file__)))
+import section_rule
+from programs import ROOT, run, vectors
+from test_python import PACKAGE, library
+
+SEED = 20261128
+MUTATIONS = 10000
+# What a mutation puts into a text.
+PARTS = [
+    b"[", b"]", b"{", b"}", b";", b"%", b"\n", b"\r", b"\r\n", b"\n\n", b'"', b"\\", b" ", b"\t",
+    b"\x0b", b"\x00", b"\x7f", b"\xef", b"\xbb", b"\xbf", b"\xef\xbb\xbf", b"1-0", b"0-1",
+    b"1/2-1/2", b"*", b"1.", b"12 .", b"[Event ", b'[Event "a"]', b'[White "Ada"]\n', b"[%clk 1]",
+    b"\n% a\n", b"e4", b"{a}", b"\n[", b'\n\n[Event "x"]\n\n1. e4', b'\n{\n[White "a"]\n', b"x]",
+    b"\x85", b"\xa0", b"_", b"\xe9"]
+
+
+def setUpModule():
+    global calls
+    os.environ["GILLSPOON_LIBRARY"] = library()
+    sys.path.insert(0, PACKAGE)
+    calls = importlib.import_module("gillspoon._library")
+
+
+def texts():
+    """The texts without mutations. Of a long one the rule reads the front."""
+    for name in sorted(glob.glob(ROOT + "/fuzz/corpus/*") + glob.glob(ROOT + "/examples/*.pgn")):
+        with open(name, "rb") as file:
+            yield file.read()
+    for row in vectors():
+        if "input" in row:
+            yield row["input"].encode()
+    for style in ("plain", "annotated", "server"):
+        words = [sys.executable, "bench/make_archive.py", "--games", "60", "--style", style]
+        made = run(words, timeout=300).stdout
+        for at in range(0, len(made), 2000):
+            yield made[at:at + 2500]
+
+
+def mutated(text, chance):
+    """A text with some changes."""
+    text = bytearray(text)
+    for _ in range(chance.randint(1, 12)):
+        at, kind = chance.randint(0, len(text)), chance.random()
+        if kind < 0.6:
+            text[at:at] = chance.choice(PARTS)
+        elif kind < 0.8:
+            del text[at:at + chance.randint(1, 6)]
+        elif kind < 0.9:
+            begin = chance.randint(0, len(text))
+            text[at:at] = text[begin:begin + chance.randint(1, 30)]
+        else:
+            text[at:at + 1] = chance.choice(PARTS)
+    return bytes(text)
+
+
+def whole(text, begin, fault, ends):
+    """What the call says of a text in one piece: the place or None, and the game then."""
+    game = calls.BadGame(begin=begin, fault=fault, at=begin, ends=ends)
+    found = calls.next_section(game, text[begin:], len(text) - begin, True)
+    return {calls.OK: found.place, calls.NO_GAME: None}[found.status], game
+
+
+def in_pieces(text, begin, fault, chance):
+    """The place of a text in pieces of any length, or None."""
+    game = calls.BadGame(begin=begin, fault=fault, at=begin)
+    end, status = begin, calls.MORE
+    while status == calls.MORE:
+        end = min(len(text), max(end, game.at) + chance.choice((1, 2, 3, 7, 40, 200)))
+        piece = text[game.at:end]
+        found = calls.next_section(game, piece, len(piece), end == len(text))
+        status = found.status
+    return {calls.OK: found.place, calls.NO_GAME: None}[status]
+
+
+class Rule(unittest.TestCase):
+    def check(self, text, chance):
+        begin = chance.choice((0, chance.randint(0, len(text))))
+        fault = chance.choice((begin, chance.randint(begin, len(text)), len(text)))
+        wanted = section_rule.next_section(text, begin, fault)
+        place, _ = whole(text, begin, fault, calls.ENDS_ANYWHERE)
+        self.assertEqual(place, wanted, (text, begin, fault))
+        self.assertEqual(in_pieces(text, begin, fault, chance), wanted, (text, begin, fault))
+        hidden, _ = whole(text, 0, len(text), calls.ENDS_IN_COMMENTS)
+        self.assertEqual(hidden, section_rule.hidden_game(text), text)
+        none, game = whole(text, 0, 0, calls.ENDS_NOWHERE)
+        self.assertIsNone(none)
+        opened = game.comment_at if game.has_comment else None
+        self.assertEqual(opened, section_rule.open_comment(text), text)
+        return wanted
+
+    def test_texts_and_mutations(self):
+        chance = random.Random(SEED)
+        given = [text[:2500] for text in texts()]
+        tried = given + [mutated(chance.choice(given), chance) for _ in range(MUTATIONS)]
+        found = sum(self.check(text, chance) is not None for text in tried)
+        # many texts have a place, and many have none
+        self.assertGreater(min(found, len(tried) - found), len(tried) // 10)
+
+    def test_short_texts(self):
+        chance = random.Random(SEED)
+        for _ in range(MUTATIONS):
+            parts = [chance.choice(PARTS) for _ in range(chance.randint(1, 25))]
+            self.check(b"".join(parts), chance)
+
+
+class Statuses(unittest.TestCase):
+    def test_other_ends_are_refused(self):
+        game = calls.BadGame(ends=3)
+        found = calls.next_section(game, b"", 0, True)
+        self.assertEqual((found.status, found.place), (calls.NO_MODE, 0))
+
+    def test_a_piece_behind_the_last_place_is_refused(self):
+        last = 2 ** 64 - 1
+        for length, status in ((1, calls.BAD_PLACE), (0, calls.NO_GAME)):
+            game = calls.BadGame(begin=0, at=last)
+            found = calls.next_section(game, b"e" * length, length, True)
+            self.assertEqual((found.status, found.place, game.at), (status, 0, last))
+
+    def test_fields_behind_a_piece(self):
+        text = b'[White "a"x]\n% b\n1. e4 {c\nd'
+        game = calls.BadGame()
+        found = calls.next_section(game, text, len(text), False)
+        self.assertEqual((found.status, found.place), (calls.MORE, 0))
+        got = {name: getattr(game, name) for name, _ in calls.BadGame._fields_}
+        self.assertEqual(got, {
+            "begin": 0, "fault": 0, "at": 26, "comment_at": 23, "escapes_at": 0, "ends": 0,
+            "has_tags": 1, "has_movetext": 1, "is_behind_text": 1, "has_comment": 1,
+            "has_escapes": 0})
+
+
+if __name__ == "__main__":
+    unittest.main()
