@@ -34,7 +34,7 @@ enum {
     PGN_OK = 0,     /* done */
     PGN_FAULT = 1,  /* the text has a fault */
     PGN_FULL = 2,   /* the buffer is too short */
-    PGN_NO_MODE = 3, /* there is no such mode or notation; nothing was written */
+    PGN_NO_MODE = 3, /* an argument has no such value; nothing was written */
     PGN_NO_GAME = 4, /* no game is left in the text */
     PGN_MORE = 5,    /* a fault if the text ends here: a caller who reads in chunks gives more */
     PGN_BAD_PLACE = 6 /* the place is behind the text or above 2^62; nothing was written */
@@ -276,8 +276,9 @@ pgn_plies pgn_line(const uint8_t *fen, size_t fen_length, const uint8_t *text, s
  * PGN_NO_MODE: `mode` or `missing_result` is neither 0 nor 1.
  * PGN_BAD_PLACE: `from` is greater than `length` or than 2^62, and the status is not PGN_NO_MODE.
  *
- * With PGN_RESULT_FROM_MARKER nothing is written with PGN_FAULT and PGN_MORE, and PGN_FULL is only
- * for a game without a fault. The bytes of the buffer behind the first `written` are as they were.
+ * With PGN_RESULT_FROM_MARKER the game is first read without being written. So nothing is written
+ * with PGN_FAULT and PGN_MORE, and PGN_FULL is only for a game without a fault. The bytes of the
+ * buffer behind the first `written` are as they were.
  */
 pgn_game pgn_next_game(const uint8_t *text, size_t length, size_t from, uint32_t mode,
                        uint32_t missing_result, uint8_t *buffer, size_t capacity);

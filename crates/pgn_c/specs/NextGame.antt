@@ -2,7 +2,7 @@
 -- Letters: p is the profile, g a game, f a fault. `text` is the text of a call, and `from` the
 -- place where it is read from. s is that text with white space in place of the bytes before this
 -- place, and `piece` has its bytes from the place on. `found` is the result before its bytes
--- written are counted. `before` and `after` are the bytes that were written, before the call and
+-- written are counted, or that of a reading that writes nothing. `before` and `after` are the bytes that were written, before the call and
 -- after it, if they are kept; from `ConvertsNext` on they are the bytes of the buffer.
 use Rattle.std.specs.Prelude.{◌≡◌, ◌≢◌, ℕ, ◌+◌, ◌-◌, ◌^◌, ◌<◌, ◌≤◌, ◌==◌, ◌||◌, ◌&&◌, ◌⊎◌, Bool, List, [], ◌∷◌, ◌++◌, length, take, drop, slice_index_or, decimal, Option, Some, None}
 use Rattle.std.specs.Io.KnownBytes.{Appends}
@@ -117,8 +117,9 @@ pub record HasNoGame (p : Profile) (s : List ℕ) (result : PgnGame) (before aft
   pub wrote : Appends before after []
   pub is_result : result ≡ nothing 4
 
--- A token of the first game is rejected, and the bytes before place 2^62 decide it. What is due for
--- the tokens before it is written. The status is 1, since `WriteFault` is the reason of no token.
+-- A token before the end of any game is rejected, and the bytes before place 2^62 decide it. What
+-- is due for the tokens before it is written. The status is 1, since `WriteFault` is the reason of
+-- no token.
 pub record IsRejected (p : Profile) (s : List ℕ) (result : PgnGame) (before after : Option (List ℕ)) : Type 0 where
   pub fault : Fault
   pub tokens : List Token
@@ -176,7 +177,7 @@ pub record IsTooLong (p : Profile) (s piece : List ℕ) (result : PgnGame) (befo
 -- - `game`: a game.
 -- - `no_game`: no game is left.
 -- - `rejected`: a token of the game is rejected, whatever comes after the text.
--- - `needs_more`: the game has no end in the text, but may have one if the text goes on.
+-- - `needs_more`: no token is rejected so far, but one is if the text ends here.
 -- - `full`: the buffer is full.
 -- - `too_long`: the text has a byte at place 2^62, and those before it hold no game.
 pub data NextOf (p : Profile) (s piece : List ℕ) (result : PgnGame) (before after : Option (List ℕ)) : Type 0 where
@@ -204,7 +205,7 @@ pub record ConvertsNext (p : Profile) (text : List ℕ) (from : ℕ) (before aft
   pub full : result.status ≡ 2 → length written ≡ length before
   pub is_result : result ≡ record found { written = length written }
 
--- the next game is read, and nothing is written
+-- the next game is read; of what is written nothing is said
 abbrev pub ReadsNext : Profile → List ℕ → ℕ → PgnGame → Type 0
 ReadsNext p text from found = NextOf p (text_from text from) (drop from text) found None None
 
@@ -212,8 +213,8 @@ ReadsNext p text from found = NextOf p (text_from text from) (drop from text) fo
 abbrev pub profile_taking : Mode → Profile
 profile_taking mode = checked_profile 64 32 mode
 
--- A game in which a missing Result takes the marker: the first tokens of the text, of which `at` is
--- its marker, are read into it. The bytes before place 2^62 show them. The buffer begins with the
+-- A game in which a missing Result takes the marker: the first tokens of the text, up to `at`, are
+-- read into it, and into no other game. The bytes before place 2^62 show them. The buffer begins with the
 -- export text of the game, and its other bytes are as they were.
 pub record TakesMarker (mode : Mode) (s : List ℕ) (before after : List ℕ) (result : PgnGame) : Type 0 where
   pub tokens : List Token

@@ -18,7 +18,7 @@ use Rattle.pgn_c.specs.NextGame.{NextOf, in_first_column, profile_counting, prof
 abbrev pub BeginsAt : Profile → List ℕ → ℕ → Converter → Type 0
 BeginsAt p text from c = Stands p c (white_space from (in_first_column text from)) None []
 
--- if a game is found, it is the one that the converter has just finished
+-- if a game is found, it is the one that the converter, which reads by p, has just finished
 abbrev pub Holds : {p : Profile} {s piece : List ℕ} {found : PgnGame} {before after : Option (List ℕ)}
     → NextOf p s piece found before after → Converter → Type 0
 Holds {p} (NextOf.game is) c = (c.reading.profile ≡ p) × (c.just_finished ≡ Some (finished_game_of is.game))
@@ -49,6 +49,6 @@ abbrev pub BeginsSilently : (takes_marker : Bool) → Mode → Converter → Con
 BeginsSilently takes_marker mode old new =
     (text : List ℕ) (from : ℕ) → BeginsAt (profile_counting mode Unknown) text from old → BeginsAt (profile_if takes_marker mode) text from new
 
--- the next game is read, and nothing is written
+-- the next game is read; of what is written nothing is said
 abbrev pub ReadsTo : Profile → List ℕ → ℕ → PgnGame → Converter → Type 0
 ReadsTo p text from found new = Finds p (text_from text from) (drop from text) found new None None

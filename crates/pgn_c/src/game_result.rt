@@ -16,17 +16,17 @@ use pgn_game::{Converter, Fault, Marker, Reason};
 
 /// No game is left.
 pub const NO_GAME: u32 = 4;
-/// The text ends inside a game.
+/// The text has a fault only if it ends here.
 pub const MORE: u32 = 5;
-/// The place is not in the text.
+/// The place is behind the text, or above 2^62.
 pub const BAD_PLACE: u32 = 6;
 
 /// The next game of a text, `struct pgn_game` in C.
 #[repr(C)]
 #[derive(Clone, Copy)]
 pub struct PgnGame {
-    /// 0: a game. 1: it has a fault. 2: the buffer is full. 3: there is no such mode. 4: no game is
-    /// left. 5: the text ends inside a game. 6: `from` is no place of the text.
+    /// 0: a game. 1: a fault. 2: the buffer is full. 3: an argument has no such value. 4: no game is
+    /// left. 5: the fault is there only if the text ends here. 6: `from` is behind the text.
     pub status: u32,
     /// The number of the fault, 1 to 52; 0 where there is none.
     pub fault: u32,

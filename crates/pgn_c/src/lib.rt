@@ -178,8 +178,8 @@ pub extern "C" fn pgn_line(fen: &[u8], text: &[u8], notation: u32, buffer: &mut 
 /// - Status 2: the buffer is full.
 /// - Status 3: there is no such mode. Nothing was read or written.
 /// - Status 4: no game is left.
-/// - Status 5: the text ends inside a game. If it is whole, this is its fault.
-/// - Status 6: the place is not in the text, or above 2^62. Nothing was read or written.
+/// - Status 5: no token is rejected so far. If the text ends here, this is its fault.
+/// - Status 6: the place is behind the text, or above 2^62. Nothing was read or written.
 #[unsafe(no_mangle)]
 pub extern "C" fn pgn_next_game(
     text: &[u8],

@@ -406,8 +406,8 @@ reading_by_marker c =
 
 -- What `take_marker_for_missing_result` does to a converter that has read no token yet: it stands
 -- after the same bytes as before, by the profile in which a missing Result takes the marker.
-abbrev pub TakesMarkers : Converter → Converter → Type 0
-TakesMarkers old new =
+abbrev pub ReadsByMarker : Converter → Converter → Type 0
+ReadsByMarker old new =
     (p : Profile) (u : List ℕ) (b : Option ℕ)
     → Stands p old u b [] → Stands (with_missing p takes_the_marker) new u b []
 

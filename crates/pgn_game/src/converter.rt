@@ -25,7 +25,7 @@ ghost use Rattle.pgn_game.specs.ConverterCalls.{refused_position};
 ghost use Rattle.pgn_game.specs.ConverterCalls.{CountsMissingAs, counting_missing_as};
 ghost use Rattle.pgn_game.specs.ReaderState.{KeepsSilence, as_written, sink_of, whole_plies};
 ghost use Rattle.pgn_game.specs.ConverterCalls.{NoWriteFails, StillStands, writing_nothing};
-ghost use Rattle.pgn_game.specs.ConverterCalls.{TakesMarkers, reading_by_marker};
+ghost use Rattle.pgn_game.specs.ConverterCalls.{ReadsByMarker, reading_by_marker};
 
 use crate::marker::{Mark, Marker, MissingResult};
 use crate::mode::Mode;
@@ -181,8 +181,8 @@ impl<const T: usize, const L: usize> Converter<T, L> {
 
     /// From now on a game without a Result pair counts as having this one.
     ///
-    /// A new converter counts a missing Result as `*`. Call this before the first byte is fed:
-    /// nothing is ensured of games that had begun by then.
+    /// A new converter counts a missing Result as `*`. Call this before the first byte is fed: once
+    /// a token was read, nothing is ensured of the games, later ones among them.
     ///
     /// # Examples
     ///
@@ -201,12 +201,13 @@ impl<const T: usize, const L: usize> Converter<T, L> {
             .count_missing_result_as(MissingResult::CountsAs(marker));
     }
 
-    /// From now on no call touches its sink.
+    /// From now on no call of `feed` or `finish` touches its sink.
     ///
     /// Games, plies, tags, positions and faults with their places are those of a converter that
     /// writes. But no call returns `Reason::WriteFault`, unless one did before. `most_probes`
     /// counts only the pairs that are tried to find moves, at most 8 for each. Call this before the
-    /// first byte is fed: nothing else is ensured of a game that had begun.
+    /// first byte is fed: once a token was read, nothing else is ensured of the games, later ones
+    /// among them.
     ///
     /// # Examples
     ///
@@ -227,12 +228,13 @@ impl<const T: usize, const L: usize> Converter<T, L> {
         self.reader.write_nothing();
     }
 
-    /// From now on a missing Result takes the marker that ends its game, and no call touches its
-    /// sink, since a tag section is written before the marker is known.
+    /// From now on a missing Result takes the marker that ends its game, and nothing is written.
     ///
-    /// `tag` and `write_tags` give such a Result once the game is finished. All else is as
-    /// `write_nothing` says. Call this before the first byte is fed: nothing else is ensured of a
-    /// game that had begun.
+    /// A tag section is written before its game's marker is known, so this is also a
+    /// `write_nothing`. `tag` and `write_tags` give such a Result once the game is finished. A later
+    /// `count_missing_result_as` sets another Result, and still nothing is written. Call this before
+    /// the first byte is fed: once a token was read, nothing else is ensured of the games, later
+    /// ones among them.
     ///
     /// # Examples
     ///
@@ -246,13 +248,14 @@ impl<const T: usize, const L: usize> Converter<T, L> {
     /// ```
     pub fn take_marker_for_missing_result(&mut self)
         ensures only_switch { self.new ≡ reading_by_marker self.old }
-        ensures stands { TakesMarkers self.old self.new }
+        ensures stands { ReadsByMarker self.old self.new }
     {
         self.take_told_marker();
         self.write_nothing();
     }
 
-    /// From now on a missing Result takes the marker that `tell` gives, and that ends its game.
+    /// From now on a missing Result takes the marker that ends its game. A converter that writes is
+    /// told that marker before (`tell`).
     pub(crate) fn take_told_marker(&mut self)
         ensures { self.new ≡ taking_marker self.old }
     {

@@ -70,9 +70,9 @@ impl<const T: usize, const L: usize> Games<T, L> {
         }
     }
 
-    /// From now on no call touches its sink, as after `Converter::write_nothing`.
+    /// From now on no call of `next` touches its sink, as after `Converter::write_nothing`.
     ///
-    /// Call this before the first game is read: nothing else is ensured of a game that had begun.
+    /// Call this before the first game is read: after that nothing else is ensured of the games.
     pub fn write_nothing(&mut self)
         ensures only_switch { self.new
             ≡ games_of (writing_nothing self.old.converter) self.old.unused }

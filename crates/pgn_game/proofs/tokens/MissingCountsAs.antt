@@ -2,7 +2,7 @@
 use Rattle.pgn_game.proofs.Words.{Agrees, HoldsText, Stage, Between, StillStands, silenced, writing_nothing, Fault, Profile, ◌≡◌, Bool, true, false, [], ℕ, Option, refl, Standing, Marker, marker_text, counting, HasRead, takes_the_marker, with_missing, no_part, ap}
 use Rattle.pgn_game.proofs.Words.{ReaderState, Converter, CountsMissingAs, IsSound, counting_missing_as, game_in_reader_if, MostTried, none, rules}
 use Rattle.pgn_game.specs.ConverterSteps.{taking_marker}
-use Rattle.pgn_game.specs.ConverterCalls.{TakesMarkers, reading_by_marker}
+use Rattle.pgn_game.specs.ConverterCalls.{ReadsByMarker, reading_by_marker}
 use Rattle.pgn_game.proofs.twice.MarkerCounts.{agrees_under}
 
 abbrev pub reader_counting : Marker → ReaderState → ReaderState
@@ -72,7 +72,7 @@ reads_taking p c h =
     }
 
 -- or where it takes the marker, and nothing is written
-pub stands_by_marker : (c : Converter) → TakesMarkers c (reading_by_marker c)
+pub stands_by_marker : (c : Converter) → ReadsByMarker c (reading_by_marker c)
 stands_by_marker c p u b stands =
     record { known = λ writes. absurd (cc); lexer = stands.lexer; has_read = reads_silently _ (taking_marker c) (reads_taking p c stands.has_read) }
 

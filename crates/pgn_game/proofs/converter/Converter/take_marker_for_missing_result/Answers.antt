@@ -1,5 +1,5 @@
 use Rattle.std.proofs.Common.{sym, ap, subst, ◌∙◌}
-use Rattle.pgn_game.specs.ConverterCalls.{TakesMarkers, writing_nothing}
+use Rattle.pgn_game.specs.ConverterCalls.{ReadsByMarker, writing_nothing}
 use Rattle.pgn_game.proofs.tokens.MissingCountsAs.{stands_by_marker}
 use Rattle.pgn_game.proofs.converter.Converter.take_marker_for_missing_result.Goals as goal
 
@@ -8,4 +8,4 @@ returns-clause-only_switch g c = c.write_nothing.ensures.only_switch ∙ ap writ
 
 pub returns-clause-stands : goal.returns-clause-stands
 returns-clause-stands g c =
-    subst (TakesMarkers c.args.self.now) (sym (returns-clause-only_switch g c)) (stands_by_marker c.args.self.now)
+    subst (ReadsByMarker c.args.self.now) (sym (returns-clause-only_switch g c)) (stands_by_marker c.args.self.now)
