@@ -2,8 +2,9 @@
 -- Letters: p is the profile, g a game, f a fault. `text` is the text of a call, and `from` the
 -- place where it is read from. s is that text with white space in place of the bytes before this
 -- place, and `piece` has its bytes from the place on. `found` is the result before its bytes
--- written are counted, or that of a reading that writes nothing. `before` and `after` are the bytes that were written, before the call and
--- after it, if they are kept; from `ConvertsNext` on they are the bytes of the buffer.
+-- written are counted, or that of a reading that writes nothing. `before` and `after` are the bytes
+-- that were written, before the call and after it, if they are kept; from `ConvertsNext` on they
+-- are the bytes of the buffer.
 use Rattle.std.specs.Prelude.{◌≡◌, ◌≢◌, ℕ, ◌+◌, ◌-◌, ◌^◌, ◌<◌, ◌≤◌, ◌==◌, ◌||◌, ◌&&◌, ◌⊎◌, Bool, List, [], ◌∷◌, ◌++◌, length, take, drop, slice_index_or, decimal, Option, Some, None}
 use Rattle.std.specs.Io.KnownBytes.{Appends}
 use Rattle.chess_rules.specs.declared.position.Parts.{Parts}
@@ -214,8 +215,8 @@ abbrev pub profile_taking : Mode → Profile
 profile_taking mode = checked_profile 64 32 mode
 
 -- A game in which a missing Result takes the marker: the first tokens of the text, up to `at`, are
--- read into it, and into no other game. The bytes before place 2^62 show them. The buffer begins with the
--- export text of the game, and its other bytes are as they were.
+-- read into it, and into no other game. The bytes before place 2^62 show them. The buffer begins
+-- with the export text of the game, and its other bytes are as they were.
 pub record TakesMarker (mode : Mode) (s : List ℕ) (before after : List ℕ) (result : PgnGame) : Type 0 where
   pub tokens : List Token
   pub at : Token

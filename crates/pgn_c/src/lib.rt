@@ -176,7 +176,7 @@ pub extern "C" fn pgn_line(fen: &[u8], text: &[u8], notation: u32, buffer: &mut 
 /// - Status 1: a token of the game is rejected, whatever comes behind the text. Or the text has a
 ///   byte at place 2^62, and those before it hold no game.
 /// - Status 2: the buffer is full.
-/// - Status 3: there is no such mode. Nothing was read or written.
+/// - Status 3: there is no such mode or missing Result. Nothing was read or written.
 /// - Status 4: no game is left.
 /// - Status 5: no token is rejected so far. If the text ends here, this is its fault.
 /// - Status 6: the place is behind the text, or above 2^62. Nothing was read or written.

@@ -231,10 +231,9 @@ impl<const T: usize, const L: usize> Converter<T, L> {
     /// From now on a missing Result takes the marker that ends its game, and nothing is written.
     ///
     /// A tag section is written before its game's marker is known, so this is also a
-    /// `write_nothing`. `tag` and `write_tags` give such a Result once the game is finished. A later
-    /// `count_missing_result_as` sets another Result, and still nothing is written. Call this before
-    /// the first byte is fed: once a token was read, nothing else is ensured of the games, later
-    /// ones among them.
+    /// `write_nothing`. `tag` and `write_tags` give such a Result once the game is finished. Call
+    /// this before the first byte is fed: once a token was read, nothing else is ensured of the
+    /// games, later ones among them.
     ///
     /// # Examples
     ///
