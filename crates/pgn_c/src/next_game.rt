@@ -2,6 +2,7 @@
 ghost use Rattle.std.specs.Prelude.{◌≡◌, ◌≢◌, ◌≤◌, ◌^◌, None, false, length, drop};
 ghost use Rattle.pgn_layout.specs.Device.{FailsOnce, one_more};
 ghost use Rattle.pgn_game.specs.ReaderState.{sink_of};
+ghost use Rattle.pgn_game.specs.declared.marker.Marker.TheVariants.{Unknown};
 ghost use Rattle.pgn_c.specs.NextGame.{ChecksNext, ConvertsNext, NextGameIn, NextOf, ReadsNext};
 ghost use Rattle.pgn_c.specs.NextGame.{profile_counting, profile_taking, text_from};
 ghost use Rattle.pgn_c.specs.NextGameSteps.{BeginsAt, BeginsSilently, ReadsTo, RunsNext};
@@ -76,25 +77,28 @@ fn read_by_marker(text: &[u8], from: usize, mode: Mode) -> PgnGame
     ensures next { ReadsNext (profile_taking mode) text.now from result }
     ensures not_full { result.status ≢ 2 }
 {
-    let mut converter = Converter::<TAGS, LEVELS>::new(mode);
-    read_silently(text, from, mode, true, &mut converter)
+    let mut converter = converter_at(text, from, mode, Marker::Unknown);
+    read_silently(&mut converter, text, from, true)
 }
 
-/// Reads the next game, and writes nothing. A missing Result takes the marker, or counts as `*`.
-/// The converter is made anew, and then holds the game.
+/// Reads the next game with a converter that begins at the place and counts a missing Result as
+/// `*`, and writes nothing. From now on a missing Result takes the marker, or still counts as `*`.
+#[inline(always)]
 pub fn read_silently(
+    converter: &mut Converter<TAGS, LEVELS>,
     text: &[u8],
     from: usize,
-    mode: Mode,
     takes_marker: bool,
-    converter: &mut Converter<TAGS, LEVELS>,
 ) -> PgnGame
     requires within { from ≤ length text.now }
     requires place { from ≤ 2 ^ 62 }
-    ensures reads { ReadsTo (profile_if takes_marker mode) text.now from result converter.new }
+    requires count { converter.old.lexer.count ≡ from }
+    requires not_finished { converter.old.is_finished ≡ false }
+    requires no_fault { converter.old.fault ≡ None }
+    ensures reads { (mode : Mode) → BeginsAt (profile_counting mode Unknown) text.now from converter.old
+        → ReadsTo (profile_if takes_marker mode) text.now from result converter.new }
     ensures not_full { result.status ≢ 2 }
 {
-    *converter = converter_at(text, from, mode, Marker::Unknown);
     silence(converter, takes_marker);
     run_next(converter, text, from, &mut Nowhere)
 }
@@ -168,9 +172,14 @@ fn read_next<W: Sink>(text: &[u8], from: usize, mode: Mode, missing: Marker, out
     run_next(&mut converter, text, from, out)
 }
 
-// Makes a converter that begins at the place. A missing Result counts as this marker.
+/// Makes a converter that begins at the place. A missing Result counts as this marker.
 #[inline(always)]
-fn converter_at(text: &[u8], from: usize, mode: Mode, missing: Marker) -> Converter<TAGS, LEVELS>
+pub fn converter_at(
+    text: &[u8],
+    from: usize,
+    mode: Mode,
+    missing: Marker,
+) -> Converter<TAGS, LEVELS>
     requires within { from ≤ length text.now }
     requires place { from ≤ 2 ^ 62 }
     ensures begins { BeginsAt (profile_counting mode missing) text.now from result }

@@ -5,10 +5,10 @@ ghost use Rattle.pgn_c.specs.NextGame.{ReadGameIn, WritesSection, section_full};
 
 use crate::buffer_sink::{Before, BufferSink, Room};
 use crate::game_result::{BAD_PLACE, PgnGame, fault_game, no_game};
-use crate::next_game::{LAST_PLACE, read_silently};
+use crate::next_game::{LAST_PLACE, converter_at, read_silently};
 use crate::pgn_result::{FULL, NO_MODE, OK};
 use crate::{LEVELS, TAGS};
-use pgn_game::{Converter, Fault, Mode, Reason};
+use pgn_game::{Converter, Fault, Marker, Mode, Reason};
 use std::marker::{Brand, PhantomData};
 
 /// Reads the next game, and writes its tag section into the front of a buffer.
@@ -30,8 +30,8 @@ pub fn read_game(
     if from > text.len() || from as u64 > LAST_PLACE {
         return no_game(BAD_PLACE);
     }
-    let mut converter = Converter::<TAGS, LEVELS>::new(mode);
-    let found = read_silently(text, from, mode, missing_result == 1, &mut converter);
+    let mut converter = converter_at(text, from, mode, Marker::Unknown);
+    let found = read_silently(&mut converter, text, from, missing_result == 1);
     put_tags(&converter, found, buffer)
 }
 

@@ -23,27 +23,26 @@ is_silent false c = refl
 
 pub run_next-requires : goal.run_next-requires
 run_next-requires c =
-    let made = c.converter_at.ensures in
     let takes = c.args.takes_marker in
     let switched = c.silence.ensures.only_switch in
-    let old = c.converter_at.result in
+    let old = c.args.converter.now in
     record {
       within = c.requires.within;
       place = c.requires.place;
-      count = ap (λ (s : Converter). s.lexer.count) switched ∙ count_same takes old ∙ made.count;
-      not_finished = ap (λ (s : Converter). s.is_finished) switched ∙ finished_same takes old ∙ made.not_finished;
-      no_fault = ap (λ (s : Converter). s.fault) switched ∙ fault_same takes old ∙ made.begins.has_read.no_fault;
+      count = ap (λ (s : Converter). s.lexer.count) switched ∙ count_same takes old ∙ c.requires.count;
+      not_finished = ap (λ (s : Converter). s.is_finished) switched ∙ finished_same takes old ∙ c.requires.not_finished;
+      no_fault = ap (λ (s : Converter). s.fault) switched ∙ fault_same takes old ∙ c.requires.no_fault;
     }
 
 pub returns : goal.returns
 returns c =
-    let made = c.converter_at.ensures in
     let takes = c.args.takes_marker in
-    let silent = ap (λ (s : Converter). s.reading.writing.is_silent) c.silence.ensures.only_switch ∙ is_silent takes c.converter_at.result in
-    let p = profile_if takes c.args.mode in
+    let silent = ap (λ (s : Converter). s.reading.writing.is_silent) c.silence.ensures.only_switch ∙ is_silent takes c.args.converter.now in
     record {
-      reads = finds_as p (text_from c.args.text.now c.args.from) (drop c.args.from c.args.text.now)
+      reads = λ mode begins.
+          let p = profile_if takes mode in
+          finds_as p (text_from c.args.text.now c.args.from) (drop c.args.from c.args.text.now)
           c.run_next.result c.run_next.new.converter nowhere _ true silent
-          (c.run_next.ensures.runs p (c.silence.ensures.begins c.args.mode c.args.text.now c.args.from made.begins));
+          (c.run_next.ensures.runs p (c.silence.ensures.begins mode c.args.text.now c.args.from begins));
       not_full = λ is. let fails = rw silent at c.run_next.ensures.full is in omega (arith, fails);
     }

@@ -3,6 +3,17 @@ use Rattle.pgn_game.specs.declared.marker.Marker.TheVariants.{Unknown}
 use Rattle.pgn_c.proofs.TagSections.{in_place, reads_tags}
 use Rattle.pgn_c.proofs.read_game.read_game.Goals as goal
 
+pub read_silently-found-requires : goal.read_silently-found-requires
+read_silently-found-requires c =
+    let made = c.converter_at-converter.ensures in
+    record {
+      within = omega (arith, c.if-from-text.false);
+      place = omega (arith, c.if-from-gt-LAST_PLACE.false);
+      count = made.count;
+      not_finished = made.not_finished;
+      no_fault = made.begins.has_read.no_fault;
+    }
+
 pub returns : goal.returns
 returns c =
     let read = c.read_silently-found in
@@ -12,8 +23,8 @@ returns c =
       bad_place = λ few away. absurd (in_place (length c.args.text.now) c.args.from (omega (arith, c.if-from-text.false)) (omega (arith, c.if-from-gt-LAST_PLACE.false)) away);
       counts_as_unknown = λ is within limit.
           reads_tags (profile_counting c.in-Some.mode Unknown) c.args.text.now c.args.from read.result read.new.converter c.args.buffer.now put.new.buffer
-          put.result (rw is at read.ensures.reads) read.ensures.not_full put.ensures.game put.ensures.no_game put.ensures.same;
+          put.result (rw is at (read.ensures.reads c.in-Some.mode c.converter_at-converter.ensures.begins)) read.ensures.not_full put.ensures.game put.ensures.no_game put.ensures.same;
       takes_the_marker = λ is within limit.
           reads_tags (profile_taking c.in-Some.mode) c.args.text.now c.args.from read.result read.new.converter c.args.buffer.now put.new.buffer
-          put.result (rw is at read.ensures.reads) read.ensures.not_full put.ensures.game put.ensures.no_game put.ensures.same;
+          put.result (rw is at (read.ensures.reads c.in-Some.mode c.converter_at-converter.ensures.begins)) read.ensures.not_full put.ensures.game put.ensures.no_game put.ensures.same;
     })
