@@ -5,6 +5,7 @@ pub mod ByteInGlyph
 pub mod ByteInString
 pub mod ByteInSymbol
 pub mod ByteOutside
+pub mod CopiedBytes
 pub mod EndGives
 pub mod PieceByByte
 pub mod RunOfBytes

@@ -1,16 +1,14 @@
 use Rattle.pgn_lexer.proofs.Words.{◌<◌, length, refl, sym, ap, ◌∙◌, arith, string_class, AfterBackslash}
+use Rattle.pgn_lexer.proofs.stepping.CopiedBytes.{copied_on}
 use Rattle.pgn_lexer.proofs.stepping.PieceByByte.{ran_uses, takes_plain, takes_backslash, takes_escaped}
 use Rattle.pgn_lexer.proofs.partial_token.PartialToken.copy_string.Goals as goal
 
 pub loop-used-preserved-in-Plain : goal.loop-used-preserved-in-Plain
 loop-used-preserved-in-Plain c =
     let here = c.loop-used.invariant in
-    let short : length c.loop-used.self-inside.buffer.items < 255 = omega (arith, here.room) in
+    let short : length c.loop-used.self-inside.buffer.items < 255 = omega (arith, here.copied.room) in
     record {
-      from = omega arith;
-      within = omega arith;
-      piece = here.piece;
-      room = omega arith;
+      copied = copied_on _ _ here.copied (omega arith) (omega arith) (omega arith);
       string = here.string;
       ran = λ old ran. ran_uses _ old _ _ _ _ (omega arith) refl (here.ran old ran) _
           (takes_plain _ _ _ _ here.string (sym c.string_class_of.ensures ∙ c.in-Plain.is) short (rw c.push.ensures.items refl));
@@ -19,12 +17,9 @@ loop-used-preserved-in-Plain c =
 pub loop-used-preserved : goal.loop-used-preserved
 loop-used-preserved c =
     let here = c.loop-used.invariant in
-    let short : length c.loop-used.self-inside.buffer.items < 255 = omega (arith, here.room) in
+    let short : length c.loop-used.self-inside.buffer.items < 255 = omega (arith, here.copied.room) in
     record {
-      from = omega arith;
-      within = omega (arith, c.if-used-end.false);
-      piece = here.piece;
-      room = omega (arith, c.if-used-end.false);
+      copied = copied_on _ _ here.copied (omega arith) (omega (arith, c.if-used-end.false)) (omega arith);
       string = here.string;
       ran = λ old ran. ran_uses _ old _ _ _ _ (omega (arith, c.if-used-end.false)) refl
           (ran_uses _ old _ _ _ _ (omega arith) refl (here.ran old ran)

@@ -1,12 +1,10 @@
-use Rattle.pgn_lexer.proofs.Words.{◌≡◌, ◌≤◌, ◌+◌, ◌-◌, length, Str, PartialToken, Ran}
+use Rattle.pgn_lexer.proofs.Words.{◌≡◌, ◌-◌, length, Str, PartialToken, Ran}
+use Rattle.pgn_lexer.proofs.stepping.CopiedBytes.{Copied}
 use Rattle.pgn_lexer.proofs.partial_token.PartialToken.copy_string.Given as goal
 
 abbrev pub invariant-loop-used : goal.invariant-loop-used
 invariant-loop-used l = record {
-  from : l.from ≤ l.used;
-  within : l.used ≤ l.end;
-  piece : l.end ≤ length l.piece;
-  room : length l.self-inside.buffer.items + (l.end - l.used) ≤ 255;
+  copied : Copied l.from l.used l.end l.piece (length l.self-inside.buffer.items) 255;
   string : l.self-inside.mode ≡ Str;
   ran : (old : PartialToken) → Ran l.place old l.piece l.fn.self l.from
       → Ran l.place old l.piece (record { mode = l.self-inside.mode; at = l.self-inside.at; text = l.self-inside.buffer.items }) l.used;

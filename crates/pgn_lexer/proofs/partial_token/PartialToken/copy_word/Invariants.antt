@@ -1,12 +1,10 @@
-use Rattle.pgn_lexer.proofs.Words.{◌≡◌, ◌<◌, ◌≤◌, ◌+◌, ◌-◌, ◌⊎◌, length, BraceWord, LineWord, PartialToken, Ran}
+use Rattle.pgn_lexer.proofs.Words.{◌≡◌, ◌<◌, ◌-◌, ◌⊎◌, length, BraceWord, LineWord, PartialToken, Ran}
+use Rattle.pgn_lexer.proofs.stepping.CopiedBytes.{Copied}
 use Rattle.pgn_lexer.proofs.partial_token.PartialToken.copy_word.Given as goal
 
 abbrev pub invariant-loop-used : goal.invariant-loop-used
 invariant-loop-used l = record {
-  from : l.from ≤ l.used;
-  within : l.used ≤ l.end;
-  piece : l.end ≤ length l.piece;
-  room : length l.self-inside.buffer.items + (l.end - l.used) ≤ 79;
+  copied : Copied l.from l.used l.end l.piece (length l.self-inside.buffer.items) 79;
   some : 0 < length l.self-inside.buffer.items;
   word : (l.self-inside.mode ≡ BraceWord) ⊎ (l.self-inside.mode ≡ LineWord);
   ran : (old : PartialToken) → Ran l.place old l.piece l.fn.self l.from
