@@ -84,7 +84,8 @@ class Builder(unittest.TestCase):
 C_TYPES = {"u8": "uint8_t", "u32": "uint32_t", "u64": "uint64_t", "usize": "size_t"}
 STRUCTS = {"PgnResult": "pgn_result", "PgnText": "pgn_text", "PgnMove": "pgn_move",
            "PgnPlies": "pgn_plies", "PgnGame": "pgn_game", "PgnTag": "pgn_tag",
-           "PgnExplanation": "pgn_explanation"}
+           "PgnExplanation": "pgn_explanation", "PgnBadGame": "pgn_bad_game",
+           "PgnSection": "pgn_section"}
 
 
 def bare_header():
@@ -93,12 +94,17 @@ def bare_header():
 
 
 def c_parameters(rust):
-    """The C types of the parameters of an export: a slice is a pointer and a length."""
+    """The C types of the parameters of an export: a slice is a pointer and a length.
+
+    A struct is passed by its address.
+    """
     types = []
     for parameter in filter(None, (it.strip() for it in rust.split(","))):
         kind = parameter.split(":", 1)[1].strip()
         if kind in ("&[u8]", "&mut [u8]"):
             types += ["uint8_t *" if "mut" in kind else "const uint8_t *", "size_t"]
+        elif kind.startswith("&mut "):
+            types.append(STRUCTS[kind[5:]] + " *")
         else:
             types.append(C_TYPES[kind])
     return types

@@ -1557,7 +1557,8 @@ class Binding(Folder):
         need("cc")
         binding = importlib.import_module("gillspoon._library")
         names = {"pgn_result": "Result", "pgn_text": "Text", "pgn_move": "Move",
-                 "pgn_game": "NextGame", "pgn_explanation": "Explanation"}
+                 "pgn_game": "NextGame", "pgn_explanation": "Explanation",
+                 "pgn_bad_game": "BadGame", "pgn_section": "Section"}
         lines, wanted = [], []
         for name, ours in names.items():
             struct = getattr(binding, ours)

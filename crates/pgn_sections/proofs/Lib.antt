@@ -1,3 +1,4 @@
 mod LastWords
 mod LinesInPieces
+mod SectionRows
 mod ShapeOfText

@@ -59,7 +59,7 @@ fn line_length(text: &[u8], is_last: bool) -> Option<usize>
             return line_to_return(index, text_from(text, index + 1), is_last);
         }
     }
-    if is_last && 0 < text.len() {
+    if is_last && !text.is_empty() {
         Some(text.len())
     } else {
         None
