@@ -15,8 +15,6 @@ from ._tags import type_of
 Note = Union[int, str, "Line"]
 """What may be beside a move: a NAG is an int, a comment is a str, a variation is a Line."""
 _WORD = re.compile("[^\t-\r ]+")
-# what begins a NAG, a comment or a variation
-_NOTE = re.compile("[$({]").search
 
 
 class _Played:
@@ -25,27 +23,29 @@ class _Played:
     The plies have it, and it has none of them: so they are freed without the garbage collector.
     """
 
-    __slots__ = ("start", "first", "sans", "_texts")
+    __slots__ = ("start", "first", "sans", "ucis", "fens")
+    # at the number of each ply its UCI, and the FEN of the position after it
+    ucis: List[str]
+    fens: List[str]
 
     def __init__(self, start: "Union[Ply, str]", first: int, sans: List[str]) -> None:
         # the ply before the first move, or the FEN of its position; the number of the first ply
         self.start, self.first, self.sans = start, first, sans
-        self._texts: Optional[List[str]] = None
 
-    def fen_before_all(self) -> str:
+    def start_fen(self) -> str:
         return self.start if isinstance(self.start, str) else self.start.fen
 
-    def texts(self) -> List[str]:
-        """Three texts of each ply: its SAN, its UCI, and the FEN of the position after it."""
-        texts = self._texts
-        if texts is None:
-            texts = self._texts = _calls.texts_of_plies(self.fen_before_all(), self.sans)
-        return texts
+    def play(self) -> "_Played":
+        """Finds the UCI and the position after each move."""
+        texts, before = _calls.texts_of_plies(self.start_fen(), self.sans), [""] * self.first
+        self.ucis, self.fens = before + texts[1::3], before + texts[2::3]
+        return self
 
     def fen_before(self, number: int) -> str:
         """The position before the ply with this number."""
-        at = number - self.first
-        return self.texts()[3 * at - 1] if at else self.fen_before_all()
+        if number == self.first:
+            return self.start_fen()
+        return (self if hasattr(self, "fens") else self.play()).fens[number - 1]
 
 
 class Ply:
@@ -59,22 +59,15 @@ class Ply:
         "number": "How many plies of its game it is, from 1; the first one of a variation has that "
                   "of the move it replaces.",
         "san": "The move in SAN, with its mark of check or mate: `Nf3`, `exd8=Q#`.",
-        "notes": "NAGs (int), comments (str) and variations (Line) behind the move, in order.",
         "_played": None,
+        "_notes": None,
     }
-    notes: List[Note]
+    _notes: List[Note]
 
     def __init__(self, number: int, san: str, played: _Played) -> None:
         self.number = number
         self.san = san
         self._played = played
-
-    def __getattr__(self, name: str) -> List[Note]:
-        # most plies have no notes, so the list is made when it is asked for
-        if name != "notes":
-            raise AttributeError("'Ply' object has no attribute %r" % name)
-        self.notes = []
-        return self.notes
 
     def __repr__(self) -> str:
         return "Ply(%d, %r)" % (self.number, self.san)
@@ -84,16 +77,34 @@ class Ply:
                                _packed_notes(self.notes, None))
 
     @property
+    def notes(self) -> List[Note]:
+        """NAGs (int), comments (str) and variations (Line) behind the move, in order."""
+        try:
+            return self._notes
+        except AttributeError:
+            # most plies have none, so the list is made when it is asked for
+            self._notes = []
+            return self._notes
+
+    @notes.setter
+    def notes(self, notes: List[Note]) -> None:
+        self._notes = notes
+
+    @property
     def fen(self) -> str:
         """The FEN of the position after the move."""
-        played = self._played
-        return (played._texts or played.texts())[3 * (self.number - played.first) + 2]
+        try:
+            return self._played.fens[self.number]
+        except AttributeError:
+            return self._played.play().fens[self.number]
 
     @property
     def uci(self) -> str:
         """The move in UCI, the notation of engines: `g1f3`, `e1g1` for castling, `a7a8q`."""
-        played = self._played
-        return (played._texts or played.texts())[3 * (self.number - played.first) + 1]
+        try:
+            return self._played.ucis[self.number]
+        except AttributeError:
+            return self._played.play().ucis[self.number]
 
     @property
     def nags(self) -> List[int]:
@@ -192,7 +203,7 @@ def _packed_line(line: Line, link: "Union[Ply, str, None]") -> _PackedLine:
         for ply in plies:
             packed.append((ply.number, ply.san, _packed_notes(ply.notes, before)))
             before = ply
-        start = None if played.start is line.start else played.fen_before_all()
+        start = None if played.start is line.start else played.start_fen()
         groups.append((start, played.first, played.sans, packed))
     fen = None if line.start is link else line.fen
     return fen, _packed_notes(line.notes, line.start), groups
@@ -231,11 +242,18 @@ def _unpacked_notes(notes: List[Any], before: Union[Ply, str]) -> List[Note]:
 
 def read_moves(movetext: str, fen: str) -> Line:
     """The moves of the movetext of a game in export format."""
-    if _NOTE(movetext) is None:
-        line, sans = Line(fen), [word for word in movetext.split()[:-1] if word[-1] != "."]
-        line.plies = list(map(Ply, count(1), sans, repeat(_Played(fen, 1, sans))))
-        return line
-    return _read_noted_moves(movetext, fen)
+    if "{" in movetext or "$" in movetext or "(" in movetext:
+        return _read_noted_moves(movetext, fen)
+    sans = movetext.split()
+    # the marker; and the numbers, before each move of White and before the first one of a line
+    del sans[-1:]
+    if sans and sans[0].endswith("..."):
+        del sans[0], sans[1::3]
+    else:
+        del sans[::3]
+    line = Line(fen)
+    line.plies = list(map(Ply, count(1), sans, repeat(_Played(fen, 1, sans))))
+    return line
 
 
 def _read_noted_moves(movetext: str, fen: str) -> Line:
