@@ -569,8 +569,19 @@ class Positions(unittest.TestCase):
         one, other = next(gillspoon.games(b"e4 e5 *")).moves()
         one.notes.append("best")
         self.assertEqual((one.comments, other.comments), (["best"], []))
-        with self.assertRaises(AttributeError):
-            one.note = []
+        for name in ("note", "number", "fen", "uci"):
+            with self.assertRaises(AttributeError):
+                setattr(one, name, 7)
+
+    def test_a_changed_san(self):
+        """Positions are those of the game as it was read."""
+        game = next(gillspoon.games(b"e4 e5 Nf3 *"))
+        line = game.moves()
+        line.plies[1].san = "c5"
+        for plies in (line.plies, copies.deepcopy(line).plies, copies.deepcopy(line.plies)):
+            self.assertEqual([it.san for it in plies], ["e4", "c5", "Nf3"])
+            self.assertEqual([it.uci for it in plies], ["e2e4", "e7e5", "g1f3"])
+            self.assertEqual(plies[2].fen, game.fen)
 
     def test_threads(self):
         """Several threads ask for positions at once."""
