@@ -1,17 +1,56 @@
 /*
- * Reads a text in one of five ways, and writes what is written to standard output:
+ * Reads a text in one of seven ways, and writes what is written to standard output:
  *
  *   calls whole          pgn_convert for the whole text
  *   calls games          pgn_next_game for each game
  *   calls from-marker    the same, where a missing Result takes the termination marker
  *   calls sections       pgn_read_game for each game
  *   calls check          pgn_check for the whole text
+ *   calls lines          pgn_next_game for each game, in reduced format, and pgn_line for its moves:
+ *                        SAN, UCI and FEN of each ply
+ *   calls moves          the same, but pgn_san for each move
  */
 #include <stdio.h>
 #include <string.h>
 #include "pgn.h"
 
-static uint8_t text[1 << 24], buffer[1 << 24];
+static const char first[] = "rnbqkbnr/pppppppp/8/8/8/8/PPPPPPPP/RNBQKBNR w KQkq - 0 1";
+static uint8_t text[1 << 24], buffer[1 << 24], export[1 << 20];
+
+/* Plays moves by a call each, and returns how many bytes are written at `to`. */
+static size_t play_moves(char *moves, char *to, size_t room) {
+    size_t used = 0;
+    char fen[96];
+
+    strcpy(fen, first);
+    for (char *word = strtok(moves, " \n"); word; word = strtok(NULL, " \n")) {
+        if (word[strlen(word) - 1] == '.')
+            continue;
+        pgn_move move = pgn_san((uint8_t *)fen, strlen(fen), (uint8_t *)word, strlen(word),
+                                PGN_SAN);
+        memcpy(fen, move.fen, sizeof fen);
+        used += (size_t)snprintf(to + used, room - used, "%s\t%s\t%s\n", (char *)move.san,
+                                 (char *)move.uci, fen);
+    }
+    return used;
+}
+
+/* Writes the plies of an export text, whose length this is, and returns how many bytes they are. */
+static size_t put_plies(size_t length, size_t used, int in_one_call) {
+    char *moves;
+
+    export[length] = 0;
+    moves = strstr((char *)export, "\n\n") + 1;
+    /* the marker is the last word */
+    length = strlen(moves) - 2;
+    while (length && moves[length - 1] != ' ' && moves[length - 1] != '\n')
+        length--;
+    moves[length] = 0;
+    if (in_one_call)
+        return pgn_line((const uint8_t *)first, strlen(first), (uint8_t *)moves, length, PGN_SAN,
+                        buffer + used, sizeof buffer - used).written;
+    return play_moves(moves, (char *)buffer + used, sizeof buffer - used);
+}
 
 int main(int count, char **words) {
     const char *way = count == 2 ? words[1] : "whole";
@@ -25,6 +64,16 @@ int main(int count, char **words) {
     }
     if (!strcmp(way, "check"))
         return pgn_check(text, length).status != PGN_OK;
+    if (!strcmp(way, "lines") || !strcmp(way, "moves")) {
+        do {
+            game = pgn_next_game(text, length, game.end, PGN_REDUCED_FORMAT, PGN_RESULT_UNKNOWN,
+                                 export, sizeof export - 1);
+            if (game.status == PGN_OK)
+                used += put_plies(game.written, used, !strcmp(way, "lines"));
+        } while (game.status == PGN_OK);
+        fwrite(buffer, 1, used, stdout);
+        return game.status != PGN_NO_GAME;
+    }
     do {
         if (!strcmp(way, "sections"))
             game = pgn_read_game(text, length, game.end, PGN_FULL_FORMAT, PGN_RESULT_UNKNOWN,

@@ -8,6 +8,9 @@ from ._faults import FenFault, MoveFault
 
 
 _line = _library.line
+# The first size of a buffer for the plies of a line, and buffers for further calls.
+_CAPACITY = 1 << 14
+_buffers: List[_library.Buffer] = []
 
 
 @described(san="The move in SAN, with its mark of check or mate.",
@@ -79,11 +82,18 @@ def san(fen: str, move: str, *, uci: bool = False) -> Played:
 def texts_of_plies(fen: str, sans: List[str]) -> List[str]:
     """Plays moves in SAN: the SAN, the UCI and the FEN after it of each, one behind another."""
     position, text, size = fen.encode(), " ".join(sans).encode(), _library.LONGEST_PLY * len(sans)
-    buffer = ctypes.create_string_buffer(size)
-    played = _line(position, len(position), text, len(text), _library.SAN, buffer, size)
+    # a new buffer takes as long as a call, so one is kept; other threads make their own meanwhile
+    try:
+        buffer = _buffers.pop()
+    except IndexError:
+        buffer = ctypes.create_string_buffer(_CAPACITY)
+    if len(buffer) < size:
+        buffer = ctypes.create_string_buffer(size)
+    played = _line(position, len(position), text, len(text), _library.SAN, buffer, len(buffer))
     if played.status:
         _refuse(played.fault, played.field, fen, text[played.place:].split(b" ")[0].decode())
     lines = ctypes.string_at(buffer, played.written).decode("ascii")
+    _buffers.append(buffer)
     return lines.replace("\n", "\t").split("\t")
 
 

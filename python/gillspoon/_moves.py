@@ -15,8 +15,6 @@ from ._tags import type_of
 Note = Union[int, str, "Line"]
 """What may be beside a move: a NAG is an int, a comment is a str, a variation is a Line."""
 _WORD = re.compile("[^\t-\r ]+")
-# what begins a NAG, a comment or a variation
-_NOTE = re.compile("[$({]").search
 
 
 class _Played:
@@ -25,27 +23,29 @@ class _Played:
     The plies have it, and it has none of them: so they are freed without the garbage collector.
     """
 
-    __slots__ = ("start", "first", "sans", "_texts")
+    __slots__ = ("start", "first", "sans", "ucis", "fens")
+    # of each move its UCI, and the FEN of the position after it
+    ucis: List[str]
+    fens: List[str]
 
     def __init__(self, start: "Union[Ply, str]", first: int, sans: List[str]) -> None:
         # the ply before the first move, or the FEN of its position; the number of the first ply
         self.start, self.first, self.sans = start, first, sans
-        self._texts: Optional[List[str]] = None
 
-    def fen_before_all(self) -> str:
+    def start_fen(self) -> str:
         return self.start if isinstance(self.start, str) else self.start.fen
 
-    def texts(self) -> List[str]:
-        """Three texts of each ply: its SAN, its UCI, and the FEN of the position after it."""
-        texts = self._texts
-        if texts is None:
-            texts = self._texts = _calls.texts_of_plies(self.fen_before_all(), self.sans)
-        return texts
+    def play(self) -> "_Played":
+        """Finds the UCI and the position after each move."""
+        texts = _calls.texts_of_plies(self.start_fen(), self.sans)
+        self.ucis, self.fens = texts[1::3], texts[2::3]
+        return self
 
-    def fen_before(self, number: int) -> str:
-        """The position before the ply with this number."""
-        at = number - self.first
-        return self.texts()[3 * at - 1] if at else self.fen_before_all()
+    def fen_before(self, at: int) -> str:
+        """The position before the move that has so many before it."""
+        if at == 0:
+            return self.start_fen()
+        return (self if hasattr(self, "fens") else self.play()).fens[at - 1]
 
 
 class Ply:
@@ -56,44 +56,64 @@ class Ply:
     """
 
     __slots__ = {
-        "number": "How many plies of its game it is, from 1; the first one of a variation has that "
-                  "of the move it replaces.",
         "san": "The move in SAN, with its mark of check or mate: `Nf3`, `exd8=Q#`.",
-        "notes": "NAGs (int), comments (str) and variations (Line) behind the move, in order.",
+        "_at": None,
         "_played": None,
+        "_notes": None,
     }
-    notes: List[Note]
+    _notes: List[Note]
 
-    def __init__(self, number: int, san: str, played: _Played) -> None:
-        self.number = number
+    def __init__(self, at: int, san: str, played: _Played) -> None:
+        # how many moves were played before it
+        self._at = at
         self.san = san
         self._played = played
-
-    def __getattr__(self, name: str) -> List[Note]:
-        # most plies have no notes, so the list is made when it is asked for
-        if name != "notes":
-            raise AttributeError("'Ply' object has no attribute %r" % name)
-        self.notes = []
-        return self.notes
 
     def __repr__(self) -> str:
         return "Ply(%d, %r)" % (self.number, self.san)
 
     def __reduce__(self) -> "Tuple[Callable[..., Ply], Tuple[object, ...]]":
-        return _unpacked_ply, (self._played.fen_before(self.number), self.number, self.san,
+        played, at = self._played, self._at
+        return _unpacked_ply, (played.fen_before(at), self.number, played.sans[at:at + 1], self.san,
                                _packed_notes(self.notes, None))
 
     @property
+    def number(self) -> int:
+        """How many plies of its game it is, from 1.
+
+        The first one of a variation has the number of the move that it replaces.
+        """
+        return self._played.first + self._at
+
+    @property
+    def notes(self) -> List[Note]:
+        """NAGs (int), comments (str) and variations (Line) behind the move, in order."""
+        try:
+            return self._notes
+        except AttributeError:
+            # most plies have none, so the list is made when it is asked for
+            self._notes = []
+            return self._notes
+
+    @notes.setter
+    def notes(self, notes: List[Note]) -> None:
+        self._notes = notes
+
+    @property
     def fen(self) -> str:
-        """The FEN of the position after the move."""
-        played = self._played
-        return (played._texts or played.texts())[3 * (self.number - played.first) + 2]
+        """The FEN of the position after the move, as it was read."""
+        try:
+            return self._played.fens[self._at]
+        except AttributeError:
+            return self._played.play().fens[self._at]
 
     @property
     def uci(self) -> str:
-        """The move in UCI, the notation of engines: `g1f3`, `e1g1` for castling, `a7a8q`."""
-        played = self._played
-        return (played._texts or played.texts())[3 * (self.number - played.first) + 1]
+        """The move in UCI, as it was read: `g1f3`, `e1g1` for castling, `a7a8q`."""
+        try:
+            return self._played.ucis[self._at]
+        except AttributeError:
+            return self._played.play().ucis[self._at]
 
     @property
     def nags(self) -> List[int]:
@@ -190,9 +210,9 @@ def _packed_line(line: Line, link: "Union[Ply, str, None]") -> _PackedLine:
     for played, plies in groupby(line.plies, lambda ply: ply._played):
         packed = []
         for ply in plies:
-            packed.append((ply.number, ply.san, _packed_notes(ply.notes, before)))
+            packed.append((ply._at, ply.san, _packed_notes(ply.notes, before)))
             before = ply
-        start = None if played.start is line.start else played.fen_before_all()
+        start = None if played.start is line.start else played.start_fen()
         groups.append((start, played.first, played.sans, packed))
     fen = None if line.start is link else line.fen
     return fen, _packed_notes(line.notes, line.start), groups
@@ -202,8 +222,8 @@ def _packed_notes(notes: List[Note], before: "Union[Ply, str, None]") -> List[ob
     return [_packed_line(it, before) if isinstance(it, Line) else it for it in notes]
 
 
-def _unpacked_ply(fen: str, number: int, san: str, notes: List[object]) -> Ply:
-    ply = Ply(number, san, _Played(fen, number, [san]))
+def _unpacked_ply(fen: str, number: int, sans: List[str], san: str, notes: List[object]) -> Ply:
+    ply = Ply(0, san, _Played(fen, number, sans))
     ply.notes = _unpacked_notes(notes, fen)
     return ply
 
@@ -214,8 +234,8 @@ def _unpacked_line(fen: Optional[str], notes: List[object], groups: List[_Group]
     line.notes, before = _unpacked_notes(notes, line.start), line.start
     for start, first, sans, packed in groups:
         played = _Played(line.start if start is None else start, first, sans)
-        for number, san, its_notes in packed:
-            ply = Ply(number, san, played)
+        for at, san, its_notes in packed:
+            ply = Ply(at, san, played)
             ply.notes = _unpacked_notes(its_notes, before)
             line.plies.append(ply)
             before = ply
@@ -231,27 +251,33 @@ def _unpacked_notes(notes: List[Any], before: Union[Ply, str]) -> List[Note]:
 
 def read_moves(movetext: str, fen: str) -> Line:
     """The moves of the movetext of a game in export format."""
-    if _NOTE(movetext) is None:
-        line, sans = Line(fen), [word for word in movetext.split()[:-1] if word[-1] != "."]
-        line.plies = list(map(Ply, count(1), sans, repeat(_Played(fen, 1, sans))))
-        return line
-    return _read_noted_moves(movetext, fen)
+    if "{" in movetext or "$" in movetext or "(" in movetext:
+        return _read_noted_moves(movetext, fen)
+    sans = movetext.split()
+    # the marker; and the numbers, before each move of White and before the first one of a line
+    del sans[-1:]
+    if sans and sans[0].endswith("..."):
+        del sans[0], sans[1::3]
+    else:
+        del sans[::3]
+    line = Line(fen)
+    line.plies = list(map(Ply, count(), sans, repeat(_Played(fen, 1, sans))))
+    return line
 
 
 def _read_noted_moves(movetext: str, fen: str) -> Line:
     """The same where there are NAGs, comments or variations."""
     words = movetext.replace("\n", " ").split(" ")
     line, played = Line(fen), _Played(fen, 1, [])
-    opened: List[Tuple[Line, _Played, int]] = []
+    opened: List[Tuple[Line, _Played]] = []
     noted: Union[Line, Ply] = line
-    number, at = 0, 0
+    at = 0
     while True:
         word = words[at]
         at += 1
         first = word[0]
         if first in "abcdefghKQRBNO":
-            number += 1
-            noted = Ply(number, word, played)
+            noted = Ply(len(played.sans), word, played)
             played.sans.append(word)
             line.plies.append(noted)
         elif word[-1] == ".":
@@ -263,15 +289,14 @@ def _read_noted_moves(movetext: str, fen: str) -> Line:
             noted.notes.append(" ".join(words[at:end]))
             at = end + 1
         elif first == "(":
-            opened.append((line, played, number))
+            opened.append((line, played))
             start = line.plies[-2] if len(line.plies) > 1 else line.start
             variation = Line(start)
             line.plies[-1].notes.append(variation)
             noted = line = variation
-            played = _Played(start, number, [])
-            number -= 1
+            played = _Played(start, played.first + len(played.sans) - 1, [])
         elif first == ")":
-            line, played, number = opened.pop()
+            line, played = opened.pop()
             noted = line.plies[-1]
         else:
             return line

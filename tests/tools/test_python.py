@@ -505,6 +505,103 @@ class LateTexts(Folder):
         self.assertGreater(read, 2 * count - 1)
 
 
+class Positions(unittest.TestCase):
+    """The positions and the UCI of plies, which one call finds for each line."""
+
+    def check(self, line):
+        """Each ply is what `san` says of its move."""
+        fen, count = line.fen, 0
+        for ply in line:
+            self.assertEqual((ply.san, ply.fen, ply.uci), gillspoon.san(fen, ply.san))
+            self.assertEqual(gillspoon.san(fen, ply.uci, uci=True).san, ply.san)
+            for variation in ply.variations:
+                self.assertEqual(variation.fen, fen)
+                count += self.check(variation)
+            fen = ply.fen
+        return count + 1
+
+    def test_archives(self):
+        for style, variations in (("plain", 0), ("annotated", 50)):
+            count = 0
+            for game in gillspoon.games(archive(30, style)):
+                line = game.moves()
+                self.assertEqual([it.number for it in line], list(range(1, game.plies + 1)))
+                count += self.check(line) - 1
+                self.assertEqual(line.plies[-1].fen if line.plies else line.fen, game.fen)
+            self.assertGreaterEqual(count, variations)
+
+    def test_other_first_positions(self):
+        for side, text, sans in (("w", "e4 Kd7 e5", ["e4", "Kd7", "e5"]), ("b", "Kd7", ["Kd7"]),
+                                 ("b", "Kd7 e4 Kd6 e5+ Kd5", ["Kd7", "e4", "Kd6", "e5+", "Kd5"]),
+                                 ("b", "", []), ("b", "Kd7 $1 (Kf7 e3)", ["Kd7"])):
+            fen = "4k3/8/8/8/8/8/4P3/4K3 %s - - 5 99" % side
+            game = next(gillspoon.games(('[FEN "%s"] %s *' % (fen, text)).encode()))
+            line = game.moves()
+            self.assertEqual((line.fen, [it.san for it in line]), (fen, sans))
+            self.check(line)
+            self.assertEqual(line.plies[-1].fen if sans else fen, game.fen)
+
+    def test_castling_and_promotion(self):
+        game = next(gillspoon.games(b'[FEN "r3k3/6P1/8/8/8/8/8/4K2R w Kq - 0 1"] O-O O-O-O g8=N *'))
+        self.assertEqual([it.uci for it in game.mainline()], ["e1g1", "e8c8", "g7g8n"])
+
+    def test_a_call_for_each_line(self):
+        calls = gillspoon._calls
+        game = next(gillspoon.games(b"e4 e5 (c5 Nf3 (c3) Nc6) Nf3 *"))
+        with mock.patch.object(calls, "_line", wraps=calls._line) as line:
+            plies = list(game.mainline())
+            self.assertEqual([it.san for it in plies], ["e4", "e5", "Nf3"])
+            self.assertEqual(line.call_count, 0)
+            self.assertEqual([it.uci for it in plies], ["e2e4", "e7e5", "g1f3"])
+            self.assertEqual((plies[2].fen, plies[0].fen), (game.fen, game.position_at(1)))
+            self.assertEqual(line.call_count, 1)
+            self.check(game.moves())
+            self.assertEqual(line.call_count, 3)
+
+    def test_long_lines(self):
+        """A line may be longer than the buffer that is kept."""
+        game = next(gillspoon.games(b"Nf3 Nf6 Ng1 Ng8 " * 1000 + b"*"))
+        plies = list(game.mainline())
+        self.assertEqual((len(plies), plies[-1].fen), (4000, game.fen))
+        self.assertEqual({it.uci for it in plies}, {"g1f3", "g8f6", "f3g1", "f6g8"})
+
+    def test_notes_are_of_one_ply(self):
+        one, other = next(gillspoon.games(b"e4 e5 *")).moves()
+        one.notes.append("best")
+        self.assertEqual((one.comments, other.comments), (["best"], []))
+        for name in ("note", "number", "fen", "uci"):
+            with self.assertRaises(AttributeError):
+                setattr(one, name, 7)
+
+    def test_a_changed_san(self):
+        """Positions are those of the game as it was read."""
+        game = next(gillspoon.games(b"e4 e5 Nf3 *"))
+        line = game.moves()
+        line.plies[1].san = "c5"
+        for plies in (line.plies, copies.deepcopy(line).plies, copies.deepcopy(line.plies)):
+            self.assertEqual([it.san for it in plies], ["e4", "c5", "Nf3"])
+            self.assertEqual([it.uci for it in plies], ["e2e4", "e7e5", "g1f3"])
+            self.assertEqual(plies[2].fen, game.fen)
+
+    def test_threads(self):
+        """Several threads ask for positions at once."""
+        data, wanted = archive(30, "plain"), {}
+        for game in gillspoon.games(data):
+            wanted[game.number] = [it.fen for it in game.mainline()]
+
+        def read(found):
+            for game in gillspoon.games(data):
+                found[game.number] = [it.fen for it in game.mainline()]
+
+        found = [{} for _ in range(4)]
+        threads = [threading.Thread(target=read, args=(it,)) for it in found]
+        for it in threads:
+            it.start()
+        for it in threads:
+            it.join()
+        self.assertEqual(found, [wanted] * 4)
+
+
 class Commands(unittest.TestCase):
     """Clocks, evaluations, arrows and marked squares in comments."""
 

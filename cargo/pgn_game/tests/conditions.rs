@@ -2,8 +2,8 @@
 
 use chess_rules::{Position, Probes};
 use pgn_game::{
-    check, check_slice, convert, convert_checked, convert_slice, find_move, Converter, Games,
-    Inlet, Mode, Nowhere, Outlet, Sink,
+    check, check_slice, convert, convert_checked, convert_slice, find_move, read_move, Converter,
+    Games, Inlet, Mode, Notation, Nowhere, Outlet, Sink,
 };
 use pgn_layout::{fits_tag_line, write_tag, CurrentLine, Layout};
 use std::cell::RefCell;
@@ -142,6 +142,16 @@ fn find_move_takes_new_probes() {
     assert!(find_move(&Position::initial(), b"e4", &mut probes).is_ok());
     refuses("find_move takes new Probes", move || {
         find_move(&Position::initial(), b"e4", &mut probes)
+    });
+}
+
+#[test]
+fn read_move_takes_new_probes() {
+    let mut probes = Probes::new();
+    let start = Position::initial();
+    assert!(read_move(&start, b"e2e4", Notation::Uci, &mut probes).is_ok());
+    refuses("read_move takes new Probes", move || {
+        read_move(&start, b"e2e4", Notation::Uci, &mut probes)
     });
 }
 

@@ -180,28 +180,22 @@ fn ends_a_line_at_the_first_word_that_names_no_move(rt: HostRuntime) {
     }
 }
 
+/// Castling on either wing, and a promotion.
+const SPECIAL: &[PlyTexts] = &[
+    (0, b"O-O", b"e1g1", b"r3k3/6P1/8/8/8/8/8/5RK1 b q - 1 1"),
+    (5, b"O-O-O", b"e8c8", b"2kr4/6P1/8/8/8/8/8/5RK1 w - - 2 2"),
+    (10, b"g8=N", b"g7g8n", b"2kr2N1/8/8/8/8/8/8/5RK1 b - - 0 2"),
+];
+
 #[test]
 fn plays_special_moves_of_uci(rt: HostRuntime) {
     let Ok(position) = read_fen(b"r3k3/6P1/8/8/8/8/8/4K2R w Kq - 0 1") else {
         assert!(rt; false);
         return;
     };
-    let text = b"e1g1 e8c8 g7g8n";
-    let mut line = LineOfPlay::new(position, text, Notation::Uci);
-    plays(
-        &rt,
-        &mut line,
-        &(0, b"O-O", b"e1g1", b"r3k3/6P1/8/8/8/8/8/5RK1 b q - 1 1"),
-    );
-    plays(
-        &rt,
-        &mut line,
-        &(5, b"O-O-O", b"e8c8", b"2kr4/6P1/8/8/8/8/8/5RK1 w - - 2 2"),
-    );
-    plays(
-        &rt,
-        &mut line,
-        &(10, b"g8=N", b"g7g8n", b"2kr2N1/8/8/8/8/8/8/5RK1 b - - 0 2"),
-    );
+    let mut line = LineOfPlay::new(position, b"e1g1 e8c8 g7g8n", Notation::Uci);
+    for ply in SPECIAL {
+        plays(&rt, &mut line, ply);
+    }
     ends(&rt, &mut line);
 }
