@@ -13,7 +13,8 @@ use Rattle.pgn_game.specs.declared.mode.Mode.TheVariants.{Full}
 use Rattle.pgn_game.specs.declared.reason.Reason.{Reason}
 use Rattle.pgn_game.specs.declared.reason.Reason.TheVariants.{ReadFault, WriteFault, InputTooLong}
 use Rattle.pgn_game.specs.declared.reason.Fault.{Fault}
-use Rattle.pgn_game.specs.Profile.{Profile, known_result}
+use Rattle.pgn_game.specs.Profile.{Profile}
+use Rattle.pgn_game.specs.FaultTable.{result_for}
 use Rattle.pgn_game.specs.Pairs.{Pair, value_of}
 use Rattle.pgn_game.specs.TagSection.{exported}
 use Rattle.pgn_game.specs.Game.{Game}
@@ -30,9 +31,9 @@ use Rattle.pgn_tool.specs.declared.list.Stopped.TheVariants.{Refused, Unwritten}
 abbrev pub list_profile : Profile
 list_profile = profile_of 64 32 Full
 
--- the value of a name in the tag section of a game with these pairs, defaults included
-abbrev pub listed_value : Profile → List Pair → List ℕ → List ℕ
-listed_value p pairs name = unwrap_or (value_of (exported p.mode (known_result p.missing_result) pairs) name) []
+-- the value of a name in the tag section of a game, defaults included
+abbrev pub listed_value : Profile → FinishedGame → List ℕ → List ℕ
+listed_value p finished name = unwrap_or (value_of (exported p.mode (result_for p.missing_result finished.marker) finished.pairs) name) []
 
 -- a field, and the byte that ends it
 abbrev pub field : List ℕ → ℕ → List ℕ
@@ -46,8 +47,8 @@ six_fields number white black result plies position =
 -- the line of a game just finished; the name is `unfoldable`, so that goals show it as it is
 unfoldable pub finished_game_line : ℕ → Profile → FinishedGame → List ℕ
 finished_game_line number p finished =
-    six_fields (decimal number) (listed_value p finished.pairs (codes "White")) (listed_value p finished.pairs (codes "Black"))
-    (listed_value p finished.pairs (codes "Result")) (decimal finished.plies) (fen_text finished.position)
+    six_fields (decimal number) (listed_value p finished (codes "White")) (listed_value p finished (codes "Black"))
+    (listed_value p finished (codes "Result")) (decimal finished.plies) (fen_text finished.position)
 
 -- the line of a game: its number, White, Black, Result, how many moves it has outside variations,
 -- and the position after these

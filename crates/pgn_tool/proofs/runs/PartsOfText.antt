@@ -1,5 +1,5 @@
 -- Texts that are written in parts, and the line of the game just finished.
-use Rattle.pgn_tool.proofs.Words.{◌≡◌, ℕ, ◌+◌, List, [], ◌++◌, length, Option, None, Some, Result, Ok, Err, ap, subst, sym, codes, decimal, unwrap_or, length-append, arith, option_map, Appends, Appends-trans, take-append-add, take-append-le, AppendsFront, Writes, Profile, known_result, exported, FinishedGame, finished_game_line, six_fields, listed_value}
+use Rattle.pgn_tool.proofs.Words.{◌≡◌, ℕ, ◌+◌, List, [], ◌++◌, length, Option, None, Some, Result, Ok, Err, ap, subst, sym, codes, decimal, unwrap_or, length-append, arith, option_map, Appends, Appends-trans, take-append-add, take-append-le, AppendsFront, Writes, Profile, exported, FinishedGame, finished_game_line, six_fields, listed_value, result_for}
 use Rattle.chess_rules.specs.declared.position.Parts.{Parts}
 use Rattle.chess_text.specs.Fen.{fen_text}
 use Rattle.pgn_game.specs.Pairs.{value_of}
@@ -29,14 +29,14 @@ writes_after (Err e) a b c xs ys first more = front_after a b c xs ys first more
 pub line_told : (o : Option FinishedGame) (number : ℕ) (by : Profile) (p : Parts) → Some p ≡ option_map (λ finished. finished.position) o
     → elim o [ None ↦ [] | Some finished ↦ finished_game_line number by finished ]
     ≡ six_fields (decimal number) (unwrap_or
-    (elim o [ None ↦ None | Some finished ↦ value_of (exported by.mode (known_result by.missing_result) finished.pairs) (codes "White") ]) [])
+    (elim o [ None ↦ None | Some finished ↦ value_of (exported by.mode (result_for by.missing_result finished.marker) finished.pairs) (codes "White") ]) [])
     (unwrap_or
-    (elim o [ None ↦ None | Some finished ↦ value_of (exported by.mode (known_result by.missing_result) finished.pairs) (codes "Black") ]) [])
+    (elim o [ None ↦ None | Some finished ↦ value_of (exported by.mode (result_for by.missing_result finished.marker) finished.pairs) (codes "Black") ]) [])
     (unwrap_or
-    (elim o [ None ↦ None | Some finished ↦ value_of (exported by.mode (known_result by.missing_result) finished.pairs) (codes "Result") ]) [])
+    (elim o [ None ↦ None | Some finished ↦ value_of (exported by.mode (result_for by.missing_result finished.marker) finished.pairs) (codes "Result") ]) [])
     (decimal (elim o [ None ↦ 0 | Some finished ↦ finished.plies ])) (fen_text p)
 unfolding finished_game_line
 line_told None number by p e = absurd (cc)
 line_told (Some finished) number by p e =
-    ap (λ q. six_fields (decimal number) (listed_value by finished.pairs (codes "White")) (listed_value by finished.pairs (codes "Black"))
-    (listed_value by finished.pairs (codes "Result")) (decimal finished.plies) (fen_text q)) (ap (λ o. unwrap_or o p) (sym e))
+    ap (λ q. six_fields (decimal number) (listed_value by finished (codes "White")) (listed_value by finished (codes "Black"))
+    (listed_value by finished (codes "Result")) (decimal finished.plies) (fen_text q)) (ap (λ o. unwrap_or o p) (sym e))
