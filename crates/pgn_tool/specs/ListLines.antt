@@ -15,7 +15,7 @@ use Rattle.pgn_game.specs.declared.reason.Reason.TheVariants.{ReadFault, WriteFa
 use Rattle.pgn_game.specs.declared.reason.Fault.{Fault}
 use Rattle.pgn_game.specs.Profile.{Profile}
 use Rattle.pgn_game.specs.FaultTable.{result_for}
-use Rattle.pgn_game.specs.Pairs.{Pair, value_of}
+use Rattle.pgn_game.specs.Pairs.{value_of}
 use Rattle.pgn_game.specs.TagSection.{exported}
 use Rattle.pgn_game.specs.Game.{Game}
 use Rattle.pgn_game.specs.Progress.{read}

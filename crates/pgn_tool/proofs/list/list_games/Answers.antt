@@ -1,4 +1,4 @@
-use Rattle.pgn_tool.proofs.Words.{◌≡◌, Bool, true, false, None, Ok, Err, Device, device, Games, ap, refl, subst, ◌∙◌, [], Appends-nil, Consumes-nil}
+use Rattle.pgn_tool.proofs.Words.{◌≡◌, Bool, true, false, Ok, Err, Device, device, Games, ap, refl, subst, ◌∙◌, [], Appends-nil, Consumes-nil}
 use Rattle.pgn_layout.specs.Device.{nowhere}
 use Rattle.pgn_game.specs.GamesCalls.{CountsNext, ReadsNext}
 use Rattle.pgn_game.specs.Written.{seen}

@@ -1,4 +1,4 @@
-use Rattle.pgn_tool.proofs.Words.{rules, Bool, Device, FileStep, GameFile, List, NotMade, Option, None, Some, bytes_in, failures_in, added, ap, append_assoc, ◌∙◌, ◌++◌, ◌≡◌, ℕ, device, false, refl, subst, sym}
+use Rattle.pgn_tool.proofs.Words.{rules, Bool, Device, FileStep, GameFile, List, NotMade, Option, None, Some, bytes_in, failures_in, added, ap, append_assoc, ◌∙◌, ◌++◌, ◌≡◌, ℕ, device, false, subst}
 use Rattle.pgn_game.specs.GamesCalls.{CountsNext, ReadsNext}
 use Rattle.pgn_game.specs.Written.{seen}
 use Rattle.pgn_tool.specs.Files.{file_sink}
