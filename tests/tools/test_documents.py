@@ -22,7 +22,7 @@ from programs import ROOT, on_a_terminal, run
 
 MARK = re.compile(r"<!-- *not run\b:? *(.*?) *-->")
 LINK = re.compile(r"\[(?:[^\]`]|`[^`]*`)*\]\(([^)\s]+)\)")
-MOST_LINES = {"README.md": 200, "docs/PROVED.md": 340}
+MOST_LINES = {"README.md": 200, "docs/PROVED.md": 350}
 MOST_BYTES_OF_A_ROW = 400
 BUILT = ["%s/%s" % (ROOT, it) for it in (
     "crates/pgn_tool/out/pgn_tool", "crates/pgn_c/out/libpgn_c.a", "crates/pgn_c/out/libpgn_c.so",

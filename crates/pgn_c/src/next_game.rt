@@ -95,7 +95,8 @@ pub fn read_silently(
     requires count { converter.old.lexer.count ≡ from }
     requires not_finished { converter.old.is_finished ≡ false }
     requires no_fault { converter.old.fault ≡ None }
-    ensures reads { (mode : Mode) → BeginsAt (profile_counting mode Unknown) text.now from converter.old
+    ensures reads { (mode : Mode)
+        → BeginsAt (profile_counting mode Unknown) text.now from converter.old
         → ReadsTo (profile_if takes_marker mode) text.now from result converter.new }
     ensures not_full { result.status ≢ 2 }
 {
