@@ -3,6 +3,7 @@ mod Drawn
 mod FilledRows
 mod LegalRows
 mod MoveRows
+mod PlyRows
 mod PositionRows
 mod TriedRows
 mod WorkedRows
