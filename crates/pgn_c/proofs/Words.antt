@@ -11,7 +11,7 @@ pub use Rattle.pgn_c.specs.declared.tag.PgnTag.{PgnTag}
 pub use Rattle.pgn_game.specs.FaultTable.{in_name, is_score, marker_of}
 pub use Rattle.pgn_game.specs.GamesRestart.{FinishesGame, games_read}
 pub use Rattle.pgn_game.specs.Markers.{marker_text}
-pub use Rattle.pgn_game.specs.Profile.{Profile, known_result}
+pub use Rattle.pgn_game.specs.Profile.{Profile}
 pub use Rattle.pgn_game.specs.Progress.{Read, due, output, read}
 pub use Rattle.pgn_game.specs.Text.{game_text, text_of}
 pub use Rattle.pgn_game.specs.declared.marker.Marker.{Marker}

@@ -19,7 +19,7 @@ unfoldable pub use Rattle.pgn_game.specs.FaultTable.{refusal}
 pub use Rattle.pgn_game.specs.Game.{Game, Part}
 pub use Rattle.pgn_game.specs.GamesCalls.{Games, HaveRead, NextGame, NextStops, NoGame, ReadsNoGame, at_end, most_left, within}
 pub use Rattle.pgn_game.specs.Levels.{start_of}
-pub use Rattle.pgn_game.specs.Profile.{Profile, known_result, takes_the_marker}
+pub use Rattle.pgn_game.specs.Profile.{Profile, takes_the_marker}
 pub use Rattle.pgn_game.specs.Progress.{Progress, Read, Verdict, due, no_progress, output, progress_after, read}
 pub use Rattle.pgn_game.specs.Progress.{read_from, refused, totals, verdict, verdict_of, Counted}
 pub use Rattle.pgn_game.specs.Reason.{line_of}

@@ -75,6 +75,3 @@ reads_taking p c h =
 pub stands_by_marker : (c : Converter) → ReadsByMarker c (reading_by_marker c)
 stands_by_marker c p u b stands =
     record { known = λ writes. absurd (cc); lexer = stands.lexer; has_read = reads_silently _ (taking_marker c) (reads_taking p c stands.has_read) }
-
-pub taking_still : (c : Converter) → writing_nothing (taking_marker c) ≡ reading_by_marker c
-taking_still c = refl
