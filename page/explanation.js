@@ -50,7 +50,8 @@ export function explained(fault) {
   const legal = squaresWith(explanation, LEGAL);
   const inCheck = squaresWith(explanation, IN_CHECK);
   if (isPromotionMissing(explanation, symbol)) {
-    return ["A pawn that reaches the last rank needs a piece: write " + symbol + "=Q."];
+    return ["A pawn that reaches the last rank needs a piece: write " +
+      symbol.replace(/[+#]+$/, "") + "=Q."];
   }
   if (legal.length > 1) {
     return [

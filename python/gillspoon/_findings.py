@@ -344,8 +344,9 @@ def _none(fen: str, move: str, said: _calls.Explanation) -> str:
     if said.piece == "K":
         return "The %s cannot go to %s." % (_piece(fen, said), said.target)
     letter, promotion = said.piece.replace("P", ""), "".join(move.partition("=")[1:])
-    if not letter and not promotion and _calls.explain(fen, move + "=Q").legal:
-        return "A %s is promoted on %s: write %s=Q." % (_piece(fen, said), said.target, move)
+    bare = move.rstrip("+#")
+    if not letter and not promotion and _calls.explain(fen, bare + "=Q").legal:
+        return "A %s is promoted on %s: write %s=Q." % (_piece(fen, said), said.target, bare)
     others = _calls.explain(fen, letter + said.target + promotion).legal
     if others:
         return "No %s can go to %s as %s says, but one may from %s." % (

@@ -374,6 +374,16 @@ class Faults(Lint):
                 self.assertEqual(re.sub(r"(?m)^ +$", "", out),
                                  "a.pgn:%s\n%s\n" % (lines[0], shown))
 
+    def test_a_mark_behind_a_pawn_s_move(self):
+        """A check mark belongs to no promotion that is proposed."""
+        promotes = b'[FEN "8/P6k/8/8/8/8/8/K7 w - - 0 1"]\n[SetUp "1"]\n\n1. a8+ *\n'
+        for text, said in ((promotes, "A white pawn is promoted on a8: write a8=Q."),
+                           (b"1. e4 e5 2. Ke2 e4xh1+ *\n", "No black pawn can go to h1.")):
+            self.put("a.pgn", text)
+            status, out, err = self.lint("--board", "--quiet", "a.pgn")
+            self.assertEqual((status, err), (1, ""), out)
+            self.assertEqual(out.rstrip().splitlines()[-1].strip(), said)
+
     def test_a_long_line_is_cut_around_the_caret(self):
         self.put("a.pgn", b"1. e4 {" + b"w " * 200 + b"} Ke3 {" + b"w " * 200 + b"} *\n")
         lines = self.lint("--board", "a.pgn")[1].splitlines()
