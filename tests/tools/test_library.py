@@ -164,7 +164,7 @@ def c_structs():
 class HeaderTest(unittest.TestCase):
     def test_functions(self):
         self.assertEqual(declared(), exported())
-        self.assertEqual(len(exported()), 9)
+        self.assertEqual(len(exported()), 10)
 
     def test_structs(self):
         self.assertEqual(c_structs(), rust_structs())
