@@ -1,4 +1,4 @@
-"""The wrong bodies of edits/ fit the sources, docs/GUARDS.md is what its sources give, and
+"""The wrong bodies of edits/ fit the sources, each function that docs/PROVED.md names has one, and
 bin/try_edits reads what a check says of an edit."""
 import glob
 import importlib.machinery
@@ -12,6 +12,13 @@ import unittest
 from programs import ROOT
 
 SCRIPT = os.path.join(ROOT, "bin", "try_edits")
+# Rows of docs/PROVED.md that the proof alone holds, by some of their names. Those with conditions
+# of callers are others: what a caller proves has no wrong body.
+PROOF_ALONE = (
+    "convert, convert_slice, IsTotalled.short", "convert_checked, AreRefused, AreConverted",
+    "split_to, SplitStops.unread", "pgn_next_game, NextGameIn", "pgn_next_game, IsGame.settled",
+    "pgn_next_game, IsRejected", "pgn_read_game, ReadGameIn",
+)
 
 
 def loaded():
@@ -63,18 +70,31 @@ class Edits(unittest.TestCase):
             groups = [them[0].name.split("-")[:2] for them in loaded().by_function(edits)]
             self.assertEqual([it for it in groups if groups.count(it) > 1], [], crate)
 
-    def test_the_page_of_guards_is_what_its_sources_give(self):
+    def rows(self):
+        """The rows of docs/PROVED.md, each with what guards it."""
+        rows = loaded().rows_of(text_of("docs", "PROVED.md"))
+        return loaded().guards_by_row(rows, self.edits + self.others + self.notices)
+
+    def test_each_function_that_a_row_names_has_an_edit(self):
         ran = call("--guards", "--check")
         self.assertEqual((ran.returncode, ran.stdout, ran.stderr), (0, "", ""))
 
+    def test_each_row_is_guarded_but_those_that_the_proof_alone_holds(self):
+        bare = [row for row, them in self.rows().items()
+                if not them and not row.words.endswith(": `requires`")]
+        alone = [set(it.split(", ")) for it in PROOF_ALONE]
+        self.assertEqual([row.words for row in bare if not any(it <= row.names for it in alone)], [])
+        self.assertEqual([it for it in alone if not any(it <= row.names for row in bare)], [])
+
     def test_the_page_names_each(self):
+        ran = call("--guards")
+        self.assertEqual((ran.returncode, ran.stderr), (0, ""))
         names = {it.name for it in self.edits + self.others}
-        for document in (("docs", "GUARDS.md"), ("edits", "README.md")):
-            said = set(re.findall("`(%s)`" % loaded().NAME, text_of(*document)))
-            self.assertEqual(sorted(said - names), [], document)
-            self.assertTrue(said, document)
-        page = text_of("docs", "GUARDS.md")
-        self.assertEqual([it for it in sorted(names) if "`%s`" % it not in page], [])
+        for said in (ran.stdout, text_of("edits", "README.md")):
+            found = set(re.findall("`(%s)`" % loaded().NAME, said))
+            self.assertEqual(sorted(found - names), [])
+            self.assertTrue(found)
+        self.assertEqual([it for it in sorted(names) if "`%s`" % it not in ran.stdout], [])
 
     def test_each_test_and_file_of_rows_is_there(self):
         sources = "".join(text_of(it) for pattern in ("crates/*/src/**/*.rt", "tests/tools/*.py")
@@ -113,7 +133,7 @@ class Edits(unittest.TestCase):
         self.assertEqual(last[0], "%d edits, %d of them tried on each change; %d more are in "
                          "must-fail/" % (len(self.edits), len(each), len(self.others)))
         rows = [set(re.findall("`(%s)`" % loaded().NAME, it))
-                for it in text_of("docs", "GUARDS.md").split("\n- ")]
+                for it in call("--guards").stdout.split("\n- ")]
         names = {it.name for it in each + self.others}
         self.assertEqual(last[1], "%d rows of docs/PROVED.md have edits, %d of them one that is "
                          "tried on each change" % (sum(1 for it in rows if it),
@@ -205,7 +225,7 @@ class Reading(unittest.TestCase):
 
 
 class Guards(unittest.TestCase):
-    """The page docs/GUARDS.md, from rows of a made ledger."""
+    """The page of --guards, and what --check misses, from rows of a made ledger."""
 
     LEDGER = """## `low`
 
@@ -224,17 +244,41 @@ class Guards(unittest.TestCase):
 |---|---|
 | last | `end` (`all of it`) |
 | never | `end`: `never` |
+| asked | `T::g`, `off`: `requires` |
 """
 
-    def page(self, *guards):
-        """The page from where the rows begin."""
+    def guards(self, *guards):
         script, found = loaded(), []
         for kind, name, *rows in guards:
             found.append(script.Edit("low", name, "low.edits:1") if kind == "edit"
                          else script.Notice("low", kind, name, "low.edits:1"))
             found[-1].guards = [frozenset(it.split(", ")) for it in rows]
+        return script, found
+
+    def page(self, *guards):
+        """The page from where the rows begin."""
+        script, found = self.guards(*guards)
         text = script.guards_page(self.LEDGER, found)
         return text[text.index("## `low`"):]
+
+    def missing(self, *guards):
+        script, found = self.guards(*guards)
+        return script.without_edit(self.LEDGER, found, {"put", "g", "end", "off", "other"})
+
+    def test_a_function_has_an_edit(self):
+        """A test alone is none, and what a caller has to keep needs none."""
+        self.assertEqual(self.missing(), ["end", "g", "put"])
+        edit = ("edit", "lib-put-a", "put, text")
+        self.assertEqual(self.missing(edit), ["end", "g"])
+        self.assertEqual(self.missing(("edit", "lib-put-a", "Puts"), ("test", "a", "all of it")),
+                         ["end"])
+        self.assertEqual(self.missing(("edit", "lib-put-a", "Puts"), ("edit", "lib-end-a", "never")),
+                         [])
+
+    def test_laws_are_no_functions_with_a_body(self):
+        known = loaded().functions()
+        self.assertTrue({"put_parts", "resolve", "main"} <= known)
+        self.assertFalse({"lexes_once", "unique_reading", "promotions_are_alike"} & known)
 
     def test_a_row_has_its_edits_and_then_the_rest(self):
         page = self.page(
@@ -257,6 +301,7 @@ class Guards(unittest.TestCase):
 No edit and no test is named for:
 
 - `end`: `never`
+- `T::g`, `off`: `requires`
 """)
 
     def test_its_lines_are_short_and_break_in_no_name(self):
