@@ -219,8 +219,8 @@ class Links(unittest.TestCase):
 class Names(unittest.TestCase):
     """What the documents name in code is in the repository, and what they list is all of it."""
 
-    # words of the toolchain and its std that a decision names
-    ELSEWHERE = {"BufWriter", "unsupported", "with_capacity"}
+    # what a decision names of the toolchain's std
+    ELSEWHERE = {"BufWriter"}
 
     def words(self, *folders):
         """Every word of the files below the folders, and of the names of these files."""
