@@ -292,6 +292,47 @@ class Names(unittest.TestCase):
                     self.assertRegex(first, r"^-- \*\*(Definition|Bookkeeping)\*\*")
 
 
+class Way(unittest.TestCase):
+    """The calls from `main` to a written letter, as ARCHITECTURE draws them."""
+
+    MOST_BETWEEN = 5  # functions that only pass a call on
+
+    def functions(self):
+        """For each function, by its crate and name, the words of its text that call something."""
+        found = {}
+        for path in glob.glob(ROOT + "/crates/*/src/**/*.rt", recursive=True):
+            crate = os.path.relpath(path, ROOT).split(os.sep)[1]
+            with open(path, encoding="utf-8") as file:
+                parts = re.split(r"\bfn (\w+)", file.read())
+            for name, text in zip(parts[1::2], parts[2::2]):
+                calls = set(re.findall(r"(\w+)(?:::<[^>]*>)?\(", text))
+                found.setdefault((crate, name), set()).update(calls)
+        return found
+
+    def drawn(self):
+        """The depth, the name and the crate of each line of the drawing."""
+        lines = next(inner for _, _, inner in blocks_of(lines_of("docs/ARCHITECTURE.md"))
+                     if inner[0].startswith("main "))
+        for line in lines:
+            name = re.search(r"\w+", line)
+            yield name.start() // 3, name[0], line[name.end():].split()[0]
+
+    def test_each_calls_those_below_it(self):
+        functions, above, count = self.functions(), [], 0
+        for depth, name, crate in self.drawn():
+            with self.subTest(name):
+                self.assertIn((crate, name), functions)
+                reached = {above[depth - 1]} if depth else {(crate, name)}
+                for _ in range(self.MOST_BETWEEN + 1):
+                    reached |= {(there, call) for here, it in reached
+                                for call in functions[here, it]
+                                for there in [here, *USES[here]] if (there, call) in functions}
+                self.assertIn((crate, name), reached)
+            above[depth:] = [(crate, name)]
+            count += 1
+        self.assertLess(12, count)
+
+
 class Written(unittest.TestCase):
     """What a script writes is what its sources give."""
 
