@@ -1,13 +1,13 @@
-// What a person would try next, by the fault and by what stands at its place.
+// What a person would try next, by the fault and by what is at its place.
 //
 // README.md has the same table. docs/TOOLS.md names what pgn_lint --fix mends, and which of it the
 // button of the page does.
 import { DRAW, RESULTS } from "./text.js";
 
 // A button that a fault may have.
-export const MARKERS_TOO = "Write missing results, and mend what has one reading";
+export const MARKERS_TOO = "Write missing results, and mend what is clear";
 
-const BUTTON = " The button “Mend what has one reading” does it.";
+const BUTTON = " The button “Mend what is clear” does it.";
 const UNSAFE = " pgn_lint --fix --unsafe-fixes does it.";
 const WRITE_MARKER = "It has to end with " + RESULTS + ". The button “" + MARKERS_TOO +
   "” writes what the Result tag says, or * without one.";
@@ -26,14 +26,14 @@ const ADVICE = [
   [(it) => it.number === 33 && /^[0-9]+[a-hKQRBNO]/.test(it.symbol), NUMBER_APART],
   [(it) => it.number === 33 && it.symbol === "1/2", WRITE_DRAW],
   [(it) => it.number === 33 && /^[SDTLCAF][a-h]?[1-8]?x?[a-h][1-8]/.test(it.symbol),
-    "Pieces have their English letters here: K, Q, R, B, N. pgn_lint --fix --language de writes " +
-    "German games anew, and those of five other languages."],
+    "Pieces have English letters here: K, Q, R, B, N. pgn_lint --fix --language de changes German " +
+    "letters to these, and it knows five other languages."],
   [(it) => it.number === 34 && /^([a-h][1-8]){2}/.test(it.symbol),
     "A move without a piece’s letter is a pawn’s: write Ng1f3, not g1f3." + BUTTON],
   [(it) => it.number === 34 && /^1[a-h][1-8]/.test(it.symbol), NUMBER_APART],
   [(it) => it.number === 41 && !it.hasResult,
     "The game has no Result tag, which counts as *. A missing Result can take the result at the " +
-    "end of its game instead. The button “Mend what has one reading” writes the tag.",
+    "end of its game instead. The button “Mend what is clear” writes the tag.",
     "fromMarker"],
   [(it) => it.number === 41, "Correct the Result tag or the result at the end of the game."],
   [(it) => it.number === 32 && !it.hasMovetext,
@@ -50,26 +50,26 @@ const ADVICE = [
     "A byte order mark is inside the file, where files were joined. Take it out." + BUTTON],
   [(it) => it.number === 1 && /^(\u00c2?\u00bd)/.test(it.near), WRITE_DRAW],
   [(it) => it.number === 2 && it.near.startsWith("\u001a"),
-    "Take out the byte 26 with which programs for DOS end a file." + BUTTON],
+    "Take out byte 26, which programs for DOS write at the end of a file." + BUTTON],
   [(it) => it.number === 2 && /^[\t\v\f]/.test(it.near),
     "Replace the tab in a value by a blank." + BUTTON],
   [(it) => it.number === 2, "Replace the control byte by a blank." + UNSAFE],
   [(it) => it.number === 6,
-    "A word of a comment has at most 79 bytes. Put a blank into a long address, and give long " +
-    "drawing commands as several ones, as the button “Mend what has one reading” does. " +
+    "A word of a comment has at most 79 bytes. Put a blank into a long address, and split a " +
+    "long drawing command into several, as the button “Mend what is clear” does. " +
     "pgn_lint --fix --unsafe-fixes cuts other words."],
   [(it) => it.number === 12,
-    "A comment is never closed by }. It begins on line LINE, as far as braces tell." + UNSAFE],
+    "A comment is never closed by }. By the braces it begins on line LINE." + UNSAFE],
   [(it) => it.number === 26, "Put the FEN into the field below, which says what is wrong with it. The button “Mend what " +
-    "has one reading” mends blanks, castling letters in another order, and missing counters if " +
+    "is clear” mends blanks, castling letters in another order, and missing counters if " +
     "the moves have numbers."],
   [(it) => it.number === 22,
-    "A game has one pair of each name: take out the second one. The button “Mend what has one " +
-    "reading” does it if both values are equal."],
+    "A game has each tag only once: take out the second one. The button “Mend what is clear” does " +
+    "it if both values are equal."],
   [(it) => it.number === 25 && it.note,
     "Write 1-0, 0-1 or * alone, and put the reason into a Termination tag."],
   [(it) => it.number === 25,
-    "A Result is one of " + RESULTS + ". The button “Mend what has one reading” writes it if the " +
+    "A Result is one of " + RESULTS + ". The button “Mend what is clear” writes it if the " +
     "value is empty, a question mark, or another spelling of a result."],
   [(it) => it.number === 30, "Add the FEN tag, or take out the SetUp tag. " +
     "pgn_lint --fix --unsafe-fixes takes it out."],

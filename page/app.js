@@ -220,7 +220,7 @@ class Page {
   showWork(movesFocus) {
     byId("work").hidden = byId("stop").hidden = byId("work-bar").hidden = false;
     byId("work-bar").value = 0;
-    byId("work-text").textContent = "Begins.";
+    byId("work-text").textContent = "Starting.";
     this.movesFocus = movesFocus;
     if (["result", "faults"].some((id) => byId(id).contains(document.activeElement))) {
       byId("work-title").focus();
@@ -239,7 +239,7 @@ class Page {
     }
   }
 
-  // ---- What the worker tells
+  // ---- What the worker reports
 
   // Reads a part of a file for the worker. Not every browser lets the worker of a page that is on a
   // disk read the files of that page.
@@ -257,7 +257,7 @@ class Page {
   progress({ file, done, length, games, bad }) {
     byId("work-bar").value = length ? done / length : 1;
     byId("work-text").textContent =
-      "Converts " + file + ": " + megabytes(done) + " of " + megabytes(length) + ", " + counted(games, "game") + (bad ? ", " + bad + " bad" : "") + ".";
+      "Converting " + file + ": " + megabytes(done) + " of " + megabytes(length) + ", " + counted(games, "game") + (bad ? ", " + bad + " bad" : "") + ".";
   }
 
   fault({ fault }) {
@@ -342,7 +342,7 @@ class Page {
     try {
       const text = decodedLines(new Uint8Array(await blob.arrayBuffer()));
       await navigator.clipboard.writeText(text);
-      byId("copied").textContent = "Copied, as characters. The download has the bytes.";
+      byId("copied").textContent = "Copied as text. The download has the exact bytes.";
     } catch (error) {
       byId("copied").textContent = "The browser does not let the page copy. Use the download.";
     }

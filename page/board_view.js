@@ -6,7 +6,7 @@ import { paragraph } from "./elements.js";
 const LEGEND = {
   target: "dotted: where the move goes",
   legal: "solid: from here the move is legal",
-  pinned: "dashed: from here the piece can step, but the king would be in check",
+  pinned: "dashed: from here the piece could go there, but the king would be in check",
 };
 
 // The board of a FEN, the words for it, and what its marks mean.

@@ -52,7 +52,7 @@ export class Conversion {
     this.plies = [];
     this.allPlies = 0;
     this.bad = [];
-    // the games whose Termination tells of a forfeit in other words than the standard's
+    // the games whose Termination names a forfeit in other words than the standard's
     this.forfeits = [];
   }
 

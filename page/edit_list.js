@@ -12,15 +12,15 @@ export class EditList {
     byId("mending").hidden = false;
     byId("apply").hidden = true;
     byId("edits").replaceChildren();
-    byId("mending-text").textContent = "Looks for edits.";
+    byId("mending-text").textContent = "Looking for edits.";
     byId("mending").dataset.state = "looking";
   }
 
-  // ---- What the worker tells
+  // ---- What the worker reports
 
   progress({ file, bad }) {
     byId("mending-text").textContent =
-      "Looks for edits in " + file + ": " + counted(bad, "bad game") + " so far.";
+      "Looking for edits in " + file + ": " + counted(bad, "bad game") + " so far.";
   }
 
   mended({ edits, mended, left }) {

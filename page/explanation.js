@@ -64,12 +64,12 @@ export function explained(fault) {
   }
   if (inCheck.length) {
     return [
-      piece + " on " + listed(inCheck, "or") + " can step to " + target +
+      piece + " on " + listed(inCheck, "or") + " could go to " + target +
       ", but then the king would be in check.",
     ];
   }
   return [
-    "No " + nameOfPiece(explanation.piece) + " of " + side + " can step to " + target +
+    "No " + nameOfPiece(explanation.piece) + " of " + side + " can go to " + target +
     (isHinted(symbol, explanation.piece) ? " from where “" + symbol + "” says." : "."),
   ];
 }
@@ -84,7 +84,7 @@ function castlingExplained(explanation, side) {
   return squaresWith(explanation, IN_CHECK).length
     ? "After castling on the " + wing + " " + side + "’s king would be in check."
     : side + " cannot castle on the " + wing + " here: the right is lost, a square between king " +
-      "and rook is not empty, or the king stands on or passes an attacked square.";
+      "and rook is not empty, or the king is on an attacked square or crosses one.";
 }
 
 // Whether a text says more of the origin than the piece: a file, a rank or both.

@@ -19,7 +19,7 @@ export class FaultList {
   }
 
   // Shows the last fault, and the list if there are several. `all` is their number, of which the
-  // first ones were told.
+  // first ones were reported.
   show(all, isRefused) {
     byId("faults").hidden = !this.faults.length;
     byId("go-on").hidden = byId("guess").hidden = !isRefused;

@@ -352,7 +352,7 @@ function endOf(match) {
   return match.index + match[0].length;
 }
 
-// A text in which \1 stands for what a group has matched.
+// A text in which \1 means what a group has matched.
 function expanded(match, text) {
   return text.replace(/\\([0-9])/g, (_, group) => match[group] || "");
 }

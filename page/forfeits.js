@@ -23,7 +23,7 @@ export function noteOnResult(text) {
   return RESULT.test(text) ? OF_FORFEIT : "";
 }
 
-// The places of lines in an export text whose Termination tells of a forfeit in other words.
+// The places of lines in an export text whose Termination names a forfeit in other words.
 export function terminationsIn(bytes) {
   // one character for each byte
   const text = new TextDecoder("latin1").decode(bytes);

@@ -18,7 +18,7 @@ const KINDS = [
   ["PK\u0005\u0006", "is an empty zip archive."],
   ["7z\u00bc\u00af\u0027\u001c", "is a 7z archive. " + UNPACK + "."],
   ["Rar!\u001a\u0007", "is a RAR archive. " + UNPACK + "."],
-  ["%PDF-", "is a PDF, which has pages in place of PGN text. Choose a PGN file" + PASTE],
+  ["%PDF-", "is a PDF, which has no PGN text. Choose a PGN file" + PASTE],
 ];
 const LONGEST_MARK = 6;
 

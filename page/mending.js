@@ -10,7 +10,7 @@ const RESULT_DIFFERS = 41;
 const NEVER_CLOSED = 12;
 // A move that no position allows: its fault has the position.
 const NO_MOVE = " Ka1a1 ";
-// How much of the text behind a bad game tells whether it still ends where it did.
+// How much of the text behind a bad game shows whether it still ends where it did.
 const TEXT_BEHIND = 1 << 12;
 const BYTE_ORDER_MARK_SIZE = 3;
 // The most variations that can be open, and one more.
@@ -114,7 +114,7 @@ class Mending {
   // Tries the fixes at a fault: whether one was kept.
   mendFault(found) {
     const here = new Here(this.text, this.begin, found, this.reader, this.isLast);
-    // a missing Result is told last, when all else is sound
+    // a missing Result is reported last, when all else is sound
     const missing =
       found.fault === RESULT_DIFFERS ? this.missingResult : MISSING_RESULTS.fromMarker;
     for (const edit of this.fixes.proposals(here)) {

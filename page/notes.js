@@ -1,4 +1,4 @@
-// What is said of sound games: of a Termination tag that tells of a forfeit in other words than the
+// What is said of sound games: of a Termination tag that names a forfeit in other words than the
 // standard's, as pgn_lint says it.
 import { TERMINATION_NOTE } from "./forfeits.js";
 import { button, byId, counted, item } from "./elements.js";

@@ -6,7 +6,7 @@ import { encoded } from "./text.js";
 const NAME = "pasted games";
 
 export class PastedGames {
-  // `convert` is called to convert the text, and told whether the keys for it were pressed.
+  // `convert` is called to convert the text, with whether the keys for it were pressed.
   constructor(convert) {
     this.field = byId("paste");
     // the text that was converted, or null: its faults are selected while the field has it

@@ -9,7 +9,7 @@ import { explained } from "./explanation.js";
 const FIELDS = [
   "", "field 1, the pieces", "field 2, the side to move", "field 3, the castling rights",
   "field 4, the en passant target", "field 5, the halfmove clock", "field 6, the move number",
-  "its six fields are spelled well, but make no position together: a king is missing, a pawn is " +
+  "each field is right by itself, but together they make no position: a king is missing, a pawn is " +
   "on the first or last rank, the side that has moved is in check, or the en passant target is " +
   "on a rank where none can be",
 ];

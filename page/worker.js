@@ -11,9 +11,9 @@ import { printable } from "./text.js";
 const WORK_MILLISECONDS = 50;
 // So much of a file is read at a time.
 const PART = 1 << 22;
-// So many faults are told in full; of more the page shows the number alone.
+// So many faults are reported in full; of more the page shows the number alone.
 const MOST_FAULTS = 500;
-// Of so many games the notes are told.
+// Of so many games the notes are reported.
 const MOST_NOTES = 100;
 
 let conversion = null;

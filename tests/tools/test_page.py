@@ -104,7 +104,7 @@ SELECTED = """
 """
 # The button of a fault that writes missing results.
 MARKERS_TOO = ("[...document.querySelectorAll('#fault button')].find(it => it.innerText === "
-               "'Write missing results, and mend what has one reading')")
+               "'Write missing results, and mend what is clear')")
 # Notes the longest time in which the page did nothing else, while it is called.
 BEAT = """
     window.longest = 0;
@@ -276,16 +276,17 @@ class States(Case):
                          "disk, and without a network.")
         self.assertEqual(
             self.text("proved"),
-            "The module inside this page, as the Rattle toolchain wrote it, is proved for every "
-            "text, by the same clauses as the library for C. Its lowering to 32-bit memory, which "
-            "optimizes it too, and the JavaScript of the page are tested.")
+            "The converter inside this page is proved for every text, by the same clauses as the "
+            "library for C, in the form that the Rattle toolchain wrote. Another tool then adapts it "
+            "to 32-bit memory and makes it smaller. That step and the JavaScript of the page are "
+            "tested, not proved.")
         self.assertQuiet()
 
     def test_converted(self):
         self.page()
         self.convert(("annotated.pgn", example("annotated")), ("two.pgn", example("two-games")))
         self.picture("converted")
-        self.assertRegex(self.text("work"), r"^Work\nDone, after \d+\.\d s\.$")
+        self.assertRegex(self.text("work"), r"^Progress\nDone, after \d+\.\d s\.$")
         self.assertEqual(self.text("counts"), "3 games, 7 plies.")
         rows = self.browser.run(
             "return [...document.querySelectorAll('#list tr')].map(row => "
@@ -317,7 +318,7 @@ class States(Case):
             "1. e4 e5 2. Bd4 *",
             "            ^",
             "Game 2: White “Okafor, Ben”, Black “Amaral, Rita”, Event “?”",
-            "No bishop of White can step to d4.",
+            "No bishop of White can go to d4.",
             *"a1b2c3d4e5f6g7h8",
             "Marked squares: dotted: where the move goes.",
         ]))
@@ -446,7 +447,7 @@ class Large(Case):
         self.browser.wait_for("return document.getElementById('work-bar').value > 0.3")
         self.picture("large-in-work")
         told = self.text("work-text")
-        self.assertRegex(told, r"^Converts large\.pgn: \d+\.\d MB of %.1f MB, [\d,]+ games\.$"
+        self.assertRegex(told, r"^Converting large\.pgn: \d+\.\d MB of %.1f MB, [\d,]+ games\.$"
                          % (size / MEGABYTE))
         self.assertTrue(self.browser.run(IS_VISIBLE, "stop"))
         self.assertEqual(self.browser.wait_for(IS_SHOWN), "done")
@@ -621,7 +622,7 @@ class Files(Case):
             (b"PK\5\6" + bytes(18), "a is an empty zip archive."),
             (b"7z\xbc\xaf\x27\x1c\0\4", "a is a 7z archive. " + unpack + "."),
             (b"Rar!\x1a\7\1\0", "a is a RAR archive. " + unpack + "."),
-            (b"%PDF-1.7\n%\xe2\xe3\xcf\xd3\n", "a is a PDF, which has pages in place of PGN text. "
+            (b"%PDF-1.7\n%\xe2\xe3\xcf\xd3\n", "a is a PDF, which has no PGN text. "
              "Choose a PGN file, or paste the games as text."),
         ]
         for text, said in rows:
@@ -644,7 +645,7 @@ class Files(Case):
 
 
 class Mending(Case):
-    """The button that mends what has one reading."""
+    """The button that mends what is clear."""
 
     def look(self, button="document.getElementById('mend')"):
         """Clicks a button, and gives what is listed: each edit, and the sentence above."""
@@ -1071,7 +1072,7 @@ class Rest(Case):
         self.convert(("annotated.pgn", example("annotated")), ("latin.pgn", b"e4 {caf\xe9} *"))
         self.browser.run(CLICK, "copy")
         self.browser.wait_for("return document.getElementById('copied').textContent")
-        self.assertEqual(self.text("copied"), "Copied, as characters. The download has the bytes.")
+        self.assertEqual(self.text("copied"), "Copied as text. The download has the exact bytes.")
         found = self.browser.await_script("return navigator.clipboard.readText()")
         text = self.download("download")[1]
         self.assertIn(b"{ caf\xe9 }", text)
@@ -1294,7 +1295,7 @@ class Rest(Case):
         self.set("fen", INITIAL)
         self.set("move", "g1f3")
         self.assertEqual(self.text("move-answer"),
-                         "“g1f3” is not legal. No pawn of White can step to f3 from where “g1f3” "
+                         "“g1f3” is not legal. No pawn of White can go to f3 from where “g1f3” "
                          "says.")
         self.set("move", "Ng1f3")
         after = "rnbqkbnr/pppppppp/8/8/8/5N2/PPPPPPPP/RNBQKB1R b KQkq - 1 1"
@@ -1311,7 +1312,7 @@ class Rest(Case):
                  "“Nd2” is ambiguous. White’s knights on b1 and f3 can both go to d2. Write Nbd2 "
                  "or Nfd2."),
                 ("4r1k1/8/8/8/8/8/4N3/4K3 w - - 0 1", "Nc3",
-                 "“Nc3” is not legal. White’s knight on e2 can step to c3, but then the king would "
+                 "“Nc3” is not legal. White’s knight on e2 could go to c3, but then the king would "
                  "be in check."),
                 ("4k3/8/8/8/8/8/8/4K2R w - - 0 1", "O-O",
                  "“O-O” is not legal. White cannot castle on the king’s side here"),
@@ -1330,14 +1331,14 @@ class Rest(Case):
         for text, words in (
                 (b"1. e4 e5 (1... -- 2. d4) *", "null move"), (b"1. e4 (1. Z0) *", "null move"),
                 (b"1. Z0 *", "pgn_lint --fix --unsafe-fixes does it."),
-                (b"1. e2-e4 *", "hyphen"), (b"1e4 *", "“Mend what has one reading” does it."),
+                (b"1. e2-e4 *", "hyphen"), (b"1e4 *", "“Mend what is clear” does it."),
                 (b"1. e4 1-0", "no Result tag"),
-                (b"1. e4 1-0", "“Mend what has one reading” writes the tag."),
+                (b"1. e4 1-0", "“Mend what is clear” writes the tag."),
                 (b'[Site "a"][Site "a"] *', "take out the second one"),
                 (b'[Result "?"] 1. e4 1-0', "A Result is one of 1-0, 0-1, 1/2-1/2"),
                 (b'[FEN "4k3/8/8/8/8/8/8/4K3 w - - 0 1 "] *', "the field below"),
                 (b"1. e4 e5", "The last game has no result at its end. It has to end with 1-0, 0-1, "
-                 "1/2-1/2 or *. The button “Write missing results, and mend what has one reading” "
+                 "1/2-1/2 or *. The button “Write missing results, and mend what is clear” "
                  "writes what the Result tag says, or * without one."),
                 (b'1. e4\n[Event "a"]', "The game before has no result at its end."),
                 (b'[White "a"] {c} [Black "b"] *', "A comment is between two tags."),
