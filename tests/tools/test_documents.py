@@ -22,8 +22,7 @@ from programs import ROOT, on_a_terminal, run
 
 MARK = re.compile(r"<!-- *not run\b:? *(.*?) *-->")
 LINK = re.compile(r"\[(?:[^\]`]|`[^`]*`)*\]\(([^)\s]+)\)")
-MOST_LINES = {"README.md": 200, "docs/PROVED.md": 350}
-MOST_BYTES_OF_A_ROW = 400
+MOST_LINES = {"README.md": 200}
 BUILT = ["%s/%s" % (ROOT, it) for it in (
     "crates/pgn_tool/out/pgn_tool", "crates/pgn_c/out/libpgn_c.a", "crates/pgn_c/out/libpgn_c.so",
     "cargo/out/pgn_tool", "cargo/out/libpgn_c.a", "cargo/out/libpgn_c.so")]
@@ -347,12 +346,6 @@ class Length(unittest.TestCase):
     def test_lines(self):
         for document, most in MOST_LINES.items():
             self.assertLessEqual(len(lines_of(document)) - 1, most, "lines of " + document)
-
-    def test_rows_of_the_ledger(self):
-        for number, line in enumerate(lines_of("docs/PROVED.md"), 1):
-            if line.startswith("|"):
-                with self.subTest("docs/PROVED.md:%d" % number):
-                    self.assertLessEqual(len(line.encode()), MOST_BYTES_OF_A_ROW)
 
 
 if __name__ == "__main__":
