@@ -278,7 +278,7 @@ class States(Case):
             self.text("proved"),
             "The converter inside this page is proved for every text, by the same clauses as the "
             "library for C, in the form that the Rattle toolchain wrote. Another tool then adapts it "
-            "to 32-bit memory and makes it smaller. That step and the JavaScript of the page are "
+            "to 32-bit memory and optimizes it. That step and the JavaScript of the page are "
             "tested, not proved.")
         self.assertQuiet()
 
