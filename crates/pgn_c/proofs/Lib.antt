@@ -1,6 +1,8 @@
 -- Lemmas on the memory that a caller is given, and on the lines of tag pairs and of plies.
 pub mod ConversionToBuffer
 pub mod MarkerTaken
+pub mod ReadingGoesOn
+pub mod SecondReading
 pub mod MoreBytesBehind
 pub mod PairsOnLines
 pub mod NextGames

@@ -1,6 +1,7 @@
 -- A game that is read by its marker is also read where a missing Result takes the marker.
-use Rattle.pgn_c.proofs.Words.{◌≡◌, ◌≢◌, ℕ, List, [], ◌∷◌, ◌++◌, length, None, Some, refl, sym, ap, subst, ◌∙◌, append-nil, Token, Marker, Mode, Reason, WriteFault, marker_text, game_text, text_of, Read, read, games_read, PgnGame, IsFilled, ConvertsNext, IsGame, NextOf, TakesMarker, game_result, profile_counting, profile_taking, status_for, text_from}
+use Rattle.pgn_c.proofs.Words.{◌≡◌, ◌≢◌, ℕ, List, [], ◌∷◌, ◌++◌, length, None, Some, refl, sym, ap, subst, ◌∙◌, append-nil, Token, Marker, Mode, Reason, WriteFault, marker_text, game_text, text_of, Read, read, games_read, PgnGame, IsFilled, ConvertsNext, IsGame, NextOf, HasGameByMarker, game_result, profile_counting, profile_taking, status_for, text_from}
 use Rattle.pgn_game.specs.MissingResults.{IsReadAlike, MissingResults, rejects_marker}
+use Rattle.pgn_c.proofs.ReadingGoesOn.{front_passes}
 
 -- no other result has status 0
 pub is_fault : (status : ℕ) (r : Reason) → status ≢ 0 → status_for status r ≢ 0
@@ -13,7 +14,7 @@ module _ (law : MissingResults) (mode : Mode) (marker : Marker) where
 
   module _ (s before after : List ℕ) (found : PgnGame) (written : List ℕ) (result : PgnGame) (filled : IsFilled before after written)
       (same : result ≡ record found { written = length written }) where
-    of_game : IsGame (profile_counting mode marker) s found (Some []) (Some written) → TakesMarker mode s before after result
+    of_game : IsGame (profile_counting mode marker) s found (Some []) (Some written) → HasGameByMarker mode s before after result
     of_game is =
         let ts : List Token = is.tokens ++ is.at ∷ [] in
         let both = alike ts is.passes in
@@ -29,6 +30,8 @@ module _ (law : MissingResults) (mode : Mode) (marker : Marker) where
           marker = is.marker;
           game = is.game;
           shown = is.shown;
+          none_before = ap (λ (r : Read). r.progress.games) (alike is.tokens (front_passes (profile_counting mode marker) is.tokens (is.at ∷ []) is.passes)).same
+              ∙ is.none_before;
           passes = ap (λ (r : Read). r.fault) both.same ∙ is.passes;
           one_game = games;
           is_marker = is.is_marker;
@@ -40,7 +43,7 @@ module _ (law : MissingResults) (mode : Mode) (marker : Marker) where
         }
 
     by_next : (piece : List ℕ) → NextOf (profile_counting mode marker) s piece found (Some []) (Some written)
-        → found.status ≡ 0 → TakesMarker mode s before after result
+        → found.status ≡ 0 → HasGameByMarker mode s before after result
     by_next piece (NextOf.game is) ok = of_game is
     by_next piece (NextOf.no_game is) ok = absurd (let e = ap (λ (r : PgnGame). r.status) is.is_result in cc)
     by_next piece (NextOf.rejected is) ok = absurd (is_fault 1 is.fault.reason (λ e. cc) (sym (ap (λ (r : PgnGame). r.status) is.is_result) ∙ ok))
@@ -51,7 +54,7 @@ module _ (law : MissingResults) (mode : Mode) (marker : Marker) where
 
   pub takes_marker : (text : List ℕ) (from : ℕ) (before after : List ℕ) (result : PgnGame)
       → ConvertsNext (profile_counting mode marker) text from before after result
-      → result.status ≡ 0 → TakesMarker mode (text_from text from) before after result
+      → result.status ≡ 0 → HasGameByMarker mode (text_from text from) before after result
   takes_marker text from before after result converts ok =
       by_next (text_from text from) before after converts.found converts.written result converts.filled converts.is_result _ converts.next
       (sym (ap (λ (r : PgnGame). r.status) converts.is_result) ∙ ok)

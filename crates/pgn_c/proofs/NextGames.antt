@@ -13,7 +13,7 @@ use Rattle.pgn_game.specs.Profile.{Missing, counts_as, takes_the_marker}
 use Rattle.pgn_game.specs.Text.{torn_for}
 use Rattle.pgn_game.specs.Due.{Gains}
 use Rattle.pgn_game.specs.Written.{seen}
-use Rattle.pgn_game.specs.ConverterCalls.{AreShown, Converter, Ends, FinishedGame, finished_game_of, finished_game_value, IsLast, Stands, StopsWriting, Stops, refused, unwritten, FedAll, FedGame, FedToFault, within_limit, StopsIn, at_token, too_long, Finishes, FinishesToFault, games_before, position_at_stop, refused_position, reported_position}
+use Rattle.pgn_game.specs.ConverterCalls.{AreShown, Converter, Ends, FinishedGame, finished_game_of, IsLast, Stands, StopsWriting, Stops, refused, unwritten, FedAll, FedGame, FedToFault, within_limit, StopsIn, at_token, too_long, Finishes, FinishesToFault, games_before, position_at_stop, refused_position, reported_position}
 use Rattle.pgn_game.specs.GameEnds.{GamesEndByMarker, TextsEndBehindMarker, TextsEndBetweenGames}
 
 -- ---- a marker
@@ -101,17 +101,6 @@ module _ (p : Profile) (u piece : List ℕ) (before : Option (List ℕ)) (laws :
   abbrev s : List ℕ
   s = u ++ piece
 
-  -- the value of Result that the converter has
-  value_is : (new : Converter) (game : Game) (text : List ℕ) → new.reading.profile ≡ p → new.just_finished ≡ Some (finished_game_of game)
-      → value_of (exported p.mode (result_for p.missing_result game.marker) game.pairs) (codes "Result") ≡ Some text
-      → finished_game_value new (codes "Result") ≡ Some text
-  value_is new game text profile finished is =
-      ap (λ (o : Option FinishedGame). elim o [
-        | None ↦ None
-        | Some done ↦ value_of (exported new.reading.profile.mode (result_for new.reading.profile.missing_result done.marker) done.pairs) (codes "Result")
-      ]) finished
-      ∙ ap (λ (q : Profile). value_of (exported q.mode (result_for q.missing_result game.marker) game.pairs) (codes "Result")) profile ∙ is
-
   still_none : (bs : List ℕ) → still None bs ≡ None
   still_none [] = refl
   still_none (b ∷ bs) = refl
@@ -134,8 +123,7 @@ module _ (p : Profile) (u piece : List ℕ) (before : Option (List ℕ)) (laws :
   -- what the code answers of a game just finished
   abbrev Answered : Converter → ℕ → PgnGame → Type 0
   Answered new end result = (game : Game) (marker : Marker) → new.just_finished ≡ Some (finished_game_of game)
-      → finished_game_value new (codes "Result") ≡ Some (marker_text marker)
-      → result ≡ game_result game marker (end - length (marker_text marker)) end
+      → game.marker ≡ marker_text marker → result ≡ game_result game marker (end - length (marker_text marker)) end
 
   -- the whole text of one game
   whole_text : (ts : List Token) (game : Game) → due p ts ≡ text_of p (games_read p ts)
@@ -157,8 +145,7 @@ module _ (p : Profile) (u piece : List ℕ) (before : Option (List ℕ)) (laws :
         let ends : EndsAt fed.marker.kind fed.marker.at n = subst (EndsAt fed.marker.kind fed.marker.at) (sym count) fed.ends in
         let mark = marks fed.marker.kind fed.marker.at n fed.game.marker law.is_marker ends in
         let is =
-        answer fed.game mark.marker fed.just_finished
-        (value_is new fed.game (marker_text mark.marker) fed.stands.has_read.profile fed.just_finished (law.result ∙ ap Some mark.is_marker))
+        answer fed.game mark.marker fed.just_finished mark.is_marker
         ∙ ap (λ at. game_result fed.game mark.marker at n) mark.place in
         let end : result.end ≡ n = ap (λ (r : PgnGame). r.end) is in
         let ts : List Token = fed.tokens ++ fed.marker ∷ [] in
@@ -288,8 +275,7 @@ module _ (p : Profile) (u piece : List ℕ) (before : Option (List ℕ)) (laws :
           let ends : EndsAt last.marker.kind last.marker.at n = subst (EndsAt last.marker.kind last.marker.at) (sym count) last.ends in
           let mark = marks last.marker.kind last.marker.at n game.marker ends_by.is_marker ends in
           let is =
-          answer game mark.marker just
-          (value_is new game (marker_text mark.marker) fin.has_read.profile just (ends_by.result ∙ ap Some mark.is_marker))
+          answer game mark.marker just mark.is_marker
           ∙ ap (λ at. game_result game mark.marker at n) mark.place in
           let end : result.end ≡ n = ap (λ (r : PgnGame). r.end) is in (
             NextOf.game (record {

@@ -1,5 +1,5 @@
 -- The words that proofs of this crate name, under one path.
-pub use Rattle.pgn_c.specs.NextGame.{AreKnown, ConvertsNext, IsGame, NextOf, TakesMarker, fault_result, game_result, nothing}
+pub use Rattle.pgn_c.specs.NextGame.{AreKnown, ConvertsNext, IsGame, NextOf, HasGameByMarker, fault_result, game_result, nothing}
 pub use Rattle.pgn_c.specs.NextGameSteps.{Finds, Holds, ReadsTo}
 pub use Rattle.pgn_c.specs.NextGame.{profile_counting, profile_taking, status_for, text_from}
 pub use Rattle.pgn_c.specs.Results.{IsFilled, padded, profile_in, result_of, status_of}
@@ -8,7 +8,7 @@ pub use Rattle.pgn_c.specs.TagScan.{length_to_quote, name_length, one_more, pair
 unfoldable pub use Rattle.pgn_c.specs.TagScan.{first_pair}
 pub use Rattle.pgn_c.specs.declared.game_result.PgnGame.{PgnGame}
 pub use Rattle.pgn_c.specs.declared.tag.PgnTag.{PgnTag}
-pub use Rattle.pgn_game.specs.FaultTable.{in_name, is_score, marker_of}
+pub use Rattle.pgn_game.specs.FaultTable.{in_name, is_score, marker_of, refusal}
 pub use Rattle.pgn_game.specs.GamesRestart.{FinishesGame, games_read}
 pub use Rattle.pgn_game.specs.Markers.{marker_text}
 pub use Rattle.pgn_game.specs.Profile.{Profile}

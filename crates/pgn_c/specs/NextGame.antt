@@ -214,15 +214,16 @@ ReadsNext p text from found = NextOf p (text_from text from) (drop from text) fo
 abbrev pub profile_taking : Mode → Profile
 profile_taking mode = checked_profile 64 32 mode
 
--- A game in which a missing Result takes the marker: the first tokens of the text, up to `at`, are
--- read into it, and into no other game. The bytes before place 2^62 show them. The buffer begins
--- with the export text of the game, and its other bytes are as they were.
-pub record TakesMarker (mode : Mode) (s : List ℕ) (before after : List ℕ) (result : PgnGame) : Type 0 where
+-- A game in which a missing Result takes the marker: the first tokens of the text, of which `at` is
+-- its marker, are read into it. The bytes before place 2^62 show them. The buffer begins with the
+-- export text of the game, and its other bytes are as they were.
+pub record HasGameByMarker (mode : Mode) (s : List ℕ) (before after : List ℕ) (result : PgnGame) : Type 0 where
   pub tokens : List Token
   pub at : Token
   pub marker : Marker
   pub game : Game
   pub shown : AreShown s (tokens ++ at ∷ [])
+  pub none_before : games_read (profile_taking mode) tokens ≡ []
   pub passes : (read (profile_taking mode) (tokens ++ at ∷ [])).fault ≡ None
   pub one_game : games_read (profile_taking mode) (tokens ++ at ∷ []) ≡ game ∷ []
   pub is_marker : game.marker ≡ marker_text marker
@@ -233,7 +234,8 @@ pub record TakesMarker (mode : Mode) (s : List ℕ) (before after : List ℕ) (r
 
 -- A missing Result takes the marker. So the game is first read, and nothing is written.
 -- - If that finds a game, it is converted into the buffer, with a missing Result that counts as its
---   marker. With the status 0 it is the game of `TakesMarker`.
+--   marker. With the status 0 it is the game of `HasGameByMarker`. In a text of at most 2^62 bytes
+--   the only other status is 2.
 -- - If not, nothing is written, and the result is that of the reading.
 pub record ChecksNext (mode : Mode) (text : List ℕ) (from : ℕ) (before after : List ℕ) (result : PgnGame) : Type 0 where
   pub found : PgnGame
@@ -241,8 +243,9 @@ pub record ChecksNext (mode : Mode) (text : List ℕ) (from : ℕ) (before after
   pub not_full : found.status ≢ 2
   pub is_game : found.status ≡ 0 → (marker : Marker) → found.marker ≡ marker_number marker
       → ConvertsNext (profile_counting mode marker) text from before after result
-  pub takes : result.status ≡ 0 → TakesMarker mode (text_from text from) before after result
-  pub no_game : found.status ≢ 0 → (after ≡ before) × (result ≡ found)
+  pub takes : result.status ≡ 0 → HasGameByMarker mode (text_from text from) before after result
+  pub converts : found.status ≡ 0 → length text ≤ 2 ^ 62 → (result.status ≡ 0) ⊎ (result.status ≡ 2)
+  pub not_found : found.status ≢ 0 → (after ≡ before) × (result ≡ found)
 
 -- The next game in a mode. If `missing_result` is 0, a missing Result counts as `*`; if it is 1, it
 -- takes the marker. With another number the status is 3. With a place after the end of the text or

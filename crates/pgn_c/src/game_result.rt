@@ -1,9 +1,9 @@
 //! The result of a call for the next game, as C gets it.
-ghost use Rattle.std.specs.Prelude.{◌≡◌, ◌-◌, None, Some, codes, length};
+ghost use Rattle.std.specs.Prelude.{◌≡◌, ◌-◌, None, Some, length};
 ghost use Rattle.std.specs.Option.{option_copied};
 ghost use Rattle.pgn_game.specs.Game.{Game};
 ghost use Rattle.pgn_game.specs.Markers.{marker_text};
-ghost use Rattle.pgn_game.specs.ConverterCalls.{finished_game_of, finished_game_value, refused_position};
+ghost use Rattle.pgn_game.specs.ConverterCalls.{finished_game_of, refused_position};
 ghost use Rattle.pgn_c.specs.NextGame.{fault_result, fen_bytes, game_result, nothing, marker_number};
 ghost use Rattle.pgn_c.specs.NextGame as spec;
 
@@ -59,10 +59,10 @@ pub fn finished_game(converter: &Converter<TAGS, LEVELS>, end: usize) -> PgnGame
     ensures status { result.status ≡ 0 }
     ensures game { (game : Game) (marker : Marker)
         → converter.now.just_finished ≡ Some (finished_game_of game)
-        → finished_game_value converter.now (codes "Result") ≡ Some (marker_text marker)
+        → game.marker ≡ marker_text marker
         → result ≡ game_result game marker (end - length (marker_text marker)) end }
 {
-    let marker = marker_in(converter.tag(b"Result"));
+    let marker = converter.marker().unwrap_or(Marker::Unknown);
     PgnGame {
         status: OK,
         fault: 0,
@@ -138,17 +138,6 @@ fn status_for(status: u32, reason: Reason) -> u32
     match reason {
         Reason::WriteFault => FULL,
         _ => status,
-    }
-}
-
-// The marker that a value of Result is.
-fn marker_in(value: Option<&[u8]>) -> Marker
-    ensures { (marker : Marker)
-        → option_copied value.entry ≡ Some (marker_text marker) → result ≡ marker }
-{
-    match value {
-        Some(text) => Marker::of_symbol(text).unwrap_or(Marker::Unknown),
-        None => Marker::Unknown,
     }
 }
 

@@ -6,3 +6,4 @@ pub mod MarkerCounts
 pub mod MarkerToReading
 pub mod MarksInTurn
 pub mod ReadingsToConversion
+pub mod TakingToCounting

@@ -1,7 +1,8 @@
 -- **Definition**: the law of a missing Result that counts as a text, beside one that takes the
 -- marker of its game.
 -- Letters: p is the profile in which it takes the marker, and ts are tokens.
-use Rattle.std.specs.Prelude.{◌≡◌, ℕ, Bool, true, false, List, [], ◌∷◌, ◌++◌, Option, None, Some}
+use Rattle.std.specs.Prelude.{◌≡◌, ℕ, Bool, true, false, IsTrue, List, [], ◌∷◌, ◌++◌, bytes_eq, Option, None, Some}
+use Rattle.std.specs.List.{list_all}
 use Rattle.pgn_lexer.specs.Tokens.{Token}
 use Rattle.pgn_game.specs.declared.marker.Marker.{Marker}
 use Rattle.pgn_game.specs.declared.reason.Fault.{Fault}
@@ -10,6 +11,7 @@ use Rattle.pgn_game.specs.declared.reason.Reason.TheVariants.{ResultDiffers}
 use Rattle.pgn_game.specs.Markers.{marker_text}
 use Rattle.pgn_game.specs.Profile.{Profile, counting, takes_the_marker}
 use Rattle.pgn_game.specs.FaultTable.{marker_of}
+use Rattle.pgn_game.specs.Game.{Game}
 use Rattle.pgn_game.specs.Text.{text_of}
 use Rattle.pgn_game.specs.Progress.{read}
 
@@ -45,12 +47,20 @@ pub record IsReadByItsMarker (p : Profile) (ts : List Token) (at : ℕ) : Type 0
   pub rejected : (read (counting p (marker_text marker)) ts).progress.games ≡ []
       → IsReadAlike p (marker_text marker) ts
 
+-- each game ends with this marker
+abbrev pub all_end_with : List ℕ → List Game → Bool
+all_end_with text games = list_all (λ (g : Game). bytes_eq g.marker text) games
+
 -- Tokens that are read by a profile in which a missing Result counts as a text.
 -- - `alike`: if no marker is rejected because it is not the Result, they are read alike.
 -- - `by_its_marker`: if one is, before a game was finished, `IsReadByItsMarker` holds at its place.
+-- - `by_own_marker`: if no token is rejected where a missing Result takes the marker, and each game
+--   ends with this text, they are read alike.
 pub record MissingResults : Type 0 where
   pub alike : (p : Profile) (text : List ℕ) (ts : List Token) → p.missing_result ≡ takes_the_marker
       → rejects_marker (read (counting p text) ts).fault ≡ false → IsReadAlike p text ts
   pub by_its_marker : (p : Profile) (text : List ℕ) (ts : List Token) (at : ℕ) → p.missing_result ≡ takes_the_marker
       → (read (counting p text) ts).fault ≡ Some (record { at = at; reason = ResultDiffers })
       → (read (counting p text) ts).progress.games ≡ [] → IsReadByItsMarker p ts at
+  pub by_own_marker : (p : Profile) (text : List ℕ) (ts : List Token) → p.missing_result ≡ takes_the_marker
+      → (read p ts).fault ≡ None → IsTrue (all_end_with text (read p ts).progress.games) → IsReadAlike p text ts

@@ -128,7 +128,8 @@ pub fn silent_readings()
 ///
 /// The games, the fault and the export text are the same, unless a marker is rejected since it is
 /// not the Result. If that is the first fault, before any game is finished, count a missing Result
-/// as this marker: up to it, that gives what taking the marker gives.
+/// as this marker: up to it, that gives what taking the marker gives. So it does for tokens that
+/// are all accepted, if each of their games ends with this marker.
 pub fn missing_results()
     ensures { missing.MissingResults }
 {}

@@ -1,0 +1,50 @@
+-- Reading with a missing Result that takes the marker, and with one that counts as the marker by
+-- which each game ends.
+-- Letters: q is the profile whose missing Result takes the marker, b the progress, t a token, ts
+-- are tokens.
+use Rattle.std.proofs.lemmas.Bool.{and_parts}
+use Rattle.pgn_game.proofs.Words.{Token, Profile, takes_the_marker, Game, ◌≡◌, inl, inr, Bool, true, ◌&&◌, ℕ, List, [], ◌∷◌, ◌++◌, bytes_eq, Option, None, Some, IsTrue, refl, sym, ap, ◌∙◌, list_all, list_all-append, bytes_eq-Decides, marker_text, counting, refusal, marker_of, Next, going, whole, next, Progress, progress_with, progress_after, no_progress, read_from, read}
+use Rattle.pgn_game.specs.MissingResults.{all_end_with}
+use Rattle.pgn_game.proofs.tokens.OneMoreToken.{by_token, first_passes, goes_on}
+use Rattle.pgn_game.proofs.twice.MarkerCounts.{marker_finishes, refusal_counting}
+
+-- the games so far are among those of all tokens
+ends_so_far : (text : List ℕ) (games : List Game) (to : Next)
+    → IsTrue (all_end_with text (progress_with games to).games) → IsTrue (all_end_with text games)
+ends_so_far text games (going part) all = all
+ends_so_far text games (whole g) all =
+    (and_parts (all_end_with text games) (all_end_with text (g ∷ [])) (rw (list_all-append (λ (g : Game). bytes_eq g.marker text) games (g ∷ [])) at all)).0
+
+end_before : (p : Profile) (text : List ℕ) (b : Progress) (ts : List Token)
+    → IsTrue (all_end_with text (read_from p b ts).progress.games) → IsTrue (all_end_with text b.games)
+end_before p text b [] all = all
+end_before p text b (t ∷ ts) all =
+    by_token p b t ts (λ r. IsTrue (all_end_with text r.progress.games) → IsTrue (all_end_with text b.games)) (λ reason is also. also)
+    (λ is also. ends_so_far text b.games (next b.part t.kind) (end_before p text (progress_after b t) ts also)) all
+
+-- so the marker of a game just finished is the text
+marker_is : (text : List ℕ) (games : List Game) (g : Game) → IsTrue (all_end_with text (games ++ g ∷ [])) → g.marker ≡ text
+marker_is text games g all =
+    let last = (and_parts (all_end_with text games) (all_end_with text (g ∷ []))
+    (rw (list_all-append (λ (g : Game). bytes_eq g.marker text) games (g ∷ [])) at all)).1 in
+    (bytes_eq-Decides g.marker text).0 (and_parts (bytes_eq g.marker text) true last).0
+
+pub reads_by_own_marker : (q : Profile) (text : List ℕ) (b : Progress) (ts : List Token) → q.missing_result ≡ takes_the_marker
+    → (read_from q b ts).fault ≡ None → IsTrue (all_end_with text (read_from q b ts).progress.games)
+    → read_from q b ts ≡ read_from (counting q text) b ts
+reads_by_own_marker q text b [] takes passes all = refl
+reads_by_own_marker q text b (t ∷ ts) takes passes all =
+    let free = first_passes q b t ts passes in
+    let here = goes_on q b t ts free in
+    let later = rw here at all in
+    let same = by_marker (marker_of t.kind) refl free (end_before q text (progress_after b t) ts later) in
+    here ∙ reads_by_own_marker q text (progress_after b t) ts takes (rw here at passes) later ∙ sym (goes_on (counting q text) b t ts (same ∙ free))
+  where
+    by_marker : (o : Option (List ℕ)) → marker_of t.kind ≡ o → refusal q b.part t.kind ≡ None
+        → IsTrue (all_end_with text (progress_after b t).games) → refusal (counting q text) b.part t.kind ≡ refusal q b.part t.kind
+    by_marker None is free ends = refusal_counting q text b.part t.kind takes (inl is)
+    by_marker (Some marker) is free ends =
+        let leads = marker_finishes q b.part t.kind marker is free in
+        let game : Game = record { pairs = b.part.pairs; items = b.part.items; marker = marker } in
+        let same : marker ≡ text = marker_is text b.games game (rw (ap (λ (to : Next). (progress_with b.games to).games) leads) at ends) in
+        refusal_counting q text b.part t.kind takes (inr (is ∙ ap Some same))
