@@ -90,13 +90,13 @@ pub use Rattle.pgn_game.specs.Tried.{CostsAnswer, CostsForm}
 pub use Rattle.pgn_game.specs.ConverterCalls.{NoWriteFails, StillStands, writing_nothing, AreNext, within_limit, Converter, CountsFault, CountsMissingAs, CountsReason, FedAll, FedFault, FedGame, FedToFault, FedWhole, FinishedGame, HasRead, IsSound, ReadsUpTo, Stands, StopsIn, at_token, counting_missing_as, finished_game_of, finished_game_plies, game_in_reader_if, play_moves, profile_of, too_long, AfterFinish, Finishes, FinishesToFault, game_in_reader, Stops, unwritten, StopsWriting, games_before, position_at_stop, ProbesAtStop, has_played_move, reported_position, refused as refused_stop, IsLast as IsLastGame}
 pub use Rattle.pgn_lexer.specs.Standing.{Standing, coming, waiting}
 pub use Rattle.pgn_lexer.specs.Stands.{AfterScan, FinishGivesToken, Follows, HasLeft, IsDecided, IsNext, StandsAfter, first, still}
-pub use Rattle.pgn_game.specs.Readings.{BothSoFar, HasMarked, HasMatched, IsGoing, Reading, changed_reason, model_mark}
+pub use Rattle.pgn_game.specs.Readings.{BothSoFar, HasMarked, HasMatched, Reading, changed_reason, model_mark}
 pub use Rattle.pgn_game.specs.MostTried.{CostsIf, CostsToAdd, CostsToFind, CostsToWrite, MostFrom, MostTried, Raises, Tries}
 pub use Rattle.pgn_game.specs.MostTried.{TriesUnwritten, added, is_written, none}
 pub use Rattle.pgn_game.specs.GamesCalls.{AfterNext, CountsNext, Games, HasReadAll, HaveRead, NextGame, NextStops, NoGame, ReadSoFar, at_end}
 pub use Rattle.pgn_game.specs.GamesCalls.{games_of, most_left, within}
 pub use Rattle.pgn_game.specs.Due.{Gains, gain, text_next}
-pub use Rattle.pgn_game.specs.ConverterSteps.{AfterStep, AfterStepAtEnd, AllSoFar, AtEndSoFar, EndsGame, EndsWithin, FaultAtEnd, FeedsAllSoFar, FeedsSoFar, FinishesSoFar, GainsAs, Meets, NotTaken, OneGame, Reaches, ReadsMore, SameGames, SoFar, StaysBetween, due_as, ended_by, fault_of_step, next_at, outcome_at, part_after}
+pub use Rattle.pgn_game.specs.ConverterSteps.{AfterStep, AfterStepAtEnd, AllSoFar, AtEndSoFar, EndsGame, EndsWithin, FaultAtEnd, FeedsAllSoFar, FeedsSoFar, FinishesSoFar, GainsAs, IsGoing, Meets, NotTaken, OneGame, Reaches, ReadsMore, SameGames, SoFar, StaysBetween, due_as, ended_by, fault_of, next_at, outcome_at, part_after}
 pub use Rattle.pgn_game.specs.Checked.{Comparison, Mark, checked_profile, compared, compared_from, earlier_fault, is_changed, is_other, mark_at}
 pub use Rattle.pgn_game.specs.Checked.{marks, marks_after, marks_from, torn_before, with_mark, written_by}
 pub use Rattle.pgn_lexer.specs.Decided.{decided}

@@ -8,6 +8,7 @@ pub mod GamesInPiece
 pub mod GamesInTurn
 pub mod GamesJoined
 pub mod GamesRestart
+pub mod GoesToMarker
 pub mod LastTokens
 pub mod MarkerEndsGame
 pub mod MarkerToGame

@@ -4,7 +4,7 @@
 -- `given` are the tokens given before a call, `tokens` those read when it ends. t is the token that
 -- comes then, m the mark of a marker, f a fault, g a game. `sink` is the sink before the call and
 -- after it, `before` and `after` are the bytes that it has taken, if it reports them.
-use Rattle.std.specs.Prelude.{◌≡◌, ℕ, ◌+◌, ◌*◌, ◌<◌, ◌≤◌, ◌^◌, ◌↔◌, ◌⊎◌, Bool, true, false, IsTrue, List, [], ◌∷◌, ◌++◌, length, take, drop, Option, None, Some, Result, Ok, Err, MatchResult}
+use Rattle.std.specs.Prelude.{◌≡◌, ℕ, ◌+◌, ◌*◌, ◌<◌, ◌≤◌, ◌^◌, ◌↔◌, ◌⊎◌, Bool, true, false, IsTrue, List, [], ◌∷◌, ◌++◌, length, take, drop, Option, None, Some, Result, Ok, Err, MatchResult, IfOk, IfSome, OnOk}
 use Rattle.std.specs.Io.KnownBytes.{Appends}
 use Rattle.pgn_layout.specs.Device.{Device}
 use Rattle.pgn_lexer.specs.Tokens.{Kind, Token, EndsAt}
@@ -18,10 +18,10 @@ use Rattle.pgn_game.specs.declared.marker.Mark.{Mark}
 use Rattle.pgn_game.specs.declared.reason.Fault.{Fault}
 use Rattle.pgn_game.specs.declared.reason.Reason.{Reason}
 use Rattle.pgn_game.specs.declared.reason.Reason.TheVariants.{WriteFault}
-use Rattle.pgn_game.specs.declared.converter.Met.{Met}
-use Rattle.pgn_game.specs.declared.converter.Met.TheVariants.{Token as Other, Marker as AtMarker}
-use Rattle.pgn_game.specs.declared.converter.Reached.{Reached}
-use Rattle.pgn_game.specs.declared.converter.Reached.TheVariants.{All, Marker as ToMarker}
+use Rattle.pgn_game.specs.declared.converter.StepEnd.{StepEnd}
+use Rattle.pgn_game.specs.declared.converter.StepEnd.TheVariants.{Token as Other, Marker as AtMarker}
+use Rattle.pgn_game.specs.declared.converter.FedUpTo.{FedUpTo}
+use Rattle.pgn_game.specs.declared.converter.FedUpTo.TheVariants.{All, Marker as ToMarker}
 use Rattle.pgn_game.specs.Markers.{marker_text}
 use Rattle.pgn_game.specs.Profile.{Profile, takes_the_marker, with_missing}
 use Rattle.pgn_game.specs.Game.{Game, Part}
@@ -32,7 +32,7 @@ use Rattle.pgn_game.specs.Due.{Gains}
 use Rattle.pgn_game.specs.ReaderState.{Accepted, Finished, ReaderState, IsStopped, as_written, telling}
 use Rattle.pgn_game.specs.TokenInMovetext.{may_have_movetext}
 use Rattle.pgn_game.specs.PutResult.{EntersMovetext, TakesEntry}
-use Rattle.pgn_game.specs.ConverterCalls.{Converter, CountsFault, FinishedGame, game_in_reader, IsLast, HasRead, Stands, Stops, StopsIn, AreNext, within_limit, games_before, position_at_stop, reported_position, ProbesAtStop}
+use Rattle.pgn_game.specs.ConverterCalls.{Converter, CountsFault, KeepsFault, FinishedGame, game_in_reader, IsLast, HasRead, Stands, Stops, StopsIn, AreNext, within_limit, games_before, position_at_stop, reported_position, ProbesAtStop}
 
 -- ---- what was read and written
 
@@ -93,8 +93,28 @@ pub record NotTaken (p : Profile) (given tokens : List Token) (t : Token) (f : F
   pub writing : new.writing ≡ now.reading.writing
   pub probes : now.reading.most_probes ≤ new.most_probes
 
--- What is asked for a marker: movetext may have it, and counts have room for its game.
+-- ---- what is asked of a converter
+
+-- It has met no fault, and the end of the input was not read.
+pub record IsGoing (c : Converter) : Type 0 where
+  pub no_fault : c.fault ≡ None
+  pub not_finished : c.is_finished ≡ false
+
+-- Before a token also no game is just finished.
+pub record IsBeforeToken (c : Converter) : Type 0 where
+  pub no_fault : c.fault ≡ None
+  pub not_finished : c.is_finished ≡ false
+  pub none_just_finished : c.just_finished ≡ None
+
+-- The piece that comes next is not empty, and ends before place 2^62.
+pub record IsBeforePiece (c : Converter) (piece : List ℕ) : Type 0 where
+  pub before : IsBeforeToken c
+  pub some : 0 < length piece
+  pub short : c.lexer.count + length piece ≤ 2 ^ 62
+
+-- Before a marker is taken, movetext may have it, and counts have room for its game.
 pub record IsReady (c : Converter) : Type 0 where
+  pub before : IsBeforeToken c
   pub stage : IsTrue (may_have_movetext c.reading.stage)
   pub few : c.games + 1 + waiting c.lexer ≤ 2 * c.lexer.count + 2
   pub few_plies : c.reading.earlier_plies + c.reading.text.plies + 1 + waiting c.lexer ≤ 2 * c.lexer.count + 2
@@ -102,23 +122,23 @@ pub record IsReady (c : Converter) : Type 0 where
 -- ---- one token
 
 -- what an answer of the reader, to a token at this place, is for the converter
-abbrev pub outcome_at : ℕ → Result (Option Marker) Reason → Result (Option Met) Fault
+abbrev pub outcome_at : ℕ → Result (Option Marker) Reason → Result (Option StepEnd) Fault
 outcome_at at (Ok None) = Ok (Some Other)
 outcome_at at (Ok (Some marker)) = Ok (Some (AtMarker (record { marker = marker; at = at })))
 outcome_at at (Err reason) = Err (record { at = at; reason = reason })
 
--- the fault that is kept after a step
-abbrev pub fault_of_step : Result (Option Met) Fault → Option Fault
-fault_of_step (Ok met) = None
-fault_of_step (Err f) = Some f
+-- the fault that is kept after a call
+abbrev pub fault_of : {A : Type 0} → Result A Fault → Option Fault
+fault_of (Ok x) = None
+fault_of (Err f) = Some f
 
 -- whether it passed the end
-abbrev pub is_ended : Result (Option Met) Fault → Bool
+abbrev pub is_ended : Result (Option StepEnd) Fault → Bool
 is_ended (Ok None) = true
 is_ended _ = false
 
 -- a marker that was met can be taken
-abbrev pub IsReadyAfter : Converter → Result (Option Met) Fault → Type 0
+abbrev pub IsReadyAfter : Converter → Result (Option StepEnd) Fault → Type 0
 IsReadyAfter new (Ok (Some (AtMarker m))) = IsReady new
 IsReadyAfter new _ = Unit {0}
 
@@ -130,7 +150,7 @@ pub record EndsWithin (u : List ℕ) (given : List Token) (piece : List ℕ) (us
 
 -- What a step in a piece results in.
 abbrev pub AfterStep : Profile → List ℕ → List Token → List ℕ → Converter → ℕ
-    → Result (Option Met) Fault → Option (List ℕ) → Option (List ℕ) → Type 0
+    → Result (Option StepEnd) Fault → Option (List ℕ) → Option (List ℕ) → Type 0
 AfterStep p u given piece new used (Ok None) before after =
     (used ≡ length piece) × StandsAfter new.lexer (u ++ piece) None given × (given ≡ decided (u ++ piece)) × ReadsMore p given given new before after
 AfterStep p u given piece new used (Ok (Some Other)) before after =
@@ -162,9 +182,18 @@ pub record FailsAtEnd (p : Profile) (u : List ℕ) (given : List Token) (f : Fau
   pub cut : tokens_of u ≡ tokens ++ token ∷ rest
   pub fails : NotTaken p given tokens token f new before after
 
+-- What a call that finishes no game keeps of a converter, and the fault that it keeps.
+pub record KeepsRest {A : Type 0} (old new : Converter) (is_finished : Bool) (result : Result A Fault) : Type 0 where
+  pub written : as_written new.reading ≡ as_written old.reading
+  pub games : new.games ≡ old.games
+  pub none_just_finished : new.just_finished ≡ None
+  pub finished : new.is_finished ≡ is_finished
+  pub probes : old.reading.most_probes ≤ new.reading.most_probes
+  pub fault : new.fault ≡ fault_of result
+
 -- What a step after the last piece results in.
 abbrev pub AfterStepAtEnd : Profile → List ℕ → List Token → Converter → Converter
-    → Result (Option Met) Fault → Option (List ℕ) → Option (List ℕ) → Type 0
+    → Result (Option StepEnd) Fault → Option (List ℕ) → Option (List ℕ) → Type 0
 AfterStepAtEnd p u given old new (Ok (Some Other)) before after =
     (t : Token) × HasLeft new.lexer u (given ++ t ∷ []) × ReadsMore p given (given ++ t ∷ []) new before after × StaysBetween old new
 AfterStepAtEnd p u given old new (Ok (Some (AtMarker m))) before after =
@@ -174,57 +203,68 @@ AfterStepAtEnd p u given old new (Ok None) before after =
 AfterStepAtEnd p u given old new (Err f) before after =
     (t : Token) × (rest : List Token) × (tokens_of u ≡ given ++ t ∷ rest) × NotTaken p given given t f new.reading before after
 
--- What `step_at_end` does to a converter.
-abbrev pub StepsAtEnd : Converter → Converter → Result (Option Met) Fault → Device → Type 0
-StepsAtEnd old new result sink =
+abbrev pub TakesStepAtEnd : Converter → Converter → Result (Option StepEnd) Fault → Device → Type 0
+TakesStepAtEnd old new result sink =
     (p : Profile) (u : List ℕ) (given : List Token) → HasLeft old.lexer u given → HasRead p old given
     → AfterStepAtEnd p u given old new result sink.before sink.after
 
 -- A step that asks for more bytes uses the whole piece; any other uses a byte, or a token was
 -- waiting.
-abbrev pub StepAdvances : Standing → List ℕ → Standing → ℕ → Result (Option Met) Fault → Type 0
+abbrev pub StepAdvances : Standing → List ℕ → Standing → ℕ → Result (Option StepEnd) Fault → Type 0
 StepAdvances old piece new used (Ok None) = used ≡ length piece
 StepAdvances old piece new used (Ok (Some met)) = waiting new < 2 * used + waiting old
 StepAdvances old piece new used (Err f) = Unit {0}
 
--- what reading in a piece leaves of a converter, whatever it reads
-pub record KeepsRest (old new : Converter) : Type 0 where
-  pub written : as_written new.reading ≡ as_written old.reading
-  pub games : new.games ≡ old.games
-  pub none_just_finished : new.just_finished ≡ None
-  pub not_finished : new.is_finished ≡ false
-  pub probes : old.reading.most_probes ≤ new.reading.most_probes
-
 -- How far a step gets, and what it keeps and counts.
-pub record StepGoes (old : Converter) (piece : List ℕ) (new : Converter) (used : ℕ) (outcome : Result (Option Met) Fault) (sink : Device) : Type 0 where
+pub record StepGoes (old : Converter) (piece : List ℕ) (new : Converter) (used : ℕ) (outcome : Result (Option StepEnd) Fault) (sink : Device) : Type 0 where
   pub within : used ≤ length piece
   pub count : new.lexer.count ≡ old.lexer.count + used
   pub ready : IsReadyAfter new outcome
-  pub keeps : KeepsRest old new
-  pub fault : new.fault ≡ fault_of_step outcome
+  pub keeps : KeepsRest old new false outcome
   pub counted : CountsFault outcome sink
 
 -- behind the last piece a token was waiting
-abbrev pub StepAtEndAdvances : Standing → Standing → Result (Option Met) Fault → Type 0
+abbrev pub StepAtEndAdvances : Standing → Standing → Result (Option StepEnd) Fault → Type 0
 StepAtEndAdvances old new (Ok None) = Unit {0}
 StepAtEndAdvances old new (Ok (Some met)) = waiting new < waiting old
 StepAtEndAdvances old new (Err f) = Unit {0}
 
+-- What `step_at_end` does to a converter.
+pub record StepsAtEnd (old new : Converter) (outcome : Result (Option StepEnd) Fault) (sink : Device) : Type 0 where
+  pub after : TakesStepAtEnd old new outcome sink
+  pub count : new.lexer.count ≡ old.lexer.count
+  pub advances : StepAtEndAdvances old.lexer new.lexer outcome
+  pub ready : IsReadyAfter new outcome
+  pub keeps : KeepsRest old new (is_ended outcome) outcome
+  pub counted : CountsFault outcome sink
+
 -- ---- up to a marker, in a piece
 
 -- how much of the piece was used
-abbrev pub used_to : Reached → List ℕ → ℕ
+abbrev pub used_to : FedUpTo → List ℕ → ℕ
 used_to All piece = length piece
 used_to (ToMarker used m) piece = used
 
 -- a marker took a byte, or was waiting
-abbrev pub AdvancesTo : Standing → Standing → Reached → Type 0
+abbrev pub AdvancesTo : Standing → Standing → FedUpTo → Type 0
 AdvancesTo old new All = Unit {0}
 AdvancesTo old new (ToMarker used m) = waiting new < 2 * used + waiting old
 
-abbrev pub IsReadyAt : Converter → Reached → Type 0
+abbrev pub IsReadyAt : Converter → FedUpTo → Type 0
 IsReadyAt new All = Unit {0}
 IsReadyAt new (ToMarker used m) = IsReady new
+
+-- How far `feed_front` and `feed_to_marker` get, and what they keep and count.
+pub record GoesToMarker (old : Converter) (piece : List ℕ) (new : Converter) (result : Result FedUpTo Fault) (sink : Device) : Type 0 where
+  pub used : IfOk result (λ end. used_to end piece ≤ length piece)
+  pub empty : piece ≡ [] → old.fault ≡ None → result ≡ Ok All
+  pub count : IfOk result (λ end. new.lexer.count ≡ old.lexer.count + used_to end piece)
+  pub grows : old.lexer.count ≤ new.lexer.count
+  pub within : new.lexer.count ≤ old.lexer.count + length piece
+  pub advances : IfOk result (λ end. AdvancesTo old.lexer new.lexer end)
+  pub ready : IfOk result (IsReadyAt new)
+  pub keeps : KeepsRest old new false result
+  pub counted : old.fault ≡ None → CountsFault result sink
 
 -- The whole piece was used: all tokens that are decided then were read, and none is a marker that
 -- ends a game.
@@ -255,14 +295,14 @@ pub record FailsIn (p : Profile) (bytes : List ℕ) (given : List Token) (f : Fa
 
 -- the result of a piece that ends before place 2^62
 abbrev pub AfterFront : Profile → List ℕ → Option ℕ → List Token → List ℕ → Converter
-    → Result Reached Fault → Option (List ℕ) → Option (List ℕ) → Type 0
+    → Result FedUpTo Fault → Option (List ℕ) → Option (List ℕ) → Type 0
 AfterFront p u b given piece new (Ok All) before after = ReadsPiece p u b given piece new before after
 AfterFront p u b given piece new (Ok (ToMarker used m)) before after =
     ReadsToMarker p u given piece used m new before after
 AfterFront p u b given piece new (Err f) before after =
     FailsIn p (u ++ piece) given f new.reading before after
 
-abbrev pub FeedsFront : Converter → List ℕ → Converter → Result Reached Fault → Device → Type 0
+abbrev pub FeedsFront : Converter → List ℕ → Converter → Result FedUpTo Fault → Device → Type 0
 FeedsFront old piece new result sink =
     (p : Profile) (u : List ℕ) (b : Option ℕ) (given : List Token)
     → Reaches p old u b given → Follows b piece
@@ -270,7 +310,7 @@ FeedsFront old piece new result sink =
 
 -- and of any piece
 abbrev pub AfterFeedToMarker : Profile → List ℕ → Option ℕ → List Token → List ℕ → Converter
-    → Result Reached Fault → Option (List ℕ) → Option (List ℕ) → Type 0
+    → Result FedUpTo Fault → Option (List ℕ) → Option (List ℕ) → Type 0
 AfterFeedToMarker p u b given piece new (Ok All) before after = ReadsPiece p u b given piece new before after
 AfterFeedToMarker p u b given piece new (Ok (ToMarker used m)) before after =
     ReadsToMarker p u given piece used m new before after
@@ -281,7 +321,7 @@ AfterFeedToMarker p u b given piece new (Err f) before after =
     × (new.reading ≡ now.reading)) f
 
 -- What `feed_to_marker` does to a converter that stands after any bytes.
-abbrev pub FeedsToMarker : Converter → List ℕ → Converter → Result Reached Fault → Device → Type 0
+abbrev pub FeedsToMarker : Converter → List ℕ → Converter → Result FedUpTo Fault → Device → Type 0
 FeedsToMarker old piece new result sink =
     (p : Profile) (u : List ℕ) (b : Option ℕ) (given : List Token)
     → Reaches p old u b given → Follows b piece
@@ -316,7 +356,7 @@ pub record ReadsOn (p : Profile) (u : List ℕ) (given : List Token) (piece : Li
 
 -- What a step in a piece results in that may take more tokens than one.
 abbrev pub AfterSteps : Profile → List ℕ → List Token → List ℕ → Converter → ℕ
-    → Result (Option Met) Fault → Option (List ℕ) → Option (List ℕ) → Type 0
+    → Result (Option StepEnd) Fault → Option (List ℕ) → Option (List ℕ) → Type 0
 AfterSteps p u given piece new used (Ok None) before after =
     (used ≡ length piece) × ReadsPiece p u (first piece) given piece new before after
 AfterSteps p u given piece new used (Ok (Some Other)) before after = ReadsOn p u given piece new used before after
@@ -325,13 +365,13 @@ AfterSteps p u given piece new used (Ok (Some (AtMarker m))) before after =
 AfterSteps p u given piece new used (Err f) before after =
     FailsIn p (u ++ piece) given f new.reading before after
 
-abbrev pub TakesSteps : Converter → List ℕ → Converter → ℕ → Result (Option Met) Fault → Device → Type 0
+abbrev pub TakesSteps : Converter → List ℕ → Converter → ℕ → Result (Option StepEnd) Fault → Device → Type 0
 TakesSteps old piece new used outcome sink =
     (p : Profile) (u : List ℕ) (given : List Token) → Reaches p old u (first piece) given
     → AfterSteps p u given piece new used outcome sink.before sink.after
 
 -- What a step in a piece does to a converter.
-pub record Steps (old : Converter) (piece : List ℕ) (new : Converter) (used : ℕ) (outcome : Result (Option Met) Fault) (sink : Device) : Type 0 where
+pub record Steps (old : Converter) (piece : List ℕ) (new : Converter) (used : ℕ) (outcome : Result (Option StepEnd) Fault) (sink : Device) : Type 0 where
   pub after : TakesSteps old piece new used outcome sink
   pub advances : StepAdvances old.lexer piece new.lexer used outcome
   pub goes : StepGoes old piece new used outcome sink
@@ -357,6 +397,18 @@ abbrev pub game_ended : Result Unit Fault → ReaderState → Option FinishedGam
 game_ended (Ok done) reading = Some (game_in_reader reading)
 game_ended (Err f) reading = None
 
+-- How `end_game` leaves the rest of the converter, and what it counts.
+pub record CountsGame (old new : Converter) (result : Result Unit Fault) (sink : Device) : Type 0 where
+  pub lexer : new.lexer ≡ old.lexer
+  pub not_finished : new.is_finished ≡ false
+  pub fault : KeepsFault new result
+  pub games : new.games ≡ games_ended result old.games
+  pub few : old.games < 2 ^ 64
+  pub just_finished : new.just_finished ≡ game_ended result new.reading
+  pub written : as_written new.reading ≡ as_written old.reading
+  pub probes : old.reading.most_probes ≤ new.reading.most_probes
+  pub counted : CountsFault result sink
+
 -- ---- up to a marker, behind the last piece
 
 -- whether the call has read the end of the input
@@ -376,7 +428,7 @@ pub record ReadsToEnd (p : Profile) (u : List ℕ) (given : List Token) (new : C
   pub ends : ReadsEnd p u given tokens token new before after
 
 -- A marker is left, and more tokens may be behind it.
-pub record LeavesMarker (p : Profile) (u : List ℕ) (given : List Token) (m : Mark) (new : Converter) (before after : Option (List ℕ)) : Type 0 where
+pub record ReadsToLeftMarker (p : Profile) (u : List ℕ) (given : List Token) (m : Mark) (new : Converter) (before after : Option (List ℕ)) : Type 0 where
   pub tokens : List Token
   pub token : Token
   pub left : HasLeft new.lexer u (tokens ++ token ∷ [])
@@ -385,14 +437,23 @@ pub record LeavesMarker (p : Profile) (u : List ℕ) (given : List Token) (m : M
 abbrev pub AfterEndToMarker : Profile → List ℕ → List Token → Converter → Converter
     → Result (Option Mark) Fault → Option (List ℕ) → Option (List ℕ) → Type 0
 AfterEndToMarker p u given old new (Ok None) before after = ReadsToEnd p u given new before after × StaysBetween old new
-AfterEndToMarker p u given old new (Ok (Some m)) before after = LeavesMarker p u given m new before after
+AfterEndToMarker p u given old new (Ok (Some m)) before after = ReadsToLeftMarker p u given m new before after
 AfterEndToMarker p u given old new (Err f) before after = FailsAtEnd p u given f new.reading before after
 
--- What `finish_to_marker` does to a converter, where u is the whole text.
-abbrev pub EndsToMarker : Converter → Converter → Result (Option Mark) Fault → Device → Type 0
-EndsToMarker old new result sink =
+-- What `finish_to_marker` reads, where u is the whole text.
+abbrev pub ReadsLeft : Converter → Converter → Result (Option Mark) Fault → Device → Type 0
+ReadsLeft old new result sink =
     (p : Profile) (u : List ℕ) (given : List Token) → HasLeft old.lexer u given → HasRead p old given
     → AfterEndToMarker p u given old new result sink.before sink.after
+
+-- What `finish_to_marker` does to a converter.
+pub record EndsToMarker (old new : Converter) (result : Result (Option Mark) Fault) (sink : Device) : Type 0 where
+  pub ends : ReadsLeft old new result sink
+  pub count : new.lexer.count ≡ old.lexer.count
+  pub advances : IfOk result (λ marker. AdvancesAtEnd old.lexer new.lexer marker)
+  pub ready : IfOk result (λ marker. IfSome marker (λ m. IsReady new))
+  pub keeps : KeepsRest old new (is_end_of_input result) result
+  pub counted : CountsFault result sink
 
 -- what was read behind the last piece so far, up to no marker
 pub record LeftSoFar (p : Profile) (u : List ℕ) (given : List Token) (old now : Converter) (before after : Option (List ℕ)) : Type 0 where
@@ -439,6 +500,14 @@ FeedsAllSoFar old piece at now sink =
     → Stands p old u None given → given ≡ decided u
     → AllSoFar p u given piece at now sink.before sink.after
 
+-- How `feed_all` leaves the rest of the converter, and what it counts.
+pub record GoesToEndOfPiece (old : Converter) (piece : List ℕ) (new : Converter) (result : Result Unit Fault) (sink : Device) : Type 0 where
+  pub count : OnOk result (new.lexer.count ≡ old.lexer.count + length piece)
+  pub short : new.lexer.count ≤ 2 ^ 62
+  pub not_finished : new.is_finished ≡ false
+  pub fault : KeepsFault new result
+  pub counted : CountsFault result sink
+
 -- A token of these is rejected, or a write failed. Before it no game was finished, and the reader
 -- holds the position in which a move was rejected.
 pub record FaultAtEnd (p : Profile) (given tokens : List Token) (f : Fault) (reading : ReaderState) (before after : Option (List ℕ)) : Type 0 where
@@ -449,10 +518,11 @@ pub record FaultAtEnd (p : Profile) (given tokens : List Token) (f : Fault) (rea
 
 -- ---- an input that is read twice
 
--- a missing Result takes the marker from now on, and the marker of the next game was told
+-- The same converter, but a missing Result takes the marker from now on. Or the next game's marker
+-- is announced.
 abbrev pub taking_marker : Converter → Converter
 taking_marker c =
     record c { reading = record c.reading { profile = with_missing c.reading.profile takes_the_marker } }
 
-abbrev pub told_of : Marker → Converter → Converter
-told_of marker c = record c { reading = telling (marker_text marker) c.reading }
+abbrev pub announcing : Marker → Converter → Converter
+announcing marker c = record c { reading = telling (marker_text marker) c.reading }

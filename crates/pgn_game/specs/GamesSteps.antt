@@ -2,7 +2,7 @@
 -- read up to a marker.
 -- Letters: as in `GamesCalls` and `ConverterSteps`. `left_now` are the bytes that the source has
 -- left, and `now` is the state, at some time during a call.
-use Rattle.std.specs.Prelude.{◌≡◌, ℕ, ◌^◌, ◌<◌, ◌≤◌, Bool, true, false, List, [], ◌∷◌, ◌++◌, length, drop, Option, None, Some, Result, Ok, Err}
+use Rattle.std.specs.Prelude.{◌≡◌, ℕ, ◌+◌, ◌^◌, ◌<◌, ◌≤◌, Bool, true, false, List, [], ◌∷◌, ◌++◌, length, drop, Option, None, Some, Result, Ok, Err, IfOk, IfSome, OnOk}
 use Rattle.std.specs.Io.KnownBytes.{Consumes, IsAtEnd, Keeps}
 use Rattle.pgn_layout.specs.Device.{Device, IsStill}
 use Rattle.pgn_lexer.specs.Tokens.{Token}
@@ -12,12 +12,12 @@ use Rattle.pgn_game.specs.declared.reason.Reason.TheVariants.{ReadFault, InputTo
 use Rattle.pgn_game.specs.declared.reason.Fault.{Fault}
 use Rattle.pgn_game.specs.declared.source.ReadFailed.{ReadFailed}
 use Rattle.pgn_game.specs.declared.marker.Mark.{Mark}
-use Rattle.pgn_game.specs.declared.converter.Reached.TheVariants.{All, Marker as ToMarker}
+use Rattle.pgn_game.specs.declared.converter.FedUpTo.TheVariants.{All, Marker as ToMarker}
 use Rattle.pgn_game.specs.Profile.{Profile}
-use Rattle.pgn_game.specs.ConverterCalls.{Converter, AreNext, within_limit, HasRead}
+use Rattle.pgn_game.specs.ConverterCalls.{Converter, AreNext, CountsFault, KeepsFault, within_limit, HasRead}
 use Rattle.pgn_game.specs.Conversion.{CountsDevices}
-use Rattle.pgn_game.specs.ConverterSteps.{NotTaken, FeedsToMarker, Meets, ReadsMore}
-use Rattle.pgn_game.specs.GamesCalls.{Games}
+use Rattle.pgn_game.specs.ConverterSteps.{NotTaken, FeedsToMarker, IsReady, KeepsRest, Meets, ReadsMore}
+use Rattle.pgn_game.specs.GamesCalls.{CountsNext, Games, ReadsNext, most_left}
 
 -- what a read puts into the empty buffer: bytes, or none at the end of the source (`false`) or if
 -- it fails
@@ -26,18 +26,27 @@ FillResult left_old left_new new (Ok true) = (0 < length new) × Consumes left_o
 FillResult left_old left_new new (Ok false) = (new ≡ []) × Consumes left_old left_new [] × IsAtEnd left_new
 FillResult left_old left_new new (Err failed) = Keeps left_old left_new
 
--- The same for a converter. A failed read is its fault, at the number of bytes used. Its reader
--- stays as it was.
+-- The same for a converter. A failed read is its fault, at the number of bytes used. The rest of it
+-- stays as it was, but no game is just finished.
 abbrev pub MoreResult : Option (List ℕ) → Option (List ℕ) → Converter → Converter → List ℕ → Result Bool Fault → Type 0
 MoreResult left_old left_new old new unused (Ok true) = (new ≡ old) × (0 < length unused) × Consumes left_old left_new unused
 MoreResult left_old left_new old new unused (Ok false) = (new ≡ old) × (unused ≡ []) × Consumes left_old left_new [] × IsAtEnd left_new
-MoreResult left_old left_new old new unused (Err f) = (f ≡ record { at = old.lexer.count; reason = ReadFault }) × (new.reading ≡ old.reading) × Keeps left_old left_new
+MoreResult left_old left_new old new unused (Err f) = (f ≡ record { at = old.lexer.count; reason = ReadFault }) × (new ≡ record old { just_finished = None; fault = Some f }) × Keeps left_old left_new
 
 -- The bytes not used yet are fed: up to a marker, all of them, or up to a fault.
 abbrev pub RestResult : Games → Games → Result (Option Mark) Fault → Device → Type 0
 RestResult old new (Ok (Some m)) sink = (used : ℕ) × (new.unused ≡ drop used old.unused) × FeedsToMarker old.converter old.unused new.converter (Ok (ToMarker used m)) sink
 RestResult old new (Ok None) sink = (new.unused ≡ []) × FeedsToMarker old.converter old.unused new.converter (Ok All) sink
 RestResult old new (Err f) sink = FeedsToMarker old.converter old.unused new.converter (Err f) sink
+
+-- What `feed_rest` does to a converter and a buffer.
+pub record FeedsRest (old new : Games) (result : Result (Option Mark) Fault) (sink : Device) : Type 0 where
+  pub feeds : RestResult old new result sink
+  pub used : result ≡ Ok None → new.converter.lexer.count ≡ old.converter.lexer.count + length old.unused
+  pub ready : IfOk result (λ marker. IfSome marker (λ m. IsReady new.converter))
+  pub short : new.converter.lexer.count ≤ 2 ^ 62
+  pub keeps : KeepsRest old.converter new.converter false result
+  pub counted : CountsFault result sink
 
 -- The lexer stands after the bytes `used`, and the other bytes that the source gave are not used
 -- yet. The tokens given are those that are decided then; if 2^62 bytes are used, by these alone.
@@ -100,8 +109,8 @@ AfterToMarker p u given left_old left_new new (Ok None) before after = UsesAll p
 AfterToMarker p u given left_old left_new new (Err f) before after = StopsBefore p u given left_old left_new new.converter before after f
 
 -- What `next_marker` does to a converter and a buffer that have read any bytes of the source.
-abbrev pub ReadsToMarker : Games → Games → Result (Option Mark) Fault → Device → Device → Type 0
-ReadsToMarker old new result source sink =
+abbrev pub ReadsNextMarker : Games → Games → Result (Option Mark) Fault → Device → Device → Type 0
+ReadsNextMarker old new result source sink =
     (p : Profile) (u : List ℕ) (given : List Token) → StandsWithin u old given → HasRead p old.converter given
     → AfterToMarker p u given source.before source.after new result sink.before sink.after
 
@@ -116,3 +125,17 @@ ReadsSoFar old now source sink =
 abbrev pub CountsReading : {A : Type 0} → Result A Fault → Device → Device → Type 0
 CountsReading (Ok x) source sink = IsStill source × IsStill sink
 CountsReading (Err f) source sink = CountsDevices f.reason source.failures source.failures_after sink.failures sink.failures_after
+
+-- How `next_marker` leaves the rest of the converter, and what it counts.
+pub record GoesToNextMarker (old new : Converter) (result : Result (Option Mark) Fault) (source sink : Device) : Type 0 where
+  pub ready : IfOk result (λ marker. IfSome marker (λ m. IsReady new))
+  pub short : OnOk result (new.lexer.count ≤ 2 ^ 62)
+  pub keeps : KeepsRest old new false result
+  pub counted : CountsReading result source sink
+
+-- What `next_game` does to a converter and a buffer, and what it counts.
+pub record GoesToNextGame (old new : Games) (result : Result Bool Fault) (source sink : Device) : Type 0 where
+  pub reads : ReadsNext old new result source sink
+  pub fewer : result ≡ Ok true → most_left new < most_left old
+  pub fault : KeepsFault new.converter result
+  pub counted : old.converter.fault ≡ None → CountsNext result source sink

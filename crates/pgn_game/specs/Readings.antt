@@ -6,7 +6,7 @@
 -- `left_before` and `left_after` (or `left_new`) are those that it has left before and after a
 -- call. `old` and `new` are the reading then, and `before` and `after` the bytes that the sink has
 -- taken.
-use Rattle.std.specs.Prelude.{◌≡◌, ℕ, ◌+◌, ◌^◌, ◌<◌, ◌≤◌, Bool, true, false, List, [], ◌∷◌, ◌++◌, length, Option, None, Some, Result, Ok, Err, IfSome}
+use Rattle.std.specs.Prelude.{◌≡◌, ℕ, ◌+◌, ◌^◌, ◌<◌, ◌≤◌, Bool, true, false, List, [], ◌∷◌, ◌++◌, length, Option, None, Some, Result, Ok, Err, IfOk, IfSome}
 use Rattle.std.specs.Io.KnownBytes.{Appends, Consumes}
 use Rattle.pgn_layout.specs.Device.{AppendsFront, Device}
 use Rattle.pgn_lexer.specs.Tokens.{Token}
@@ -25,9 +25,10 @@ use Rattle.pgn_game.specs.Text.{game_text, text_of, torn}
 use Rattle.pgn_game.specs.Progress.{no_progress, read}
 use Rattle.pgn_game.specs.Due.{gain}
 use Rattle.pgn_game.specs.ConverterCalls.{Converter, AreNext, AreShown, within_limit, HasRead}
-use Rattle.pgn_game.specs.ConverterSteps.{NotTaken, IsReady, Meets, OneGame, ReadsMore, SameGames, part_after}
+use Rattle.pgn_game.specs.ConverterSteps.{NotTaken, IsGoing, IsReady, Meets, OneGame, ReadsMore, SameGames, part_after}
 use Rattle.pgn_game.specs.GamesCalls.{games_of}
-use Rattle.pgn_game.specs.GamesSteps.{StandsWithin}
+use Rattle.pgn_game.specs.ReaderState.{as_written}
+use Rattle.pgn_game.specs.GamesSteps.{CountsReading, StandsWithin}
 use Rattle.pgn_game.specs.Checked.{Mark, marks, marks_from, is_changed, compared_from, with_mark}
 
 -- a reading: its converter, the bytes that were read and are not used yet, and whether the source
@@ -70,16 +71,13 @@ abbrev pub StillGivenNone : Reading → Reading → Type 0
 StillGivenNone old new =
     (q : Profile) (left_old left_now : Option (List ℕ)) → HasGiven q left_old left_now old [] → HasGiven q left_old left_now new []
 
--- The reading has met no fault, and has not read the end of the text.
-pub record IsGoing (r : Reading) : Type 0 where
-  pub not_finished : r.converter.is_finished ≡ false
-  pub no_fault : r.converter.fault ≡ None
-
--- what `end_game` requires of a converter, before it takes the marker that was met
-pub record IsReadyToEnd (r : Reading) : Type 0 where
-  pub ready : IsReady r.converter
-  pub going : IsGoing r
-  pub none_just_finished : r.converter.just_finished ≡ None
+-- What `next_marker` keeps of a reading, and what it counts.
+pub record ReadingKeeps (old new : Reading) (result : Result (Option CodeMark) Fault) (source sink : Device) : Type 0 where
+  pub ready : IfOk result (λ marker. IfSome marker (λ m. IsReady new.converter))
+  pub games : new.converter.games ≡ old.converter.games
+  pub written : as_written new.converter.reading ≡ as_written old.converter.reading
+  pub probes : old.converter.reading.most_probes ≤ new.converter.reading.most_probes
+  pub counted : CountsReading result source sink
 
 -- The reason that the second reading reports, if its converter reports this one. A failed read or
 -- write stays what it is. Any other fault shows that the inputs differ.
@@ -236,9 +234,9 @@ ReadsGame left_before left_after old new result =
 
 -- After a game the reading can go on, and one game more is counted. Nothing is claimed after any
 -- other result.
-abbrev pub GoesOn : Reading → Reading → Result (Option CodeMark) Fault → Type 0
-GoesOn old new (Ok (Some m)) = IsGoing new × (new.converter.games ≡ old.converter.games + 1) × (old.converter.games < 2 ^ 64)
-GoesOn old new _ = Unit {0}
+abbrev pub GoesOnAfterGame : Reading → Reading → Result (Option CodeMark) Fault → Type 0
+GoesOnAfterGame old new (Ok (Some m)) = IsGoing new.converter × (new.converter.games ≡ old.converter.games + 1) × (old.converter.games < 2 ^ 64)
+GoesOnAfterGame old new _ = Unit {0}
 
 -- The second reading has read one game more, and its mark is m: if m was the only mark to come
 -- before, none is to come now. The export text of the game was written.

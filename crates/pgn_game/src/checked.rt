@@ -1,15 +1,16 @@
 //! Converts an input that is read twice, so that a missing Result takes the marker.
 ghost use Rattle.std.specs.Prelude.{◌≡◌, ◌-◌, ◌≤◌, ◌&&◌, ◌==◌, bytes_eq, not, true, false, max, [], ℕ, List};
-ghost use Rattle.std.specs.Prelude.{Option, OnOk, IfOk, IfSome};
+ghost use Rattle.std.specs.Prelude.{Option, OnOk};
 ghost use Rattle.pgn_layout.specs.Device.{device};
 ghost use Rattle.pgn_game.specs.declared.reason.Reason.TheVariants.{Changed};
 ghost use Rattle.pgn_game.specs.Checked.{checked_profile};
 ghost use Rattle.pgn_game.specs.CheckedConversion.{TwoReadingsConvert, TwoReadingsCount};
+ghost use Rattle.pgn_game.specs.ConverterSteps.{IsGoing};
 ghost use Rattle.pgn_game.specs.GamesSteps.{CountsReading};
 ghost use Rattle.pgn_game.specs.Markers.{marker_text};
-ghost use Rattle.pgn_game.specs.Readings.{GoesOn, HasGiven, IsGoing, IsReadyToEnd, ReadsGame, StillGivenNone};
+ghost use Rattle.pgn_game.specs.Readings.{GoesOnAfterGame, HasGiven, ReadingKeeps, ReadsGame, StillGivenNone};
 ghost use Rattle.pgn_game.specs.Readings.{ReadsUpToMarker, WritesGame, as_changed, no_sink};
-ghost use Rattle.pgn_game.specs.ReaderState.{KeepsSilence, as_written, sink_of, whole_plies};
+ghost use Rattle.pgn_game.specs.ReaderState.{KeepsSilence, sink_of, whole_plies};
 ghost use Rattle.pgn_game.specs.Written.{bytes_seen};
 ghost use Rattle.pgn_game.specs.Size.{HoldsTwice};
 
@@ -114,11 +115,11 @@ impl<const T: usize, const L: usize> Reading<T, L> {
         requires { 1 ≤ L }
         ensures given { (left : Option (List ℕ))
             → HasGiven (checked_profile T (L - 1) mode) left left result [] }
-        ensures going { IsGoing result }
+        ensures going { IsGoing result.converter }
         ensures writes { result.converter.reading.writing.is_silent ≡ false }
     {
         let mut converter = Converter::new(mode);
-        converter.take_told_marker();
+        converter.take_announced_marker();
         Reading {
             converter,
             buffer: ReadBuffer::new(),
@@ -128,9 +129,9 @@ impl<const T: usize, const L: usize> Reading<T, L> {
 
     // From now on nothing is written.
     fn write_nothing(&mut self)
-        requires going { IsGoing self.old }
+        requires going { IsGoing self.old.converter }
         ensures given { StillGivenNone self.old self.new }
-        ensures going { IsGoing self.new }
+        ensures going { IsGoing self.new.converter }
         ensures silent { self.new.converter.reading.writing.is_silent ≡ true }
     {
         self.converter.write_nothing();
@@ -139,7 +140,7 @@ impl<const T: usize, const L: usize> Reading<T, L> {
     // Returns the counts of what was written, where the other reading tried at most so many pairs
     // for one move.
     fn totals(&self, other_probes: u32) -> Totals
-        requires going { IsGoing self.now }
+        requires going { IsGoing self.now.converter }
         requires bound { other_probes ≤ 1040 }
         ensures games { result.games ≡ self.now.converter.games }
         ensures plies { result.plies ≡ whole_plies self.now.converter.reading }
@@ -165,10 +166,10 @@ impl<const T: usize, const L: usize> Reading<T, L> {
     // Reads to the end of the next game, and returns its mark. `None` is the end of the input.
     // Nothing is written.
     fn read_game<R: Source>(&mut self, source: &mut R) -> Result<Option<Mark>, Fault>
-        requires going { IsGoing self.old }
+        requires going { IsGoing self.old.converter }
         ensures reads { ReadsGame (R.left source.old) (R.left source.new) self.old self.new
             result }
-        ensures going { GoesOn self.old self.new result }
+        ensures going { GoesOnAfterGame self.old self.new result }
         ensures silent { self.new.converter.reading.writing.is_silent
             ≡ self.old.converter.reading.writing.is_silent }
         ensures counted { CountsReading result (device R.left R.failures source.old source.new)
@@ -190,18 +191,18 @@ impl<const T: usize, const L: usize> Reading<T, L> {
         mark: Mark,
         out: &mut W,
     ) -> Result<(), Fault>
-        requires going { IsGoing self.old }
+        requires going { IsGoing self.old.converter }
         ensures writes { WritesGame (R.left source.old) (R.left source.new) self.old mark self.new
             result (bytes_seen self.old.converter.reading.writing.is_silent (W.taken out.old))
             (bytes_seen self.old.converter.reading.writing.is_silent (W.taken out.new)) }
-        ensures going { OnOk result (IsGoing self.new) }
+        ensures going { OnOk result (IsGoing self.new.converter) }
         ensures counted { CountsReading result (device R.left R.failures source.old source.new)
             (sink_of self.old.converter.reading W.taken W.failures out.old out.new) }
         ensures silent { KeepsSilence self.old.converter.reading self.new.converter.reading out.old
             out.new }
     {
         tokens_rise();
-        self.converter.tell(mark.marker);
+        self.converter.announce_marker(mark.marker);
         match self.next_marker(source, out) {
             Err(fault) => Err(changed(fault)),
             Ok(None) => Err(differs(self.converter.count())),
@@ -223,17 +224,12 @@ impl<const T: usize, const L: usize> Reading<T, L> {
         source: &mut R,
         out: &mut W,
     ) -> Result<Option<Mark>, Fault>
-        requires going { IsGoing self.old }
+        requires going { IsGoing self.old.converter }
         ensures reads { ReadsUpToMarker (R.left source.old) (R.left source.new) self.old self.new
             result (bytes_seen self.old.converter.reading.writing.is_silent (W.taken out.old))
             (bytes_seen self.old.converter.reading.writing.is_silent (W.taken out.new)) }
-        ensures ready { IfOk result (λ marker. IfSome marker (λ mark. IsReadyToEnd self.new)) }
-        ensures games { self.new.converter.games ≡ self.old.converter.games }
-        ensures written { as_written self.new.converter.reading
-            ≡ as_written self.old.converter.reading }
-        ensures probes { self.old.converter.reading.most_probes
-            ≤ self.new.converter.reading.most_probes }
-        ensures counted { CountsReading result (device R.left R.failures source.old source.new)
+        ensures keeps { ReadingKeeps self.old self.new result
+            (device R.left R.failures source.old source.new)
             (sink_of self.old.converter.reading W.taken W.failures out.old out.new) }
         ensures silent { KeepsSilence self.old.converter.reading self.new.converter.reading out.old
             out.new }
@@ -259,12 +255,12 @@ fn differs(at: u64) -> Fault
     }
 }
 
-// Whether the mark differs from the one that the other reading has told.
-fn is_other(mark: Mark, told: Mark) -> bool
-    ensures { result ≡ not (bytes_eq (marker_text mark.marker) (marker_text told.marker)
-        && (mark.at == told.at)) }
+// Whether the mark differs from the one that the other reading has found.
+fn is_other(mark: Mark, expected: Mark) -> bool
+    ensures { result ≡ not (bytes_eq (marker_text mark.marker) (marker_text expected.marker)
+        && (mark.at == expected.at)) }
 {
-    mark.marker.text() != told.marker.text() || mark.at != told.at
+    mark.marker.text() != expected.marker.text() || mark.at != expected.at
 }
 
 // The fault of the second reading: its own faults show that the input has changed.

@@ -1,7 +1,8 @@
 //! Converts a whole input.
-ghost use Rattle.std.specs.Prelude.{◌≡◌, ◌-◌, ◌≤◌, ◌^◌, [], length, false, None, OnOk, IfSome};
+ghost use Rattle.std.specs.Prelude.{◌≡◌, ◌-◌, ◌≤◌, ◌^◌, [], length, None, OnOk, IfSome};
 ghost use Rattle.pgn_layout.specs.Device.{device, nowhere};
 ghost use Rattle.pgn_game.specs.ConverterCalls.{CountsFault, Stands, profile_of};
+ghost use Rattle.pgn_game.specs.ConverterSteps.{IsGoing};
 ghost use Rattle.pgn_game.specs.Profile.{Profile};
 ghost use Rattle.pgn_game.specs.Written.{bytes_seen};
 ghost use Rattle.pgn_game.specs.ReaderState.{sink_of, whole_plies};
@@ -112,8 +113,7 @@ fn convert_all<const T: usize, const L: usize, R: Source, W: Sink>(
     reader: &mut R,
     writer: &mut W,
 ) -> Result<Totals, Fault>
-    requires not_finished { converter.old.is_finished ≡ false }
-    requires no_fault { converter.old.fault ≡ None }
+    requires { IsGoing converter.old }
     ensures converts { (p : Profile) → Stands p converter.old [] None []
         → AfterConversion converter.old.reading.writing.is_silent p
         (R.left reader.old) (R.left reader.new) result
@@ -191,8 +191,7 @@ fn convert_text<const T: usize, const L: usize, W: Sink>(
     text: &[u8],
     writer: &mut W,
 ) -> Result<Totals, Fault>
-    requires not_finished { converter.old.is_finished ≡ false }
-    requires no_fault { converter.old.fault ≡ None }
+    requires { IsGoing converter.old }
     ensures converts { (p : Profile) → Stands p converter.old [] None []
         → AfterSlice converter.old.reading.writing.is_silent p text.now result
         (bytes_seen converter.old.reading.writing.is_silent (W.taken writer.old))
@@ -209,8 +208,7 @@ fn end<const T: usize, const L: usize, W: Sink>(
     converter: &mut Converter<T, L>,
     out: &mut W,
 ) -> Result<Totals, Fault>
-    requires not_finished { converter.old.is_finished ≡ false }
-    requires no_fault { converter.old.fault ≡ None }
+    requires { IsGoing converter.old }
     ensures ends { Concludes converter.old result
         (sink_of converter.old.reading W.taken W.failures out.old out.new) }
     ensures counted { CountsFault result

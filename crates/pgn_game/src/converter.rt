@@ -1,6 +1,6 @@
 //! Converts games in pieces of any length.
 ghost use Rattle.std.specs.Prelude.{◌≡◌, ◌+◌, ◌-◌, ◌*◌, ◌≤◌, ◌<◌, ◌^◌, [], false};
-ghost use Rattle.std.specs.Prelude.{None, Some, Ok, Err, IsTrue, option_map, is_ok, IfOk, IfSome, OnOk, OnErr, length, take};
+ghost use Rattle.std.specs.Prelude.{None, Some, Ok, Err, IsTrue, option_map, is_ok, IfOk, OnErr, length, take};
 ghost use Rattle.std.specs.Option.{option_copied};
 ghost use Rattle.pgn_layout.specs.Device.{WritesText, device};
 ghost use Rattle.pgn_game.specs.Markers.{marker_text};
@@ -8,22 +8,20 @@ ghost use Rattle.pgn_game.specs.ConverterCalls.{finished_game_marker, finished_g
 ghost use Rattle.pgn_lexer.specs.Standing.{waiting};
 ghost use Rattle.pgn_lexer.specs.WhiteSpace.{white_space};
 ghost use Rattle.pgn_game.specs.declared.converter.Fed.TheVariants as fed;
-ghost use Rattle.pgn_game.specs.declared.converter.Reached.TheVariants as reached;
 ghost use Rattle.pgn_game.specs.declared.reason.Reason.TheVariants.{InputTooLong, Lexical, ReadFault};
 ghost use Rattle.pgn_game.specs.declared.stage.Stage.TheVariants.{InMovetext};
-ghost use Rattle.pgn_game.specs.ConverterSteps.{FeedsFront, FeedsToMarker, Steps, StepsAtEnd};
-ghost use Rattle.pgn_game.specs.ConverterSteps.{StepAtEndAdvances, AdvancesTo};
-ghost use Rattle.pgn_game.specs.ConverterSteps.{AdvancesAtEnd, EndsGame, EndsToMarker, IsReady};
-ghost use Rattle.pgn_game.specs.ConverterSteps.{IsReadyAfter, IsReadyAt, fault_of_step, game_ended, games_ended};
-ghost use Rattle.pgn_game.specs.ConverterSteps.{taking_marker, told_of};
-ghost use Rattle.pgn_game.specs.ConverterSteps.{is_end_of_input, is_ended, outcome_at, used_to};
+ghost use Rattle.pgn_game.specs.ConverterSteps.{IsBeforePiece, IsBeforeToken, IsGoing, IsReady};
+ghost use Rattle.pgn_game.specs.ConverterSteps.{Steps, StepsAtEnd, FeedsFront, FeedsToMarker};
+ghost use Rattle.pgn_game.specs.ConverterSteps.{GoesToMarker, GoesToEndOfPiece, EndsToMarker};
+ghost use Rattle.pgn_game.specs.ConverterSteps.{EndsGame, CountsGame, fault_of, outcome_at};
+ghost use Rattle.pgn_game.specs.ConverterSteps.{taking_marker, announcing};
 ghost use Rattle.pgn_game.specs.ConverterCalls.{Stands, Feeds, KeepsGames, FeedsAll, Ends};
 ghost use Rattle.pgn_game.specs.ConverterCalls.{Again, KeepsFault, CountsFault, Advances, profile_of};
 ghost use Rattle.pgn_game.specs.ConverterCalls.{used_of, finished_game_value};
 ghost use Rattle.pgn_game.specs.ConverterCalls.{finished_game_plies, finished_game_position};
 ghost use Rattle.pgn_game.specs.ConverterCalls.{refused_position};
 ghost use Rattle.pgn_game.specs.ConverterCalls.{CountsMissingAs, counting_missing_as};
-ghost use Rattle.pgn_game.specs.ReaderState.{KeepsSilence, as_written, sink_of, whole_plies};
+ghost use Rattle.pgn_game.specs.ReaderState.{KeepsSilence, sink_of, whole_plies};
 ghost use Rattle.pgn_game.specs.ConverterCalls.{NoWriteFails, StillStands, writing_nothing};
 ghost use Rattle.pgn_game.specs.ConverterCalls.{ReadsByMarker, reading_by_marker};
 
@@ -54,7 +52,7 @@ pub enum Fed {
 
 /// Up to where a piece was fed.
 #[derive(Clone, Copy)]
-pub enum Reached {
+pub enum FedUpTo {
     /// The whole piece was used, and no marker ends in it.
     All,
     /// This many of its bytes were used, and a marker ends there, which `end_game` takes.
@@ -63,7 +61,7 @@ pub enum Reached {
 
 /// What was met in a step.
 #[derive(Clone, Copy)]
-enum Met {
+enum StepEnd {
     /// Tokens that are no markers, and were taken, or white space.
     Token,
     /// A marker, which was not taken yet.
@@ -75,7 +73,7 @@ enum Met {
 #[derive(Clone, Copy)]
 struct Step {
     used: usize,
-    outcome: Result<Option<Met>, Fault>,
+    outcome: Result<Option<StepEnd>, Fault>,
 }
 
 /// Converts games from import format to export format (PGN 3), in pieces of any length.
@@ -249,22 +247,23 @@ impl<const T: usize, const L: usize> Converter<T, L> {
         ensures only_switch { self.new ≡ reading_by_marker self.old }
         ensures stands { ReadsByMarker self.old self.new }
     {
-        self.take_told_marker();
+        self.take_announced_marker();
         self.write_nothing();
     }
 
-    /// From now on a missing Result takes the marker that ends its game. A converter that writes is
-    /// told that marker before (`tell`).
-    pub(crate) fn take_told_marker(&mut self)
+    /// From now on a missing Result takes the marker that ends its game. A converter that writes
+    /// needs that marker before the game (`announce_marker`).
+    pub(crate) fn take_announced_marker(&mut self)
         ensures { self.new ≡ taking_marker self.old }
     {
         self.reader
             .count_missing_result_as(MissingResult::TakesTheMarker);
     }
 
-    /// Tells the marker that the next game ends with. A missing Result that takes it is written so.
-    pub(crate) fn tell(&mut self, marker: Marker)
-        ensures { self.new ≡ told_of marker self.old }
+    /// Announces the marker that the next game ends with. A missing Result that takes it is written
+    /// so.
+    pub(crate) fn announce_marker(&mut self, marker: Marker)
+        ensures { self.new ≡ announcing marker self.old }
     {
         self.reader.tell(marker);
     }
@@ -307,8 +306,8 @@ impl<const T: usize, const L: usize> Converter<T, L> {
             → NoWriteFails result }
     {
         match self.feed_to_marker(piece, out)? {
-            Reached::All => Ok(Fed::All),
-            Reached::Marker(used, mark) => {
+            FedUpTo::All => Ok(Fed::All),
+            FedUpTo::Marker(used, mark) => {
                 self.end_game(mark, out)?;
                 Ok(Fed::Game(used))
             }
@@ -324,29 +323,14 @@ impl<const T: usize, const L: usize> Converter<T, L> {
         &mut self,
         piece: &[u8],
         out: &mut W,
-    ) -> Result<Reached, Fault>
-        requires not_finished { self.old.is_finished ≡ false }
-        ensures used { IfOk result (λ reached. used_to reached piece.now ≤ length piece.now) }
+    ) -> Result<FedUpTo, Fault>
+        requires { self.old.is_finished ≡ false }
         ensures feeds { FeedsToMarker self.old piece.now self.new result
             (sink_of self.old.reading W.taken W.failures out.old out.new) }
-        ensures empty { piece.now ≡ [] → self.old.fault ≡ None → result ≡ Ok reached.All }
-        ensures count { IfOk result (λ reached.
-            self.new.lexer.count ≡ self.old.lexer.count + used_to reached piece.now) }
-        ensures grows { self.old.lexer.count ≤ self.new.lexer.count }
-        ensures within { self.new.lexer.count ≤ self.old.lexer.count + length piece.now }
+        ensures goes { GoesToMarker self.old piece.now self.new result
+            (sink_of self.old.reading W.taken W.failures out.old out.new) }
         ensures short { self.new.lexer.count ≤ 2 ^ 62 }
-        ensures advances { IfOk result (λ reached.
-            AdvancesTo self.old.lexer self.new.lexer reached) }
-        ensures ready { IfOk result (IsReadyAt self.new) }
-        ensures written { as_written self.new.reading ≡ as_written self.old.reading }
-        ensures not_finished { self.new.is_finished ≡ false }
-        ensures fault { KeepsFault self.new result }
-        ensures games { self.new.games ≡ self.old.games }
-        ensures none_just_finished { self.new.just_finished ≡ None }
-        ensures probes { self.old.reading.most_probes ≤ self.new.reading.most_probes }
         ensures again { Again self.old self.new result out.old out.new }
-        ensures counted { self.old.fault ≡ None
-            → CountsFault result (sink_of self.old.reading W.taken W.failures out.old out.new) }
         ensures silent { KeepsSilence self.old.reading self.new.reading out.old out.new }
     {
         if let Some(fault) = self.fault {
@@ -354,12 +338,12 @@ impl<const T: usize, const L: usize> Converter<T, L> {
         }
         let front = within_limit(self.lexer.count(), piece);
         match self.feed_front(front, out)? {
-            Reached::Marker(used, mark) => Ok(Reached::Marker(used, mark)),
-            Reached::All => {
+            FedUpTo::Marker(used, mark) => Ok(FedUpTo::Marker(used, mark)),
+            FedUpTo::All => {
                 if front.len() < piece.len() {
                     return Err(too_long(&mut self.fault));
                 }
-                Ok(Reached::All)
+                Ok(FedUpTo::All)
             }
         }
     }
@@ -370,22 +354,11 @@ impl<const T: usize, const L: usize> Converter<T, L> {
     ///
     /// The row of the fault table that rejects the marker, or `Reason::WriteFault`.
     pub(crate) fn end_game<W: Sink>(&mut self, mark: Mark, out: &mut W) -> Result<(), Fault>
-        requires ready { IsReady self.old }
-        requires no_fault { self.old.fault ≡ None }
-        requires not_finished { self.old.is_finished ≡ false }
-        requires none_just_finished { self.old.just_finished ≡ None }
+        requires { IsReady self.old }
         ensures ends { EndsGame self.old.reading mark self.new.reading result
             (sink_of self.old.reading W.taken W.failures out.old out.new) }
-        ensures lexer { self.new.lexer ≡ self.old.lexer }
-        ensures not_finished { self.new.is_finished ≡ false }
-        ensures fault { KeepsFault self.new result }
-        ensures games { self.new.games ≡ games_ended result self.old.games }
-        ensures few { self.old.games < 2 ^ 64 }
-        ensures just_finished { self.new.just_finished ≡ game_ended result self.new.reading }
-        ensures written { as_written self.new.reading ≡ as_written self.old.reading }
-        ensures probes { self.old.reading.most_probes ≤ self.new.reading.most_probes }
-        ensures counted { CountsFault result (sink_of self.old.reading W.taken W.failures out.old
-            out.new) }
+        ensures counts { CountsGame self.old self.new result
+            (sink_of self.old.reading W.taken W.failures out.old out.new) }
         ensures silent { KeepsSilence self.old.reading self.new.reading out.old out.new }
     {
         let Mark { marker, at } = mark;
@@ -405,17 +378,11 @@ impl<const T: usize, const L: usize> Converter<T, L> {
 
     /// Converts the whole piece, however many games are finished in it.
     pub(crate) fn feed_all<W: Sink>(&mut self, piece: &[u8], out: &mut W) -> Result<(), Fault>
-        requires not_finished { self.old.is_finished ≡ false }
-        requires no_fault { self.old.fault ≡ None }
+        requires { IsGoing self.old }
         ensures feeds { FeedsAll self.old piece.now self.new result
             (sink_of self.old.reading W.taken W.failures out.old out.new) }
-        ensures count { OnOk result
-            (self.new.lexer.count ≡ self.old.lexer.count + length piece.now) }
-        ensures short { self.new.lexer.count ≤ 2 ^ 62 }
-        ensures not_finished { self.new.is_finished ≡ false }
-        ensures fault { KeepsFault self.new result }
-        ensures counted { CountsFault result (sink_of self.old.reading W.taken W.failures out.old
-            out.new) }
+        ensures goes { GoesToEndOfPiece self.old piece.now self.new result
+            (sink_of self.old.reading W.taken W.failures out.old out.new) }
         ensures silent { KeepsSilence self.old.reading self.new.reading out.old out.new }
     {
         let mut at = 0;
@@ -478,29 +445,16 @@ impl<const T: usize, const L: usize> Converter<T, L> {
     ///
     /// As `finish`.
     pub(crate) fn finish_to_marker<W: Sink>(&mut self, out: &mut W) -> Result<Option<Mark>, Fault>
-        requires no_fault { self.old.fault ≡ None }
-        requires not_finished { self.old.is_finished ≡ false }
+        requires { IsGoing self.old }
         ensures ends { EndsToMarker self.old self.new result
             (sink_of self.old.reading W.taken W.failures out.old out.new) }
-        ensures count { self.new.lexer.count ≡ self.old.lexer.count }
-        ensures advances { IfOk result (λ marker.
-            AdvancesAtEnd self.old.lexer self.new.lexer marker) }
-        ensures ready { IfOk result (λ marker. IfSome marker (λ mark. IsReady self.new)) }
-        ensures written { as_written self.new.reading ≡ as_written self.old.reading }
-        ensures finished { self.new.is_finished ≡ is_end_of_input result }
-        ensures fault { KeepsFault self.new result }
-        ensures games { self.new.games ≡ self.old.games }
-        ensures none_just_finished { self.new.just_finished ≡ None }
-        ensures probes { self.old.reading.most_probes ≤ self.new.reading.most_probes }
-        ensures counted { CountsFault result (sink_of self.old.reading W.taken W.failures out.old
-            out.new) }
         ensures silent { KeepsSilence self.old.reading self.new.reading out.old out.new }
     {
         self.has_finished_game = false;
         loop {
             match self.step_at_end(out)? {
-                Some(Met::Token) => {}
-                Some(Met::Marker(mark)) => return Ok(Some(mark)),
+                Some(StepEnd::Token) => {}
+                Some(StepEnd::Marker(mark)) => return Ok(Some(mark)),
                 None => return Ok(None),
             }
         }
@@ -677,29 +631,13 @@ impl<const T: usize, const L: usize> Converter<T, L> {
     }
 
     /// Converts a piece that ends before place 2^62, up to the end of the next marker.
-    fn feed_front<W: Sink>(&mut self, piece: &[u8], out: &mut W) -> Result<Reached, Fault>
-        requires not_finished { self.old.is_finished ≡ false }
-        requires no_fault { self.old.fault ≡ None }
+    fn feed_front<W: Sink>(&mut self, piece: &[u8], out: &mut W) -> Result<FedUpTo, Fault>
+        requires going { IsGoing self.old }
         requires short { self.old.lexer.count + length piece.now ≤ 2 ^ 62 }
-        ensures used { IfOk result (λ reached. used_to reached piece.now ≤ length piece.now) }
         ensures feeds { FeedsFront self.old piece.now self.new result
             (sink_of self.old.reading W.taken W.failures out.old out.new) }
-        ensures empty { piece.now ≡ [] → result ≡ Ok reached.All }
-        ensures count { IfOk result (λ reached.
-            self.new.lexer.count ≡ self.old.lexer.count + used_to reached piece.now) }
-        ensures grows { self.old.lexer.count ≤ self.new.lexer.count }
-        ensures within { self.new.lexer.count ≤ self.old.lexer.count + length piece.now }
-        ensures advances { IfOk result (λ reached.
-            AdvancesTo self.old.lexer self.new.lexer reached) }
-        ensures ready { IfOk result (IsReadyAt self.new) }
-        ensures written { as_written self.new.reading ≡ as_written self.old.reading }
-        ensures not_finished { self.new.is_finished ≡ false }
-        ensures fault { KeepsFault self.new result }
-        ensures games { self.new.games ≡ self.old.games }
-        ensures none_just_finished { self.new.just_finished ≡ None }
-        ensures probes { self.old.reading.most_probes ≤ self.new.reading.most_probes }
-        ensures counted { CountsFault result (sink_of self.old.reading W.taken W.failures out.old
-            out.new) }
+        ensures goes { GoesToMarker self.old piece.now self.new result
+            (sink_of self.old.reading W.taken W.failures out.old out.new) }
         ensures silent { KeepsSilence self.old.reading self.new.reading out.old out.new }
     {
         self.has_finished_game = false;
@@ -708,13 +646,13 @@ impl<const T: usize, const L: usize> Converter<T, L> {
             let step = self.step(&piece[at..], out);
             at += step.used;
             match step.outcome {
-                Ok(None) => return Ok(Reached::All),
-                Ok(Some(Met::Token)) => {}
-                Ok(Some(Met::Marker(mark))) => return Ok(Reached::Marker(at, mark)),
+                Ok(None) => return Ok(FedUpTo::All),
+                Ok(Some(StepEnd::Token)) => {}
+                Ok(Some(StepEnd::Marker(mark))) => return Ok(FedUpTo::Marker(at, mark)),
                 Err(fault) => return Err(fault),
             }
         }
-        Ok(Reached::All)
+        Ok(FedUpTo::All)
     }
 
     /// Takes tokens of the piece, up to a marker, which is met and not taken. In movetext it takes
@@ -722,11 +660,7 @@ impl<const T: usize, const L: usize> Converter<T, L> {
     /// behind it, and would be looked at twice.
     #[inline(always)]
     fn step<W: Sink>(&mut self, piece: &[u8], out: &mut W) -> Step
-        requires no_fault { self.old.fault ≡ None }
-        requires short { self.old.lexer.count + length piece.now ≤ 2 ^ 62 }
-        requires some { 0 < length piece.now }
-        requires none_just_finished { self.old.just_finished ≡ None }
-        requires not_finished { self.old.is_finished ≡ false }
+        requires { IsBeforePiece self.old piece.now }
         ensures steps { Steps self.old piece.now self.new result.used result.outcome
             (sink_of self.old.reading W.taken W.failures out.old out.new) }
         ensures silent { KeepsSilence self.old.reading self.new.reading out.old out.new }
@@ -742,11 +676,7 @@ impl<const T: usize, const L: usize> Converter<T, L> {
     #[inline(always)]
     fn step_movetext<W: Sink>(&mut self, piece: &[u8], out: &mut W) -> Step
         requires stage { self.old.reading.stage ≡ InMovetext }
-        requires no_fault { self.old.fault ≡ None }
-        requires short { self.old.lexer.count + length piece.now ≤ 2 ^ 62 }
-        requires some { 0 < length piece.now }
-        requires none_just_finished { self.old.just_finished ≡ None }
-        requires not_finished { self.old.is_finished ≡ false }
+        requires piece { IsBeforePiece self.old piece.now }
         ensures steps { Steps self.old piece.now self.new result.used result.outcome
             (sink_of self.old.reading W.taken W.failures out.old out.new) }
         ensures silent { KeepsSilence self.old.reading self.new.reading out.old out.new }
@@ -761,11 +691,7 @@ impl<const T: usize, const L: usize> Converter<T, L> {
     #[inline(never)]
     fn run_movetext<W: Sink>(&mut self, piece: &[u8], out: &mut W) -> Step
         requires stage { self.old.reading.stage ≡ InMovetext }
-        requires no_fault { self.old.fault ≡ None }
-        requires short { self.old.lexer.count + length piece.now ≤ 2 ^ 62 }
-        requires some { 0 < length piece.now }
-        requires none_just_finished { self.old.just_finished ≡ None }
-        requires not_finished { self.old.is_finished ≡ false }
+        requires piece { IsBeforePiece self.old piece.now }
         ensures steps { Steps self.old piece.now self.new result.used result.outcome
             (sink_of self.old.reading W.taken W.failures out.old out.new) }
         ensures silent { KeepsSilence self.old.reading self.new.reading out.old out.new }
@@ -784,7 +710,7 @@ impl<const T: usize, const L: usize> Converter<T, L> {
         if used == piece.len() {
             return Step {
                 used,
-                outcome: Ok(Some(Met::Token)),
+                outcome: Ok(Some(StepEnd::Token)),
             };
         }
         let step = self.step_on(&piece[used..], out);
@@ -797,11 +723,7 @@ impl<const T: usize, const L: usize> Converter<T, L> {
     /// Takes the next token of the piece, unless it is a marker.
     #[inline(always)]
     fn step_token<W: Sink>(&mut self, piece: &[u8], out: &mut W) -> Step
-        requires no_fault { self.old.fault ≡ None }
-        requires short { self.old.lexer.count + length piece.now ≤ 2 ^ 62 }
-        requires some { 0 < length piece.now }
-        requires none_just_finished { self.old.just_finished ≡ None }
-        requires not_finished { self.old.is_finished ≡ false }
+        requires { IsBeforePiece self.old piece.now }
         ensures steps { Steps self.old piece.now self.new result.used result.outcome
             (sink_of self.old.reading W.taken W.failures out.old out.new) }
         ensures silent { KeepsSilence self.old.reading self.new.reading out.old out.new }
@@ -815,7 +737,7 @@ impl<const T: usize, const L: usize> Converter<T, L> {
             if used == piece.len() {
                 return Step {
                     used,
-                    outcome: Ok(Some(Met::Token)),
+                    outcome: Ok(Some(StepEnd::Token)),
                 };
             }
             let rest = self.step_on(&piece[used..], out);
@@ -836,11 +758,7 @@ impl<const T: usize, const L: usize> Converter<T, L> {
     /// Takes the next token of the piece as `step_token` does, but reads it byte by byte.
     #[inline(always)]
     fn step_on<W: Sink>(&mut self, piece: &[u8], out: &mut W) -> Step
-        requires no_fault { self.old.fault ≡ None }
-        requires short { self.old.lexer.count + length piece.now ≤ 2 ^ 62 }
-        requires some { 0 < length piece.now }
-        requires none_just_finished { self.old.just_finished ≡ None }
-        requires not_finished { self.old.is_finished ≡ false }
+        requires { IsBeforePiece self.old piece.now }
         ensures steps { Steps self.old piece.now self.new result.used result.outcome
             (sink_of self.old.reading W.taken W.failures out.old out.new) }
         ensures silent { KeepsSilence self.old.reading self.new.reading out.old out.new }
@@ -869,23 +787,10 @@ impl<const T: usize, const L: usize> Converter<T, L> {
 
     /// Takes the next of the tokens that are left after the last piece, unless it is a marker.
     /// `None` is the end.
-    fn step_at_end<W: Sink>(&mut self, out: &mut W) -> Result<Option<Met>, Fault>
-        requires no_fault { self.old.fault ≡ None }
-        requires not_finished { self.old.is_finished ≡ false }
-        requires none_just_finished { self.old.just_finished ≡ None }
-        ensures after { StepsAtEnd self.old self.new result
+    fn step_at_end<W: Sink>(&mut self, out: &mut W) -> Result<Option<StepEnd>, Fault>
+        requires { IsBeforeToken self.old }
+        ensures steps { StepsAtEnd self.old self.new result
             (sink_of self.old.reading W.taken W.failures out.old out.new) }
-        ensures count { self.new.lexer.count ≡ self.old.lexer.count }
-        ensures advances { StepAtEndAdvances self.old.lexer self.new.lexer result }
-        ensures ready { IsReadyAfter self.new result }
-        ensures written { as_written self.new.reading ≡ as_written self.old.reading }
-        ensures fault { self.new.fault ≡ fault_of_step result }
-        ensures games { self.new.games ≡ self.old.games }
-        ensures probes { self.old.reading.most_probes ≤ self.new.reading.most_probes }
-        ensures none_just_finished { self.new.just_finished ≡ None }
-        ensures finished { self.new.is_finished ≡ is_ended result }
-        ensures counted { CountsFault result (sink_of self.old.reading W.taken W.failures out.old
-            out.new) }
         ensures silent { KeepsSilence self.old.reading self.new.reading out.old out.new }
     {
         match self.lexer.finish() {
@@ -935,20 +840,20 @@ fn settle(
     at: u64,
     met: Result<Option<Marker>, Reason>,
     fault: &mut Option<Fault>,
-) -> Result<Option<Met>, Fault>
+) -> Result<Option<StepEnd>, Fault>
     requires no_fault { fault.old ≡ None }
     ensures outcome { result ≡ outcome_at at met }
-    ensures fault { fault.new ≡ fault_of_step result }
+    ensures fault { fault.new ≡ fault_of result }
 {
     match met {
-        Ok(None) => Ok(Some(Met::Token)),
-        Ok(Some(marker)) => Ok(Some(Met::Marker(Mark { marker, at }))),
+        Ok(None) => Ok(Some(StepEnd::Token)),
+        Ok(Some(marker)) => Ok(Some(StepEnd::Marker(Mark { marker, at }))),
         Err(reason) => fail(Fault { at, reason }, fault),
     }
 }
 
 // Keeps the fault.
-fn fail(fault: Fault, kept: &mut Option<Fault>) -> Result<Option<Met>, Fault>
+fn fail(fault: Fault, kept: &mut Option<Fault>) -> Result<Option<StepEnd>, Fault>
     ensures outcome { result ≡ Err fault }
     ensures kept { kept.new ≡ Some fault }
 {

@@ -1,18 +1,19 @@
 //! Games one at a time, from a source.
 ghost use Rattle.std.specs.Prelude.{◌≡◌, ◌+◌, ◌-◌, ◌<◌, ◌≤◌, ◌^◌, ℕ, List, [], Option, None, Ok};
-ghost use Rattle.std.specs.Prelude.{true, false, OnOk, IfOk, IfSome, IsTrue, length};
+ghost use Rattle.std.specs.Prelude.{true, false, IsTrue, length};
 ghost use Rattle.std.specs.Option.{option_copied};
 ghost use Rattle.pgn_layout.specs.Device.{Counts, device};
-ghost use Rattle.pgn_game.specs.ConverterCalls.{CountsFault, KeepsFault, profile_of};
+ghost use Rattle.pgn_game.specs.ConverterCalls.{KeepsFault, profile_of};
 ghost use Rattle.pgn_game.specs.ConverterCalls.{finished_game_value, finished_game_plies, finished_game_position};
 ghost use Rattle.pgn_game.specs.ConverterCalls.{NoWriteFails, writing_nothing};
 ghost use Rattle.pgn_game.specs.GamesCalls.{HaveRead, ReadsNext, NextAgain, NextAtEnd, CountsNext};
 ghost use Rattle.pgn_game.specs.GamesCalls.{StillReadNone, games_of, most_left};
-ghost use Rattle.pgn_game.specs.GamesSteps.{CountsReading, MoreResult, ReadsToMarker, RestResult};
-ghost use Rattle.pgn_game.specs.ConverterSteps.{IsReady};
-ghost use Rattle.pgn_game.specs.ReaderState.{KeepsSilence, as_written, sink_of};
+ghost use Rattle.pgn_game.specs.GamesSteps.{FeedsRest, GoesToNextGame, GoesToNextMarker};
+ghost use Rattle.pgn_game.specs.GamesSteps.{MoreResult, ReadsNextMarker};
+ghost use Rattle.pgn_game.specs.ConverterSteps.{IsGoing};
+ghost use Rattle.pgn_game.specs.ReaderState.{KeepsSilence, sink_of};
 
-use crate::converter::{Converter, Reached};
+use crate::converter::{Converter, FedUpTo};
 use crate::marker::Mark;
 use crate::mode::Mode;
 use crate::read_buffer::ReadBuffer;
@@ -171,20 +172,14 @@ pub(crate) fn next_game<const T: usize, const L: usize, R: Source, W: Sink>(
     source: &mut R,
     out: &mut W,
 ) -> Result<bool, Fault>
-    ensures reads { ReadsNext (games_of converter.old buffer.old)
+    ensures goes { GoesToNextGame (games_of converter.old buffer.old)
         (games_of converter.new buffer.new) result
         (device R.left R.failures source.old source.new)
         (sink_of converter.old.reading W.taken W.failures out.old out.new) }
-    ensures fewer { result ≡ Ok true → most_left (games_of converter.new buffer.new)
-        < most_left (games_of converter.old buffer.old) }
-    ensures fault { KeepsFault converter.new result }
     ensures at_end { NextAtEnd (games_of converter.old buffer.old)
         (games_of converter.new buffer.new) result source.old source.new out.old out.new }
     ensures again { NextAgain (games_of converter.old buffer.old)
         (games_of converter.new buffer.new) result source.old source.new out.old out.new }
-    ensures counted { converter.old.fault ≡ None
-        → CountsNext result (device R.left R.failures source.old source.new)
-        (sink_of converter.old.reading W.taken W.failures out.old out.new) }
     ensures silent { KeepsSilence converter.old.reading converter.new.reading out.old out.new }
 {
     if let Some(fault) = converter.fault() {
@@ -204,16 +199,10 @@ fn read_game<const T: usize, const L: usize, R: Source, W: Sink>(
     source: &mut R,
     out: &mut W,
 ) -> Result<bool, Fault>
-    requires not_finished { converter.old.is_finished ≡ false }
-    requires no_fault { converter.old.fault ≡ None }
-    ensures reads { ReadsNext (games_of converter.old buffer.old)
+    requires { IsGoing converter.old }
+    ensures goes { GoesToNextGame (games_of converter.old buffer.old)
         (games_of converter.new buffer.new) result
         (device R.left R.failures source.old source.new)
-        (sink_of converter.old.reading W.taken W.failures out.old out.new) }
-    ensures fewer { result ≡ Ok true → most_left (games_of converter.new buffer.new)
-        < most_left (games_of converter.old buffer.old) }
-    ensures fault { KeepsFault converter.new result }
-    ensures counted { CountsNext result (device R.left R.failures source.old source.new)
         (sink_of converter.old.reading W.taken W.failures out.old out.new) }
     ensures silent { KeepsSilence converter.old.reading converter.new.reading out.old out.new }
 {
@@ -234,21 +223,13 @@ pub(crate) fn next_marker<const T: usize, const L: usize, R: Source, W: Sink>(
     source: &mut R,
     out: &mut W,
 ) -> Result<Option<Mark>, Fault>
-    requires not_finished { converter.old.is_finished ≡ false }
-    requires no_fault { converter.old.fault ≡ None }
-    ensures reads { ReadsToMarker (games_of converter.old buffer.old)
+    requires { IsGoing converter.old }
+    ensures reads { ReadsNextMarker (games_of converter.old buffer.old)
         (games_of converter.new buffer.new) result
         (device R.left R.failures source.old source.new)
         (sink_of converter.old.reading W.taken W.failures out.old out.new) }
-    ensures ready { IfOk result (λ marker. IfSome marker (λ mark. IsReady converter.new)) }
-    ensures short { OnOk result (converter.new.lexer.count ≤ 2 ^ 62) }
-    ensures written { as_written converter.new.reading ≡ as_written converter.old.reading }
-    ensures not_finished { converter.new.is_finished ≡ false }
-    ensures fault { KeepsFault converter.new result }
-    ensures games { converter.new.games ≡ converter.old.games }
-    ensures none_just_finished { OnOk result (converter.new.just_finished ≡ None) }
-    ensures probes { converter.old.reading.most_probes ≤ converter.new.reading.most_probes }
-    ensures counted { CountsReading result (device R.left R.failures source.old source.new)
+    ensures goes { GoesToNextMarker converter.old converter.new result
+        (device R.left R.failures source.old source.new)
         (sink_of converter.old.reading W.taken W.failures out.old out.new) }
     ensures silent { KeepsSilence converter.old.reading converter.new.reading out.old out.new }
 {
@@ -268,31 +249,18 @@ fn feed_rest<const T: usize, const L: usize, W: Sink>(
     buffer: &mut ReadBuffer,
     out: &mut W,
 ) -> Result<Option<Mark>, Fault>
-    requires not_finished { converter.old.is_finished ≡ false }
-    requires no_fault { converter.old.fault ≡ None }
-    ensures feeds { RestResult (games_of converter.old buffer.old)
+    requires { IsGoing converter.old }
+    ensures feeds { FeedsRest (games_of converter.old buffer.old)
         (games_of converter.new buffer.new) result
-        (sink_of converter.old.reading W.taken W.failures out.old out.new) }
-    ensures used { result ≡ Ok None
-        → converter.new.lexer.count ≡ converter.old.lexer.count + length buffer.old }
-    ensures ready { IfOk result (λ marker. IfSome marker (λ mark. IsReady converter.new)) }
-    ensures short { OnOk result (converter.new.lexer.count ≤ 2 ^ 62) }
-    ensures written { as_written converter.new.reading ≡ as_written converter.old.reading }
-    ensures not_finished { converter.new.is_finished ≡ false }
-    ensures fault { KeepsFault converter.new result }
-    ensures games { converter.new.games ≡ converter.old.games }
-    ensures none_just_finished { OnOk result (converter.new.just_finished ≡ None) }
-    ensures probes { converter.old.reading.most_probes ≤ converter.new.reading.most_probes }
-    ensures counted { CountsFault result
         (sink_of converter.old.reading W.taken W.failures out.old out.new) }
     ensures silent { KeepsSilence converter.old.reading converter.new.reading out.old out.new }
 {
     match converter.feed_to_marker(buffer.unused(), out)? {
-        Reached::All => {
+        FedUpTo::All => {
             buffer.clear();
             Ok(None)
         }
-        Reached::Marker(used, mark) => {
+        FedUpTo::Marker(used, mark) => {
             buffer.skip(used);
             Ok(Some(mark))
         }
@@ -305,13 +273,10 @@ fn read_more<const T: usize, const L: usize, R: Source>(
     buffer: &mut ReadBuffer,
     source: &mut R,
 ) -> Result<bool, Fault>
-    requires no_fault { converter.old.fault ≡ None }
+    requires { converter.old.fault ≡ None }
     ensures more { MoreResult (R.left source.old) (R.left source.new) converter.old converter.new
         buffer.new result }
     ensures fits { length buffer.new ≤ 4096 }
-    ensures not_finished { converter.new.is_finished ≡ converter.old.is_finished }
-    ensures fault { KeepsFault converter.new result }
-    ensures games { converter.new.games ≡ converter.old.games }
     ensures counted { Counts result (R.failures source.old) (R.failures source.new) }
 {
     match buffer.fill(source) {

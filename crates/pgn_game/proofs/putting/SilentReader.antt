@@ -1,5 +1,5 @@
 -- What calls in turn do to the sink of a silent reader.
-use Rattle.pgn_game.proofs.Words.{Converter, writing_nothing, None, CountsFault, CountsReason, NoWriteFails, Fault, Reason, Ok, Err, Adds, LeavesSink, Device, Item, List, ℕ, Mode, Movetext, Option, Result, mode_of_written, mode_unless, seen, ◌≡◌, Bool, true, false, IsTrue, refl, sym, ap, subst, ◌∙◌, arith, ReaderState, Writing, KeepsSilence, is_nothing}
+use Rattle.pgn_game.proofs.Words.{Converter, IsGoing, writing_nothing, None, CountsFault, CountsReason, NoWriteFails, Fault, Reason, Ok, Err, Adds, LeavesSink, Device, Item, List, ℕ, Mode, Movetext, Option, Result, mode_of_written, mode_unless, seen, ◌≡◌, Bool, true, false, IsTrue, refl, sym, ap, subst, ◌∙◌, arith, ReaderState, Writing, KeepsSilence, is_nothing}
 use Rattle.pgn_game.specs.declared.mode.Written.{Written}
 use Rattle.pgn_game.specs.declared.mode.Written.TheVariants.{Nothing}
 
@@ -38,9 +38,9 @@ seen_if P false d writes h = h
 
 -- a converter that can convert still can if it writes nothing from now on
 pub ready_silently : (old : Converter) {new : Converter} → new ≡ writing_nothing old → old.is_finished ≡ false → old.fault ≡ None
-    → (new.is_finished ≡ false) × (new.fault ≡ None)
+    → IsGoing new
 ready_silently old switched not_finished no_fault =
-    (ap (λ (c : Converter). c.is_finished) switched ∙ not_finished, ap (λ (c : Converter). c.fault) switched ∙ no_fault)
+    record { no_fault = ap (λ (c : Converter). c.fault) switched ∙ no_fault; not_finished = ap (λ (c : Converter). c.is_finished) switched ∙ not_finished }
 
 -- what is put by what the code stores is put by the mode of the reader
 pub adds_as : {A E : Type 0} (w : Written) (mode : Mode) (silent : Bool) (i : Item) (text new_text : Movetext) (line new_line : List ℕ)

@@ -2,8 +2,8 @@
 use Rattle.pgn_lexer.specs.Tokens as tokens
 use Rattle.pgn_game.proofs.Words.{Token, Kind, Between, Fault, Profile, Part, Game, ◌≡◌, ℕ, ◌+◌, ◌<◌, Bool, true, false, IsTrue, List, [], ◌∷◌, ◌++◌, length, Option, None, Some, Ok, Err, refl, sym, ap, subst, ◌∙◌, arith, append-nil, append_assoc, length-append, Appends-nil, ◌↔◌, Device, tokens_of, Standing, coming, HasLeft, refusal, is_end, next, progress_with, Progress, Read, read, due, written_so_far as written, Gains, ReaderState, as_written, Converter, HasRead, IsLastGame as IsLast, game_in_reader, game_in_reader_if, Finishes, FinishesToFault, SameGames, ReadsMore, EndsGame, StaysBetween, FaultAtEnd, AtEndSoFar, AfterStepAtEnd, part_after, Stands, false≢true, le_refl}
 use Rattle.pgn_game.specs.declared.marker.Mark.{Mark}
-use Rattle.pgn_game.specs.declared.converter.Met.TheVariants.{Token as Other, Marker as AtMarker}
-use Rattle.pgn_game.specs.ConverterSteps.{LeftSoFar, LeavesMarker, ReadsToEnd, FailsAtEnd}
+use Rattle.pgn_game.specs.declared.converter.StepEnd.TheVariants.{Token as Other, Marker as AtMarker}
+use Rattle.pgn_game.specs.ConverterSteps.{LeftSoFar, ReadsToLeftMarker, ReadsToEnd, FailsAtEnd}
 use Rattle.pgn_game.specs.ConverterCalls.{IsSound}
 use Rattle.pgn_game.proofs.tokens.OneMoreToken.{read-passes, gains_none, gains_more, stops_more, games_still, counts_still, position_still}
 use Rattle.pgn_game.proofs.tokens.NoneBeforeFault.{none_before_fault}
@@ -38,7 +38,7 @@ module _ (p : Profile) (u : List ℕ) (given : List Token) (old now new : Conver
   left_more (t, left, reads, stays) =
       record { tokens = so.tokens ++ t ∷ []; left = left; reads = further _ reads; stays = still_there stays }
 
-  pub left_marker : (m : Mark) → AfterStepAtEnd p u so.tokens now new (Ok (Some (AtMarker m))) c d → LeavesMarker p u given m new a d
+  pub left_marker : (m : Mark) → AfterStepAtEnd p u so.tokens now new (Ok (Some (AtMarker m))) c d → ReadsToLeftMarker p u given m new a d
   left_marker m (t, left, meets) =
       record {
         tokens = so.tokens;
@@ -129,7 +129,7 @@ module _ (p : Profile) (u : List ℕ) (given : List Token) (now : Converter) (fi
   same_length ts same = subst (λ gs. IsTrue finished_game ↔ (length (read p given).progress.games < length {A = Game} gs)) (sym same) so.game
 
   -- a marker ends a game
-  pub ended_game : ShowsDue p c → (m : Mark) (mid new : Converter) (sink : Device) → LeavesMarker p u so.tokens m mid c sink.before
+  pub ended_game : ShowsDue p c → (m : Mark) (mid new : Converter) (sink : Device) → ReadsToLeftMarker p u so.tokens m mid c sink.before
       → EndsGame mid.reading m new.reading (Ok tt) sink → new.lexer ≡ mid.lexer → new.fault ≡ None → new.games ≡ mid.games + 1
       → new.just_finished ≡ Some (game_in_reader new.reading) → AtEndSoFar p u given new true a sink.after
   ended_game known m mid new sink leaves ends lexer no_fault games just_finished =
@@ -233,7 +233,7 @@ module _ (p : Profile) (u : List ℕ) (given : List Token) (now : Converter) (fi
 
   -- a marker was not taken
   pub failed_game : (f : Fault) → ShowsStop p c f.reason → (l : Standing) (m : Mark) (mid new : Converter) (sink : Device) → HasLeft l u given
-      → (read p given).fault ≡ None → LeavesMarker p u so.tokens m mid c sink.before
+      → (read p given).fault ≡ None → ReadsToLeftMarker p u so.tokens m mid c sink.before
       → EndsGame mid.reading m new.reading (Err f) sink → new.games ≡ mid.games → mid.games ≡ now.games
       → FinishesToFault p u given new f a sink.after
   failed_game f shows l m mid new sink left passes leaves ends same same_before =

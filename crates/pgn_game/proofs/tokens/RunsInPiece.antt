@@ -1,12 +1,12 @@
 -- Runs over a piece in turn, and the step that they are.
-use Rattle.pgn_game.specs.declared.converter.Met.TheVariants.{Token as Other, Marker as AtMarker}
-use Rattle.pgn_game.specs.declared.converter.Met.{Met}
-use Rattle.pgn_game.specs.ConverterSteps.{KeepsRest, StepAdvances, StepGoes, Steps, TakesSteps}
-use Rattle.pgn_game.proofs.Words.{seen, Fault, Converter, CountsFault, Device, Standing, waiting, ◌≡◌, ℕ, ◌+◌, ◌*◌, ◌<◌, ◌≤◌, ◌⊎◌, inl, inr, zero, suc, false, List, length, drop, Option, None, Some, Result, Ok, Err, refl, subst, ◌∙◌, arith, length-drop, first}
+use Rattle.pgn_game.specs.declared.converter.StepEnd.TheVariants.{Token as Other, Marker as AtMarker}
+use Rattle.pgn_game.specs.declared.converter.StepEnd.{StepEnd}
+use Rattle.pgn_game.specs.ConverterSteps.{IsBeforePiece, IsBeforeToken, KeepsRest, StepAdvances, StepGoes, Steps, TakesSteps, fault_of}
+use Rattle.pgn_game.proofs.Words.{seen, Fault, Converter, CountsFault, Device, Standing, waiting, ◌≡◌, ℕ, ◌+◌, ◌*◌, ◌<◌, ◌≤◌, ◌^◌, ◌⊎◌, inl, inr, zero, suc, Bool, false, List, length, drop, Option, None, Some, Result, Ok, Err, refl, subst, ◌∙◌, arith, length-drop, first}
 use Rattle.pgn_game.proofs.tokens.StepsInPiece.{after_steps, reads_on_none, stands_here}
 
 -- A run may use no byte, and then nothing waits that did not before. It never asks for more bytes.
-abbrev pub RunAdvances : Standing → Standing → ℕ → Result (Option Met) Fault → Type 0
+abbrev pub RunAdvances : Standing → Standing → ℕ → Result (Option StepEnd) Fault → Type 0
 RunAdvances old new used (Ok None) = ⊥
 RunAdvances old new used (Ok (Some Other)) =
     (waiting new ≤ 2 * used + waiting old) × (0 < used → waiting new < 2 * used + waiting old)
@@ -14,7 +14,7 @@ RunAdvances old new used (Ok (Some (AtMarker m))) = waiting new < 2 * used + wai
 RunAdvances old new used (Err f) = Unit {0}
 
 -- what is read while tokens lie whole in the piece
-pub record Runs (old : Converter) (piece : List ℕ) (new : Converter) (used : ℕ) (outcome : Result (Option Met) Fault) (sink : Device) : Type 0 where
+pub record Runs (old : Converter) (piece : List ℕ) (new : Converter) (used : ℕ) (outcome : Result (Option StepEnd) Fault) (sink : Device) : Type 0 where
   pub after : TakesSteps old piece new used outcome sink
   pub advances : RunAdvances old.lexer new.lexer used outcome
   pub goes : StepGoes old piece new used outcome sink
@@ -22,26 +22,68 @@ pub record Runs (old : Converter) (piece : List ℕ) (new : Converter) (used : �
 abbrev pub between : Option (List ℕ) → Option (List ℕ) → ℕ → ℕ → Device
 between a c x y = record { before = a; after = c; failures = x; failures_after = y }
 
-pub keeps_then : {old mid new : Converter} → KeepsRest old mid → KeepsRest mid new → KeepsRest old new
+pub keeps_then : {A B : Type 0} {old mid new : Converter} {over is_finished : Bool} {first : Result A Fault} {second : Result B Fault}
+    → KeepsRest old mid over first → KeepsRest mid new is_finished second → KeepsRest old new is_finished second
 keeps_then one two =
     record {
       written = two.written ∙ one.written;
       games = two.games ∙ one.games;
       none_just_finished = two.none_just_finished;
-      not_finished = two.not_finished;
+      finished = two.finished;
       probes = omega (arith, one.probes, two.probes);
+      fault = two.fault;
+    }
+
+-- no token was read
+pub keeps_none : {A : Type 0} (old : Converter) (result : Result A Fault) → old.just_finished ≡ None → old.is_finished ≡ false
+    → old.fault ≡ fault_of result → KeepsRest old old false result
+keeps_none old result none_just_finished not_finished fault =
+    record {
+      written = refl;
+      games = refl;
+      none_just_finished = none_just_finished;
+      finished = not_finished;
+      probes = omega arith;
+      fault = fault;
     }
 
 -- what is counted after nothing was
-pub counts_then : (outcome : Result (Option Met) Fault) (a c e : Option (List ℕ)) (x y z : ℕ) → y ≡ x → CountsFault outcome (between c e y z)
+pub counts_then : (outcome : Result (Option StepEnd) Fault) (a c e : Option (List ℕ)) (x y z : ℕ) → y ≡ x → CountsFault outcome (between c e y z)
     → CountsFault outcome (between a e x z)
 counts_then (Ok met) a c e x y z same counted = counted ∙ same
 counts_then (Err f) a c e x y z same counted = rw same at counted
 
+-- tokens that are no markers, and what is read behind them
+pub goes_then : {old mid new : Converter} (piece : List ℕ) (end used : ℕ) (outcome : Result (Option StepEnd) Fault) (a c e : Option (List ℕ)) (x y z : ℕ)
+    → end < length piece → StepGoes old piece mid end (Ok (Some Other)) (between a c x y) → StepGoes mid (drop end piece) new used outcome (between c e y z)
+    → StepGoes old piece new (end + used) outcome (between a e x z)
+goes_then piece end used outcome a c e x y z here one two =
+    record {
+      within = omega (arith, two.within, length-drop end piece, here);
+      count = omega (arith, two.count, one.count);
+      ready = two.ready;
+      keeps = keeps_then one.keeps two.keeps;
+      counted = counts_then outcome a c e x y z one.counted two.counted;
+    }
+
+-- behind them there is still room for the rest of the piece
+pub room_behind : {old now : Converter} {piece : List ℕ} {at : ℕ} {sink : Device} → old.lexer.count + length piece ≤ 2 ^ 62
+    → StepGoes old piece now at (Ok (Some Other)) sink → now.lexer.count + length (drop at piece) ≤ 2 ^ 62
+room_behind {piece = piece} {at = at} short goes = omega (arith, goes.count, goes.within, short, length-drop at piece)
+
+-- and a step can be taken, if a byte is left
+pub before_rest : {old now : Converter} {piece : List ℕ} {at : ℕ} {sink : Device} → old.lexer.count + length piece ≤ 2 ^ 62
+    → StepGoes old piece now at (Ok (Some Other)) sink → at < length piece → IsBeforePiece now (drop at piece)
+before_rest {piece = piece} {at = at} short goes here =
+    record {
+      before = record { no_fault = goes.keeps.fault; not_finished = goes.keeps.finished; none_just_finished = goes.keeps.none_just_finished };
+      some = omega (arith, length-drop at piece, here);
+      short = room_behind short goes;
+    }
+
 -- no byte is used
-pub runs_none : (old : Converter) (piece : List ℕ) (a : Option (List ℕ)) (x : ℕ) → old.fault ≡ None → old.just_finished ≡ None
-    → old.is_finished ≡ false → Runs old piece old 0 (Ok (Some Other)) (between a a x x)
-runs_none old piece a x no_fault none_just_finished not_finished =
+pub runs_none : (old : Converter) (piece : List ℕ) (a : Option (List ℕ)) (x : ℕ) → IsBeforeToken old → Runs old piece old 0 (Ok (Some Other)) (between a a x x)
+runs_none old piece a x before =
     record {
       after = λ p u given reaches. reads_on_none p old u given piece a reaches;
       advances = (omega arith, λ some. absurd (omega (arith, some)));
@@ -49,14 +91,7 @@ runs_none old piece a x no_fault none_just_finished not_finished =
         within = omega arith;
         count = omega arith;
         ready = tt;
-        keeps = record {
-          written = refl;
-          games = refl;
-          none_just_finished = none_just_finished;
-          not_finished = not_finished;
-          probes = omega arith;
-        };
-        fault = no_fault;
+        keeps = keeps_none old _ before.none_just_finished before.not_finished before.no_fault;
         counted = refl;
       };
     }
@@ -65,7 +100,7 @@ none_or_some : (n : ℕ) → (n ≡ 0) ⊎ (0 < n)
 none_or_some zero = inl refl
 none_or_some (suc n) = inr (omega arith)
 
-advances_then : (old mid new : Standing) (end used : ℕ) (outcome : Result (Option Met) Fault) → RunAdvances old mid end (Ok (Some Other))
+advances_then : (old mid new : Standing) (end used : ℕ) (outcome : Result (Option StepEnd) Fault) → RunAdvances old mid end (Ok (Some Other))
     → RunAdvances mid new used outcome → RunAdvances old new (end + used) outcome
 advances_then old mid new end used (Ok None) one two = two
 advances_then old mid new end used (Ok (Some Other)) one two = (
@@ -78,71 +113,55 @@ advances_then old mid new end used (Ok (Some Other)) one two = (
 advances_then old mid new end used (Ok (Some (AtMarker m))) one two = omega (arith, one.0, two)
 advances_then old mid new end used (Err f) one two = tt
 
-pub runs_then : (old mid new : Converter) (piece : List ℕ) (end used : ℕ) (outcome : Result (Option Met) Fault) (a c e : Option (List ℕ)) (x y z : ℕ)
+pub runs_then : (old mid new : Converter) (piece : List ℕ) (end used : ℕ) (outcome : Result (Option StepEnd) Fault) (a c e : Option (List ℕ)) (x y z : ℕ)
     → end < length piece → Runs old piece mid end (Ok (Some Other)) (between a c x y) → Runs mid (drop end piece) new used outcome (between c e y z)
     → Runs old piece new (end + used) outcome (between a e x z)
 runs_then old mid new piece end used outcome a c e x y z here one two =
-    let goes = two.goes in
     record {
       after = λ p u given reaches.
           let on = one.after p u given reaches in
-          after_steps p u given piece end mid a c e on here new goes.keeps.written used outcome
+          after_steps p u given piece end mid a c e on here new two.goes.keeps.written used outcome
           (two.after p _ _ (stands_here p u (first piece) given piece end mid a c on.so here));
       advances = advances_then old.lexer mid.lexer new.lexer end used outcome one.advances two.advances;
-      goes = record {
-        within = omega (arith, goes.within, length-drop end piece, here);
-        count = omega (arith, goes.count, one.goes.count);
-        ready = goes.ready;
-        keeps = keeps_then one.goes.keeps goes.keeps;
-        fault = goes.fault;
-        counted = counts_then outcome a c e x y z one.goes.counted goes.counted;
-      };
+      goes = goes_then piece end used outcome a c e x y z here one.goes two.goes;
     }
 
 -- ---- a step
 
 -- a run that used a byte is a step
-pub steps_run : {old new : Converter} {piece : List ℕ} {used : ℕ} {sink : Device} (outcome : Result (Option Met) Fault) → 0 < used
+pub steps_run : {old new : Converter} {piece : List ℕ} {used : ℕ} {sink : Device} (outcome : Result (Option StepEnd) Fault) → 0 < used
     → Runs old piece new used outcome sink → Steps old piece new used outcome sink
 steps_run {old} {new} {piece} {used} outcome some runs =
     record { after = runs.after; advances = sooner outcome runs.advances; goes = runs.goes }
   where
-    sooner : (met : Result (Option Met) Fault) → RunAdvances old.lexer new.lexer used met → StepAdvances old.lexer piece new.lexer used met
+    sooner : (met : Result (Option StepEnd) Fault) → RunAdvances old.lexer new.lexer used met → StepAdvances old.lexer piece new.lexer used met
     sooner (Ok None) h = absurd h
     sooner (Ok (Some Other)) h = h.1 some
     sooner (Ok (Some (AtMarker m))) h = h
     sooner (Err f) h = tt
 
-advances_on : (old mid new : Standing) (piece : List ℕ) (end used : ℕ) (outcome : Result (Option Met) Fault) → end < length piece
+advances_on : (old mid new : Standing) (piece : List ℕ) (end used : ℕ) (outcome : Result (Option StepEnd) Fault) → end < length piece
     → RunAdvances old mid end (Ok (Some Other)) → StepAdvances mid (drop end piece) new used outcome → StepAdvances old piece new (end + used) outcome
 advances_on old mid new piece end used (Ok None) here one two = omega (arith, two, length-drop end piece, here)
 advances_on old mid new piece end used (Ok (Some met)) here one two = omega (arith, one.0, two)
 advances_on old mid new piece end used (Err f) here one two = tt
 
 -- a run, and a step behind it
-pub steps_behind : (old mid new : Converter) (piece : List ℕ) (end used : ℕ) (outcome : Result (Option Met) Fault) (a c e : Option (List ℕ)) (x y z : ℕ)
+pub steps_behind : (old mid new : Converter) (piece : List ℕ) (end used : ℕ) (outcome : Result (Option StepEnd) Fault) (a c e : Option (List ℕ)) (x y z : ℕ)
     → end < length piece → Runs old piece mid end (Ok (Some Other)) (between a c x y) → Steps mid (drop end piece) new used outcome (between c e y z)
     → Steps old piece new (end + used) outcome (between a e x z)
 steps_behind old mid new piece end used outcome a c e x y z here one two =
-    let goes = two.goes in
     record {
       after = λ p u given reaches.
           let on = one.after p u given reaches in
-          after_steps p u given piece end mid a c e on here new goes.keeps.written used outcome
+          after_steps p u given piece end mid a c e on here new two.goes.keeps.written used outcome
           (two.after p _ _ (stands_here p u (first piece) given piece end mid a c on.so here));
       advances = advances_on old.lexer mid.lexer new.lexer piece end used outcome here one.advances two.advances;
-      goes = record {
-        within = omega (arith, goes.within, length-drop end piece, here);
-        count = omega (arith, goes.count, one.goes.count);
-        ready = goes.ready;
-        keeps = keeps_then one.goes.keeps goes.keeps;
-        fault = goes.fault;
-        counted = counts_then outcome a c e x y z one.goes.counted goes.counted;
-      };
+      goes = goes_then piece end used outcome a c e x y z here one.goes two.goes;
     }
 
 -- the same where no byte was passed before the step
-pub steps_at_once : (old mid new : Converter) (piece : List ℕ) (end used : ℕ) (outcome : Result (Option Met) Fault) (a c e : Option (List ℕ)) (x y z : ℕ)
+pub steps_at_once : (old mid new : Converter) (piece : List ℕ) (end used : ℕ) (outcome : Result (Option StepEnd) Fault) (a c e : Option (List ℕ)) (x y z : ℕ)
     → end ≡ 0 → 0 < length piece → Runs old piece mid end (Ok (Some Other)) (between a c x y) → Steps mid piece new used outcome (between c e y z)
     → Steps old piece new used outcome (between a e x z)
 steps_at_once old mid new piece end used outcome a c e x y z none some one two =
@@ -157,7 +176,7 @@ runs_step steps =
     record { after = steps.after; advances = (omega (arith, steps.advances), λ some. steps.advances); goes = steps.goes }
 
 -- of the same converter
-pub steps_of : {here old new : Converter} {piece : List ℕ} {used : ℕ} {outcome : Result (Option Met) Fault} (a b : Option (List ℕ)) (x y : ℕ)
+pub steps_of : {here old new : Converter} {piece : List ℕ} {used : ℕ} {outcome : Result (Option StepEnd) Fault} (a b : Option (List ℕ)) (x y : ℕ)
     → here ≡ old → Steps here piece new used outcome (seen here.reading.writing.is_silent (between a b x y))
     → Steps old piece new used outcome (seen old.reading.writing.is_silent (between a b x y))
 steps_of {here} {old} {new} {piece} {used} {outcome} a b x y same steps =

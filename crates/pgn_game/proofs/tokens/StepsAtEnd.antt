@@ -1,9 +1,9 @@
 -- Steps behind the last piece, and how small the counts stay.
 use Rattle.pgn_lexer.specs.Tokens as tokens
 use Rattle.pgn_lexer.specs.PartialToken.{refusal as refusal_token}
-use Rattle.pgn_game.proofs.Words.{Kind, Token, Stage, Between, Reason, Lexical, Fault, Profile, Pair, Item, Game, Part, no_part, ◌≡◌, ℕ, ◌+◌, ◌<◌, ◌≤◌, Bool, true, false, ◌&&◌, List, [], ◌∷◌, ◌++◌, Option, None, Some, Result, Ok, Err, is_ok, refl, sym, subst, append-nil, append_assoc, Appends, arith, ◌*◌, ◌^◌, IsTrue, is_some, Device, tokens_of, Standing, waiting, HasLeft, IsNext, FinishGivesToken, More, refusal, is_end, marker_of, Marker, next, gain, progress_with, Progress, read, ReaderState, Agrees, HoldsPairs, as_written, CountsWrites, Keeps, TakesToken, AfterStepAtEnd, ReadsMore, due_as, part_after, outcome_at, fault_of_step, LexFault, Converter, IsSound, game_in_reader_if, HasRead, FinishedGame, Stands, CountsFault, CountsReason, IsStill, rules, ap, ◌∙◌, coming, none-some, false≢true, Follows}
+use Rattle.pgn_game.proofs.Words.{length, Kind, Token, Stage, Between, Reason, Lexical, Fault, Profile, Pair, Item, Game, Part, no_part, ◌≡◌, ℕ, ◌+◌, ◌<◌, ◌≤◌, Bool, true, false, ◌&&◌, List, [], ◌∷◌, ◌++◌, Option, None, Some, Result, Ok, Err, is_ok, refl, sym, subst, append-nil, append_assoc, Appends, arith, ◌*◌, ◌^◌, IsTrue, is_some, Device, tokens_of, Standing, waiting, HasLeft, IsNext, FinishGivesToken, More, refusal, is_end, marker_of, Marker, next, gain, progress_with, Progress, read, ReaderState, Agrees, HoldsPairs, as_written, CountsWrites, Keeps, TakesToken, AfterStepAtEnd, ReadsMore, due_as, part_after, outcome_at, fault_of, LexFault, Converter, IsSound, game_in_reader_if, HasRead, Stands, CountsFault, CountsReason, IsStill, rules, ap, ◌∙◌, coming, none-some, false≢true, Follows}
 use Rattle.pgn_game.specs.PutResult.{TakesUnlessMarker}
-use Rattle.pgn_game.specs.ConverterSteps.{IsReadyAfter, StepAdvances, StepAtEndAdvances, is_ended}
+use Rattle.pgn_game.specs.ConverterSteps.{IsBeforePiece, IsBeforeToken, IsReadyAfter, StepAdvances, StepAtEndAdvances, is_ended}
 use Rattle.pgn_game.proofs.tokens.OneMoreToken.{read-passes}
 use Rattle.pgn_game.proofs.tokens.EndOfText.{end_place}
 use Rattle.pgn_game.proofs.tokens.AcceptedToConverter.{has_read_more, meets_marker, not_taken, not_taken_lexical, now_at, read_at, reads_token}
@@ -105,7 +105,7 @@ reads_end p old given t l new d has_read is_e takes between =
 -- what a step behind the last piece leaves, by the reader's answer
 abbrev pub after_at_end : Standing → ReaderState → ℕ → Bool → ℕ → Result (Option Marker) Reason → Converter
 after_at_end l r games finished at answer =
-    record { lexer = l; reading = r; games = games; just_finished = None; is_finished = finished; fault = fault_of_step (outcome_at at answer) }
+    record { lexer = l; reading = r; games = games; just_finished = None; is_finished = finished; fault = fault_of (outcome_at at answer) }
 
 -- The end was reached.
 pub closes_end : (p : Profile) (old : Converter) (u : List ℕ) (given : List Token) (t : Token) (l : Standing) (new : ReaderState)
@@ -165,21 +165,22 @@ kept old new k d (Ok (Some marker)) meets =
 kept old new k d (Err why) takes = takes.0.keeps
 
 -- a marker that was met behind the last piece can be taken
-pub ready_at_end : (old new : Standing) (before after : ReaderState) (games at : ℕ) (k : Kind) (d : Device) (held : Option FinishedGame)
-    (finished : Bool) (fault : Option Fault) (e : Bool) (r : Result (Option Marker) Reason)
+pub ready_at_end : (old new : Standing) (before after : ReaderState) (games at : ℕ) (k : Kind) (d : Device)
+    (e : Bool) (r : Result (Option Marker) Reason)
     → (e && is_ok (outcome_at at r)) ≡ false → Nearer e old new → TakesUnlessMarker before k after r d
     → games + waiting old ≤ 2 * old.count + 2 → before.earlier_plies + before.text.plies + waiting old ≤ 2 * old.count + 2
     → IsReadyAfter
-    (record { lexer = new; reading = after; games = games; just_finished = held; is_finished = finished; fault = fault }) (outcome_at at r)
-ready_at_end old new before after games at k d held finished fault e (Ok None) not_ok near takes few plies = tt
-ready_at_end old new before after games at k d held finished fault true (Ok (Some marker)) not_ok near meets few plies =
+    (record { lexer = new; reading = after; games = games; just_finished = None; is_finished = false; fault = fault_of (outcome_at at r) }) (outcome_at at r)
+ready_at_end old new before after games at k d e (Ok None) not_ok near takes few plies = tt
+ready_at_end old new before after games at k d true (Ok (Some marker)) not_ok near meets few plies =
     absurd (false≢true (sym not_ok))
-ready_at_end old new before after games at k d held finished fault false (Ok (Some marker)) not_ok near meets few plies = record {
+ready_at_end old new before after games at k d false (Ok (Some marker)) not_ok near meets few plies = record {
+  before = record { no_fault = refl; not_finished = refl; none_just_finished = refl };
   stage = meets.enters.stage;
   few = omega (arith, few, near.0, near.1);
   few_plies = omega (arith, plies, near.0, near.1, meets.enters.plies);
 }
-ready_at_end old new before after games at k d held finished fault e (Err why) not_ok near takes few plies = tt
+ready_at_end old new before after games at k d e (Err why) not_ok near takes few plies = tt
 
 -- a token in a piece brings the lexer on, and one behind the last piece too
 pub advances_token : (old : Standing) (piece : List ℕ) (new : Standing) (used at : ℕ) (r : Result (Option Marker) Reason)
@@ -197,7 +198,7 @@ advances_at_end old new at false (Ok (Some marker)) not_ok near = near.0
 advances_at_end old new at e (Err why) not_ok near = tt
 
 -- an answer of the reader that is no fault keeps none, and counts none; none passes the end
-pub no_fault_if_ok : (at : ℕ) (r : Result (Option Marker) Reason) → IsTrue (is_ok (outcome_at at r)) → fault_of_step (outcome_at at r) ≡ None
+pub no_fault_if_ok : (at : ℕ) (r : Result (Option Marker) Reason) → IsTrue (is_ok (outcome_at at r)) → fault_of (outcome_at at r) ≡ None
 no_fault_if_ok at (Ok None) ok = refl
 no_fault_if_ok at (Ok (Some marker)) ok = refl
 no_fault_if_ok at (Err why) ok = absurd (false≢true ok)
@@ -214,19 +215,19 @@ goes_on_at at (Ok (Some marker)) = refl
 goes_on_at at (Err why) = refl
 
 -- a marker that was met in a piece can be taken
-pub ready_in_piece : (old new : Standing) (before after : ReaderState) (games at used : ℕ) (k : Kind) (d : Device) (held : Option FinishedGame)
-    (finished : Bool) (fault : Option Fault) (r : Result (Option Marker) Reason)
-    → waiting new < 2 * used + waiting old → new.count ≡ old.count + used → TakesUnlessMarker before k after r d
+pub ready_in_piece : (old new : Standing) (before after : ReaderState) (games at used : ℕ) (k : Kind) (d : Device)
+    (r : Result (Option Marker) Reason) → waiting new < 2 * used + waiting old → new.count ≡ old.count + used → TakesUnlessMarker before k after r d
     → games + waiting old ≤ 2 * old.count + 2 → before.earlier_plies + before.text.plies + waiting old ≤ 2 * old.count + 2
     → IsReadyAfter
-    (record { lexer = new; reading = after; games = games; just_finished = held; is_finished = finished; fault = fault }) (outcome_at at r)
-ready_in_piece old new before after games at used k d held finished fault (Ok None) sooner count takes few plies = tt
-ready_in_piece old new before after games at used k d held finished fault (Ok (Some marker)) sooner count meets few plies = record {
+    (record { lexer = new; reading = after; games = games; just_finished = None; is_finished = false; fault = fault_of (outcome_at at r) }) (outcome_at at r)
+ready_in_piece old new before after games at used k d (Ok None) sooner count takes few plies = tt
+ready_in_piece old new before after games at used k d (Ok (Some marker)) sooner count meets few plies = record {
+  before = record { no_fault = refl; not_finished = refl; none_just_finished = refl };
   stage = meets.enters.stage;
   few = omega (arith, few, sooner, count);
   few_plies = omega (arith, plies, sooner, count, meets.enters.plies);
 }
-ready_in_piece old new before after games at used k d held finished fault (Err why) sooner count takes few plies = tt
+ready_in_piece old new before after games at used k d (Err why) sooner count takes few plies = tt
 
 -- an error of the reader counts as the fault that it is
 pub counts_reason : (r : Reason) (sink : Device) → CountsWrites (Err r) sink → CountsReason r sink.failures sink.failures_after
@@ -245,7 +246,7 @@ sound_behind_fault lexer reading games is_finished f count = search rules
 
 pub sound_if_not_ok : (lexer : Standing) (reading : ReaderState) (games : ℕ) (is_finished : Bool) (at : ℕ) (r : Result (Option Marker) Reason)
     → is_ok (outcome_at at r) ≡ false → lexer.count ≤ 2 ^ 62
-    → IsSound lexer reading games false is_finished (fault_of_step (outcome_at at r))
+    → IsSound lexer reading games false is_finished (fault_of (outcome_at at r))
 sound_if_not_ok lexer reading games is_finished at (Ok None) not_ok count = absurd (false≢true (sym not_ok))
 sound_if_not_ok lexer reading games is_finished at (Ok (Some marker)) not_ok count = absurd (false≢true (sym not_ok))
 sound_if_not_ok lexer reading games is_finished at (Err why) not_ok count = sound_behind_fault lexer reading games is_finished _ count
@@ -315,3 +316,42 @@ left_of p old u b given stands = ap tokens_of (sym (append-nil u)) ∙ stands.le
 pub sound_at_none : (lexer : Standing) (reading : ReaderState) (games : ℕ) (has_finished_game is_finished : Bool) (fault : Option Fault)
     → IsSound lexer reading games has_finished_game is_finished fault → IsSound lexer reading games false is_finished fault
 sound_at_none lexer reading games has_finished_game is_finished fault sound = search rules
+
+-- ---- the fields of a converter
+
+abbrev pub view_of : Standing → ReaderState → ℕ → Bool → Bool → Option Fault → Converter
+view_of lexer reading games has_finished_game is_finished fault = record {
+  lexer = lexer;
+  reading = reading;
+  games = games;
+  just_finished = game_in_reader_if has_finished_game reading;
+  is_finished = is_finished;
+  fault = fault;
+}
+
+-- before a token
+pub record FieldsBefore (lexer : Standing) (reading : ReaderState) (games : ℕ) (has_finished_game is_finished : Bool) (fault : Option Fault)
+    (old : Converter) : Type 0 where
+  pub flag : has_finished_game ≡ false
+  pub not_over : is_finished ≡ false
+  pub none : fault ≡ None
+  pub sound : IsSound lexer reading games false false None
+  pub same : now_at lexer reading games false ≡ old
+
+pub fields_before : {lexer : Standing} {reading : ReaderState} {games : ℕ} {has_finished_game is_finished : Bool} {fault : Option Fault} {old : Converter}
+    → view_of lexer reading games has_finished_game is_finished fault ≡ old → IsSound lexer reading games has_finished_game is_finished fault
+    → IsBeforeToken old → FieldsBefore lexer reading games has_finished_game is_finished fault old
+fields_before {reading = reading} {has_finished_game = has_finished_game} view sound before =
+    let flag = not_just_finished has_finished_game reading (ap (λ (s : Converter). s.just_finished) view ∙ before.none_just_finished) in
+    let none = ap (λ (s : Converter). s.fault) view ∙ before.no_fault in
+    let not_over = ap (λ (s : Converter). s.is_finished) view ∙ before.not_finished in
+    record {
+      flag = flag;
+      not_over = not_over;
+      none = none;
+      sound = rw (flag, none, not_over) at sound;
+      same = rw (flag, none, not_over) at view;
+    }
+
+pub short_before : {view old : Converter} {piece : List ℕ} → view ≡ old → IsBeforePiece old piece → view.lexer.count + length piece ≤ 2 ^ 62
+short_before view before = omega (arith, ap (λ (s : Converter). s.lexer.count) view, before.short)

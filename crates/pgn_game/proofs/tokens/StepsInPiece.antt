@@ -1,10 +1,10 @@
 -- Steps in turn in a piece.
 use Rattle.std.proofs.Common.{length-take-le, take_all}
 use Rattle.pgn_game.specs.declared.marker.Mark.{Mark}
-use Rattle.pgn_game.specs.declared.converter.Met.TheVariants.{Token as Other, Marker as AtMarker}
-use Rattle.pgn_game.specs.declared.converter.Met.{Met}
+use Rattle.pgn_game.specs.declared.converter.StepEnd.TheVariants.{Token as Other, Marker as AtMarker}
+use Rattle.pgn_game.specs.declared.converter.StepEnd.{StepEnd}
 use Rattle.pgn_game.specs.ConverterSteps.{AfterSteps, ReadsOn, ReadsPiece, ReadsToMarker, FailsIn}
-use Rattle.pgn_game.proofs.Words.{Reason, InputTooLong, Fault, Profile, take-append-drop, take-take, drop-take, drop-drop, Token, decided, Follows, IsDecided, first, still, Standing, StandsAfter, ReaderState, as_written, Converter, Stands, Reaches, EndsWithin, StopsIn, within_limit, too_long, CountsReason, ◌≡◌, ℕ, ◌+◌, ◌-◌, ◌<◌, ◌≤◌, ◌^◌, zero, suc, List, [], ◌∷◌, ◌++◌, length, take, drop, Option, None, Some, refl, sym, ap, subst, ◌∙◌, append_assoc, append-nil, length-append, length-drop, length-take, le_refl, drop_of_length-le, inl, inr, arith, Result, Ok, Err, take-add, AfterStep, next_at, SoFar, EndsAt}
+use Rattle.pgn_game.proofs.Words.{InputTooLong, Fault, Profile, take-append-drop, take-take, drop-take, drop-drop, Token, decided, Follows, IsDecided, first, still, Standing, StandsAfter, ReaderState, as_written, Converter, Stands, Reaches, EndsWithin, StopsIn, within_limit, too_long, ◌≡◌, ℕ, ◌+◌, ◌-◌, ◌<◌, ◌≤◌, ◌^◌, zero, suc, List, [], ◌∷◌, ◌++◌, length, take, drop, Option, None, Some, refl, sym, ap, subst, ◌∙◌, append_assoc, append-nil, length-append, length-drop, length-take, le_refl, drop_of_length-le, inl, inr, arith, Result, Ok, Err, take-add, AfterStep, next_at, SoFar, EndsAt}
 use Rattle.pgn_game.proofs.tokens.MarkerToGame.{reads_none, reads_more, meets_more, not_taken_more}
 use Rattle.pgn_game.proofs.tokens.AcceptedToConverter.{follows_own, next_in_piece, still_none}
 use Rattle.pgn_game.proofs.tokens.BytesWithinLimit.{all_within, front_within}
@@ -247,7 +247,7 @@ module _ (p : Profile) (u : List ℕ) (given : List Token) (piece : List ℕ) (a
     (a c d : Option (List ℕ)) (on : ReadsOn p u given piece now at a c) (within : at < length piece)
     (new : Converter) (written : as_written new.reading ≡ as_written now.reading) (used : ℕ) where
   -- one token more
-  pub after_step : (outcome : Result (Option Met) Fault) → length u + length piece ≤ 2 ^ 62
+  pub after_step : (outcome : Result (Option StepEnd) Fault) → length u + length piece ≤ 2 ^ 62
       → AfterStep p (u ++ take at piece) on.so.tokens (drop at piece) new used outcome c d
       → AfterSteps p u given piece new (at + used) outcome a d
   unfolding so_far_more
@@ -265,7 +265,7 @@ module _ (p : Profile) (u : List ℕ) (given : List Token) (piece : List ℕ) (a
   after_step (Err f) short after = fails_in p u (first piece) given piece at now a c d on.so within new written used f after
 
   -- more tokens
-  pub after_steps : (outcome : Result (Option Met) Fault)
+  pub after_steps : (outcome : Result (Option StepEnd) Fault)
       → AfterSteps p (u ++ take at piece) on.so.tokens (drop at piece) new used outcome c d
       → AfterSteps p u given piece new (at + used) outcome a d
   unfolding so_far_on
@@ -290,7 +290,7 @@ module _ (p : Profile) (u : List ℕ) (given : List Token) (piece : List ℕ) (a
 -- one token, from the first byte of the piece on
 pub after_token : (p : Profile) (old : Converter) (u : List ℕ) (given : List Token) (piece : List ℕ) (o : Option (List ℕ))
     → Reaches p old u (first piece) given → 0 < length piece → (new : Converter) → as_written new.reading ≡ as_written old.reading
-    → (used : ℕ) (outcome : Result (Option Met) Fault) (after : Option (List ℕ)) → length u + length piece ≤ 2 ^ 62
+    → (used : ℕ) (outcome : Result (Option StepEnd) Fault) (after : Option (List ℕ)) → length u + length piece ≤ 2 ^ 62
     → AfterStep p u given piece new used outcome o after → AfterSteps p u given piece new used outcome o after
 unfolding reads_on_none so_far_none
 after_token p old u given piece o reaches some new written used outcome after short step =
@@ -381,7 +381,3 @@ module _ (p : Profile) (u : List ℕ) (b : Option ℕ) (given : List Token) (pie
       too_long (take n piece) (drop n piece) (sym (take-append-drop n piece))
       (omega (arith, place, length-append u (take n piece), length-take-le n piece (omega (arith, more))))
       (omega (arith, length-drop n piece, more)) (now, reads, same)
-
--- what a step counts, after steps that counted nothing
-pub counts_step : (r : Reason) (x y z : ℕ) → y ≡ x → CountsReason r y z → CountsReason r x z
-counts_step r x y z same h = rw same at h

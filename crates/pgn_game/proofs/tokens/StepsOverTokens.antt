@@ -2,8 +2,8 @@
 use Rattle.pgn_lexer.specs.Scanned.{fault, more, token}
 use Rattle.pgn_lexer.specs.Stands.{Scans}
 use Rattle.pgn_lexer.specs.WholeTokens.{Passes, ReadsBehind}
-use Rattle.pgn_game.specs.declared.converter.Met.TheVariants.{Token as Other}
-use Rattle.pgn_game.specs.ConverterSteps.{Steps, fault_of_step, outcome_at}
+use Rattle.pgn_game.specs.declared.converter.StepEnd.TheVariants.{Token as Other}
+use Rattle.pgn_game.specs.ConverterSteps.{Steps, fault_of, outcome_at}
 use Rattle.pgn_game.specs.PutResult.{TakesUnlessMarker}
 use Rattle.pgn_game.proofs.Words.{LexFault, Lexical, Fault, Bool, IsTrue, false, ◌≡◌, ℕ, ◌+◌, ◌-◌, ◌<◌, ◌≤◌, ◌^◌, List, length, drop, length-drop, first, Option, None, Some, Result, Ok, Err, refl, subst, arith, Marker, Token, InMovetext, Reason, ReaderState, Converter, Device, IsSound, Standing, Keeps}
 use Rattle.pgn_game.proofs.tokens.AcceptedToConverter.{follows_own, now_at, took, took_fault, took_none, written_same}
@@ -36,8 +36,7 @@ module _ (lexer : Standing) (reading : ReaderState) (games : ℕ) (piece : List 
             within = within;
             count = scans.count;
             ready = tt;
-            keeps = record { written = refl; games = refl; none_just_finished = refl; not_finished = refl; probes = omega arith };
-            fault = refl;
+            keeps = record { written = refl; games = refl; none_just_finished = refl; finished = refl; probes = omega arith; fault = refl };
             counted = refl;
           };
         }
@@ -72,8 +71,7 @@ module _ (lexer : Standing) (reading : ReaderState) (games : ℕ) (piece : List 
             within = within;
             count = scans.count;
             ready = tt;
-            keeps = record { written = refl; games = refl; none_just_finished = refl; not_finished = refl; probes = omega arith };
-            fault = refl;
+            keeps = record { written = refl; games = refl; none_just_finished = refl; finished = refl; probes = omega arith; fault = refl };
             counted = refl;
           };
         }
@@ -90,7 +88,7 @@ module _ (lexer : Standing) (reading : ReaderState) (games : ℕ) (piece : List 
         games = games;
         just_finished = None;
         is_finished = false;
-        fault = fault_of_step (outcome_at t.at met);
+        fault = fault_of (outcome_at t.at met);
       }) used (outcome_at t.at met) sink
       steps_met =
           record {
@@ -103,16 +101,16 @@ module _ (lexer : Standing) (reading : ReaderState) (games : ℕ) (piece : List 
             goes = record {
               within = within;
               count = scans.count;
-              ready = ready_in_piece lexer l reading new games t.at used t.kind sink None false (fault_of_step (outcome_at t.at met)) met scans.advances
+              ready = ready_in_piece lexer l reading new games t.at used t.kind sink met scans.advances
                   scans.count takes (sound.few refl) (sound.fewer_plies refl refl);
               keeps = record {
                 written = written_same reading new keeps.profile keeps.writing;
                 games = refl;
                 none_just_finished = refl;
-                not_finished = refl;
+                finished = refl;
                 probes = keeps.probes;
+                fault = refl;
               };
-              fault = refl;
               counted = counts_token reading new t.kind t.at met sink takes;
             };
           }
@@ -135,8 +133,7 @@ module _ (lexer : Standing) (reading : ReaderState) (games : ℕ) (piece : List 
             within = within;
             count = passes_count passes;
             ready = tt;
-            keeps = record { written = refl; games = refl; none_just_finished = refl; not_finished = refl; probes = omega arith };
-            fault = refl;
+            keeps = record { written = refl; games = refl; none_just_finished = refl; finished = refl; probes = omega arith; fault = refl };
             counted = refl;
           };
         }
@@ -184,7 +181,7 @@ module _ (lexer : Standing) (reading : ReaderState) (games : ℕ) (piece : List 
     games = games;
     just_finished = None;
     is_finished = false;
-    fault = fault_of_step (outcome_at t.at met);
+    fault = fault_of (outcome_at t.at met);
   }) used (outcome_at t.at met) sink
   steps_met_behind =
       rw behind.all (steps_behind _ (now_at behind.mid reading games false) _ piece behind.passed behind.count (outcome_at t.at met)

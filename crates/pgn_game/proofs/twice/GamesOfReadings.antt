@@ -9,7 +9,7 @@ use Rattle.pgn_game.specs.ReaderState as reader_state
 use Rattle.pgn_game.specs.Text.{game_text}
 use Rattle.pgn_game.specs.Readings.{AfterRead, AllRead, ComesNext, EndComes, FirstFails, GameRead, GameWritten, HasCome, HasGiven, MarkerComes, ReadFails, ReadingStops, SecondFails, StandsBetween, StandsIn, at_read, at_token, as_changed}
 use Rattle.pgn_game.specs.Readings as readings
-use Rattle.pgn_game.specs.ConverterSteps.{told_of}
+use Rattle.pgn_game.specs.ConverterSteps.{announcing}
 use Rattle.pgn_game.specs.ConverterCalls.{AreShown, at_end, writing_nothing}
 use Rattle.pgn_game.proofs.tokens.AcceptedToConverter.{follows_own}
 use Rattle.pgn_game.proofs.tokens.BytesWithinLimit.{shown_begins}
@@ -262,7 +262,7 @@ text_told marker r here InMovetext h = h
 text_told marker r here _ h = h
 
 pub told_reading : (q : Profile) (left_old left : Option (List ℕ)) (r : Reading) (given : List Token) (m : Marker) (d : Converter)
-    → d ≡ told_of m r.converter → HasGiven q left_old left r given
+    → d ≡ announcing m r.converter → HasGiven q left_old left r given
     → HasGiven q left_old left (record { converter = d; unused = r.unused; has_ended = r.has_ended }) given
 told_reading q left_old left r given m d is h =
     let read = h.has_read in
@@ -299,7 +299,7 @@ silent_reading q left_old left r d is h =
       has_read = rw is (reads_silently q r.converter h.has_read);
     }
 
-pub told_by : (q : Profile) (c d : Converter) (m : Marker) → d ≡ told_of m c → q.missing_result ≡ takes_the_marker → c.reading.profile ≡ q
+pub told_by : (q : Profile) (c d : Converter) (m : Marker) → d ≡ announcing m c → q.missing_result ≡ takes_the_marker → c.reading.profile ≡ q
     → as_written d.reading ≡ counting q (marker_text m)
 told_by q c d m is takes_it profile =
     ap (λ (c : Converter). as_written c.reading) is

@@ -3,11 +3,11 @@
 use Rattle.pgn_lexer.specs.declared.partial_token.Mode.{Mode}
 use Rattle.pgn_game.specs.declared.marker.Mark.{Mark as CodeMark}
 use Rattle.pgn_game.proofs.Words.{Token, within_limit, InputTooLong, Fault, Profile, ◌≡◌, ℕ, ◌^◌, ◌≤◌, arith, false, true, List, [], ◌∷◌, ◌++◌, length, Option, None, Some, Result, Ok, Err, IfOk, IfSome, IsStill, CountsDevices, CountsFault, refl, sym, ap, subst, ◌∙◌, append_assoc, append-nil, Consumes-nil, Consumes-trans, Consumes, Stands, inl, takes_the_marker, with_missing, Device, tokens_of, decided, Standing, coming, HasLeft, Follows, first, Converter, ReadsMore, as_written, StandsWithin, Reading, games_of}
-use Rattle.pgn_game.specs.ConverterCalls.{AreShown, KeepsFault, at_end}
-use Rattle.pgn_game.specs.ConverterSteps.{AfterEndToMarker, EndsToMarker, IsReady, is_end_of_input, taking_marker}
+use Rattle.pgn_game.specs.ConverterCalls.{AreShown, at_end}
+use Rattle.pgn_game.specs.ConverterSteps.{AfterEndToMarker, EndsToMarker, taking_marker}
 use Rattle.pgn_game.specs.GamesSteps.{AfterToMarker, CountsReading, StopsBefore, UsesAll}
 use Rattle.pgn_game.specs.GamesSteps as games_steps
-use Rattle.pgn_game.specs.Readings.{AfterMarker, IsReadyToEnd, HasGiven, ReadingStops, ReadFails, at_read, at_token, StandsIn}
+use Rattle.pgn_game.specs.Readings.{AfterMarker, HasGiven, ReadingStops, ReadFails, at_read, at_token, StandsIn}
 use Rattle.pgn_game.proofs.tokens.BytesWithinLimit.{all_shown, none_next, shown_begins, shown_by, shown_none}
 use Rattle.pgn_game.proofs.tokens.LastTokens.{IsLeft, glyph, left_in, none, symbol}
 use Rattle.pgn_game.proofs.tokens.MissingCountsAs.{reads_taking}
@@ -187,9 +187,9 @@ module _ (q : Profile) (left_old left_new : Option (List ℕ)) (given mid : List
 module _ (q : Profile) (left_old left left_new : Option (List ℕ)) (given : List Token) (u : List ℕ) (consumed : Consumes left_old left u)
     (now : Converter) (unused : List ℕ) (a b : Option (List ℕ)) (uses : UsesAll q u given left left_new (games_of now unused) a b) where
   pub all_used : (new : Converter) (c : Option (List ℕ)) (sink : Device) (r : Result (Option CodeMark) Fault) → sink.before ≡ b → sink.after ≡ c
-      → EndsToMarker now new r sink → new.lexer.count ≡ now.lexer.count → now.lexer.count ≤ 2 ^ 62 → as_written new.reading ≡ as_written now.reading
+      → EndsToMarker now new r sink → now.lexer.count ≤ 2 ^ 62
       → AfterMarker q left_old left_new given (record { converter = new; unused = unused; has_ended = true }) r a c
-  all_used new c sink r from to ends stays few written =
+  all_used new c sink r from to ends few =
       let so = uses.so_far in
       let text : List ℕ = u ++ so.more in
       let taken : Consumes left_old left_new text = Consumes-trans left_old left left_new u so.more consumed so.consumed in
@@ -200,20 +200,11 @@ module _ (q : Profile) (left_old left left_new : Option (List ℕ)) (given : Lis
       met_at_end q left_old left_new given so.tokens text now new a b c taken
       (known_whole left_old left_new text (λ s. s ≡ text) taken uses.at_end refl) so.reads left_over
       (so.stands.lexer.count ∙ ap (length {A = ℕ}) used_up)
-      (omega (arith, few, so.stands.lexer.count, ap (length {A = ℕ}) used_up)) written unused r stays
+      (omega (arith, few, so.stands.lexer.count, ap (length {A = ℕ}) used_up)) ends.keeps.written unused r ends.count
       (subst (λ o. AfterEndToMarker q text so.tokens now new r o c) from
-      (subst (λ o. AfterEndToMarker q text so.tokens now new r sink.before o) to (ends q text so.tokens left_over so.reads.has_read)))
+      (subst (λ o. AfterEndToMarker q text so.tokens now new r sink.before o) to (ends.ends q text so.tokens left_over so.reads.has_read)))
 
 -- ---- what every call keeps
-
--- a marker that was met behind the source can be taken
-pub ready_behind : (r : Result (Option CodeMark) Fault) (new : Reading) → IfOk r (λ o. IfSome o (λ m. IsReady new.converter))
-    → new.converter.is_finished ≡ is_end_of_input r → KeepsFault new.converter r → new.converter.just_finished ≡ None
-    → IfOk r (λ o. IfSome o (λ m. IsReadyToEnd new))
-ready_behind (Ok (Some m)) new ready finished fault gone =
-    record { ready = ready; going = record { not_finished = finished; no_fault = fault }; none_just_finished = gone }
-ready_behind (Ok None) new ready finished fault gone = tt
-ready_behind (Err f) new ready finished fault gone = tt
 
 -- nothing is read there
 pub counts_behind : {A : Type 0} (r : Result A Fault) (source sink : Device) → IsStill source → CountsFault r sink → CountsReading r source sink

@@ -4,8 +4,8 @@ use Rattle.pgn_game.proofs.checked.convert_checked.Given as goal
 abbrev pub invariant-loop-mark : goal.invariant-loop-mark
 invariant-loop-mark g l =
     record {
-      first_going : IsGoing l.ahead;
-      second_going : IsGoing l.behind;
+      first_going : IsGoing l.ahead.converter;
+      second_going : IsGoing l.behind.converter;
       first_silent : l.ahead.converter.reading.writing.is_silent ≡ true;
       second_writes : l.behind.converter.reading.writing.is_silent ≡ false;
       first : g.Q.Source.failures l.first ≡ g.Q.Source.failures l.fn.first;

@@ -16,7 +16,7 @@ loop-init g c =
     }
 
 pub loop-smaller : goal.loop-smaller
-loop-smaller g c = c.in_ok-next_game.ensures.fewer (ap Ok c.if-branch.true)
+loop-smaller g c = c.in_ok-next_game.ensures.goes.fewer (ap Ok c.if-branch.true)
 
 pub loop-preserved : goal.loop-preserved
 loop-preserved g c =
@@ -26,10 +26,10 @@ loop-preserved g c =
     let source = device g.R.Source.left g.R.Source.failures c.loop.reader c.next_game.new.source in
     let sink = device g.W.Sink.taken g.W.Sink.failures c.loop.writer c.next_game.new.out in
     let next = seen_alike (λ (d : Device). ReadsNext old new (Ok true) source d) _ _ sink so.silent.silent
-    (rw c.if-branch.true at c.in_ok-next_game.ensures.reads) in
-    let counted = c.in_ok-next_game.ensures.counted so.fault in
+    (rw c.if-branch.true at c.in_ok-next_game.ensures.goes.reads) in
+    let counted = c.in_ok-next_game.ensures.goes.counted so.fault in
     record {
-      fault = c.in_ok-next_game.ensures.fault;
+      fault = c.in_ok-next_game.ensures.goes.fault;
       source = counted.0 ∙ so.source;
       sink = seen_alike IsStill _ _ sink so.silent.silent counted.1 ∙ so.sink;
       silent = silence_then _ _ _ _ _ _ so.silent c.in_ok-next_game.ensures.silent;
@@ -45,13 +45,13 @@ returns-in_err-next_game g c =
     let new = games_of c.next_game.new.converter c.next_game.new.buffer in
     let source = device g.R.Source.left g.R.Source.failures c.loop.reader c.next_game.new.source in
     let sink = device g.W.Sink.taken g.W.Sink.failures c.loop.writer c.next_game.new.out in
-    let next = seen_alike (λ (d : Device). ReadsNext old new (Err f) source d) _ _ sink so.silent.silent c.in_err-next_game.ensures.reads in
+    let next = seen_alike (λ (d : Device). ReadsNext old new (Err f) source d) _ _ sink so.silent.silent c.in_err-next_game.ensures.goes.reads in
     record {
       converts = λ p stands.
           let have = so.read p stands in
           rw (e.1, e.2) (games_stop _ _ _ _ old _ _ _ have (next _ _ _ have.have_read));
       counted = rw (e.1, e.2, ← so.source, ← so.sink)
-          (seen_alike (λ (d : Device). CountsNext (Err f) source d) _ _ sink so.silent.silent (c.in_err-next_game.ensures.counted so.fault));
+          (seen_alike (λ (d : Device). CountsNext (Err f) source d) _ _ sink so.silent.silent (c.in_err-next_game.ensures.goes.counted so.fault));
     }
 
 pub returns : goal.returns
@@ -62,7 +62,7 @@ returns g c =
     let source = device g.R.Source.left g.R.Source.failures c.loop.reader c.next_game.new.source in
     let sink = device g.W.Sink.taken g.W.Sink.failures c.loop.writer c.next_game.new.out in
     let next = seen_alike (λ (d : Device). ReadsNext old new (Ok false) source d) _ _ sink so.silent.silent
-    (rw c.if-branch.false at c.in_ok-next_game.ensures.reads) in
+    (rw c.if-branch.false at c.in_ok-next_game.ensures.goes.reads) in
     let silent = silence_then _ _ _ _ _ _ so.silent c.in_ok-next_game.ensures.silent in
     record {
       converts = λ p stands.
@@ -74,7 +74,7 @@ returns g c =
           (next _ _ _ have.have_read) c.totals_of.ensures.games c.totals_of.ensures.plies
           c.totals_of.ensures.probes c.totals_of.ensures.bound);
       counted =
-          let counted = c.in_ok-next_game.ensures.counted so.fault in
+          let counted = c.in_ok-next_game.ensures.goes.counted so.fault in
           (counted.0 ∙ so.source, seen_alike IsStill _ _ sink so.silent.silent counted.1 ∙ so.sink);
     }
 
@@ -82,4 +82,4 @@ pub next_game-requires : goal.next_game-requires
 next_game-requires g c = search fits_alike
 
 pub totals_of-requires : goal.totals_of-requires
-totals_of-requires g c = (search fits_alike, c.in_ok-next_game.ensures.fault)
+totals_of-requires g c = (search fits_alike, c.in_ok-next_game.ensures.goes.fault)

@@ -19,17 +19,17 @@ counts_sink (Ok t) sink last before after h = sym after ∙ h ∙ before
 counts_sink (Err f) sink last before after h = counts_writing f.reason sink (rw (before, after) at h)
 
 pub feed_all-requires : goal.feed_all-requires
-feed_all-requires g c = (search fits_alike, (c.requires.not_finished, c.requires.no_fault))
+feed_all-requires g c = (search fits_alike, c.requires)
 
 pub end-requires : goal.end-requires
-end-requires g c = (search fits_alike, (c.feed_all.ensures.not_finished, c.in_ok-feed_all.ensures.fault))
+end-requires g c = (search fits_alike, record { no_fault = c.in_ok-feed_all.ensures.goes.fault; not_finished = c.feed_all.ensures.goes.not_finished })
 
 pub returns-in_err-feed_all : goal.returns-in_err-feed_all
 returns-in_err-feed_all g c =
     let e = err_from_is_err_and c.from_residual.result c.from_residual.ensures.1 in
     record {
       converts = λ p stands. rw (e.1, e.2) (slice_stops _ _ _ (c.in_err-feed_all.ensures.feeds p _ _ stands refl));
-      counted = rw (e.1, e.2) (counts_writing _ _ c.in_err-feed_all.ensures.counted);
+      counted = rw (e.1, e.2) (counts_writing _ _ c.in_err-feed_all.ensures.goes.counted);
     }
 
 pub returns : goal.returns
@@ -40,9 +40,9 @@ returns g c =
     record {
       converts = λ p stands.
           let fed = c.in_ok-feed_all.ensures.feeds p _ _ stands refl in
-          slice_ends s _ c.end.result fed (omega (arith, fed.stands.lexer.count, c.in_ok-feed_all.ensures.short))
+          slice_ends s _ c.end.result fed (omega (arith, fed.stands.lexer.count, c.in_ok-feed_all.ensures.goes.short))
           (subst (λ (b : Bool). AfterEnd b p c.args.text.now fed.tokens c.end.result (bytes_seen b sink.before) (bytes_seen b sink.after)) same
           (c.end.ensures.ends p _ _ fed.stands));
-      counted = counts_sink c.end.result _ _ c.in_ok-feed_all.ensures.counted refl
+      counted = counts_sink c.end.result _ _ c.in_ok-feed_all.ensures.goes.counted refl
           (seen_alike (CountsFault c.end.result) _ _ sink same c.end.ensures.counted);
     }

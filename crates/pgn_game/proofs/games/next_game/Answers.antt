@@ -19,12 +19,14 @@ pub returns-in-Some : goal.returns-in-Some
 returns-in-Some g c =
     let fault = sym c.fault.ensures ∙ c.in-Some.is in
     record {
-      reads = λ p u given have. absurd (none-some _ (sym (no_fault p _ u _ given have) ∙ fault));
-      fewer = λ same. absurd (false≢true (ap is_ok same));
-      fault = fault;
+      goes = record {
+        reads = λ p u given have. absurd (none-some _ (sym (no_fault p _ u _ given have) ∙ fault));
+        fewer = λ same. absurd (false≢true (ap is_ok same));
+        fault = fault;
+        counted = λ none. absurd (none-some _ (sym none ∙ fault));
+      };
       at_end = λ none. absurd (none-some _ (sym none ∙ fault));
       again = λ f is. (ap Err (same_Some _ _ (sym fault ∙ is)), refl, refl, refl);
-      counted = λ none. absurd (none-some _ (sym none ∙ fault));
       silent = silence_kept _ _ _ refl;
     }
 
@@ -37,28 +39,28 @@ forget_game-requires g c = search fits_alike
 pub returns-then-is_finished : goal.returns-then-is_finished
 returns-then-is_finished g c =
     record {
-      reads = λ p u given have.
-          at_end_again p u given _ (games_of c.args.converter.now c.args.buffer.now) c.forget_game.new.self _ have
-          (sym c.is_finished.ensures ∙ c.if-is_finished.true) c.forget_game.ensures;
-      fewer = λ same. absurd (false≢true (subst (λ (r : Result Bool Fault). IfOk r (λ b. b ≡ true)) (sym same) refl));
-      fault = rw c.forget_game.ensures (sym c.fault.ensures ∙ c.in_default.is);
+      goes = record {
+        reads = λ p u given have.
+            at_end_again p u given _ (games_of c.args.converter.now c.args.buffer.now) c.forget_game.new.self _ have
+            (sym c.is_finished.ensures ∙ c.if-is_finished.true) c.forget_game.ensures;
+        fewer = λ same. absurd (false≢true (subst (λ (r : Result Bool Fault). IfOk r (λ b. b ≡ true)) (sym same) refl));
+        fault = rw c.forget_game.ensures (sym c.fault.ensures ∙ c.in_default.is);
+        counted = λ none. (refl, refl);
+      };
       at_end = λ none finished. rw c.forget_game.ensures (refl, refl, refl, refl);
       again = λ f is. absurd (none-some f (sym (sym c.fault.ensures ∙ c.in_default.is) ∙ is));
-      counted = λ none. (refl, refl);
       silent = rw c.forget_game.ensures (silence_kept _ _ _ refl);
     }
 
 pub read_game-requires : goal.read_game-requires
-read_game-requires g c = (search fits_alike, (sym c.is_finished.ensures ∙ c.if-is_finished.false, sym c.fault.ensures ∙ c.in_default.is))
+read_game-requires g c =
+    (search fits_alike, record { no_fault = sym c.fault.ensures ∙ c.in_default.is; not_finished = sym c.is_finished.ensures ∙ c.if-is_finished.false })
 
 pub returns : goal.returns
 returns g c =
     record {
-      reads = c.read_game.ensures.reads;
-      fewer = c.read_game.ensures.fewer;
-      fault = c.read_game.ensures.fault;
+      goes = c.read_game.ensures.goes;
       at_end = λ none finished. absurd (false≢true (sym (sym c.is_finished.ensures ∙ c.if-is_finished.false) ∙ finished));
       again = λ f is. absurd (none-some f (sym (sym c.fault.ensures ∙ c.in_default.is) ∙ is));
-      counted = λ none. c.read_game.ensures.counted;
       silent = c.read_game.ensures.silent;
     }

@@ -1,11 +1,10 @@
-use Rattle.pgn_game.proofs.Words.{◌≡◌, ◌+◌, ◌-◌, ◌^◌, ◌≤◌, None, false, length, device, sink_of, IsStill, KeepsSilence, games_of, as_written, ReadsSoFar}
+use Rattle.pgn_game.proofs.Words.{◌≡◌, ◌+◌, ◌-◌, ◌^◌, ◌≤◌, length, device, sink_of, IsGoing, IsStill, KeepsSilence, games_of, as_written, ReadsSoFar}
 use Rattle.pgn_game.proofs.games.next_marker.Given as goal
 
 abbrev pub invariant-loop-mark : goal.invariant-loop-mark
 invariant-loop-mark g l =
     record {
-      not_finished : l.converter.is_finished ≡ false;
-      fault : l.converter.fault ≡ None;
+      going : IsGoing l.converter;
       games : l.converter.games ≡ l.fn.converter.games;
       written : as_written l.converter.reading ≡ as_written l.fn.converter.reading;
       probes : l.fn.converter.reading.most_probes ≤ l.converter.reading.most_probes;

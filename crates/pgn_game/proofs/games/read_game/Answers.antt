@@ -22,23 +22,25 @@ counts_result (Err f) source sink last still before after h =
     (counts_fault f.reason source.failures source.failures_after sink.failures last.failures last.failures_after still before h)
 
 pub next_marker-requires : goal.next_marker-requires
-next_marker-requires g c = (search fits_alike, (c.requires.not_finished, c.requires.no_fault))
+next_marker-requires g c = (search fits_alike, c.requires)
 
 pub returns-in_err-mark : goal.returns-in_err-mark
 returns-in_err-mark g c =
     let e = err_from_is_err_and c.from_residual.result c.from_residual.ensures.1 in
     record {
-      reads = λ p u given have.
-          let begun = begins p u given _ (games_of c.args.converter.now c.args.buffer.now) have c.requires.not_finished in
-          let e = err_from_is_err_and c.from_residual.result c.from_residual.ensures.1 in
-          rw (e.1, e.2) (stops_before p _ begun.0 u given _ _ _ c.next_marker.new.converter _ _
-          (λ silent. no_write_seen {A = Unit} (Err c.in_err-mark.field-0.0)
-          (device g.R.Source.left g.R.Source.failures c.args.source.now c.next_marker.new.source)
-          (device g.W.Sink.taken g.W.Sink.failures c.args.out.now c.next_marker.new.out) _ silent c.in_err-mark.ensures.counted)
-          (c.in_err-mark.ensures.reads p u given begun.1 begun.2));
-      fewer = λ same. absurd (false≢true (ap is_ok (sym e.1 ∙ same)));
-      fault = rw (e.1, e.2) c.in_err-mark.ensures.fault;
-      counted = rw (e.1, e.2) c.in_err-mark.ensures.counted;
+      goes = record {
+        reads = λ p u given have.
+            let begun = begins p u given _ (games_of c.args.converter.now c.args.buffer.now) have c.requires.not_finished in
+            let e = err_from_is_err_and c.from_residual.result c.from_residual.ensures.1 in
+            rw (e.1, e.2) (stops_before p _ begun.0 u given _ _ _ c.next_marker.new.converter _ _
+            (λ silent. no_write_seen {A = Unit} (Err c.in_err-mark.field-0.0)
+            (device g.R.Source.left g.R.Source.failures c.args.source.now c.next_marker.new.source)
+            (device g.W.Sink.taken g.W.Sink.failures c.args.out.now c.next_marker.new.out) _ silent c.in_err-mark.ensures.goes.counted)
+            (c.in_err-mark.ensures.reads p u given begun.1 begun.2));
+        fewer = λ same. absurd (false≢true (ap is_ok (sym e.1 ∙ same)));
+        fault = rw (e.1, e.2) c.in_err-mark.ensures.goes.keeps.fault;
+        counted = λ free. rw (e.1, e.2) c.in_err-mark.ensures.goes.counted;
+      };
       silent = c.next_marker.ensures.silent;
     }
 
@@ -49,20 +51,22 @@ returns-in_err-end_game-in-Some g c =
     let sink = device g.W.Sink.taken g.W.Sink.failures c.next_marker.new.out c.end_game.new.out in
     let f = c.in_err-end_game-in-Some.field-0.0 in
     record {
-      reads = λ p u given have.
-          let begun = begins p u given _ (games_of c.args.converter.now c.args.buffer.now) have c.requires.not_finished in
-          let met = rw c.in-Some.is at (c.in_ok-mark.ensures.reads p u given begun.1 begun.2) in
-          let e = err_from_is_err_and c.from_residual-in_err-end_game-in-Some.result c.from_residual-in_err-end_game-in-Some.ensures.1 in
-          rw (e.1, e.2) (marker_stops p _ begun.0 u given _ _ _ c.in-Some.mark (games_of c.next_marker.new.converter c.next_marker.new.buffer)
-          (sink_of c.args.converter.now.reading g.W.Sink.taken g.W.Sink.failures c.next_marker.new.out c.end_game.new.out) met c.end_game.new.self f
-          (λ silent. none_fails {A = Unit} _ (Err f) sink silent
-          (seen_alike (λ (d : Device). CountsFault {A = Unit} (Err f) d) _ _ sink same c.in_err-end_game-in-Some.ensures.counted))
-          (seen_alike (λ (d : Device). EndsGame c.next_marker.new.converter.reading c.in-Some.mark c.end_game.new.self.reading (Err f) d) _ _ sink same
-          c.in_err-end_game-in-Some.ensures.ends));
-      fewer = λ same. absurd (false≢true (ap is_ok (sym e.1 ∙ same)));
-      fault = rw (e.1, e.2) c.in_err-end_game-in-Some.ensures.fault;
-      counted = rw (e.1, e.2) (counts_fault _ _ _ _ _ _ c.in_ok-mark.ensures.counted.0 c.in_ok-mark.ensures.counted.1
-          (seen_alike (λ (d : Device). CountsFault {A = Unit} (Err f) d) _ _ sink same c.in_err-end_game-in-Some.ensures.counted));
+      goes = record {
+        reads = λ p u given have.
+            let begun = begins p u given _ (games_of c.args.converter.now c.args.buffer.now) have c.requires.not_finished in
+            let met = rw c.in-Some.is at (c.in_ok-mark.ensures.reads p u given begun.1 begun.2) in
+            let e = err_from_is_err_and c.from_residual-in_err-end_game-in-Some.result c.from_residual-in_err-end_game-in-Some.ensures.1 in
+            rw (e.1, e.2) (marker_stops p _ begun.0 u given _ _ _ c.in-Some.mark (games_of c.next_marker.new.converter c.next_marker.new.buffer)
+            (sink_of c.args.converter.now.reading g.W.Sink.taken g.W.Sink.failures c.next_marker.new.out c.end_game.new.out) met c.end_game.new.self f
+            (λ silent. none_fails {A = Unit} _ (Err f) sink silent
+            (seen_alike (CountsFault {A = Unit} (Err f)) _ _ sink same c.in_err-end_game-in-Some.ensures.counts.counted))
+            (seen_alike (EndsGame _ _ _ _) _ _ sink same
+            c.in_err-end_game-in-Some.ensures.ends));
+        fewer = λ same. absurd (false≢true (ap is_ok (sym e.1 ∙ same)));
+        fault = rw (e.1, e.2) c.in_err-end_game-in-Some.ensures.counts.fault;
+        counted = λ free. rw (e.1, e.2) (counts_fault _ _ _ _ _ _ c.in_ok-mark.ensures.goes.counted.0 c.in_ok-mark.ensures.goes.counted.1
+            (seen_alike (CountsFault {A = Unit} (Err f)) _ _ sink same c.in_err-end_game-in-Some.ensures.counts.counted));
+      };
       silent = silence_then _ _ _ _ _ _ c.next_marker.ensures.silent c.end_game.ensures.silent;
     }
 
@@ -72,21 +76,23 @@ returns-in_ok-end_game-in-Some g c =
     let same = c.next_marker.ensures.silent.silent in
     let sink = device g.W.Sink.taken g.W.Sink.failures c.next_marker.new.out c.end_game.new.out in
     record {
-      reads = λ p u given have.
-          let begun = begins p u given _ (games_of c.args.converter.now c.args.buffer.now) have c.requires.not_finished in
-          let met = rw c.in-Some.is at (c.in_ok-mark.ensures.reads p u given begun.1 begun.2) in
-          game_read p _ begun.0 u given _ _ _ c.in-Some.mark (games_of c.next_marker.new.converter c.next_marker.new.buffer)
-          (sink_of c.args.converter.now.reading g.W.Sink.taken g.W.Sink.failures c.next_marker.new.out c.end_game.new.out) met c.end_game.new.self
-          (c.end_game.ensures.silent.silent ∙ same)
-          (seen_alike (λ (d : Device). EndsGame c.next_marker.new.converter.reading c.in-Some.mark c.end_game.new.self.reading (Ok tt) d) _ _ sink same
-          ended.ends) ended.lexer ended.not_finished ended.fault ended.games ended.just_finished;
-      fewer = λ same.
-          rw (c.end_game.ensures.not_finished, c.requires.not_finished) (omega (arith, ended.few, ended.games, c.next_marker.ensures.games));
-      fault = ended.fault;
-      counted = (
-        c.in_ok-mark.ensures.counted.0,
-        seen_alike IsStill _ _ sink same ended.counted ∙ c.in_ok-mark.ensures.counted.1,
-      );
+      goes = record {
+        reads = λ p u given have.
+            let begun = begins p u given _ (games_of c.args.converter.now c.args.buffer.now) have c.requires.not_finished in
+            let met = rw c.in-Some.is at (c.in_ok-mark.ensures.reads p u given begun.1 begun.2) in
+            game_read p _ begun.0 u given _ _ _ c.in-Some.mark (games_of c.next_marker.new.converter c.next_marker.new.buffer)
+            (sink_of c.args.converter.now.reading g.W.Sink.taken g.W.Sink.failures c.next_marker.new.out c.end_game.new.out) met c.end_game.new.self
+            (c.end_game.ensures.silent.silent ∙ same)
+            (seen_alike (EndsGame _ _ _ _) _ _ sink same
+            ended.ends) ended.counts.lexer ended.counts.not_finished ended.counts.fault ended.counts.games ended.counts.just_finished;
+        fewer = λ same.
+            rw (c.end_game.ensures.counts.not_finished, c.requires.not_finished) (omega (arith, ended.counts.few, ended.counts.games, c.next_marker.ensures.goes.keeps.games));
+        fault = ended.counts.fault;
+        counted = λ free. (
+          c.in_ok-mark.ensures.goes.counted.0,
+          seen_alike IsStill _ _ sink same ended.counts.counted ∙ c.in_ok-mark.ensures.goes.counted.1,
+        );
+      };
       silent = silence_then _ _ _ _ _ _ c.next_marker.ensures.silent c.end_game.ensures.silent;
     }
 
@@ -95,27 +101,25 @@ returns-in-None g c =
     let same = c.next_marker.ensures.silent.silent in
     let sink = device g.W.Sink.taken g.W.Sink.failures c.next_marker.new.out c.finish.new.out in
     record {
-      reads = λ p u given have.
-          let begun = begins p u given _ (games_of c.args.converter.now c.args.buffer.now) have c.requires.not_finished in
-          let games = games_of c.next_marker.new.converter c.next_marker.new.buffer in
-          let uses = rw c.in-None.is at (c.in_ok-mark.ensures.reads p u given begun.1 begun.2) in
-          finished p _ begun.0 u given _ _ games _ _ same uses c.finish.new.self _ c.finish.result
-          (seen_alike (λ (d : Device). Ends c.next_marker.new.converter c.finish.new.self c.finish.result d) _ _ sink same c.finish.ensures.ends
-          p _ _ _ (stands_at_end p _ begun.0 u given _ _ games _ _ same uses))
-          c.finish.ensures.finished c.in_ok-mark.ensures.short;
-      fewer = λ same. rw (c.finish.ensures.finished, same, c.requires.not_finished) (omega arith);
-      fault = c.finish.ensures.fault;
-      counted = counts_result c.finish.result _ _ _ c.in_ok-mark.ensures.counted.0 c.in_ok-mark.ensures.counted.1 refl
-          (seen_alike (CountsFault c.finish.result) _ _ sink same (c.finish.ensures.counted c.in_ok-mark.ensures.fault));
+      goes = record {
+        reads = λ p u given have.
+            let begun = begins p u given _ (games_of c.args.converter.now c.args.buffer.now) have c.requires.not_finished in
+            let games = games_of c.next_marker.new.converter c.next_marker.new.buffer in
+            let uses = rw c.in-None.is at (c.in_ok-mark.ensures.reads p u given begun.1 begun.2) in
+            finished p _ begun.0 u given _ _ games _ _ same uses c.finish.new.self _ c.finish.result
+            (seen_alike (λ (d : Device). Ends c.next_marker.new.converter c.finish.new.self c.finish.result d) _ _ sink same c.finish.ensures.ends
+            p _ _ _ (stands_at_end p _ begun.0 u given _ _ games _ _ same uses))
+            c.finish.ensures.finished c.in_ok-mark.ensures.goes.short;
+        fewer = λ same. rw (c.finish.ensures.finished, same, c.requires.not_finished) (omega arith);
+        fault = c.finish.ensures.fault;
+        counted = λ free. counts_result c.finish.result _ _ _ c.in_ok-mark.ensures.goes.counted.0 c.in_ok-mark.ensures.goes.counted.1 refl
+            (seen_alike (CountsFault c.finish.result) _ _ sink same (c.finish.ensures.counted c.in_ok-mark.ensures.goes.keeps.fault));
+      };
       silent = silence_then _ _ _ _ _ _ c.next_marker.ensures.silent c.finish.ensures.silent;
     }
 
 pub end_game-requires : goal.end_game-requires
-end_game-requires g c =
-    let ready = rw c.in-Some.is at c.in_ok-mark.ensures.ready in (
-      search fits_alike,
-      (ready, (c.in_ok-mark.ensures.fault, (c.next_marker.ensures.not_finished, c.in_ok-mark.ensures.none_just_finished))),
-    )
+end_game-requires g c = (search fits_alike, rw c.in-Some.is at c.in_ok-mark.ensures.goes.ready)
 
 pub finish-requires : goal.finish-requires
-finish-requires g c = (search fits_alike, c.next_marker.ensures.not_finished)
+finish-requires g c = (search fits_alike, c.next_marker.ensures.goes.keeps.finished)

@@ -1,4 +1,4 @@
-use Rattle.pgn_game.proofs.Words.{ℕ, ap, refl, Bool, true, false, List, Option, Ok, Converter, FillResult, MoreResult}
+use Rattle.pgn_game.proofs.Words.{ℕ, refl, Bool, true, false, List, Option, Ok, Converter, FillResult, MoreResult}
 use Rattle.pgn_game.proofs.ReaderFitsInMemory.{fits_alike}
 use Rattle.pgn_game.proofs.games.read_more.Goals as goal
 
@@ -13,20 +13,14 @@ returns-in-Ok g c =
     record {
       more = filled _ _ _ _ _ c.in-Ok.ensures.fills;
       fits = c.fill.ensures.fits;
-      not_finished = refl;
-      fault = c.requires.no_fault;
-      games = refl;
       counted = c.in-Ok.ensures.counted;
     }
 
 pub returns-in-Err : goal.returns-in-Err
 returns-in-Err g c =
     record {
-      more = (c.keep_failed_read.ensures.fault, ap (λ (s : Converter). s.reading) c.keep_failed_read.ensures.kept, c.in-Err.ensures.fills);
+      more = (c.keep_failed_read.ensures.fault, c.keep_failed_read.ensures.kept, c.in-Err.ensures.fills);
       fits = c.fill.ensures.fits;
-      not_finished = ap (λ (s : Converter). s.is_finished) c.keep_failed_read.ensures.kept;
-      fault = ap (λ (s : Converter). s.fault) c.keep_failed_read.ensures.kept;
-      games = ap (λ (s : Converter). s.games) c.keep_failed_read.ensures.kept;
       counted = c.in-Err.ensures.counted;
     }
 

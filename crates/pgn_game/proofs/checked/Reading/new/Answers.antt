@@ -6,14 +6,14 @@ use Rattle.pgn_game.proofs.checked.Reading.new.Goals as goal
 pub new-converter-requires : goal.new-converter-requires
 new-converter-requires g c = (search reading_fits_converter, c.requires)
 
-pub take_told_marker-requires : goal.take_told_marker-requires
-take_told_marker-requires g c = search reading_fits_converter
+pub take_announced_marker-requires : goal.take_announced_marker-requires
+take_announced_marker-requires g c = search reading_fits_converter
 
 pub returns-clause-given : goal.returns-clause-given
 returns-clause-given g c = λ left.
-    given_none (profile_of g.row.T (g.row.L - 1) c.args.mode) c.new-converter.result c.take_told_marker.new.self c.new.result left
-    c.new-converter.ensures.stands c.take_told_marker.ensures c.new.ensures
+    given_none (profile_of g.row.T (g.row.L - 1) c.args.mode) c.new-converter.result c.take_announced_marker.new.self c.new.result left
+    c.new-converter.ensures.stands c.take_announced_marker.ensures c.new.ensures
 
 pub returns-clause-writes : goal.returns-clause-writes
 returns-clause-writes g c =
-    ap (λ (s : Converter). s.reading.writing.is_silent) c.take_told_marker.ensures ∙ c.new-converter.ensures.writes
+    ap (λ (s : Converter). s.reading.writing.is_silent) c.take_announced_marker.ensures ∙ c.new-converter.ensures.writes

@@ -1,6 +1,7 @@
 use Rattle.pgn_game.proofs.Words.{Reading, ap, err_from_is_err_and, refl, subst, sym, ◌∙◌, ◌+◌, ◌<◌, ◌^◌, false, None, [], Device, device, Ok, Err, EndsGame, CountsFault, IsStill, bytes_seen}
+use Rattle.pgn_game.specs.ConverterSteps.{IsReady}
 use Rattle.pgn_game.specs.GamesSteps.{CountsReading}
-use Rattle.pgn_game.specs.Readings.{IsReadyToEnd, MarkerComes, no_sink}
+use Rattle.pgn_game.specs.Readings.{MarkerComes, no_sink}
 use Rattle.pgn_game.proofs.ReaderFitsInMemory.{reading_alike, reading_fits_converter}
 use Rattle.pgn_game.proofs.twice.FailuresOfSteps.{behind_still, no_write, reader_reason, seen_none}
 use Rattle.pgn_game.proofs.twice.GamesOfReadings.{all_read, first_fails, game_read, marker_refused_first}
@@ -15,7 +16,7 @@ returns-in_err-mark g c =
     let f = c.in_err-mark.field-0.0 in
     let s = c.args.self.now.converter.reading.writing.is_silent in
     let source = device g.R.Source.left g.R.Source.failures c.args.source.now c.next_marker.new.source in
-    let counted = seen_none (λ (d : Device). CountsReading {A = Unit} (Err f) source d) s c.in_err-mark.ensures.counted in
+    let counted = seen_none (λ (d : Device). CountsReading {A = Unit} (Err f) source d) s c.in_err-mark.ensures.keeps.counted in
     record {
       reads = λ q left_old given stands.
           rw (e.1, e.2)
@@ -35,16 +36,14 @@ returns-in_default g c =
       going = tt;
       silent = c.next_marker.ensures.silent.silent;
       counted = (
-        c.in_ok-mark.ensures.counted.0,
-        seen_none IsStill c.args.self.now.converter.reading.writing.is_silent c.in_ok-mark.ensures.counted.1,
+        c.in_ok-mark.ensures.keeps.counted.0,
+        seen_none IsStill c.args.self.now.converter.reading.writing.is_silent c.in_ok-mark.ensures.keeps.counted.1,
       );
     }
 
 pub end_game-requires : goal.end_game-requires
 end_game-requires g c =
-    let ready = rw c.in-Some.is at c.in_ok-mark.ensures.ready in
-    let here = subst IsReadyToEnd (sym c.self.view_is) ready in
-    (search reading_fits_converter, (here.ready, (here.going.no_fault, (here.going.not_finished, here.none_just_finished))))
+    (search reading_fits_converter, subst (λ (r : Reading). IsReady r.converter) (sym c.self.view_is) (rw c.in-Some.is at c.in_ok-mark.ensures.keeps.ready))
 
 pub returns-in_err-end_game : goal.returns-in_err-end_game
 returns-in_err-end_game g c =
@@ -53,7 +52,7 @@ returns-in_err-end_game g c =
     let s = c.args.self.now.converter.reading.writing.is_silent in
     let here = c.self.inside.converter.reading.writing.is_silent in
     let counted = reader_reason f.reason (g.R.Source.failures c.next_marker.new.source) 0 0
-    (seen_none (λ (d : Device). CountsFault {A = Unit} (Err f) d) here c.in_err-end_game.ensures.counted) in
+    (seen_none (CountsFault {A = Unit} (Err f)) here c.in_err-end_game.ensures.counts.counted) in
     let ends = seen_none (λ (d : Device). EndsGame c.self.inside.converter.reading c.in-Some.mark c.end_game.new.self.reading (Err f) d) here
     c.in_err-end_game.ensures.ends in
     let new : Reading = record { converter = c.end_game.new.self; unused = []; has_ended = false } in
@@ -71,7 +70,7 @@ returns-in_err-end_game g c =
       going = rw e.1 tt;
       silent = c.end_game.ensures.silent.silent ∙ ap (λ (r : Reading). r.converter.reading.writing.is_silent) c.self.view_is
           ∙ c.next_marker.ensures.silent.silent;
-      counted = rw (e.1, e.2) (behind_still f.reason _ _ _ _ _ _ c.in_ok-mark.ensures.counted.0 refl counted);
+      counted = rw (e.1, e.2) (behind_still f.reason _ _ _ _ _ _ c.in_ok-mark.ensures.keeps.counted.0 refl counted);
     }
 
 pub returns : goal.returns
@@ -79,7 +78,7 @@ returns g c =
     let ended = c.in_ok-end_game.ensures in
     let s = c.args.self.now.converter.reading.writing.is_silent in
     let here = c.self.inside.converter.reading.writing.is_silent in
-    let same = ap (λ (r : Reading). r.converter.games) c.self.view_is ∙ c.next_marker.ensures.games in
+    let same = ap (λ (r : Reading). r.converter.games) c.self.view_is ∙ c.next_marker.ensures.keeps.games in
     record {
       reads = λ q left_old given stands.
           let reads = rw c.in-Some.is at c.in_ok-mark.ensures.reads in
@@ -90,12 +89,12 @@ returns g c =
           (seen_none (λ (d : Device). MarkerComes q left_old left_new given c.in-Some.mark
           (record { converter = c.self.inside.converter; unused = c.self.inside.buffer; has_ended = c.self.inside.has_ended }) d.before d.after) s met)
           (seen_none (λ (d : Device). EndsGame c.self.inside.converter.reading c.in-Some.mark c.end_game.new.self.reading (Ok tt) d) here ended.ends)
-          ended.lexer refl refl ended.games ended.just_finished ended.fault;
+          ended.counts.lexer refl refl ended.counts.games ended.counts.just_finished ended.counts.fault;
       going = (
-        record { not_finished = ended.not_finished; no_fault = ended.fault },
-        ended.games ∙ ap (λ n. n + 1) same,
-        subst (λ n. n < 2 ^ 64) same ended.few,
+        record { not_finished = ended.counts.not_finished; no_fault = ended.counts.fault },
+        ended.counts.games ∙ ap (λ n. n + 1) same,
+        subst (λ n. n < 2 ^ 64) same ended.counts.few,
       );
       silent = ended.silent.silent ∙ ap (λ (r : Reading). r.converter.reading.writing.is_silent) c.self.view_is ∙ c.next_marker.ensures.silent.silent;
-      counted = (c.in_ok-mark.ensures.counted.0, refl);
+      counted = (c.in_ok-mark.ensures.keeps.counted.0, refl);
     }

@@ -7,14 +7,14 @@ use Rattle.pgn_game.proofs.converter.Converter.end_game.Goals as goal
 pub end_game-requires : goal.end_game-requires
 end_game-requires g c = (
   search fits_reader,
-  subst (λ (s : Converter). IsTrue (may_have_movetext s.reading.stage)) (sym c.self.view_is) c.requires.ready.stage,
+  subst (λ (s : Converter). IsTrue (may_have_movetext s.reading.stage)) (sym c.self.view_is) c.requires.stage,
 )
 
 pub returns-in-Err : goal.returns-in-Err
 returns-in-Err g c =
     let keeps = c.end_game.ensures.keeps in
-    let none = ap (λ (s : Converter). s.fault) c.self.view_is ∙ c.requires.no_fault in
-    let flag = not_just_finished _ _ (ap (λ (s : Converter). s.just_finished) c.self.view_is ∙ c.requires.none_just_finished) in
+    let none = ap (λ (s : Converter). s.fault) c.self.view_is ∙ c.requires.before.no_fault in
+    let flag = not_just_finished _ _ (ap (λ (s : Converter). s.just_finished) c.self.view_is ∙ c.requires.before.none_just_finished) in
     record {
       ends = record {
         takes = λ k is.
@@ -23,24 +23,26 @@ returns-in-Err g c =
             (sink_of s.reading g.W.Sink.taken g.W.Sink.failures c.args.out.now c.end_game.new.out)) c.self.view_is (takes k is);
         place = refl;
       };
-      lexer = ap (λ (s : Converter). s.lexer) c.self.view_is;
-      not_finished = ap (λ (s : Converter). s.is_finished) c.self.view_is ∙ c.requires.not_finished;
-      fault = refl;
-      games = ap (λ (s : Converter). s.games) c.self.view_is;
-      few = omega (arith, c.self.invariant.count, ap (λ (s : Converter). s.lexer.count) c.self.view_is, c.requires.ready.few);
-      just_finished = ap (λ b. game_in_reader_if b c.end_game.new.self) flag;
-      written = written_same c.self.inside.reader c.end_game.new.self keeps.profile keeps.writing ∙ ap (λ (s : Converter). as_written s.reading) c.self.view_is;
-      probes = omega (arith, ap (λ (s : Converter). s.reading.most_probes) c.self.view_is, keeps.probes);
-      counted = counts_reason c.in-Err.reason (sink_of c.args.self.now.reading g.W.Sink.taken g.W.Sink.failures c.args.out.now c.end_game.new.out)
-          (subst (λ (s : Converter). CountsWrites (Err c.in-Err.reason) (sink_of s.reading g.W.Sink.taken g.W.Sink.failures c.args.out.now c.end_game.new.out))
-          c.self.view_is (rw c.in-Err.is at c.end_game.ensures.counted));
+      counts = record {
+        lexer = ap (λ (s : Converter). s.lexer) c.self.view_is;
+        not_finished = ap (λ (s : Converter). s.is_finished) c.self.view_is ∙ c.requires.before.not_finished;
+        fault = refl;
+        games = ap (λ (s : Converter). s.games) c.self.view_is;
+        few = omega (arith, c.self.invariant.count, ap (λ (s : Converter). s.lexer.count) c.self.view_is, c.requires.few);
+        just_finished = ap (λ b. game_in_reader_if b c.end_game.new.self) flag;
+        written = written_same c.self.inside.reader c.end_game.new.self keeps.profile keeps.writing ∙ ap (λ (s : Converter). as_written s.reading) c.self.view_is;
+        probes = omega (arith, ap (λ (s : Converter). s.reading.most_probes) c.self.view_is, keeps.probes);
+        counted = counts_reason c.in-Err.reason (sink_of c.args.self.now.reading g.W.Sink.taken g.W.Sink.failures c.args.out.now c.end_game.new.out)
+            (subst (λ (s : Converter). CountsWrites (Err c.in-Err.reason) (sink_of s.reading g.W.Sink.taken g.W.Sink.failures c.args.out.now c.end_game.new.out))
+            c.self.view_is (rw c.in-Err.is at c.end_game.ensures.counted));
+      };
       silent = subst (λ (s : Converter). KeepsSilence s.reading c.end_game.new.self c.args.out.now c.end_game.new.out) c.self.view_is c.end_game.ensures.silent;
     }
 
 pub returns-in-Ok : goal.returns-in-Ok
 returns-in-Ok g c =
     let keeps = c.end_game.ensures.keeps in
-    let none = ap (λ (s : Converter). s.fault) c.self.view_is ∙ c.requires.no_fault in
+    let none = ap (λ (s : Converter). s.fault) c.self.view_is ∙ c.requires.before.no_fault in
     let counted = rw c.in-Ok.is at c.end_game.ensures.counted in
     record {
       ends = record {
@@ -50,30 +52,32 @@ returns-in-Ok g c =
             (sink_of s.reading g.W.Sink.taken g.W.Sink.failures c.args.out.now c.end_game.new.out)) c.self.view_is (takes k is);
         place = tt;
       };
-      lexer = ap (λ (s : Converter). s.lexer) c.self.view_is;
-      not_finished = ap (λ (s : Converter). s.is_finished) c.self.view_is ∙ c.requires.not_finished;
-      fault = none;
-      games = ap (λ (s : Converter). s.games + 1) c.self.view_is;
-      few = omega (arith, c.self.invariant.count, ap (λ (s : Converter). s.lexer.count) c.self.view_is, c.requires.ready.few);
-      just_finished = refl;
-      written = written_same c.self.inside.reader c.end_game.new.self keeps.profile keeps.writing ∙ ap (λ (s : Converter). as_written s.reading) c.self.view_is;
-      probes = omega (arith, ap (λ (s : Converter). s.reading.most_probes) c.self.view_is, keeps.probes);
-      counted =
-          subst (λ (s : Converter). IsStill (sink_of s.reading g.W.Sink.taken g.W.Sink.failures c.args.out.now c.end_game.new.out)) c.self.view_is counted;
+      counts = record {
+        lexer = ap (λ (s : Converter). s.lexer) c.self.view_is;
+        not_finished = ap (λ (s : Converter). s.is_finished) c.self.view_is ∙ c.requires.before.not_finished;
+        fault = none;
+        games = ap (λ (s : Converter). s.games + 1) c.self.view_is;
+        few = omega (arith, c.self.invariant.count, ap (λ (s : Converter). s.lexer.count) c.self.view_is, c.requires.few);
+        just_finished = refl;
+        written = written_same c.self.inside.reader c.end_game.new.self keeps.profile keeps.writing ∙ ap (λ (s : Converter). as_written s.reading) c.self.view_is;
+        probes = omega (arith, ap (λ (s : Converter). s.reading.most_probes) c.self.view_is, keeps.probes);
+        counted =
+            subst (λ (s : Converter). IsStill (sink_of s.reading g.W.Sink.taken g.W.Sink.failures c.args.out.now c.end_game.new.out)) c.self.view_is counted;
+      };
       silent = subst (λ (s : Converter). KeepsSilence s.reading c.end_game.new.self c.args.out.now c.end_game.new.out) c.self.view_is c.end_game.ensures.silent;
     }
 
 pub invariant_of-self : goal.invariant_of-self
 invariant_of-self g c =
-    let flag = not_just_finished _ _ (ap (λ (s : Converter). s.just_finished) c.self.view_is ∙ c.requires.none_just_finished) in
+    let flag = not_just_finished _ _ (ap (λ (s : Converter). s.just_finished) c.self.view_is ∙ c.requires.before.none_just_finished) in
     rw flag (sound_behind_fault c.self.inside.lexer c.end_game.new.self c.self.inside.games c.self.inside.is_finished _ c.self.invariant.count)
 
 pub invariant_of-self-in-Ok : goal.invariant_of-self-in-Ok
 invariant_of-self-in-Ok g c =
-    let none = ap (λ (s : Converter). s.fault) c.self.view_is ∙ c.requires.no_fault in
-    let few = subst (λ (s : Converter). s.games + 1 + waiting s.lexer ≤ 2 * s.lexer.count + 2) (sym c.self.view_is) c.requires.ready.few in
+    let none = ap (λ (s : Converter). s.fault) c.self.view_is ∙ c.requires.before.no_fault in
+    let few = subst (λ (s : Converter). s.games + 1 + waiting s.lexer ≤ 2 * s.lexer.count + 2) (sym c.self.view_is) c.requires.few in
     let plies = subst (λ (s : Converter). s.reading.earlier_plies + s.reading.text.plies + 1 + waiting s.lexer ≤ 2 * s.lexer.count + 2)
-    (sym c.self.view_is) c.requires.ready.few_plies in
+    (sym c.self.view_is) c.requires.few_plies in
     let between = rw c.in-Ok.is at c.end_game.ensures.between in
     let keeps = c.end_game.ensures.keeps in
     record {
@@ -87,11 +91,11 @@ invariant_of-self-in-Ok g c =
 
 pub overflow_add-self : goal.overflow_add-self
 overflow_add-self g c =
-    let none = ap (λ (s : Converter). s.fault) c.self.view_is ∙ c.requires.no_fault in
+    let none = ap (λ (s : Converter). s.fault) c.self.view_is ∙ c.requires.before.no_fault in
     omega (
       arith,
       c.self.invariant.count,
       ap (λ (s : Converter). s.lexer.count) c.self.view_is,
       ap (λ (s : Converter). s.games) c.self.view_is,
-      c.requires.ready.few,
+      c.requires.few,
     )

@@ -1,4 +1,4 @@
-use Rattle.pgn_game.proofs.Words.{◌≡◌, ◌≤◌, ◌+◌, ◌-◌, ◌*◌, None, false, length, waiting, failures_seen, sink_of, KeepsSilence, FeedsAllSoFar}
+use Rattle.pgn_game.proofs.Words.{◌≡◌, ◌≤◌, ◌+◌, ◌-◌, ◌*◌, length, waiting, IsGoing, IsStill, sink_of, KeepsSilence, FeedsAllSoFar}
 use Rattle.pgn_game.proofs.converter.Converter.feed_all.Given as goal
 
 abbrev pub invariant-loop-used : goal.invariant-loop-used
@@ -6,10 +6,8 @@ invariant-loop-used g l =
     record {
       within : l.at ≤ length l.piece;
       count : l.self.lexer.count ≡ l.fn.self.lexer.count + l.at;
-      fault : l.self.fault ≡ None;
-      not_finished : l.self.is_finished ≡ false;
-      counted : failures_seen l.fn.self.reading.writing.is_silent (g.W.Sink.failures l.out)
-          ≡ failures_seen l.fn.self.reading.writing.is_silent (g.W.Sink.failures l.fn.out);
+      going : IsGoing l.self;
+      counted : IsStill (sink_of l.fn.self.reading g.W.Sink.taken g.W.Sink.failures l.fn.out l.out);
       silent : KeepsSilence l.fn.self.reading l.self.reading l.fn.out l.out;
       feeds : FeedsAllSoFar l.fn.self l.piece l.at l.self (sink_of l.fn.self.reading g.W.Sink.taken g.W.Sink.failures l.fn.out l.out);
     }

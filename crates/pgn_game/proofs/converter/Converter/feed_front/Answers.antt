@@ -1,29 +1,25 @@
-use Rattle.pgn_game.specs.declared.converter.Met.TheVariants.{Token as Other, Marker as AtMarker}
-use Rattle.pgn_game.proofs.putting.SilentReader.{seen_alike, silence_kept, silence_then}
+use Rattle.pgn_game.specs.declared.converter.StepEnd.TheVariants.{Token as Other, Marker as AtMarker}
 use Rattle.pgn_game.specs.ConverterSteps.{Steps}
-use Rattle.pgn_game.proofs.Words.{device, ◌≡◌, ℕ, ◌-◌, ◌<◌, List, [], length, take, drop, arith, refl, sym, ap, subst, ◌∙◌, as_written}
-use Rattle.pgn_game.proofs.Words.{length-drop, le_refl, Ok, None, Some, take_rest, waiting, Converter, Reaches}
+use Rattle.pgn_game.proofs.Words.{◌≡◌, Ok, None, Some, arith, refl, sym, ap, subst, ◌∙◌, le_refl, length, length-drop, take_rest, waiting, Converter, Reaches}
 use Rattle.pgn_game.proofs.ReaderFitsInMemory.{fits_alike}
+use Rattle.pgn_game.proofs.putting.SilentReader.{seen_alike, silence_kept, silence_then}
+use Rattle.pgn_game.proofs.tokens.GoesToMarker.{goes_all, goes_fault, goes_marker, keeps_at_start}
+use Rattle.pgn_game.proofs.tokens.RunsInPiece.{before_rest, goes_then}
 use Rattle.pgn_game.proofs.tokens.StepsAtEnd.{sound_at_none}
-use Rattle.pgn_game.proofs.tokens.StepsInPiece.{lets_go, so_far_none, reads_behind, stands_here, so_far_on, all_on, marker_on, fails_on, counts_step}
+use Rattle.pgn_game.proofs.tokens.StepsInPiece.{lets_go, so_far_none, reads_behind, stands_here, so_far_on, all_on, marker_on, fails_on}
 use Rattle.pgn_game.proofs.converter.Converter.feed_front.Goals as goal
-
-none_before : (piece : List ℕ) (at : ℕ) → piece ≡ [] → at < length piece → ⊥
-none_before piece at is before = omega (arith, rw is at before)
 
 pub loop-at-init : goal.loop-at-init
 loop-at-init g c =
     record {
-      within = omega arith;
-      count = omega (arith, ap (λ (s : Converter). s.lexer.count) c.self.view_is);
-      goes = omega (arith, ap (λ (s : Converter). waiting s.lexer) c.self.view_is);
-      written = ap (λ (s : Converter). as_written s.reading) c.self.view_is;
-      fault = ap (λ (s : Converter). s.fault) c.self.view_is ∙ c.requires.no_fault;
-      games = ap (λ (s : Converter). s.games) c.self.view_is;
-      none_just_finished = refl;
-      not_finished = ap (λ (s : Converter). s.is_finished) c.self.view_is ∙ c.requires.not_finished;
-      probes = omega (arith, ap (λ (s : Converter). s.reading.most_probes) c.self.view_is);
-      counted = refl;
+      goes = record {
+        within = omega arith;
+        count = omega (arith, ap (λ (s : Converter). s.lexer.count) c.self.view_is);
+        ready = tt;
+        keeps = keeps_at_start c.self.view_is c.requires.going;
+        counted = refl;
+      };
+      sooner = omega (arith, ap (λ (s : Converter). waiting s.lexer) c.self.view_is);
       silent = silence_kept _ _ _ (ap (λ (s : Converter). s.reading.writing) c.self.view_is);
       feeds = λ p u b given reaches follows.
           so_far_none p _ u b given c.args.piece.now _
@@ -32,53 +28,21 @@ loop-at-init g c =
 
 pub step-step-requires : goal.step-step-requires
 step-step-requires g c =
-    let rest : length (take (length c.args.piece.now - c.loop-at.at) (drop c.loop-at.at c.args.piece.now))
-    ≡ length c.args.piece.now - c.loop-at.at =
-    ap (length {A = ℕ}) (take_rest c.args.piece.now c.loop-at.at) ∙ length-drop c.loop-at.at c.args.piece.now in (
-      search fits_alike,
-      (
-        c.loop-at.invariant.fault,
-        (
-          omega (arith, rest, c.loop-at.invariant.count, c.requires.short, c.loop-at-test.true),
-          (
-            omega (arith, rest, c.loop-at-test.true),
-            (c.loop-at.invariant.none_just_finished, c.loop-at.invariant.not_finished),
-          ),
-        ),
-      ),
-    )
+    (search fits_alike, rw take_rest (before_rest c.requires.short c.loop-at.invariant.goes c.loop-at-test.true))
 
 pub returns-in-Ok-None : goal.returns-in-Ok-None
 returns-in-Ok-None g c =
     let read : c.step-step.result.outcome ≡ Ok c.in-Ok-None.field-0 = c.in-Ok-None.is in
     let is : c.step-step.result.outcome ≡ Ok None = read ∙ ap Ok (rw read at c.in-Ok-None.field-0-is) in
     let so = c.loop-at.invariant in
-    let step = seen_alike (λ d. Steps c.loop-at.self (take (length c.args.piece.now - c.loop-at.at) (drop c.loop-at.at c.args.piece.now))
-    c.step-step.new.self c.step-step.result.used c.step-step.result.outcome d) _ _
-    (device g.W.Sink.taken g.W.Sink.failures c.loop-at.out c.step-step.new.out) so.silent.silent c.step-step.ensures.steps in
-    let after = rw (is, take_rest) at step.after in
-    let advances = rw (is, take_rest) at step.advances in
-    let counted = rw is at step.goes.counted in
-    let used = rw take_rest at step.goes.within in
+    let step = rw (is, take_rest) at (seen_alike (Steps _ _ _ _ _) _ _ _ so.silent.silent c.step-step.ensures.steps) in
     record {
-      used = le_refl _;
       feeds = λ p u b given reaches follows.
           let here = so.feeds p u b given reaches follows in
           all_on p u b given c.args.piece.now c.loop-at.at _ _ _ _ here c.loop-at-test.true _ step.goes.keeps.written
-          (after p _ _ (stands_here p u b given c.args.piece.now c.loop-at.at _ _ _ here c.loop-at-test.true)).1;
-      empty = λ is. refl;
-      count = omega (arith, advances, step.goes.count, so.count, length-drop c.loop-at.at c.args.piece.now, c.loop-at-test.true);
-      grows = omega (arith, step.goes.count, so.count);
-      within = omega (arith, used, step.goes.count, so.count, length-drop c.loop-at.at c.args.piece.now, c.loop-at-test.true);
-      advances = tt;
-      ready = tt;
-      written = step.goes.keeps.written ∙ so.written;
-      not_finished = step.goes.keeps.not_finished;
-      fault = rw is at step.goes.fault;
-      games = step.goes.keeps.games ∙ so.games;
-      none_just_finished = step.goes.keeps.none_just_finished;
-      probes = omega (arith, step.goes.keeps.probes, so.probes);
-      counted = counted ∙ so.counted;
+          (step.after p _ _ (stands_here p u b given c.args.piece.now c.loop-at.at _ _ _ here c.loop-at-test.true)).1;
+      goes = goes_all (goes_then _ _ _ _ _ _ _ _ _ _ c.loop-at-test.true so.goes step.goes)
+          (omega (arith, step.advances, length-drop c.loop-at.at c.args.piece.now, c.loop-at-test.true));
       silent = silence_then _ _ _ _ _ _ so.silent c.step-step.ensures.silent;
     }
 
@@ -99,29 +63,15 @@ loop-at-preserved g c =
     let is : c.step-step.result.outcome ≡ Ok (Some Other) =
     read ∙ ap Ok (some ∙ ap Some (rw (read, some) at c.in-Ok-Some-Token.field-0-0-is)) in
     let so = c.loop-at.invariant in
-    let step = seen_alike (λ d. Steps c.loop-at.self (take (length c.args.piece.now - c.loop-at.at) (drop c.loop-at.at c.args.piece.now))
-    c.step-step.new.self c.step-step.result.used c.step-step.result.outcome d) _ _
-    (device g.W.Sink.taken g.W.Sink.failures c.loop-at.out c.step-step.new.out) so.silent.silent c.step-step.ensures.steps in
-    let advances = rw is at step.advances in
-    let used = rw take_rest at step.goes.within in
-    let counted = rw is at step.goes.counted in
-    let after = rw (is, take_rest) at step.after in
+    let step = rw (is, take_rest) at (seen_alike (Steps _ _ _ _ _) _ _ _ so.silent.silent c.step-step.ensures.steps) in
     record {
-      within = omega (arith, used, length-drop c.loop-at.at c.args.piece.now, c.loop-at-test.true);
-      count = omega (arith, step.goes.count, so.count);
-      goes = omega (arith, advances, so.goes);
-      written = step.goes.keeps.written ∙ so.written;
-      fault = rw is at step.goes.fault;
-      games = step.goes.keeps.games ∙ so.games;
-      none_just_finished = step.goes.keeps.none_just_finished;
-      not_finished = step.goes.keeps.not_finished;
-      probes = omega (arith, step.goes.keeps.probes, so.probes);
-      counted = counted ∙ so.counted;
+      goes = goes_then _ _ _ _ _ _ _ _ _ _ c.loop-at-test.true so.goes step.goes;
+      sooner = omega (arith, step.advances, so.sooner);
       silent = silence_then _ _ _ _ _ _ so.silent c.step-step.ensures.silent;
       feeds = λ p u b given reaches follows.
           let here = so.feeds p u b given reaches follows in
-          let more = after p _ _ (stands_here p u b given c.args.piece.now c.loop-at.at _ _ _ here c.loop-at-test.true) in
-          so_far_on p u b given c.args.piece.now c.loop-at.at _ _ _ _ here c.loop-at-test.true _ step.goes.keeps.written _ more;
+          so_far_on p u b given c.args.piece.now c.loop-at.at _ _ _ _ here c.loop-at-test.true _ step.goes.keeps.written _
+          (step.after p _ _ (stands_here p u b given c.args.piece.now c.loop-at.at _ _ _ here c.loop-at-test.true));
     }
 
 pub returns-in-Ok-Some-Marker : goal.returns-in-Ok-Some-Marker
@@ -131,88 +81,39 @@ returns-in-Ok-Some-Marker g c =
     let is : c.step-step.result.outcome ≡ Ok (Some (AtMarker c.in-Ok-Some-Marker.mark)) =
     read ∙ ap Ok (some ∙ ap Some (rw (read, some) at c.in-Ok-Some-Marker.field-0-0-is)) in
     let so = c.loop-at.invariant in
-    let step = seen_alike (λ d. Steps c.loop-at.self (take (length c.args.piece.now - c.loop-at.at) (drop c.loop-at.at c.args.piece.now))
-    c.step-step.new.self c.step-step.result.used c.step-step.result.outcome d) _ _
-    (device g.W.Sink.taken g.W.Sink.failures c.loop-at.out c.step-step.new.out) so.silent.silent c.step-step.ensures.steps in
-    let after = rw (is, take_rest) at step.after in
-    let advances = rw is at step.advances in
-    let used = rw take_rest at step.goes.within in
-    let counted = rw is at step.goes.counted in
+    let step = rw (is, take_rest) at (seen_alike (Steps _ _ _ _ _) _ _ _ so.silent.silent c.step-step.ensures.steps) in
     record {
-      used = omega (arith, used, length-drop c.loop-at.at c.args.piece.now, c.loop-at-test.true);
       feeds = λ p u b given reaches follows.
           let here = so.feeds p u b given reaches follows in
           marker_on p u b given c.args.piece.now c.loop-at.at _ _ _ _ here c.loop-at-test.true _ step.goes.keeps.written _ _
-          (after p _ _ (stands_here p u b given c.args.piece.now c.loop-at.at _ _ _ here c.loop-at-test.true));
-      empty = λ is. absurd (none_before c.args.piece.now c.loop-at.at is c.loop-at-test.true);
-      count = omega (arith, step.goes.count, so.count);
-      grows = omega (arith, step.goes.count, so.count);
-      within = omega (arith, used, step.goes.count, so.count, length-drop c.loop-at.at c.args.piece.now, c.loop-at-test.true);
-      advances = omega (arith, advances, so.goes);
-      ready = rw is at step.goes.ready;
-      written = step.goes.keeps.written ∙ so.written;
-      not_finished = step.goes.keeps.not_finished;
-      fault = rw is at step.goes.fault;
-      games = step.goes.keeps.games ∙ so.games;
-      none_just_finished = step.goes.keeps.none_just_finished;
-      probes = omega (arith, step.goes.keeps.probes, so.probes);
-      counted = counted ∙ so.counted;
+          (step.after p _ _ (stands_here p u b given c.args.piece.now c.loop-at.at _ _ _ here c.loop-at-test.true));
+      goes = goes_marker (goes_then _ _ _ _ _ _ _ _ _ _ c.loop-at-test.true so.goes step.goes) (omega (arith, step.advances, so.sooner))
+          (omega (arith, c.loop-at-test.true));
       silent = silence_then _ _ _ _ _ _ so.silent c.step-step.ensures.silent;
     }
 
 pub returns-in-Err : goal.returns-in-Err
 returns-in-Err g c =
     let so = c.loop-at.invariant in
-    let step = seen_alike (λ d. Steps c.loop-at.self (take (length c.args.piece.now - c.loop-at.at) (drop c.loop-at.at c.args.piece.now))
-    c.step-step.new.self c.step-step.result.used c.step-step.result.outcome d) _ _
-    (device g.W.Sink.taken g.W.Sink.failures c.loop-at.out c.step-step.new.out) so.silent.silent c.step-step.ensures.steps in
-    let after = rw (c.in-Err.is, take_rest) at step.after in
-    let counted = rw c.in-Err.is at step.goes.counted in
-    let used = rw take_rest at step.goes.within in
+    let step = rw (c.in-Err.is, take_rest) at (seen_alike (Steps _ _ _ _ _) _ _ _ so.silent.silent c.step-step.ensures.steps) in
     record {
-      used = tt;
       feeds = λ p u b given reaches follows.
           let here = so.feeds p u b given reaches follows in
           fails_on p u b given c.args.piece.now c.loop-at.at _ _ _ _ here c.loop-at-test.true
           c.step-step.new.self step.goes.keeps.written c.in-Err.fault
-          (after p _ _ (stands_here p u b given c.args.piece.now c.loop-at.at _ _ _ here c.loop-at-test.true));
-      empty = λ is. absurd (none_before c.args.piece.now c.loop-at.at is c.loop-at-test.true);
-      count = tt;
-      grows = omega (arith, step.goes.count, so.count);
-      within = omega (arith, used, step.goes.count, so.count, length-drop c.loop-at.at c.args.piece.now, c.loop-at-test.true);
-      advances = tt;
-      ready = tt;
-      written = step.goes.keeps.written ∙ so.written;
-      not_finished = step.goes.keeps.not_finished;
-      fault = rw c.in-Err.is at step.goes.fault;
-      games = step.goes.keeps.games ∙ so.games;
-      none_just_finished = step.goes.keeps.none_just_finished;
-      probes = omega (arith, step.goes.keeps.probes, so.probes);
-      counted = counts_step c.in-Err.fault.reason _ _ _ so.counted counted;
+          (step.after p _ _ (stands_here p u b given c.args.piece.now c.loop-at.at _ _ _ here c.loop-at-test.true));
+      goes = goes_fault (goes_then _ _ _ _ _ _ _ _ _ _ c.loop-at-test.true so.goes step.goes) (omega (arith, c.loop-at-test.true));
       silent = silence_then _ _ _ _ _ _ so.silent c.step-step.ensures.silent;
     }
 
 pub returns : goal.returns
 returns g c =
     let so = c.loop-at.invariant in
+    let end : c.loop-at.at ≡ length c.args.piece.now = omega (arith, so.goes.within, c.loop-at-test.false) in
     record {
-      used = le_refl _;
       feeds = λ p u b given reaches follows.
-          reads_behind p u b given c.args.piece.now c.loop-at.at _ _ _ (so.feeds p u b given reaches follows)
-          (omega (arith, so.within, c.loop-at-test.false));
-      empty = λ is. refl;
-      count = omega (arith, so.count, so.within, c.loop-at-test.false);
-      grows = omega (arith, so.count);
-      within = omega (arith, so.count, so.within);
-      advances = tt;
-      ready = tt;
-      written = so.written;
-      not_finished = so.not_finished;
-      fault = so.fault;
-      games = so.games;
-      none_just_finished = so.none_just_finished;
-      probes = so.probes;
-      counted = so.counted;
+          reads_behind p u b given c.args.piece.now c.loop-at.at _ _ _ (so.feeds p u b given reaches follows) end;
+      goes = goes_all so.goes end;
       silent = so.silent;
     }
 
@@ -227,10 +128,10 @@ overflow_add-at g c =
     omega (arith, used, c.requires.short, length-drop c.loop-at.at c.args.piece.now, c.loop-at-test.true)
 
 pub slice_bounds-step-count : goal.slice_bounds-step-count
-slice_bounds-step-count g c = c.loop-at.invariant.within
+slice_bounds-step-count g c = c.loop-at.invariant.goes.within
 
 pub slice_bounds-step-start : goal.slice_bounds-step-start
-slice_bounds-step-start g c = c.loop-at.invariant.within
+slice_bounds-step-start g c = c.loop-at.invariant.goes.within
 
 pub slice_bounds-step-end : goal.slice_bounds-step-end
 slice_bounds-step-end g c = le_refl (length c.args.piece.now)

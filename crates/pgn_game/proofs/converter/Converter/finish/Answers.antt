@@ -1,8 +1,9 @@
 use Rattle.pgn_game.proofs.putting.SilentReader.{none_fails, seen_alike, silence_kept, silence_then}
-use Rattle.pgn_game.specs.ConverterSteps.{EndsGame, EndsToMarker}
-use Rattle.pgn_game.proofs.Words.{Ok, CountsFault, IsStill, bytes_seen, sink_of, arith, ap, le_refl, le_trans, none-some, refl, same_Some, sym, subst, ◌∙◌, device, Converter, Err, Standing, StaysBetween, err_from_is_err_and, false≢true}
+use Rattle.pgn_game.specs.ConverterSteps.{CountsGame, EndsGame, EndsToMarker}
+use Rattle.pgn_game.proofs.Words.{IsTrue, bytes_seen, sink_of, arith, ap, le_refl, le_trans, none-some, refl, same_Some, sym, subst, ◌∙◌, device, Converter, Err, Standing, StaysBetween, err_from_is_err_and, false≢true}
 use Rattle.pgn_game.specs.ConverterSteps.{ReadsToEnd}
 use Rattle.pgn_game.proofs.ReaderFitsInMemory.{fits_alike, fits_reader}
+use Rattle.pgn_game.proofs.tokens.GoesToMarker.{not_again}
 use Rattle.pgn_game.proofs.tokens.StepsAtEnd.{left_of, none_by_fault}
 use Rattle.pgn_game.proofs.tokens.FinishesGames.{ended_none, ended_game, ended_input, failed_input, failed_game, sound_finished}
 use Rattle.pgn_game.proofs.tokens.MarkerToGame.{shows_due, shows_stop}
@@ -29,8 +30,7 @@ returns-in-Some g c =
 pub loop-mark-init : goal.loop-mark-init
 loop-mark-init g c =
     record {
-      fault = ap (λ (s : Converter). s.fault) (sym c.self.view_is) ∙ c.in_default.is;
-      not_finished = c.requires.not_finished;
+      going = record { no_fault = ap (λ (s : Converter). s.fault) (sym c.self.view_is) ∙ c.in_default.is; not_finished = c.requires.not_finished };
       count = refl;
       probes = le_refl _;
       counted = refl;
@@ -39,105 +39,87 @@ loop-mark-init g c =
     }
 
 pub finish_to_marker-requires : goal.finish_to_marker-requires
-finish_to_marker-requires g c = (search fits_alike, (c.loop-mark.invariant.fault, c.loop-mark.invariant.not_finished))
+finish_to_marker-requires g c = (search fits_alike, c.loop-mark.invariant.going)
 
 pub end_game-requires : goal.end_game-requires
 end_game-requires g c =
-    let met = c.finish_to_marker.ensures in
-    let here = c.in_ok-mark.ensures in
-    (search fits_alike, (rw c.in-Some-2.is at here.ready, (here.fault, (rw c.in-Some-2.is at here.finished, met.none_just_finished))))
+    (search fits_alike, rw c.in-Some-2.is at c.in_ok-mark.ensures.ends.ready)
 
 pub loop-mark-smaller : goal.loop-mark-smaller
 loop-mark-smaller g c =
-    let advances = rw c.in-Some-2.is at c.in_ok-mark.ensures.advances in
-    rw c.in_ok-end_game-in-Some-2.ensures.lexer advances
+    let advances = rw c.in-Some-2.is at c.in_ok-mark.ensures.ends.advances in
+    rw c.in_ok-end_game-in-Some-2.ensures.counts.lexer advances
 
 pub returns-in_err-mark : goal.returns-in_err-mark
 returns-in_err-mark g c =
     let e = err_from_is_err_and c.from_residual.result c.from_residual.ensures.1 in
     let old = c.loop-mark.invariant in
-    let any = c.finish_to_marker.ensures in
-    let met = c.in_err-mark.ensures in
-    let ends = seen_alike (λ d. EndsToMarker c.loop-mark.self c.finish_to_marker.new.self (Err c.in_err-mark.field-0.0) d) _ _ (device g.W.Sink.taken g.W.Sink.failures c.loop-mark.out c.finish_to_marker.new.out)
-    old.silent.silent met.ends in
-    let counted = seen_alike (λ d. CountsFault {A = Unit} (Err c.in_err-mark.field-0.0) d) _ _ (device g.W.Sink.taken g.W.Sink.failures c.loop-mark.out c.finish_to_marker.new.out) old.silent.silent met.counted in
+    let met = seen_alike (EndsToMarker _ _ _) _ _ _ old.silent.silent c.in_err-mark.ensures.ends in
+    let none_failed = λ (silent : IsTrue c.args.self.now.reading.writing.is_silent). none_fails {A = Unit} _ (Err c.in_err-mark.field-0.0)
+    (device g.W.Sink.taken g.W.Sink.failures c.loop-mark.out c.finish_to_marker.new.out) silent met.counted in
     rw (e.1, e.2) (record {
       ends = λ p u b given stands.
           let so = old.finishes p u b given stands in
-          failed_input p u given _ _ _ _ so _ (shows_stop p _ _ c.in_err-mark.field-0.0 stands.known
-          (λ silent. none_fails {A = Unit} _ (Err c.in_err-mark.field-0.0)
-          (device g.W.Sink.taken g.W.Sink.failures c.loop-mark.out c.finish_to_marker.new.out) silent counted)) c.args.self.now.lexer c.finish_to_marker.new.self _
-          (left_of p c.args.self.now u b given stands) stands.has_read.passes (ends p u _ so.left so.has_read) any.games;
-      finished = met.finished;
-      count = any.count ∙ old.count;
-      probes = le_trans old.probes any.probes;
-      fault = met.fault;
-      none_just_finished = any.none_just_finished;
-      again = λ f is. absurd (none-some f (sym c.in_default.is ∙ ap (λ (s : Converter). s.fault) c.self.view_is ∙ is));
-      counted = λ free. rw (← old.counted) counted;
-      silent = silence_then _ _ _ _ _ _ old.silent any.silent;
-      no_write_fails = λ silent free. none_fails {A = Unit} _ (Err c.in_err-mark.field-0.0) (device g.W.Sink.taken g.W.Sink.failures c.loop-mark.out c.finish_to_marker.new.out) silent counted;
+          failed_input p u given _ _ _ _ so _ (shows_stop p _ _ c.in_err-mark.field-0.0 stands.known none_failed)
+          c.args.self.now.lexer c.finish_to_marker.new.self _
+          (left_of p c.args.self.now u b given stands) stands.has_read.passes (met.ends p u _ so.left so.has_read) met.keeps.games;
+      finished = met.keeps.finished;
+      count = met.count ∙ old.count;
+      probes = le_trans old.probes met.keeps.probes;
+      fault = met.keeps.fault;
+      none_just_finished = met.keeps.none_just_finished;
+      again = not_again (ap (λ (s : Converter). s.fault) (sym c.self.view_is) ∙ c.in_default.is);
+      counted = λ free. rw (← old.counted) met.counted;
+      silent = silence_then _ _ _ _ _ _ old.silent c.finish_to_marker.ensures.silent;
+      no_write_fails = λ silent free. none_failed silent;
     })
 
 pub returns-in_err-end_game-in-Some-2 : goal.returns-in_err-end_game-in-Some-2
 returns-in_err-end_game-in-Some-2 g c =
     let e = err_from_is_err_and c.from_residual-in_err-end_game-in-Some-2.result c.from_residual-in_err-end_game-in-Some-2.ensures.1 in
     let old = c.loop-mark.invariant in
-    let any = c.finish_to_marker.ensures in
-    let met = c.in_ok-mark.ensures in
-    let ended = c.in_err-end_game-in-Some-2.ensures in
-    let met_ends = seen_alike (λ d. EndsToMarker c.loop-mark.self c.finish_to_marker.new.self (Ok c.in_ok-mark.field-0) d) _ _ (device g.W.Sink.taken g.W.Sink.failures c.loop-mark.out c.finish_to_marker.new.out)
-    old.silent.silent met.ends in
-    let met_counted = seen_alike (λ d. IsStill d) _ _ (device g.W.Sink.taken g.W.Sink.failures c.loop-mark.out c.finish_to_marker.new.out) old.silent.silent met.counted in
-    let quiet = any.silent.silent ∙ old.silent.silent in
-    let ends = seen_alike (λ d. EndsGame c.finish_to_marker.new.self.reading c.in-Some-2.mark c.end_game.new.self.reading
-    (Err c.in_err-end_game-in-Some-2.field-0.0) d) _ _ (device g.W.Sink.taken g.W.Sink.failures c.finish_to_marker.new.out c.end_game.new.out) quiet ended.ends in
-    let counted = seen_alike (λ d. CountsFault {A = Unit} (Err c.in_err-end_game-in-Some-2.field-0.0) d) _ _ (device g.W.Sink.taken g.W.Sink.failures c.finish_to_marker.new.out c.end_game.new.out) quiet ended.counted in
+    let met = rw c.in-Some-2.is at (seen_alike (EndsToMarker _ _ _) _ _ _ old.silent.silent c.in_ok-mark.ensures.ends) in
+    let quiet = silence_then _ _ _ _ _ _ old.silent c.finish_to_marker.ensures.silent in
+    let ended = seen_alike (EndsGame _ _ _ _) _ _ _ quiet.silent c.in_err-end_game-in-Some-2.ensures.ends in
+    let counts = seen_alike (CountsGame _ _ _) _ _ _ quiet.silent c.in_err-end_game-in-Some-2.ensures.counts in
+    let none_failed = λ (silent : IsTrue c.args.self.now.reading.writing.is_silent). none_fails {A = Unit} _ (Err c.in_err-end_game-in-Some-2.field-0.0)
+    (device g.W.Sink.taken g.W.Sink.failures c.finish_to_marker.new.out c.end_game.new.out) silent counts.counted in
     rw (e.1, e.2) (record {
       ends = λ p u b given stands.
           let so = old.finishes p u b given stands in
-          let leaves = (rw c.in-Some-2.is at met_ends) p u _ so.left so.has_read in
-          failed_game p u given _ _ _ _ so _ (shows_stop p _ _ c.in_err-end_game-in-Some-2.field-0.0 stands.known
-          (λ silent. none_fails {A = Unit} _ (Err c.in_err-end_game-in-Some-2.field-0.0)
-          (device g.W.Sink.taken g.W.Sink.failures c.finish_to_marker.new.out c.end_game.new.out) silent counted)) c.args.self.now.lexer c.in-Some-2.mark c.finish_to_marker.new.self c.end_game.new.self
+          failed_game p u given _ _ _ _ so _ (shows_stop p _ _ c.in_err-end_game-in-Some-2.field-0.0 stands.known none_failed)
+          c.args.self.now.lexer c.in-Some-2.mark c.finish_to_marker.new.self c.end_game.new.self
           (sink_of c.args.self.now.reading g.W.Sink.taken g.W.Sink.failures c.finish_to_marker.new.out c.end_game.new.out)
-          (left_of p c.args.self.now u b given stands) stands.has_read.passes leaves ends ended.games any.games;
-      finished = ended.not_finished;
-      count = ap (λ (l : Standing). l.count) c.end_game.ensures.lexer ∙ any.count ∙ old.count;
-      probes = le_trans old.probes (le_trans any.probes ended.probes);
-      fault = ended.fault;
-      none_just_finished = ended.just_finished;
-      again = λ f is. absurd (none-some f (sym c.in_default.is ∙ ap (λ (s : Converter). s.fault) c.self.view_is ∙ is));
-      counted = λ free. rw (← old.counted, ← met_counted) counted;
-      silent = silence_then _ _ _ _ _ _ (silence_then _ _ _ _ _ _ old.silent any.silent) c.end_game.ensures.silent;
-      no_write_fails = λ silent free. none_fails {A = Unit} _ (Err c.in_err-end_game-in-Some-2.field-0.0) (device g.W.Sink.taken g.W.Sink.failures c.finish_to_marker.new.out c.end_game.new.out) silent counted;
+          (left_of p c.args.self.now u b given stands) stands.has_read.passes (met.ends p u _ so.left so.has_read) ended counts.games met.keeps.games;
+      finished = counts.not_finished;
+      count = ap (λ (l : Standing). l.count) counts.lexer ∙ met.count ∙ old.count;
+      probes = le_trans old.probes (le_trans met.keeps.probes counts.probes);
+      fault = counts.fault;
+      none_just_finished = counts.just_finished;
+      again = not_again (ap (λ (s : Converter). s.fault) (sym c.self.view_is) ∙ c.in_default.is);
+      counted = λ free. rw (← old.counted, ← met.counted) counts.counted;
+      silent = silence_then _ _ _ _ _ _ quiet c.end_game.ensures.silent;
+      no_write_fails = λ silent free. none_failed silent;
     })
 
 pub loop-mark-preserved : goal.loop-mark-preserved
 loop-mark-preserved g c =
     let old = c.loop-mark.invariant in
-    let ended = c.in_ok-end_game-in-Some-2.ensures in
-    let any = c.finish_to_marker.ensures in
-    let met_ends = seen_alike (λ d. EndsToMarker c.loop-mark.self c.finish_to_marker.new.self (Ok c.in_ok-mark.field-0) d) _ _ (device g.W.Sink.taken g.W.Sink.failures c.loop-mark.out c.finish_to_marker.new.out)
-    old.silent.silent c.in_ok-mark.ensures.ends in
-    let met_counted = seen_alike (λ d. IsStill d) _ _ (device g.W.Sink.taken g.W.Sink.failures c.loop-mark.out c.finish_to_marker.new.out) old.silent.silent c.in_ok-mark.ensures.counted in
-    let quiet = any.silent.silent ∙ old.silent.silent in
-    let ends = seen_alike (λ d. EndsGame c.finish_to_marker.new.self.reading c.in-Some-2.mark c.end_game.new.self.reading (Ok tt) d) _ _ (device g.W.Sink.taken g.W.Sink.failures c.finish_to_marker.new.out c.end_game.new.out)
-    quiet ended.ends in
-    let counted = seen_alike (λ d. IsStill d) _ _ (device g.W.Sink.taken g.W.Sink.failures c.finish_to_marker.new.out c.end_game.new.out) quiet ended.counted in
+    let met = rw c.in-Some-2.is at (seen_alike (EndsToMarker _ _ _) _ _ _ old.silent.silent c.in_ok-mark.ensures.ends) in
+    let quiet = silence_then _ _ _ _ _ _ old.silent c.finish_to_marker.ensures.silent in
+    let ended = seen_alike (EndsGame _ _ _ _) _ _ _ quiet.silent c.in_ok-end_game-in-Some-2.ensures.ends in
+    let counts = seen_alike (CountsGame _ _ _) _ _ _ quiet.silent c.in_ok-end_game-in-Some-2.ensures.counts in
     record {
-      fault = ended.fault;
-      not_finished = ended.not_finished;
-      count = ap (λ (l : Standing). l.count) ended.lexer ∙ c.finish_to_marker.ensures.count ∙ old.count;
-      probes = le_trans old.probes (le_trans c.finish_to_marker.ensures.probes ended.probes);
-      counted = counted ∙ (met_counted ∙ old.counted);
-      silent = silence_then _ _ _ _ _ _ (silence_then _ _ _ _ _ _ old.silent any.silent) ended.silent;
+      going = record { no_fault = counts.fault; not_finished = counts.not_finished };
+      count = ap (λ (l : Standing). l.count) counts.lexer ∙ met.count ∙ old.count;
+      probes = le_trans old.probes (le_trans met.keeps.probes counts.probes);
+      counted = counts.counted ∙ (met.counted ∙ old.counted);
+      silent = silence_then _ _ _ _ _ _ quiet c.end_game.ensures.silent;
       finishes = λ p u b given stands.
           let so = old.finishes p u b given stands in
-          let leaves = (rw c.in-Some-2.is at met_ends) p u _ so.left so.has_read in
           ended_game p u given _ _ _ _ so (shows_due p _ _ stands.known) c.in-Some-2.mark c.finish_to_marker.new.self c.end_game.new.self
           (sink_of c.args.self.now.reading g.W.Sink.taken g.W.Sink.failures c.finish_to_marker.new.out c.end_game.new.out)
-          leaves ends ended.lexer ended.fault ended.games ended.just_finished;
+          (met.ends p u _ so.left so.has_read) ended counts.lexer counts.fault counts.games counts.just_finished;
     }
 
 pub is_between-self-inside-requires : goal.is_between-self-inside-requires
@@ -146,17 +128,13 @@ is_between-self-inside-requires g c = search fits_reader
 pub returns-in-None : goal.returns-in-None
 returns-in-None g c =
     let old = c.loop-mark.invariant in
-    let any = c.finish_to_marker.ensures in
-    let met = c.in_ok-mark.ensures in
     let self = c.self-in-None in
-    let met_ends = seen_alike (λ d. EndsToMarker c.loop-mark.self c.finish_to_marker.new.self (Ok c.in_ok-mark.field-0) d) _ _ (device g.W.Sink.taken g.W.Sink.failures c.loop-mark.out c.finish_to_marker.new.out)
-    old.silent.silent met.ends in
-    let met_counted = seen_alike (λ d. IsStill d) _ _ (device g.W.Sink.taken g.W.Sink.failures c.loop-mark.out c.finish_to_marker.new.out) old.silent.silent met.counted in
-    let quiet = silence_then _ _ _ _ _ _ old.silent any.silent in
+    let met = rw c.in-None.is at (seen_alike (EndsToMarker _ _ _) _ _ _ old.silent.silent c.in_ok-mark.ensures.ends) in
+    let quiet = silence_then _ _ _ _ _ _ old.silent c.finish_to_marker.ensures.silent in
     record {
       ends = λ p u b given stands.
           let so = old.finishes p u b given stands in
-          let to = (rw c.in-None.is at met_ends) p u _ so.left so.has_read in
+          let to = met.ends p u _ so.left so.has_read in
           let here = subst (λ (s : Converter). ReadsToEnd p u so.tokens s
           (bytes_seen c.args.self.now.reading.writing.is_silent (g.W.Sink.taken c.loop-mark.out))
           (bytes_seen c.args.self.now.reading.writing.is_silent (g.W.Sink.taken c.finish_to_marker.new.out))
@@ -166,13 +144,13 @@ returns-in-None g c =
             | then-finished_game w ↦ w.self-is ∙ w.is_between-self-inside.ensures.1 between ∙ sym w.if-finished_game.true
             | else-finished_game w ↦ w.self-is
           ]);
-      finished = ap (λ (s : Converter). s.is_finished) self.view_is ∙ (rw c.in-None.is at met.finished);
-      count = ap (λ (s : Converter). s.lexer.count) self.view_is ∙ any.count ∙ old.count;
-      probes = omega (arith, ap (λ (s : Converter). s.reading.most_probes) self.view_is, any.probes, old.probes);
-      fault = ap (λ (s : Converter). s.fault) self.view_is ∙ met.fault;
+      finished = ap (λ (s : Converter). s.is_finished) self.view_is ∙ met.keeps.finished;
+      count = ap (λ (s : Converter). s.lexer.count) self.view_is ∙ met.count ∙ old.count;
+      probes = omega (arith, ap (λ (s : Converter). s.reading.most_probes) self.view_is, met.keeps.probes, old.probes);
+      fault = ap (λ (s : Converter). s.fault) self.view_is ∙ met.keeps.fault;
       none_just_finished = tt;
-      again = λ f is. absurd (none-some f (sym c.in_default.is ∙ ap (λ (s : Converter). s.fault) c.self.view_is ∙ is));
-      counted = λ free. met_counted ∙ old.counted;
+      again = not_again (ap (λ (s : Converter). s.fault) (sym c.self.view_is) ∙ c.in_default.is);
+      counted = λ free. met.counted ∙ old.counted;
       silent = record {
         silent = ap (λ (s : Converter). s.reading.writing.is_silent) self.view_is ∙ quiet.silent;
         untouched = quiet.untouched;
@@ -188,4 +166,4 @@ invariant_of-self g c =
       | then-finished_game w ↦ w.is_between-self-inside.ensures.0 (sym w.self-is ∙ is)
       | else-finished_game w ↦ absurd (false≢true (sym w.if-finished_game.false ∙ sym w.self-is ∙ is))
     ])
-    (ap (λ (s : Converter). s.fault) self.view_is ∙ c.in_ok-mark.ensures.fault)
+    (ap (λ (s : Converter). s.fault) self.view_is ∙ c.in_ok-mark.ensures.ends.keeps.fault)

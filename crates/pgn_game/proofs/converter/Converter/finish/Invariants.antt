@@ -1,15 +1,13 @@
-use Rattle.pgn_game.proofs.Words.{◌≡◌, ◌≤◌, None, false, waiting, failures_seen, sink_of, KeepsSilence, FinishesSoFar}
+use Rattle.pgn_game.proofs.Words.{◌≡◌, ◌≤◌, waiting, IsGoing, IsStill, sink_of, KeepsSilence, FinishesSoFar}
 use Rattle.pgn_game.proofs.converter.Converter.finish.Given as goal
 
 abbrev pub invariant-loop-mark : goal.invariant-loop-mark
 invariant-loop-mark g l =
     record {
-      fault : l.self.fault ≡ None;
-      not_finished : l.self.is_finished ≡ false;
+      going : IsGoing l.self;
       count : l.self.lexer.count ≡ l.fn.self.lexer.count;
       probes : l.fn.self.reading.most_probes ≤ l.self.reading.most_probes;
-      counted : failures_seen l.fn.self.reading.writing.is_silent (g.W.Sink.failures l.out)
-          ≡ failures_seen l.fn.self.reading.writing.is_silent (g.W.Sink.failures l.fn.out);
+      counted : IsStill (sink_of l.fn.self.reading g.W.Sink.taken g.W.Sink.failures l.fn.out l.out);
       silent : KeepsSilence l.fn.self.reading l.self.reading l.fn.out l.out;
       finishes : FinishesSoFar l.fn.self l.self l.finished_game (sink_of l.fn.self.reading g.W.Sink.taken g.W.Sink.failures l.fn.out l.out);
     }

@@ -1,34 +1,28 @@
-use Rattle.pgn_game.specs.declared.converter.Met.TheVariants.{Token as Other}
-use Rattle.pgn_game.specs.ConverterSteps.{outcome_at}
-use Rattle.pgn_game.proofs.putting.SilentReader.{seen_alike, silence_kept, silence_then}
+use Rattle.pgn_game.specs.declared.converter.StepEnd.TheVariants.{Token as Other}
+use Rattle.pgn_game.specs.ConverterSteps.{Steps, outcome_at}
 use Rattle.pgn_game.specs.PutResult.{MeetsEntry}
-use Rattle.pgn_game.specs.ConverterSteps.{Steps}
-use Rattle.pgn_game.proofs.Words.{sink_of, kind_of, ◌≡◌, ◌∙◌, ℕ, ◌+◌, ◌-◌, ◌≤◌, ◌^◌, arith, ap, sym, subst, false, None, Ok, Some, take, take_rest, device, Converter, length, length-drop, drop, may_have_movetext, refl}
+use Rattle.pgn_game.proofs.Words.{sink_of, kind_of, ◌≡◌, ◌∙◌, arith, ap, sym, subst, None, Ok, Some, take_rest, device, Converter, drop, may_have_movetext, refl}
 use Rattle.pgn_game.proofs.ReaderFitsInMemory.{fits_alike, fits_reader}
-use Rattle.pgn_game.proofs.tokens.AcceptedToConverter.{now_at}
+use Rattle.pgn_game.proofs.putting.SilentReader.{seen_alike, silence_kept, silence_then}
 use Rattle.pgn_game.proofs.tokens.PastNumbers.{meets_in_movetext}
-use Rattle.pgn_game.proofs.tokens.RunsInPiece.{Runs, runs_none, runs_step, runs_then, steps_behind, steps_run}
-use Rattle.pgn_game.proofs.tokens.StepsAtEnd.{not_just_finished}
+use Rattle.pgn_game.proofs.tokens.RunsInPiece.{Runs, before_rest, room_behind, runs_none, runs_step, runs_then, steps_behind, steps_run}
+use Rattle.pgn_game.proofs.tokens.StepsAtEnd.{fields_before, short_before}
 use Rattle.pgn_game.proofs.tokens.StepsOverTokens.{runs_past, sound_met_behind, sound_past, steps_met_behind}
 use Rattle.pgn_game.proofs.converter.Converter.run_movetext.Goals as goal
 use Rattle.pgn_game.proofs.converter.Converter.run_movetext.Goals.{else-loop-used-test, then-loop-used-test+in_default}
 
 pub loop-used-init : goal.loop-used-init
 loop-used-init g c =
-    let none_held = ap (λ (s : Converter). s.just_finished) c.self.view_is ∙ c.requires.none_just_finished in
-    let flag = not_just_finished _ _ none_held in
-    let none = ap (λ (s : Converter). s.fault) c.self.view_is ∙ c.requires.no_fault in
-    let not_over = ap (λ (s : Converter). s.is_finished) c.self.view_is ∙ c.requires.not_finished in
-    let same : now_at c.self.inside.lexer c.self.inside.reader c.self.inside.games false ≡ c.args.self.now = rw (flag, none, not_over) at c.self.view_is in
+    let old = fields_before c.self.view_is c.self.invariant c.requires.piece.before in
     record {
-      flag = flag;
-      not_finished = not_over;
-      fault = none;
+      flag = old.flag;
+      not_finished = old.not_over;
+      fault = old.none;
       stage = ap (λ (s : Converter). s.reading.stage) c.self.view_is ∙ c.requires.stage;
-      sound = rw (flag, none, not_over) at c.self.invariant;
+      sound = old.sound;
       runs = subst (λ (s : Converter). Runs c.args.self.now c.args.piece.now s 0 (Ok (Some Other))
-          (sink_of c.args.self.now.reading g.W.Sink.taken g.W.Sink.failures c.args.out.now c.args.out.now)) (sym same)
-          (runs_none _ _ _ _ c.requires.no_fault c.requires.none_just_finished c.requires.not_finished);
+          (sink_of c.args.self.now.reading g.W.Sink.taken g.W.Sink.failures c.args.out.now c.args.out.now)) (sym old.same)
+          (runs_none _ _ _ _ c.requires.piece.before);
       silent = silence_kept _ _ _ (ap (λ (s : Converter). s.reading.writing) c.self.view_is);
     }
 
@@ -47,19 +41,15 @@ pub invariant_of-self-in_default : goal.invariant_of-self-in_default
 invariant_of-self-in_default g c =
     let here = c.loop-used.invariant in
     let within = rw take_rest at c.whole_token-count.ensures.used in
-    let rest = drop c.loop-used.used c.args.piece.now in
-    let short : c.loop-used.self-inside.lexer.count + length rest ≤ 2 ^ 62 =
-    omega (arith, here.runs.goes.count, here.runs.goes.within, c.requires.short, length-drop c.loop-used.used c.args.piece.now) in
+    let short = room_behind c.requires.piece.short here.runs.goes in
     let passes = rw (take_rest, c.in_default.is) at c.whole_token-count.ensures.reads in
-    rw (here.flag, here.not_finished, here.fault) (sound_past c.loop-used.self-inside.lexer c.loop-used.self-inside.reader c.loop-used.self-inside.games rest here.sound short (λ _. here.stage) passes within)
+    rw (here.flag, here.not_finished, here.fault) (sound_past _ _ _ _ here.sound short (λ _. here.stage) passes within)
 
 pub loop-used-preserved : goal.loop-used-preserved
 loop-used-preserved g c =
     let here = c.loop-used.invariant in
     let within = rw take_rest at c.whole_token-count.ensures.used in
-    let rest = drop c.loop-used.used c.args.piece.now in
-    let short : c.loop-used.self-inside.lexer.count + length rest ≤ 2 ^ 62 =
-    omega (arith, here.runs.goes.count, here.runs.goes.within, c.requires.short, length-drop c.loop-used.used c.args.piece.now) in
+    let short = room_behind c.requires.piece.short here.runs.goes in
     let behind = rw (take_rest, c.in-Some.is) at c.whole_token-count.ensures.reads in
     let read : c.accept_entry-met.result ≡ Ok c.in-Ok-None.field-0 = c.in-Ok-None.is in
     let is : c.accept_entry-met.result ≡ Ok None = read ∙ ap Ok (rw read at c.in-Ok-None.field-0-is) in
@@ -71,10 +61,10 @@ loop-used-preserved g c =
       not_finished = here.not_finished;
       fault = here.fault;
       stage = takes.stays.1 here.stage;
-      sound = sound_met_behind c.loop-used.self-inside.lexer c.loop-used.self-inside.reader c.loop-used.self-inside.games rest here.sound short (λ _. here.stage)
+      sound = sound_met_behind _ _ _ _ here.sound short (λ _. here.stage)
           behind within c.accept_entry-met.new.self (Ok None) _ takes;
       runs = runs_then _ _ _ _ _ _ _ _ _ _ _ _ _ c.loop-used-test.true here.runs
-          (runs_step (steps_met_behind c.loop-used.self-inside.lexer c.loop-used.self-inside.reader c.loop-used.self-inside.games rest here.sound short (λ _. here.stage)
+          (runs_step (steps_met_behind _ _ _ _ here.sound short (λ _. here.stage)
           behind within c.accept_entry-met.new.self (Ok None) _ takes));
       silent = silence_then _ _ _ _ _ _ here.silent c.accept_entry-met.ensures.silent;
     }
@@ -83,24 +73,20 @@ pub invariant_of-self-in_default-met : goal.invariant_of-self-in_default-met
 invariant_of-self-in_default-met g c =
     let here = c.loop-used.invariant in
     let within = rw take_rest at c.whole_token-count.ensures.used in
-    let rest = drop c.loop-used.used c.args.piece.now in
-    let short : c.loop-used.self-inside.lexer.count + length rest ≤ 2 ^ 62 =
-    omega (arith, here.runs.goes.count, here.runs.goes.within, c.requires.short, length-drop c.loop-used.used c.args.piece.now) in
+    let short = room_behind c.requires.piece.short here.runs.goes in
     let behind = rw (take_rest, c.in-Some.is) at c.whole_token-count.ensures.reads in
     let takes = meets_in_movetext c.loop-used.self-inside.reader c.accept_entry-met.new.self c.in-Some.token.kind c.accept_entry-met.result _ here.stage
     (seen_alike (λ d. MeetsEntry c.loop-used.self-inside.reader (kind_of c.in-Some.token.kind) c.accept_entry-met.new.self c.accept_entry-met.result d) _ _
     (device g.W.Sink.taken g.W.Sink.failures c.loop-used.out c.accept_entry-met.new.out) here.silent.silent c.accept_entry-met.ensures.meets) in
     rw here.flag
-    (sound_met_behind c.loop-used.self-inside.lexer c.loop-used.self-inside.reader c.loop-used.self-inside.games rest here.sound short (λ _. here.stage)
+    (sound_met_behind _ _ _ _ here.sound short (λ _. here.stage)
     behind within c.accept_entry-met.new.self c.accept_entry-met.result _ takes)
 
 pub returns-in_default-met-clause-steps : goal.returns-in_default-met-clause-steps
 returns-in_default-met-clause-steps g c =
     let here = c.loop-used.invariant in
     let within = rw take_rest at c.whole_token-count.ensures.used in
-    let rest = drop c.loop-used.used c.args.piece.now in
-    let short : c.loop-used.self-inside.lexer.count + length rest ≤ 2 ^ 62 =
-    omega (arith, here.runs.goes.count, here.runs.goes.within, c.requires.short, length-drop c.loop-used.used c.args.piece.now) in
+    let short = room_behind c.requires.piece.short here.runs.goes in
     let behind = rw (take_rest, c.in-Some.is) at c.whole_token-count.ensures.reads in
     let takes = meets_in_movetext c.loop-used.self-inside.reader c.accept_entry-met.new.self c.in-Some.token.kind c.accept_entry-met.result _ here.stage
     (seen_alike (λ d. MeetsEntry c.loop-used.self-inside.reader (kind_of c.in-Some.token.kind) c.accept_entry-met.new.self c.accept_entry-met.result d) _ _
@@ -109,15 +95,13 @@ returns-in_default-met-clause-steps g c =
     c.settle-outcome.ensures.outcome in
     rw (here.flag, here.not_finished, c.settle-outcome.ensures.fault, outcome)
     (steps_behind _ _ _ _ _ _ _ _ _ _ _ _ _ c.loop-used-test.true here.runs
-    (steps_met_behind c.loop-used.self-inside.lexer c.loop-used.self-inside.reader c.loop-used.self-inside.games rest here.sound short (λ _. here.stage)
+    (steps_met_behind _ _ _ _ here.sound short (λ _. here.stage)
     behind within c.accept_entry-met.new.self c.accept_entry-met.result _ takes))
 
 pub returns-then-used-piece-clause-steps : goal.returns-then-used-piece-clause-steps
 returns-then-used-piece-clause-steps g c =
     let here = c.loop-used.invariant in
-    let rest = drop c.loop-used.used c.args.piece.now in
-    let short : c.loop-used.self-inside.lexer.count + length rest ≤ 2 ^ 62 =
-    omega (arith, here.runs.goes.count, here.runs.goes.within, c.requires.short, length-drop c.loop-used.used c.args.piece.now) in
+    let short = room_behind c.requires.piece.short here.runs.goes in
     let ran : Runs c.args.self.now c.args.piece.now c.loop-used-test.self c.loop-used-test.used (Ok (Some Other))
     (sink_of c.args.self.now.reading g.W.Sink.taken g.W.Sink.failures c.args.out.now c.loop-used.out) =
     elim c.loop-used-test.branch [
@@ -125,17 +109,15 @@ returns-then-used-piece-clause-steps g c =
       | then-loop-used-test+in_default w ↦
           rw (w.self-is, w.used-is, here.flag, here.not_finished, here.fault)
           (runs_then _ _ _ _ _ _ _ _ _ _ _ _ _ w.loop-used-test.true here.runs
-          (runs_past c.loop-used.self-inside.lexer c.loop-used.self-inside.reader c.loop-used.self-inside.games rest here.sound short (λ _. here.stage)
+          (runs_past _ _ _ _ here.sound short (λ _. here.stage)
           (rw (take_rest, w.in_default.is) at w.whole_token-count.ensures.reads) (rw take_rest at w.whole_token-count.ensures.used) _ _))
     ] in
-    steps_run (Ok (Some Other)) (omega (arith, c.requires.some, c.if-used-piece.true)) ran
+    steps_run (Ok (Some Other)) (omega (arith, c.requires.piece.some, c.if-used-piece.true)) ran
 
 pub step_on-step-requires : goal.step_on-step-requires
 step_on-step-requires g c =
     let here = c.loop-used.invariant in
-    let rest = drop c.loop-used.used c.args.piece.now in
-    let short : c.loop-used.self-inside.lexer.count + length rest ≤ 2 ^ 62 =
-    omega (arith, here.runs.goes.count, here.runs.goes.within, c.requires.short, length-drop c.loop-used.used c.args.piece.now) in
+    let short = room_behind c.requires.piece.short here.runs.goes in
     let ran : Runs c.args.self.now c.args.piece.now c.loop-used-test.self c.loop-used-test.used (Ok (Some Other))
     (sink_of c.args.self.now.reading g.W.Sink.taken g.W.Sink.failures c.args.out.now c.loop-used.out) =
     elim c.loop-used-test.branch [
@@ -143,29 +125,15 @@ step_on-step-requires g c =
       | then-loop-used-test+in_default w ↦
           rw (w.self-is, w.used-is, here.flag, here.not_finished, here.fault)
           (runs_then _ _ _ _ _ _ _ _ _ _ _ _ _ w.loop-used-test.true here.runs
-          (runs_past c.loop-used.self-inside.lexer c.loop-used.self-inside.reader c.loop-used.self-inside.games rest here.sound short (λ _. here.stage)
+          (runs_past _ _ _ _ here.sound short (λ _. here.stage)
           (rw (take_rest, w.in_default.is) at w.whole_token-count.ensures.reads) (rw take_rest at w.whole_token-count.ensures.used) _ _))
     ] in
-    let goes = ran.goes in
-    let left : length (take (length c.args.piece.now - c.loop-used-test.used) (drop c.loop-used-test.used c.args.piece.now))
-    ≡ length c.args.piece.now - c.loop-used-test.used =
-    ap (length {A = ℕ}) (take_rest c.args.piece.now c.loop-used-test.used) ∙ length-drop c.loop-used-test.used c.args.piece.now in (
-      search fits_alike,
-      (
-        goes.fault,
-        (
-          omega (arith, left, goes.count, goes.within, c.requires.short),
-          (omega (arith, left, goes.within, c.if-used-piece.false), (goes.keeps.none_just_finished, goes.keeps.not_finished)),
-        ),
-      ),
-    )
+    (search fits_alike, rw take_rest (before_rest c.requires.piece.short ran.goes (omega (arith, ran.goes.within, c.if-used-piece.false))))
 
 pub returns-clause-steps : goal.returns-clause-steps
 returns-clause-steps g c =
     let here = c.loop-used.invariant in
-    let rest = drop c.loop-used.used c.args.piece.now in
-    let short : c.loop-used.self-inside.lexer.count + length rest ≤ 2 ^ 62 =
-    omega (arith, here.runs.goes.count, here.runs.goes.within, c.requires.short, length-drop c.loop-used.used c.args.piece.now) in
+    let short = room_behind c.requires.piece.short here.runs.goes in
     let ran : Runs c.args.self.now c.args.piece.now c.loop-used-test.self c.loop-used-test.used (Ok (Some Other))
     (sink_of c.args.self.now.reading g.W.Sink.taken g.W.Sink.failures c.args.out.now c.loop-used.out) =
     elim c.loop-used-test.branch [
@@ -173,13 +141,13 @@ returns-clause-steps g c =
       | then-loop-used-test+in_default w ↦
           rw (w.self-is, w.used-is, here.flag, here.not_finished, here.fault)
           (runs_then _ _ _ _ _ _ _ _ _ _ _ _ _ w.loop-used-test.true here.runs
-          (runs_past c.loop-used.self-inside.lexer c.loop-used.self-inside.reader c.loop-used.self-inside.games rest here.sound short (λ _. here.stage)
+          (runs_past _ _ _ _ here.sound short (λ _. here.stage)
           (rw (take_rest, w.in_default.is) at w.whole_token-count.ensures.reads) (rw take_rest at w.whole_token-count.ensures.used) _ _))
     ] in
     let quiet : c.loop-used-test.self.reading.writing.is_silent ≡ c.args.self.now.reading.writing.is_silent =
     elim c.loop-used-test.branch [
-      | else-loop-used-test w ↦ rw w.self-is here.silent.silent
-      | then-loop-used-test+in_default w ↦ rw w.self-is here.silent.silent
+      | else-loop-used-test w ↦ rw w.self-is c.loop-used.invariant.silent.silent
+      | then-loop-used-test+in_default w ↦ rw w.self-is c.loop-used.invariant.silent.silent
     ] in
     steps_behind _ _ _ _ _ _ _ _ _ _ _ _ _ (omega (arith, ran.goes.within, c.if-used-piece.false)) ran
     (seen_alike (λ d. Steps c.loop-used-test.self (drop c.loop-used-test.used c.args.piece.now) c.step_on-step.new.self c.step_on-step.result.used c.step_on-step.result.outcome d) _ _

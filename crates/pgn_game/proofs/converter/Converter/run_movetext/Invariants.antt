@@ -1,5 +1,5 @@
 use Rattle.pgn_game.proofs.Words.{◌≡◌, ◌-◌, false, None, Some, Ok, length, sink_of, KeepsSilence, InMovetext, IsSound}
-use Rattle.pgn_game.specs.declared.converter.Met.TheVariants.{Token as Other}
+use Rattle.pgn_game.specs.declared.converter.StepEnd.TheVariants.{Token as Other}
 use Rattle.pgn_game.proofs.tokens.RunsInPiece.{Runs}
 use Rattle.pgn_game.proofs.tokens.AcceptedToConverter.{now_at}
 use Rattle.pgn_game.proofs.converter.Converter.run_movetext.Given as goal

@@ -1,6 +1,6 @@
 use Rattle.pgn_game.proofs.putting.SilentReader.{silence_kept, silence_then}
-use Rattle.pgn_game.proofs.Words.{Token, fault_of_step, kind_of, as_written, Keeps, arith, sym, ap, subst, refl, ◌∙◌, ◌≡◌, ◌&&◌, true, false, is_ok, is_end, Converter, HasRead, HasLeft, outcome_at, game_in_reader_if}
-use Rattle.pgn_game.proofs.tokens.StepsAtEnd.{Left, Nearer, closes_end, closes_token, closes_fault, kept, left_by, nearer_by, not_just_finished, counts_token}
+use Rattle.pgn_game.proofs.Words.{Token, fault_of, kind_of, as_written, Keeps, arith, sym, ap, subst, refl, ◌∙◌, ◌≡◌, ◌&&◌, true, false, is_ok, is_end, Converter, HasRead, HasLeft, outcome_at, game_in_reader_if}
+use Rattle.pgn_game.proofs.tokens.StepsAtEnd.{Left, Nearer, closes_end, closes_token, closes_fault, fields_before, kept, left_by, nearer_by, counts_token}
 use Rattle.pgn_game.proofs.tokens.StepsAtEnd.{advances_at_end, counts_ok, goes_on_at, no_fault_if_ok, ready_at_end, sound_at_end, sound_behind, sound_behind_fault, sound_if_not_ok}
 use Rattle.pgn_game.proofs.tokens.AcceptedToConverter.{written_same}
 use Rattle.pgn_game.proofs.ReaderFitsInMemory.{fits_reader}
@@ -22,7 +22,7 @@ returns-in-NeedMore g c = absurd (rw c.in-NeedMore.is at c.finish.follows.holds-
 
 pub returns-then-is_ok : goal.returns-then-is_ok
 returns-then-is_ok g c =
-    let flag = not_just_finished _ _ (ap (λ (s : Converter). s.just_finished) c.self.view_is ∙ c.requires.none_just_finished) in
+    let old = fields_before c.self.view_is c.self.invariant c.requires in
     let t : Token = record { at = c.in-Token.token.at; kind = kind_of c.in-Token.token.kind } in
     let is_e : is_end t.kind ≡ true = sym c.is_end-is_end.ensures ∙ c.if-is_end.true in
     let l = c.finish.follows.lender-at-none in
@@ -30,32 +30,35 @@ returns-then-is_ok g c =
     let r = met.result in
     let ok : is_ok (outcome_at t.at r) ≡ true = ap is_ok (sym c.settle-outcome.ensures.outcome) ∙ sym c.is_ok.ensures.value ∙ c.if-is_ok.true in
     let keeps : Keeps c.self.inside.reader met.new.self = kept _ _ _ _ r met.ensures.takes in
-    let near = subst (λ e. Nearer e c.self.inside.lexer l) is_e
-    (nearer_by t.kind c.self.inside.lexer l t c.finish.follows.holds-at-none.count (rw c.in-Token.is at c.finish.follows.holds-at-none.closes)) in
     record {
+      steps = record {
       after = λ p u given left has_read.
           let here = subst (λ (s : Converter). HasRead p s given) (sym c.self.view_is) has_read in
           let left_here = subst (λ (s : Converter). HasLeft s.lexer u given) (sym c.self.view_is) left in
           let left_behind = rw c.in-Token.is at c.finish.follows.holds-at-none.left in
-          rw (← c.self.view_is, flag, c.settle-outcome.ensures.fault, c.settle-outcome.ensures.outcome)
+          rw (← c.self.view_is, old.flag, c.settle-outcome.ensures.fault, c.settle-outcome.ensures.outcome)
           (closes_end p _ u given t l met.new.self _ r is_e ok here
           (subst (λ e. Left u given e l t) is_e (left_by u given t.kind l t (left_behind u given left_here))) met.ensures.takes);
       count = c.finish.follows.holds-at-none.count ∙ ap (λ (s : Converter). s.lexer.count) c.self.view_is;
       advances = tt;
       ready = tt;
-      written = written_same c.self.inside.reader met.new.self keeps.profile keeps.writing ∙ ap (λ (s : Converter). as_written s.reading) c.self.view_is;
-      fault = c.settle-outcome.ensures.fault ∙ ap fault_of_step c.settle-outcome.ensures.outcome ∙ no_fault_if_ok t.at r ok;
-      games = ap (λ (s : Converter). s.games) c.self.view_is;
-      probes = omega (arith, ap (λ (s : Converter). s.reading.most_probes) c.self.view_is, keeps.probes);
-      none_just_finished = ap (λ b. game_in_reader_if b met.new.self) flag;
-      finished = refl;
+      keeps = record {
+        written = written_same c.self.inside.reader met.new.self keeps.profile keeps.writing ∙ ap (λ (s : Converter). as_written s.reading) c.self.view_is;
+        games = ap (λ (s : Converter). s.games) c.self.view_is;
+        none_just_finished = ap (λ b. game_in_reader_if b met.new.self) old.flag;
+        finished = refl;
+        probes = omega (arith, ap (λ (s : Converter). s.reading.most_probes) c.self.view_is, keeps.probes);
+        fault = c.settle-outcome.ensures.fault ∙ ap fault_of c.settle-outcome.ensures.outcome ∙ no_fault_if_ok t.at r ok;
+      };
       counted = rw (← c.self.view_is) (counts_ok t.at r ok _ (counts_token c.self.inside.reader met.new.self _ t.at r _ met.ensures.takes));
+      };
       silent = silence_then _ c.self.inside.reader _ _ _ _ (silence_kept _ _ _ (ap (λ (s : Converter). s.reading.writing) c.self.view_is)) met.ensures.silent;
     }
 
 pub returns-in-Fault : goal.returns-in-Fault
 returns-in-Fault g c =
     record {
+      steps = record {
       after = λ p u given left has_read.
           let here = subst (λ (s : Converter). HasRead p s given) (sym c.self.view_is) has_read in
           let left_here = subst (λ (s : Converter). HasLeft s.lexer u given) (sym c.self.view_is) left in
@@ -67,13 +70,16 @@ returns-in-Fault g c =
       count = c.finish.follows.holds-at-none.count ∙ ap (λ (s : Converter). s.lexer.count) c.self.view_is;
       advances = rw c.fail.ensures.outcome tt;
       ready = rw c.fail.ensures.outcome tt;
-      written = ap (λ (s : Converter). as_written s.reading) c.self.view_is;
-      fault = rw c.fail.ensures.outcome c.fail.ensures.kept;
-      games = ap (λ (s : Converter). s.games) c.self.view_is;
-      probes = omega (arith, ap (λ (s : Converter). s.reading.most_probes) c.self.view_is);
-      none_just_finished = ap (λ (s : Converter). s.just_finished) c.self.view_is ∙ c.requires.none_just_finished;
-      finished = rw c.fail.ensures.outcome (ap (λ (s : Converter). s.is_finished) c.self.view_is ∙ c.requires.not_finished);
+      keeps = rw c.fail.ensures.outcome (record {
+        written = ap (λ (s : Converter). as_written s.reading) c.self.view_is;
+        games = ap (λ (s : Converter). s.games) c.self.view_is;
+        none_just_finished = ap (λ (s : Converter). s.just_finished) c.self.view_is ∙ c.requires.none_just_finished;
+        finished = ap (λ (s : Converter). s.is_finished) c.self.view_is ∙ c.requires.not_finished;
+        probes = omega (arith, ap (λ (s : Converter). s.reading.most_probes) c.self.view_is);
+        fault = c.fail.ensures.kept;
+      });
       counted = rw (c.fail.ensures.outcome, c.lexical.ensures) refl;
+      };
       silent = silence_kept _ _ _ (ap (λ (s : Converter). s.reading.writing) c.self.view_is);
     }
 
@@ -104,9 +110,7 @@ now_is g c =
 
 pub returns-else-is_end : goal.returns-else-is_end
 returns-else-is_end g c =
-    let none = ap (λ (s : Converter). s.fault) c.self.view_is ∙ c.requires.no_fault in
-    let not_over = ap (λ (s : Converter). s.is_finished) c.self.view_is ∙ c.requires.not_finished in
-    let flag = not_just_finished _ _ (ap (λ (s : Converter). s.just_finished) c.self.view_is ∙ c.requires.none_just_finished) in
+    let old = fields_before c.self.view_is c.self.invariant c.requires in
     let t : Token = record { at = c.in-Token.token.at; kind = kind_of c.in-Token.token.kind } in
     let l = c.finish.follows.lender-at-none in
     let met = c.accept_copied-met in
@@ -117,30 +121,34 @@ returns-else-is_end g c =
     let near = subst (λ e. Nearer e c.self.inside.lexer l) (sym c.is_end-is_end.ensures)
     (nearer_by t.kind c.self.inside.lexer l t c.finish.follows.holds-at-none.count (rw c.in-Token.is at c.finish.follows.holds-at-none.closes)) in
     record {
+      steps = record {
       after = λ p u given left has_read.
           let here = subst (λ (s : Converter). HasRead p s given) (sym c.self.view_is) has_read in
           let left_here = subst (λ (s : Converter). HasLeft s.lexer u given) (sym c.self.view_is) left in
           let left_behind = rw c.in-Token.is at c.finish.follows.holds-at-none.left in
-          rw (← c.self.view_is, now, flag, c.settle-outcome.ensures.fault, c.settle-outcome.ensures.outcome)
+          rw (← c.self.view_is, now, old.flag, c.settle-outcome.ensures.fault, c.settle-outcome.ensures.outcome)
           (closes_token p _ u given t l met.new.self c.self.inside.is_finished _ e r (not_ended g c) here
           (subst (λ e. Left u given e l t) (sym c.is_end-is_end.ensures) (left_by u given t.kind l t (left_behind u given left_here)))
           met.ensures.takes);
       count = ap (λ (s : Converter). s.lexer.count) now ∙ c.finish.follows.holds-at-none.count ∙ ap (λ (s : Converter). s.lexer.count) c.self.view_is;
       advances = rw (← c.self.view_is, now, c.settle-outcome.ensures.outcome)
           (advances_at_end c.self.inside.lexer l t.at e r (not_ended g c) near);
-      ready = rw (now, c.settle-outcome.ensures.outcome)
-          (ready_at_end c.self.inside.lexer l c.self.inside.reader met.new.self c.self.inside.games t.at t.kind _ _ _ _ e r
-          (not_ended g c) near met.ensures.takes (c.self.invariant.few none) (c.self.invariant.fewer_plies none not_over));
-      written =
-          ap (λ (s : Converter). as_written s.reading) now ∙ written_same c.self.inside.reader met.new.self keeps.profile keeps.writing
-          ∙ ap (λ (s : Converter). as_written s.reading) c.self.view_is;
-      fault = ap (λ (s : Converter). s.fault) now ∙ c.settle-outcome.ensures.fault;
-      games = ap (λ (s : Converter). s.games) now ∙ ap (λ (s : Converter). s.games) c.self.view_is;
-      probes = omega (arith, ap (λ (s : Converter). s.reading.most_probes) c.self.view_is, ap (λ (s : Converter). s.reading.most_probes) now, keeps.probes);
-      none_just_finished = ap (λ (s : Converter). s.just_finished) now ∙ ap (λ b. game_in_reader_if b met.new.self) flag;
-      finished = rw c.settle-outcome.ensures.outcome (ap (λ (s : Converter). s.is_finished) now ∙ not_over ∙ goes_on_at t.at r);
+      ready = rw (now, old.flag, old.not_over, c.settle-outcome.ensures.fault, c.settle-outcome.ensures.outcome)
+          (ready_at_end c.self.inside.lexer l c.self.inside.reader met.new.self c.self.inside.games t.at t.kind _ e r
+          (not_ended g c) near met.ensures.takes (old.sound.few refl) (old.sound.fewer_plies refl refl));
+      keeps = record {
+        written =
+            ap (λ (s : Converter). as_written s.reading) now ∙ written_same c.self.inside.reader met.new.self keeps.profile keeps.writing
+            ∙ ap (λ (s : Converter). as_written s.reading) c.self.view_is;
+        games = ap (λ (s : Converter). s.games) now ∙ ap (λ (s : Converter). s.games) c.self.view_is;
+        none_just_finished = ap (λ (s : Converter). s.just_finished) now ∙ ap (λ b. game_in_reader_if b met.new.self) old.flag;
+        finished = rw c.settle-outcome.ensures.outcome (ap (λ (s : Converter). s.is_finished) now ∙ old.not_over ∙ goes_on_at t.at r);
+        probes = omega (arith, ap (λ (s : Converter). s.reading.most_probes) c.self.view_is, ap (λ (s : Converter). s.reading.most_probes) now, keeps.probes);
+        fault = ap (λ (s : Converter). s.fault) now ∙ c.settle-outcome.ensures.fault;
+      };
       counted = rw (← c.self.view_is, c.settle-outcome.ensures.outcome)
           (counts_token c.self.inside.reader met.new.self _ t.at r _ met.ensures.takes);
+      };
       silent = rw now
           (silence_then _ c.self.inside.reader _ _ _ _ (silence_kept _ _ _ (ap (λ (s : Converter). s.reading.writing) c.self.view_is)) met.ensures.silent);
     }
@@ -148,23 +156,21 @@ returns-else-is_end g c =
 pub invariant_of-self-else-is_end : goal.invariant_of-self-else-is_end
 invariant_of-self-else-is_end g c =
     let gives = rw c.in-Token.is at c.finish.follows.holds-at-none.closes in
-    let none = ap (λ (s : Converter). s.fault) c.self.view_is ∙ c.requires.no_fault in
-    let not_over = ap (λ (s : Converter). s.is_finished) c.self.view_is ∙ c.requires.not_finished in
-    let flag = not_just_finished _ _ (ap (λ (s : Converter). s.just_finished) c.self.view_is ∙ c.requires.none_just_finished) in
+    let old = fields_before c.self.view_is c.self.invariant c.requires in
     let t : Token = record { at = c.in-Token.token.at; kind = kind_of c.in-Token.token.kind } in
     let l = c.finish.follows.lender-at-none in
     let r = c.accept_copied-met.result in
     let near = subst (λ e. Nearer e c.self.inside.lexer l) (sym c.is_end-is_end.ensures ∙ c.if-is_end.false)
     (nearer_by t.kind c.self.inside.lexer l t c.finish.follows.holds-at-none.count gives) in
-    rw flag
+    rw old.flag
     (sound_behind c.self.inside.lexer l c.self.inside.reader c.accept_copied-met.new.self c.self.inside.games near
-    c.self.invariant.count (c.self.invariant.few none) (c.self.invariant.fewer_plies none not_over)
+    c.self.invariant.count (old.sound.few refl) (old.sound.fewer_plies refl refl)
     (kept c.self.inside.reader c.accept_copied-met.new.self t.kind _ r c.accept_copied-met.ensures.takes))
 
 pub invariant_of-self-in-Fault : goal.invariant_of-self-in-Fault
 invariant_of-self-in-Fault g c =
-    let flag = not_just_finished _ _ (ap (λ (s : Converter). s.just_finished) c.self.view_is ∙ c.requires.none_just_finished) in
-    rw (c.fail.ensures.kept, flag)
+    let old = fields_before c.self.view_is c.self.invariant c.requires in
+    rw (c.fail.ensures.kept, old.flag)
     (sound_behind_fault c.finish.follows.lender-at-none c.self.inside.reader c.self.inside.games c.self.inside.is_finished c.lexical.result
     (omega (arith, c.finish.follows.holds-at-none.count, c.self.invariant.count)))
 
@@ -173,22 +179,20 @@ invariant_of-self g c = absurd (rw c.in-NeedMore.is at c.finish.follows.holds-at
 
 pub invariant_of-self-then-is_ok : goal.invariant_of-self-then-is_ok
 invariant_of-self-then-is_ok g c =
-    let none = ap (λ (s : Converter). s.fault) c.self.view_is ∙ c.requires.no_fault in
-    let not_over = ap (λ (s : Converter). s.is_finished) c.self.view_is ∙ c.requires.not_finished in
-    let flag = not_just_finished _ _ (ap (λ (s : Converter). s.just_finished) c.self.view_is ∙ c.requires.none_just_finished) in
+    let old = fields_before c.self.view_is c.self.invariant c.requires in
     let t : Token = record { at = c.in-Token.token.at; kind = kind_of c.in-Token.token.kind } in
     let l = c.finish.follows.lender-at-none in
     let met = c.accept_copied-met in
     let near = subst (λ e. Nearer e c.self.inside.lexer l) (sym c.is_end-is_end.ensures ∙ c.if-is_end.true)
     (nearer_by t.kind c.self.inside.lexer l t c.finish.follows.holds-at-none.count (rw c.in-Token.is at c.finish.follows.holds-at-none.closes)) in
-    rw flag
+    rw old.flag
     (sound_at_end c.self.inside.lexer l c.self.inside.reader met.new.self c.self.inside.games near
-    c.self.invariant.count (c.self.invariant.few none) (c.self.invariant.fewer_plies none not_over) (kept _ _ _ _ met.result met.ensures.takes))
+    c.self.invariant.count (old.sound.few refl) (old.sound.fewer_plies refl refl) (kept _ _ _ _ met.result met.ensures.takes))
 
 pub invariant_of-self-else-is_ok : goal.invariant_of-self-else-is_ok
 invariant_of-self-else-is_ok g c =
-    let flag = not_just_finished _ _ (ap (λ (s : Converter). s.just_finished) c.self.view_is ∙ c.requires.none_just_finished) in
+    let old = fields_before c.self.view_is c.self.invariant c.requires in
     let not_ok = ap is_ok (sym c.settle-outcome.ensures.outcome) ∙ sym c.is_ok.ensures.value ∙ c.if-is_ok.false in
-    rw (flag, c.settle-outcome.ensures.fault, c.settle-outcome.ensures.outcome)
+    rw (old.flag, c.settle-outcome.ensures.fault, c.settle-outcome.ensures.outcome)
     (sound_if_not_ok c.finish.follows.lender-at-none c.accept_copied-met.new.self c.self.inside.games c.self.inside.is_finished
     c.in-Token.token.at c.accept_copied-met.result not_ok (omega (arith, c.finish.follows.holds-at-none.count, c.self.invariant.count)))

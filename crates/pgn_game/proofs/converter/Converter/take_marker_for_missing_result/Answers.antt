@@ -4,7 +4,7 @@ use Rattle.pgn_game.proofs.tokens.MissingCountsAs.{stands_by_marker}
 use Rattle.pgn_game.proofs.converter.Converter.take_marker_for_missing_result.Goals as goal
 
 pub returns-clause-only_switch : goal.returns-clause-only_switch
-returns-clause-only_switch g c = c.write_nothing.ensures.only_switch ∙ ap writing_nothing c.take_told_marker.ensures
+returns-clause-only_switch g c = c.write_nothing.ensures.only_switch ∙ ap writing_nothing c.take_announced_marker.ensures
 
 pub returns-clause-stands : goal.returns-clause-stands
 returns-clause-stands g c =

@@ -10,12 +10,12 @@ returns g c =
     let next = c.next_game.ensures in
     rw (← c.self.view_is)
     (record {
-      reads = next.reads;
-      fewer = next.fewer;
-      fault = next.fault;
+      reads = next.goes.reads;
+      fewer = next.goes.fewer;
+      fault = next.goes.fault;
       at_end = next.at_end;
       again = next.again;
-      counted = next.counted;
+      counted = next.goes.counted;
       silent = next.silent;
-      no_write_fails = λ silent none. no_write_seen c.next_game.result _ _ _ silent (next.counted none);
+      no_write_fails = λ silent none. no_write_seen c.next_game.result _ _ _ silent (next.goes.counted none);
     })
