@@ -61,12 +61,6 @@ def ratio(archive, what, name="pgn_tool"):
     return ours / theirs
 
 
-def counted_builds(result):
-    """The instructions of each build by the name of the archive."""
-    found = {it["name"]: it["builds"] for it in result["archives"]}
-    return {name: spent for name, spent in {**found, **result["counted"]}.items() if spent}
-
-
 def measured_goals(result):
     """(what, of which, goal, measured) for each goal that the result has a figure for."""
     found = {("least stack", task): kib for task, kib in result["stack"].items()}
@@ -76,10 +70,9 @@ def measured_goals(result):
         found["memory", it["name"]] = it["converters"]["pgn_tool"]["memory"]
         walls = {task: figures["wall"] for task, figures in it["checked"].items()}
         found["--checked to export", it["name"]] = walls["export --checked"] / walls["export"]
-    for name, spent in counted_builds(result).items():
-        if "proved" in spent:
-            found["Cargo to proved", name] = spent["Cargo"] / spent["proved"]
-            found["dependent to proved", name] = spent["dependent"] / spent["proved"]
+    for (build, name), spent in result["builds"].items():
+        if ("proved", name) in result["builds"]:
+            found[build + " to proved", name] = spent / result["builds"]["proved", name]
     return [(what, of, goal, found[what, of]) for what, of, goal in GOALS if (what, of) in found]
 
 
@@ -171,22 +164,21 @@ def checked(archive):
             *table(["", "games/s", "instructions a game"], rows)]
 
 
+def instructions(spent):
+    """The instructions by call and archive, and their ratio to those of the first call."""
+    names, archives = (list(dict.fromkeys(it)) for it in zip(*spent))
+    rows = [[name] for name in names]
+    for row, name in zip(rows, names):
+        for it in archives:
+            row += [format(round(spent[name, it]), ","),
+                    "%.3f" % (spent[name, it] / spent[names[0], it])]
+    return table(["instructions a game"] + [it for name in archives for it in (name, "ratio")], rows)
+
+
 def builds(result):
-    """The instructions of each build, and their ratio to those of the first one."""
-    by_archive = counted_builds(result)
-    if not by_archive:
-        return ["### The builds", "", "The builds are not compared, without a cargo that builds them.",
-                ""]
-    rows = []
-    for name in next(iter(by_archive.values())):
-        rows.append([name])
-        for it in by_archive.values():
-            spent, first = it[name], next(iter(it.values()))
-            rows[-1] += [format(round(spent), ","), "%.3f" % (spent / first)]
-    head = ["instructions a game"]
-    for name in by_archive:
-        head += [name, "ratio"]
-    return ["### The builds", "", *table(head, rows)]
+    if result["builds"]:
+        return ["### The builds", "", *instructions(result["builds"])]
+    return ["### The builds", "", "The builds are not compared, without a cargo that builds them.", ""]
 
 
 def report(result):
