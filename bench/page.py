@@ -18,8 +18,8 @@ BEGIN = """
     document.getElementById('files').addEventListener('change', () => {
       window.begun = performance.now();
     });
-    new MutationObserver(() => { window.ended = window.ended || performance.now(); })
-      .observe(document.getElementById('work'), {attributes: true, attributeFilter: ['data-state']});
+    new MutationObserver(() => { window.ended = window.ended || performance.now(); }).observe(
+      document.getElementById('work'), {attributes: true, attributeFilter: ['data-state']});
 """
 DIGEST = """
     const make = URL.createObjectURL;
