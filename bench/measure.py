@@ -37,9 +37,6 @@ MAIN_FUNCTIONS = {
     "layout and sinks": ("pgn_layout::current_line::CurrentLine::put", "pgn_layout::sink::write_all"),
     "reader and levels": ("pgn_game::reader::Reader::accept", "pgn_game::movetext::Movetext::put"),
 }
-# Programs of others that are called, and the packages of Debian that have them.
-PACKAGES = {"pgn-extract": "pgn-extract", "valgrind": "valgrind", "time": "time",
-            "hyperfine": "hyperfine", "strace": "strace", "cargo": "cargo", "parallel": "parallel"}
 # Other work is more than so many processors that other processes keep busy, on average.
 QUIET = 0.2
 # how long is waited to see whether there is other work
@@ -68,7 +65,7 @@ def check_tools(needed, others=()):
         return
     said = "%s missing; to install: apt-get install --no-install-recommends %s" % (
         "%s %s" % (", ".join(lacking), "is" if len(lacking) == 1 else "are"),
-        " ".join(PACKAGES[it] for it in lacking))
+        " ".join(lacking))
     if set(lacking) & set(needed):
         stop(said)
     print("%s: %s; goes on without these figures" % (SCRIPT, said), file=sys.stderr)
@@ -385,12 +382,9 @@ def machine(*packages):
         ran = subprocess.run(words, stdout=subprocess.PIPE, stderr=subprocess.DEVNULL, check=False)
         if ran.stdout:
             versions[package] = ran.stdout.decode()
-    model, debian = platform.processor() or platform.machine(), "unknown"
-    if os.path.exists("/proc/cpuinfo"):
-        with open("/proc/cpuinfo", encoding="utf-8") as file:
-            found = re.search(r"^model name\s*: (.*)", file.read(), re.MULTILINE)
-            model = found[1] if found else model
-    if os.path.exists("/etc/debian_version"):
-        with open("/etc/debian_version", encoding="utf-8") as file:
-            debian = file.read().strip()
-    return {"processors": os.cpu_count(), "model": model, "debian": debian, "versions": versions}
+    with open("/proc/cpuinfo", encoding="utf-8") as file:
+        model = re.search(r"^model name\s*: (.*)|\Z", file.read(), re.MULTILINE)[1]
+    with open("/etc/debian_version", encoding="utf-8") as file:
+        debian = file.read().strip()
+    return {"processors": os.cpu_count(), "model": model or platform.machine(), "debian": debian,
+            "versions": versions}

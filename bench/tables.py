@@ -3,40 +3,20 @@ import os
 import re
 import textwrap
 
-# What is measured, of which archive or task, and the most that it may be. Wall time and
-# instructions are parts of pgn-extract's, and those of a build of the proved program's.
+# What is measured, the most that it may be of each archive or task, and how the two are shown. Wall
+# time and instructions are parts of pgn-extract's, and those of a build of the proved program's.
 GOALS = (
-    ("wall time", "plain", 0.20),
-    ("wall time", "annotated", 0.20),
-    ("instructions", "plain", 0.19),
-    ("instructions", "annotated", 0.22),
-    ("memory", "plain", 2),
-    ("memory", "annotated", 2),
-    ("least stack", "export", 128),
-    ("least stack", "check", 128),
-    ("least stack", "list", 128),
-    ("least stack", "export --checked", 192),
-    ("--checked to export", "plain", 2.2),
-    ("--checked to export", "annotated", 2.2),
-    ("Cargo to proved", "plain", 1.01),
-    ("Cargo to proved", "annotated", 1.01),
-    ("Cargo to proved", "server", 1.01),
-    ("dependent to proved", "plain", 1.08),
-    ("dependent to proved", "annotated", 1.08),
-    ("dependent to proved", "server", 1.08),
+    ("wall time", {"plain": 0.20, "annotated": 0.20}, "%.2f", "%.3f"),
+    ("instructions", {"plain": 0.19, "annotated": 0.22}, "%.2f", "%.3f"),
+    ("memory", {"plain": 2, "annotated": 2}, "%d MiB", "%.1f MiB"),
+    ("least stack", {"export": 128, "check": 128, "list": 128, "export --checked": 192},
+     "%d KiB", "%d KiB"),
+    ("--checked to export", {"plain": 2.2, "annotated": 2.2}, "%.1f", "%.2f"),
+    ("Cargo to proved", {"plain": 1.01, "annotated": 1.01, "server": 1.01}, "%.2f", "%.3f"),
+    ("dependent to proved", {"plain": 1.08, "annotated": 1.08, "server": 1.08}, "%.2f", "%.3f"),
 )
 # Cargo's program among the converters, beside the proved one
 BY_CARGO = "pgn_tool by Cargo"
-# how a goal and what was measured are shown
-FORMS = {
-    "wall time": ("%.2f", "%.3f"),
-    "instructions": ("%.2f", "%.3f"),
-    "memory": ("%d MiB", "%.1f MiB"),
-    "least stack": ("%d KiB", "%d KiB"),
-    "--checked to export": ("%.1f", "%.2f"),
-    "Cargo to proved": ("%.2f", "%.3f"),
-    "dependent to proved": ("%.2f", "%.3f"),
-}
 
 
 def table(head, rows, side="---:"):
@@ -61,8 +41,8 @@ def ratio(archive, what, name="pgn_tool"):
     return ours / theirs
 
 
-def measured_goals(result):
-    """(what, of which, goal, measured) for each goal that the result has a figure for."""
+def measured(result):
+    """What the result has for each goal, by what is measured and of which archive or task."""
     found = {("least stack", task): kib for task, kib in result["stack"].items()}
     for it in result["archives"]:
         found["wall time", it["name"]] = ratio(it, "wall")
@@ -73,16 +53,20 @@ def measured_goals(result):
     for (build, name), spent in result["builds"].items():
         if ("proved", name) in result["builds"]:
             found[build + " to proved", name] = spent / result["builds"]["proved", name]
-    return [(what, of, goal, found[what, of]) for what, of, goal in GOALS if (what, of) in found]
+    return found
 
 
 def goals(result):
-    rows, missed = [], []
-    for what, of, goal, measured in measured_goals(result):
-        at_most, shown = FORMS[what][0] % goal, FORMS[what][1] % measured
-        rows.append([what, of, at_most, shown, "met" if measured <= goal else "NOT MET"])
-        if measured > goal:
-            missed.append("- %s, %s: %s instead of %s" % (what, of, shown, at_most))
+    found, rows, missed = measured(result), [], []
+    for what, most, form, shown_form in GOALS:
+        for of, goal in most.items():
+            if (what, of) not in found:
+                continue
+            at_most, shown = form % goal, shown_form % found[what, of]
+            is_met = found[what, of] <= goal
+            rows.append([what, of, at_most, shown, "met" if is_met else "NOT MET"])
+            if not is_met:
+                missed.append("- %s, %s: %s instead of %s" % (what, of, shown, at_most))
     if not rows:
         return []
     said = ["**Not met:**", "", *missed] if missed else ["All goals are met."]

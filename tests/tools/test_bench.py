@@ -2,8 +2,6 @@
 """Tests of bench/run: its words, its readers of other tools' output, and its tables. No timing."""
 import contextlib
 import copy
-import importlib.machinery
-import importlib.util
 import io
 import os
 import re
@@ -14,6 +12,7 @@ import unittest
 
 sys.path.insert(0, os.path.dirname(os.path.realpath(__file__)))
 from programs import ROOT, run
+from test_cargo import load
 
 sys.dont_write_bytecode = True
 sys.path.insert(0, ROOT + "/bench")
@@ -449,10 +448,7 @@ class Records(unittest.TestCase):
         self.assertIn("\none new line\n", after)
 
     def test_the_documents_have_their_markers(self):
-        loader = importlib.machinery.SourceFileLoader("bench_run", ROOT + "/bench/run")
-        script = importlib.util.module_from_spec(
-            importlib.util.spec_from_loader("bench_run", loader))
-        loader.exec_module(script)
+        script = load("bench/run")
         for name, table in script.TABLES.items():
             for path, _ in table.RECORDS:
                 self.expect_markers(os.path.relpath(path, ROOT), script.marker_of(name))
