@@ -31,10 +31,6 @@ def prose(text):
     return textwrap.wrap(text, 100, subsequent_indent=indent, break_on_hyphens=False)
 
 
-def number(value, form):
-    return "" if value is None else format(value, form)
-
-
 def ratio(archive, what, name="pgn_tool"):
     """Ours in parts of pgn-extract's."""
     ours, theirs = (archive["converters"][it][what] for it in (name, "pgn-extract"))
@@ -134,8 +130,8 @@ def sizes(archive):
 def split(archive):
     if not archive["split"]:
         return []
-    calls = archive["split"]["calls"] or {}
-    rows = [[task, "%d" % (archive["games"] / took), number(calls.get(task), ".2f")]
+    calls = archive["split"]["calls"]
+    rows = [[task, "%d" % (archive["games"] / took), "%.2f" % calls[task] if calls else ""]
             for task, took in archive["split"]["wall"].items()]
     return ["`split` beside `export`, files in memory:", "",
             *table(["", "games/s", "system calls a game"], rows)]
