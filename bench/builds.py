@@ -5,13 +5,12 @@
     dependent    bench/dependent, which depends on that workspace by path, by Cargo's own release
                  profile: without LTO, in 16 units, without overflow checks
 """
-import filecmp
 import os
 import subprocess
 import sys
 
 import measure
-from measure import HERE, OUT, ROOT, SCRIPT, stop
+from measure import HERE, OUT, ROOT, SCRIPT
 
 PROVED = ROOT + "/crates/pgn_tool/out/pgn_tool"
 WORKSPACE = ROOT + "/cargo/out"
@@ -25,7 +24,7 @@ def is_built(target, *words):
 
 
 def built():
-    """The words of a call of each build, without its file, by the name of the build.
+    """The words of a call of each build, which reads standard input, by the name of the build.
 
     Cargo builds its two now. There are none without a cargo that can.
     """
@@ -41,15 +40,3 @@ def built():
     calls["Cargo"] = [WORKSPACE + "/target/release/pgn_tool", "export"]
     calls["dependent"] = [OUT + "/target/release/dependent"]
     return calls
-
-
-def figures(calls, small, large, games):
-    """The instructions of a game by the name of the build. All must write the same bytes."""
-    first, other, spent = OUT + "/first", OUT + "/other", {}
-    for name, words in calls.items():
-        measure.call([*words, large], other if spent else first)
-        if spent and not filecmp.cmp(first, other, shallow=False):
-            stop("the build %s writes other bytes for %s" % (name, large))
-        runs = [measure.callgrind([*words, it]) for it in (small, large)]
-        spent[name] = measure.difference(*runs, games)["Ir"]
-    return spent

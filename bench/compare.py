@@ -5,11 +5,9 @@ import subprocess
 import sys
 import time
 
+from measure import stop
+
 TURNS = 15
-
-
-def stop(said):
-    sys.exit("bench/run: " + said)
 
 
 def workloads(folder):

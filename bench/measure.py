@@ -1,9 +1,11 @@
 """What bench/run measures of one call of a program: time, memory, instructions, stack, and more."""
 import glob
+import json
 import os
 import platform
 import re
 import resource
+import shlex
 import shutil
 import subprocess
 import sys
@@ -35,14 +37,12 @@ MAIN_FUNCTIONS = {
     "layout and sinks": ("pgn_layout::current_line::CurrentLine::put", "pgn_layout::sink::write_all"),
     "reader and levels": ("pgn_game::reader::Reader::accept", "pgn_game::movetext::Movetext::put"),
 }
-# Programs of others that are called, and the packages of Debian that have them.
-PACKAGES = {"pgn-extract": "pgn-extract", "valgrind": "valgrind", "time": "time",
-            "tkscid": "scid", "strace": "strace", "cargo": "cargo", "parallel": "parallel"}
 # Other work is more than so many processors that other processes keep busy, on average.
 QUIET = 0.2
 # how long is waited to see whether there is other work
 SECONDS = 5
 STACK_STEP = 4
+TASKS = ("export", "export --checked", "check", "list")
 # what a small file takes in memory, and more than that
 BLOCK = 8192
 
@@ -65,7 +65,7 @@ def check_tools(needed, others=()):
         return
     said = "%s missing; to install: apt-get install --no-install-recommends %s" % (
         "%s %s" % (", ".join(lacking), "is" if len(lacking) == 1 else "are"),
-        " ".join(PACKAGES[it] for it in lacking))
+        " ".join(lacking))
     if set(lacking) & set(needed):
         stop(said)
     print("%s: %s; goes on without these figures" % (SCRIPT, said), file=sys.stderr)
@@ -103,85 +103,92 @@ def wait_for_quiet(allowed):
     check_quiet(other_work(before, work()), allowed)
 
 
-def call(words, to="/dev/null"):
-    """The wall time of a call, in seconds."""
-    with open(to, "wb") as out:
-        begun = time.perf_counter()
-        ran = subprocess.run(words, stdout=out, stderr=subprocess.PIPE, check=False)
-        took = time.perf_counter() - begun
-    if ran.returncode:
-        stop("%s failed: %s" % (" ".join(words), ran.stderr.decode(errors="replace")[-300:]))
-    return took
-
-
-def memory(words):
-    """The most that was resident, in MiB."""
-    tool = [found("time"), "-f", "%M", *words]
-    ran = subprocess.run(tool, stdout=subprocess.DEVNULL, stderr=subprocess.PIPE, check=False)
-    return int(ran.stderr.split()[-1]) / 1024
-
-
-def small_archive(style, games):
-    """The path of an archive of so many games, which is made."""
-    file = "%s/out/%s-%d.pgn" % (HERE, style, games)
-    words = [sys.executable, HERE + "/make_archive.py", "--style", style, "--games", str(games)]
-    with open(file, "wb") as out:
-        subprocess.run(words, stdout=out, check=True)
+def archive(style, games):
+    """The path of an archive of so many games, which is made where it is missing."""
+    file = "%s/%s-%d.pgn" % (OUT, style, games)
+    if not os.path.exists(file):
+        words = [sys.executable, HERE + "/make_archive.py", "--style", style, "--games", str(games)]
+        call(words, file + ".new")
+        os.replace(file + ".new", file)
     return file
 
 
-def output_of(words, file):
-    """What a program writes for a file on standard input."""
-    with open(file, "rb") as data:
-        ran = subprocess.run(words, stdin=data, stdout=subprocess.PIPE, check=False)
+def call(words, to="/dev/null", file="/dev/null"):
+    """Calls a program that reads a file and writes another one."""
+    with open(to, "wb") as out, open(file, "rb") as data:
+        ran = subprocess.run(words, stdin=data, stdout=out, stderr=subprocess.PIPE, check=False)
     if ran.returncode:
-        stop("%s failed" % " ".join(words))
-    return ran.stdout
+        stop("%s failed: %s" % (shlex.join(words), ran.stderr.decode(errors="replace")[-300:]))
 
 
-def instructions(words, file):
-    """How many a program takes for a file on standard input."""
-    tool = ["valgrind", "--tool=callgrind", "--callgrind-out-file=/dev/null", *words]
-    with open(file, "rb") as data:
-        ran = subprocess.run(tool, stdin=data, stdout=subprocess.DEVNULL, stderr=subprocess.PIPE,
-                             check=True)
-    return int(ran.stderr.split(b"Collected : ")[1].split()[0])
+def output_of(name, folder=OUT):
+    """Where times and instructions leave what a call of a name writes."""
+    return "%s/%s.out" % (folder, re.sub(r"\W+", "-", str(name)).strip("-"))
 
 
-def instruction_table(calls):
-    """The instructions of a game by each call, on both archives, beside those of the first call.
+def times(calls, rounds, file=None, folder=OUT, prepare=("true",)):
+    """The least wall time of each call, and its processor time then, in seconds by hyperfine.
 
-    They are the difference of 300 and 100 games. A call has its words, the change that it needs of
-    an archive, and what it must write of what the first call writes for the archive as it is.
+    By hyperfine alone all rounds of a call would come before those of the next one. Here all take
+    turns, since a machine that others use too is slower in some minutes than in others.
     """
-    styles, figures = ("plain", "annotated"), {}
+    least = {}
+    for _ in range(rounds):
+        for name, words in calls.items():
+            if file:
+                words = ["sh", "-c", 'exec "$@" <%s' % shlex.quote(file), "sh", *words]
+            call(["hyperfine", "--shell=none", "--style=none", "--runs=1",
+                  "--output=" + output_of(name, folder), "--prepare=" + shlex.join(prepare),
+                  "--export-json=" + OUT + "/times.json", shlex.join(words)])
+            with open(OUT + "/times.json", encoding="utf-8") as data:
+                ran = json.load(data)["results"][0]
+            took = ran["mean"], ran["user"] + ran["system"]
+            least[name] = min(took, least.get(name, took))
+    return least
+
+
+def memory(words, file="/dev/null", at=0):
+    """The most MiB that were resident: of the call, or of one process of its words from `at` on."""
+    words = [*words[:at], found("time"), "-f", "%M", *words[at:]]
+    with open(file, "rb") as data:
+        ran = subprocess.run(words, stdin=data, check=False, stdout=subprocess.DEVNULL,
+                             stderr=subprocess.PIPE)
+    return max(map(int, re.findall(rb"^(\d+)$", ran.stderr, re.MULTILINE))) / 1024
+
+
+def same(it):
+    return it
+
+
+def instructions(calls, styles):
+    """The instructions of a game by call and style: the difference of 300 and 100 games.
+
+    A call reads standard input. It has its words, the change that it needs of an archive, and what
+    it must write of what the first call writes for the archive as it is.
+    """
+    spent = {}
     for style in styles:
-        small, large = small_archive(style, 100), small_archive(style, 300)
+        small, large = archive(style, 100), archive(style, 300)
         text = None
         for name, (words, change, part) in calls.items():
-            few, many = change(small), change(large)
-            written = output_of(words, many)
+            call(words, output_of(name), change(large))
+            with open(output_of(name), "rb") as data:
+                written = data.read()
             text = written if text is None else text
             if written != part(text):
-                stop("%s does not write what it should" % name)
-            figures[name, style] = (instructions(words, many) - instructions(words, few)) / 200
-    base = next(iter(calls))
-    lines = ["| instructions a game | %s |" % " | ".join("%s | ratio" % it for it in styles),
-             "|---|" + "---:|" * (2 * len(styles))]
-    for name in calls:
-        cells = ["%s | %.3f" % (format(round(figures[name, it]), ","),
-                                figures[name, it] / figures[base, it]) for it in styles]
-        lines.append("| %s | %s |" % (name, " | ".join(cells)))
-    return lines
+                stop("%s does not write what it should for %s" % (name, large))
+            few, many = (callgrind(words, change(it))[0]["Ir"] for it in (small, large))
+            spent[name, style] = (many - few) / 200
+    return spent
 
 
-def callgrind(words):
+def callgrind(words, file="/dev/null"):
     """What callgrind counts in a call, as read_callgrind returns it."""
-    with tempfile.NamedTemporaryFile() as file:
+    with tempfile.NamedTemporaryFile() as counts:
         tool = [found("valgrind"), "--tool=callgrind", "--branch-sim=yes",
-                "--callgrind-out-file=" + file.name]
-        call([*tool, *words])
-        with open(file.name, encoding="utf-8", errors="replace") as lines:
+                "--callgrind-out-file=" + counts.name]
+        call([*tool, *words], file=file)
+        with open(counts.name, encoding="utf-8", errors="replace") as lines:
             return read_callgrind(lines)
 
 
@@ -314,16 +321,14 @@ def split_figures(program, file, games, rounds):
     """The least wall time of export and split on files in memory, or None without room there."""
     if not has_room(file, games):
         return None
-    took = {"export": 1e9, "split": 1e9}
     with tempfile.TemporaryDirectory(dir=IN_MEMORY) as folder:
         shutil.copy(file, folder + "/in.pgn")
-        for _ in range(rounds):
-            export = call([program, "export", folder + "/in.pgn"], folder + "/out.pgn")
-            os.mkdir(folder + "/games")
-            split = call([program, "split", folder + "/games", folder + "/in.pgn"])
-            shutil.rmtree(folder + "/games")
-            took = {"export": min(took["export"], export), "split": min(took["split"], split)}
-    return took
+        made = folder + "/games"
+        calls = {"export": [program, "export", folder + "/in.pgn"],
+                 "split": [program, "split", made, folder + "/in.pgn"]}
+        prepare = ["sh", "-c", "rm -rf %s && mkdir %s" % (made, made)]
+        took = times(calls, rounds, folder=folder, prepare=prepare)
+    return {task: wall for task, (wall, _) in took.items()}
 
 
 def split_calls(program, small, large, games):
@@ -340,23 +345,21 @@ def split_calls(program, small, large, games):
 
 def checked_figures(program, file, small, large, games, rounds):
     """The least wall time and the instructions of a game, of export and of the tasks beside it."""
+    calls = {it: [program, *it.split()] for it in TASKS}
+    took = times({task: [*words, file] for task, words in calls.items()}, rounds)
     figures = {}
-    for task in ("export", "export --checked", "check", "list"):
-        words = [program, *task.split()]
+    for task, words in calls.items():
         spent = difference(callgrind([*words, small]), callgrind([*words, large]), games)
-        figures[task] = {"wall": 1e9, "instructions": spent["Ir"]}
-    for _ in range(rounds):
-        for task, it in figures.items():
-            it["wall"] = min(it["wall"], call([program, *task.split(), file]))
+        figures[task] = {"wall": took[task][0], "instructions": spent["Ir"]}
     return figures
 
 
-def built_program(*options):
-    """The program of the repository, which is built if need be: the proved one if it is there."""
+def built(*options):
+    """The path of the program or library of the repository, which is built if need be."""
     ran = subprocess.run([ROOT + "/bin/build_program", *options], stdout=subprocess.PIPE,
                          check=False)
     if ran.returncode:
-        stop("the program was not built")
+        stop("it was not built: bin/build_program " + " ".join(options))
     return os.fsdecode(ran.stdout).rstrip("\n")
 
 
@@ -379,12 +382,9 @@ def machine(*packages):
         ran = subprocess.run(words, stdout=subprocess.PIPE, stderr=subprocess.DEVNULL, check=False)
         if ran.stdout:
             versions[package] = ran.stdout.decode()
-    model, debian = platform.processor() or platform.machine(), "unknown"
-    if os.path.exists("/proc/cpuinfo"):
-        with open("/proc/cpuinfo", encoding="utf-8") as file:
-            found = re.search(r"^model name\s*: (.*)", file.read(), re.MULTILINE)
-            model = found[1] if found else model
-    if os.path.exists("/etc/debian_version"):
-        with open("/etc/debian_version", encoding="utf-8") as file:
-            debian = file.read().strip()
-    return {"processors": os.cpu_count(), "model": model, "debian": debian, "versions": versions}
+    with open("/proc/cpuinfo", encoding="utf-8") as file:
+        model = re.search(r"^model name\s*: (.*)|\Z", file.read(), re.MULTILINE)[1]
+    with open("/etc/debian_version", encoding="utf-8") as file:
+        debian = file.read().strip()
+    return {"processors": os.cpu_count(), "model": model or platform.machine(), "debian": debian,
+            "versions": versions}

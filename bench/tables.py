@@ -3,40 +3,20 @@ import os
 import re
 import textwrap
 
-# What is measured, of which archive or task, and the most that it may be. Wall time and
-# instructions are parts of pgn-extract's, and those of a build of the proved program's.
+# What is measured, the most that it may be of each archive or task, and how the two are shown. Wall
+# time and instructions are parts of pgn-extract's, and those of a build of the proved program's.
 GOALS = (
-    ("wall time", "plain", 0.20),
-    ("wall time", "annotated", 0.20),
-    ("instructions", "plain", 0.19),
-    ("instructions", "annotated", 0.22),
-    ("memory", "plain", 2),
-    ("memory", "annotated", 2),
-    ("least stack", "export", 128),
-    ("least stack", "check", 128),
-    ("least stack", "list", 128),
-    ("least stack", "export --checked", 192),
-    ("--checked to export", "plain", 2.2),
-    ("--checked to export", "annotated", 2.2),
-    ("Cargo to proved", "plain", 1.01),
-    ("Cargo to proved", "annotated", 1.01),
-    ("Cargo to proved", "server", 1.01),
-    ("dependent to proved", "plain", 1.08),
-    ("dependent to proved", "annotated", 1.08),
-    ("dependent to proved", "server", 1.08),
+    ("wall time", {"plain": 0.20, "annotated": 0.20}, "%.2f", "%.3f"),
+    ("instructions", {"plain": 0.19, "annotated": 0.22}, "%.2f", "%.3f"),
+    ("memory", {"plain": 2, "annotated": 2}, "%d MiB", "%.1f MiB"),
+    ("least stack", {"export": 128, "check": 128, "list": 128, "export --checked": 192},
+     "%d KiB", "%d KiB"),
+    ("--checked to export", {"plain": 2.2, "annotated": 2.2}, "%.1f", "%.2f"),
+    ("Cargo to proved", {"plain": 1.01, "annotated": 1.01, "server": 1.01}, "%.2f", "%.3f"),
+    ("dependent to proved", {"plain": 1.08, "annotated": 1.08, "server": 1.08}, "%.2f", "%.3f"),
 )
 # Cargo's program among the converters, beside the proved one
 BY_CARGO = "pgn_tool by Cargo"
-# how a goal and what was measured are shown
-FORMS = {
-    "wall time": ("%.2f", "%.3f"),
-    "instructions": ("%.2f", "%.3f"),
-    "memory": ("%d MiB", "%.1f MiB"),
-    "least stack": ("%d KiB", "%d KiB"),
-    "--checked to export": ("%.1f", "%.2f"),
-    "Cargo to proved": ("%.2f", "%.3f"),
-    "dependent to proved": ("%.2f", "%.3f"),
-}
 
 
 def table(head, rows, side="---:"):
@@ -51,24 +31,14 @@ def prose(text):
     return textwrap.wrap(text, 100, subsequent_indent=indent, break_on_hyphens=False)
 
 
-def number(value, form):
-    return "" if value is None else format(value, form)
-
-
 def ratio(archive, what, name="pgn_tool"):
     """Ours in parts of pgn-extract's."""
     ours, theirs = (archive["converters"][it][what] for it in (name, "pgn-extract"))
     return ours / theirs
 
 
-def counted_builds(result):
-    """The instructions of each build by the name of the archive."""
-    found = {it["name"]: it["builds"] for it in result["archives"]}
-    return {name: spent for name, spent in {**found, **result["counted"]}.items() if spent}
-
-
-def measured_goals(result):
-    """(what, of which, goal, measured) for each goal that the result has a figure for."""
+def measured(result):
+    """What the result has for each goal, by what is measured and of which archive or task."""
     found = {("least stack", task): kib for task, kib in result["stack"].items()}
     for it in result["archives"]:
         found["wall time", it["name"]] = ratio(it, "wall")
@@ -76,20 +46,23 @@ def measured_goals(result):
         found["memory", it["name"]] = it["converters"]["pgn_tool"]["memory"]
         walls = {task: figures["wall"] for task, figures in it["checked"].items()}
         found["--checked to export", it["name"]] = walls["export --checked"] / walls["export"]
-    for name, spent in counted_builds(result).items():
-        if "proved" in spent:
-            found["Cargo to proved", name] = spent["Cargo"] / spent["proved"]
-            found["dependent to proved", name] = spent["dependent"] / spent["proved"]
-    return [(what, of, goal, found[what, of]) for what, of, goal in GOALS if (what, of) in found]
+    for (build, name), spent in result["builds"].items():
+        if ("proved", name) in result["builds"]:
+            found[build + " to proved", name] = spent / result["builds"]["proved", name]
+    return found
 
 
 def goals(result):
-    rows, missed = [], []
-    for what, of, goal, measured in measured_goals(result):
-        at_most, shown = FORMS[what][0] % goal, FORMS[what][1] % measured
-        rows.append([what, of, at_most, shown, "met" if measured <= goal else "NOT MET"])
-        if measured > goal:
-            missed.append("- %s, %s: %s instead of %s" % (what, of, shown, at_most))
+    found, rows, missed = measured(result), [], []
+    for what, most, form, shown_form in GOALS:
+        for of, goal in most.items():
+            if (what, of) not in found:
+                continue
+            at_most, shown = form % goal, shown_form % found[what, of]
+            is_met = found[what, of] <= goal
+            rows.append([what, of, at_most, shown, "met" if is_met else "NOT MET"])
+            if not is_met:
+                missed.append("- %s, %s: %s instead of %s" % (what, of, shown, at_most))
     if not rows:
         return []
     said = ["**Not met:**", "", *missed] if missed else ["All goals are met."]
@@ -157,8 +130,8 @@ def sizes(archive):
 def split(archive):
     if not archive["split"]:
         return []
-    calls = archive["split"]["calls"] or {}
-    rows = [[task, "%d" % (archive["games"] / took), number(calls.get(task), ".2f")]
+    calls = archive["split"]["calls"]
+    rows = [[task, "%d" % (archive["games"] / took), "%.2f" % calls[task] if calls else ""]
             for task, took in archive["split"]["wall"].items()]
     return ["`split` beside `export`, files in memory:", "",
             *table(["", "games/s", "system calls a game"], rows)]
@@ -171,22 +144,21 @@ def checked(archive):
             *table(["", "games/s", "instructions a game"], rows)]
 
 
+def instructions(spent):
+    """The instructions by call and archive, and their ratio to those of the first call."""
+    names, archives = (list(dict.fromkeys(it)) for it in zip(*spent))
+    rows = [[name] for name in names]
+    for row, name in zip(rows, names):
+        for it in archives:
+            row += [format(round(spent[name, it]), ","),
+                    "%.3f" % (spent[name, it] / spent[names[0], it])]
+    return table(["instructions a game"] + [it for name in archives for it in (name, "ratio")], rows)
+
+
 def builds(result):
-    """The instructions of each build, and their ratio to those of the first one."""
-    by_archive = counted_builds(result)
-    if not by_archive:
-        return ["### The builds", "", "The builds are not compared, without a cargo that builds them.",
-                ""]
-    rows = []
-    for name in next(iter(by_archive.values())):
-        rows.append([name])
-        for it in by_archive.values():
-            spent, first = it[name], next(iter(it.values()))
-            rows[-1] += [format(round(spent), ","), "%.3f" % (spent / first)]
-    head = ["instructions a game"]
-    for name in by_archive:
-        head += [name, "ratio"]
-    return ["### The builds", "", *table(head, rows)]
+    if result["builds"]:
+        return ["### The builds", "", *instructions(result["builds"])]
+    return ["### The builds", "", "The builds are not compared, without a cargo that builds them.", ""]
 
 
 def report(result):

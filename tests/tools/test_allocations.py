@@ -1,8 +1,6 @@
 #!/usr/bin/env python3
 """Tests of bin/try_allocations: on the program, and on one that gives wrong answers."""
 import contextlib
-import importlib.machinery
-import importlib.util
 import io
 import os
 import shutil
@@ -12,7 +10,8 @@ import tempfile
 import unittest
 
 sys.path.insert(0, os.path.dirname(os.path.realpath(__file__)))
-from programs import ROOT, need, need_proved_program, run
+from programs import need, need_proved_program, run
+from test_cargo import load
 
 # Without memory for its second block it forgets its line; without the first it says so.
 FORGETFUL = """
@@ -54,11 +53,7 @@ class AllocationsTest(unittest.TestCase):
         with open(source, "w", encoding="ascii") as file:
             file.write(FORGETFUL)
         subprocess.run(["cc", "-O0", "-o", program, source], check=True)
-        loader = importlib.machinery.SourceFileLoader("try_allocations",
-                                                      ROOT + "/bin/try_allocations")
-        module = importlib.util.module_from_spec(
-            importlib.util.spec_from_loader("try_allocations", loader))
-        loader.exec_module(module)
+        module = load("bin/try_allocations")
         module.BUILT = program
         text = io.StringIO()
         with contextlib.redirect_stdout(text):

@@ -12,6 +12,7 @@ import unittest
 
 sys.path.insert(0, os.path.dirname(os.path.realpath(__file__)))
 from programs import ROOT, run
+from test_cargo import load
 
 sys.dont_write_bytecode = True
 sys.path.insert(0, ROOT + "/bench")
@@ -86,8 +87,8 @@ sys.argv = ["run", *sys.argv[1:]]
 sys.path.insert(0, sys.argv[1] + "/bench")
 import measure
 measure.found = lambda name: shutil.which(name, path=sys.argv[1])
-measure.check_tools(("strace",), ("tkscid",))
-measure.check_tools(("time", "strace"), ("tkscid",))
+measure.check_tools(("strace",), ("hyperfine",))
+measure.check_tools(("time", "strace"), ("hyperfine",))
 """
 
 
@@ -107,7 +108,6 @@ def archive(name, wall):
                         "export --checked": {"wall": 1, "instructions": 390},
                         "check": {"wall": 0.4, "instructions": 150},
                         "list": {"wall": 0.8, "instructions": 160}},
-            "builds": {"proved": 2000, "Cargo": 2300.4, "dependent": 2100},
             "sizes": [{"bytes": 1_000_000, "wall": 0.05, "instructions": 2_000_000, "memory": 1.5}]}
 
 
@@ -116,29 +116,26 @@ RESULT = {
     "machine": {"processors": 8, "model": "a processor", "debian": "99.1",
                 "versions": {"pgn-extract": "1.2-3", "valgrind": "4.5"}},
     "archives": [archive("plain", 0.15), archive("annotated", 0.25)],
-    "counted": {"server": {"proved": 1000, "Cargo": 1009, "dependent": 1081}},
+    "builds": {("proved", "plain"): 2000, ("Cargo", "plain"): 2300.4, ("dependent", "plain"): 2100,
+               ("proved", "server"): 1000, ("Cargo", "server"): 1009, ("dependent", "server"): 1081},
     "stack": {"export": 128, "export --checked": 180, "check": 124, "list": 132},
 }
 
 
 class Words(unittest.TestCase):
     def test_help(self):
-        for script in ("run", "parallel", "library", "calls"):
-            ran = run([ROOT + "/bench/" + script, "--help"])
-            self.assertEqual((ran.returncode, ran.stderr), (0, b""))
-            self.assertIn(b"--record", ran.stdout)
+        ran = run([ROOT + "/bench/run", "--help"])
+        self.assertEqual((ran.returncode, ran.stderr), (0, b""))
+        self.assertIn(b"--record", ran.stdout)
         self.assertFalse(os.path.exists(ROOT + "/bench/__pycache__"))
 
-    def test_a_file_of_the_user_is_not_recorded(self):
-        ran = run([ROOT + "/bench/run", "--record", "--archive", "x.pgn"])
-        self.assertEqual((ran.returncode, ran.stdout), (2, b""))
-        self.assertIn(b"not allowed with", ran.stderr)
-
-    def test_another_program_is_not_recorded(self):
-        for script in ("run", "parallel", "library"):
-            ran = run([ROOT + "/bench/" + script, "--record", "--program", "/bin/true"])
+    def test_words_that_are_rejected(self):
+        for words, said in ((["--record", "--program", "/bin/true"], b"leave out --program"),
+                            (["parallel", "--record", "--program", "x"], b"leave out --program"),
+                            (["speed"], b"invalid choice: 'speed'")):
+            ran = run([ROOT + "/bench/run", *words])
             self.assertEqual((ran.returncode, ran.stdout), (2, b""))
-            self.assertIn(b"leave out --program", ran.stderr)
+            self.assertIn(said, ran.stderr)
 
     def test_two_builds(self):
         """Programs that print their words and what they read stand for the builds."""
@@ -180,9 +177,9 @@ class Words(unittest.TestCase):
         self.assertEqual((ran.returncode, ran.stdout), (1, b""))
         said = "%s; to install: apt-get install --no-install-recommends %s"
         self.assertEqual(ran.stderr.decode().splitlines(), [
-            "bench/run: " + said % ("tkscid is missing", "scid")
+            "bench/run: " + said % ("hyperfine is missing", "hyperfine")
             + "; goes on without these figures",
-            "bench/run: " + said % ("time, tkscid are missing", "time scid")])
+            "bench/run: " + said % ("time, hyperfine are missing", "time hyperfine")])
         self.assertFalse(os.path.exists(folder + "/called"))
 
 
@@ -282,19 +279,18 @@ class Tables(unittest.TestCase):
         self.assertIn("| least stack | export --checked | 192 KiB | 180 KiB | met |\n", text)
         self.assertIn("| --checked to export | plain | 2.2 | 2.00 | met |\n", text)
         self.assertIn("| Cargo to proved | server | 1.01 | 1.009 | met |\n", text)
-        self.assertIn("| dependent to proved | annotated | 1.08 | 1.050 | met |\n", text)
+        self.assertIn("| dependent to proved | plain | 1.08 | 1.050 | met |\n", text)
         missed = re.findall(r"^- (.*)$", text, re.M)
         self.assertEqual(missed, ["wall time, annotated: 0.250 instead of 0.20",
                                   "instructions, plain: 0.200 instead of 0.19",
                                   "least stack, list: 132 KiB instead of 128 KiB",
                                   "Cargo to proved, plain: 1.150 instead of 1.01",
-                                  "Cargo to proved, annotated: 1.150 instead of 1.01",
                                   "dependent to proved, server: 1.081 instead of 1.08"])
 
     def test_all_goals_met(self):
         result = copy.deepcopy(RESULT)
         result["archives"], result["stack"] = [archive("annotated", 0.2)], {"check": 96}
-        result["archives"][0]["builds"], result["counted"] = {"Cargo": 9, "dependent": 9}, {}
+        result["builds"] = {("Cargo", "plain"): 9, ("dependent", "plain"): 9}
         self.assertIn("All goals are met.", tables.goals(result))
         result["archives"], result["stack"] = [archive("archive", 0.9)], {}
         self.assertEqual(tables.goals(result), [])
@@ -315,18 +311,18 @@ class Tables(unittest.TestCase):
                      "| 1.0 | 0.05 | 50.0 | 2.0 | 1.5 |",
                      "| list | 132 |",
                      "### The builds",
-                     "| instructions a game | plain | ratio | annotated | ratio | server | ratio |",
-                     "| proved | 2,000 | 1.000 | 2,000 | 1.000 | 1,000 | 1.000 |",
-                     "| Cargo | 2,300 | 1.150 | 2,300 | 1.150 | 1,009 | 1.009 |",
-                     "| dependent | 2,100 | 1.050 | 2,100 | 1.050 | 1,081 | 1.081 |"):
+                     "| instructions a game | plain | ratio | server | ratio |",
+                     "| proved | 2,000 | 1.000 | 1,000 | 1.000 |",
+                     "| Cargo | 2,300 | 1.150 | 1,009 | 1.009 |",
+                     "| dependent | 2,100 | 1.050 | 1,081 | 1.081 |"):
             self.assertIn(line, lines)
         self.assertEqual([line for line in lines if len(line) > 100 and line[0] != "|"], [])
 
     def test_what_could_not_be_measured(self):
         result = copy.deepcopy(RESULT)
-        result["counted"] = {"server": {}}
+        result["builds"] = {}
         for it in result["archives"]:
-            it["sizes"], it["builds"] = [], {}
+            it["sizes"] = []
         result["archives"][0]["split"] = None
         result["archives"][1]["split"]["calls"] = None
         text = "\n".join(tables.report(result))
@@ -361,37 +357,42 @@ class Tables(unittest.TestCase):
 
 
 class Builds(unittest.TestCase):
-    """How the builds are compared, with small programs in place of those that cargo builds."""
+    """How calls are compared, with small programs in place of those that cargo builds."""
 
     def setUp(self):
         self.folder = tempfile.mkdtemp()
         self.addCleanup(shutil.rmtree, self.folder)
-        for module, name in ((builds, "OUT"), (builds, "WORKSPACE"), (measure, "found"),
-                             (measure, "callgrind")):
-            self.addCleanup(setattr, module, name, getattr(module, name))
-        builds.OUT, builds.WORKSPACE = self.folder, self.folder + "/workspace"
-        measure.callgrind = lambda words: ({"Ir": 10 * os.path.getsize(words[-1])}, {}, {})
-        self.files = []
-        for size in (20, 60):
-            self.files.append(os.path.join(self.folder, str(size)))
-            with open(self.files[-1], "wb") as file:
-                file.write(size * b"a")
+        for name, other in (("found", lambda name: None), ("archive", self.archive),
+                            ("callgrind", lambda words, file: [{"Ir": os.path.getsize(file)}]),
+                            ("output_of", lambda name: "%s/%s" % (self.folder, name))):
+            self.addCleanup(setattr, measure, name, getattr(measure, name))
+            setattr(measure, name, other)
+
+    def archive(self, style, games):
+        with open("%s/%s-%d" % (self.folder, style, games), "w", encoding="ascii") as file:
+            file.write(games * 10 * "a")
+        return file.name
 
     def test_the_instructions_of_a_game(self):
-        spent = builds.figures({"one": ["cat"], "two": ["cat", "--"]}, *self.files, 8)
-        self.assertEqual(spent, {"one": 50, "two": 50})
+        calls = {"one": (["cat"], measure.same, measure.same),
+                 "two": (["head", "-c", "7"], measure.same, lambda text: text[:7])}
+        spent = measure.instructions(calls, ("plain", "server"))
+        self.assertEqual(spent, {(name, style): 10 for name in calls
+                                 for style in ("plain", "server")})
 
-    def test_all_must_write_the_same(self):
+    def test_what_each_must_write(self):
+        calls = {"one": (["cat"], measure.same, measure.same),
+                 "two": (["head", "-c", "7"], measure.same, measure.same)}
         with self.assertRaises(SystemExit) as stopped:
-            builds.figures({"one": ["cat"], "two": ["head", "-c7"]}, *self.files, 8)
-        self.assertIn("the build two writes other bytes", str(stopped.exception))
+            measure.instructions(calls, ("plain",))
+        self.assertIn("two does not write what it should", str(stopped.exception))
 
     def test_without_a_cargo(self):
-        measure.found = lambda name: None
         self.assertEqual(builds.built(), {})
-        self.assertEqual(builds.figures({}, *self.files, 8), {})
 
     def test_a_cargo_that_fails(self):
+        self.addCleanup(setattr, builds, "WORKSPACE", builds.WORKSPACE)
+        builds.WORKSPACE = self.folder + "/workspace"
         measure.found = lambda name: "/bin/false"
         with contextlib.redirect_stderr(io.StringIO()) as said:
             self.assertEqual(builds.built(), {})
@@ -428,9 +429,9 @@ class Records(unittest.TestCase):
         form = '.It stack\n.\\" bench/run --record: begin\n%s\n.\\" bench/run --record: end\n.El\n'
         self.assertEqual(self.record("a.1", form % "old", ["new", "lines"]), form % "new\nlines")
 
-    def test_each_script_has_its_own_markers(self):
-        marked = "<!-- bench/parallel --record: begin -->\n<!-- bench/parallel --record: end -->\n"
-        self.assertIn("\nb\n", self.record("A.md", marked, ["b"], "bench/parallel"))
+    def test_each_table_has_its_own_markers(self):
+        marked = "".join("<!-- bench/run calls --record: %s -->\n" % it for it in ("begin", "end"))
+        self.assertIn("\nb\n", self.record("A.md", marked, ["b"], "bench/run calls"))
         self.assertIsNone(self.record("A.md", marked, ["b"]))
 
     def test_markers_that_do_not_fit(self):
@@ -447,11 +448,10 @@ class Records(unittest.TestCase):
         self.assertIn("\none new line\n", after)
 
     def test_the_documents_have_their_markers(self):
-        for name in ("bench/README.md", "README.md", "share/man/man1/pgn_tool.1"):
-            self.expect_markers(name, "bench/run")
-        self.expect_markers("docs/RECIPES.md", "bench/parallel")
-        self.expect_markers("bench/README.md", "bench/library")
-        self.expect_markers("bench/README.md", "bench/calls")
+        script = load("bench/run")
+        for name, table in script.TABLES.items():
+            for path, _ in table.RECORDS:
+                self.expect_markers(os.path.relpath(path, ROOT), script.marker_of(name))
 
 
 if __name__ == "__main__":

@@ -128,12 +128,14 @@ say yes
 
 class RealTree(unittest.TestCase):
     def test_nothing_is_unused(self):
+        need("vulture")
         ran = run([sys.executable, "bin/unused"])
         self.assertEqual((ran.returncode, ran.stdout.decode()), (0, ""), ran.stderr)
 
 
 class MadeTree(unittest.TestCase):
     def setUp(self):
+        need("vulture")
         self.folder = tempfile.mkdtemp()
         self.addCleanup(shutil.rmtree, self.folder)
         for name, text in FILES.items():
@@ -190,7 +192,7 @@ class MadeTree(unittest.TestCase):
              ["fn left"]),
             ("bin/tool", "\n\ndef spare():\n    return 1\n", ["function spare"]),
             ("bin/shared.py", "\n    def spare(self):\n        return 1\n", ["method spare"]),
-            ("bin/shared.py", "\n\nSPARE = 4\n", ["constant SPARE"]),
+            ("bin/shared.py", "\n\nSPARE = 4\n", ["variable SPARE"]),
             ("bin/shell", "spare() {\n  echo no\n}\n", ["function spare"]),
         ]
         for name, text, expected in planted:
@@ -229,28 +231,13 @@ class MadeTree(unittest.TestCase):
             "fn sum_of", "lemma nothing", "lemma nothing_behind", "lemma sums", "lemma total_small",
             "lemma small"])
 
-    def test_a_function_of_another_module_with_the_name_is_listed(self):
-        for module in ("faults", "moves"):
-            name = "crates/pgn_lexer/src/%s.rt" % module
-            self.write(name, "//! Rows.\npub fn rows() -> usize {\n    1\n}\n")
-        self.change("crates/pgn_lexer/src/token.rt", "    sum_of(tokens)\n",
-                    "    sum_of(tokens) + crate::faults::rows()\n")
-        ran = run([sys.executable, "bin/unused", "--root", self.folder])
-        self.assertEqual(ran.stdout, b"crates/pgn_lexer/src/moves.rt:2: fn rows\n")
-
     def test_a_word_in_a_comment_or_a_text_is_no_use(self):
         self.change("crates/pgn_lexer/src/token.rt", "self.len.min(MOST)",
                     'self.len // MOST\n            .min(count("MOST"))')
         self.assertEqual(self.unused(), ["const MOST"])
         self.write("crates/pgn_lexer/src/token.rt", FILES["crates/pgn_lexer/src/token.rt"])
         self.change("bin/shared.py", "return WORDS", 'return "WORDS"  # WORDS')
-        self.assertEqual(self.unused(), ["constant WORDS"])
-
-    def test_a_crate_can_be_skipped(self):
-        self.add("crates/pgn_lexer/specs/Tokens.antt", "\nabbrev pub spare : ℕ\nspare = 3\n")
-        self.assertEqual(self.unused("--skip", "pgn_lexer"), [])
-        ran = run([sys.executable, "bin/unused", "--root", self.folder, "--skip", "no_crate"])
-        self.assertEqual(ran.returncode, 2)
+        self.assertEqual(self.unused(), ["variable WORDS"])
 
 
 class Scripts(unittest.TestCase):

@@ -16,8 +16,6 @@ use pgn_layout::write_all;
 pub const TAGS: usize = 64;
 /// The levels of movetext: the game's own, and variations to depth 32.
 pub const LEVELS: usize = 33;
-/// The length of the buffer that `list` and `split` read into.
-pub const READ_LENGTH: usize = 4096;
 
 /// Carries out a task on what the source gives, and returns the exit status.
 ///

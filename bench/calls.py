@@ -1,7 +1,4 @@
-#!/usr/bin/env python3
-"""Counts the instructions that a game takes in C: one call for each game, beside one for them all.
-
-    bench/calls [--cargo] [--record]
+"""The instructions that a game takes in C: one call for each game, beside one for them all.
 
     pgn_convert              one call for the whole text
     pgn_next_game            one for each game, which also gives the position at its end
@@ -14,36 +11,24 @@
                              moves: SAN, UCI and FEN of each ply
     pgn_san                  the same, but one call for each move
 
-The figures are callgrind's, the difference of 300 and 100 games, on both archives of bench/run.
 The calls of pgn_next_game must write what pgn_convert writes, and pgn_read_game the tag sections
-of that. pgn_line must write what pgn_san says of each move. It needs valgrind and a C compiler, and
-builds the library first if a source is newer: bin/build_program --library says how. --cargo takes
-the one that Cargo builds.
+of that. pgn_line must write what pgn_san says of each move. The library is the one that
+bin/build_program --library names, or Cargo's.
 
 The C library clears and copies much memory by string instructions. Callgrind counts one of these
 once for each byte, and a processor once. So the C library is told here to do without them.
-
---record writes the table into bench/README.md, of the library that rt builds or of Cargo's. Other
-work does not change what callgrind counts.
 """
-import argparse
 import os
 import subprocess
-import sys
-import time
 
-sys.dont_write_bytecode = True
 import measure
 import tables
-from measure import HERE, ROOT, stop
+from measure import HERE, OUT, ROOT, same
 
-PROGRAM = HERE + "/out/calls"
+TOOLS, OTHERS, VERSIONS = ("valgrind",), (), ()
+PROGRAM, STYLES = OUT + "/calls", ("plain", "annotated")
 NO_STRING_INSTRUCTIONS = ":".join("glibc.cpu.x86_rep_%s_threshold=%d" % (name, 1 << 40)
                                   for name in ("movsb", "stosb"))
-
-
-def same(it):
-    return it
 
 
 def without_results(archive):
@@ -73,36 +58,19 @@ WAYS = {"`pgn_convert`": ("whole", same, same), "`pgn_next_game`": ("games", sam
         "`pgn_next_game`, then `pgn_san` for each move": ("moves", same, plies)}
 
 
-def build(options):
-    """Builds the program, and returns the path of the library."""
-    words = [ROOT + "/bin/build_program", "--library", *options]
-    ran = subprocess.run(words, stdout=subprocess.PIPE, check=False)
-    library = os.fsdecode(ran.stdout).strip()
-    if ran.returncode:
-        stop("the library was not built")
-    subprocess.run(["cc", "-O2", "-I", ROOT + "/crates/pgn_c", HERE + "/calls.c", library, "-o",
-                    PROGRAM], check=True)
-    return library
-
-
-def main():
-    form = argparse.RawDescriptionHelpFormatter
-    parser = argparse.ArgumentParser(description=__doc__, formatter_class=form)
-    parser.add_argument("--cargo", action="store_true", help="takes the library of Cargo")
-    parser.add_argument("--record", action="store_true", help="writes bench/README.md")
-    given = parser.parse_args()
-    measure.check_tools(("valgrind",))
-    os.makedirs(HERE + "/out", exist_ok=True)
-    library = build(["--cargo"] if given.cargo else [])
-    calls = {name: ([PROGRAM, way], *others) for name, (way, *others) in WAYS.items()}
+def figures(given):
+    library = measure.built("--library", *(["--cargo"] if given.cargo else []))
+    words = ["cc", "-O2", "-I", ROOT + "/crates/pgn_c", HERE + "/calls.c", library, "-o", PROGRAM]
+    subprocess.run(words, check=True)
     os.environ["GLIBC_TUNABLES"] = NO_STRING_INSTRUCTIONS
-    lines = measure.instruction_table(calls)
-    print("\n".join(lines))
-    if given.record:
-        kind = "of Cargo" if "/cargo/" in library else "of rt"
-        said = "Counted on %s, with the library %s:" % (time.strftime("%Y-%m-%d"), kind)
-        tables.record(HERE + "/README.md", [said, "", *lines], "bench/calls")
+    calls = {name: ([PROGRAM, way], *others) for name, (way, *others) in WAYS.items()}
+    return {"kind": "of Cargo" if "/cargo/" in library else "of rt",
+            "table": tables.instructions(measure.instructions(calls, STYLES))}
 
 
-if __name__ == "__main__":
-    main()
+def lines(result):
+    said = "Counted on %s, with the library %s:" % (result["date"], result["kind"])
+    return [said, "", *result["table"]][:-1]
+
+
+RECORDS = ((HERE + "/README.md", lines),)
