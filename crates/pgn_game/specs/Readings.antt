@@ -71,14 +71,6 @@ abbrev pub StillGivenNone : Reading → Reading → Type 0
 StillGivenNone old new =
     (q : Profile) (left_old left_now : Option (List ℕ)) → HasGiven q left_old left_now old [] → HasGiven q left_old left_now new []
 
--- What `next_marker` keeps of a reading, and what it counts.
-pub record ReadingKeeps (old new : Reading) (result : Result (Option CodeMark) Fault) (source sink : Device) : Type 0 where
-  pub ready : IfOk result (λ marker. IfSome marker (λ m. IsReady new.converter))
-  pub games : new.converter.games ≡ old.converter.games
-  pub written : as_written new.converter.reading ≡ as_written old.converter.reading
-  pub probes : old.converter.reading.most_probes ≤ new.converter.reading.most_probes
-  pub counted : CountsReading result source sink
-
 -- The reason that the second reading reports, if its converter reports this one. A failed read or
 -- write stays what it is. Any other fault shows that the inputs differ.
 abbrev pub changed_reason : Reason → Reason
@@ -167,11 +159,15 @@ AfterMarker q left_old left_new given new (Ok (Some m)) before after = MarkerCom
 AfterMarker q left_old left_new given new (Ok None) before after = EndComes q left_old given new before after
 AfterMarker q left_old left_new given new (Err f) before after = ReadingStops q left_old left_new given f new before after
 
--- What `next_marker` does to a reading that has read any tokens.
-abbrev pub ReadsUpToMarker : Option (List ℕ) → Option (List ℕ) → Reading → Reading → Result (Option CodeMark) Fault → Option (List ℕ) → Option (List ℕ) → Type 0
-ReadsUpToMarker left_before left_after old new result before after =
-    (q : Profile) (left_old : Option (List ℕ)) (given : List Token)
-    → HasGiven q left_old left_before old given → AfterMarker q left_old left_after given new result before after
+-- What `next_marker` does to a reading that has read any tokens, what it keeps, and what it counts.
+pub record ReadsUpToMarker (old new : Reading) (result : Result (Option CodeMark) Fault) (source sink : Device) : Type 0 where
+  pub reads : (q : Profile) (left_old : Option (List ℕ)) (given : List Token)
+      → HasGiven q left_old source.before old given → AfterMarker q left_old source.after given new result sink.before sink.after
+  pub ready : IfOk result (λ marker. IfSome marker (λ m. IsReady new.converter))
+  pub games : new.converter.games ≡ old.converter.games
+  pub written : as_written new.converter.reading ≡ as_written old.converter.reading
+  pub probes : old.converter.reading.most_probes ≤ new.converter.reading.most_probes
+  pub counted : CountsReading result source sink
 
 -- ---- one game
 

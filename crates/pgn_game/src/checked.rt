@@ -8,7 +8,7 @@ ghost use Rattle.pgn_game.specs.CheckedConversion.{TwoReadingsConvert, TwoReadin
 ghost use Rattle.pgn_game.specs.ConverterSteps.{IsGoing};
 ghost use Rattle.pgn_game.specs.GamesSteps.{CountsReading};
 ghost use Rattle.pgn_game.specs.Markers.{marker_text};
-ghost use Rattle.pgn_game.specs.Readings.{GoesOnAfterGame, HasGiven, ReadingKeeps, ReadsGame, StillGivenNone};
+ghost use Rattle.pgn_game.specs.Readings.{GoesOnAfterGame, HasGiven, ReadsGame, StillGivenNone};
 ghost use Rattle.pgn_game.specs.Readings.{ReadsUpToMarker, WritesGame, as_changed, no_sink};
 ghost use Rattle.pgn_game.specs.ReaderState.{KeepsSilence, sink_of, whole_plies};
 ghost use Rattle.pgn_game.specs.Written.{bytes_seen};
@@ -225,10 +225,7 @@ impl<const T: usize, const L: usize> Reading<T, L> {
         out: &mut W,
     ) -> Result<Option<Mark>, Fault>
         requires going { IsGoing self.old.converter }
-        ensures reads { ReadsUpToMarker (R.left source.old) (R.left source.new) self.old self.new
-            result (bytes_seen self.old.converter.reading.writing.is_silent (W.taken out.old))
-            (bytes_seen self.old.converter.reading.writing.is_silent (W.taken out.new)) }
-        ensures keeps { ReadingKeeps self.old self.new result
+        ensures reads { ReadsUpToMarker self.old self.new result
             (device R.left R.failures source.old source.new)
             (sink_of self.old.converter.reading W.taken W.failures out.old out.new) }
         ensures silent { KeepsSilence self.old.converter.reading self.new.converter.reading out.old

@@ -1,7 +1,7 @@
 -- One token that the lexer gave, and what the reader answered to it.
 use Rattle.pgn_lexer.specs.PartialToken.{refusal as refusal_token}
 use Rattle.pgn_lexer.specs.Scanned.{token, more, fault}
-use Rattle.pgn_game.proofs.Words.{Writing, Reason, Lexical, WriteFault, Profile, Game, Part, ◌≡◌, ℕ, ◌+◌, ◌<◌, ◌≤◌, ◌⊎◌, Bool, false, true, List, [], ◌∷◌, ◌++◌, length, take, drop, Option, None, Some, Result, Ok, Err, refl, sym, ap, subst, ◌∙◌, append_assoc, append-nil, length-append, le_refl, arith, IsTrue, map, sum, take-append-drop, map-append, list_any-append, or_cases, Appends-nil, Appends, Token, EndsAt, tokens_of, Standing, coming, StandsAfter, Follows, AfterScan, first, still, More, Finished, refusal, marker_of, position_if_move, position_in, Next, going, whole, next, Progress, progress_with, progress_after, Read, read, gain, text_next, Gains, plies_of, has_move, ReaderState, Agrees, as_written, IsBehind, whole_plies, plies_next, Leads, Answers, AppendsFront, MostTried, Raises, Tries, TriesUnwritten, sum_by-append, sum_by-cons, LexFault, finished_game_of, Converter, game_in_reader, play_moves, has_played_move, HasRead, refused_stop as refused, unwritten, AreNext, reported_position, FaultAtEnd, SameGames, OneGame, AfterStep, EndsWithin, GainsAs, Meets, NotTaken, Reaches, ReadsMore, due_as, part_after, outcome_at, fault_of, TakesToken, Device, Marker, rules, inl, inr, position_at_fault, due, torn, text_of_games as text_of, ◌||◌}
+use Rattle.pgn_game.proofs.Words.{Writing, Reason, Lexical, WriteFault, Profile, Game, Part, ◌≡◌, ℕ, ◌+◌, ◌<◌, ◌≤◌, ◌⊎◌, Bool, false, true, List, [], ◌∷◌, ◌++◌, length, take, drop, Option, None, Some, Result, Ok, Err, refl, sym, ap, subst, ◌∙◌, append_assoc, append-nil, length-append, le_refl, arith, IsTrue, map, sum, take-append-drop, map-append, list_any-append, or_cases, Appends-nil, Appends, Token, EndsAt, tokens_of, Standing, coming, StandsAfter, Follows, AfterScan, first, still, More, Finished, refusal, marker_of, position_if_move, position_in, Next, going, whole, next, Progress, progress_with, progress_after, Read, read, gain, text_next, Gains, plies_of, has_move, ReaderState, Agrees, as_written, IsBehind, whole_plies, plies_next, Leads, Answers, AppendsFront, MostTried, Raises, Tries, TriesUnwritten, sum_by-append, sum_by-cons, LexFault, finished_game_of, Converter, game_in_reader, play_moves, has_played_move, HasRead, IsLastGame, refused_stop as refused, unwritten, AreNext, reported_position, FaultAtEnd, SameGames, OneGame, AfterStep, EndsWithin, GainsAs, Meets, NotTaken, Reaches, ReadsMore, due_as, part_after, outcome_at, fault_of, TakesToken, Device, Marker, rules, inl, inr, position_at_fault, due, torn, text_of_games as text_of, ◌||◌}
 use Rattle.pgn_game.specs.ReaderState as reader_state
 use Rattle.pgn_game.proofs.tokens.PairsTriedForToken.{most_with, most_to_refused, part_probed, raises_none}
 use Rattle.pgn_game.proofs.tokens.OneMoreToken.{read-passes, read-refuses, due-passes}
@@ -16,6 +16,10 @@ follows_first (x ∷ xs) s = refl
 pub follows_own : (xs : List ℕ) → Follows (first xs) xs
 follows_own [] = tt
 follows_own (x ∷ xs) = refl
+
+pub follows_none : (b : Option ℕ) → Follows b []
+follows_none None = tt
+follows_none (Some x) = tt
 
 -- what is written for a missing Result follows from the profile and what was told
 pub written_same : (old new : ReaderState) → new.profile ≡ old.profile → new.writing ≡ old.writing → as_written new ≡ as_written old
@@ -275,20 +279,25 @@ still_none b (x ∷ xs) h = refl
 pub gains_as_none : (w p : Profile) (given : List Token) {a c : Option (List ℕ)} → c ≡ a → GainsAs w p given given a c
 gains_as_none w p given {a} same = record { text = []; due_for = sym (append-nil (due_as w p given)); appended = rw same (Appends-nil a) }
 
--- the same was read, wherever the lexer stands
+-- the same was read by a converter with the same reader and count
+pub read_as : {p : Profile} {old new : Converter} {given : List Token} → HasRead p old given → new.reading ≡ old.reading → new.games ≡ old.games
+    → new.fault ≡ None → IsLastGame new.just_finished (read p given).progress.games → HasRead p new given
+read_as h same games none last = record {
+  profile = rw same h.profile;
+  no_fault = none;
+  passes = h.passes;
+  agrees = rw same h.agrees;
+  games = games ∙ h.games;
+  plies = rw same h.plies;
+  probed = rw same h.probed;
+  tried = rw same h.tried;
+  just_finished = last;
+}
+
+-- wherever the lexer stands
 pub read_at : (p : Profile) (old : Converter) (given : List Token) (l : Standing) (finished : Bool) → HasRead p old given
     → HasRead p (now_at l old.reading old.games finished) given
-read_at p old given l finished h = record {
-  profile = h.profile;
-  no_fault = refl;
-  passes = h.passes;
-  agrees = h.agrees;
-  games = h.games;
-  plies = h.plies;
-  probed = h.probed;
-  tried = h.tried;
-  just_finished = tt;
-}
+read_at p old given l finished h = read_as h refl refl refl tt
 
 -- No token more was read.
 pub reads_none : (p : Profile) (old : Converter) (given : List Token) (l : Standing) (finished : Bool) {a c : Option (List ℕ)}

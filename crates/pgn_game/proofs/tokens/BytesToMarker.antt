@@ -1,10 +1,11 @@
 -- The bytes of a source, read up to a marker.
 use Rattle.std.specs.Io.KnownBytes.{Keeps, IsAtEnd}
-use Rattle.pgn_game.proofs.Words.{Token, ReadFault, Fault, Profile, ◌≡◌, ℕ, ◌^◌, ◌≤◌, List, [], ◌∷◌, ◌++◌, length, drop, take, Option, None, Some, refl, sym, ap, subst, ◌∙◌, inl, inr, append-nil, append_assoc, take-append-drop, Consumes, Consumes-nil, Consumes-trans, decided, Follows, IsDecided, StandsAfter, first, still, Games, games_of, Converter, HasRead, Reaches, ReadsMore, as_written, MoreSoFar, StandsWithin, StopsIn, at_token, too_long, arith}
+use Rattle.pgn_game.proofs.Words.{Token, ReadFault, Fault, Profile, ◌≡◌, ℕ, ◌^◌, ◌≤◌, List, [], ◌∷◌, ◌++◌, length, drop, take, Option, None, refl, sym, ap, subst, ◌∙◌, inl, inr, append-nil, append_assoc, take-append-drop, Consumes, Consumes-nil, Consumes-trans, decided, IsDecided, StandsAfter, first, still, Games, games_of, Converter, HasRead, Reaches, ReadsMore, as_written, MoreSoFar, StandsWithin, StopsIn, at_token, too_long, arith}
 use Rattle.pgn_game.specs.declared.marker.Mark.{Mark}
 use Rattle.pgn_game.specs.ConverterSteps.{FailsIn, ReadsPiece, ReadsToMarker}
 use Rattle.pgn_game.specs.GamesSteps as games_steps
 use Rattle.pgn_game.specs.GamesSteps.{MeetsNext, ReadsAllOf, StopsBefore, UsesAll}
+use Rattle.pgn_game.proofs.tokens.AcceptedToConverter.{follows_none}
 use Rattle.pgn_game.proofs.tokens.StepsInPiece.{decided_at_end}
 use Rattle.pgn_game.proofs.tokens.GamesInPiece.{behind_first}
 use Rattle.pgn_game.proofs.tokens.MarkerToGame.{reads_none, reads_more, meets_more, not_taken_more}
@@ -33,10 +34,6 @@ front_decided rest (x ∷ xs) none reads = reads.decided (omega arith)
 decided_before : (u piece : List ℕ) {ts : List Token} → IsDecided u [] ts → IsDecided u piece ts
 decided_before u piece (inl e) = inl e
 decided_before u piece (inr (b, e, k)) = absurd (cc)
-
-pub follows_none : (b : Option ℕ) → Follows b []
-follows_none None = tt
-follows_none (Some b) = tt
 
 -- a lexer that stands after bytes has the rest of their tokens left
 reads_all : {p : Profile} {given : List Token} {u : List ℕ} (b : Option ℕ) {ts : List Token} (new now : Converter) {a c : Option (List ℕ)}

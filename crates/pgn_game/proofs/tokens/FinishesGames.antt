@@ -3,8 +3,9 @@ use Rattle.pgn_lexer.specs.Tokens as tokens
 use Rattle.pgn_game.proofs.Words.{Token, Kind, Between, Fault, Profile, Part, Game, ◌≡◌, ℕ, ◌+◌, ◌<◌, Bool, true, false, IsTrue, List, [], ◌∷◌, ◌++◌, length, Option, None, Some, Ok, Err, refl, sym, ap, subst, ◌∙◌, arith, append-nil, append_assoc, length-append, Appends-nil, ◌↔◌, Device, tokens_of, Standing, coming, HasLeft, refusal, is_end, next, progress_with, Progress, Read, read, due, written_so_far as written, Gains, ReaderState, as_written, Converter, HasRead, IsLastGame as IsLast, game_in_reader, game_in_reader_if, Finishes, FinishesToFault, SameGames, ReadsMore, EndsGame, StaysBetween, FaultAtEnd, AtEndSoFar, AfterStepAtEnd, part_after, Stands, false≢true, le_refl}
 use Rattle.pgn_game.specs.declared.marker.Mark.{Mark}
 use Rattle.pgn_game.specs.declared.converter.StepEnd.TheVariants.{Token as Other, Marker as AtMarker}
-use Rattle.pgn_game.specs.ConverterSteps.{LeftSoFar, ReadsToLeftMarker, ReadsToEnd, FailsAtEnd}
+use Rattle.pgn_game.specs.ConverterSteps.{CountsGame, LeftSoFar, ReadsToLeftMarker, ReadsToEnd, FailsAtEnd}
 use Rattle.pgn_game.specs.ConverterCalls.{IsSound}
+use Rattle.pgn_game.proofs.tokens.AcceptedToConverter.{read_as}
 use Rattle.pgn_game.proofs.tokens.OneMoreToken.{read-passes, gains_none, gains_more, stops_more, games_still, counts_still, position_still}
 use Rattle.pgn_game.proofs.tokens.NoneBeforeFault.{none_before_fault}
 use Rattle.pgn_game.proofs.tokens.StepsAtEnd.{left_of, let_go, end_at, is_the_end}
@@ -130,9 +131,8 @@ module _ (p : Profile) (u : List ℕ) (given : List Token) (now : Converter) (fi
 
   -- a marker ends a game
   pub ended_game : ShowsDue p c → (m : Mark) (mid new : Converter) (sink : Device) → ReadsToLeftMarker p u so.tokens m mid c sink.before
-      → EndsGame mid.reading m new.reading (Ok tt) sink → new.lexer ≡ mid.lexer → new.fault ≡ None → new.games ≡ mid.games + 1
-      → new.just_finished ≡ Some (game_in_reader new.reading) → AtEndSoFar p u given new true a sink.after
-  ended_game known m mid new sink leaves ends lexer no_fault games just_finished =
+      → EndsGame mid.reading m new.reading (Ok tt) sink → CountsGame mid new (Ok tt) sink → AtEndSoFar p u given new true a sink.after
+  ended_game known m mid new sink leaves ends counts =
       let meets = leaves.meets in
       let ts = leaves.tokens ++ leaves.token ∷ [] in
       let h = has_read_marker p so.tokens leaves.tokens leaves.token m mid c sink meets new.reading ends new.lexer new.is_finished in
@@ -141,18 +141,8 @@ module _ (p : Profile) (u : List ℕ) (given : List Token) (now : Converter) (fi
       ap (length {A = Game}) one.1 ∙ length-append (read p so.tokens).progress.games (one.0 ∷ []) in
       record {
         tokens = ts;
-        left = rw lexer leaves.left;
-        has_read = record {
-          profile = h.profile;
-          no_fault = no_fault;
-          passes = h.passes;
-          agrees = h.agrees;
-          games = games ∙ h.games;
-          plies = h.plies;
-          probed = h.probed;
-          tried = h.tried;
-          just_finished = rw just_finished h.just_finished;
-        };
+        left = rw counts.lexer leaves.left;
+        has_read = read_as h refl counts.games counts.fault (rw counts.just_finished h.just_finished);
         no_fewer = omega (arith, count, so.no_fewer);
         game = (λ is. omega (arith, count, so.no_fewer), λ more. refl);
         last = λ is between. ((read p so.tokens).progress.games, one.0, one.1, one.2);
@@ -181,17 +171,8 @@ module _ (p : Profile) (u : List ℕ) (given : List Token) (now : Converter) (fi
       let gains : Gains p so.tokens ts c d = gains_more (gains_known p so.tokens to.tokens new c d known ends.reads)
       (record { text = []; due_for = ap (written p) end_is ∙ sym (append-nil (due p to.tokens)); appended = Appends-nil d }) in
       record {
-        has_read = subst (HasRead p _) (sym ends.whole) (record {
-          profile = h.profile;
-          no_fault = h.no_fault;
-          passes = h.passes;
-          agrees = h.agrees;
-          games = h.games;
-          plies = h.plies;
-          probed = h.probed;
-          tried = h.tried;
-          just_finished = hands ts flag (λ is. held_still ts same (subst IsTrue same_flag is) ends.between);
-        });
+        has_read = subst (HasRead p _) (sym ends.whole)
+            (read_as h refl refl h.no_fault (hands ts flag (λ is. held_still ts same (subst IsTrue same_flag is) ends.between)));
         game = rw ends.whole (same_length ts same);
         just_finished = λ is. (game_in_reader new.reading, ap (λ b. game_in_reader_if b new.reading) (same_flag ∙ is));
         none_just_finished = λ is. ap (λ b. game_in_reader_if b new.reading) (same_flag ∙ is);
@@ -234,12 +215,12 @@ module _ (p : Profile) (u : List ℕ) (given : List Token) (now : Converter) (fi
   -- a marker was not taken
   pub failed_game : (f : Fault) → ShowsStop p c f.reason → (l : Standing) (m : Mark) (mid new : Converter) (sink : Device) → HasLeft l u given
       → (read p given).fault ≡ None → ReadsToLeftMarker p u so.tokens m mid c sink.before
-      → EndsGame mid.reading m new.reading (Err f) sink → new.games ≡ mid.games → mid.games ≡ now.games
+      → EndsGame mid.reading m new.reading (Err f) sink → CountsGame mid new (Err f) sink → mid.games ≡ now.games
       → FinishesToFault p u given new f a sink.after
-  failed_game f shows l m mid new sink left passes leaves ends same same_before =
+  failed_game f shows l m mid new sink left passes leaves ends counts same_before =
       let rest = coming mid.lexer [] in
       let cut : tokens_of u ≡ leaves.tokens ++ leaves.token ∷ rest =
       leaves.left ∙ append_assoc leaves.tokens (leaves.token ∷ []) rest in
       ended_badly f l new sink.after left passes
       (subst (λ ts. FaultAtEnd p so.tokens ts f new.reading c sink.after) (sym cut)
-      (fault_of_marker p so.tokens leaves.tokens leaves.token m mid c sink leaves.meets new.reading rest f shows ends)) (same ∙ same_before)
+      (fault_of_marker p so.tokens leaves.tokens leaves.token m mid c sink leaves.meets new.reading rest f shows ends)) (counts.games ∙ same_before)

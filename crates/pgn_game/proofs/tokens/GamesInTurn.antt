@@ -1,5 +1,5 @@
 -- Games read in turn from a source.
-use Rattle.pgn_game.proofs.Words.{bytes_seen, WriteFault, Token, Fault, Profile, Game, no_part, ◌≡◌, ℕ, ◌+◌, ◌^◌, ◌≤◌, Bool, true, false, List, [], ◌∷◌, ◌++◌, length, Option, None, Some, Result, Ok, Err, refl, sym, ap, subst, ◌∙◌, inl, inr, append-nil, length-append, arith, Consumes-nil, tokens_of, decided, coming, first, Gains, Games, games_of, HasReadAll, HaveRead, within, at_end, NextGame, NoGame, NextStops, AfterNext, IsTrue, is_ok, text_of_games as text_of, whole, next, Progress, read, read_from, written_so_far as written, Converter, AfterFinish, Finishes, FinishesToFault, rules, Reason, refusal, Next, going, progress_with, Read, finished_game_of, HasRead, no_progress, Device, FinishedGame, game_in_reader, IsKnown, Stands, MoreSoFar, StandsWithin, EndsGame}
+use Rattle.pgn_game.proofs.Words.{bytes_seen, WriteFault, Token, Fault, Profile, Game, no_part, ◌≡◌, ℕ, ◌^◌, ◌≤◌, Bool, true, false, List, [], ◌∷◌, ◌++◌, length, Option, None, Some, Result, Ok, Err, refl, sym, ap, subst, ◌∙◌, inl, inr, append-nil, length-append, arith, Consumes-nil, tokens_of, decided, coming, first, Gains, Games, games_of, HasReadAll, HaveRead, within, at_end, NextGame, NoGame, NextStops, AfterNext, IsTrue, is_ok, text_of_games as text_of, whole, next, Progress, read, read_from, written_so_far as written, Converter, AfterFinish, Finishes, FinishesToFault, rules, Reason, refusal, Next, going, progress_with, Read, finished_game_of, HasRead, no_progress, Device, FinishedGame, IsKnown, Stands, MoreSoFar, StandsWithin, EndsGame}
 use Rattle.pgn_game.specs.declared.marker.Mark.{Mark}
 use Rattle.pgn_game.specs.GamesCalls as games_calls
 use Rattle.pgn_game.specs.GamesCalls.{ReadsNoGame}
@@ -7,10 +7,11 @@ use Rattle.pgn_game.specs.GamesSteps as games_steps
 use Rattle.pgn_game.specs.GamesSteps.{MeetsNext, ReadsAllOf, StopsBefore, UsesAll}
 use Rattle.pgn_game.proofs.tokens.OneMoreToken.{read-passes, read-refuses, stops_from, torn-none, gains_none, gains_more, stops_more, games_still}
 use Rattle.pgn_game.proofs.tokens.OneMoreToken.{counts_still}
-use Rattle.pgn_game.proofs.tokens.BytesToMarker.{follows_none}
 use Rattle.pgn_game.proofs.tokens.LastTokens.{AddsOne, left_games, left_none_begun}
 use Rattle.pgn_game.proofs.tokens.MarkerToGame.{shows_due, shows_stop, fault_not_taken, fault_of_marker, gains_known, gains_marker, game_by_marker, has_read_marker}
 use Rattle.pgn_game.proofs.tokens.NoneBeforeFault.{reads_behind}
+use Rattle.pgn_game.specs.ConverterSteps.{CountsGame}
+use Rattle.pgn_game.proofs.tokens.AcceptedToConverter.{follows_none, read_as}
 use Rattle.pgn_game.proofs.tokens.StepsAtEnd.{let_go}
 
 -- ---- the text of a game
@@ -83,23 +84,12 @@ module _ (p : Profile) (silent : Bool) (known : silent ≡ false → IsKnown p) 
 
   -- The marker is taken, or not.
   module _ (m : Mark) (mid : Games) (sink : Device) (met : MeetsNext p u given left_old left m mid a sink.before) (new : Converter) where
-    pub game_read : new.reading.writing.is_silent ≡ silent → EndsGame mid.converter.reading m new.reading (Ok tt) sink → new.lexer ≡ mid.converter.lexer
-        → new.is_finished ≡ false → new.fault ≡ None → new.games ≡ mid.converter.games + 1
-        → new.just_finished ≡ Some (game_in_reader new.reading) → NextGame p u given left_old left (games_of new mid.unused) a sink.after
-    game_read same ends lexer not_finished no_fault games finished =
+    pub game_read : new.reading.writing.is_silent ≡ silent → EndsGame mid.converter.reading m new.reading (Ok tt) sink
+        → CountsGame mid.converter new (Ok tt) sink → NextGame p u given left_old left (games_of new mid.unused) a sink.after
+    game_read same ends counts =
         let ts = met.tokens ++ met.token ∷ [] in
         let h = has_read_marker p given met.tokens met.token m mid.converter a sink met.meets new.reading ends new.lexer false in
-        let has_read : HasRead p new ts = record {
-          profile = h.profile;
-          no_fault = no_fault;
-          passes = h.passes;
-          agrees = h.agrees;
-          games = games ∙ h.games;
-          plies = h.plies;
-          probed = h.probed;
-          tried = h.tried;
-          just_finished = rw finished h.just_finished;
-        } in
+        let has_read : HasRead p new ts = read_as h refl counts.games counts.fault (rw counts.just_finished h.just_finished) in
         let one = game_by_marker p given met.tokens met.token m mid.converter a sink met.meets new.reading ends in
         record {
           more = met.more;
@@ -108,15 +98,15 @@ module _ (p : Profile) (silent : Bool) (known : silent ≡ false → IsKnown p) 
           have_read = within (record {
             used = met.stands.used;
             bytes = met.stands.bytes;
-            stands = record { known = λ writes. known (sym same ∙ writes); lexer = rw lexer met.stands.lexer; has_read = has_read };
+            stands = record { known = λ writes. known (sym same ∙ writes); lexer = rw counts.lexer met.stands.lexer; has_read = has_read };
             at_limit = met.stands.at_limit;
             decided = met.stands.decided;
-            not_finished = not_finished;
+            not_finished = counts.not_finished;
           });
           next = λ going. met.next;
           game = one.0;
           one_game = one.1;
-          just_finished = finished ∙ ap (λ (game : FinishedGame). Some game) one.2;
+          just_finished = counts.just_finished ∙ ap (λ (game : FinishedGame). Some game) one.2;
           whole = due_between p (read p ts).progress (none_behind p met.tokens met.token one.0 h.passes
               (one.1 ∙ ap (λ gs. gs ++ one.0 ∷ []) (sym met.meets.reads.no_game)));
           gains = gains_marker p given met.tokens met.token m mid.converter a sink met.meets new.reading ends (shows_due p silent bytes known);

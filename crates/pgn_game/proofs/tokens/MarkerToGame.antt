@@ -1,15 +1,9 @@
 -- The tokens up to a marker, and the game that it ends; or the token that was not taken.
-use Rattle.pgn_game.proofs.Words.{Writing, Token, Fault, Profile, Missing, counts_as, takes_the_marker, Game, ◌≡◌, ℕ, ◌+◌, Bool, false, List, [], ◌∷◌, ◌++◌, Option, None, Some, Result, Ok, Err, refl, sym, ap, subst, ◌∙◌, Device, Appends, Appends-nil, Appends-trans, append-nil, append_assoc, Standing, Finished, IsAccepted, Reason, WriteFault, IsTrue, true, ◌⊎◌, inl, inr, bytes_seen, due, with_missing, counting, ReaderState, IsKnown, as_written, known_text, Gains, finished_game_of, Converter, game_in_reader, HasRead, TakesToken, FaultAtEnd, OneGame, SameGames, ReadsMore, Meets, NotTaken, EndsGame, due_as, ended_by, part_after}
+use Rattle.pgn_game.proofs.Words.{Token, Fault, Profile, Missing, counts_as, takes_the_marker, Game, ◌≡◌, ℕ, ◌+◌, Bool, false, List, [], ◌∷◌, ◌++◌, Option, None, Some, Result, Ok, Err, refl, sym, ap, subst, ◌∙◌, Device, Appends, Appends-nil, Appends-trans, append-nil, append_assoc, Standing, Finished, IsAccepted, Reason, WriteFault, IsTrue, true, ◌⊎◌, inl, inr, bytes_seen, due, with_missing, counting, ReaderState, IsKnown, as_written, known_text, Gains, finished_game_of, Converter, game_in_reader, HasRead, TakesToken, FaultAtEnd, OneGame, SameGames, ReadsMore, Meets, NotTaken, EndsGame, due_as, ended_by, part_after}
 use Rattle.pgn_game.specs.declared.marker.Mark.{Mark as CodeMark}
 use Rattle.pgn_game.specs.Profile.{known_result}
 use Rattle.pgn_game.proofs.tokens.OneMoreToken.{due_grows, gains_more, stops_more, games_still, counts_still, position_still}
-use Rattle.pgn_game.proofs.tokens.AcceptedToConverter.{at_fault, at_refusal, gains_token, has_read_game, one_game}
-
--- readers of the same profile that were told the same write alike
-pub written_same : (old new : ReaderState) → new.profile ≡ old.profile → new.writing ≡ old.writing → as_written new ≡ as_written old
-written_same old new profile writing =
-    ap (λ (q : Profile). counting q (known_text q.missing_result new.writing.told)) profile
-    ∙ ap (λ (w : Writing). counting old.profile (known_text old.profile.missing_result w.told)) writing
+use Rattle.pgn_game.proofs.tokens.AcceptedToConverter.{at_fault, at_refusal, gains_token, has_read_game, one_game, written_same}
 
 -- where a missing Result counts as a text, that is written
 known_is : (missing : Missing) (told : Option (List ℕ)) → missing ≡ counts_as (known_result missing) → counts_as (known_text missing told) ≡ missing

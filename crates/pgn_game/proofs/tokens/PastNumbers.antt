@@ -4,11 +4,11 @@ use Rattle.pgn_lexer.specs.WholeTokens.{Passes, is_passed, none, over_space, ove
 use Rattle.pgn_game.specs.ConverterSteps.{ReadsOn}
 use Rattle.pgn_game.specs.PutResult.{MeetsEntry, PutsItems, TakesEntry, TakesUnlessMarker}
 use Rattle.pgn_lexer.specs.declared.token.TokenKind.TheVariants as token_kinds
-use Rattle.pgn_game.proofs.Words.{Bool, Marker, Kind, Token, Standing, waiting, InMovetext, ReaderState, Profile, Converter, Device, Reason, ◌≡◌, ℕ, ◌+◌, ◌*◌, ◌<◌, ◌≤◌, List, [], ◌++◌, length, take, drop, Option, None, Ok, IsTrue, refl, sym, ap, subst, ◌∙◌, arith, inl, Appends-nil, More, kind_of, TokenKind, Result, Accepted, may_have_movetext, TakesToken, Reaches, SoFar, first, StandsAfter, next_at, still, decided}
+use Rattle.pgn_game.proofs.Words.{length-drop, Bool, Marker, Kind, Token, Standing, waiting, InMovetext, ReaderState, Profile, Converter, Device, Reason, ◌≡◌, ℕ, ◌+◌, ◌*◌, ◌<◌, ◌≤◌, List, [], ◌++◌, length, take, drop, Option, None, Ok, IsTrue, refl, sym, ap, subst, ◌∙◌, arith, inl, Appends-nil, More, kind_of, TokenKind, Result, Accepted, may_have_movetext, TakesToken, Reaches, SoFar, first, StandsAfter, next_at, still, decided}
 use Rattle.pgn_game.proofs.ReaderLemmas.{enters, entry_in_movetext, entry_met, begun_before, puts_number, passes_entry, number_no_score, number_free, number_leads, number_untried}
 use Rattle.pgn_game.proofs.tokens.AcceptedToConverter.{ends_within, follows_own, now_at, read_at, reads_token, still_none}
 use Rattle.pgn_game.proofs.tokens.MarkerToGame.{reads_none, reads_more}
-use Rattle.pgn_game.proofs.tokens.StepsInPiece.{before_any, follows_front, further, reads_on_none, so_far_more, so_far_none, stands_here}
+use Rattle.pgn_game.proofs.tokens.StepsInPiece.{before_any, follows_front, further, reads_on_none, so_far_on, reads_one, so_far_none, stands_here}
 
 -- ---- how far the lexer gets
 
@@ -114,11 +114,11 @@ module _ (p : Profile) (old : Converter) (u : List ℕ) (given : List Token) (pi
       let so = so_far_past passes in
       let here = stands_here p u (first piece) given piece m (now l) o o so within in
       let scan = scans.carries (u ++ take m piece) (first rest) so.tokens here.lexer (follows_own rest) in
-      so_far_more p u (first piece) given piece m (now l) o o o so within (now new) refl n (
+      so_far_on p u (first piece) given piece m (now l) o o o so within (now new) refl n (reads_one (omega (arith, length-drop m piece, within)) (
         t,
         ends_within here scan scans.ends scans.count,
         reads_token p (now l) so.tokens t new old.reading old.is_finished (still_at o 0) here.has_read (takes_passed old.reading t.kind o 0 (at skipped) passed),
-      )
+      ))
 
   pub reads_past : {new : Standing} {n : ℕ} → Passes skips old.lexer piece new n → ReadsOn p u given piece (now new) n o o
   reads_past none = reads_on_none p (now old.lexer) u given piece o here_now

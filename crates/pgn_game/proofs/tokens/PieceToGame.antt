@@ -1,8 +1,9 @@
 -- A piece that was read up to a marker, and the game that the marker ends, or the fault there.
 use Rattle.pgn_game.specs.declared.marker.Mark.{Mark}
-use Rattle.pgn_game.specs.ConverterSteps.{ReadsPiece, ReadsToMarker, FailsIn}
-use Rattle.pgn_game.proofs.Words.{Bool, false, IsTrue, bytes_seen, WriteFault, Fault, Profile, Token, Device, still, ReaderState, Converter, Stands, Reaches, IsKnown, EndsGame, FedAll, FedGame, FedToFault, StopsIn, at_token, too_long, AreNext, within_limit, IsLastGame, FaultAtEnd, FinishedGame, game_in_reader, read, ◌≡◌, ℕ, ◌+◌, List, [], ◌∷◌, ◌++◌, Option, None, Some, Ok, Err, refl, sym, ap, subst, ◌∙◌}
+use Rattle.pgn_game.specs.ConverterSteps.{CountsGame, ReadsPiece, ReadsToMarker, FailsIn}
+use Rattle.pgn_game.proofs.Words.{Bool, false, IsTrue, bytes_seen, WriteFault, Fault, Profile, Token, Device, still, ReaderState, Converter, Stands, Reaches, IsKnown, EndsGame, FedAll, FedGame, FedToFault, StopsIn, at_token, too_long, AreNext, within_limit, FaultAtEnd, FinishedGame, ◌≡◌, ℕ, List, [], ◌∷◌, ◌++◌, Option, None, Some, Ok, Err, refl, sym, ap, ◌∙◌}
 use Rattle.pgn_game.proofs.tokens.MarkerToGame.{shows_due, shows_stop, gains_known, fault_not_taken, has_read_marker, game_by_marker, gains_marker, fault_of_marker}
+use Rattle.pgn_game.proofs.tokens.AcceptedToConverter.{read_as}
 use Rattle.pgn_game.proofs.tokens.StepsInPiece.{lets_go}
 
 pub reaches : {p : Profile} {old : Converter} {u : List ℕ} {b : Option ℕ} {given : List Token}
@@ -71,9 +72,9 @@ module _ (p : Profile) (silent : Bool) (known : silent ≡ false → IsKnown p) 
   -- a marker ends in it, which was met by the converter c
   module _ (piece : List ℕ) (used : ℕ) (m : Mark) (c : Converter) (sink : Device)
       (reads : ReadsToMarker p u given piece used m c a sink.before) (new : Converter) where
-    pub fed_game : new.reading.writing.is_silent ≡ silent → EndsGame c.reading m new.reading (Ok tt) sink → new.lexer ≡ c.lexer → new.games ≡ c.games + 1
-        → new.just_finished ≡ Some (game_in_reader new.reading) → new.fault ≡ None → FedGame p u given piece used new a sink.after
-    fed_game same ends lexer games finished fault =
+    pub fed_game : new.reading.writing.is_silent ≡ silent → EndsGame c.reading m new.reading (Ok tt) sink → CountsGame c new (Ok tt) sink
+        → FedGame p u given piece used new a sink.after
+    fed_game same ends counts =
         let ts = reads.tokens ++ reads.token ∷ [] in
         let h = has_read_marker p given reads.tokens reads.token m c a sink reads.meets new.reading ends new.lexer new.is_finished in
         let one = game_by_marker p given reads.tokens reads.token m c a sink reads.meets new.reading ends in
@@ -83,18 +84,8 @@ module _ (p : Profile) (silent : Bool) (known : silent ≡ false → IsKnown p) 
           game = one.0;
           stands = record {
             known = known_still new.reading same;
-            lexer = rw lexer reads.ends.stands;
-            has_read = record {
-              profile = h.profile;
-              no_fault = fault;
-              passes = h.passes;
-              agrees = h.agrees;
-              games = games ∙ h.games;
-              plies = h.plies;
-              probed = h.probed;
-              tried = h.tried;
-              just_finished = subst (λ o. IsLastGame o (read p ts).progress.games) (sym finished) h.just_finished;
-            };
+            lexer = rw counts.lexer reads.ends.stands;
+            has_read = read_as h refl counts.games counts.fault (rw counts.just_finished h.just_finished);
           };
           at_limit = reads.at_limit;
           decided = reads.ends.decided;
@@ -102,7 +93,7 @@ module _ (p : Profile) (silent : Bool) (known : silent ≡ false → IsKnown p) 
           ends = reads.ends.ends;
           no_game = reads.meets.reads.no_game;
           one_game = one.1;
-          just_finished = finished ∙ ap (λ (g : FinishedGame). Some g) one.2;
+          just_finished = counts.just_finished ∙ ap (λ (g : FinishedGame). Some g) one.2;
           gains = gains_marker p given reads.tokens reads.token m c a sink reads.meets new.reading ends (shows_due p silent bytes known);
         }
 

@@ -1,12 +1,12 @@
 -- Steps behind the last piece, and how small the counts stay.
 use Rattle.pgn_lexer.specs.Tokens as tokens
 use Rattle.pgn_lexer.specs.PartialToken.{refusal as refusal_token}
-use Rattle.pgn_game.proofs.Words.{length, Kind, Token, Stage, Between, Reason, Lexical, Fault, Profile, Pair, Item, Game, Part, no_part, ◌≡◌, ℕ, ◌+◌, ◌<◌, ◌≤◌, Bool, true, false, ◌&&◌, List, [], ◌∷◌, ◌++◌, Option, None, Some, Result, Ok, Err, is_ok, refl, sym, subst, append-nil, append_assoc, Appends, arith, ◌*◌, ◌^◌, IsTrue, is_some, Device, tokens_of, Standing, waiting, HasLeft, IsNext, FinishGivesToken, More, refusal, is_end, marker_of, Marker, next, gain, progress_with, Progress, read, ReaderState, Agrees, HoldsPairs, as_written, CountsWrites, Keeps, TakesToken, AfterStepAtEnd, ReadsMore, due_as, part_after, outcome_at, fault_of, LexFault, Converter, IsSound, game_in_reader_if, HasRead, Stands, CountsFault, CountsReason, IsStill, rules, ap, ◌∙◌, coming, none-some, false≢true, Follows}
+use Rattle.pgn_game.proofs.Words.{length, Kind, Token, Stage, Between, Reason, Lexical, Fault, Profile, Pair, Item, Game, Part, no_part, ◌≡◌, ℕ, ◌+◌, ◌<◌, ◌≤◌, Bool, true, false, ◌&&◌, List, [], ◌∷◌, ◌++◌, Option, None, Some, Result, Ok, Err, is_ok, refl, sym, subst, append-nil, append_assoc, Appends, arith, ◌*◌, ◌^◌, IsTrue, is_some, Device, tokens_of, Standing, waiting, HasLeft, IsNext, FinishGivesToken, More, refusal, is_end, marker_of, Marker, next, gain, progress_with, Progress, read, ReaderState, Agrees, HoldsPairs, as_written, CountsWrites, Keeps, TakesToken, AfterStepAtEnd, ReadsMore, due_as, part_after, outcome_at, fault_of, LexFault, Converter, IsSound, game_in_reader_if, HasRead, Stands, CountsFault, CountsReason, IsStill, rules, ap, ◌∙◌, coming, none-some, false≢true}
 use Rattle.pgn_game.specs.PutResult.{TakesUnlessMarker}
-use Rattle.pgn_game.specs.ConverterSteps.{IsBeforePiece, IsBeforeToken, IsReadyAfter, StepAdvances, StepAtEndAdvances, is_ended}
+use Rattle.pgn_game.specs.ConverterSteps.{IsBeforePiece, IsBeforeToken, IsReadyAfter, KeepsRest, StepAdvances, StepAtEndAdvances, is_ended}
 use Rattle.pgn_game.proofs.tokens.OneMoreToken.{read-passes}
 use Rattle.pgn_game.proofs.tokens.EndOfText.{end_place}
-use Rattle.pgn_game.proofs.tokens.AcceptedToConverter.{has_read_more, meets_marker, not_taken, not_taken_lexical, now_at, read_at, reads_token}
+use Rattle.pgn_game.proofs.tokens.AcceptedToConverter.{follows_none, has_read_more, meets_marker, not_taken, not_taken_lexical, now_at, read_as, read_at, written_same, reads_token}
 
 -- what is left behind a token: nothing behind the end
 abbrev pub Left : List ℕ → List Token → Bool → Standing → Token → Type 0
@@ -64,17 +64,7 @@ end_passes p b k e none =
     (end_at p b.part.stage b.part.pairs b.part.name b.part.items (rw k_is at none)))
 
 pub let_go : (p : Profile) (c : Converter) (given : List Token) → HasRead p c given → HasRead p (record c { just_finished = None }) given
-let_go p c given h = record {
-  profile = h.profile;
-  no_fault = h.no_fault;
-  passes = h.passes;
-  agrees = h.agrees;
-  games = h.games;
-  plies = h.plies;
-  probed = h.probed;
-  tried = h.tried;
-  just_finished = tt;
-}
+let_go p c given h = read_as h refl refl h.no_fault tt
 
 -- the end, where it passes, is behind no part of a game, and adds nothing
 end_part : {r : ReaderState} {part : Part} → Agrees r part → part.stage ≡ Between → part ≡ no_part
@@ -163,6 +153,20 @@ kept old new k d (Ok None) takes = takes.keeps
 kept old new k d (Ok (Some marker)) meets =
     record { profile = meets.enters.profile; writing = meets.enters.writing; plies = omega (arith, meets.enters.plies); probes = meets.enters.probes }
 kept old new k d (Err why) takes = takes.0.keeps
+
+-- What is kept of a converter whose reader was asked, and the fault that is kept.
+pub keeps_met : {A : Type 0} {view old new : Converter} {is_finished : Bool} {result : Result A Fault} → view ≡ old → Keeps view.reading new.reading
+    → new.games ≡ view.games → new.just_finished ≡ None → new.is_finished ≡ is_finished → new.fault ≡ fault_of result
+    → KeepsRest old new is_finished result
+keeps_met {view = view} {new = new} same keeps games none_just_finished finished fault =
+    record {
+      written = written_same view.reading new.reading keeps.profile keeps.writing ∙ ap (λ (s : Converter). as_written s.reading) same;
+      games = games ∙ ap (λ (s : Converter). s.games) same;
+      none_just_finished = none_just_finished;
+      finished = finished;
+      probes = omega (arith, ap (λ (s : Converter). s.reading.most_probes) same, keeps.probes);
+      fault = fault;
+    }
 
 -- a marker that was met behind the last piece can be taken
 pub ready_at_end : (old new : Standing) (before after : ReaderState) (games at : ℕ) (k : Kind) (d : Device)
@@ -306,11 +310,7 @@ not_just_finished false r h = refl
 
 pub left_of : (p : Profile) (old : Converter) (u : List ℕ) (b : Option ℕ) (given : List Token)
     → Stands p old u b given → HasLeft old.lexer u given
-left_of p old u b given stands = ap tokens_of (sym (append-nil u)) ∙ stands.lexer.tokens [] (follows_end b)
-  where
-    follows_end : (b : Option ℕ) → Follows b []
-    follows_end None = tt
-    follows_end (Some x) = tt
+left_of p old u b given stands = ap tokens_of (sym (append-nil u)) ∙ stands.lexer.tokens [] (follows_none b)
 
 -- while no game is just finished a converter owes no more
 pub sound_at_none : (lexer : Standing) (reading : ReaderState) (games : ℕ) (has_finished_game is_finished : Bool) (fault : Option Fault)

@@ -4,29 +4,15 @@ use Rattle.pgn_game.specs.declared.marker.Mark.{Mark}
 use Rattle.pgn_game.specs.declared.converter.StepEnd.TheVariants.{Token as Other, Marker as AtMarker}
 use Rattle.pgn_game.specs.declared.converter.StepEnd.{StepEnd}
 use Rattle.pgn_game.specs.ConverterSteps.{AfterSteps, ReadsOn, ReadsPiece, ReadsToMarker, FailsIn}
-use Rattle.pgn_game.proofs.Words.{InputTooLong, Fault, Profile, take-append-drop, take-take, drop-take, drop-drop, Token, decided, Follows, IsDecided, first, still, Standing, StandsAfter, ReaderState, as_written, Converter, Stands, Reaches, EndsWithin, StopsIn, within_limit, too_long, ◌≡◌, ℕ, ◌+◌, ◌-◌, ◌<◌, ◌≤◌, ◌^◌, zero, suc, List, [], ◌∷◌, ◌++◌, length, take, drop, Option, None, Some, refl, sym, ap, subst, ◌∙◌, append_assoc, append-nil, length-append, length-drop, length-take, le_refl, drop_of_length-le, inl, inr, arith, Result, Ok, Err, take-add, AfterStep, next_at, SoFar, EndsAt}
+use Rattle.pgn_game.proofs.Words.{InputTooLong, Fault, Profile, take-append-drop, take-take, drop-take, drop-drop, Token, decided, Follows, IsDecided, first, still, Standing, StandsAfter, ReaderState, as_written, Converter, Stands, Reaches, StopsIn, within_limit, too_long, ◌≡◌, ℕ, ◌+◌, ◌-◌, ◌<◌, ◌≤◌, ◌^◌, zero, suc, List, [], ◌∷◌, ◌++◌, length, take, drop, Option, None, Some, refl, sym, ap, subst, ◌∙◌, append_assoc, append-nil, length-append, length-drop, length-take, le_refl, drop_of_length-le, inl, inr, arith, Result, Ok, Err, take-add, AfterStep, next_at, SoFar, EndsAt}
 use Rattle.pgn_game.proofs.tokens.MarkerToGame.{reads_none, reads_more, meets_more, not_taken_more}
-use Rattle.pgn_game.proofs.tokens.AcceptedToConverter.{follows_own, next_in_piece, still_none}
+use Rattle.pgn_game.proofs.tokens.AcceptedToConverter.{follows_own, next_in_piece, read_as, still_none}
 use Rattle.pgn_game.proofs.tokens.BytesWithinLimit.{all_within, front_within}
 
 pub lets_go : (p : Profile) (old : Converter) (u : List ℕ) (b : Option ℕ) (given : List Token)
     → Reaches p old u b given → Reaches p (record old { just_finished = None }) u b given
 lets_go p old u b given reaches =
-    let h = reaches.has_read in
-    record {
-      lexer = reaches.lexer;
-      has_read = record {
-        profile = h.profile;
-        no_fault = h.no_fault;
-        passes = h.passes;
-        agrees = h.agrees;
-        games = h.games;
-        plies = h.plies;
-        probed = h.probed;
-        tried = h.tried;
-        just_finished = tt;
-      };
-    }
+    record { lexer = reaches.lexer; has_read = read_as reaches.has_read refl refl reaches.has_read.no_fault tt }
 
 -- what follows the first byte of the piece follows the byte known
 follows_from : (b : Option ℕ) (x : ℕ) (xs s : List ℕ) → Follows b (x ∷ xs) → Follows (Some x) s → Follows b s
@@ -97,32 +83,6 @@ module _ (p : Profile) (u : List ℕ) (b : Option ℕ) (given : List Token) (pie
     (new : Converter) (written : as_written new.reading ≡ as_written now.reading) where
   some : 0 < length piece
   some = omega (arith, within)
-
-  ends_further : (used : ℕ) {t : Token} → EndsWithin (u ++ take at piece) so.tokens (drop at piece) used t new.lexer
-      → EndsWithin u so.tokens piece (at + used) t new.lexer
-  ends_further used {t} ends =
-      let ts = so.tokens ++ t ∷ [] in
-      let place : length (u ++ take at piece) + used ≡ length u + (at + used) =
-      omega (arith, length-append u (take at piece), length-take-le at piece (omega (arith, within))) in
-      record {
-        stands = subst (λ xs. StandsAfter new.lexer (u ++ take (at + used) piece) (first xs) ts) (drop-drop used at piece)
-            (rw (further u piece at used) at ends.stands);
-        decided = subst (λ xs. IsDecided (u ++ take (at + used) piece) xs ts) (drop-drop used at piece)
-            (rw (further u piece at used) at ends.decided);
-        ends = subst (EndsAt t.kind t.at) place ends.ends;
-      }
-
-  pub so_far_more : (used : ℕ) → AfterStep p (u ++ take at piece) so.tokens (drop at piece) new used (Ok (Some Other)) c d
-      → SoFar p u b given piece (at + used) new a d
-  so_far_more used (t, ends, reads) =
-      let there = ends_further used ends in
-      record {
-        tokens = so.tokens ++ t ∷ [];
-        stands = rw (next_within b piece (at + used) some) there.stands;
-        decided = λ h. there.decided;
-        empty = λ none. absurd (omega (arith, none, within));
-        reads = reads_more p given so.tokens now a c so.reads _ new d reads written;
-      }
 
   -- more was read of the rest
   known_there : (used : ℕ) → next_at (first (drop at piece)) (drop at piece) used ≡ next_at b piece (at + used)
@@ -195,45 +155,6 @@ module _ (p : Profile) (u : List ℕ) (b : Option ℕ) (given : List Token) (pie
         fails = not_taken_more p given so.tokens now a c so.reads to.tokens to.token f new.reading d to.fails written;
       }
 
-  pub reads_all : (used : ℕ) → AfterStep p (u ++ take at piece) so.tokens (drop at piece) new used (Ok None) c d
-      → ReadsPiece p u b given piece new a d
-  reads_all used (all, stands, is_decided, reads) =
-      record {
-        tokens = so.tokens;
-        stands = rw (still_none b piece some) (rw (whole_piece u piece at) at stands);
-        decided = λ h. is_decided ∙ ap decided (whole_piece u piece at);
-        empty = so.empty;
-        reads = reads_more p given so.tokens now a c so.reads _ new d reads written;
-      }
-
-  pub reads_to_marker : (used : ℕ) (m : Mark) → length u + length piece ≤ 2 ^ 62
-      → AfterStep p (u ++ take at piece) so.tokens (drop at piece) new used (Ok (Some (AtMarker m))) c d
-      → ReadsToMarker p u given piece (at + used) m new a d
-  reads_to_marker used m short (t, ends, meets) =
-      let there = ends_further used ends in
-      record {
-        tokens = so.tokens;
-        token = t;
-        ends = there;
-        at_limit =
-            λ h. decided_at_end (u ++ take (at + used) piece) _ (subst (λ xs. IsDecided (u ++ take (at + used) piece) xs (so.tokens ++ t ∷ []))
-            (drop_of_length-le piece (omega (arith, h, short, length-append u (take (at + used) piece), length-take (at + used) piece)))
-            there.decided);
-        next = rw (all_within (u ++ piece) (omega (arith, short, length-append u piece)))
-            (next_in_piece new.lexer u piece (at + used) there.stands);
-        meets = meets_more p given so.tokens now a c so.reads so.tokens t m new d meets written;
-      }
-
-  pub fails_in : (used : ℕ) (f : Fault) → AfterStep p (u ++ take at piece) so.tokens (drop at piece) new used (Err f) c d
-      → FailsIn p (u ++ piece) given f new.reading a d
-  fails_in used f (t, next, fails) =
-      record {
-        tokens = so.tokens;
-        token = t;
-        next = rw (whole_piece u piece at) at next;
-        fails = not_taken_more p given so.tokens now a c so.reads so.tokens t f new.reading d fails written;
-      }
-
 -- ---- from the first byte of the piece on
 
 -- no byte was used
@@ -246,24 +167,6 @@ reads_on_none p old u given piece o reaches =
 module _ (p : Profile) (u : List ℕ) (given : List Token) (piece : List ℕ) (at : ℕ) (now : Converter)
     (a c d : Option (List ℕ)) (on : ReadsOn p u given piece now at a c) (within : at < length piece)
     (new : Converter) (written : as_written new.reading ≡ as_written now.reading) (used : ℕ) where
-  -- one token more
-  pub after_step : (outcome : Result (Option StepEnd) Fault) → length u + length piece ≤ 2 ^ 62
-      → AfterStep p (u ++ take at piece) on.so.tokens (drop at piece) new used outcome c d
-      → AfterSteps p u given piece new (at + used) outcome a d
-  unfolding so_far_more
-  after_step (Ok None) short after = (
-    omega (arith, after.0, length-drop at piece, within),
-    reads_all p u (first piece) given piece at now a c d on.so within new written used after,
-  )
-  after_step (Ok (Some Other)) short after =
-      record {
-        so = so_far_more p u (first piece) given piece at now a c d on.so within new written used after;
-        decided = inl (ends_further p u (first piece) given piece at now a c d on.so within new written used after.1).decided;
-      }
-  after_step (Ok (Some (AtMarker m))) short after =
-      reads_to_marker p u (first piece) given piece at now a c d on.so within new written used m short after
-  after_step (Err f) short after = fails_in p u (first piece) given piece at now a c d on.so within new written used f after
-
   -- more tokens
   pub after_steps : (outcome : Result (Option StepEnd) Fault)
       → AfterSteps p (u ++ take at piece) on.so.tokens (drop at piece) new used outcome c d
@@ -287,18 +190,49 @@ module _ (p : Profile) (u : List ℕ) (given : List Token) (piece : List ℕ) (a
       marker_on p u (first piece) given piece at now a c d on.so within new written used m after
   after_steps (Err f) after = fails_on p u (first piece) given piece at now a c d on.so within new written f after
 
--- one token, from the first byte of the piece on
-pub after_token : (p : Profile) (old : Converter) (u : List ℕ) (given : List Token) (piece : List ℕ) (o : Option (List ℕ))
-    → Reaches p old u (first piece) given → 0 < length piece → (new : Converter) → as_written new.reading ≡ as_written old.reading
-    → (used : ℕ) (outcome : Result (Option StepEnd) Fault) (after : Option (List ℕ)) → length u + length piece ≤ 2 ^ 62
-    → AfterStep p u given piece new used outcome o after → AfterSteps p u given piece new used outcome o after
-unfolding reads_on_none so_far_none
-after_token p old u given piece o reaches some new written used outcome after short step =
-    let on = reads_on_none p old u given piece o reaches in
-    let all : 0 + used ≡ used = omega arith in
-    subst (λ n. AfterSteps p u given piece new n outcome o after) all
-    (after_step p u given piece 0 old o o after on some new written used outcome short
-    (subst (λ v. AfterStep p v given piece new used outcome o after) (sym (append-nil u)) step))
+-- one token of it
+pub reads_one : {p : Profile} {u : List ℕ} {given : List Token} {piece : List ℕ} {new : Converter} {used : ℕ} {a c : Option (List ℕ)}
+    → 0 < length piece → AfterStep p u given piece new used (Ok (Some Other)) a c → ReadsOn p u given piece new used a c
+reads_one {u = u} {given = given} {piece = piece} {new = new} {used = used} some (t, ends, reads) =
+    record {
+      so = record {
+        tokens = given ++ t ∷ [];
+        stands = subst (λ k. StandsAfter new.lexer (u ++ take used piece) k (given ++ t ∷ [])) (sym (next_within (first piece) piece used some)) ends.stands;
+        decided = λ h. ends.decided;
+        empty = λ none. absurd (omega (arith, none, some));
+        reads = reads;
+      };
+      decided = inl ends.decided;
+    }
+
+-- a step of at most one token
+pub after_token : (p : Profile) (u : List ℕ) (given : List Token) (piece : List ℕ) → 0 < length piece → (new : Converter) (used : ℕ)
+    (outcome : Result (Option StepEnd) Fault) (a c : Option (List ℕ)) → length u + length piece ≤ 2 ^ 62
+    → AfterStep p u given piece new used outcome a c → AfterSteps p u given piece new used outcome a c
+unfolding reads_one
+after_token p u given piece some new used (Ok None) a c short (all, stands, is_decided, reads) = (
+  all,
+  record {
+    tokens = given;
+    stands = rw (still_none (first piece) piece some) stands;
+    decided = λ h. is_decided;
+    empty = λ none. refl;
+    reads = reads;
+  },
+)
+after_token p u given piece some new used (Ok (Some Other)) a c short after = reads_one some after
+after_token p u given piece some new used (Ok (Some (AtMarker m))) a c short (t, ends, meets) =
+    record {
+      tokens = given;
+      token = t;
+      ends = ends;
+      at_limit =
+          λ h. decided_at_end (u ++ take used piece) _ (subst (λ xs. IsDecided (u ++ take used piece) xs (given ++ t ∷ []))
+          (drop_of_length-le piece (omega (arith, h, short, length-append u (take used piece), length-take used piece))) ends.decided);
+      next = rw (all_within (u ++ piece) (omega (arith, short, length-append u piece))) (next_in_piece new.lexer u piece used ends.stands);
+      meets = meets;
+    }
+after_token p u given piece some new used (Err f) a c short (t, next, fails) = record { tokens = given; token = t; next = next; fails = fails }
 
 -- ---- a front of the piece
 

@@ -6,11 +6,11 @@ use Rattle.pgn_game.specs.declared.converter.StepEnd.TheVariants.{Token as Other
 use Rattle.pgn_game.specs.ConverterSteps.{Steps, fault_of, outcome_at}
 use Rattle.pgn_game.specs.PutResult.{TakesUnlessMarker}
 use Rattle.pgn_game.proofs.Words.{LexFault, Lexical, Fault, Bool, IsTrue, false, ◌≡◌, ℕ, ◌+◌, ◌-◌, ◌<◌, ◌≤◌, ◌^◌, List, length, drop, length-drop, first, Option, None, Some, Result, Ok, Err, refl, subst, arith, Marker, Token, InMovetext, Reason, ReaderState, Converter, Device, IsSound, Standing, Keeps}
-use Rattle.pgn_game.proofs.tokens.AcceptedToConverter.{follows_own, now_at, took, took_fault, took_none, written_same}
+use Rattle.pgn_game.proofs.tokens.AcceptedToConverter.{follows_own, now_at, took, took_fault, took_none}
 use Rattle.pgn_game.proofs.tokens.PastNumbers.{passes_count, passes_few, passes_sooner, reads_past}
 use Rattle.pgn_game.proofs.tokens.RunsInPiece.{Runs, between, steps_behind}
 use Rattle.pgn_game.proofs.tokens.SoundAtStart.{few_waiting}
-use Rattle.pgn_game.proofs.tokens.StepsAtEnd.{advances_token, counts_token, kept, ready_in_piece, sound_in_piece}
+use Rattle.pgn_game.proofs.tokens.StepsAtEnd.{advances_token, counts_token, keeps_met, kept, ready_in_piece, sound_in_piece}
 use Rattle.pgn_game.proofs.tokens.StepsInPiece.{after_token}
 
 -- A reader in a converter without a fault, before a piece that ends before place 2^62.
@@ -28,7 +28,7 @@ module _ (lexer : Standing) (reading : ReaderState) (games : ℕ) (piece : List 
     steps_more scans o failures =
         record {
           after = λ p u given reaches.
-              after_token p here u given piece o reaches some (now_at l reading games false) refl used (Ok None) o
+              after_token p u given piece some (now_at l reading games false) used (Ok None) o o
               (subst (λ n. n + length piece ≤ 2 ^ 62) reaches.lexer.count short)
               (took_none p here u given piece used l o some reaches (scans.carries u (first piece) given reaches.lexer (follows_own piece)));
           advances = scans.reads.0;
@@ -62,7 +62,7 @@ module _ (lexer : Standing) (reading : ReaderState) (games : ℕ) (piece : List 
         let new : Converter = record (now_at l reading games false) { fault = Some why } in
         record {
           after = λ p u given reaches.
-              after_token p here u given piece o reaches some new refl used (Err why) o
+              after_token p u given piece some new used (Err why) o o
               (subst (λ n. n + length piece ≤ 2 ^ 62) reaches.lexer.count short)
               (took_fault p here u given piece used f l new o some reaches
               (scans.carries u (first piece) given reaches.lexer (follows_own piece)) refl);
@@ -93,8 +93,8 @@ module _ (lexer : Standing) (reading : ReaderState) (games : ℕ) (piece : List 
       steps_met =
           record {
             after = λ p u given reaches.
-                after_token p here u given piece sink.before reaches some _ (written_same reading new keeps.profile keeps.writing) used (outcome_at t.at met)
-                sink.after (subst (λ n. n + length piece ≤ 2 ^ 62) reaches.lexer.count short)
+                after_token p u given piece some _ used (outcome_at t.at met) sink.before sink.after
+                (subst (λ n. n + length piece ≤ 2 ^ 62) reaches.lexer.count short)
                 (took p here u given piece used t l new false sink met reaches
                 (scans.carries u (first piece) given reaches.lexer (follows_own piece)) scans.ends scans.count takes);
             advances = advances_token lexer piece l used t.at met scans.advances;
@@ -103,14 +103,7 @@ module _ (lexer : Standing) (reading : ReaderState) (games : ℕ) (piece : List 
               count = scans.count;
               ready = ready_in_piece lexer l reading new games t.at used t.kind sink met scans.advances
                   scans.count takes (sound.few refl) (sound.fewer_plies refl refl);
-              keeps = record {
-                written = written_same reading new keeps.profile keeps.writing;
-                games = refl;
-                none_just_finished = refl;
-                finished = refl;
-                probes = keeps.probes;
-                fault = refl;
-              };
+              keeps = keeps_met refl keeps refl refl refl refl;
               counted = counts_token reading new t.kind t.at met sink takes;
             };
           }

@@ -4,14 +4,14 @@ use Rattle.std.proofs.lemmas.List.{append_cancel_left}
 use Rattle.std.proofs.lemmas.Option.{IfSome_then}
 use Rattle.pgn_lexer.specs.Tokens as tokens
 use Rattle.pgn_game.specs.declared.marker.Mark.{Mark as CodeMark}
-use Rattle.pgn_game.proofs.Words.{Kind, Token, Reason, Changed, WriteFault, Fault, Profile, Missing, takes_the_marker, Game, Part, no_part, ◌≡◌, ℕ, ◌+◌, ◌^◌, ◌<◌, ◌≤◌, ◌||◌, ◌&&◌, ◌==◌, not, is_some, bytes_eq, Bool, true, false, List, [], ◌∷◌, ◌++◌, length, take, drop, Option, None, Some, Ok, Err, IfSome, refl, sym, ap, subst, ◌∙◌, append_assoc, append-nil, drop-length, arith, and_parts, not-false, bytes_eq-Decides, Appends-nil, Appends-trans, Appends, Device, TokensRise, tokens_of, coming, Stage, Between, InMovetext, HoldsText, Marker, counting, refusal, is_end, marker_of, torn, gain, text_next, Next, going, whole, next, Read, read, progress_with, FinishedGame, IsLastGame, game_in_reader, ReaderState, telling, as_written, known_text, IsStopped, Converter, HasRead, marker_text, game_of, Mark, is_other, is_changed, HasMarked, HasMatched, Reading, model_mark, changed_reason, OneGame, SameGames, ReadsMore, EndsGame, due_as, part_after, text_of_games as text_of}
+use Rattle.pgn_game.proofs.Words.{Kind, Token, Reason, Changed, WriteFault, Fault, Profile, Missing, takes_the_marker, Game, Part, no_part, ◌≡◌, ℕ, ◌+◌, ◌^◌, ◌<◌, ◌≤◌, ◌||◌, ◌&&◌, ◌==◌, not, is_some, bytes_eq, Bool, true, false, List, [], ◌∷◌, ◌++◌, length, take, drop, Option, None, Some, Ok, Err, IfSome, refl, sym, ap, subst, ◌∙◌, append_assoc, append-nil, drop-length, arith, and_parts, not-false, bytes_eq-Decides, Appends-nil, Appends-trans, Appends, Device, TokensRise, tokens_of, coming, Stage, Between, InMovetext, HoldsText, Marker, counting, refusal, is_end, marker_of, torn, gain, text_next, Next, going, whole, next, Read, read, progress_with, IsLastGame, game_in_reader, ReaderState, telling, as_written, known_text, IsStopped, Converter, marker_text, game_of, Mark, is_other, is_changed, HasMarked, HasMatched, Reading, model_mark, changed_reason, OneGame, SameGames, ReadsMore, EndsGame, due_as, part_after, text_of_games as text_of}
 use Rattle.pgn_game.specs.ReaderState as reader_state
 use Rattle.pgn_game.specs.Text.{game_text}
 use Rattle.pgn_game.specs.Readings.{AfterRead, AllRead, ComesNext, EndComes, FirstFails, GameRead, GameWritten, HasCome, HasGiven, MarkerComes, ReadFails, ReadingStops, SecondFails, StandsBetween, StandsIn, at_read, at_token, as_changed}
 use Rattle.pgn_game.specs.Readings as readings
 use Rattle.pgn_game.specs.ConverterSteps.{announcing}
 use Rattle.pgn_game.specs.ConverterCalls.{AreShown, at_end, writing_nothing}
-use Rattle.pgn_game.proofs.tokens.AcceptedToConverter.{follows_own}
+use Rattle.pgn_game.proofs.tokens.AcceptedToConverter.{follows_own, read_as}
 use Rattle.pgn_game.proofs.tokens.BytesWithinLimit.{shown_begins}
 use Rattle.pgn_game.proofs.tokens.MarkerToGame.{game_accepted, has_read_marker, takes, written_at_fault, written_at_marker}
 use Rattle.pgn_game.proofs.tokens.MissingCountsAs.{reads_silently}
@@ -111,23 +111,6 @@ begins left_old left_now r ts h =
     IfSome_then left_old {P = λ s. AreShown s ts} {Q = λ s. (rest : List Token) × (tokens_of s ≡ ts ++ rest)}
     h.shown (λ s shown. shown_begins s ts shown)
 
--- The counts of a converter, and the game just finished, are those of a record that has read them.
-reads_alike : (q : Profile) (ts : List Token) (c : Converter) (n : ℕ) (j : Option FinishedGame)
-    → HasRead q (record { lexer = c.lexer; reading = c.reading; games = n; just_finished = j; is_finished = false; fault = None }) ts
-    → c.games ≡ n → c.just_finished ≡ j → c.fault ≡ None → HasRead q c ts
-reads_alike q ts c n j h games finished fault =
-    record {
-      profile = h.profile;
-      no_fault = fault;
-      passes = h.passes;
-      agrees = h.agrees;
-      games = games ∙ h.games;
-      plies = h.plies;
-      probed = h.probed;
-      tried = h.tried;
-      just_finished = subst (λ o. IsLastGame o (read q ts).progress.games) (sym finished) h.just_finished;
-    }
-
 -- What a reading has come to is not moved by the marker that its converter takes.
 come_still : (left_old left_now : Option (List ℕ)) (r s : Reading) (ts : List Token) → s.converter.lexer ≡ r.converter.lexer
     → s.unused ≡ r.unused → s.has_ended ≡ r.has_ended → HasCome left_old left_now r ts → HasCome left_old left_now s ts
@@ -215,9 +198,9 @@ module _ (q : Profile) (left_old left_new : Option (List ℕ)) (given : List Tok
             has_given = record {
               takes = takes_it;
               come = come_still left_old left_new mid new more lexer unused ended h.come;
-              has_read = reads_alike q more new.converter (mid.converter.games + 1) (Some (game_in_reader new.converter.reading))
-                  (has_read_marker q given ts t m mid.converter a sink h.meets new.converter.reading ends new.converter.lexer false)
-                  games finished fault;
+              has_read =
+                  let marked = has_read_marker q given ts t m mid.converter a sink h.meets new.converter.reading ends new.converter.lexer false in
+                  read_as marked refl games fault (subst (λ o. IsLastGame o (read q more).progress.games) (sym finished) marked.just_finished);
             };
             between = between;
           }

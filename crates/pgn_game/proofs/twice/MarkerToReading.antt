@@ -2,12 +2,13 @@
 -- ended.
 use Rattle.pgn_lexer.specs.declared.partial_token.Mode.{Mode}
 use Rattle.pgn_game.specs.declared.marker.Mark.{Mark as CodeMark}
-use Rattle.pgn_game.proofs.Words.{Token, within_limit, InputTooLong, Fault, Profile, ◌≡◌, ℕ, ◌^◌, ◌≤◌, arith, false, true, List, [], ◌∷◌, ◌++◌, length, Option, None, Some, Result, Ok, Err, IfOk, IfSome, IsStill, CountsDevices, CountsFault, refl, sym, ap, subst, ◌∙◌, append_assoc, append-nil, Consumes-nil, Consumes-trans, Consumes, Stands, inl, takes_the_marker, with_missing, Device, tokens_of, decided, Standing, coming, HasLeft, Follows, first, Converter, ReadsMore, as_written, StandsWithin, Reading, games_of}
+use Rattle.pgn_game.proofs.Words.{Token, within_limit, InputTooLong, Fault, Profile, ◌≡◌, ℕ, ◌^◌, ◌≤◌, arith, false, true, List, [], ◌∷◌, ◌++◌, length, Option, None, Some, Result, Ok, Err, IfSome, IsStill, CountsDevices, CountsFault, refl, sym, ap, subst, ◌∙◌, append_assoc, append-nil, Consumes-nil, Consumes-trans, Consumes, Stands, inl, takes_the_marker, with_missing, Device, tokens_of, decided, Standing, coming, HasLeft, first, Converter, ReadsMore, as_written, StandsWithin, Reading, games_of}
 use Rattle.pgn_game.specs.ConverterCalls.{AreShown, at_end}
 use Rattle.pgn_game.specs.ConverterSteps.{AfterEndToMarker, EndsToMarker, taking_marker}
 use Rattle.pgn_game.specs.GamesSteps.{AfterToMarker, CountsReading, StopsBefore, UsesAll}
 use Rattle.pgn_game.specs.GamesSteps as games_steps
 use Rattle.pgn_game.specs.Readings.{AfterMarker, HasGiven, ReadingStops, ReadFails, at_read, at_token, StandsIn}
+use Rattle.pgn_game.proofs.tokens.AcceptedToConverter.{follows_none}
 use Rattle.pgn_game.proofs.tokens.BytesWithinLimit.{all_shown, none_next, shown_begins, shown_by, shown_none}
 use Rattle.pgn_game.proofs.tokens.LastTokens.{IsLeft, glyph, left_in, none, symbol}
 use Rattle.pgn_game.proofs.tokens.MissingCountsAs.{reads_taking}
@@ -24,9 +25,6 @@ some_left _ (symbol is) = (_, _, refl)
 
 some_coming : (l : Standing) → (t : Token) × (us : List Token) × (coming l [] ≡ t ∷ us)
 some_coming l = some_left (coming l []) (left_in l.held.mode)
-
-follows_none : (xs : List ℕ) → xs ≡ [] → Follows (first xs) []
-follows_none xs is = subst (λ (xs : List ℕ). Follows (first xs) []) (sym is) tt
 
 -- nothing at all is shown by any text
 all_shown_none : (o : Option (List ℕ)) → IfSome o (λ s. AreShown s [])
@@ -196,7 +194,7 @@ module _ (q : Profile) (left_old left left_new : Option (List ℕ)) (given : Lis
       let used_up : so.stands.used ≡ text =
       sym (append-nil so.stands.used) ∙ ap (λ (l : List ℕ). so.stands.used ++ l) (sym uses.none_left) ∙ sym so.stands.bytes in
       let left_over : HasLeft now.lexer text so.tokens =
-      ap tokens_of (sym used_up ∙ sym (append-nil so.stands.used)) ∙ so.stands.lexer.tokens [] (follows_none unused uses.none_left) in
+      ap tokens_of (sym used_up ∙ sym (append-nil so.stands.used)) ∙ so.stands.lexer.tokens [] (follows_none (first unused)) in
       met_at_end q left_old left_new given so.tokens text now new a b c taken
       (known_whole left_old left_new text (λ s. s ≡ text) taken uses.at_end refl) so.reads left_over
       (so.stands.lexer.count ∙ ap (length {A = ℕ}) used_up)

@@ -1,5 +1,5 @@
 use Rattle.std.specs.Result.{is_ok}
-use Rattle.pgn_game.proofs.Words.{ap, err_from_is_err_and, false≢true, refl, sym, ◌∙◌}
+use Rattle.pgn_game.proofs.Words.{ap, err_from_is_err_and, false≢true, refl}
 use Rattle.pgn_game.proofs.ReaderFitsInMemory.{fits_alike}
 use Rattle.pgn_game.proofs.tokens.GoesToMarker.{keeps_as}
 use Rattle.pgn_game.proofs.games.feed_rest.Goals as goal

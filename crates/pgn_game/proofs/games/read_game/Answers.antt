@@ -1,6 +1,7 @@
 use Rattle.std.specs.Result.{is_ok}
-use Rattle.pgn_game.proofs.Words.{Reason, ReadFault, WriteFault, Changed, Fault, ◌≡◌, ℕ, Bool, Result, Ok, Err, refl, sym, ap, subst, ◌∙◌, arith, err_from_is_err_and, Device, device, one_more, CountsDevices, CountsReason, CountsFault, CountsNext, games_of, false≢true, sink_of, IsStill, EndsGame}
+use Rattle.pgn_game.proofs.Words.{Reason, ReadFault, WriteFault, Changed, Fault, ◌≡◌, ℕ, Bool, Result, Ok, Err, refl, sym, ap, subst, ◌∙◌, arith, err_from_is_err_and, Device, device, one_more, CountsDevices, CountsReason, CountsFault, CountsNext, games_of, false≢true, sink_of, EndsGame}
 use Rattle.pgn_game.specs.ConverterCalls.{Ends}
+use Rattle.pgn_game.specs.ConverterSteps.{CountsGame}
 use Rattle.pgn_game.proofs.ReaderFitsInMemory.{fits_alike}
 use Rattle.pgn_game.proofs.tokens.GamesInTurn.{begins, game_read, marker_stops, stops_before, stands_at_end, finished}
 use Rattle.pgn_game.proofs.putting.SilentReader.{none_fails, seen_alike, silence_then}
@@ -31,7 +32,6 @@ returns-in_err-mark g c =
       goes = record {
         reads = λ p u given have.
             let begun = begins p u given _ (games_of c.args.converter.now c.args.buffer.now) have c.requires.not_finished in
-            let e = err_from_is_err_and c.from_residual.result c.from_residual.ensures.1 in
             rw (e.1, e.2) (stops_before p _ begun.0 u given _ _ _ c.next_marker.new.converter _ _
             (λ silent. no_write_seen {A = Unit} (Err c.in_err-mark.field-0.0)
             (device g.R.Source.left g.R.Source.failures c.args.source.now c.next_marker.new.source)
@@ -55,13 +55,11 @@ returns-in_err-end_game-in-Some g c =
         reads = λ p u given have.
             let begun = begins p u given _ (games_of c.args.converter.now c.args.buffer.now) have c.requires.not_finished in
             let met = rw c.in-Some.is at (c.in_ok-mark.ensures.reads p u given begun.1 begun.2) in
-            let e = err_from_is_err_and c.from_residual-in_err-end_game-in-Some.result c.from_residual-in_err-end_game-in-Some.ensures.1 in
             rw (e.1, e.2) (marker_stops p _ begun.0 u given _ _ _ c.in-Some.mark (games_of c.next_marker.new.converter c.next_marker.new.buffer)
             (sink_of c.args.converter.now.reading g.W.Sink.taken g.W.Sink.failures c.next_marker.new.out c.end_game.new.out) met c.end_game.new.self f
             (λ silent. none_fails {A = Unit} _ (Err f) sink silent
             (seen_alike (CountsFault {A = Unit} (Err f)) _ _ sink same c.in_err-end_game-in-Some.ensures.counts.counted))
-            (seen_alike (EndsGame _ _ _ _) _ _ sink same
-            c.in_err-end_game-in-Some.ensures.ends));
+            (seen_alike (EndsGame _ _ _ _) _ _ sink same c.in_err-end_game-in-Some.ensures.ends));
         fewer = λ same. absurd (false≢true (ap is_ok (sym e.1 ∙ same)));
         fault = rw (e.1, e.2) c.in_err-end_game-in-Some.ensures.counts.fault;
         counted = λ free. rw (e.1, e.2) (counts_fault _ _ _ _ _ _ c.in_ok-mark.ensures.goes.counted.0 c.in_ok-mark.ensures.goes.counted.1
@@ -75,6 +73,7 @@ returns-in_ok-end_game-in-Some g c =
     let ended = c.in_ok-end_game-in-Some.ensures in
     let same = c.next_marker.ensures.silent.silent in
     let sink = device g.W.Sink.taken g.W.Sink.failures c.next_marker.new.out c.end_game.new.out in
+    let counts = seen_alike (CountsGame _ _ _) _ _ sink same ended.counts in
     record {
       goes = record {
         reads = λ p u given have.
@@ -83,15 +82,11 @@ returns-in_ok-end_game-in-Some g c =
             game_read p _ begun.0 u given _ _ _ c.in-Some.mark (games_of c.next_marker.new.converter c.next_marker.new.buffer)
             (sink_of c.args.converter.now.reading g.W.Sink.taken g.W.Sink.failures c.next_marker.new.out c.end_game.new.out) met c.end_game.new.self
             (c.end_game.ensures.silent.silent ∙ same)
-            (seen_alike (EndsGame _ _ _ _) _ _ sink same
-            ended.ends) ended.counts.lexer ended.counts.not_finished ended.counts.fault ended.counts.games ended.counts.just_finished;
+            (seen_alike (EndsGame _ _ _ _) _ _ sink same ended.ends) counts;
         fewer = λ same.
-            rw (c.end_game.ensures.counts.not_finished, c.requires.not_finished) (omega (arith, ended.counts.few, ended.counts.games, c.next_marker.ensures.goes.keeps.games));
-        fault = ended.counts.fault;
-        counted = λ free. (
-          c.in_ok-mark.ensures.goes.counted.0,
-          seen_alike IsStill _ _ sink same ended.counts.counted ∙ c.in_ok-mark.ensures.goes.counted.1,
-        );
+            rw (counts.not_finished, c.requires.not_finished) (omega (arith, counts.few, counts.games, c.next_marker.ensures.goes.keeps.games));
+        fault = counts.fault;
+        counted = λ free. (c.in_ok-mark.ensures.goes.counted.0, counts.counted ∙ c.in_ok-mark.ensures.goes.counted.1);
       };
       silent = silence_then _ _ _ _ _ _ c.next_marker.ensures.silent c.end_game.ensures.silent;
     }

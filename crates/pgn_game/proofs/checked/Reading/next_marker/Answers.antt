@@ -21,14 +21,14 @@ returns-then-self g c =
     let ends = c.finish_to_marker.ensures.ends in
     rw (← c.self.view_is)
     (record {
-      reads = λ q left_old given h.
-          let behind = behind_source q left_old _ _ given h c.if-self.true in
-          rw c.if-self.true
-          (met_at_end q left_old _ given given h.come.bytes _ c.finish_to_marker.new.self _ _ _ h.come.consumed behind.3
-          (reads_none q given _ (bytes_seen c.self.inside.converter.reading.writing.is_silent (g.W.Sink.taken c.args.out.now)) h.has_read)
-          behind.0 behind.1 behind.2 ends.keeps.written _ c.finish_to_marker.result ends.count
-          (ends.ends q h.come.bytes given behind.0 h.has_read));
-      keeps = record {
+      reads = record {
+        reads = λ q left_old given h.
+            let behind = behind_source q left_old _ _ given h c.if-self.true in
+            rw c.if-self.true
+            (met_at_end q left_old _ given given h.come.bytes _ c.finish_to_marker.new.self _ _ _ h.come.consumed behind.3
+            (reads_none q given _ (bytes_seen c.self.inside.converter.reading.writing.is_silent (g.W.Sink.taken c.args.out.now)) h.has_read)
+            behind.0 behind.1 behind.2 ends.keeps.written _ c.finish_to_marker.result ends.count
+            (ends.ends q h.come.bytes given behind.0 h.has_read));
         ready = ends.ready;
         games = ends.keeps.games;
         written = ends.keeps.written;
@@ -45,11 +45,11 @@ returns-in_err-mark g c =
     let read = c.next_marker.ensures in
     rw (← c.self.view_is)
     (record {
-      reads = λ q left_old given h.
-          rw (e.1, e.2)
-          (stops_in_source q left_old _ _ given h.come.bytes h.come.consumed _ _ _ _
-          (c.in_err-mark.ensures.reads q h.come.bytes given (within_source q left_old _ _ given h c.if-self.false) h.has_read));
-      keeps = record {
+      reads = record {
+        reads = λ q left_old given h.
+            rw (e.1, e.2)
+            (stops_in_source q left_old _ _ given h.come.bytes h.come.consumed _ _ _ _
+            (c.in_err-mark.ensures.reads q h.come.bytes given (within_source q left_old _ _ given h c.if-self.false) h.has_read));
         ready = rw e.1 tt;
         games = read.goes.keeps.games;
         written = read.goes.keeps.written;
@@ -64,12 +64,12 @@ returns-in-Some g c =
     let read = c.next_marker.ensures in
     rw (← c.self.view_is)
     (record {
-      reads = λ q left_old given h.
-          let reads = rw c.in-Some.is at c.in_ok-mark.ensures.reads in
-          rw c.if-self.false
-          (met_in_source q left_old _ _ given h.come.bytes h.come.consumed c.next_marker.new.converter c.next_marker.new.buffer c.in-Some.mark _ _
-          (reads q h.come.bytes given (within_source q left_old _ _ given h c.if-self.false) h.has_read));
-      keeps = record {
+      reads = record {
+        reads = λ q left_old given h.
+            let reads = rw c.in-Some.is at c.in_ok-mark.ensures.reads in
+            rw c.if-self.false
+            (met_in_source q left_old _ _ given h.come.bytes h.come.consumed c.next_marker.new.converter c.next_marker.new.buffer c.in-Some.mark _ _
+            (reads q h.come.bytes given (within_source q left_old _ _ given h c.if-self.false) h.has_read));
         ready = rw c.in-Some.is at c.in_ok-mark.ensures.goes.ready;
         games = read.goes.keeps.games;
         written = read.goes.keeps.written;
@@ -87,14 +87,14 @@ returns g c =
     read.silent.silent c.finish_to_marker-2.ensures.ends in
     rw (← c.self.view_is)
     (record {
-      reads = λ q left_old given h.
-          let reads = rw c.in_default.is at c.in_ok-mark.ensures.reads in
-          all_used q left_old _ _ given h.come.bytes h.come.consumed c.next_marker.new.converter c.next_marker.new.buffer _ _
-          (reads q h.come.bytes given (within_source q left_old _ _ given h c.if-self.false) h.has_read)
-          c.finish_to_marker-2.new.self _ (sink_of r g.W.Sink.taken g.W.Sink.failures c.next_marker.new.out c.finish_to_marker-2.new.out)
-          c.finish_to_marker-2.result refl refl
-          ends c.in_ok-mark.ensures.goes.short;
-      keeps = record {
+      reads = record {
+        reads = λ q left_old given h.
+            let reads = rw c.in_default.is at c.in_ok-mark.ensures.reads in
+            all_used q left_old _ _ given h.come.bytes h.come.consumed c.next_marker.new.converter c.next_marker.new.buffer _ _
+            (reads q h.come.bytes given (within_source q left_old _ _ given h c.if-self.false) h.has_read)
+            c.finish_to_marker-2.new.self _ (sink_of r g.W.Sink.taken g.W.Sink.failures c.next_marker.new.out c.finish_to_marker-2.new.out)
+            c.finish_to_marker-2.result refl refl
+            ends c.in_ok-mark.ensures.goes.short;
         ready = ends.ready;
         games = ends.keeps.games ∙ read.goes.keeps.games;
         written = ends.keeps.written ∙ read.goes.keeps.written;

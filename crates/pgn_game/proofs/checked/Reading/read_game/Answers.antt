@@ -16,12 +16,12 @@ returns-in_err-mark g c =
     let f = c.in_err-mark.field-0.0 in
     let s = c.args.self.now.converter.reading.writing.is_silent in
     let source = device g.R.Source.left g.R.Source.failures c.args.source.now c.next_marker.new.source in
-    let counted = seen_none (λ (d : Device). CountsReading {A = Unit} (Err f) source d) s c.in_err-mark.ensures.keeps.counted in
+    let counted = seen_none (λ (d : Device). CountsReading {A = Unit} (Err f) source d) s c.in_err-mark.ensures.reads.counted in
     record {
       reads = λ q left_old given stands.
           rw (e.1, e.2)
           (first_fails q left_old _ given stands.has_given.has_read.passes c.next_marker.new.self f _ _ (no_write f.reason _ _ counted)
-          (c.in_err-mark.ensures.reads q left_old given stands.has_given));
+          (c.in_err-mark.ensures.reads.reads q left_old given stands.has_given));
       going = rw e.1 tt;
       silent = c.next_marker.ensures.silent.silent;
       counted = rw (e.1, e.2) counted;
@@ -31,19 +31,19 @@ pub returns-in_default : goal.returns-in_default
 returns-in_default g c =
     record {
       reads = λ q left_old given stands.
-          let reads = rw c.in_default.is at c.in_ok-mark.ensures.reads in
+          let reads = rw c.in_default.is at c.in_ok-mark.ensures.reads.reads in
           all_read q left_old (g.R.Source.left c.next_marker.new.source) given stands.has_given.has_read.passes c.next_marker.new.self _ _ (reads q left_old given stands.has_given);
       going = tt;
       silent = c.next_marker.ensures.silent.silent;
       counted = (
-        c.in_ok-mark.ensures.keeps.counted.0,
-        seen_none IsStill c.args.self.now.converter.reading.writing.is_silent c.in_ok-mark.ensures.keeps.counted.1,
+        c.in_ok-mark.ensures.reads.counted.0,
+        seen_none IsStill c.args.self.now.converter.reading.writing.is_silent c.in_ok-mark.ensures.reads.counted.1,
       );
     }
 
 pub end_game-requires : goal.end_game-requires
 end_game-requires g c =
-    (search reading_fits_converter, subst (λ (r : Reading). IsReady r.converter) (sym c.self.view_is) (rw c.in-Some.is at c.in_ok-mark.ensures.keeps.ready))
+    (search reading_fits_converter, subst (λ (r : Reading). IsReady r.converter) (sym c.self.view_is) (rw c.in-Some.is at c.in_ok-mark.ensures.reads.ready))
 
 pub returns-in_err-end_game : goal.returns-in_err-end_game
 returns-in_err-end_game g c =
@@ -58,7 +58,7 @@ returns-in_err-end_game g c =
     let new : Reading = record { converter = c.end_game.new.self; unused = []; has_ended = false } in
     record {
       reads = λ q left_old given stands.
-          let reads = rw c.in-Some.is at c.in_ok-mark.ensures.reads in
+          let reads = rw c.in-Some.is at c.in_ok-mark.ensures.reads.reads in
           let left_new = g.R.Source.left c.next_marker.new.source in
           let met = subst (λ (r : Reading). MarkerComes q left_old left_new given c.in-Some.mark r (bytes_seen s None) (bytes_seen s None))
           (sym c.self.view_is) (reads q left_old given stands.has_given) in
@@ -70,7 +70,7 @@ returns-in_err-end_game g c =
       going = rw e.1 tt;
       silent = c.end_game.ensures.silent.silent ∙ ap (λ (r : Reading). r.converter.reading.writing.is_silent) c.self.view_is
           ∙ c.next_marker.ensures.silent.silent;
-      counted = rw (e.1, e.2) (behind_still f.reason _ _ _ _ _ _ c.in_ok-mark.ensures.keeps.counted.0 refl counted);
+      counted = rw (e.1, e.2) (behind_still f.reason _ _ _ _ _ _ c.in_ok-mark.ensures.reads.counted.0 refl counted);
     }
 
 pub returns : goal.returns
@@ -78,10 +78,10 @@ returns g c =
     let ended = c.in_ok-end_game.ensures in
     let s = c.args.self.now.converter.reading.writing.is_silent in
     let here = c.self.inside.converter.reading.writing.is_silent in
-    let same = ap (λ (r : Reading). r.converter.games) c.self.view_is ∙ c.next_marker.ensures.keeps.games in
+    let same = ap (λ (r : Reading). r.converter.games) c.self.view_is ∙ c.next_marker.ensures.reads.games in
     record {
       reads = λ q left_old given stands.
-          let reads = rw c.in-Some.is at c.in_ok-mark.ensures.reads in
+          let reads = rw c.in-Some.is at c.in_ok-mark.ensures.reads.reads in
           let left_new = g.R.Source.left c.next_marker.new.source in
           let met = subst (λ (r : Reading). MarkerComes q left_old left_new given c.in-Some.mark r (bytes_seen s None) (bytes_seen s None))
           (sym c.self.view_is) (reads q left_old given stands.has_given) in
@@ -96,5 +96,5 @@ returns g c =
         subst (λ n. n < 2 ^ 64) same ended.counts.few,
       );
       silent = ended.silent.silent ∙ ap (λ (r : Reading). r.converter.reading.writing.is_silent) c.self.view_is ∙ c.next_marker.ensures.silent.silent;
-      counted = (c.in_ok-mark.ensures.keeps.counted.0, refl);
+      counted = (c.in_ok-mark.ensures.reads.counted.0, refl);
     }

@@ -13,7 +13,6 @@ end_game-requires g c = (
 pub returns-in-Err : goal.returns-in-Err
 returns-in-Err g c =
     let keeps = c.end_game.ensures.keeps in
-    let none = ap (λ (s : Converter). s.fault) c.self.view_is ∙ c.requires.before.no_fault in
     let flag = not_just_finished _ _ (ap (λ (s : Converter). s.just_finished) c.self.view_is ∙ c.requires.before.none_just_finished) in
     record {
       ends = record {
@@ -91,7 +90,6 @@ invariant_of-self-in-Ok g c =
 
 pub overflow_add-self : goal.overflow_add-self
 overflow_add-self g c =
-    let none = ap (λ (s : Converter). s.fault) c.self.view_is ∙ c.requires.before.no_fault in
     omega (
       arith,
       c.self.invariant.count,

@@ -2,8 +2,8 @@ use Rattle.pgn_game.specs.declared.marker.Mark.{Mark}
 use Rattle.pgn_game.specs.declared.converter.FedUpTo.{FedUpTo}
 use Rattle.pgn_game.specs.declared.converter.FedUpTo.TheVariants.{All, Marker as ToMarker}
 use Rattle.pgn_game.proofs.putting.SilentReader.{none_fails, seen_alike, silence_then}
-use Rattle.pgn_game.specs.ConverterSteps.{EndsGame}
-use Rattle.pgn_game.proofs.Words.{CountsFault, IsStill, device, Fault, ◌≡◌, ℕ, Result, Ok, arith, ap, le_trans, none-some, refl, same_Some, sym, ◌∙◌, Converter, Err, Standing, err_from_is_err_and, at_token}
+use Rattle.pgn_game.specs.ConverterSteps.{CountsGame, EndsGame}
+use Rattle.pgn_game.proofs.Words.{CountsFault, device, Fault, ◌≡◌, ℕ, Result, Ok, arith, ap, le_trans, none-some, refl, same_Some, sym, ◌∙◌, Converter, Err, Standing, err_from_is_err_and, at_token}
 use Rattle.pgn_game.proofs.ReaderFitsInMemory.{fits_alike}
 use Rattle.pgn_game.proofs.tokens.PieceToGame.{reaches, fed_all, fed_game, fed_stops, marker_fails}
 use Rattle.pgn_game.proofs.converter.Converter.feed.Goals as goal
@@ -119,25 +119,25 @@ returns-in_ok-end_game-in-Marker g c =
     let ended = c.in_ok-end_game-in-Marker.ensures in
     let ends = seen_alike (EndsGame _ _ _ _) _ _ (device g.W.Sink.taken g.W.Sink.failures c.feed_to_marker.new.out c.end_game.new.out)
     fed.silent.silent ended.ends in
-    let counted = seen_alike IsStill _ _ (device g.W.Sink.taken g.W.Sink.failures c.feed_to_marker.new.out c.end_game.new.out) fed.silent.silent ended.counts.counted in
+    let counts = seen_alike (CountsGame _ _ _) _ _ (device g.W.Sink.taken g.W.Sink.failures c.feed_to_marker.new.out c.end_game.new.out) fed.silent.silent ended.counts in
     record {
       used = rw c.in-Marker.is at reads.goes.used;
       feeds = λ p u b given stands follows.
           fed_game p _ stands.known u b given _ c.args.piece.now _ _ _ _
           (feeds p u b given (reaches stands) follows)
-          c.end_game.new.self (c.end_game.ensures.silent.silent ∙ fed.silent.silent) ends ended.counts.lexer ended.counts.games ended.counts.just_finished ended.counts.fault;
+          c.end_game.new.self (c.end_game.ensures.silent.silent ∙ fed.silent.silent) ends counts;
       empty = λ is none. absurd (no_marker _ _ (rw c.in-Marker.is at (reads.goes.empty is none)));
-      grows = rw ended.counts.lexer fed.goes.grows;
-      within = rw ended.counts.lexer fed.goes.within;
-      count = ap (λ (l : Standing). l.count) ended.counts.lexer ∙ (rw c.in-Marker.is at reads.goes.count);
-      short = omega (arith, ap (λ (l : Standing). l.count) ended.counts.lexer, fed.short);
-      advances = rw ended.counts.lexer (rw c.in-Marker.is at reads.goes.advances);
-      not_finished = ended.counts.not_finished;
-      fault = ended.counts.fault;
-      games = (omega (arith, ended.counts.games, fed.goes.keeps.games), omega (arith, ended.counts.few, fed.goes.keeps.games));
-      probes = le_trans fed.goes.keeps.probes ended.counts.probes;
+      grows = rw counts.lexer fed.goes.grows;
+      within = rw counts.lexer fed.goes.within;
+      count = ap (λ (l : Standing). l.count) counts.lexer ∙ (rw c.in-Marker.is at reads.goes.count);
+      short = omega (arith, ap (λ (l : Standing). l.count) counts.lexer, fed.short);
+      advances = rw counts.lexer (rw c.in-Marker.is at reads.goes.advances);
+      not_finished = counts.not_finished;
+      fault = counts.fault;
+      games = (omega (arith, counts.games, fed.goes.keeps.games), omega (arith, counts.few, fed.goes.keeps.games));
+      probes = le_trans fed.goes.keeps.probes counts.probes;
       again = λ f is. absurd (none-some f (sym reads.goes.keeps.fault ∙ ap (λ (s : Converter). s.fault) (fed.again f is).1 ∙ is));
-      counted = λ free. counted ∙ reads.goes.counted free;
+      counted = λ free. counts.counted ∙ reads.goes.counted free;
       silent = silence_then _ _ _ _ _ _ fed.silent c.end_game.ensures.silent;
       no_write_fails = λ silent free. tt;
     }

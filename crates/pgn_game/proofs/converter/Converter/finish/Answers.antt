@@ -90,7 +90,7 @@ returns-in_err-end_game-in-Some-2 g c =
           failed_game p u given _ _ _ _ so _ (shows_stop p _ _ c.in_err-end_game-in-Some-2.field-0.0 stands.known none_failed)
           c.args.self.now.lexer c.in-Some-2.mark c.finish_to_marker.new.self c.end_game.new.self
           (sink_of c.args.self.now.reading g.W.Sink.taken g.W.Sink.failures c.finish_to_marker.new.out c.end_game.new.out)
-          (left_of p c.args.self.now u b given stands) stands.has_read.passes (met.ends p u _ so.left so.has_read) ended counts.games met.keeps.games;
+          (left_of p c.args.self.now u b given stands) stands.has_read.passes (met.ends p u _ so.left so.has_read) ended counts met.keeps.games;
       finished = counts.not_finished;
       count = ap (λ (l : Standing). l.count) counts.lexer ∙ met.count ∙ old.count;
       probes = le_trans old.probes (le_trans met.keeps.probes counts.probes);
@@ -119,7 +119,7 @@ loop-mark-preserved g c =
           let so = old.finishes p u b given stands in
           ended_game p u given _ _ _ _ so (shows_due p _ _ stands.known) c.in-Some-2.mark c.finish_to_marker.new.self c.end_game.new.self
           (sink_of c.args.self.now.reading g.W.Sink.taken g.W.Sink.failures c.finish_to_marker.new.out c.end_game.new.out)
-          (met.ends p u _ so.left so.has_read) ended counts.lexer counts.fault counts.games counts.just_finished;
+          (met.ends p u _ so.left so.has_read) ended counts;
     }
 
 pub is_between-self-inside-requires : goal.is_between-self-inside-requires

@@ -6,7 +6,7 @@ use Rattle.pgn_game.proofs.ReaderFitsInMemory.{fits_alike, fits_reader}
 use Rattle.pgn_game.proofs.putting.SilentReader.{seen_alike, silence_kept, silence_then}
 use Rattle.pgn_game.proofs.tokens.PastNumbers.{meets_in_movetext}
 use Rattle.pgn_game.proofs.tokens.RunsInPiece.{Runs, before_rest, room_behind, runs_none, runs_step, runs_then, steps_behind, steps_run}
-use Rattle.pgn_game.proofs.tokens.StepsAtEnd.{fields_before, short_before}
+use Rattle.pgn_game.proofs.tokens.StepsAtEnd.{fields_before}
 use Rattle.pgn_game.proofs.tokens.StepsOverTokens.{runs_past, sound_met_behind, sound_past, steps_met_behind}
 use Rattle.pgn_game.proofs.converter.Converter.run_movetext.Goals as goal
 use Rattle.pgn_game.proofs.converter.Converter.run_movetext.Goals.{else-loop-used-test, then-loop-used-test+in_default}

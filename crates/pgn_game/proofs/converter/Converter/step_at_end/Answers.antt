@@ -1,8 +1,7 @@
 use Rattle.pgn_game.proofs.putting.SilentReader.{silence_kept, silence_then}
 use Rattle.pgn_game.proofs.Words.{Token, fault_of, kind_of, as_written, Keeps, arith, sym, ap, subst, refl, ◌∙◌, ◌≡◌, ◌&&◌, true, false, is_ok, is_end, Converter, HasRead, HasLeft, outcome_at, game_in_reader_if}
-use Rattle.pgn_game.proofs.tokens.StepsAtEnd.{Left, Nearer, closes_end, closes_token, closes_fault, fields_before, kept, left_by, nearer_by, counts_token}
+use Rattle.pgn_game.proofs.tokens.StepsAtEnd.{Left, Nearer, keeps_met, closes_end, closes_token, closes_fault, fields_before, kept, left_by, nearer_by, counts_token}
 use Rattle.pgn_game.proofs.tokens.StepsAtEnd.{advances_at_end, counts_ok, goes_on_at, no_fault_if_ok, ready_at_end, sound_at_end, sound_behind, sound_behind_fault, sound_if_not_ok}
-use Rattle.pgn_game.proofs.tokens.AcceptedToConverter.{written_same}
 use Rattle.pgn_game.proofs.ReaderFitsInMemory.{fits_reader}
 use Rattle.pgn_game.proofs.converter.Converter.step_at_end.Goals as goal
 use Rattle.pgn_game.proofs.converter.Converter.step_at_end.Goals.{else-is_end-via-then-is_end+else-is_ok, else-is_end-via-else-is_end}
@@ -32,25 +31,19 @@ returns-then-is_ok g c =
     let keeps : Keeps c.self.inside.reader met.new.self = kept _ _ _ _ r met.ensures.takes in
     record {
       steps = record {
-      after = λ p u given left has_read.
-          let here = subst (λ (s : Converter). HasRead p s given) (sym c.self.view_is) has_read in
-          let left_here = subst (λ (s : Converter). HasLeft s.lexer u given) (sym c.self.view_is) left in
-          let left_behind = rw c.in-Token.is at c.finish.follows.holds-at-none.left in
-          rw (← c.self.view_is, old.flag, c.settle-outcome.ensures.fault, c.settle-outcome.ensures.outcome)
-          (closes_end p _ u given t l met.new.self _ r is_e ok here
-          (subst (λ e. Left u given e l t) is_e (left_by u given t.kind l t (left_behind u given left_here))) met.ensures.takes);
-      count = c.finish.follows.holds-at-none.count ∙ ap (λ (s : Converter). s.lexer.count) c.self.view_is;
-      advances = tt;
-      ready = tt;
-      keeps = record {
-        written = written_same c.self.inside.reader met.new.self keeps.profile keeps.writing ∙ ap (λ (s : Converter). as_written s.reading) c.self.view_is;
-        games = ap (λ (s : Converter). s.games) c.self.view_is;
-        none_just_finished = ap (λ b. game_in_reader_if b met.new.self) old.flag;
-        finished = refl;
-        probes = omega (arith, ap (λ (s : Converter). s.reading.most_probes) c.self.view_is, keeps.probes);
-        fault = c.settle-outcome.ensures.fault ∙ ap fault_of c.settle-outcome.ensures.outcome ∙ no_fault_if_ok t.at r ok;
-      };
-      counted = rw (← c.self.view_is) (counts_ok t.at r ok _ (counts_token c.self.inside.reader met.new.self _ t.at r _ met.ensures.takes));
+        after = λ p u given left has_read.
+            let here = subst (λ (s : Converter). HasRead p s given) (sym c.self.view_is) has_read in
+            let left_here = subst (λ (s : Converter). HasLeft s.lexer u given) (sym c.self.view_is) left in
+            let left_behind = rw c.in-Token.is at c.finish.follows.holds-at-none.left in
+            rw (← c.self.view_is, old.flag, c.settle-outcome.ensures.fault, c.settle-outcome.ensures.outcome)
+            (closes_end p _ u given t l met.new.self _ r is_e ok here
+            (subst (λ e. Left u given e l t) is_e (left_by u given t.kind l t (left_behind u given left_here))) met.ensures.takes);
+        count = c.finish.follows.holds-at-none.count ∙ ap (λ (s : Converter). s.lexer.count) c.self.view_is;
+        advances = tt;
+        ready = tt;
+        keeps = keeps_met c.self.view_is keeps refl (ap (λ b. game_in_reader_if b met.new.self) old.flag) refl
+            (c.settle-outcome.ensures.fault ∙ ap fault_of c.settle-outcome.ensures.outcome ∙ no_fault_if_ok t.at r ok);
+        counted = rw (← c.self.view_is) (counts_ok t.at r ok _ (counts_token c.self.inside.reader met.new.self _ t.at r _ met.ensures.takes));
       };
       silent = silence_then _ c.self.inside.reader _ _ _ _ (silence_kept _ _ _ (ap (λ (s : Converter). s.reading.writing) c.self.view_is)) met.ensures.silent;
     }
@@ -59,26 +52,26 @@ pub returns-in-Fault : goal.returns-in-Fault
 returns-in-Fault g c =
     record {
       steps = record {
-      after = λ p u given left has_read.
-          let here = subst (λ (s : Converter). HasRead p s given) (sym c.self.view_is) has_read in
-          let left_here = subst (λ (s : Converter). HasLeft s.lexer u given) (sym c.self.view_is) left in
-          let left_behind = rw c.in-Fault.is at c.finish.follows.holds-at-none.left in
-          rw (← c.self.view_is, c.fail.ensures.outcome, c.lexical.ensures)
-          (closes_fault p _
-          (record c.args.self.now { lexer = c.finish.follows.lender-at-none; reading = c.self.inside.reader; fault = c.fail.new.kept })
-          u given c.in-Fault.fault _ here (left_behind u given left_here) refl);
-      count = c.finish.follows.holds-at-none.count ∙ ap (λ (s : Converter). s.lexer.count) c.self.view_is;
-      advances = rw c.fail.ensures.outcome tt;
-      ready = rw c.fail.ensures.outcome tt;
-      keeps = rw c.fail.ensures.outcome (record {
-        written = ap (λ (s : Converter). as_written s.reading) c.self.view_is;
-        games = ap (λ (s : Converter). s.games) c.self.view_is;
-        none_just_finished = ap (λ (s : Converter). s.just_finished) c.self.view_is ∙ c.requires.none_just_finished;
-        finished = ap (λ (s : Converter). s.is_finished) c.self.view_is ∙ c.requires.not_finished;
-        probes = omega (arith, ap (λ (s : Converter). s.reading.most_probes) c.self.view_is);
-        fault = c.fail.ensures.kept;
-      });
-      counted = rw (c.fail.ensures.outcome, c.lexical.ensures) refl;
+        after = λ p u given left has_read.
+            let here = subst (λ (s : Converter). HasRead p s given) (sym c.self.view_is) has_read in
+            let left_here = subst (λ (s : Converter). HasLeft s.lexer u given) (sym c.self.view_is) left in
+            let left_behind = rw c.in-Fault.is at c.finish.follows.holds-at-none.left in
+            rw (← c.self.view_is, c.fail.ensures.outcome, c.lexical.ensures)
+            (closes_fault p _
+            (record c.args.self.now { lexer = c.finish.follows.lender-at-none; reading = c.self.inside.reader; fault = c.fail.new.kept })
+            u given c.in-Fault.fault _ here (left_behind u given left_here) refl);
+        count = c.finish.follows.holds-at-none.count ∙ ap (λ (s : Converter). s.lexer.count) c.self.view_is;
+        advances = rw c.fail.ensures.outcome tt;
+        ready = rw c.fail.ensures.outcome tt;
+        keeps = rw c.fail.ensures.outcome (record {
+          written = ap (λ (s : Converter). as_written s.reading) c.self.view_is;
+          games = ap (λ (s : Converter). s.games) c.self.view_is;
+          none_just_finished = ap (λ (s : Converter). s.just_finished) c.self.view_is ∙ c.requires.none_just_finished;
+          finished = ap (λ (s : Converter). s.is_finished) c.self.view_is ∙ c.requires.not_finished;
+          probes = omega (arith, ap (λ (s : Converter). s.reading.most_probes) c.self.view_is);
+          fault = c.fail.ensures.kept;
+        });
+        counted = rw (c.fail.ensures.outcome, c.lexical.ensures) refl;
       };
       silent = silence_kept _ _ _ (ap (λ (s : Converter). s.reading.writing) c.self.view_is);
     }
@@ -122,32 +115,24 @@ returns-else-is_end g c =
     (nearer_by t.kind c.self.inside.lexer l t c.finish.follows.holds-at-none.count (rw c.in-Token.is at c.finish.follows.holds-at-none.closes)) in
     record {
       steps = record {
-      after = λ p u given left has_read.
-          let here = subst (λ (s : Converter). HasRead p s given) (sym c.self.view_is) has_read in
-          let left_here = subst (λ (s : Converter). HasLeft s.lexer u given) (sym c.self.view_is) left in
-          let left_behind = rw c.in-Token.is at c.finish.follows.holds-at-none.left in
-          rw (← c.self.view_is, now, old.flag, c.settle-outcome.ensures.fault, c.settle-outcome.ensures.outcome)
-          (closes_token p _ u given t l met.new.self c.self.inside.is_finished _ e r (not_ended g c) here
-          (subst (λ e. Left u given e l t) (sym c.is_end-is_end.ensures) (left_by u given t.kind l t (left_behind u given left_here)))
-          met.ensures.takes);
-      count = ap (λ (s : Converter). s.lexer.count) now ∙ c.finish.follows.holds-at-none.count ∙ ap (λ (s : Converter). s.lexer.count) c.self.view_is;
-      advances = rw (← c.self.view_is, now, c.settle-outcome.ensures.outcome)
-          (advances_at_end c.self.inside.lexer l t.at e r (not_ended g c) near);
-      ready = rw (now, old.flag, old.not_over, c.settle-outcome.ensures.fault, c.settle-outcome.ensures.outcome)
-          (ready_at_end c.self.inside.lexer l c.self.inside.reader met.new.self c.self.inside.games t.at t.kind _ e r
-          (not_ended g c) near met.ensures.takes (old.sound.few refl) (old.sound.fewer_plies refl refl));
-      keeps = record {
-        written =
-            ap (λ (s : Converter). as_written s.reading) now ∙ written_same c.self.inside.reader met.new.self keeps.profile keeps.writing
-            ∙ ap (λ (s : Converter). as_written s.reading) c.self.view_is;
-        games = ap (λ (s : Converter). s.games) now ∙ ap (λ (s : Converter). s.games) c.self.view_is;
-        none_just_finished = ap (λ (s : Converter). s.just_finished) now ∙ ap (λ b. game_in_reader_if b met.new.self) old.flag;
-        finished = rw c.settle-outcome.ensures.outcome (ap (λ (s : Converter). s.is_finished) now ∙ old.not_over ∙ goes_on_at t.at r);
-        probes = omega (arith, ap (λ (s : Converter). s.reading.most_probes) c.self.view_is, ap (λ (s : Converter). s.reading.most_probes) now, keeps.probes);
-        fault = ap (λ (s : Converter). s.fault) now ∙ c.settle-outcome.ensures.fault;
-      };
-      counted = rw (← c.self.view_is, c.settle-outcome.ensures.outcome)
-          (counts_token c.self.inside.reader met.new.self _ t.at r _ met.ensures.takes);
+        after = λ p u given left has_read.
+            let here = subst (λ (s : Converter). HasRead p s given) (sym c.self.view_is) has_read in
+            let left_here = subst (λ (s : Converter). HasLeft s.lexer u given) (sym c.self.view_is) left in
+            let left_behind = rw c.in-Token.is at c.finish.follows.holds-at-none.left in
+            rw (← c.self.view_is, now, old.flag, c.settle-outcome.ensures.fault, c.settle-outcome.ensures.outcome)
+            (closes_token p _ u given t l met.new.self c.self.inside.is_finished _ e r (not_ended g c) here
+            (subst (λ e. Left u given e l t) (sym c.is_end-is_end.ensures) (left_by u given t.kind l t (left_behind u given left_here)))
+            met.ensures.takes);
+        count = ap (λ (s : Converter). s.lexer.count) now ∙ c.finish.follows.holds-at-none.count ∙ ap (λ (s : Converter). s.lexer.count) c.self.view_is;
+        advances = rw (← c.self.view_is, now, c.settle-outcome.ensures.outcome)
+            (advances_at_end c.self.inside.lexer l t.at e r (not_ended g c) near);
+        ready = rw (now, old.flag, old.not_over, c.settle-outcome.ensures.fault, c.settle-outcome.ensures.outcome)
+            (ready_at_end c.self.inside.lexer l c.self.inside.reader met.new.self c.self.inside.games t.at t.kind _ e r
+            (not_ended g c) near met.ensures.takes (old.sound.few refl) (old.sound.fewer_plies refl refl));
+        keeps = rw (now, old.flag, old.not_over, c.settle-outcome.ensures.fault)
+            (keeps_met c.self.view_is keeps refl refl (rw c.settle-outcome.ensures.outcome (goes_on_at t.at r)) refl);
+        counted = rw (← c.self.view_is, c.settle-outcome.ensures.outcome)
+            (counts_token c.self.inside.reader met.new.self _ t.at r _ met.ensures.takes);
       };
       silent = rw now
           (silence_then _ c.self.inside.reader _ _ _ _ (silence_kept _ _ _ (ap (λ (s : Converter). s.reading.writing) c.self.view_is)) met.ensures.silent);

@@ -1,4 +1,4 @@
-use Rattle.pgn_game.proofs.Words.{None, arith, ap, ◌∙◌, Converter}
+use Rattle.pgn_game.proofs.Words.{arith, ap, ◌∙◌, Converter}
 use Rattle.pgn_game.proofs.ReaderFitsInMemory.{fits_reader}
 use Rattle.pgn_game.proofs.tokens.RunsInPiece.{steps_of}
 use Rattle.pgn_game.proofs.tokens.StepsAtEnd.{fields_before, short_before, sound_behind_fault}
