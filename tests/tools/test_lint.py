@@ -778,8 +778,8 @@ class Streams(Lint):
         self.assertEqual(self.interrupted("-j", "2", "pipe.pgn", "b.pgn"),
                          (-signal.SIGINT, b""))
 
-    def test_a_process_that_is_killed(self):
-        """As for lack of memory: it is no fault of a file, and no traceback."""
+    def check_lost_processes(self, *signals):
+        """A call by two processes that get these signals: no fault of a file, no traceback."""
         os.mkfifo(self.folder + "/pipe.pgn")
         self.put("b.pgn", GOOD)
         with subprocess.Popen([LINT, "-j", "2", "b.pgn", "pipe.pgn"], cwd=self.folder,
@@ -790,11 +790,19 @@ class Streams(Lint):
                 pipe.write(b"1. e4 ")
                 with open("/proc/%d/task/%d/children" % (child.pid, child.pid),
                           encoding="ascii") as children:
-                    for process in children.read().split():
-                        os.kill(int(process), signal.SIGKILL)
+                    for process, number in zip(children.read().split(), signals):
+                        os.kill(int(process), number)
                 _, told = child.communicate(timeout=20)
         self.assertEqual((child.returncode, told), (
             3, b"pgn_lint: a process ended before its file was checked; try again without -j\n"))
+
+    def test_a_process_that_is_killed(self):
+        """As for lack of memory."""
+        self.check_lost_processes(signal.SIGKILL, signal.SIGKILL)
+
+    def test_no_process_outlives_the_call(self):
+        """A stopped one does not end when asked, and would keep standard error open."""
+        self.check_lost_processes(signal.SIGSTOP, signal.SIGKILL)
 
     def test_colours_on_a_terminal_alone(self):
         self.put("a.pgn", BAD)
