@@ -1,18 +1,11 @@
-#!/usr/bin/env python3
 """Tests of bin/try_allocations: on the program, and on one that gives wrong answers."""
 import contextlib
-import importlib.machinery
-import importlib.util
 import io
 import os
-import shutil
 import subprocess
-import sys
-import tempfile
 import unittest
 
-sys.path.insert(0, os.path.dirname(os.path.realpath(__file__)))
-from programs import ROOT, need, need_proved_program, run
+from programs import load, need, need_proved_program, new_folder, run
 
 # Without memory for its second block it forgets its line; without the first it says so.
 FORGETFUL = """
@@ -31,8 +24,7 @@ int main(void) {
 class AllocationsTest(unittest.TestCase):
     def setUp(self):
         need("cc")
-        self.folder = tempfile.mkdtemp()
-        self.addCleanup(shutil.rmtree, self.folder, True)
+        self.folder = new_folder(self)
 
     def test_program(self):
         need_proved_program()
@@ -54,11 +46,7 @@ class AllocationsTest(unittest.TestCase):
         with open(source, "w", encoding="ascii") as file:
             file.write(FORGETFUL)
         subprocess.run(["cc", "-O0", "-o", program, source], check=True)
-        loader = importlib.machinery.SourceFileLoader("try_allocations",
-                                                      ROOT + "/bin/try_allocations")
-        module = importlib.util.module_from_spec(
-            importlib.util.spec_from_loader("try_allocations", loader))
-        loader.exec_module(module)
+        module = load("bin/try_allocations")
         module.BUILT = program
         text = io.StringIO()
         with contextlib.redirect_stdout(text):
@@ -74,7 +62,3 @@ class AllocationsTest(unittest.TestCase):
         ran = run(["bin/try_allocations"], env=dict(os.environ, CC="/missing/cc"))
         self.assertEqual((ran.returncode, ran.stdout), (2, b""))
         self.assertIn(b"no C compiler", ran.stderr)
-
-
-if __name__ == "__main__":
-    unittest.main()

@@ -1,4 +1,3 @@
-#!/usr/bin/env python3
 """Tests of bench/run: its words, its readers of other tools' output, and its tables. No timing."""
 import contextlib
 import copy
@@ -7,11 +6,9 @@ import os
 import re
 import shutil
 import sys
-import tempfile
 import unittest
 
-sys.path.insert(0, os.path.dirname(os.path.realpath(__file__)))
-from programs import ROOT, run
+from programs import ROOT, new_folder, run
 
 sys.dont_write_bytecode = True
 sys.path.insert(0, ROOT + "/bench")
@@ -142,8 +139,7 @@ class Words(unittest.TestCase):
 
     def test_two_builds(self):
         """Programs that print their words and what they read stand for the builds."""
-        folder = tempfile.mkdtemp()
-        self.addCleanup(shutil.rmtree, folder)
+        folder = new_folder(self)
         for build, prints in (("old", "cat -"), ("new", "cat -"), ("other", "echo other")):
             os.makedirs("%s/%s/bench" % (folder, build))
             os.makedirs("%s/%s/crates/jobs/out" % (folder, build))
@@ -168,8 +164,7 @@ class Words(unittest.TestCase):
 
     def test_nothing_is_installed(self):
         """Of the tools only apt-get is there, which would fail, and bench/run does not call it."""
-        folder = tempfile.mkdtemp()
-        self.addCleanup(shutil.rmtree, folder)
+        folder = new_folder(self)
         shutil.copytree(ROOT + "/bench", folder + "/bench", ignore=shutil.ignore_patterns("out"))
         for name in ("strace", "apt-get"):
             with open(os.path.join(folder, name), "w", encoding="ascii") as file:
@@ -219,8 +214,7 @@ class Readers(unittest.TestCase):
                          [500, 3, 1, 250, 0, 250])
 
     def test_the_room_in_memory(self):
-        folder = tempfile.mkdtemp()
-        self.addCleanup(shutil.rmtree, folder)
+        folder = new_folder(self)
         self.addCleanup(setattr, measure, "IN_MEMORY", measure.IN_MEMORY)
         measure.IN_MEMORY = folder
         self.assertTrue(measure.has_room(__file__, 1))
@@ -364,8 +358,7 @@ class Builds(unittest.TestCase):
     """How the builds are compared, with small programs in place of those that cargo builds."""
 
     def setUp(self):
-        self.folder = tempfile.mkdtemp()
-        self.addCleanup(shutil.rmtree, self.folder)
+        self.folder = new_folder(self)
         for module, name in ((builds, "OUT"), (builds, "WORKSPACE"), (measure, "found"),
                              (measure, "callgrind")):
             self.addCleanup(setattr, module, name, getattr(module, name))
@@ -400,8 +393,7 @@ class Builds(unittest.TestCase):
 
 class Records(unittest.TestCase):
     def setUp(self):
-        self.folder = tempfile.mkdtemp()
-        self.addCleanup(shutil.rmtree, self.folder)
+        self.folder = new_folder(self)
 
     def record(self, name, text, lines, script="bench/run"):
         """The text of the file afterwards, or None if it was rejected and left as it was."""
@@ -452,7 +444,3 @@ class Records(unittest.TestCase):
         self.expect_markers("docs/RECIPES.md", "bench/parallel")
         self.expect_markers("bench/README.md", "bench/library")
         self.expect_markers("bench/README.md", "bench/calls")
-
-
-if __name__ == "__main__":
-    unittest.main()

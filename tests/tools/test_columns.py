@@ -1,13 +1,10 @@
-#!/usr/bin/env python3
 """Tests of bin/check_columns, and of the repository by it."""
 import os
 import shutil
 import sys
-import tempfile
 import unittest
 
-sys.path.insert(0, os.path.dirname(os.path.realpath(__file__)))
-from programs import ROOT, run
+from programs import ROOT, new_folder, run
 
 SCRIPT = ROOT + "/bin/check_columns"
 # 100 and 101 columns, in words.
@@ -17,8 +14,7 @@ LONG = "word " * 19 + "wordss"
 
 class Columns(unittest.TestCase):
     def setUp(self):
-        self.folder = tempfile.mkdtemp()
-        self.addCleanup(shutil.rmtree, self.folder)
+        self.folder = new_folder(self)
 
     def put(self, name, *lines):
         path = os.path.join(self.folder, name)
@@ -113,7 +109,3 @@ class Columns(unittest.TestCase):
         self.put("bin/tool", "#!/usr/bin/env python3", "def f(")
         status, shown, said = self.check(self.folder)
         self.assertEqual((status, shown, said.count("\n")), (1, "", 1), said)
-
-
-if __name__ == "__main__":
-    unittest.main()

@@ -1,12 +1,7 @@
-#!/usr/bin/env python3
 """Tests of compressed input: each script takes each kind, by a name and as standard input."""
 import os
-import shutil
-import sys
-import tempfile
 import unittest
 
-sys.path.insert(0, os.path.dirname(os.path.realpath(__file__)))
 import programs
 from programs import PACKERS, ROOT, need, need_program, run
 from test_python import library
@@ -21,8 +16,7 @@ PLACE = 45
 class Compressed(unittest.TestCase):
     def setUp(self):
         need("zstd")
-        self.folder = tempfile.mkdtemp()
-        self.addCleanup(shutil.rmtree, self.folder)
+        self.folder = programs.new_folder(self)
         self.env = dict(os.environ, PATH=programs.PATH, PGN_TOOL=need_program(),
                         GILLSPOON_LIBRARY=library(), LC_ALL="C.UTF-8", TMPDIR=self.folder + "/tmp")
         os.mkdir(self.folder + "/tmp")

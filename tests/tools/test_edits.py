@@ -1,25 +1,20 @@
 """The wrong bodies of edits/ fit the sources, docs/GUARDS.md is what its sources give, and
 bin/try_edits reads what a check says of an edit."""
 import glob
-import importlib.machinery
-import importlib.util
 import os
 import re
 import subprocess
 import tempfile
 import unittest
 
-from programs import ROOT
+from programs import ROOT, load
 
 SCRIPT = os.path.join(ROOT, "bin", "try_edits")
 
 
 def loaded():
     """The script as a module."""
-    loader = importlib.machinery.SourceFileLoader("try_edits", SCRIPT)
-    module = importlib.util.module_from_spec(importlib.util.spec_from_loader("try_edits", loader))
-    loader.exec_module(module)
-    return module
+    return load("bin/try_edits")
 
 
 def call(*words):
@@ -397,7 +392,3 @@ class Lanes(unittest.TestCase):
             "HANDLES", "crates.txt", "crates/low/src/lib.rt", "crates/low/out/rlib/low",
             "crates/top/src/lib.rt", "crates/top/out/incremental/b", "crates/other/src/lib.rt",
         ]))
-
-
-if __name__ == "__main__":
-    unittest.main()

@@ -1,4 +1,3 @@
-#!/usr/bin/env python3
 """Tests of the fixes: pgn_lint --fix and --diff, gillspoon.fixes, and the table of spellings."""
 import glob
 import json
@@ -12,7 +11,6 @@ import sys
 import time
 import unittest
 
-sys.path.insert(0, os.path.dirname(os.path.realpath(__file__)))
 from programs import ROOT, need
 from spellings import LEFT, SAFE, UNSAFE
 from test_lint import LINT, Lint, setUpModule as _set_up_lint

@@ -1,18 +1,14 @@
-#!/usr/bin/env python3
 """Tests of bin/pgn_fmt."""
 import doctest
 import importlib
 import os
-import shutil
 import signal
 import subprocess
 import sys
-import tempfile
 import time
 import unittest
 
-sys.path.insert(0, os.path.dirname(os.path.realpath(__file__)))
-from programs import ROOT, need, need_program, run, vectors
+from programs import ROOT, need, need_program, new_folder, run, vectors
 from test_python import PACKAGE, library
 
 FMT = ROOT + "/bin/pgn_fmt"
@@ -26,8 +22,7 @@ BAD = b'[White "B"] e4 e9 *\n'
 class FmtTest(unittest.TestCase):
     def setUp(self):
         self.program = need_program()
-        self.folder = tempfile.mkdtemp()
-        self.addCleanup(shutil.rmtree, self.folder)
+        self.folder = new_folder(self)
         self.write("loose.pgn", LOOSE)
         self.write("tidy.pgn", TIDY)
         self.write("bad.pgn", BAD)
@@ -364,7 +359,3 @@ class LeftOut(unittest.TestCase):
         if not is_kept and after.behind == before.behind:
             more = after.comments - before.comments, after.escapes - before.escapes
             self.assertEqual(more, (0, 1) if b"%" in part else (1, 0), (text, before, after))
-
-
-if __name__ == "__main__":
-    unittest.main()

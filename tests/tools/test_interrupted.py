@@ -1,14 +1,9 @@
-#!/usr/bin/env python3
 """Tests of the program with calls of the system that are interrupted once each."""
 import os
-import shutil
 import subprocess
-import sys
-import tempfile
 import unittest
 
-sys.path.insert(0, os.path.dirname(os.path.realpath(__file__)))
-from programs import need, need_program, run
+from programs import need, need_program, new_folder, run
 
 # Interrupts one call of read, of write, or of open for a file of games: CALL is its name, AT its
 # number from 1. The file MET is made when that happens. Standard error is left alone.
@@ -82,8 +77,7 @@ class InterruptedTest(unittest.TestCase):
     def setUp(self):
         need("cc")
         self.program = need_program()
-        self.folder = tempfile.mkdtemp()
-        self.addCleanup(shutil.rmtree, self.folder, True)
+        self.folder = new_folder(self)
         source = self.folder + "/interrupt.c"
         with open(source, "w", encoding="ascii") as file:
             file.write(SOURCE)
@@ -152,7 +146,3 @@ class InterruptedTest(unittest.TestCase):
         for at in (1, 2):
             answer = self.call("open", at, "export", "--checked", self.file)
             self.assertEqual(answer, (True, (0, 2 * UNKNOWN, b"")))
-
-
-if __name__ == "__main__":
-    unittest.main()

@@ -1,4 +1,3 @@
-#!/usr/bin/env python3
 """Tests of pgn_lint: what it says of bad games, its options, its statuses, and what reads it."""
 import bz2
 import doctest
@@ -8,16 +7,13 @@ import importlib
 import json
 import os
 import re
-import shutil
 import signal
 import stat
 import subprocess
 import sys
-import tempfile
 import time
 import unittest
 
-sys.path.insert(0, os.path.dirname(os.path.realpath(__file__)))
 import programs
 from documents import blocks_of, lines_of, table
 from programs import ROOT, need, not_tried, run, vectors
@@ -293,8 +289,7 @@ class Lint(unittest.TestCase):
     """A test with a folder of its own."""
 
     def setUp(self):
-        self.folder = tempfile.mkdtemp()
-        self.addCleanup(shutil.rmtree, self.folder)
+        self.folder = programs.new_folder(self)
         self.env = dict(os.environ, PATH=ROOT + "/bin:" + programs.PATH, LC_ALL="C.UTF-8",
                         PYTHONDONTWRITEBYTECODE="1")
         for name in ("NO_COLOR", "INSIDE_EMACS"):
@@ -930,7 +925,3 @@ class Others(Lint):
 class Script(unittest.TestCase):
     def test_it_can_be_run(self):
         self.assertTrue(os.stat(LINT).st_mode & stat.S_IXUSR)
-
-
-if __name__ == "__main__":
-    unittest.main()

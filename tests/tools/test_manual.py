@@ -1,19 +1,13 @@
-#!/usr/bin/env python3
 """Tests of the manual pages and of the completions: against the programs and their sources."""
 import contextlib
 import glob
-import importlib.machinery
-import importlib.util
 import os
 import pty
 import re
 import shutil
 import subprocess
-import sys
-import tempfile
 import unittest
 
-sys.path.insert(0, os.path.dirname(os.path.realpath(__file__)))
 import programs
 from programs import ROOT, run
 
@@ -48,11 +42,7 @@ def text_of(file):
 
 def reasons():
     """Number and words of each reason, read from the source by bin/write_vectors."""
-    path = ROOT + "/bin/write_vectors"
-    loader = importlib.machinery.SourceFileLoader("write_vectors", path)
-    spec = importlib.util.spec_from_loader("write_vectors", loader)
-    module = importlib.util.module_from_spec(spec)
-    loader.exec_module(module)
+    module = programs.load("bin/write_vectors")
     return {number: words for _, number, words in module.reasons().values()}
 
 
@@ -77,8 +67,7 @@ def options(*words):
 
 class Folder(unittest.TestCase):
     def setUp(self):
-        self.folder = tempfile.mkdtemp()
-        self.addCleanup(shutil.rmtree, self.folder)
+        self.folder = programs.new_folder(self)
 
     def shell(self, script, run=run, **more):
         program = programs.need_program()
@@ -378,8 +367,7 @@ class Completions(Folder):
 
     def zsh_words(self, line):
         """What zsh completes as the last word of a line: it runs on a terminal."""
-        folder = tempfile.mkdtemp()
-        self.addCleanup(shutil.rmtree, folder)
+        folder = programs.new_folder(self)
         open(folder + "/some games.pgn", "wb").close()
         with open(folder + "/.zshrc", "w", encoding="ascii") as file:
             file.write(ZSHRC % COMPLETIONS)
@@ -413,7 +401,3 @@ class Completions(Folder):
                       "pgn_sieve a s", "pgn_conform cat - s"):
             self.assertEqual(self.zsh_words(words), ["some\\ games.pgn"], words)
         self.assertEqual(self.zsh_words("pgn_lint --language "), "de es fr it nl ru".split())
-
-
-if __name__ == "__main__":
-    unittest.main()

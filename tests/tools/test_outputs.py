@@ -1,16 +1,11 @@
-#!/usr/bin/env python3
 """An output that is there keeps its bytes until the input was read and understood.
 
 Each script and option that writes a file is tried with inputs that are bad, cut off, of another
 kind, or missing. bin/pgn_conform is tried by test_vectors, and bin/to_cargo by test_cargo.
 """
 import os
-import shutil
-import sys
-import tempfile
 import unittest
 
-sys.path.insert(0, os.path.dirname(os.path.realpath(__file__)))
 import programs
 from programs import PACKERS, ROOT, need, need_program, run, without_rights
 from test_python import library
@@ -33,8 +28,7 @@ class Kept(unittest.TestCase):
 
     def setUp(self):
         need("zstd")
-        self.folder = tempfile.mkdtemp()
-        self.addCleanup(shutil.rmtree, self.folder)
+        self.folder = programs.new_folder(self)
         self.env = dict(os.environ, PATH=programs.PATH, PGN_TOOL=need_program(),
                         GILLSPOON_LIBRARY=library(), LC_ALL="C.UTF-8")
         for name, text in OTHERS.items():
@@ -245,7 +239,3 @@ class Rights(Kept):
                       env=self.env)
             self.assertEqual((ran.returncode, self.read("g"), self.read("b")), (3, OLD, OLD),
                              ran.stderr)
-
-
-if __name__ == "__main__":
-    unittest.main()

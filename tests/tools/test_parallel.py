@@ -1,15 +1,10 @@
-#!/usr/bin/env python3
 """Tests of the recipe of docs/RECIPES.md that uses all processors, also over ssh."""
 import getpass
 import os
-import shutil
 import socket
 import subprocess
-import sys
-import tempfile
 import unittest
 
-sys.path.insert(0, os.path.dirname(os.path.realpath(__file__)))
 import programs
 from programs import run
 from test_recipes import sections
@@ -42,8 +37,7 @@ class Spread(unittest.TestCase):
 
     def setUp(self):
         programs.need("parallel")
-        self.folder = tempfile.mkdtemp()
-        self.addCleanup(shutil.rmtree, self.folder)
+        self.folder = programs.new_folder(self)
 
     def put(self, text, name="games.pgn"):
         with open(os.path.join(self.folder, name), "w", encoding="utf-8") as file:
@@ -192,8 +186,7 @@ class Server:
     """A server of ssh on this machine alone, with keys made for one test."""
 
     def __init__(self, test, path):
-        self.folder = tempfile.mkdtemp()
-        test.addCleanup(shutil.rmtree, self.folder)
+        self.folder = programs.new_folder(test)
         for name in ("host", "user"):
             run(["ssh-keygen", "-q", "-t", "ed25519", "-N", "", "-f", self.folder + "/" + name])
         with socket.socket() as probe:
@@ -268,7 +261,3 @@ class SeveralMachines(Spread):
         os.chmod(self.server.folder + "/lacking", 0o755)
         jobs = self.agrees(archive(), REMOTE, PARALLEL_SSH=self.server.folder + "/lacking")
         self.assertTrue(any(job[6] != b"0" for job in jobs))
-
-
-if __name__ == "__main__":
-    unittest.main()

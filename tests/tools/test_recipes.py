@@ -1,13 +1,9 @@
-#!/usr/bin/env python3
 """Runs each block of shell of docs/RECIPES.md on a sample, but those that use all processors."""
 import os
 import re
 import shutil
-import sys
-import tempfile
 import unittest
 
-sys.path.insert(0, os.path.dirname(os.path.realpath(__file__)))
 import programs
 from programs import ROOT, run
 
@@ -43,8 +39,7 @@ def game(moves="1. e4 e5 *", result="*", **tags):
 
 class Recipe(unittest.TestCase):
     def setUp(self):
-        self.folder = tempfile.mkdtemp()
-        self.addCleanup(shutil.rmtree, self.folder)
+        self.folder = programs.new_folder(self)
 
     def put(self, name, data):
         path = os.path.join(self.folder, name)
@@ -260,7 +255,3 @@ class Mended(Recipe):
             + game("1. f4 1/2-1/2", "1/2-1/2", White="d")
         message = "byte 28: result differs from the Result tag"
         self.mend("Take a missing Result from the end of its game", text, message, wanted)
-
-
-if __name__ == "__main__":
-    unittest.main()

@@ -1,14 +1,10 @@
-#!/usr/bin/env python3
 """Tests of `pgn_tool split` with real files, folders and devices, and of FILE and its absence."""
 import os
-import shutil
 import subprocess
-import sys
 import tempfile
 import unittest
 
-sys.path.insert(0, os.path.dirname(os.path.realpath(__file__)))
-from programs import need_program, not_tried, opens_closed_streams, run, without_rights
+from programs import need_program, new_folder, not_tried, opens_closed_streams, run, without_rights
 
 HEAD = (b'[Event "?"]\n[Site "?"]\n[Date "????.??.??"]\n[Round "?"]\n[White "?"]\n[Black "?"]\n'
         b'[Result "*"]\n\n')
@@ -19,8 +15,7 @@ UNWRITTEN = b"byte %d: output cannot be written\n"
 class SplitTest(unittest.TestCase):
     def setUp(self):
         self.program = need_program()
-        self.folder = tempfile.mkdtemp()
-        self.addCleanup(shutil.rmtree, self.folder, True)
+        self.folder = new_folder(self)
 
     def split(self, text, *words, folder=None, **more):
         return run([self.program, "split", folder or self.folder, *words], input=text, **more)
@@ -170,7 +165,3 @@ class InputTest(unittest.TestCase):
             with open("/dev/full", "wb") as full:
                 ran = run([self.program, command], input=b"*", stdout=full)
             self.assertEqual((ran.returncode, ran.stderr), (1, b"output cannot be written\n"))
-
-
-if __name__ == "__main__":
-    unittest.main()

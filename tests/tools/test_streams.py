@@ -1,16 +1,12 @@
-#!/usr/bin/env python3
 """Tests of bin/pgn_tool with pipes, and with standard streams that are closed, full or broken."""
 import os
-import shutil
 import signal
 import subprocess
-import sys
-import tempfile
 import threading
 import unittest
 
-sys.path.insert(0, os.path.dirname(os.path.realpath(__file__)))
-from programs import need, need_program, not_tried, opens_closed_streams, run, without_rights
+from programs import (need, need_program, new_folder, not_tried, opens_closed_streams, run,
+                      without_rights)
 
 HEAD = (b'[Event "?"]\n[Site "?"]\n[Date "????.??.??"]\n[Round "?"]\n[White "?"]\n[Black "?"]\n'
         b'[Result "*"]\n\n')
@@ -31,8 +27,7 @@ WRITTEN = {
 class StreamTest(unittest.TestCase):
     def setUp(self):
         self.program = need_program()
-        self.folder = tempfile.mkdtemp()
-        self.addCleanup(shutil.rmtree, self.folder, True)
+        self.folder = new_folder(self)
 
     def write(self, name, text):
         path = os.path.join(self.folder, name)
@@ -187,7 +182,3 @@ class StreamTest(unittest.TestCase):
         for words in ((b"check", b"a\xff.pgn"), (b"split", b"\xff"), (b"\xff",)):
             self.check(run([self.program.encode(), *words], input=TWO), 2, b"",
                        b"arguments cannot be read\n")
-
-
-if __name__ == "__main__":
-    unittest.main()

@@ -1,16 +1,12 @@
-#!/usr/bin/env python3
 """Tests of bin/pgn_where."""
 import bz2
 import gzip
 import os
-import shutil
 import subprocess
 import sys
-import tempfile
 import unittest
 
-sys.path.insert(0, os.path.dirname(os.path.realpath(__file__)))
-from programs import ROOT, need, need_program, run
+from programs import ROOT, need, need_program, new_folder, run
 
 WHERE = ROOT + "/bin/pgn_where"
 TAGS = b'[Event "Cup"]\n[White "Ann"]\n[Black "Bob"]\n\n'
@@ -19,8 +15,7 @@ GAME = 'game 1: White "Ann", Black "Bob", Event "Cup"\n'
 
 class WhereTest(unittest.TestCase):
     def setUp(self):
-        self.folder = tempfile.mkdtemp()
-        self.addCleanup(shutil.rmtree, self.folder)
+        self.folder = new_folder(self)
         self.file = self.folder + "/a.pgn"
 
     def call(self, words, **more):
@@ -385,7 +380,3 @@ class WhereTest(unittest.TestCase):
             with open(its, "wb") as closed:
                 ran = self.call(words, stdout=closed, input=b"byte 3: no\nmore\n")
             self.assertEqual((ran.returncode, ran.stderr), (3, b""))
-
-
-if __name__ == "__main__":
-    unittest.main()
