@@ -135,6 +135,26 @@ def new_folder(test):
     return folder
 
 
+class Folder:
+    """What a test has that works in a folder of its own."""
+
+    def setUp(self):
+        self.folder = new_folder(self)
+
+    def put(self, name, data):
+        """Writes a file, perhaps in a new folder of that one, and gives its path."""
+        path = os.path.join(os.fsencode(self.folder), os.fsencode(name))
+        os.makedirs(os.path.dirname(path), exist_ok=True)
+        with open(path, "wb") as file:
+            file.write(data if isinstance(data, bytes) else data.encode())
+        return os.fsdecode(path)
+
+    def get(self, name):
+        """The bytes of a file."""
+        with open(os.path.join(self.folder, name), "rb") as file:
+            return file.read()
+
+
 def load(script):
     """The module that a script without a suffix is, by its path in the repository."""
     loader = importlib.machinery.SourceFileLoader(os.path.basename(script),

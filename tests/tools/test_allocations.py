@@ -5,7 +5,7 @@ import os
 import subprocess
 import unittest
 
-from programs import load, need, need_proved_program, new_folder, run
+from programs import Folder, load, need, need_proved_program, run
 
 # Without memory for its second block it forgets its line; without the first it says so.
 FORGETFUL = """
@@ -21,10 +21,10 @@ int main(void) {
 """
 
 
-class AllocationsTest(unittest.TestCase):
+class AllocationsTest(Folder, unittest.TestCase):
     def setUp(self):
         need("cc")
-        self.folder = new_folder(self)
+        super().setUp()
 
     def test_program(self):
         need_proved_program()
@@ -42,9 +42,7 @@ class AllocationsTest(unittest.TestCase):
         self.assertRegex(ran.stdout, rb"^check: \d+ refusals, \d+ reported, 0 wrong\n$")
 
     def test_wrong_answer_is_noticed(self):
-        source, program = self.folder + "/a.c", self.folder + "/a"
-        with open(source, "w", encoding="ascii") as file:
-            file.write(FORGETFUL)
+        source, program = self.put("a.c", FORGETFUL), self.folder + "/a"
         subprocess.run(["cc", "-O0", "-o", program, source], check=True)
         module = load("bin/try_allocations")
         module.BUILT = program

@@ -8,7 +8,7 @@ import shutil
 import sys
 import unittest
 
-from programs import ROOT, new_folder, run
+from programs import ROOT, Folder, new_folder, run
 
 sys.dont_write_bytecode = True
 sys.path.insert(0, ROOT + "/bench")
@@ -354,11 +354,11 @@ class Tables(unittest.TestCase):
         self.assertEqual(line, "The least that was measured is 132 KiB, and 180 KiB with --checked,")
 
 
-class Builds(unittest.TestCase):
+class Builds(Folder, unittest.TestCase):
     """How the builds are compared, with small programs in place of those that cargo builds."""
 
     def setUp(self):
-        self.folder = new_folder(self)
+        super().setUp()
         for module, name in ((builds, "OUT"), (builds, "WORKSPACE"), (measure, "found"),
                              (measure, "callgrind")):
             self.addCleanup(setattr, module, name, getattr(module, name))
@@ -366,9 +366,7 @@ class Builds(unittest.TestCase):
         measure.callgrind = lambda words: ({"Ir": 10 * os.path.getsize(words[-1])}, {}, {})
         self.files = []
         for size in (20, 60):
-            self.files.append(os.path.join(self.folder, str(size)))
-            with open(self.files[-1], "wb") as file:
-                file.write(size * b"a")
+            self.files.append(self.put(str(size), size * b"a"))
 
     def test_the_instructions_of_a_game(self):
         spent = builds.figures({"one": ["cat"], "two": ["cat", "--"]}, *self.files, 8)
@@ -391,15 +389,10 @@ class Builds(unittest.TestCase):
         self.assertIn("cargo failed; goes on without", said.getvalue())
 
 
-class Records(unittest.TestCase):
-    def setUp(self):
-        self.folder = new_folder(self)
-
+class Records(Folder, unittest.TestCase):
     def record(self, name, text, lines, script="bench/run"):
         """The text of the file afterwards, or None if it was rejected and left as it was."""
-        path = os.path.join(self.folder, name)
-        with open(path, "w", encoding="utf-8") as file:
-            file.write(text)
+        path = self.put(name, text)
         try:
             tables.record(path, lines, script)
         except ValueError:

@@ -11,7 +11,7 @@ import unittest
 
 import programs
 from documents import blocks_of, code_of, lines_of, printed_by, table
-from programs import ROOT, need_cargo, run
+from programs import ROOT, Folder, need_cargo, run
 
 # One folder for all runs, so that only the first one builds everything.
 OUT = os.path.join(ROOT, "cargo/out")
@@ -78,7 +78,9 @@ OF_STANDARD = re.compile(
 
 
 def cargo(*words, env=None):
-    env = dict(os.environ, PATH=programs.PATH, CARGO_TARGET_DIR=OUT + "/target", **(env or {}))
+    # nothing here needs what a debugger reads, and it takes two fifths of the time
+    env = dict(os.environ, PATH=programs.PATH, CARGO_TARGET_DIR=OUT + "/target",
+               CARGO_PROFILE_DEV_DEBUG="0", **(env or {}))
     return run(["cargo", *words, "--offline"], cwd=OUT, env=env, timeout=500)
 
 
@@ -281,6 +283,10 @@ class Built(unittest.TestCase):
         ran = run(["bin/test_tools", *DEVICES], env=env, timeout=500)
         self.assertEqual(ran.returncode, 0, ran.stdout.decode())
 
+
+class Memory(unittest.TestCase):
+    """The program that cargo makes, with allocations refused."""
+
     def test_want_of_memory_has_status_3_where_the_program_asks_for_it(self):
         programs.need("cc")
         folder = programs.new_folder(self)
@@ -306,12 +312,12 @@ class Built(unittest.TestCase):
             self.assertGreaterEqual(reported, asks, words)
 
 
-class Release(unittest.TestCase):
+class Release(Folder, unittest.TestCase):
     """What bin/dist writes."""
 
     def setUp(self):
         need_cargo()
-        self.folder = programs.new_folder(self)
+        super().setUp()
 
     def dist(self, script="bin/dist"):
         out = self.folder + "/out"
@@ -366,11 +372,8 @@ def shown(ran):
     return ran.returncode, ran.stdout, ran.stderr
 
 
-class Written(unittest.TestCase):
+class Written(Folder, unittest.TestCase):
     """What bin/to_cargo writes, without cargo."""
-
-    def setUp(self):
-        self.folder = programs.new_folder(self)
 
     def write(self, *words):
         out = self.folder + "/out"

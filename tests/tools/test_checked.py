@@ -4,7 +4,7 @@ import subprocess
 import time
 import unittest
 
-from programs import need_program, new_folder, not_tried, run, vectors
+from programs import Folder, need_program, not_tried, run, vectors
 
 HEAD = (b'[Event "?"]\n[Site "?"]\n[Date "????.??.??"]\n[Round "?"]\n[White "?"]\n[Black "?"]\n'
         b'[Result "%s"]\n\n')
@@ -15,16 +15,13 @@ def game(moves, result=b"*"):
     return HEAD % result + moves + b"\n\n"
 
 
-class CheckedTest(unittest.TestCase):
+class CheckedTest(Folder, unittest.TestCase):
     def setUp(self):
+        super().setUp()
         self.program = need_program()
-        self.folder = new_folder(self)
 
     def write(self, text):
-        path = os.path.join(self.folder, "games.pgn")
-        with open(path, "wb") as file:
-            file.write(text)
-        return path
+        return self.put("games.pgn", text)
 
     def export(self, *words, **more):
         return run([self.program, "export", "--checked", *words], **more)

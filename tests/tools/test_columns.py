@@ -4,7 +4,7 @@ import shutil
 import sys
 import unittest
 
-from programs import ROOT, new_folder, run
+from programs import ROOT, Folder, run
 
 SCRIPT = ROOT + "/bin/check_columns"
 # 100 and 101 columns, in words.
@@ -12,15 +12,9 @@ FULL = "word " * 19 + "words"
 LONG = "word " * 19 + "wordss"
 
 
-class Columns(unittest.TestCase):
-    def setUp(self):
-        self.folder = new_folder(self)
-
+class Columns(Folder, unittest.TestCase):
     def put(self, name, *lines):
-        path = os.path.join(self.folder, name)
-        os.makedirs(os.path.dirname(path), exist_ok=True)
-        with open(path, "w", encoding="utf-8") as file:
-            file.write("\n".join(lines) + "\n")
+        super().put(name, "\n".join(lines) + "\n")
 
     def check(self, *words):
         ran = run([sys.executable, SCRIPT, *words])

@@ -48,7 +48,9 @@ class Corpus(unittest.TestCase):
 
     def check_run(self, root):
         """Builds the laws over the workspace below this folder, and runs the corpus."""
-        env = dict(os.environ, PATH=programs.PATH, CARGO_TARGET_DIR=OUT + "/target")
+        # the corpus takes a moment, so what is quick to build is quickest
+        env = dict(os.environ, PATH=programs.PATH, CARGO_TARGET_DIR=OUT + "/target",
+                   CARGO_PROFILE_DEV_OPT_LEVEL="0", CARGO_PROFILE_DEV_DEBUG="0")
         words = ["cargo", "build", "--offline", "--manifest-path", root + "/fuzz/Cargo.toml"]
         ran = run(words, cwd=root + "/cargo/out", env=env, timeout=500)
         said = ran.stderr.decode()

@@ -16,7 +16,7 @@ import unittest
 
 import programs
 from documents import blocks_of, lines_of, table
-from programs import ROOT, need, not_tried, run, vectors
+from programs import ROOT, Folder, need, not_tried, run, vectors
 from test_python import PACKAGE, REAL, library
 
 LINT = ROOT + "/bin/pgn_lint"
@@ -285,21 +285,15 @@ def setUpModule():
         unittest.addModuleCleanup(os.environ.pop, "GILLSPOON_LIBRARY")
 
 
-class Lint(unittest.TestCase):
+class Lint(Folder, unittest.TestCase):
     """A test with a folder of its own."""
 
     def setUp(self):
-        self.folder = programs.new_folder(self)
+        super().setUp()
         self.env = dict(os.environ, PATH=ROOT + "/bin:" + programs.PATH, LC_ALL="C.UTF-8",
                         PYTHONDONTWRITEBYTECODE="1")
         for name in ("NO_COLOR", "INSIDE_EMACS"):
             self.env.pop(name, None)
-
-    def put(self, name, data):
-        path = os.path.join(os.fsencode(self.folder), os.fsencode(name))
-        os.makedirs(os.path.dirname(path), exist_ok=True)
-        with open(path, "wb") as file:
-            file.write(data)
 
     def lint(self, *words, **more):
         """The status, the output and the errors of a call in the folder."""

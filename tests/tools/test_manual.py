@@ -9,7 +9,7 @@ import subprocess
 import unittest
 
 import programs
-from programs import ROOT, run
+from programs import ROOT, Folder, run
 
 PAGES = ROOT + "/share/man/man1/"
 PAGE = PAGES + "pgn_tool.1"
@@ -65,10 +65,7 @@ def options(*words):
     return sorted(it for it in re.findall(r"--[\w-]+", rows) if it != "--help")
 
 
-class Folder(unittest.TestCase):
-    def setUp(self):
-        self.folder = programs.new_folder(self)
-
+class Shell(Folder, unittest.TestCase):
     def shell(self, script, run=run, **more):
         program = programs.need_program()
         path = ":".join((os.path.dirname(program), ROOT + "/bin", programs.PATH))
@@ -76,7 +73,7 @@ class Folder(unittest.TestCase):
         return run(["bash", "-c", script], cwd=more.pop("cwd", self.folder), env=env, **more)
 
 
-class Page(Folder):
+class Page(Shell):
     def test_every_fault_is_there(self):
         rows = re.findall(r"^\.It (\d+) Em (.*)$", section(text_of(PAGE), "DIAGNOSTICS"), re.M)
         found = {int(number): words for number, words in rows}
@@ -232,7 +229,7 @@ class Scripts(unittest.TestCase):
             self.assertEqual(said, VARIABLES.get(name, ["PGN_TOOL"]))
 
 
-class Statuses(Folder):
+class Statuses(Shell):
     def status(self, script):
         return self.shell(script).returncode
 
@@ -291,7 +288,7 @@ class Statuses(Folder):
         self.assertLess(int(ran.stderr.split()[-1]), 3000)
 
 
-class Completions(Folder):
+class Completions(Shell):
     def words(self, *line):
         """What bash completes as the last word of a line."""
         if shutil.which("bash") is None:

@@ -5,7 +5,7 @@ import shutil
 import unittest
 
 import programs
-from programs import ROOT, run
+from programs import ROOT, Folder, run
 
 RECIPES = ROOT + "/docs/RECIPES.md"
 # Their tests are in test_parallel.
@@ -37,20 +37,7 @@ def game(moves="1. e4 e5 *", result="*", **tags):
     return "\n".join(lines + ['[Result "%s"]' % result, "", moves, "", ""])
 
 
-class Recipe(unittest.TestCase):
-    def setUp(self):
-        self.folder = programs.new_folder(self)
-
-    def put(self, name, data):
-        path = os.path.join(self.folder, name)
-        os.makedirs(os.path.dirname(path), exist_ok=True)
-        with open(path, "wb") as file:
-            file.write(data if isinstance(data, bytes) else data.encode())
-
-    def get(self, name):
-        with open(os.path.join(self.folder, name), "rb") as file:
-            return file.read()
-
+class Recipe(Folder, unittest.TestCase):
     def shell(self, script):
         program = programs.need_program()
         path = ":".join([os.path.dirname(program), ROOT + "/bin", programs.PATH])

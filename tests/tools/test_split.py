@@ -4,7 +4,7 @@ import subprocess
 import tempfile
 import unittest
 
-from programs import need_program, new_folder, not_tried, opens_closed_streams, run, without_rights
+from programs import Folder, need_program, not_tried, opens_closed_streams, run, without_rights
 
 HEAD = (b'[Event "?"]\n[Site "?"]\n[Date "????.??.??"]\n[Round "?"]\n[White "?"]\n[Black "?"]\n'
         b'[Result "*"]\n\n')
@@ -12,20 +12,16 @@ UNKNOWN = HEAD + b"*\n\n"
 UNWRITTEN = b"byte %d: output cannot be written\n"
 
 
-class SplitTest(unittest.TestCase):
+class SplitTest(Folder, unittest.TestCase):
     def setUp(self):
+        super().setUp()
         self.program = need_program()
-        self.folder = new_folder(self)
 
     def split(self, text, *words, folder=None, **more):
         return run([self.program, "split", folder or self.folder, *words], input=text, **more)
 
     def files(self):
-        found = {}
-        for name in os.listdir(self.folder):
-            with open(os.path.join(self.folder, name), "rb") as file:
-                found[name] = file.read()
-        return found
+        return {name: self.get(name) for name in os.listdir(self.folder)}
 
     def check(self, ran, status, err, files):
         self.assertEqual((ran.returncode, ran.stdout, ran.stderr), (status, b"", err))
@@ -61,10 +57,9 @@ class SplitTest(unittest.TestCase):
                    {"000001.pgn": UNKNOWN})
 
     def test_old_files(self):
-        for name in ("000001.pgn", "000003.pgn", "other"):
-            with open(os.path.join(self.folder, name), "wb") as file:
-                file.write(b"old " * 100)
         old = b"old " * 100
+        for name in ("000001.pgn", "000003.pgn", "other"):
+            self.put(name, old)
         self.check(self.split(b"* *"), 0, b"", {"000001.pgn": UNKNOWN, "000002.pgn": UNKNOWN,
                                                 "000003.pgn": old, "other": old})
 

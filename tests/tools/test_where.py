@@ -6,16 +6,16 @@ import subprocess
 import sys
 import unittest
 
-from programs import ROOT, need, need_program, new_folder, run
+from programs import ROOT, Folder, need, need_program, run
 
 WHERE = ROOT + "/bin/pgn_where"
 TAGS = b'[Event "Cup"]\n[White "Ann"]\n[Black "Bob"]\n\n'
 GAME = 'game 1: White "Ann", Black "Bob", Event "Cup"\n'
 
 
-class WhereTest(unittest.TestCase):
+class WhereTest(Folder, unittest.TestCase):
     def setUp(self):
-        self.folder = new_folder(self)
+        super().setUp()
         self.file = self.folder + "/a.pgn"
 
     def call(self, words, **more):
@@ -218,10 +218,6 @@ class WhereTest(unittest.TestCase):
         ran = run([sys.executable, WHERE, *more], cwd=self.folder, env=env, input=told)
         self.assertEqual((ran.returncode, ran.stderr), (1, b""), told)
         return ran.stdout.decode()
-
-    def put(self, name, text):
-        with open(os.path.join(self.folder, name), "wb") as file:
-            file.write(text)
 
     def test_messages_of_pgn_lint(self):
         bad = TAGS + b"1. e4 e5 2. Ke3 *\n\n"
