@@ -314,6 +314,8 @@ class Verdicts(unittest.TestCase):
             "fn a::f: no proof: expected answers in ./proofs/f/Answers.antt",
         ):
             self.check("refused", 1, line, "logic=not-proved", "rt: rt lemma WORD.. finds a lemma")
+            # what a check of one function says
+            self.check("refused", 1, line, "fn a::f: not proved", "only=2 proved=1")
 
     def test_only_a_proof_names_what_is_gone(self):
         gone = "./proofs/A.antt:4:2: error: `returns`: `x` is not in scope"
